@@ -1,0 +1,37 @@
+-- The set of `escape.rt` escapes what the definition says.
+use Rattle.std.proofs.Common.{◌≡◌, ℕ, ◌<◌, ◌≤◌, Bool, true, false, ◌||◌, List, [], ◌∷◌, ◌++◌, sym, refl, ap, ◌∙◌, inl, inr, arith}
+use Rattle.std.proofs.lemmas.Bool.{agree_below_at, cases_lt, lt-ltb, le-ltb}
+use Rattle.percent_encoding.specs.AsciiSet.{should_percent_encode}
+use Rattle.percent_encoding.specs.Percent.{percent_encode, percent_encode_byte, encode_byte}
+use Rattle.texting_robots.specs.declared.escape.TheConstants.{ESCAPED}
+use Rattle.texting_robots.specs.Escape.{is_escaped, escape_byte, escaped}
+
+same_ascii : (b : ℕ) → b < 128 → should_percent_encode ESCAPED b ≡ is_escaped b
+unfolding should_percent_encode
+same_ascii b low = agree_below_at (should_percent_encode ESCAPED) is_escaped 128 b refl low
+
+or_true : (x : Bool) → (x || true) ≡ true
+or_true true = refl
+or_true false = refl
+
+past_ascii : (b : ℕ) → 128 ≤ b → should_percent_encode ESCAPED b ≡ true
+unfolding should_percent_encode
+past_ascii b high = rw (le-ltb b 128 high) refl
+
+past_escaped : (b : ℕ) → 128 ≤ b → is_escaped b ≡ true
+past_escaped b high = rw (lt-ltb 0x7E b (omega arith)) (or_true _)
+
+same_high : (b : ℕ) → 128 ≤ b → should_percent_encode ESCAPED b ≡ is_escaped b
+same_high b high = past_ascii b high ∙ sym (past_escaped b high)
+
+pub same_test : (b : ℕ) → should_percent_encode ESCAPED b ≡ is_escaped b
+same_test b = elim (cases_lt b 128) [ inl low ↦ same_ascii b low | inr high ↦ same_high b high ]
+
+same_byte : (b : ℕ) → encode_byte ESCAPED b ≡ escape_byte b
+unfolding percent_encode_byte
+same_byte b = rw (same_test b) refl
+
+pub same_escape : (bytes : List ℕ) → percent_encode ESCAPED bytes ≡ escaped bytes
+unfolding percent_encode
+same_escape [] = refl
+same_escape (b ∷ bytes) = rw (same_byte b) (ap (λ rest. escape_byte b ++ rest) (same_escape bytes))

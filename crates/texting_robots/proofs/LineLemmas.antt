@@ -1,0 +1,115 @@
+-- The lines that the walk gives are those of the text, and hold ranges of it.
+use Rattle.std.proofs.Common.{◌≡◌, ℕ, inl, inr, List, [], ◌∷◌, ◌++◌, map, sym, refl, ap, ◌∙◌, append_assoc, append-nil, Option, Some, None, ◌==◌, subst}
+use Rattle.std.specs.List.{AllZip}
+use Rattle.std.proofs.lemmas.Bool.{cases_Bool, cond-true, cond-false}
+use Rattle.texting_robots.specs.declared.parser.statement.Kind.{Kind}
+use Rattle.texting_robots.specs.declared.parser.statement.Kind.TheVariants as kind
+use Rattle.texting_robots.specs.Cut.{Pair}
+use Rattle.texting_robots.specs.Computed.Cut.{cut}
+use Rattle.texting_robots.specs.Statement.{IsStatement, IsTailOf, colon}
+use Rattle.texting_robots.specs.Computed.Statement.{statement_of}
+use Rattle.texting_robots.specs.Line.{LineValue, delay_or_raw, line_with, IsLineOf, without, without_front, AreLinesOf, IsRangeOf, HoldsRangeOf, HoldRangesOf}
+use Rattle.texting_robots.specs.Computed.Line.{line_of, parsed}
+use Rattle.texting_robots.specs.Computed.Delay.{delay_of}
+use Rattle.texting_robots.specs.Laws.{EachTextHasItsLines, ParseTakesAll}
+use Rattle.texting_robots.proofs.DelayLemmas.{delay_of_is, is_delay_of}
+use Rattle.texting_robots.proofs.CutLemmas.{is_cut, only_cut}
+use Rattle.texting_robots.proofs.StatementLemmas.{statement_found, found_statement, unstated}
+use Rattle.texting_robots.proofs.ReadLemmas.{line_stated, line_raw}
+
+-- ---- the line of a body
+
+is_line : (body : List ℕ) (found : Option (Kind × List ℕ)) → statement_of body ≡ found → IsLineOf (line_of body) body
+is_line body None none = inr (unstated body none, line_raw body none)
+is_line body (Some (kind, value)) found = inl (kind, value, delay_of value, found_statement kind value body found, delay_of_is value, line_stated body kind value found)
+
+only_line : (line : LineValue) (body : List ℕ) (found : Option (Kind × List ℕ)) → statement_of body ≡ found → IsLineOf line body → line ≡ line_of body
+only_line line body found reads (inl (kind, value, delay, is, names, line_is)) = line_is ∙ ap (λ d. line_with kind value d body) (is_delay_of value delay names) ∙ sym (line_stated body kind value (statement_found kind value body is))
+only_line line body None none (inr (not_one, line_is)) = line_is ∙ sym (line_raw body none)
+only_line line body (Some (kind, value)) found (inr (not_one, line_is)) = absurd (not_one kind value (found_statement kind value body found))
+
+are_lines : (pairs : List Pair) → AllZip IsLineOf (map (λ pair. line_of pair.body) pairs) (map (λ pair. pair.body) pairs)
+are_lines [] = tt
+are_lines (pair ∷ pairs) = (is_line pair.body (statement_of pair.body) refl, are_lines pairs)
+
+only_lines : (lines : List LineValue) (pairs : List Pair) → AllZip IsLineOf lines (map (λ pair. pair.body) pairs) → lines ≡ map (λ pair. line_of pair.body) pairs
+only_lines [] [] all = refl
+only_lines [] (pair ∷ pairs) all = absurd all
+only_lines (line ∷ lines) [] all = absurd all
+only_lines (line ∷ lines) (pair ∷ pairs) all = ap (λ x. x ∷ lines) (only_line line pair.body (statement_of pair.body) refl all.0) ∙ ap (λ t. line_of pair.body ∷ t) (only_lines lines pairs all.1)
+
+pub parsed_are_lines : (text : List ℕ) → AreLinesOf (parsed text) text
+parsed_are_lines text = record { pairs = cut (without_front text); is_cut = is_cut (without_front text); each = are_lines (cut (without_front text)) }
+
+pub each_text_has_its_lines : EachTextHasItsLines
+each_text_has_its_lines text lines = (
+  λ is. only_lines lines is.pairs is.each ∙ ap (λ pairs. map (λ pair. line_of pair.body) pairs) (only_cut (without_front text) is.pairs is.is_cut),
+  λ same. subst (λ all. AreLinesOf all text) (sym same) (parsed_are_lines text),
+)
+
+-- ---- ranges
+
+range_same : (bytes : List ℕ) → IsRangeOf bytes bytes
+range_same bytes = ([], [], simp append-nil)
+
+range_of_range : (part middle whole : List ℕ) → IsRangeOf part middle → IsRangeOf middle whole → IsRangeOf part whole
+range_of_range part middle whole (before, after, is) (first, last, all) = (first ++ before, after ++ last, rw (all, is) (simp append_assoc))
+
+tail_range : (tail rest : List ℕ) → IsTailOf tail rest → IsRangeOf tail rest
+tail_range tail rest (inl (blanks, all, whole)) = (blanks ++ colon ∷ [], [], rw whole (simp (append_assoc, append-nil)))
+tail_range tail rest (inr (none, (blank, blanks, all, whole))) = (blank ∷ blanks, [], rw whole (simp append-nil))
+
+value_range : (kind : Kind) (value body : List ℕ) → IsStatement kind value body → IsRangeOf value body
+value_range kind value body s =
+    let in_region : IsRangeOf value s.region = (s.trimmed.front, s.trimmed.back, s.trimmed.whole) in
+    let in_tail : IsRangeOf s.region s.tail = ([], s.comment, s.parted) in
+    let in_rest : IsRangeOf s.rest body = (s.margin ++ s.key, [], s.whole ∙ simp (append_assoc, append-nil)) in
+    range_of_range value s.region body in_region (range_of_range s.region s.tail body in_tail (range_of_range s.tail s.rest body (tail_range s.tail s.rest s.separated) in_rest))
+
+delay_range : (delay : Option ℕ) (body : List ℕ) → HoldsRangeOf (delay_or_raw delay body) body
+delay_range None body = refl
+delay_range (Some delay) body = tt
+
+with_range : (kind : Kind) (value : List ℕ) (delay : Option ℕ) (body : List ℕ) → IsStatement kind value body → HoldsRangeOf (line_with kind value delay body) body
+with_range kind.UserAgent value delay body s = value_range kind.UserAgent value body s
+with_range kind.Allow value delay body s = inl (value_range kind.Allow value body s)
+with_range kind.Disallow [] delay body s = inr (refl, s)
+with_range kind.Disallow (b ∷ value) delay body s = value_range kind.Disallow (b ∷ value) body s
+with_range kind.Sitemap value delay body s = value_range kind.Sitemap value body s
+with_range kind.CrawlDelay value delay body s = delay_range delay body
+
+line_range : (body : List ℕ) → IsLineOf (line_of body) body → HoldsRangeOf (line_of body) body
+line_range body (inl (kind, value, delay, is, names, line_is)) = subst (λ l. HoldsRangeOf l body) (sym line_is) (with_range kind value delay body is)
+line_range body (inr (none, line_is)) = subst (λ l. HoldsRangeOf l body) (sym line_is) refl
+
+line_ranges : (pairs : List Pair) → AllZip HoldsRangeOf (map (λ pair. line_of pair.body) pairs) (map (λ pair. pair.body) pairs)
+line_ranges [] = tt
+line_ranges (pair ∷ pairs) = (line_range pair.body (is_line pair.body (statement_of pair.body) refl), line_ranges pairs)
+
+taken_off : (byte : ℕ) (text : List ℕ) → (taken : List ℕ) × (text ≡ taken ++ without byte text)
+taken_off byte [] = ([], refl)
+taken_off byte (b ∷ text) = elim (cases_Bool (b == byte)) [
+  | inl is ↦ (b ∷ [], ap (λ t. b ∷ t) (sym (cond-true _ _ _ is)))
+  | inr isnt ↦ ([], sym (cond-false _ _ _ isnt))
+]
+
+front_is_end : (text : List ℕ) → (taken : List ℕ) × (text ≡ taken ++ without_front text)
+front_is_end text =
+    let one = taken_off 0xEF text in
+    let two = taken_off 0xBB (without 0xEF text) in
+    let three = taken_off 0xBF (without 0xBB (without 0xEF text)) in
+    (one.0 ++ (two.0 ++ three.0), one.1 ∙ ap (λ t. one.0 ++ t) (two.1 ∙ ap (λ t. two.0 ++ t) three.1) ∙ simp append_assoc)
+
+pub parsed_ranges : (text : List ℕ) → HoldRangesOf (parsed text) text
+parsed_ranges text =
+    let end = front_is_end text in
+    record { taken = end.0; pairs = cut (without_front text); is_cut = is_cut (without_front text); whole = end.1 ∙ ap (λ t. end.0 ++ t) (sym (is_cut (without_front text)).whole); each = line_ranges (cut (without_front text)) }
+
+pub lines_range : (text : List ℕ) (lines : List LineValue) → lines ≡ parsed text → HoldRangesOf lines text
+lines_range text lines same = subst (λ all. HoldRangesOf all text) (sym same) (parsed_ranges text)
+
+pub lines_are : (text : List ℕ) (lines : List LineValue) → lines ≡ parsed text → AreLinesOf lines text
+lines_are text lines same = subst (λ all. AreLinesOf all text) (sym same) (parsed_are_lines text)
+
+pub parse_takes_all : ParseTakesAll
+parse_takes_all text = (parsed text, parsed_are_lines text, parsed_ranges text)

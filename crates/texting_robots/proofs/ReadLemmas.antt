@@ -1,0 +1,226 @@
+-- The first line of a text, and the lines of the rest.
+use Rattle.std.proofs.Common.{◌≡◌, ◌≢◌, ℕ, zero, suc, ◌+◌, ◌≤◌, ◌<◌, Bool, true, false, ◌==◌, ◌||◌, inl, inr, List, [], ◌∷◌, length, take, drop, map, get_or, sym, refl, ap, ◌∙◌, arith, Option, Some, None}
+use Rattle.std.specs.List.{position_or_len}
+use Rattle.std.proofs.lemmas.Bool.{cases_Bool, cond-true, cond-false}
+use Rattle.std.proofs.lemmas.Bool.Decides.{nat_tests}
+use Rattle.std.proofs.lemmas.List.{drop_more, length-map}
+use Rattle.std.specs.Option.{unwrap_or}
+use Rattle.memchr.specs.Find.{is_byte2, is_byte3, IsFirstByte}
+use Rattle.texting_robots.proofs.RegionLemmas.{place_is, end_is}
+use Rattle.texting_robots.specs.Cut.{Pair, cr, lf}
+use Rattle.texting_robots.specs.Computed.Cut.{cut, before_body, before_end, body_len, end_len, read_byte, read_as}
+use Rattle.texting_robots.specs.declared.parser.statement.Kind.{Kind}
+use Rattle.texting_robots.specs.Computed.Statement.{statement_of}
+use Rattle.texting_robots.specs.Line.{LineValue, Raw, line_with}
+use Rattle.texting_robots.specs.Computed.Delay.{delay_of}
+use Rattle.texting_robots.specs.Computed.Line.{line_by, line_of, lines_of}
+use Rattle.texting_robots.proofs.CutLemmas.{cut_nil}
+
+-- ---- the first pair
+
+cut_lf : (b : ℕ) (text : List ℕ) → (b == lf) ≡ true → cut (b ∷ text) ≡ record { body = []; ending = lf ∷ [] } ∷ cut text
+unfolding cut
+cut_lf b text e = rw e refl
+
+cut_cr : (b : ℕ) (text : List ℕ) → (b == lf) ≡ false → (b == cr) ≡ true → cut (b ∷ text) ≡ before_end (cut text)
+unfolding cut
+cut_cr b text e f = rw (e, f) refl
+
+cut_body : (b : ℕ) (text : List ℕ) → (b == lf) ≡ false → (b == cr) ≡ false → cut (b ∷ text) ≡ before_body b (cut text)
+unfolding cut
+cut_body b text e f = rw (e, f) refl
+
+-- a CR before a line whose body isn't empty ends a line by itself
+alone : (c : ℕ) (ps : List Pair) → before_end (before_body c ps) ≡ record { body = []; ending = cr ∷ [] } ∷ before_body c ps
+alone c [] = refl
+alone c (p ∷ ps) = refl
+
+-- after a CR: the end goes on, and the lines of the rest follow
+after_cr : (text : List ℕ) → (ending : List ℕ) × (before_end (cut text) ≡ record { body = []; ending = ending } ∷ cut (drop (end_len text) text))
+after_cr [] = (cr ∷ [], rw cut_nil refl)
+after_cr (c ∷ text) =
+    elim (cases_Bool (c == lf)) [
+      | inl is_lf ↦ (cr ∷ lf ∷ [], rw (cut_lf c text is_lf, is_lf) refl)
+      | inr not_lf ↦ elim (cases_Bool (c == cr)) [
+        | inl is_cr ↦ let next = after_cr text in (cr ∷ next.0, rw (cut_cr c text not_lf is_cr, next.1, not_lf, is_cr) refl)
+        | inr not_cr ↦ (cr ∷ [], rw (not_lf, not_cr, cut_body c text not_lf not_cr) (alone c (cut text)))
+      ]
+    ]
+
+-- the text is cut after this many bytes of a body and of an end
+abbrev Cuts : List ℕ → ℕ → ℕ → Type 0
+Cuts text n m = (ending : List ℕ) × (cut text ≡ record { body = take n text; ending = ending } ∷ cut (drop m (drop n text)))
+
+abbrev Further : ℕ → List ℕ → Type 0
+Further b text = (ending : List ℕ) × (before_body b (cut text) ≡ record { body = b ∷ take (body_len text) text; ending = ending } ∷ cut (drop (end_len (drop (body_len text) text)) (drop (body_len text) text)))
+
+starts : (b : ℕ) (text : List ℕ) → Further b text → Cuts (b ∷ text) (body_len (b ∷ text)) (end_len (drop (body_len (b ∷ text)) (b ∷ text)))
+starts b text further =
+    elim (cases_Bool (b == lf)) [
+      | inl is_lf ↦ (lf ∷ [], rw (cut_lf b text is_lf, is_lf, is_lf) refl)
+      | inr not_lf ↦ elim (cases_Bool (b == cr)) [
+        | inl is_cr ↦ let next = after_cr text in (next.0, rw (cut_cr b text not_lf is_cr, next.1, not_lf, is_cr, not_lf, is_cr) refl)
+        | inr not_cr ↦ (further.0, rw (cut_body b text not_lf not_cr, not_lf, not_cr) further.1)
+      ]
+    ]
+
+-- the first pair of a text that isn't empty, and the pairs of the rest
+first_piece : (b : ℕ) (text : List ℕ) → Cuts (b ∷ text) (body_len (b ∷ text)) (end_len (drop (body_len (b ∷ text)) (b ∷ text)))
+first_piece b [] = starts b [] ([], rw cut_nil refl)
+first_piece b (c ∷ text) = let next = first_piece c text in starts b (c ∷ text) (next.0, rw next.1 refl)
+
+lines_first : (text : List ℕ) → 0 < length text → lines_of text ≡ line_of (take (body_len text) text) ∷ lines_of (drop (end_len (drop (body_len text) text)) (drop (body_len text) text))
+lines_first [] some = absurd (omega (arith, some))
+lines_first (b ∷ text) some = ap (λ ps. map (λ p. line_of p.body) ps) (first_piece b text).1
+
+pub lines_nil : lines_of [] ≡ []
+lines_nil = ap (λ ps. map (λ p. line_of p.body) ps) cut_nil
+
+-- ---- reading NUL as LF
+
+drop_read : (n : Bool) (k : ℕ) (text : List ℕ) → drop k (read_as n text) ≡ read_as n (drop k text)
+drop_read n zero text = refl
+drop_read n (suc k) [] = refl
+drop_read n (suc k) (b ∷ text) = drop_read n k text
+
+at_read : (n : Bool) (text : List ℕ) (i : ℕ) → i < length text → drop i (read_as n text) ≡ read_byte n (get_or text i 0) ∷ drop (i + 1) (read_as n text)
+at_read n text i within = drop_read n i text ∙ ap (read_as n) (drop_more text i 0 within) ∙ ap (λ t. read_byte n (get_or text i 0) ∷ t) (sym (drop_read n (i + 1) text))
+
+pub read_as_is : (text : List ℕ) → read_as false text ≡ text
+read_as_is [] = refl
+read_as_is (b ∷ text) = ap (λ t. b ∷ t) (read_as_is text)
+
+return_read : (n : Bool) → read_byte n cr ≡ cr
+return_read true = refl
+return_read false = refl
+
+return_feed : (n : Bool) (b : ℕ) → (read_byte n b == lf) ≡ true → (b == cr) ≡ true → ⊥
+return_feed true b is_lf is_cr = grind (arith, nat_tests)
+return_feed false b is_lf is_cr = grind (arith, nat_tests)
+
+not_return : (n : Bool) (b : ℕ) → (b == cr) ≡ false → (read_byte n b == cr) ≡ false
+not_return true b isnt = elim (cases_Bool (b == 0)) [ inl z ↦ rw z refl | inr nz ↦ rw nz isnt ]
+not_return false b isnt = isnt
+
+-- ---- the length of an end, as a loop finds it
+
+pub end_at_return : (n : Bool) (text : List ℕ) (i : ℕ) → i < length text → get_or text i 0 ≡ cr → end_len (drop i (read_as n text)) ≡ suc (end_len (drop (i + 1) (read_as n text)))
+end_at_return n text i within is = ap end_len (at_read n text i within ∙ ap (λ b. b ∷ drop (i + 1) (read_as n text)) (ap (read_byte n) is ∙ return_read n))
+
+pub end_at_feed : (n : Bool) (text : List ℕ) (i : ℕ) → i < length text → (read_byte n (get_or text i 0) == lf) ≡ true → end_len (drop i (read_as n text)) ≡ 1
+end_at_feed n text i within is = ap end_len (at_read n text i within) ∙ cond-true _ _ _ is
+
+pub end_at_other : (n : Bool) (text : List ℕ) (i : ℕ) → i < length text → get_or text i 0 ≢ cr → (read_byte n (get_or text i 0) == lf) ≡ false → end_len (drop i (read_as n text)) ≡ 0
+end_at_other n text i within not_cr not_lf = ap end_len (at_read n text i within) ∙ cond-false _ _ _ not_lf ∙ cond-false _ _ _ (not_return n (get_or text i 0) (differs (get_or text i 0) not_cr))
+  where
+    differs : (b : ℕ) → b ≢ cr → (b == cr) ≡ false
+    differs b h = grind (arith, nat_tests)
+
+pub end_at_end : (n : Bool) (text : List ℕ) (i : ℕ) → length text ≤ i → end_len (drop i (read_as n text)) ≡ 0
+end_at_end n text i over = ap end_len (drop_read n i text ∙ ap (read_as n) (nothing i text over))
+  where
+    nothing : (i : ℕ) (text : List ℕ) → length text ≤ i → drop i text ≡ []
+    nothing zero [] over = refl
+    nothing zero (b ∷ text) over = absurd (omega arith)
+    nothing (suc i) [] over = refl
+    nothing (suc i) (b ∷ text) over = nothing i text (omega arith)
+
+-- ---- the length of a body, as a search finds it
+
+abbrev Ends : Bool → (ℕ → Bool) → Type 0
+Ends n test = (b : ℕ) → test b ≡ (read_byte n b == lf || read_byte n b == cr)
+
+pub body_by : (n : Bool) (test : ℕ → Bool) → Ends n test → (text : List ℕ) → position_or_len test text ≡ body_len (read_as n text)
+body_by n test ends [] = refl
+body_by n test ends (b ∷ text) =
+    elim (cases_Bool (read_byte n b == lf)) [
+      | inl is_lf ↦ let yes_end : test b ≡ true = ends b ∙ ap (λ x. x || read_byte n b == cr) is_lf in rw (yes_end, is_lf) refl
+      | inr not_lf ↦ elim (cases_Bool (read_byte n b == cr)) [
+        | inl is_cr ↦ let yes_end : test b ≡ true = ends b ∙ ap (λ x. x || read_byte n b == cr) not_lf ∙ is_cr in rw (yes_end, not_lf, is_cr) refl
+        | inr not_cr ↦ let no_end : test b ≡ false = ends b ∙ ap (λ x. x || read_byte n b == cr) not_lf ∙ not_cr in rw (no_end, not_lf, not_cr) (one_more (position_or_len test text) ∙ ap suc (body_by n test ends text))
+      ]
+    ]
+  where
+    one_more : (k : ℕ) → 1 + k ≡ suc k
+    one_more k = omega arith
+
+pub ends_as_is : Ends false (is_byte2 cr lf)
+ends_as_is b = elim (cases_Bool (b == cr)) [
+  | inl one ↦ elim (cases_Bool (b == lf)) [ inl two ↦ rw (one, two) refl | inr two ↦ rw (one, two) refl ]
+  | inr one ↦ elim (cases_Bool (b == lf)) [ inl two ↦ rw (one, two) refl | inr two ↦ rw (one, two) refl ]
+]
+
+pub ends_with_nul : Ends true (is_byte3 cr lf 0)
+ends_with_nul b = elim (cases_Bool (b == 0)) [
+  | inl nul ↦ elim (cases_Bool (b == cr)) [
+    | inl one ↦ rw (nul, one) refl
+    | inr one ↦ elim (cases_Bool (b == lf)) [ inl two ↦ rw (nul, one, two) refl | inr two ↦ rw (nul, one, two) refl ]
+  ]
+  | inr nul ↦ elim (cases_Bool (b == cr)) [
+    | inl one ↦ elim (cases_Bool (b == lf)) [ inl two ↦ rw (nul, one, two) refl | inr two ↦ rw (nul, one, two) refl ]
+    | inr one ↦ elim (cases_Bool (b == lf)) [ inl two ↦ rw (nul, one, two) refl | inr two ↦ rw (nul, one, two) refl ]
+  ]
+]
+
+-- a body holds no NUL that is read as LF
+body_plain : (n : Bool) (text : List ℕ) → take (body_len (read_as n text)) (read_as n text) ≡ take (body_len (read_as n text)) text
+body_plain n [] = refl
+body_plain n (b ∷ text) =
+    elim (cases_Bool (read_byte n b == lf)) [
+      | inl is_lf ↦ rw is_lf refl
+      | inr not_lf ↦ elim (cases_Bool (read_byte n b == cr)) [
+        | inl is_cr ↦ rw (not_lf, is_cr) refl
+        | inr not_cr ↦ rw (not_lf, not_cr) (ap (λ t. read_byte n b ∷ t) (body_plain n text) ∙ ap (λ x. x ∷ take (body_len (read_as n text)) text) (as_is n b not_lf))
+      ]
+    ]
+  where
+    as_is : (n : Bool) (b : ℕ) → (read_byte n b == lf) ≡ false → read_byte n b ≡ b
+    as_is false b not_lf = refl
+    as_is true b not_lf = elim (cases_Bool (b == 0)) [
+      | inr nz ↦ cond-false _ _ _ nz
+      | inl z ↦ let wrong : true ≡ false = ap (λ x. x == lf) (sym (cond-true _ _ _ z)) ∙ not_lf in cc
+    ]
+
+long_read : (n : Bool) (text : List ℕ) → length (read_as n text) ≡ length text
+long_read n text = simp length-map
+
+-- ---- the next line
+
+pub next_line : (n : Bool) (rest body after : List ℕ) (k m : ℕ) → 0 < length rest → k ≡ body_len (read_as n rest) → body ≡ take k rest → after ≡ drop k rest → m ≡ end_len (read_as n after)
+    → lines_of (read_as n rest) ≡ line_of body ∷ lines_of (read_as n (drop m after))
+next_line n rest body after k m some k_is body_is after_is m_is =
+    let text = read_as n rest in
+    let first = lines_first text (omega (arith, some, long_read n rest)) in
+    let body_same : take (body_len text) text ≡ body = body_plain n rest ∙ ap (λ i. take i rest) (sym k_is) ∙ sym body_is in
+    let after_same : drop (body_len text) text ≡ read_as n after = ap (λ i. drop i text) (sym k_is) ∙ drop_read n k rest ∙ ap (read_as n) (sym after_is) in
+    let rest_same : drop (end_len (drop (body_len text) text)) (drop (body_len text) text) ≡ read_as n (drop m after)
+    = ap (λ t. drop (end_len t) t) after_same ∙ ap (λ i. drop i (read_as n after)) (sym m_is) ∙ drop_read n m after in
+    first ∙ ap (λ t. line_of t ∷ lines_of (drop (end_len (drop (body_len text) text)) (drop (body_len text) text))) body_same ∙ ap (λ t. line_of body ∷ lines_of t) rest_same
+
+pub not_empty : (n : ℕ) (b : Bool) → b ≡ (n == 0) → b ≡ false → 0 < n
+not_empty zero b e f = let h : true ≡ false = sym e ∙ f in cc
+not_empty (suc n) b e f = omega arith
+
+pub nothing_is : (text : List ℕ) (b : Bool) → b ≡ (length text == 0) → b ≡ true → text ≡ []
+nothing_is [] b e f = refl
+nothing_is (x ∷ text) b e f = absurd (nonzero (length text) (sym e ∙ f))
+  where
+    nonzero : (k : ℕ) → (suc k == 0) ≡ true → ⊥
+    nonzero k is = grind (arith, nat_tests)
+
+pub shorter : (x : LineValue) (s t : List LineValue) → s ≡ x ∷ t → length t < length s
+shorter x s t e = rw e (omega arith)
+
+pub body_found : (n : Bool) (test : ℕ → Bool) (text : List ℕ) (found : Option ℕ) → Ends n test → IsFirstByte test text found → unwrap_or found (length text) ≡ body_len (read_as n text)
+body_found n test text None ends none = sym (end_is test text none) ∙ body_by n test ends text
+body_found n test text (Some k) ends first = sym (place_is test text k first.0 first.1) ∙ body_by n test ends text
+
+-- ---- the line of a body
+
+pub line_stated : (body : List ℕ) (kind : Kind) (value : List ℕ) → statement_of body ≡ Some (kind, value) → line_of body ≡ line_with kind value (delay_of value) body
+unfolding line_of
+line_stated body kind value found = ap (λ s. line_by s body) found
+
+pub line_raw : (body : List ℕ) → statement_of body ≡ None → line_of body ≡ Raw body
+unfolding line_of
+line_raw body none = ap (λ s. line_by s body) none

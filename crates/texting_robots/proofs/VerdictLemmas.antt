@@ -1,0 +1,54 @@
+-- The verdict knows members only.
+use Rattle.std.proofs.Common.{◌≡◌, inl, inr, ℕ, Bool, true, false, List, [], ◌∷◌, ◌++◌, ap, sym, IsPermutation, arith}
+use Rattle.std.specs.List.{Contains}
+use Rattle.std.proofs.lemmas.Bool.{false≢true}
+use Rattle.std.proofs.lemmas.List.Elements.{Contains-append_left, Contains-append_right, Contains-append_cases, Contains-push_cases}
+use Rattle.std.proofs.lemmas.List.Sorted.{Contains-permutation, IsPermutation-sym}
+use Rattle.texting_robots.specs.Rules.{Rule}
+use Rattle.texting_robots.specs.Verdict.{IsDenied, IsVerdict}
+use Rattle.texting_robots.specs.Laws.{OrderChangesNothing, OneMoreDisallow, OneMoreAllow}
+
+denied_permuted : (rules others : List Rule) (text : List ℕ) → IsPermutation rules others → IsDenied rules text → IsDenied others text
+denied_permuted rules others text same (other, p, has, matches, longest) =
+    (other, p, Contains-permutation rules others (p, false) same has, matches, λ q stands. longest q (Contains-permutation others rules (q, true) (IsPermutation-sym rules others same) stands))
+
+verdict_permuted : (rules others : List Rule) (text : List ℕ) (answer : Bool) → IsPermutation rules others → IsVerdict rules text answer → IsVerdict others text answer
+verdict_permuted rules others text true same holds = λ denied. holds (denied_permuted others rules text (IsPermutation-sym rules others same) denied)
+verdict_permuted rules others text false same holds = denied_permuted rules others text same holds
+
+pub order_changes_nothing : OrderChangesNothing
+order_changes_nothing = verdict_permuted
+
+contains_more : (front back : List Rule) (added rule : Rule) → Contains (front ++ back) rule → Contains (front ++ added ∷ back) rule
+contains_more front back added rule has =
+    elim (Contains-append_cases front back rule has) [
+      | inl first ↦ Contains-append_left front (added ∷ back) rule first
+      | inr last ↦ Contains-append_right front (added ∷ back) rule (Contains-append_right (added ∷ []) back rule last)
+    ]
+
+contains_less : (front back : List Rule) (added rule : Rule) → (added ≡ rule → ⊥) → Contains (front ++ added ∷ back) rule → Contains (front ++ back) rule
+contains_less front back added rule differs has =
+    elim (Contains-append_cases front (added ∷ back) rule has) [
+      | inl first ↦ Contains-append_left front back rule first
+      | inr rest ↦ elim (Contains-append_cases (added ∷ []) back rule rest) [
+        | inl one ↦ elim (Contains-push_cases [] added rule one) [
+          | inl (k, below, at) ↦ absurd (omega arith)
+          | inr same ↦ absurd (differs same)
+        ]
+        | inr last ↦ Contains-append_right front back rule last
+      ]
+    ]
+
+allow_isnt : (p q : List ℕ) → ◌≡◌ {A = Rule} (p, false) (q, true) → ⊥
+allow_isnt p q same = false≢true (ap (λ (r : Rule). r.1) same)
+
+disallow_isnt : (p q : List ℕ) → ◌≡◌ {A = Rule} (q, true) (p, false) → ⊥
+disallow_isnt p q same = false≢true (sym (ap (λ (r : Rule). r.1) same))
+
+pub one_more_disallow : OneMoreDisallow
+one_more_disallow front back pattern text (other, p, has, matches, longest) =
+    (other, p, contains_more front back (pattern, false) (p, false) has, matches, λ q stands. longest q (contains_less front back (pattern, false) (q, true) (allow_isnt pattern q) stands))
+
+pub one_more_allow : OneMoreAllow
+one_more_allow front back pattern text allowed (other, p, has, matches, longest) =
+    allowed (other, p, contains_less front back (pattern, true) (p, false) (disallow_isnt p pattern) has, matches, λ q stands. longest q (contains_more front back (pattern, true) (q, true) stands))

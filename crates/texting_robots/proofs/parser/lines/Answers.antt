@@ -1,0 +1,11 @@
+use Rattle.std.proofs.Common.{◌∙◌, ap}
+use Rattle.texting_robots.specs.Computed.Line.{lines_of}
+use Rattle.texting_robots.proofs.ReadLemmas.{read_as_is}
+use Rattle.texting_robots.proofs.LineLemmas.{lines_are, lines_range}
+use Rattle.texting_robots.proofs.parser.lines.Goals as goal
+
+pub returns-clause-lines : goal.returns-clause-lines
+returns-clause-lines c = lines_are _ _ (ap lines_of (read_as_is c.without_front.result.now ∙ c.without_front.ensures))
+
+pub returns-clause-ranges : goal.returns-clause-ranges
+returns-clause-ranges c = lines_range _ _ (ap lines_of (read_as_is c.without_front.result.now ∙ c.without_front.ensures))

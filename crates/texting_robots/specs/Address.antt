@@ -1,0 +1,28 @@
+-- The address of the robots file of a URL.
+use Rattle.std.specs.Prelude.{ℕ, List, [], ◌∷◌, ◌++◌, ◌||◌, Bool, Option, Some, None, Ok, Err, codes, bytes_eq, decimal, if◌then◌else◌}
+use Rattle.url.specs.Parts.{Parts, cannot_be_a_base, nonempty_host}
+use Rattle.url.specs.Parser.{Parsed, parse_url, and_then}
+use Rattle.url.specs.Host.{host_text}
+use Rattle.url.specs.declared.host.Host.{Host}
+use Rattle.url.specs.declared.error.ParseError.TheVariants.{EmptyHost, SetHostOnCannotBeABaseUrl}
+
+-- the scheme is `http` or `https`
+abbrev pub is_web : List ℕ → Bool
+is_web scheme = bytes_eq scheme (codes "http") || bytes_eq scheme (codes "https")
+
+-- `:` and the port, if one is kept
+abbrev pub port_text : Option ℕ → List ℕ
+port_text None = []
+port_text (Some port) = 58 ∷ decimal port
+
+abbrev pub address_at : Parts → Option (Host (List ℕ)) → Parsed (List ℕ)
+address_at url None = Err EmptyHost
+address_at url (Some host) = Ok (url.scheme ++ codes "://" ++ host_text host ++ port_text url.port ++ codes "/robots.txt")
+
+abbrev pub robots_address_of : Parts → Parsed (List ℕ)
+robots_address_of url =
+    if cannot_be_a_base url then Err SetHostOnCannotBeABaseUrl
+    else (if is_web url.scheme then address_at url (nonempty_host url) else Err EmptyHost)
+
+abbrev pub robots_address : List ℕ → Parsed (List ℕ)
+robots_address text = and_then (parse_url None text) robots_address_of

@@ -1,0 +1,11 @@
+-- The definitions again, as functions that take the steps of the code. Contracts of private functions cite them; each is
+-- tied to its definition by a theorem, so nobody has to believe them.
+pub mod Cut
+pub mod Statement
+pub mod Delay
+pub mod DelayParts
+pub mod Line
+pub mod Group
+pub mod Border
+pub mod Shape
+pub mod Pieces

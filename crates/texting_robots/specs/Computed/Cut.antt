@@ -1,0 +1,40 @@
+-- The cut, computed from the back of the text, and the parts of its first pair.
+use Rattle.std.specs.Prelude.{ℕ, suc, ◌==◌, List, [], ◌∷◌, if◌then◌else◌, map, Bool, true, false}
+use Rattle.texting_robots.specs.Cut.{Pair, cr, lf}
+use Rattle.texting_robots.specs.Line.{nul_as_lf}
+
+-- a body byte goes to the first body
+abbrev pub before_body : ℕ → List Pair → List Pair
+before_body byte [] = record { body = byte ∷ []; ending = [] } ∷ []
+before_body byte (pair ∷ later) = record { body = byte ∷ pair.body; ending = pair.ending } ∷ later
+
+-- a CR goes to the end that follows it, or is one by itself
+abbrev pub before_end : List Pair → List Pair
+before_end [] = record { body = []; ending = cr ∷ [] } ∷ []
+before_end (pair ∷ later) = elim pair.body [
+  | [] ↦ record { body = []; ending = cr ∷ pair.ending } ∷ later
+  | _ ∷ _ ↦ record { body = []; ending = cr ∷ [] } ∷ pair ∷ later
+]
+
+-- the pairs of a text
+unfoldable pub cut : List ℕ → List Pair
+cut [] = []
+cut (byte ∷ text) = if byte == lf then record { body = []; ending = lf ∷ [] } ∷ cut text else (if byte == cr then before_end (cut text) else before_body byte (cut text))
+
+-- how many bytes stand before the first CR or LF
+abbrev pub body_len : List ℕ → ℕ
+body_len [] = 0
+body_len (byte ∷ text) = if byte == lf then 0 else (if byte == cr then 0 else suc (body_len text))
+
+-- how long the end is that the text begins with
+abbrev pub end_len : List ℕ → ℕ
+end_len [] = 0
+end_len (byte ∷ text) = if byte == lf then 1 else (if byte == cr then suc (end_len text) else 0)
+
+-- a byte as it is cut: NUL as LF, or each as it stands
+abbrev pub read_byte : Bool → ℕ → ℕ
+read_byte true byte = nul_as_lf byte
+read_byte false byte = byte
+
+abbrev pub read_as : Bool → List ℕ → List ℕ
+read_as nul_ends text = map (read_byte nul_ends) text

@@ -1,0 +1,16 @@
+-- The escape of a rule and of a text that is no URL.
+use Rattle.std.specs.Prelude.{ℕ, ◌/◌, ◌%◌, Bool, true, ◌||◌, ◌==◌, nat_lt, List, [], ◌∷◌, if◌then◌else◌}
+use Rattle.std.specs.List.{flat_map}
+use Rattle.std.specs.Fmt.{digit_glyph}
+
+-- a byte that doesn't stand for itself
+abbrev pub is_escaped : ℕ → Bool
+is_escaped b = nat_lt b 0x21 || b == 0x22 || b == 0x3C || b == 0x3E || b == 0x60 || nat_lt 0x7E b
+
+-- `%` and two upper-case hexadecimal digits, or the byte itself
+abbrev pub escape_byte : ℕ → List ℕ
+escape_byte b = if is_escaped b then 37 ∷ digit_glyph true (b / 16 % 16) ∷ digit_glyph true (b % 16) ∷ [] else b ∷ []
+
+-- each byte of the text, escaped
+abbrev pub escaped : List ℕ → List ℕ
+escaped bytes = flat_map escape_byte bytes

@@ -1,0 +1,53 @@
+-- Which lines are captured for an agent, by places.
+use Rattle.std.specs.Prelude.{◌⊎◌, ℕ, zero, suc, ◌<◌, nat_lt, Bool, false, not, ◌&&◌, ◌||◌, List, Option, None, IsTrue, codes, slice_get, bytes_eq, if◌then◌else◌}
+use Rattle.std.specs.List.{list_any, filter_map, enumerate_from}
+use Rattle.std.specs.Option.{option_map_or}
+use Rattle.std.specs.Str.{str_to_ascii_lowercase}
+use Rattle.texting_robots.specs.Line.{LineValue, UserAgent, Allow, Disallow, Sitemap, CrawlDelay, Raw, is_agent, is_group}
+
+-- an agent line whose value lowers to the name
+abbrev pub names : List ℕ → LineValue → Bool
+names name (UserAgent value) = bytes_eq (str_to_ascii_lowercase value) name
+names name (Allow value) = false
+names name (Disallow value) = false
+names name (Sitemap value) = false
+names name (CrawlDelay delay) = false
+names name (Raw body) = false
+
+-- the lowered agent where some line names it, else a star
+abbrev pub group_name : List ℕ → List LineValue → List ℕ
+group_name agent lines = if list_any (names (str_to_ascii_lowercase agent)) lines then str_to_ascii_lowercase agent else codes "*"
+
+-- a line stands at the place, and passes the test
+abbrev pub passes_at : (LineValue → Bool) → List LineValue → ℕ → Bool
+passes_at test lines at = option_map_or test (slice_get lines at) false
+
+abbrev pub NoAgent : List LineValue → Type 0
+NoAgent lines = (k : ℕ) → ¬ IsTrue (passes_at is_agent lines k)
+
+-- a line before the place names the name, and after it there is no group line with an agent line behind it
+abbrev pub IsNamedBefore : List ℕ → List LineValue → ℕ → Type 0
+IsNamedBefore name lines i =
+    (j : ℕ) × (j < i) × IsTrue (passes_at (names name) lines j)
+    × ¬ ((k : ℕ) × (l : ℕ) × (j < k) × (k < l) × (l < i) × IsTrue (passes_at is_group lines k) × IsTrue (passes_at is_agent lines l))
+
+-- a group line at this place is captured
+abbrev pub IsCaptured : List ℕ → List LineValue → ℕ → Type 0
+IsCaptured name lines i = NoAgent lines ⊎ IsNamedBefore name lines i
+
+-- ---- the same as a test that computes, for lists in order
+
+-- some number below this one passes
+abbrev pub some_below : (ℕ → Bool) → ℕ → Bool
+some_below test zero = false
+some_below test (suc n) = test n || some_below test n
+
+abbrev pub is_captured : List ℕ → List LineValue → ℕ → Bool
+is_captured name lines i =
+    not (list_any is_agent lines)
+    || some_below (λ j. passes_at (names name) lines j
+    && not (some_below (λ l. passes_at is_agent lines l && some_below (λ k. nat_lt j k && passes_at is_group lines k) l) i)) i
+
+-- what `given` finds in the captured lines, in order; it is handed a line's place too
+abbrev pub from_captured : {X : Type 0} → (ℕ → LineValue → Option X) → List ℕ → List LineValue → List X
+from_captured given name lines = filter_map (λ p. if is_captured name lines p.0 then given p.0 p.1 else None) (enumerate_from 0 lines)

@@ -1,0 +1,137 @@
+-- Laws over the definitions.
+use Rattle.std.specs.Prelude.{◌≡◌, ◌↔◌, ◌⊎◌, ℕ, Bool, true, false, not, ◌==◌, ◌&&◌, List, [], ◌∷◌, ◌++◌, Option, Some, IsTrue, IsPermutation, codes, filter, length, if◌then◌else◌}
+use Rattle.std.specs.Str.{str_to_ascii_lowercase}
+use Rattle.texting_robots.specs.declared.parser.statement.Kind.{Kind}
+use Rattle.texting_robots.specs.Computed.Cut.{cut}
+use Rattle.texting_robots.specs.Computed.Delay.{delay_of}
+use Rattle.texting_robots.specs.Computed.Line.{parsed}
+use Rattle.texting_robots.specs.Cut.{IsCut, Pair, cr, lf}
+use Rattle.texting_robots.specs.Delay.{IsDelay}
+use Rattle.texting_robots.specs.Escape.{escaped}
+use Rattle.texting_robots.specs.Group.{IsCaptured, group_name, is_captured}
+use Rattle.texting_robots.specs.Line.{Allow, AreLinesOf, Disallow, HoldRangesOf, LineValue, is_raw, is_sitemap}
+use Rattle.texting_robots.specs.Order.{IsBefore}
+use Rattle.texting_robots.specs.Pattern.{Matches, collapsed}
+use Rattle.texting_robots.specs.Rules.{IsRefused, Rule, delay_for, rule_from, rules_of, share_of, sitemaps_of}
+use Rattle.texting_robots.specs.Statement.{IsStatement}
+use Rattle.texting_robots.specs.Verdict.{IsVerdict}
+
+-- ---- lines
+
+-- each text has its lines, and what they hold are ranges of it
+abbrev pub ParseTakesAll : Type 0
+ParseTakesAll = (text : List ℕ) → (lines : List LineValue) × AreLinesOf lines text × HoldRangesOf lines text
+
+-- LF in place of each CR LF
+abbrev pub feeds_alone : List ℕ → List ℕ
+feeds_alone [] = []
+feeds_alone (b ∷ []) = b ∷ []
+feeds_alone (b ∷ c ∷ text) = if b == cr && c == lf then lf ∷ feeds_alone text else b ∷ feeds_alone (c ∷ text)
+
+-- LF in place of each CR LF leaves the lines as they are
+abbrev pub CrLfIsLf : Type 0
+CrLfIsLf = (text : List ℕ) (lines : List LineValue) → AreLinesOf lines (feeds_alone text) ↔ AreLinesOf lines text
+
+-- ---- groups and rules
+
+-- one agent's lines and another's give the same rules, verdicts, delay and refusal
+pub record SameButSitemaps (agent : List ℕ) (lines : List LineValue) (other : List ℕ) (others : List LineValue) : Type 0 where
+  pub rules : rules_of agent lines ≡ rules_of other others
+  pub verdict : (text : List ℕ) (answer : Bool) → IsVerdict (rules_of agent lines) text answer ↔ IsVerdict (rules_of other others) text answer
+  pub delay : delay_for agent lines ≡ delay_for other others
+  pub refusal : IsRefused agent lines ↔ IsRefused other others
+
+-- and the same sitemaps
+abbrev pub Same : List ℕ → List LineValue → List ℕ → List LineValue → Type 0
+Same agent lines other others = SameButSitemaps agent lines other others × (sitemaps_of lines ≡ sitemaps_of others)
+
+-- adding or removing `Raw` lines changes nothing
+abbrev pub RawChangesNothing : Type 0
+RawChangesNothing =
+    (agent : List ℕ) (lines others : List LineValue)
+    → filter (λ line. not (is_raw line)) lines ≡ filter (λ line. not (is_raw line)) others
+    → Same agent lines agent others
+
+-- both Allow, or both Disallow
+abbrev pub IsSameKind : LineValue → LineValue → Type 0
+IsSameKind line other =
+    (value : List ℕ) × (another : List ℕ)
+    × (((line ≡ Allow value) × (other ≡ Allow another)) ⊎ ((line ≡ Disallow value) × (other ≡ Disallow another)))
+
+-- another value in an Allow or Disallow line that isn't captured changes nothing
+abbrev pub UncapturedReachesNothing : Type 0
+UncapturedReachesNothing =
+    (agent : List ℕ) (front back : List LineValue) (line other : LineValue) → IsSameKind line other
+    → ¬ IsCaptured (group_name agent (front ++ line ∷ back)) (front ++ line ∷ back) (length front)
+    → Same agent (front ++ line ∷ back) agent (front ++ other ∷ back)
+
+-- adding or removing sitemap lines changes the sitemaps alone
+abbrev pub SitemapsChangeNothingElse : Type 0
+SitemapsChangeNothingElse =
+    (agent : List ℕ) (lines others : List LineValue)
+    → filter (λ line. not (is_sitemap line)) lines ≡ filter (λ line. not (is_sitemap line)) others
+    → SameButSitemaps agent lines agent others
+
+-- agents that differ in letter case alone get the same
+abbrev pub AgentCase : Type 0
+AgentCase = (agent other : List ℕ) (lines : List LineValue) → str_to_ascii_lowercase agent ≡ str_to_ascii_lowercase other → Same agent lines other lines
+
+-- reordering the rules changes no verdict
+abbrev pub OrderChangesNothing : Type 0
+OrderChangesNothing =
+    (rules others : List Rule) (text : List ℕ) (answer : Bool) → IsPermutation rules others → IsVerdict rules text answer → IsVerdict others text answer
+
+-- one more Disallow never turns a no into a yes
+abbrev pub OneMoreDisallow : Type 0
+OneMoreDisallow =
+    (front back : List Rule) (pattern text : List ℕ) → IsVerdict (front ++ back) text false → IsVerdict (front ++ (pattern, false) ∷ back) text false
+
+-- one more Allow never turns a yes into a no
+abbrev pub OneMoreAllow : Type 0
+OneMoreAllow =
+    (front back : List Rule) (pattern text : List ℕ) → IsVerdict (front ++ back) text true → IsVerdict (front ++ (pattern, true) ∷ back) text true
+
+-- the robots file is always allowed
+abbrev pub RobotsFileIsAllowed : Type 0
+RobotsFileIsAllowed = (rules : List Rule) → IsVerdict rules (codes "/robots.txt") true
+
+-- every agent gets the same sitemaps
+abbrev pub SitemapsForAll : Type 0
+SitemapsForAll = (agent other : List ℕ) (lines : List LineValue) → (share_of agent lines).sitemaps ≡ (share_of other lines).sitemaps
+
+-- of two patterns exactly one holds: they are equal, the first is before the second, or the second before the first
+pub record OrderAgrees : Type 0 where
+  pub one : (p q : List ℕ) → (p ≡ q) ⊎ (IsBefore p q ⊎ IsBefore q p)
+  pub not_both : (p q : List ℕ) → IsBefore p q → ¬ IsBefore q p
+  pub not_equal : (p : List ℕ) → ¬ IsBefore p p
+  pub transitive : (p q r : List ℕ) → IsBefore p q → IsBefore q r → IsBefore p r
+
+-- collapsing changes no match
+abbrev pub CollapseKeepsMeaning : Type 0
+CollapseKeepsMeaning = (pattern text : List ℕ) → Matches (collapsed pattern) text ↔ Matches pattern text
+
+-- a rule's length is that of its escaped value, whose stars aren't collapsed
+abbrev pub LengthIsNotCollapsed : Type 0
+LengthIsNotCollapsed = (value : List ℕ) (is_allow : Bool) (rule : Rule) → rule_from value is_allow ≡ Some rule → length rule.0 ≡ length (escaped value)
+
+-- ---- the definitions are met once, and by what computes them
+
+-- every text has a cut, and no other
+abbrev pub EachTextHasOneCut : Type 0
+EachTextHasOneCut = (text : List ℕ) → IsCut (cut text) text × ((pairs : List Pair) → IsCut pairs text → pairs ≡ cut text)
+
+-- a body is a statement of one kind with one value at most
+abbrev pub OneStatementFits : Type 0
+OneStatementFits = (kind other : Kind) (value text body : List ℕ) → IsStatement kind value body → IsStatement other text body → (kind ≡ other) × (value ≡ text)
+
+-- a text names one delay, or none
+abbrev pub EachTextHasOneDelay : Type 0
+EachTextHasOneDelay = (text : List ℕ) (delay : Option ℕ) → IsDelay text delay ↔ delay ≡ delay_of text
+
+-- a text has these lines and no others
+abbrev pub EachTextHasItsLines : Type 0
+EachTextHasItsLines = (text : List ℕ) (lines : List LineValue) → AreLinesOf lines text ↔ lines ≡ parsed text
+
+-- the test by which lists are made says what the definition says
+abbrev pub CapturedAgrees : Type 0
+CapturedAgrees = (name : List ℕ) (lines : List LineValue) (i : ℕ) → IsTrue (is_captured name lines i) ↔ IsCaptured name lines i

@@ -1,0 +1,17 @@
+pub mod Cut
+pub mod Trim
+pub mod Statement
+pub mod Delay
+pub mod Line
+pub mod Group
+pub mod Escape
+pub mod Pattern
+pub mod Rules
+pub mod Verdict
+pub mod Order
+pub mod View
+pub mod Robot
+pub mod Prepared
+pub mod Address
+pub mod Laws
+pub mod Computed

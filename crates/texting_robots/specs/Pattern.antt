@@ -1,0 +1,47 @@
+-- Patterns of rules, and what they match.
+use Rattle.std.specs.Prelude.{◌≡◌, ℕ, ◌<◌, Bool, true, false, ◌==◌, ◌&&◌, List, [], ◌∷◌, ◌++◌, MatchBool, Contains, length, if◌then◌else◌}
+
+abbrev pub star : ℕ
+star = 42
+
+abbrev pub dollar : ℕ
+dollar = 36
+
+-- how many bytes a collapsed pattern with `$` may have
+abbrev pub longest_with_dollar : ℕ
+longest_with_dollar = 4096
+
+-- what is left of t when some beginning is taken off: t itself, the empty text, and all between
+abbrev pub IsSuffix : List ℕ → List ℕ → Type 0
+IsSuffix s t = (front : List ℕ) × (t ≡ front ++ s)
+
+-- The pattern matches the text, or a beginning of it: a star stands for any bytes, and any other byte for itself.
+-- Where `anchors` is true, a dollar stands for the text's end, wherever it stands in the pattern.
+unfoldable pub MatchesWith : Bool → List ℕ → List ℕ → Type 0
+MatchesWith anchors [] t = Unit {0}
+MatchesWith anchors (b ∷ q) t =
+    MatchBool (b == star) ((s : List ℕ) × IsSuffix s t × MatchesWith anchors q s)
+    (MatchBool (anchors && (b == dollar)) ((t ≡ []) × MatchesWith anchors q t)
+    ((s : List ℕ) × (t ≡ b ∷ s) × MatchesWith anchors q s))
+
+-- what a rule's pattern matches
+abbrev pub Matches : List ℕ → List ℕ → Type 0
+Matches pattern text = MatchesWith true pattern text
+
+-- the same with a dollar as an ordinary byte
+abbrev pub MatchesStars : List ℕ → List ℕ → Type 0
+MatchesStars pattern text = MatchesWith false pattern text
+
+-- whether the list begins with a star
+abbrev pub begins_with_star : List ℕ → Bool
+begins_with_star [] = false
+begins_with_star (b ∷ q) = b == star
+
+-- the pattern with one star in place of each run of stars
+unfoldable pub collapsed : List ℕ → List ℕ
+collapsed [] = []
+collapsed (b ∷ q) = if (b == star) && begins_with_star q then collapsed q else b ∷ collapsed q
+
+-- it holds a dollar, and is too long when it is collapsed
+abbrev pub IsOverlong : List ℕ → Type 0
+IsOverlong pattern = Contains pattern dollar × (longest_with_dollar < length (collapsed pattern))

@@ -1,0 +1,16 @@
+-- The verdict of rules on a text.
+use Rattle.std.specs.Prelude.{◌≢◌, ℕ, ◌<◌, Bool, true, false, List, length, codes, Contains}
+use Rattle.texting_robots.specs.Pattern.{Matches}
+use Rattle.texting_robots.specs.Rules.{Rule}
+
+-- the text isn't the robots file, and some matching Disallow rule is longer than every matching Allow rule
+abbrev pub IsDenied : List Rule → List ℕ → Type 0
+IsDenied rules text =
+    (text ≢ codes "/robots.txt")
+    × (p : List ℕ) × Contains rules (p, false) × Matches p text
+    × ((q : List ℕ) → Contains rules (q, true) → Matches q text → length q < length p)
+
+-- the answer is no exactly where the text is denied
+abbrev pub IsVerdict : List Rule → List ℕ → Bool → Type 0
+IsVerdict rules text true = ¬ IsDenied rules text
+IsVerdict rules text false = IsDenied rules text

@@ -1,0 +1,56 @@
+//! The address of a site's robots.txt file.
+ghost use Rattle.std.specs.Prelude.{◌≡◌, ◌++◌, codes, IfOk, OnOk, string_bytes};
+ghost use Rattle.url.specs.Parser.{GivesBy};
+ghost use Rattle.texting_robots.specs.Address.{robots_address, robots_address_of, port_text};
+
+use std::alloc::{AllocError, Global};
+use url::{ParseError, Url};
+
+/// Adds `:` and the port, if there is one.
+fn push_port(alloc: Global, text: &mut String, port: Option<u16>) -> Result<(), AllocError>
+    ensures { OnOk result (string_bytes text.new ≡ string_bytes text.old ++ port_text port) }
+{
+    if let Some(port) = port {
+        text.push(':')?;
+        text.push_str(&port.to_string(alloc)?)?;
+    }
+    Ok(())
+}
+
+/// The address with these parts.
+fn text_of(alloc: Global, scheme: &str, host: &str, port: Option<u16>) -> Result<String, AllocError>
+    ensures { IfOk result (λ s. string_bytes s
+        ≡ scheme.now ++ codes "://" ++ host.now ++ port_text port ++ codes "/robots.txt") }
+{
+    let mut text = String::from_str(alloc, scheme)?;
+    text.push_str("://")?;
+    text.push_str(host)?;
+    push_port(alloc, &mut text, port)?;
+    text.push_str("/robots.txt")?;
+    Ok(text)
+}
+
+/// The address for a URL that was parsed.
+fn address_of_url(alloc: Global, url: &Url) -> Result<String, ParseError>
+    ensures { GivesBy string_bytes result (robots_address_of url.now) }
+{
+    if url.cannot_be_a_base() {
+        return Err(ParseError::SetHostOnCannotBeABaseUrl);
+    }
+    let scheme = url.scheme();
+    if scheme != "http" && scheme != "https" {
+        return Err(ParseError::EmptyHost);
+    }
+    let Some(host) = url.host_str() else {
+        return Err(ParseError::EmptyHost);
+    };
+    Ok(text_of(alloc, scheme, host, url.port())?)
+}
+
+/// The robots_address of the robots file of a URL.
+pub fn get_robots_url(alloc: Global, url: &str) -> Result<String, ParseError>
+    ensures { GivesBy string_bytes result (robots_address url.now) }
+{
+    let url = Url::parse(alloc, url)?;
+    address_of_url(alloc, &url)
+}

@@ -1,0 +1,22 @@
+//! Reads the bytes of a robots.txt file for one crawler, and says which URLs that crawler may fetch, how long it waits
+//! between two requests, and which sitemaps the file lists, by Google's reading of the Robots Exclusion Protocol (RFC 9309).
+//!
+//! [`Robot`] is the way in: `Robot::new` reads a file for an agent, and `allowed` answers for a URL. [`get_robots_url`]
+//! says where the file of a site stands. [`parser`], [`minregex`] and [`view`] are the layers below.
+#![tactic(auto)]
+
+pub mod address;
+mod error;
+mod escape;
+mod groups;
+pub mod laws;
+pub mod minregex;
+pub mod parser;
+pub mod robot;
+mod rules;
+mod verdict;
+pub mod view;
+
+pub use address::get_robots_url;
+pub use error::Error;
+pub use robot::Robot;

@@ -1,0 +1,244 @@
+//! Patterns of rules: `*` stands for any bytes, and `$` for the end of the text.
+ghost use Rattle.std.specs.Prelude.{◌≡◌, ◌≢◌, ◌+◌, ◌*◌, ◌<◌, ◌≤◌, ◌↔◌, ◌==◌, IsTrue, IfErr, IfNone, IfOk, IfSome, IsErrOf, OnOk, length, string_bytes};
+ghost use Rattle.std.specs.Cmp.{partial_order_from_own_ties};
+ghost use Rattle.std.specs.Cmp.Lexicographic.{pointwise};
+ghost use Rattle.std.specs.Cmp.Rules.{comparing};
+ghost use Rattle.std.specs.Ordering.{as_partial_cmp, on};
+ghost use Rattle.std.proofs.Common.{rules};
+ghost use Rattle.texting_robots.specs.Computed.Border.{IsFirstEnd, StandsNowhere};
+ghost use Rattle.texting_robots.specs.Computed.Pieces.{IsStarFrom};
+ghost use Rattle.texting_robots.specs.Order.{IsBefore, pattern_cmp};
+ghost use Rattle.texting_robots.specs.Pattern.{IsOverlong, Matches, MatchesStars, collapsed};
+
+mod pieces;
+
+use crate::error::Error;
+use crate::view::View;
+use pieces::{Cut, DOLLAR, Piece, STAR, matches_pieces, push_pieces, stars_end};
+use std::alloc::{AllocError, Global};
+use std::cmp::Ordering;
+use std::marker::Model;
+
+/// How many bytes a pattern with `$` may have, each run of stars counted as one.
+const LONGEST_WITH_DOLLAR: usize = 4096;
+
+/// A pattern, ready to be matched. It is compared by its bytes before collapsing: the longer first, then by bytes.
+#[derive(Debug, Drop)]
+pub struct MinRegex {
+    pattern: String,
+    collapsed_text: String,
+    cut: Cut,
+    searched: Vec<Piece>,
+    borders: Vec<usize>,
+}
+
+impl Model for MinRegex {
+    ghost use Rattle.std.specs.Prelude.{◌≡◌, ℕ, List, string_bytes};
+    ghost use Rattle.texting_robots.specs.Computed.Pieces.{ArePieces};
+    ghost use Rattle.texting_robots.specs.Pattern.{collapsed};
+
+    ghost Value = { List ℕ };
+
+    ghost view = { λ r. string_bytes r.pattern };
+
+    ghost invariant = { λ r. (string_bytes r.collapsed_text ≡ collapsed (string_bytes r.pattern))
+        × ArePieces (string_bytes r.pattern) r.cut r.searched.items r.borders.items };
+}
+
+impl MinRegex {
+    /// Takes a pattern, which isn't escaped here. `Error::InvalidRule` says that it holds `$` and has more than 4,096
+    /// bytes, each run of stars counted as one.
+    pub fn new(alloc: Global, pattern: &str) -> Result<Self, Error>
+        ensures ok { IfOk result (λ regex. regex ≡ pattern.now) }
+        ensures accepted { OnOk result (¬ IsOverlong pattern.now) }
+        ensures refused { IsErrOf result Error.InvalidRule → IsOverlong pattern.now }
+        ensures never_unparsed { IfErr result (λ e. e ≢ Error.InvalidRobots) }
+    {
+        let collapsed_text = collapse_stars(alloc, pattern)?;
+        if collapsed_text.len() > LONGEST_WITH_DOLLAR && pattern.as_bytes().contains(&DOLLAR) {
+            return Err(Error::InvalidRule);
+        }
+        let mut searched = Vec::new(alloc);
+        let mut borders = Vec::new(alloc);
+        let cut = push_pieces(pattern.as_bytes(), &mut searched, &mut borders)?;
+        let pattern = String::from_str(alloc, pattern)?;
+        Ok(MinRegex {
+            pattern,
+            collapsed_text,
+            cut,
+            searched,
+            borders,
+        })
+    }
+
+    /// An equal pattern.
+    pub fn clone(&self, alloc: Global) -> Result<Self, Error>
+        ensures ok { IfOk result (λ regex. regex ≡ self.now) }
+        ensures memory { IfErr result (λ e. e ≡ Error.Memory) }
+    {
+        Ok(MinRegex {
+            pattern: String::from_str(alloc, self.pattern.as_str())?,
+            collapsed_text: String::from_str(alloc, self.collapsed_text.as_str())?,
+            cut: self.cut,
+            searched: self.searched.to_vec(alloc)?,
+            borders: self.borders.to_vec(alloc)?,
+        })
+    }
+
+    /// How many bytes the pattern has before collapsing.
+    pub(crate) fn pattern_len(&self) -> usize
+        ensures { result ≡ length self.now }
+    {
+        self.pattern.len()
+    }
+
+    /// Whether the pattern matches the view's text, or a beginning of it. It takes no memory, and looks at bytes of the text
+    /// at most twice the text's length times.
+    pub fn matches_view(&self, view: &mut View<'_>) -> bool
+        ensures answer { IsTrue result ↔ Matches self.now view.old.text }
+        ensures text { view.new.text ≡ view.old.text }
+        ensures looks { view.old.looks ≤ view.new.looks }
+        ensures cost { view.new.looks ≤ view.old.looks + 2 * length view.old.text }
+    {
+        matches_pieces(
+            view,
+            self.pattern.as_bytes(),
+            self.cut,
+            &self.searched,
+            &self.borders,
+        )
+    }
+
+    /// Whether the pattern matches the text, or a beginning of it. It takes no memory.
+    pub fn is_match(&self, text: &str) -> bool
+        ensures { IsTrue result ↔ Matches self.now text.now }
+    {
+        self.matches_view(&mut View::new(text))
+    }
+
+    /// Whether the pattern handed in matches the text, with `$` as an ordinary byte. The object plays no part. It takes no
+    /// memory, and so no tables: its cost may grow with the product of the two lengths.
+    pub fn match_stars(&self, pattern: &[u8], text: &[u8]) -> bool
+        ensures { IsTrue result ↔ MatchesStars pattern.now text.now }
+    {
+        let mut end = star_from(pattern, 0);
+        if !text.starts_with(&pattern[..end]) {
+            return false;
+        }
+        let mut place = end;
+        while end < pattern.len() {
+            let start = stars_end(pattern, end);
+            end = star_from(pattern, start);
+            match find_plainly(text, &pattern[start..end], place) {
+                Some(behind) => place = behind,
+                None => return false,
+            }
+        }
+        true
+    }
+
+    /// The pattern with one star in place of each run of stars.
+    pub fn as_str(&self) -> &str
+        ensures { result.now ≡ collapsed self.now }
+    {
+        self.collapsed_text.as_str()
+    }
+}
+
+impl PartialEq for MinRegex {
+    ghost eq = { on (λ p. p) (pointwise ◌==◌) };
+
+    ghost laws = { Prim.search (comparing, rules) };
+
+    fn eq(&self, other: &MinRegex) -> bool {
+        self.pattern.as_str() == other.pattern.as_str()
+    }
+}
+
+impl Eq for MinRegex {
+    ghost laws = { Prim.search (comparing, rules) };
+}
+
+impl Ord for MinRegex {
+    ghost cmp = { pattern_cmp };
+
+    ghost total = { Prim.search (comparing, rules) };
+
+    ghost matches_partial_cmp = { Prim.search (comparing, rules) };
+
+    ghost matches_eq = { Prim.search (comparing, rules) };
+
+    fn cmp(&self, other: &MinRegex) -> Ordering
+        ensures value { result ≡ pattern_cmp self.now other.now }
+        ensures less { (result ≡ Ordering.Less) ↔ IsBefore self.now other.now }
+        ensures equal { (result ≡ Ordering.Equal) ↔ (self.now ≡ other.now) }
+    {
+        order(self, other)
+    }
+}
+
+impl PartialOrd for MinRegex {
+    ghost partial_cmp = { as_partial_cmp pattern_cmp };
+
+    ghost laws = { partial_order_from_own_ties (Prim.search (comparing, rules)) (Prim.search (comparing, rules)) };
+
+    fn partial_cmp(&self, other: &MinRegex) -> Option<Ordering> {
+        Some(self.cmp(other))
+    }
+}
+
+/// The longer first, and of two as long the one with the smaller bytes.
+fn order(left: &MinRegex, right: &MinRegex) -> Ordering
+    ensures { result ≡ pattern_cmp left.now right.now }
+{
+    right
+        .pattern
+        .len()
+        .cmp(&left.pattern.len())
+        .then(left.pattern.as_bytes().cmp(right.pattern.as_bytes()))
+}
+
+/// The pattern with one star in place of each run of stars.
+fn collapse_stars(alloc: Global, pattern: &str) -> Result<String, AllocError>
+    ensures { IfOk result (λ text. string_bytes text ≡ collapsed pattern.now) }
+{
+    let mut text = String::new(alloc);
+    let mut rest = pattern;
+    while let Some((before, after)) = rest.split_once('*') {
+        text.push_str(before)?;
+        if !after.starts_with('*') {
+            text.push('*')?;
+        }
+        rest = after;
+    }
+    text.push_str(rest)?;
+    Ok(text)
+}
+
+/// The place of the first star from `at` on, or the pattern's length.
+fn star_from(pattern: &[u8], at: usize) -> usize
+    requires { at ≤ length pattern.now }
+    ensures { IsStarFrom pattern.now at result }
+{
+    let mut end = at;
+    while end < pattern.len() && pattern[end] != STAR {
+        end += 1;
+    }
+    end
+}
+
+/// The place right behind the piece where it first stands from `from` on, found by comparing it at each place.
+fn find_plainly(text: &[u8], piece: &[u8], from: usize) -> Option<usize>
+    requires { from ≤ length text.now }
+    ensures none { IfNone result (StandsNowhere text.now piece.now from (length text.now + 1)) }
+    ensures some { IfSome result (λ end. IsFirstEnd text.now piece.now from end) }
+{
+    let mut at = from;
+    while at <= text.len() && piece.len() <= text.len() - at {
+        if text[at..].starts_with(piece) {
+            return Some(at + piece.len());
+        }
+        at += 1;
+    }
+    None
+}

@@ -1,0 +1,74 @@
+//! A text of which only counted looks are possible.
+ghost use Rattle.std.specs.Prelude.{◌≡◌, ℕ, ◌+◌, ◌<◌, ◌≤◌, ◌↔◌, IsTrue, length, slice_index, codes};
+ghost use Rattle.texting_robots.specs.View.{seen_of};
+
+mod looks;
+
+use looks::Looks;
+use std::marker::Model;
+
+/// A lent text, and how many of its bytes were looked at.
+#[derive(Drop)]
+pub struct View<'a> {
+    text: &'a str,
+    count: u64,
+    looks: Looks,
+}
+
+impl<'a> Model for View<'a> {
+    ghost use Rattle.std.specs.Prelude.{◌≡◌, ℕ, List};
+    ghost use Rattle.texting_robots.specs.View.{Viewed, seen_of};
+
+    ghost Value = { Viewed };
+
+    ghost view = { λ v. record { text = v.text.now; looks = v.looks.total } };
+
+    ghost invariant = { λ v. v.count ≡ seen_of v.looks.total };
+}
+
+impl<'a> View<'a> {
+    /// A view of the text, with no looks yet.
+    pub fn new(text: &'a str) -> Self
+        ensures text { result.text ≡ text.now }
+        ensures looks { result.looks ≡ 0 }
+    {
+        View {
+            text,
+            count: 0,
+            looks: Looks::none(),
+        }
+    }
+
+    /// How many bytes the text has.
+    pub fn len(&self) -> usize
+        ensures { result ≡ length self.now.text }
+    {
+        self.text.len()
+    }
+
+    /// Whether the byte at a place is this one. It is one look.
+    pub fn same(&mut self, at: usize, byte: u8) -> bool
+        requires { at < length self.old.text }
+        ensures answer { IsTrue result ↔ (slice_index self.old.text at ≡ byte) }
+        ensures text { self.new.text ≡ self.old.text }
+        ensures looks { self.new.looks ≡ self.old.looks + 1 }
+    {
+        self.looks = self.looks.one_more();
+        self.count = self.count.saturating_add(1);
+        self.text.as_bytes()[at] == byte
+    }
+
+    /// Whether the text is `/robots.txt`. It is no look.
+    pub fn is_robots_file(&self) -> bool
+        ensures { IsTrue result ↔ (self.now.text ≡ codes "/robots.txt") }
+    {
+        self.text == "/robots.txt"
+    }
+
+    /// How many looks there were, or the greatest number where there were more.
+    pub fn seen(&self) -> u64
+        ensures { result ≡ seen_of self.now.looks }
+    {
+        self.count
+    }
+}
