@@ -8,11 +8,7 @@ use Rattle.texting_robots.specs.Line.{LineValue, UserAgent, Allow, Disallow, Sit
 -- an agent line whose value lowers to the name
 abbrev pub names : List ℕ → LineValue → Bool
 names name (UserAgent value) = bytes_eq (str_to_ascii_lowercase value) name
-names name (Allow value) = false
-names name (Disallow value) = false
-names name (Sitemap value) = false
-names name (CrawlDelay delay) = false
-names name (Raw body) = false
+names name _ = false
 
 -- the lowered agent where some line names it, else a star
 abbrev pub group_name : List ℕ → List LineValue → List ℕ

@@ -99,42 +99,24 @@ pub record HoldRangesOf (lines : List LineValue) (text : List ℕ) : Type 0 wher
 
 abbrev pub is_agent : LineValue → Bool
 is_agent (UserAgent value) = true
-is_agent (Allow value) = false
-is_agent (Disallow value) = false
-is_agent (Sitemap value) = false
-is_agent (CrawlDelay delay) = false
-is_agent (Raw body) = false
+is_agent _ = false
 
 -- an Allow, a Disallow or a delay
 abbrev pub is_group : LineValue → Bool
-is_group (UserAgent value) = false
 is_group (Allow value) = true
 is_group (Disallow value) = true
-is_group (Sitemap value) = false
 is_group (CrawlDelay delay) = true
-is_group (Raw body) = false
+is_group _ = false
 
 abbrev pub is_sitemap : LineValue → Bool
-is_sitemap (UserAgent value) = false
-is_sitemap (Allow value) = false
-is_sitemap (Disallow value) = false
 is_sitemap (Sitemap value) = true
-is_sitemap (CrawlDelay delay) = false
-is_sitemap (Raw body) = false
+is_sitemap _ = false
 
 abbrev pub is_raw : LineValue → Bool
-is_raw (UserAgent value) = false
-is_raw (Allow value) = false
-is_raw (Disallow value) = false
-is_raw (Sitemap value) = false
-is_raw (CrawlDelay delay) = false
 is_raw (Raw body) = true
+is_raw _ = false
 
 -- the delay that the line gives
 abbrev pub delay_in : LineValue → Option ℕ
-delay_in (UserAgent value) = None
-delay_in (Allow value) = None
-delay_in (Disallow value) = None
-delay_in (Sitemap value) = None
 delay_in (CrawlDelay delay) = delay
-delay_in (Raw body) = None
+delay_in _ = None
