@@ -4,7 +4,7 @@ use Rattle.std.proofs.Common.{◌≡◌, ◌≢◌, ◌↔◌, ⊎_elim, ℕ, �
 use Rattle.std.proofs.lemmas.Bool.{cases_eq, cases_lt}
 use Rattle.std.proofs.lemmas.Grind.{get_or_default_zero}
 use Rattle.std.proofs.lemmas.List.{get_or_append_left, get_or_push, get_or-append-add, length_push}
-use Rattle.texting_robots.specs.Computed.Border.{Agrees, AreBorders, IsLongestBorder, IsTable, StandsAt, StandsNowhere}
+use Rattle.texting_robots.specs.Computed.Border.{Agrees, AreBorders, IsLongestBorder, StandsAt, StandsNowhere}
 
 -- From low on, the place `matched` bytes back is the first that is still open: there the piece agrees with the text
 -- up to `place`, and at each place before it disagrees with the text before `end`.
@@ -14,14 +14,14 @@ pub record IsFirstOpen (text piece : List ℕ) (low end place matched : ℕ) : T
   pub closed : (at : ℕ) → low ≤ at → at < place - matched → ¬ Agrees text piece at end
 
 module _ (text piece : List ℕ) where
-  read : (i j : ℕ) → i ≡ j → get_or text i 0 ≡ get_or text j 0
-  read i j e = ap (λ x. get_or text x 0) e
+  byte_at : {i j : ℕ} → i ≡ j → get_or text i 0 ≡ get_or text j 0
+  byte_at = ap (λ place. get_or text place 0)
 
   -- Where len bytes of the piece are read, it agrees farther on just as it agrees with itself.
   agrees_farther : (at far there len end : ℕ) → there ≡ at + far → end ≡ at + len → len ≤ length piece → Agrees text piece at end → Agrees text piece there end ↔ Agrees piece piece far len
   agrees_farther at far there len end ahead last fits here = (
-    λ agrees k l m. sym (here (far + k) (omega arith) (omega arith)) ∙ read (at + (far + k)) (there + k) (omega arith) ∙ agrees k l (omega arith),
-    λ agrees k l m. read (there + k) (at + (far + k)) (omega arith) ∙ here (far + k) (omega arith) (omega arith) ∙ agrees k l (omega arith),
+    λ agrees k l m. sym (here (far + k) (omega arith) (omega arith)) ∙ byte_at (omega arith) ∙ agrees k l (omega arith),
+    λ agrees k l m. byte_at (omega arith) ∙ here (far + k) (omega arith) (omega arith) ∙ agrees k l (omega arith),
   )
 
   module _ (low end place matched : ℕ) (first : IsFirstOpen text piece low end place matched) where
@@ -40,8 +40,8 @@ module _ (text piece : List ℕ) where
         record {
           behind = omega arith;
           agrees = λ k l m.
-              ⊎_elim (λ (e : k ≡ matched). read (place + 1 - (matched + 1) + k) place (omega arith) ∙ next ∙ ap (λ x. get_or piece x 0) (sym e))
-              (λ ne. read (place + 1 - (matched + 1) + k) (place - matched + k) (omega arith) ∙ first.agrees k l (omega arith))
+              ⊎_elim (λ (e : k ≡ matched). byte_at (omega arith) ∙ next ∙ ap (λ x. get_or piece x 0) (sym e))
+              (λ ne. byte_at (omega arith) ∙ first.agrees k l (omega arith))
               (cases_eq k matched);
           closed = λ at from before. first.closed at from (omega arith);
         }
@@ -52,10 +52,10 @@ module _ (text piece : List ℕ) where
       closed_here at from upto agrees =
           let behind = first.behind in
           ⊎_elim (λ before. first.closed at from before agrees)
-          (λ here. differs (read place (at + matched) (omega arith) ∙ agrees matched some (omega arith)))
+          (λ here. differs (byte_at (omega arith) ∙ agrees matched some (omega arith)))
           (cases_lt at (place - matched))
 
-      -- Nothing was matched: the next place is first.
+      -- Nothing was matched: the next place is the first open one.
       pub open_next : matched ≡ 0 → IsFirstOpen text piece low end (place + 1) matched
       open_next none =
           let behind = first.behind in
@@ -110,14 +110,6 @@ module _ (piece : List ℕ) where
         longest = λ longer more less. first.closed (len - longer) (omega arith) (omega arith);
       }
 
-  -- It begins with one byte read and nothing matched.
-  pub open_first : (end : ℕ) → IsFirstOpen piece piece 1 end 1 0
-  open_first end = record {
-    behind = omega arith;
-    agrees = λ k l m. absurd (omega arith);
-    closed = λ at from before. absurd (omega arith);
-  }
-
   borders_push : (table : List ℕ) (border : ℕ) → AreBorders piece table → IsLongestBorder piece (length table + 1) border → AreBorders piece (table ++ border ∷ [])
   borders_push table border known longest len some upto =
       let pushed = length_push table border in
@@ -154,6 +146,3 @@ module _ (piece old now : List ℕ) (len : ℕ) (adds : AddsBorders piece old no
       is ∙ ap (λ items. get_or items at entry) adds.added ∙ ap (λ k. get_or (old ++ adds.table) k entry) there ∙ get_or-append-add old adds.table (count - 1) entry
       ∙ get_or_default_zero adds.table (count - 1) entry (omega arith) in
       subst (IsLongestBorder piece count) (sym same) (adds.borders count some (omega arith))
-
-  pub adds_all : len ≡ length piece → (table : List ℕ) × (now ≡ old ++ table) × IsTable piece table
-  adds_all all = (adds.table, adds.added, record { long = adds.long ∙ all; borders = adds.borders })

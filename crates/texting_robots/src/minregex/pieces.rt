@@ -100,15 +100,13 @@ fn push_borders(borders: &mut Vec<usize>, piece: &[u8]) -> Result<(), AllocError
     let mut matched = 0;
     while place < piece.len() {
         if piece[place] == piece[matched] {
-            place += 1;
             matched += 1;
-            borders.push(matched)?;
-        } else if matched == 0 {
-            place += 1;
-            borders.push(0)?;
-        } else {
+        } else if matched > 0 {
             matched = borders[table + matched - 1];
+            continue;
         }
+        place += 1;
+        borders.push(matched)?;
     }
     Ok(())
 }
