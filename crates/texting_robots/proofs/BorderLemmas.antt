@@ -1,5 +1,7 @@
 -- One search for two tasks: a piece is looked for in a text, and in itself from place 1 on, which gives the borders.
 -- `place` is the next place of the text to look at, and `matched` bytes before it agree with the piece.
+-- That the leftmost place of a piece loses no match is `behind_leftmost` of PlacingLemmas, and how many looks a search
+-- takes is in the invariant of `find`.
 use Rattle.std.proofs.Common.{◌≡◌, ◌≢◌, ◌↔◌, ⊎_elim, ℕ, ◌+◌, ◌-◌, ◌<◌, ◌≤◌, List, [], ◌∷◌, ◌++◌, length, get_or, sym, ap, subst, subst₂, ◌∙◌, arith, append_assoc}
 use Rattle.std.proofs.lemmas.Bool.{cases_eq, cases_lt}
 use Rattle.std.proofs.lemmas.Grind.{get_or_default_zero}
@@ -25,7 +27,7 @@ module _ (text piece : List ℕ) where
   )
 
   module _ (low end place matched : ℕ) (first : IsFirstOpen text piece low end place matched) where
-    -- More text closes no fewer places.
+    -- With more of the text a closed place stays closed.
     pub open_farther : (later : ℕ) → end ≤ later → IsFirstOpen text piece low later place matched
     open_farther later le = record {
       behind = first.behind;
@@ -65,7 +67,7 @@ module _ (text piece : List ℕ) where
             closed = λ at from before. closed_here at from (omega arith);
           }
 
-      -- A fallback to the longest border skips no place where the piece may stand.
+      -- A fallback to the longest border skips no place where the piece stands.
       pub open_back : (border : ℕ) → IsLongestBorder piece matched border → IsFirstOpen text piece low end place border
       open_back border longest =
           let behind = first.behind in
@@ -73,7 +75,7 @@ module _ (text piece : List ℕ) where
           let farther = λ (at longer : ℕ) (e : at ≡ place - matched + (matched - longer)). agrees_farther (place - matched) (matched - longer) at matched place e (omega arith) (omega arith) first.agrees in
           record {
             behind = omega arith;
-            agrees = (farther (place - border) border (omega arith)).1 longest.repeats;
+            agrees = (farther (place - border) border (omega arith)).1 longest.agrees;
             closed = λ at from before agrees.
                 ⊎_elim (λ (skipped : place - matched < at). longest.longest (place - at) (omega arith) (omega arith)
                 ((farther at (place - at) (omega arith)).0 (λ k l m. agrees k l (omega arith))))
@@ -100,13 +102,13 @@ module _ (text piece : List ℕ) where
         ⊎_elim (λ before. open_nowhere at from before stands) (λ here. omega arith) (cases_lt at (place - matched))
 
 module _ (piece : List ℕ) where
-  -- In the search of the piece in itself, what is matched is the longest proper border of what was read.
+  -- Where the piece is looked for in itself, the bytes matched are the longest proper border of the bytes read.
   pub longest_border : (len border : ℕ) → IsFirstOpen piece piece 1 len len border → IsLongestBorder piece len border
   longest_border len border first =
       let behind = first.behind in
       record {
         proper = omega arith;
-        repeats = first.agrees;
+        agrees = first.agrees;
         longest = λ longer more less. first.closed (len - longer) (omega arith) (omega arith);
       }
 
@@ -118,7 +120,7 @@ module _ (piece : List ℕ) where
       (λ ne. subst (IsLongestBorder piece len) (sym (get_or_append_left table (border ∷ []) 0 (len - 1) (omega arith))) (known len some (omega arith)))
       (cases_eq len (length table + 1))
 
--- The borders of the piece's beginnings of up to len bytes were added.
+-- The longest borders of the piece's beginnings of up to len bytes were added.
 pub record AddsBorders (piece old now : List ℕ) (len : ℕ) : Type 0 where
   pub table : List ℕ
   pub added : now ≡ old ++ table
@@ -137,7 +139,7 @@ module _ (piece old now : List ℕ) (len : ℕ) (adds : AddsBorders piece old no
         borders = borders_push piece adds.table border adds.borders (subst (λ n. IsLongestBorder piece (n + 1) border) (sym long) longest);
       }
 
-  -- Each entry is the longest proper border of a beginning of the piece.
+  -- Each entry of the table is the longest proper border of a beginning of its piece.
   pub adds_entry : (count at entry : ℕ) → 0 < count → count ≤ len → at ≡ length old + count - 1 → entry ≡ get_or now at entry → IsLongestBorder piece count entry
   adds_entry count at entry some upto place is =
       let long = adds.long in

@@ -4,7 +4,7 @@ ghost use Rattle.std.specs.Prelude.{◌≡◌, ◌+◌};
 use std::marker::Model;
 use std::snapshot::Snapshot;
 
-/// How many looks were taken: none, or one more than before the last one.
+/// How many looks were taken: none, or one more than before the last one. A snapshot has no bytes.
 #[derive(Drop)]
 pub(super) struct Looks {
     before_last: Option<Snapshot<Looks>>,

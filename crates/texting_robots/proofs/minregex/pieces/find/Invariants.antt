@@ -2,7 +2,7 @@ use Rattle.std.proofs.Common.{◌≡◌, ◌+◌, ◌-◌, ◌*◌, ◌≤◌, l
 use Rattle.texting_robots.proofs.BorderLemmas.{IsFirstOpen}
 use Rattle.texting_robots.proofs.minregex.pieces.find.Given as goal
 
--- `looks`: there were at most two looks for each place passed, less one for each matched byte
+-- the looks are at most twice the places passed, less the bytes matched
 abbrev pub invariant-loop-matched : goal.invariant-loop-matched
 invariant-loop-matched l =
     record {
