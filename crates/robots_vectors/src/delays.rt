@@ -1,5 +1,5 @@
 //! What a delay text says, and which delay an agent gets.
-use crate::helpers::{BOB, indented, robot_of};
+use crate::helpers::{BOB, forms_of, robot_of};
 use std::process::Abort;
 use std::test::Fail;
 use texting_robots::parser::read_delay;
@@ -140,7 +140,7 @@ const DELAYS: &[DelayRow] = &[
     },
 ];
 
-/// The delay that each agent of the row gets of this form of its file.
+/// The delay that each agent of the row gets of a form of its file.
 fn check_delays(rt: &(impl Abort + AllocGlobal), row: &DelayRow, file: &[u8]) {
     let name = row.name;
     for (agent, want) in row.delays {
@@ -165,9 +165,8 @@ fn delay_texts(rt: HostRuntime) -> Result<(), Fail> {
 #[test]
 fn delays_of_files(rt: HostRuntime) -> Result<(), Fail> {
     for row in DELAYS {
-        check_delays(&rt, row, row.file);
-        if !row.file.contains(&b'\r') {
-            check_delays(&rt, row, &indented(rt.alloc(), row.file)?);
+        for file in &forms_of(rt.alloc(), row.file)? {
+            check_delays(&rt, row, file);
         }
     }
     Ok(())

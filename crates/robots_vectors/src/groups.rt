@@ -1,5 +1,5 @@
 //! Which groups of a file an agent gets, and the sitemaps that every agent gets.
-use crate::helpers::{BOB, FileRow, check_file, check_file_at, indented, robot_of};
+use crate::helpers::{BOB, FileRow, check_file, check_file_at, forms_of, robot_of};
 use std::process::Abort;
 use std::test::Fail;
 
@@ -225,7 +225,7 @@ const SITEMAPS: &[SitemapRow] = &[
     },
 ];
 
-/// The sitemaps of this form of the row's file.
+/// The sitemaps of a form of the row's file.
 fn check_sitemaps(rt: &(impl Abort + AllocGlobal), row: &SitemapRow, file: &[u8]) {
     let name = row.name;
     let sitemaps = robot_of(rt, name, row.agent, file).sitemaps;
@@ -258,9 +258,8 @@ fn merged_groups(rt: HostRuntime) -> Result<(), Fail> {
 #[test]
 fn sitemaps(rt: HostRuntime) -> Result<(), Fail> {
     for row in SITEMAPS {
-        check_sitemaps(&rt, row, row.file);
-        if !row.file.contains(&b'\r') {
-            check_sitemaps(&rt, row, &indented(rt.alloc(), row.file)?);
+        for file in &forms_of(rt.alloc(), row.file)? {
+            check_sitemaps(&rt, row, file);
         }
     }
     Ok(())

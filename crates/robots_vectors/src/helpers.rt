@@ -16,7 +16,7 @@ pub struct FileRow {
 }
 
 /// The file with eight spaces before each line after the first.
-pub fn indented(alloc: Global, file: &[u8]) -> Result<Vec<u8>, AllocError> {
+fn indented(alloc: Global, file: &[u8]) -> Result<Vec<u8>, AllocError> {
     let mut text = Vec::new(alloc);
     for (place, byte) in file.iter().enumerate() {
         text.push(*byte)?;
@@ -25,6 +25,16 @@ pub fn indented(alloc: Global, file: &[u8]) -> Result<Vec<u8>, AllocError> {
         }
     }
     Ok(text)
+}
+
+/// The file as it stands and, where it has several lines and no CR spells them, indented.
+pub fn forms_of(alloc: Global, file: &[u8]) -> Result<Vec<Vec<u8>>, AllocError> {
+    let mut forms = Vec::new(alloc);
+    forms.push(file.to_vec(alloc)?)?;
+    if file.contains(&b'\n') && !file.contains(&b'\r') {
+        forms.push(indented(alloc, file)?)?;
+    }
+    Ok(forms)
 }
 
 /// Each part as often as its number says, one after the other.
@@ -82,13 +92,10 @@ fn check_verdicts(rt: &(impl Abort + AllocGlobal), row: &FileRow, host: &str, ro
     }
 }
 
-/// Reads the row's file as it stands and, where no CR spells it, indented; and asks with the host before each text.
+/// Reads the forms of the row's file, and asks with the host before each text.
 pub fn check_file_at(rt: &(impl Abort + AllocGlobal), row: &FileRow, host: &str) {
-    let robot = robot_of(rt, row.name, row.agent, row.file);
-    check_verdicts(rt, row, host, &robot);
-    if !row.file.contains(&b'\r') {
-        let file = indented(rt.alloc(), row.file).expect(rt, row.name);
-        let robot = robot_of(rt, row.name, row.agent, &file);
+    for file in &forms_of(rt.alloc(), row.file).expect(rt, row.name) {
+        let robot = robot_of(rt, row.name, row.agent, file);
         check_verdicts(rt, row, host, &robot);
     }
 }

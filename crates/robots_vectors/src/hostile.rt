@@ -1,9 +1,10 @@
 //! Long files, long texts and long numbers.
-use crate::helpers::{BOB, check_prepared, check_url, long_bytes, long_text, robot_of};
+use crate::helpers::{BOB, check_prepared, check_url, forms_of, long_bytes, long_text, robot_of};
+use crate::lines::check_lines;
 use std::process::Abort;
 use std::test::Fail;
 use texting_robots::minregex::MinRegex;
-use texting_robots::parser::{Line, read_delay, robots_txt_parse};
+use texting_robots::parser::{Line, read_delay};
 use texting_robots::view::View;
 
 /// A file and texts by their parts, each with how often it stands, and whether the texts may be fetched.
@@ -106,32 +107,21 @@ const DELAYS: &[(&str, &[(&str, usize)], u64)] = &[
     ("long_exponent_of_zero", &[("0e", 1), ("9", 1_000_000)], 0),
 ];
 
-/// The line of a text that has one.
-fn only_line<'a>(rt: &(impl Abort + AllocGlobal), name: &str, text: &'a [u8]) -> Line<'a> {
-    let lines = robots_txt_parse(rt.alloc(), text).expect(rt, name);
-    match lines.as_slice() {
-        [line] => *line,
-        _ => panic!(rt; "{name}: {} lines", lines.len()),
-    }
-}
-
-/// Asks the row's robot for each of its texts.
-fn check_long(rt: &(impl Abort + AllocGlobal), row: &LongRow) {
+/// Asks the robot of a form of the row's file for each of its texts.
+fn check_long(rt: &(impl Abort + AllocGlobal), row: &LongRow, file: &[u8]) {
     let name = row.name;
-    let file = long_bytes(rt.alloc(), row.file).expect(rt, name);
-    let robot = robot_of(rt, name, BOB, &file);
+    let robot = robot_of(rt, name, BOB, file);
     for (parts, want) in row.texts {
         let text = long_text(rt.alloc(), parts).expect(rt, name);
         check_url(rt, name, &robot, text.as_str(), *want);
     }
 }
 
-/// Asks the row's robot by a view, and counts the looks.
-fn check_looks(rt: &(impl Abort + AllocGlobal), row: &LookRow) {
+/// Asks the robot of a form of the row's file by a view, and counts the looks.
+fn check_looks(rt: &(impl Abort + AllocGlobal), row: &LookRow, file: &[u8]) {
     let name = row.name;
-    let file = long_bytes(rt.alloc(), row.file).expect(rt, name);
     let text = long_text(rt.alloc(), row.text).expect(rt, name);
-    let robot = robot_of(rt, name, BOB, &file);
+    let robot = robot_of(rt, name, BOB, file);
     let mut view = View::new(text.as_str());
     assert!(rt; robot.allowed_view(&mut view), "{name}");
     let seen = view.seen();
@@ -143,20 +133,20 @@ fn check_looks(rt: &(impl Abort + AllocGlobal), row: &LookRow) {
 fn long_lines(rt: HostRuntime) -> Result<(), Fail> {
     for (name, parts, want) in ONE_LINE {
         let text = long_bytes(rt.alloc(), parts)?;
-        assert!(rt; only_line(&rt, name, &text) == *want, "{name}");
+        check_lines(&rt, name, &text, &[*want]);
     }
     let text = long_bytes(rt.alloc(), &[(b"\0", 1_000_000)])?;
-    assert!(rt;
-        only_line(&rt, "many_nul", &text) == Line::Raw(&text),
-        "many_nul"
-    );
+    check_lines(&rt, "many_nul", &text, &[Line::Raw(&text)]);
     Ok(())
 }
 
 #[test]
 fn long_files(rt: HostRuntime) -> Result<(), Fail> {
     for row in LONG {
-        check_long(&rt, row);
+        let file = long_bytes(rt.alloc(), row.file)?;
+        for file in &forms_of(rt.alloc(), &file)? {
+            check_long(&rt, row, file);
+        }
     }
     Ok(())
 }
@@ -164,7 +154,10 @@ fn long_files(rt: HostRuntime) -> Result<(), Fail> {
 #[test]
 fn look_counts(rt: HostRuntime) -> Result<(), Fail> {
     for row in LOOKS {
-        check_looks(&rt, row);
+        let file = long_bytes(rt.alloc(), row.file)?;
+        for file in &forms_of(rt.alloc(), &file)? {
+            check_looks(&rt, row, file);
+        }
     }
     Ok(())
 }

@@ -1,5 +1,5 @@
 //! How a text is cut into lines, and what each line is.
-use crate::helpers::indented;
+use crate::helpers::forms_of;
 use std::process::Abort;
 use std::test::Fail;
 use texting_robots::parser::{Line, lines, robots_txt_parse};
@@ -11,13 +11,16 @@ struct LinesRow {
     lines: &'static [Line<'static>],
 }
 
-/// A text, and how many lines it has and how many of them are raw.
-struct CountRow {
-    name: &'static str,
-    text: &'static [u8],
-    lines: usize,
-    raw: usize,
-}
+const SIX: &[Line<'static>] = &[
+    Line::UserAgent(b"foo"),
+    Line::Allow(b"/some/path"),
+    Line::UserAgent(b"bar"),
+    Line::Raw(b""),
+    Line::Raw(b""),
+    Line::Disallow(b"/"),
+];
+
+const MARKED: &[Line<'static>] = &[Line::UserAgent(b"foo"), Line::Allow(b"/AnyValue")];
 
 const TEXTS: &[LinesRow] = &[
     LinesRow {
@@ -81,9 +84,6 @@ const TEXTS: &[LinesRow] = &[
         text: b"Disallow: /a\r\0Allow: /b",
         lines: &[Line::Disallow(b"/a"), Line::Raw(b"\0Allow: /b")],
     },
-];
-
-const BODIES: &[LinesRow] = &[
     LinesRow {
         name: "tabs_and_capitals",
         text: b"DISALLAW\t:\t/a\t# x",
@@ -159,56 +159,51 @@ const BODIES: &[LinesRow] = &[
         text: b"Sitemap:",
         lines: &[Line::Sitemap(b"")],
     },
-];
-
-const COUNTS: &[CountRow] = &[
-    CountRow {
-        name: "lf",
+    LinesRow {
+        name: "six_lines",
         text: b"User-Agent: foo\nAllow: /some/path\nUser-Agent: bar\n\n\nDisallow: /",
-        lines: 6,
-        raw: 2,
+        lines: SIX,
     },
-    CountRow {
-        name: "lf_and_a_last_one",
+    LinesRow {
+        name: "six_lines_and_a_last_lf",
         text: b"User-Agent: foo\nAllow: /some/path\nUser-Agent: bar\n\n\nDisallow: /\n",
-        lines: 6,
-        raw: 2,
+        lines: SIX,
     },
-    CountRow {
-        name: "cr_lf",
+    LinesRow {
+        name: "six_lines_with_cr",
         text: b"User-Agent: foo\r\nAllow: /some/path\r\nUser-Agent: bar\r\n\r\n\r\nDisallow: /",
-        lines: 6,
-        raw: 2,
+        lines: SIX,
     },
-    CountRow {
-        name: "cr_lf_and_a_last_one",
+    LinesRow {
+        name: "six_lines_with_cr_and_a_last_one",
         text: b"User-Agent: foo\r\nAllow: /some/path\r\nUser-Agent: bar\r\n\r\n\r\nDisallow: /\r\n",
-        lines: 6,
-        raw: 2,
+        lines: SIX,
     },
-    CountRow {
+    LinesRow {
         name: "whole_mark",
         text: b"\xEF\xBB\xBFUser-Agent: foo\nAllow: /AnyValue",
-        lines: 2,
-        raw: 0,
+        lines: MARKED,
     },
-    CountRow {
+    LinesRow {
         name: "two_bytes_of_a_mark",
         text: b"\xEF\xBBUser-Agent: foo\nAllow: /AnyValue",
-        lines: 2,
-        raw: 0,
+        lines: MARKED,
     },
-    CountRow {
+    LinesRow {
         name: "one_byte_of_a_mark",
         text: b"\xEFUser-Agent: foo\nAllow: /AnyValue",
-        lines: 2,
-        raw: 0,
+        lines: MARKED,
     },
 ];
 
-/// Whether it is this line, or the end.
-fn is_next(line: Option<Line<'_>>, want: Option<Line<'_>>) -> bool {
-    line == want
+/// Whether it is the wanted line, which has eight spaces before it if it is raw and indented.
+fn is_line(line: Line<'_>, want: Line<'_>, indented: bool) -> bool {
+    match (line, want) {
+        (Line::Raw(body), Line::Raw(want)) if indented => {
+            body.strip_prefix(b"        ") == Some(want)
+        }
+        _ => line == want,
+    }
 }
 
 /// Whether these are the wanted lines, which have eight spaces before each raw line after the first if they are indented.
@@ -224,53 +219,26 @@ fn are_lines(lines: &[Line<'_>], want: &[Line<'_>], indented: bool) -> bool {
     true
 }
 
-/// Whether it is the wanted line, which has eight spaces before it if it is raw and indented.
-fn is_line(line: Line<'_>, want: Line<'_>, indented: bool) -> bool {
-    match (line, want) {
-        (Line::Raw(body), Line::Raw(want)) if indented => {
-            body.strip_prefix(b"        ") == Some(want)
-        }
-        _ => line == want,
-    }
-}
-
 /// The vector of the text's lines, and the lines one by one.
-fn check_lines(rt: &(impl Abort + AllocGlobal), row: &LinesRow) {
-    let name = row.name;
-    let parsed = robots_txt_parse(rt.alloc(), row.text).expect(rt, name);
-    assert!(rt; are_lines(&parsed, row.lines, false), "{name}: {parsed:?}");
-    let mut one_by_one = lines(row.text);
-    for line in row.lines {
-        let next = one_by_one.next();
-        assert!(rt; is_next(next, Some(*line)), "{name}: {next:?}");
+pub fn check_lines(rt: &(impl Abort + AllocGlobal), name: &str, text: &[u8], want: &[Line<'_>]) {
+    let parsed = robots_txt_parse(rt.alloc(), text).expect(rt, name);
+    assert!(rt; are_lines(&parsed, want, false), "{name}: {parsed:?}");
+    let mut one_by_one = lines(text);
+    for line in want {
+        let next = one_by_one.next().expect(rt, name);
+        assert!(rt; is_line(next, *line, false), "{name}: {next:?}");
     }
     assert!(rt; one_by_one.next().is_none(), "{name}: one line too many");
     assert!(rt; one_by_one.next().is_none(), "{name}: a line after the end");
 }
 
-/// The lines of the row's text indented, where no CR spells it.
-fn check_indented(rt: &(impl Abort + AllocGlobal), row: &LinesRow) {
-    let name = row.name;
-    if !row.text.contains(&b'\r') {
-        let text = indented(rt.alloc(), row.text).expect(rt, name);
-        let parsed = robots_txt_parse(rt.alloc(), &text).expect(rt, name);
-        assert!(rt;
-            are_lines(&parsed, row.lines, true),
-            "{name}, indented: {parsed:?}"
-        );
-    }
-}
-
-/// How many lines the text has, and how many of them are raw.
-fn check_count(rt: &(impl Abort + AllocGlobal), row: &CountRow, text: &[u8]) {
+/// The lines of a form of the row's text, where only raw lines differ.
+fn check_form(rt: &(impl Abort + AllocGlobal), row: &LinesRow, text: &[u8]) {
     let name = row.name;
     let parsed = robots_txt_parse(rt.alloc(), text).expect(rt, name);
-    let raw = parsed
-        .iter()
-        .filter(|line| matches!(line, Line::Raw(_)))
-        .count();
+    let indented = text.len() > row.text.len();
     assert!(rt;
-        parsed.len() == row.lines && raw == row.raw,
+        are_lines(&parsed, row.lines, indented),
         "{name}: {parsed:?}"
     );
 }
@@ -278,26 +246,9 @@ fn check_count(rt: &(impl Abort + AllocGlobal), row: &CountRow, text: &[u8]) {
 #[test]
 fn lines_of_texts(rt: HostRuntime) -> Result<(), Fail> {
     for row in TEXTS {
-        check_lines(&rt, row);
-        check_indented(&rt, row);
-    }
-    Ok(())
-}
-
-#[test]
-fn lines_of_bodies(rt: HostRuntime) -> Result<(), Fail> {
-    for row in BODIES {
-        check_lines(&rt, row);
-    }
-    Ok(())
-}
-
-#[test]
-fn counted_lines(rt: HostRuntime) -> Result<(), Fail> {
-    for row in COUNTS {
-        check_count(&rt, row, row.text);
-        if !row.text.contains(&b'\r') {
-            check_count(&rt, row, &indented(rt.alloc(), row.text)?);
+        check_lines(&rt, row.name, row.text, row.lines);
+        for text in &forms_of(rt.alloc(), row.text)? {
+            check_form(&rt, row, text);
         }
     }
     Ok(())

@@ -1,5 +1,5 @@
 //! Which rules with `$` are too long.
-use crate::helpers::{BOB, long_bytes, long_text};
+use crate::helpers::{BOB, forms_of, long_bytes, long_text};
 use std::process::Abort;
 use std::test::Fail;
 use texting_robots::minregex::MinRegex;
@@ -120,10 +120,12 @@ fn overlong_rules(rt: HostRuntime) -> Result<(), Fail> {
     for row in FILES {
         let name = row.name;
         let file = long_bytes(rt.alloc(), row.file)?;
-        assert!(rt;
-            is_refused(&rt, name, row.agent, &file) == row.refused,
-            "{name}"
-        );
+        for file in &forms_of(rt.alloc(), &file)? {
+            assert!(rt;
+                is_refused(&rt, name, row.agent, file) == row.refused,
+                "{name}"
+            );
+        }
     }
     Ok(())
 }
