@@ -1,0 +1,173 @@
+//! What a delay text says, and which delay an agent gets.
+use crate::helpers::{BOB, forms_of, robot_of};
+use std::process::Abort;
+use std::test::Fail;
+use texting_robots::parser::read_delay;
+
+/// A file, and the delay that each of some agents gets of it.
+struct DelayRow {
+    name: &'static str,
+    file: &'static [u8],
+    delays: &'static [(&'static str, Option<u64>)],
+}
+
+const NUMBERS: &[(&str, u64)] = &[
+    ("3.14", 3_140_000),
+    (".5", 500_000),
+    ("5.", 5_000_000),
+    ("+2.5E1", 25_000_000),
+    ("0.0000019", 1),
+    ("1e-7", 0),
+    ("-0", 0),
+    ("0e999999999999999999999", 0),
+    ("inf", 18446744073709551615),
+    ("1e999999999999999999999", 18446744073709551615),
+    ("18446744073709.551614", 18446744073709551614),
+    ("18446744073709.551616", 18446744073709551615),
+    ("1.0000009", 1_000_000),
+    ("9e-7", 0),
+    ("5.e1", 50_000_000),
+    ("1e+13", 10_000_000_000_000_000_000),
+    ("1e14", 18446744073709551615),
+    ("18446744073709551615e-6", 18446744073709551615),
+    ("-0.0e5", 0),
+    ("+inf", 18446744073709551615),
+    ("INFINITY", 18446744073709551615),
+];
+
+const NO_DELAYS: &[&str] = &[
+    "", ".", "nan", "1e", " 5", "-inf", "-1e-99", "+", "e5", ".e5", "1_0", "infin", "-nan", "-.5",
+];
+
+const DELAYS: &[DelayRow] = &[
+    DelayRow {
+        name: "crawler_example",
+        file: b"User-Agent: FerrisCrawler\nAllow: /ocean\nDisallow: /rust\nDisallow: /forest*.py\nCrawl-Delay: 10\n\
+            User-Agent: *\nDisallow: /\nSitemap: https://www.example.com/site.xml",
+        delays: &[("FerrisCrawler", Some(10_000_000))],
+    },
+    DelayRow {
+        name: "fallback_delay",
+        file: b"Crawl-Delay: 1\nCrawl-Delay: 2\nUser-Agent: *\nDisallow: /x",
+        delays: &[(BOB, Some(2_000_000))],
+    },
+    DelayRow {
+        name: "refused_delay_keeps_the_run",
+        file: b"User-Agent: D\nCrawl-Delay: -1.25\nUser-Agent: E\nCrawl-Delay: 8",
+        delays: &[("D", Some(8_000_000))],
+    },
+    DelayRow {
+        name: "first_captured",
+        file: b"Crawl-Delay: 5\nCrawl-Delay: 6",
+        delays: &[(BOB, Some(5_000_000))],
+    },
+    DelayRow {
+        name: "agent_names",
+        file: b"User-Agent: a\nCrawl-Delay: 3\nUser-Agent: *\nCrawl-Delay: 4",
+        delays: &[
+            ("A", Some(3_000_000)),
+            ("*", Some(4_000_000)),
+            (" a", Some(4_000_000)),
+            ("", Some(4_000_000)),
+        ],
+    },
+    DelayRow {
+        name: "own_delay_and_fallback",
+        file: b"Crawl-Delay: 42\nUser-Agent: *\nDisallow: /blah\nUser-Agent: SpecialFriend\nAllow: /\nCrawl-Delay: 1",
+        delays: &[(BOB, Some(42_000_000)), ("SpecialFriend", Some(1_000_000))],
+    },
+    DelayRow {
+        name: "nul_as_lf",
+        file: b"User-Agent: *\n\0\0Allow: /family\0\0\nDisallow: /family/photos\0\0\0\nCrawl-Delay: 42",
+        delays: &[(BOB, Some(42_000_000))],
+    },
+    DelayRow {
+        name: "shared_group",
+        file: b"User-Agent: A\nCrawl-Delay: 42\n# A B\nUser-Agent: B\nUser-Agent: C\nCrawl-Delay: 420\n\
+            User-Agent: *\nCRAWL-Delay : 3600\nUser-Agent: Zero\nCrawl-Delay: 0",
+        delays: &[
+            ("A", Some(42_000_000)),
+            ("B", Some(420_000_000)),
+            ("C", Some(420_000_000)),
+            ("Zero", Some(0)),
+        ],
+    },
+    DelayRow {
+        name: "broken_text",
+        file: b"User-Agent: A\nCrawl-Delay:4.2\nUser-Agent: C\nCrawl-Delay: A\xC2\xC3\xB1B",
+        delays: &[("A", Some(4_200_000)), ("C", None)],
+    },
+    DelayRow {
+        name: "greatest",
+        file: b"Crawl-Delay: 115792089237316195423570985008687907853269984665640564039457584007913129639936",
+        delays: &[(BOB, Some(18446744073709551615))],
+    },
+    DelayRow {
+        name: "spellings",
+        file: b"user-agent: FooBot\ncrawl-delay: 42\nuser agent: BobBot\ncrawl delay: 420\n\
+            useragent: EveBot\ncrawldelay: 360",
+        delays: &[
+            ("FooBot", Some(42_000_000)),
+            (BOB, Some(420_000_000)),
+            ("EveBot", Some(360_000_000)),
+        ],
+    },
+    DelayRow {
+        name: "broken_values",
+        file: b"User-Agent: A\nAllow: A\xC2\xC3\xB1B\nDisallow: A\xC2\xC3\xB1B\nSiteMap: A\xC2\xC3\xB1B\n\
+            Crawl-Delay: A\xC2\xC3\xB1B\nDisallow: /bob/",
+        delays: &[("A", None)],
+    },
+    DelayRow {
+        name: "many_line_ends",
+        file: b"User-agent: *\r\r\nDisallow: /en\r\r\r\n\n\r\nUser-Agent: BobBot\nDisallow: /fi\r\r\n\r\nCrawl-Delay: 4",
+        delays: &[(BOB, Some(4_000_000))],
+    },
+    DelayRow {
+        name: "no_agent_lines",
+        file: b"Disallow: /path\nAllow: /path/exception\nCrawl-delay: 5.2",
+        delays: &[(BOB, Some(5_200_000))],
+    },
+    DelayRow {
+        name: "news_site",
+        file: b"User-Agent: *\nDisallow: /threads?\nCrawl-delay: 30",
+        delays: &[(BOB, Some(30_000_000))],
+    },
+    DelayRow {
+        name: "empty_file",
+        file: b"",
+        delays: &[(BOB, None)],
+    },
+];
+
+/// The delay that each agent of the row gets of a form of its file.
+fn check_delays(rt: &(impl Abort + AllocGlobal), row: &DelayRow, file: &[u8]) {
+    let name = row.name;
+    for (agent, want) in row.delays {
+        let delay = robot_of(rt, name, agent, file).delay;
+        assert!(rt; delay == *want, "{name}: {agent}: {delay:?}");
+    }
+}
+
+#[test]
+fn delay_texts(rt: HostRuntime) -> Result<(), Fail> {
+    for (text, want) in NUMBERS {
+        let delay = read_delay(text.as_bytes());
+        assert!(rt; delay == Some(*want), "{text}: {delay:?}");
+    }
+    for text in NO_DELAYS {
+        let delay = read_delay(text.as_bytes());
+        assert!(rt; delay.is_none(), "{text}: {delay:?}");
+    }
+    Ok(())
+}
+
+#[test]
+fn delays_of_files(rt: HostRuntime) -> Result<(), Fail> {
+    for row in DELAYS {
+        for file in &forms_of(rt.alloc(), row.file)? {
+            check_delays(&rt, row, file);
+        }
+    }
+    Ok(())
+}

@@ -1,0 +1,266 @@
+//! Which groups of a file an agent gets, and the sitemaps that every agent gets.
+use crate::helpers::{BOB, FileRow, check_file, check_file_at, forms_of, robot_of};
+use std::process::Abort;
+use std::test::Fail;
+
+/// A file and its sitemaps, for an agent.
+struct SitemapRow {
+    name: &'static str,
+    agent: &'static str,
+    file: &'static [u8],
+    sitemaps: &'static [&'static str],
+}
+
+const FERRIS: &[u8] =
+    b"User-Agent: FerrisCrawler\nAllow: /ocean\nDisallow: /rust\nDisallow: /forest*.py\n\
+    Crawl-Delay: 10\nUser-Agent: *\nDisallow: /\nSitemap: https://www.example.com/site.xml";
+
+const OLD_BOTS: &[u8] =
+    b"User-agent: unhipbot\nDisallow: /\n\nUser-agent: webcrawler\nUser-agent: excite\nDisallow:\n\n\
+    User-agent: *\nDisallow: /org/plans.html\nAllow: /org/\nAllow: /serv\nAllow: /~mak\nDisallow: /";
+
+const LINE_ENDS: &[u8] =
+    b"User-agent: *\r\r\nDisallow: /en\r\r\r\n\n\r\nUser-Agent: BobBot\nDisallow: /fi\r\r\n\r\nCrawl-Delay: 4";
+
+const MERGED: &[u8] =
+    b"allow: /foo/bar/\nuser-agent: FooBot\ndisallow: /\nallow: /x/\nuser-agent: BarBot\n\
+    disallow: /\nallow: /y/\n\n\nallow: /w/\nuser-agent: BazBot\n\nuser-agent: FooBot\nallow: /z/\ndisallow: /";
+
+const GROUPS: &[FileRow] = &[
+    FileRow {
+        name: "crawler_example",
+        agent: "FerrisCrawler",
+        file: FERRIS,
+        verdicts: &[
+            ("https://www.rust-lang.org/ocean", true),
+            ("/ocean", true),
+            ("/ocean/reef.html", true),
+            ("/rust", false),
+            ("/forest/tree/snake.py", false),
+        ],
+    },
+    FileRow {
+        name: "separators",
+        agent: "FooBot",
+        file: b"user-agent: FooBot\ndisallow:/a\ndissallow/b\ndisallow    /c",
+        verdicts: &[("/a", false), ("/b", true), ("/c", false)],
+    },
+    FileRow {
+        name: "empty_agent",
+        agent: "",
+        file: b"User-Agent:\nDisallow: /",
+        verdicts: &[("/x", false)],
+    },
+    FileRow {
+        name: "agent_beyond_ascii",
+        agent: "Ä",
+        file: b"User-Agent: \xC3\x84\nDisallow: /",
+        verdicts: &[("/x", false)],
+    },
+    FileRow {
+        name: "no_lowering_beyond_ascii",
+        agent: "ä",
+        file: b"User-Agent: \xC3\x84\nDisallow: /",
+        verdicts: &[("/x", true)],
+    },
+    FileRow {
+        name: "agent_of_other_case",
+        agent: "Agent",
+        file: b"User-Agent: agent\nDisallow: /path;params?query",
+        verdicts: &[(
+            "http://userinfo@exmaple.com:10/path;params?query#fragment",
+            false,
+        )],
+    },
+    FileRow {
+        name: "agent_at_the_end",
+        agent: "A",
+        file: b"User-Agent: A",
+        verdicts: &[
+            ("", true),
+            ("/", true),
+            ("/x", true),
+            ("https://example.com/a?b#c", true),
+        ],
+    },
+    FileRow {
+        name: "agent_at_the_end_for_another",
+        agent: BOB,
+        file: b"User-Agent: A",
+        verdicts: &[
+            ("", true),
+            ("/", true),
+            ("/x", true),
+            ("https://example.com/a?b#c", true),
+        ],
+    },
+    FileRow {
+        name: "nul_as_lf",
+        agent: BOB,
+        file: b"User-Agent: *\n\0\0Allow: /family\0\0\nDisallow: /family/photos\0\0\0\nCrawl-Delay: 42",
+        verdicts: &[("/family", true), ("/family/photos", false)],
+    },
+    FileRow {
+        name: "cr_nul",
+        agent: BOB,
+        file: b"Disallow: /a\r\0Disallow: /b",
+        verdicts: &[("/a", false), ("/b", false), ("/c", true)],
+    },
+    FileRow {
+        name: "broken_values",
+        agent: "A",
+        file: b"User-Agent: A\nAllow: A\xC2\xC3\xB1B\nDisallow: A\xC2\xC3\xB1B\nSiteMap: A\xC2\xC3\xB1B\n\
+            Crawl-Delay: A\xC2\xC3\xB1B\nDisallow: /bob/",
+        verdicts: &[("/bob/", false)],
+    },
+    FileRow {
+        name: "many_line_ends",
+        agent: BOB,
+        file: LINE_ENDS,
+        verdicts: &[("/en", true), ("/fi", false)],
+    },
+    FileRow {
+        name: "many_line_ends_of_all",
+        agent: "Z",
+        file: LINE_ENDS,
+        verdicts: &[("/en", false)],
+    },
+    FileRow {
+        name: "old_bots_of_all",
+        agent: "anything",
+        file: OLD_BOTS,
+        verdicts: &[
+            ("/orgo.gif", false),
+            ("/org/plans.html", false),
+            ("/%7Ejim/jim.html", false),
+            ("/server.html", true),
+            ("/org/about.html", true),
+            ("/~mak/mak.html", true),
+        ],
+    },
+    FileRow {
+        name: "old_bots_refused",
+        agent: "unhipbot",
+        file: OLD_BOTS,
+        verdicts: &[
+            ("/orgo.gif", false),
+            ("/org/plans.html", false),
+            ("/%7Ejim/jim.html", false),
+            ("/server.html", false),
+            ("/org/about.html", false),
+            ("/~mak/mak.html", false),
+        ],
+    },
+    FileRow {
+        name: "old_bots_free",
+        agent: "excite",
+        file: OLD_BOTS,
+        verdicts: &[
+            ("/orgo.gif", true),
+            ("/org/plans.html", true),
+            ("/%7Ejim/jim.html", true),
+            ("/server.html", true),
+            ("/org/about.html", true),
+            ("/~mak/mak.html", true),
+        ],
+    },
+];
+
+const MERGED_GROUPS: &[FileRow] = &[
+    FileRow {
+        name: "merged_groups",
+        agent: "FooBot",
+        file: MERGED,
+        verdicts: &[
+            ("/x/b", true),
+            ("/z/d", true),
+            ("/y/c", false),
+            ("/foo/bar/", false),
+        ],
+    },
+    FileRow {
+        name: "group_in_the_middle",
+        agent: "BarBot",
+        file: MERGED,
+        verdicts: &[
+            ("/y/c", true),
+            ("/w/a", true),
+            ("/z/d", false),
+            ("/foo/bar/", false),
+        ],
+    },
+    FileRow {
+        name: "run_of_two_agents",
+        agent: "BazBot",
+        file: MERGED,
+        verdicts: &[("/z/d", true), ("/foo/bar/", false)],
+    },
+];
+
+const SITEMAPS: &[SitemapRow] = &[
+    SitemapRow {
+        name: "crawler_example",
+        agent: "FerrisCrawler",
+        file: FERRIS,
+        sitemaps: &["https://www.example.com/site.xml"],
+    },
+    SitemapRow {
+        name: "spellings",
+        agent: BOB,
+        file: b"site-map: /a\nsitemap: /b\nsite map: /\xE3\x83\x86",
+        sitemaps: &["/a", "/b", "/テ"],
+    },
+    SitemapRow {
+        name: "broken_values",
+        agent: "A",
+        file: b"User-Agent: A\nAllow: A\xC2\xC3\xB1B\nDisallow: A\xC2\xC3\xB1B\nSiteMap: A\xC2\xC3\xB1B\n\
+            Crawl-Delay: A\xC2\xC3\xB1B\nDisallow: /bob/",
+        sitemaps: &[],
+    },
+    SitemapRow {
+        name: "empty_file",
+        agent: BOB,
+        file: b"",
+        sitemaps: &[],
+    },
+];
+
+/// The sitemaps of a form of the row's file.
+fn check_sitemaps(rt: &(impl Abort + AllocGlobal), row: &SitemapRow, file: &[u8]) {
+    let name = row.name;
+    let sitemaps = robot_of(rt, name, row.agent, file).sitemaps;
+    assert!(rt;
+        sitemaps.len() == row.sitemaps.len(),
+        "{name}: {sitemaps:?}"
+    );
+    for (sitemap, want) in sitemaps.iter().zip(row.sitemaps) {
+        assert!(rt; sitemap.as_str() == *want, "{name}: {sitemap:?}");
+    }
+}
+
+#[test]
+fn groups(rt: HostRuntime) -> Result<(), Fail> {
+    for row in GROUPS {
+        check_file(&rt, row);
+    }
+    Ok(())
+}
+
+#[test]
+fn merged_groups(rt: HostRuntime) -> Result<(), Fail> {
+    for row in MERGED_GROUPS {
+        check_file(&rt, row);
+        check_file_at(&rt, row, "http://foo.bar");
+    }
+    Ok(())
+}
+
+#[test]
+fn sitemaps(rt: HostRuntime) -> Result<(), Fail> {
+    for row in SITEMAPS {
+        for file in &forms_of(rt.alloc(), row.file)? {
+            check_sitemaps(&rt, row, file);
+        }
+    }
+    Ok(())
+}

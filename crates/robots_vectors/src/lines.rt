@@ -1,0 +1,255 @@
+//! How a text is cut into lines, and what each line is.
+use crate::helpers::forms_of;
+use std::process::Abort;
+use std::test::Fail;
+use texting_robots::parser::{Line, lines, robots_txt_parse};
+
+/// A text and its lines.
+struct LinesRow {
+    name: &'static str,
+    text: &'static [u8],
+    lines: &'static [Line<'static>],
+}
+
+const SIX: &[Line<'static>] = &[
+    Line::UserAgent(b"foo"),
+    Line::Allow(b"/some/path"),
+    Line::UserAgent(b"bar"),
+    Line::Raw(b""),
+    Line::Raw(b""),
+    Line::Disallow(b"/"),
+];
+
+const MARKED: &[Line<'static>] = &[Line::UserAgent(b"foo"), Line::Allow(b"/AnyValue")];
+
+const TEXTS: &[LinesRow] = &[
+    LinesRow {
+        name: "slow_delay",
+        text: b"User-Agent: SmerBot\nDisallow: /path\nAllow:    /path/exception   # ONLY THIS IS ALLOWED\n\
+            Crawl-delay : 60 # Very slow delay\n\nsitemap: https://example.com/sitemap.xml",
+        lines: &[
+            Line::UserAgent(b"SmerBot"),
+            Line::Disallow(b"/path"),
+            Line::Allow(b"/path/exception"),
+            Line::CrawlDelay(Some(60_000_000)),
+            Line::Raw(b""),
+            Line::Sitemap(b"https://example.com/sitemap.xml"),
+        ],
+    },
+    LinesRow {
+        name: "line_ends",
+        text: b"a\r\r\nb\n\nc",
+        lines: &[
+            Line::Raw(b"a"),
+            Line::Raw(b"b"),
+            Line::Raw(b""),
+            Line::Raw(b"c"),
+        ],
+    },
+    LinesRow {
+        name: "lf_before_cr",
+        text: b"\n\r",
+        lines: &[Line::Raw(b""), Line::Raw(b"")],
+    },
+    LinesRow {
+        name: "one_ended_line",
+        text: b"a\n",
+        lines: &[Line::Raw(b"a")],
+    },
+    LinesRow {
+        name: "empty_file",
+        text: b"",
+        lines: &[],
+    },
+    LinesRow {
+        name: "partial_front",
+        text: b"\xBBAllow: /",
+        lines: &[Line::Allow(b"/")],
+    },
+    LinesRow {
+        name: "broken_front",
+        text: b"\xEF\x11\xBFUser-Agent: foo",
+        lines: &[Line::Raw(b"\x11\xBFUser-Agent: foo")],
+    },
+    LinesRow {
+        name: "mark_in_the_middle",
+        text: b"User-Agent: foo\n\xEF\xBB\xBFAllow: /AnyValue",
+        lines: &[
+            Line::UserAgent(b"foo"),
+            Line::Raw(b"\xEF\xBB\xBFAllow: /AnyValue"),
+        ],
+    },
+    LinesRow {
+        name: "cr_nul",
+        text: b"Disallow: /a\r\0Allow: /b",
+        lines: &[Line::Disallow(b"/a"), Line::Raw(b"\0Allow: /b")],
+    },
+    LinesRow {
+        name: "tabs_and_capitals",
+        text: b"DISALLAW\t:\t/a\t# x",
+        lines: &[Line::Disallow(b"/a")],
+    },
+    LinesRow {
+        name: "no_break_space_behind",
+        text: b"Allow: /a\xC2\xA0",
+        lines: &[Line::Allow(b"/a")],
+    },
+    LinesRow {
+        name: "key_of_two_words_alone",
+        text: b"Site map",
+        lines: &[Line::Raw(b"Site map")],
+    },
+    LinesRow {
+        name: "key_alone",
+        text: b"Disallow",
+        lines: &[Line::Raw(b"Disallow")],
+    },
+    LinesRow {
+        name: "blank_and_comment",
+        text: b"Disallow #/x",
+        lines: &[Line::Allow(b"/")],
+    },
+    LinesRow {
+        name: "comment_at_key",
+        text: b"Disallow#x",
+        lines: &[Line::Raw(b"Disallow#x")],
+    },
+    LinesRow {
+        name: "second_colon",
+        text: b"Disallow:/a:b",
+        lines: &[Line::Disallow(b"/a:b")],
+    },
+    LinesRow {
+        name: "empty_agent",
+        text: b"user-agent:",
+        lines: &[Line::UserAgent(b"")],
+    },
+    LinesRow {
+        name: "agent_without_colon",
+        text: b"user-agent FooBot",
+        lines: &[Line::UserAgent(b"FooBot")],
+    },
+    LinesRow {
+        name: "delay_with_fraction",
+        text: b"    crawl-delay  : 3.14",
+        lines: &[Line::CrawlDelay(Some(3_140_000))],
+    },
+    LinesRow {
+        name: "delay_whole",
+        text: b"    crawl-delay  : 60",
+        lines: &[Line::CrawlDelay(Some(60_000_000))],
+    },
+    LinesRow {
+        name: "delay_zero",
+        text: b"    crawl-delay  : 0.0",
+        lines: &[Line::CrawlDelay(Some(0))],
+    },
+    LinesRow {
+        name: "delay_below_zero",
+        text: b"    crawl-delay  : -1.618",
+        lines: &[Line::Raw(b"    crawl-delay  : -1.618")],
+    },
+    LinesRow {
+        name: "refused_delay",
+        text: b"Crawl-delay: wait # x",
+        lines: &[Line::Raw(b"Crawl-delay: wait # x")],
+    },
+    LinesRow {
+        name: "empty_sitemap",
+        text: b"Sitemap:",
+        lines: &[Line::Sitemap(b"")],
+    },
+    LinesRow {
+        name: "six_lines",
+        text: b"User-Agent: foo\nAllow: /some/path\nUser-Agent: bar\n\n\nDisallow: /",
+        lines: SIX,
+    },
+    LinesRow {
+        name: "six_lines_and_a_last_lf",
+        text: b"User-Agent: foo\nAllow: /some/path\nUser-Agent: bar\n\n\nDisallow: /\n",
+        lines: SIX,
+    },
+    LinesRow {
+        name: "six_lines_with_cr",
+        text: b"User-Agent: foo\r\nAllow: /some/path\r\nUser-Agent: bar\r\n\r\n\r\nDisallow: /",
+        lines: SIX,
+    },
+    LinesRow {
+        name: "six_lines_with_cr_and_a_last_one",
+        text: b"User-Agent: foo\r\nAllow: /some/path\r\nUser-Agent: bar\r\n\r\n\r\nDisallow: /\r\n",
+        lines: SIX,
+    },
+    LinesRow {
+        name: "whole_mark",
+        text: b"\xEF\xBB\xBFUser-Agent: foo\nAllow: /AnyValue",
+        lines: MARKED,
+    },
+    LinesRow {
+        name: "two_bytes_of_a_mark",
+        text: b"\xEF\xBBUser-Agent: foo\nAllow: /AnyValue",
+        lines: MARKED,
+    },
+    LinesRow {
+        name: "one_byte_of_a_mark",
+        text: b"\xEFUser-Agent: foo\nAllow: /AnyValue",
+        lines: MARKED,
+    },
+];
+
+/// Whether it is the wanted line, which has eight spaces before it if it is raw and indented.
+fn is_line(line: Line<'_>, want: Line<'_>, indented: bool) -> bool {
+    match (line, want) {
+        (Line::Raw(body), Line::Raw(want)) if indented => {
+            body.strip_prefix(b"        ") == Some(want)
+        }
+        _ => line == want,
+    }
+}
+
+/// Whether these are the wanted lines, which have eight spaces before each raw line after the first if they are indented.
+fn are_lines(lines: &[Line<'_>], want: &[Line<'_>], indented: bool) -> bool {
+    if lines.len() != want.len() {
+        return false;
+    }
+    for place in 0..lines.len() {
+        if !is_line(lines[place], want[place], indented && place > 0) {
+            return false;
+        }
+    }
+    true
+}
+
+/// The vector of the text's lines, and the lines one by one.
+pub fn check_lines(rt: &(impl Abort + AllocGlobal), name: &str, text: &[u8], want: &[Line<'_>]) {
+    let parsed = robots_txt_parse(rt.alloc(), text).expect(rt, name);
+    assert!(rt; are_lines(&parsed, want, false), "{name}: {parsed:?}");
+    let mut one_by_one = lines(text);
+    for line in want {
+        let next = one_by_one.next().expect(rt, name);
+        assert!(rt; is_line(next, *line, false), "{name}: {next:?}");
+    }
+    assert!(rt; one_by_one.next().is_none(), "{name}: one line too many");
+    assert!(rt; one_by_one.next().is_none(), "{name}: a line after the end");
+}
+
+/// The lines of a form of the row's text, where only raw lines differ.
+fn check_form(rt: &(impl Abort + AllocGlobal), row: &LinesRow, text: &[u8]) {
+    let name = row.name;
+    let parsed = robots_txt_parse(rt.alloc(), text).expect(rt, name);
+    let indented = text.len() > row.text.len();
+    assert!(rt;
+        are_lines(&parsed, row.lines, indented),
+        "{name}: {parsed:?}"
+    );
+}
+
+#[test]
+fn lines_of_texts(rt: HostRuntime) -> Result<(), Fail> {
+    for row in TEXTS {
+        check_lines(&rt, row.name, row.text, row.lines);
+        for text in &forms_of(rt.alloc(), row.text)? {
+            check_form(&rt, row, text);
+        }
+    }
+    Ok(())
+}

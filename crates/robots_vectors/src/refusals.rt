@@ -1,0 +1,142 @@
+//! Which rules with `$` are too long.
+use crate::helpers::{BOB, forms_of, long_bytes, long_text};
+use std::process::Abort;
+use std::test::Fail;
+use texting_robots::minregex::MinRegex;
+use texting_robots::{Error, Robot};
+
+/// A file by its parts, each with how often it stands, and whether the agent's robot is refused.
+struct RefusalRow {
+    name: &'static str,
+    agent: &'static str,
+    file: &'static [(&'static [u8], usize)],
+    refused: bool,
+}
+
+const FILES: &[RefusalRow] = &[
+    RefusalRow {
+        name: "longest",
+        agent: BOB,
+        file: &[(b"Disallow: /", 1), (b"a", 4094), (b"$", 1)],
+        refused: false,
+    },
+    RefusalRow {
+        name: "one_byte_more",
+        agent: BOB,
+        file: &[(b"Disallow: /", 1), (b"a", 4095), (b"$", 1)],
+        refused: true,
+    },
+    RefusalRow {
+        name: "two_stars_as_one",
+        agent: BOB,
+        file: &[(b"Disallow: /", 1), (b"a", 4093), (b"**$", 1)],
+        refused: false,
+    },
+    RefusalRow {
+        name: "escaped",
+        agent: BOB,
+        file: &[(b"Disallow: /", 1), (b"\xC3\xA9", 682), (b"$", 1)],
+        refused: false,
+    },
+    RefusalRow {
+        name: "escaped_one_more",
+        agent: BOB,
+        file: &[(b"Disallow: /", 1), (b"\xC3\xA9", 683), (b"$", 1)],
+        refused: true,
+    },
+    RefusalRow {
+        name: "of_another_agent",
+        agent: BOB,
+        file: &[(b"User-Agent: x\nDisallow: /", 1), (b"a", 4095), (b"$", 1)],
+        refused: false,
+    },
+    RefusalRow {
+        name: "broken_text",
+        agent: BOB,
+        file: &[(b"Disallow: /", 1), (b"a", 4095), (b"\xFF$", 1)],
+        refused: false,
+    },
+    RefusalRow {
+        name: "without_dollar",
+        agent: BOB,
+        file: &[(b"Disallow: /", 1), (b"a", 4095)],
+        refused: false,
+    },
+    RefusalRow {
+        name: "allow",
+        agent: BOB,
+        file: &[(b"Allow: /", 1), (b"a", 4095), (b"$", 1)],
+        refused: true,
+    },
+    RefusalRow {
+        name: "allow_of_another_agent",
+        agent: BOB,
+        file: &[(b"User-Agent: x\nAllow: /", 1), (b"a", 4095), (b"$", 1)],
+        refused: false,
+    },
+    RefusalRow {
+        name: "allow_of_broken_text",
+        agent: BOB,
+        file: &[(b"Allow: /", 1), (b"a", 4095), (b"\xFF$", 1)],
+        refused: false,
+    },
+    RefusalRow {
+        name: "many_stars",
+        agent: BOB,
+        file: &[
+            (b"Disallow:**", 1),
+            (b"A", 19),
+            (b"*", 1),
+            (b"A", 4075),
+            (b"*$", 1),
+        ],
+        refused: true,
+    },
+    RefusalRow {
+        name: "many_stars_apart",
+        agent: BOB,
+        file: &[
+            (b"Allow:*AAA*", 1),
+            (b"A", 19),
+            (b"*", 1),
+            (b"A", 4072),
+            (b"*$", 1),
+        ],
+        refused: true,
+    },
+];
+
+/// Whether the robot is refused for a rule.
+fn is_refused(rt: &(impl Abort + AllocGlobal), name: &str, agent: &str, file: &[u8]) -> bool {
+    match Robot::new(rt.alloc(), agent, file) {
+        Ok(_) => false,
+        Err(Error::InvalidRule) => true,
+        Err(error) => panic!(rt; "{name}: {error}"),
+    }
+}
+
+#[test]
+fn overlong_rules(rt: HostRuntime) -> Result<(), Fail> {
+    for row in FILES {
+        let name = row.name;
+        let file = long_bytes(rt.alloc(), row.file)?;
+        for file in &forms_of(rt.alloc(), &file)? {
+            assert!(rt;
+                is_refused(&rt, name, row.agent, file) == row.refused,
+                "{name}"
+            );
+        }
+    }
+    Ok(())
+}
+
+#[test]
+fn overlong_patterns(rt: HostRuntime) -> Result<(), Fail> {
+    let pattern = long_text(rt.alloc(), &[("/", 1), ("a", 4095), ("$", 1)])?;
+    let answer = MinRegex::new(rt.alloc(), pattern.as_str());
+    assert!(rt; matches!(answer, Err(Error::InvalidRule)));
+    let pattern = long_text(rt.alloc(), &[("$", 1), ("*", 4096)])?;
+    let regex = MinRegex::new(rt.alloc(), pattern.as_str())?;
+    assert!(rt; regex.as_str() == "$*");
+    Ok(())
+}

@@ -1,0 +1,305 @@
+//! Which texts a robot may fetch by its rules.
+use crate::helpers::{BOB, FileRow, check_file, check_file_at, check_prepared, robot_of};
+use std::test::Fail;
+
+const RULES: &[FileRow] = &[
+    FileRow {
+        name: "allow_first",
+        agent: BOB,
+        file: b"Allow: /a\nDisallow: /a",
+        verdicts: &[("/ab", true)],
+    },
+    FileRow {
+        name: "disallow_first",
+        agent: BOB,
+        file: b"Disallow: /a\nAllow: /a",
+        verdicts: &[("/ab", true)],
+    },
+    FileRow {
+        name: "star_behind_dollar",
+        agent: BOB,
+        file: b"Disallow: /a$*",
+        verdicts: &[("/a", false), ("/ab", true)],
+    },
+    FileRow {
+        name: "dollar_inside",
+        agent: BOB,
+        file: b"Disallow: /a$b",
+        verdicts: &[("/a", true), ("/a$b", true)],
+    },
+    FileRow {
+        name: "leftmost_and_end",
+        agent: BOB,
+        file: b"Disallow: /*aab\nDisallow: /a*b$",
+        verdicts: &[("/aaabc", false), ("/abab", false), ("/abba", true)],
+    },
+    FileRow {
+        name: "no_overlap",
+        agent: BOB,
+        file: b"Disallow: /a*a$",
+        verdicts: &[("/a", true), ("/aa", false)],
+    },
+    FileRow {
+        name: "tie_and_anchor",
+        agent: BOB,
+        file: b"Disallow: /*b\nAllow: /ab\nDisallow: b*c",
+        verdicts: &[("/ab", true), ("*abc", true)],
+    },
+    FileRow {
+        name: "length_before_collapsing",
+        agent: BOB,
+        file: b"Disallow: /***b\nAllow: /aab",
+        verdicts: &[("/aab", false)],
+    },
+    FileRow {
+        name: "robots_file",
+        agent: BOB,
+        file: b"Disallow: /",
+        verdicts: &[
+            ("/robots.txt", true),
+            ("/robots.txt?x", false),
+            ("https://example.com/robots.txt#a", false),
+        ],
+    },
+    FileRow {
+        name: "braces",
+        agent: BOB,
+        file: b"Disallow: /{x} y",
+        verdicts: &[("/{x} y", false)],
+    },
+    FileRow {
+        name: "escaped_rules",
+        agent: BOB,
+        file: b"Disallow: /a b",
+        verdicts: &[
+            ("https://example.com/a b", false),
+            ("/a b", false),
+            ("/a%20b", false),
+        ],
+    },
+    FileRow {
+        name: "empty_rules",
+        agent: BOB,
+        file: b"Disallow:\nAllow:",
+        verdicts: &[
+            ("", true),
+            ("/", true),
+            ("/x", true),
+            ("x", true),
+            ("/robots.txt", true),
+            ("https://example.com/a?b#c", true),
+        ],
+    },
+    FileRow {
+        name: "empty_allow",
+        agent: BOB,
+        file: b"Disallow: /\nAllow:",
+        verdicts: &[("/x", false)],
+    },
+    FileRow {
+        name: "lone_dollar",
+        agent: BOB,
+        file: b"Disallow: $",
+        verdicts: &[("", true)],
+    },
+    FileRow {
+        name: "empty_file",
+        agent: BOB,
+        file: b"",
+        verdicts: &[
+            ("", true),
+            ("/", true),
+            ("/x", true),
+            ("x", true),
+            ("/robots.txt", true),
+            ("https://example.com/a?b#c", true),
+        ],
+    },
+    FileRow {
+        name: "fragment_stays",
+        agent: BOB,
+        file: b"Disallow: /a$",
+        verdicts: &[
+            ("https://example.com/a", false),
+            ("https://example.com/a#b", true),
+        ],
+    },
+    FileRow {
+        name: "star_for_all",
+        agent: BOB,
+        file: b"Disallow: *",
+        verdicts: &[
+            ("", false),
+            ("/", false),
+            ("/x", false),
+            ("x", false),
+            ("https://example.com/a?b#c", false),
+            ("/robots.txt", true),
+        ],
+    },
+    FileRow {
+        name: "stars_and_ends",
+        agent: BOB,
+        file: b"Allow: *\nDisallow: *y\nDisallow: */a/*.html",
+        verdicts: &[
+            ("/", true),
+            ("/b", true),
+            ("bob/a/home.html", false),
+            ("/gray", false),
+        ],
+    },
+    FileRow {
+        name: "page_and_pages",
+        agent: BOB,
+        file: b"allow: /x/page.\ndisallow: /*.html",
+        verdicts: &[
+            ("http://foo.bar/x/page.html", true),
+            ("http://foo.bar/x/y.html", false),
+        ],
+    },
+    FileRow {
+        name: "beyond_ascii",
+        agent: BOB,
+        file: b"Disallow: /\nAllow: /foo/bar/\xE3\x83\x84",
+        verdicts: &[
+            ("/foo/bar/ツ", true),
+            ("/foo/bar/%E3%83%84", true),
+            ("http://foo.bar/foo/bar/ツ", true),
+        ],
+    },
+];
+
+const SITES: &[FileRow] = &[
+    FileRow {
+        name: "exception",
+        agent: BOB,
+        file: b"Disallow: /path\nAllow: /path/exception\nCrawl-delay: 5.2",
+        verdicts: &[
+            ("/path", false),
+            ("https://example.com/path/exception", true),
+        ],
+    },
+    FileRow {
+        name: "cats_allowed",
+        agent: BOB,
+        file: b"Disallow: /\nAllow: ****/cats\nAllow: */kangaroos",
+        verdicts: &[
+            ("/kangaroo/cat", false),
+            ("/get/more/cats/page.html", true),
+            ("/kangaroosandkoalas/x", true),
+        ],
+    },
+    FileRow {
+        name: "cats_refused",
+        agent: BOB,
+        file: b"Allow: /\nDisallow: ****/cats\nDisallow: */kangaroos",
+        verdicts: &[
+            ("/kangaroo/cat", true),
+            ("/get/more/cats/page.html", false),
+            ("/kangaroosandkoalas/x", false),
+        ],
+    },
+    FileRow {
+        name: "no_full_regex",
+        agent: BOB,
+        file: b"User-Agent: *\nDisallow: /\nAllow: /(Cat|Dog).html",
+        verdicts: &[("/(Cat|Dog).html", true), ("/Cat.html", false)],
+    },
+    FileRow {
+        name: "about_page",
+        agent: BOB,
+        file: b"Disallow: /\nDisallow: /*/about\nAllow: /about$",
+        verdicts: &[("https://quora.com/about", true), ("/about/", false)],
+    },
+    FileRow {
+        name: "question_mark",
+        agent: BOB,
+        file: b"Disallow: /*?****donotindex=1*",
+        verdicts: &[("/f?xyz=42", true), ("/f?xyz=42&donotindex=1", false)],
+    },
+    FileRow {
+        name: "news_site",
+        agent: BOB,
+        file: b"User-Agent: *\nDisallow: /threads?\nCrawl-delay: 30",
+        verdicts: &[
+            ("https://news.ycombinator.com/threads?id=S", false),
+            ("/item?id=3", true),
+        ],
+    },
+];
+
+const HOSTED: &[FileRow] = &[
+    FileRow {
+        name: "fish",
+        agent: BOB,
+        file: b"Disallow: /\nAllow: /fish*",
+        verdicts: &[
+            ("/fish/salmon", true),
+            ("/fishheads", true),
+            ("/Fish.asp", false),
+            ("/catfish", false),
+            ("/?id=fish", false),
+        ],
+    },
+    FileRow {
+        name: "php_at_the_end",
+        agent: BOB,
+        file: b"Disallow: /\nAllow: /*.php$",
+        verdicts: &[
+            ("/folder/filename.php", true),
+            ("/filename.php?p", false),
+            ("/filename.php5", false),
+        ],
+    },
+    FileRow {
+        name: "php_anywhere",
+        agent: BOB,
+        file: b"Disallow: /\nAllow: /*.php",
+        verdicts: &[("/index?f=filename.php/", true), ("/windows.PHP", false)],
+    },
+    FileRow {
+        name: "escapes_stay",
+        agent: BOB,
+        file: b"Disallow: /\nAllow: /foo/%62%61%7A",
+        verdicts: &[("/foo/%62%61%7A", true), ("/foo/baz", false)],
+    },
+    FileRow {
+        name: "comment_in_a_rule",
+        agent: BOB,
+        file: b"Disallow: /foo/quz#qux\nAllow: /",
+        verdicts: &[("/foo/quz", false)],
+    },
+];
+
+#[test]
+fn rules(rt: HostRuntime) -> Result<(), Fail> {
+    for row in RULES {
+        check_file(&rt, row);
+    }
+    Ok(())
+}
+
+#[test]
+fn sites(rt: HostRuntime) -> Result<(), Fail> {
+    for row in SITES {
+        check_file(&rt, row);
+    }
+    Ok(())
+}
+
+#[test]
+fn hosted(rt: HostRuntime) -> Result<(), Fail> {
+    for row in HOSTED {
+        check_file_at(&rt, row, "http://foo.bar");
+    }
+    Ok(())
+}
+
+#[test]
+fn lone_dollar(rt: HostRuntime) -> Result<(), Fail> {
+    let name = "lone_dollar";
+    let robot = robot_of(&rt, name, BOB, b"Disallow: $");
+    check_prepared(&rt, name, &robot, "", false);
+    check_prepared(&rt, name, &robot, "/", true);
+    Ok(())
+}
