@@ -49,6 +49,16 @@ const ADDRESSES: &[(&str, &str, &str)] = &[
         "http://en.wikipedia.org",
         "http://en.wikipedia.org/robots.txt",
     ),
+    (
+        "brackets_stay",
+        "http://[::1]:8080/x",
+        "http://[::1]:8080/robots.txt",
+    ),
+    (
+        "port_of_the_secure_scheme",
+        "https://h:443/",
+        "https://h/robots.txt",
+    ),
 ];
 
 // a name, a URL that has no robots file, and why
@@ -59,6 +69,9 @@ const NO_ADDRESS: &[(&str, &str, ParseError)] = &[
         ParseError::EmptyHost,
     ),
     ("unknown_scheme", "ipfs://etc/", ParseError::EmptyHost),
+    ("file", "file:///x", ParseError::EmptyHost),
+    ("no_host", "foo:/bar", ParseError::EmptyHost),
+    ("data", "data:,x", ParseError::SetHostOnCannotBeABaseUrl),
     (
         "mail",
         "mailto:ferris@rust.com",
