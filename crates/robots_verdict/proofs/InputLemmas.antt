@@ -7,7 +7,17 @@ use Rattle.std.proofs.lemmas.List.{append-nil, drop_more, get_or-map, length-app
 use Rattle.robots_verdict.specs.declared.fault.Fault.{Fault}
 use Rattle.robots_verdict.specs.declared.fault.Fault.TheVariants.{HeaderNotUtf8, Memory}
 use Rattle.robots_verdict.specs.Input.{AreUtf8, EachInputHasOneSplit, HoldNotUtf8, IsInput, IsOneLine, cr, ended, lf, without_cr}
-use Rattle.robots_verdict.specs.Steps.{AreUrlLines, BeginsWithLine, GoesOn, IsFirstFeed}
+use Rattle.robots_verdict.specs.Steps.{BeginsWithLine, IsFirstFeed}
+
+-- the input is a line for each URL, a line with an empty text, and the file
+abbrev pub AreUrlLines : List ℕ → List (List ℕ) → List ℕ → Type 0
+AreUrlLines input [] file = BeginsWithLine input [] file
+AreUrlLines input (url ∷ urls) file = (rest : List ℕ) × BeginsWithLine input url rest × (url ≢ []) × AreUrlLines rest urls file
+
+-- the same splits go on from the rest, behind these URLs
+pub record GoesOn (input : List ℕ) (urls : List (List ℕ)) (rest : List ℕ) : Type 0 where
+  pub from_rest : (later : List (List ℕ)) (file : List ℕ) → AreUrlLines rest later file → AreUrlLines input (urls ++ later) file
+  pub to_rest : (all : List (List ℕ)) (file : List ℕ) → AreUrlLines input all file → (later : List (List ℕ)) × (all ≡ urls ++ later) × AreUrlLines rest later file
 
 -- ---- the text of a line
 

@@ -21,7 +21,7 @@ status_of HeaderNotUtf8 = 2
 status_of InvalidRule = 3
 status_of Memory = 4
 
--- what an error of the library comes to
+-- what an error of the library comes to; it never answers InvalidRobots
 abbrev pub fault_of : Error → Fault
 fault_of error.InvalidRobots = Memory
 fault_of error.InvalidRule = InvalidRule

@@ -11,6 +11,8 @@ mod header;
 mod laws;
 mod program;
 mod report;
+#[cfg(test)]
+mod tests;
 
 use program::run;
 use std::process::ExitCode;

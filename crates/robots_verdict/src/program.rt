@@ -11,7 +11,7 @@ use std::io::{Read, Write};
 
 /// Reads an input to its end, makes its report, and then writes that.
 ///
-/// `Fault::Memory` comes only where memory was refused.
+/// `Fault::Read`, `Fault::Write` and `Fault::Memory` tell of a reader, a writer or memory that failed; no clause says when.
 pub fn run<R: Read, W: Write>(alloc: Global, reader: &mut R, writer: &mut W) -> Result<(), Fault>
     ensures ok { OnOk result (IfSome (R.remaining reader.old) (AppendsReport (W.contents writer.old) (W.contents writer.new))) }
     ensures no_empty_line { IsErrOf result Fault.NoEmptyLine → IfSome (R.remaining reader.old) (λ input. IsReport input (Err Fault.NoEmptyLine)) }

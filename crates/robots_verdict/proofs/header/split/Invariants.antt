@@ -1,5 +1,5 @@
 use Rattle.std.proofs.Common.{length, map}
-use Rattle.robots_verdict.specs.Steps.{GoesOn}
+use Rattle.robots_verdict.proofs.InputLemmas.{GoesOn}
 use Rattle.robots_verdict.proofs.header.split.Given as goal
 
 abbrev pub invariant-loop-url : goal.invariant-loop-url
