@@ -1,0 +1,3 @@
+pub mod EndsLemmas
+pub mod InputLemmas
+pub mod ReportLemmas

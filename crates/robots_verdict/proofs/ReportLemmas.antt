@@ -1,0 +1,208 @@
+-- How a report is made, and that an input has one at most.
+use Rattle.std.proofs.Common.{◌≡◌, ◌≢◌, ℕ, ◌+◌, ◌<◌, length, take, slice_index_or, Bor, Bool, true, false, List, [], ◌∷◌, ◌++◌, Option, Some, None, Result, Ok, Err, IfSome, OnOk, map, sym, refl, ap, subst, ◌∙◌, append_assoc, IsPermutation}
+use Rattle.std.specs.Io.KnownBytes.{Appends}
+use Rattle.std.specs.List.{AllZip}
+use Rattle.std.specs.Result.{IsErrAnd}
+use Rattle.std.proofs.lemmas.List.{append-nil, map-append, take_more}
+use Rattle.std.proofs.lemmas.List.Concat.{flat_map-append}
+use Rattle.std.proofs.lemmas.List.Sorted.{Contains-permutation, IsPermutation-sym}
+use Rattle.texting_robots.specs.Computed.Line.{file_lines}
+use Rattle.texting_robots.specs.Pattern.{Matches}
+use Rattle.texting_robots.specs.Prepared.{prepared}
+use Rattle.texting_robots.specs.Rules.{IsRefused, Rule, delay_for, rules_of, sitemaps_of}
+use Rattle.texting_robots.specs.Verdict.{IsDenied, IsVerdict}
+use Rattle.robots_verdict.specs.declared.fault.Fault.{Fault}
+use Rattle.robots_verdict.specs.declared.fault.Fault.TheVariants.{HeaderNotUtf8, InvalidRule, Memory, NoEmptyLine, Read, Write}
+use Rattle.robots_verdict.specs.Input.{AreUtf8, HoldNotUtf8, IsInput, ended, lf}
+use Rattle.robots_verdict.specs.Report.{AppendsBeginning, AppendsReport, AppendsReportBeginning, EachInputHasOneReport, HasFault, IsReport, IsReportText, IsVerdictLine, delay_line, sitemap_line, verdict_line}
+use Rattle.robots_verdict.specs.Steps.{AddsVerdicts}
+use Rattle.robots_verdict.proofs.InputLemmas.{not_both, one_split}
+
+-- ---- lines, one after another
+
+ended-append : (lines more : List (List ℕ)) → ended (lines ++ more) ≡ ended lines ++ ended more
+ended-append lines more = flat_map-append (λ line. line ++ lf ∷ []) lines more
+
+-- a text, some lines and then others
+pub lines_added : (old mid new : List ℕ) (lines more : List (List ℕ)) → mid ≡ old ++ ended lines → new ≡ mid ++ ended more → new ≡ old ++ ended (lines ++ more)
+lines_added old mid new lines more one two = two ∙ ap (λ t. t ++ ended more) one ∙ append_assoc old (ended lines) (ended more) ∙ ap (λ t. old ++ t) (sym (ended-append lines more))
+
+all_zip-append : (R : List ℕ → List ℕ → Type 0) (xs ys more others : List (List ℕ)) → AllZip R xs ys → AllZip R more others → AllZip R (xs ++ more) (ys ++ others)
+all_zip-append R [] [] more others one two = two
+all_zip-append R [] (y ∷ ys) more others one two = absurd one
+all_zip-append R (x ∷ xs) [] more others one two = absurd one
+all_zip-append R (x ∷ xs) (y ∷ ys) more others one two = (one.0, all_zip-append R xs ys more others one.1 two)
+
+-- ---- verdicts
+
+pub adds_nothing : (rules : List Rule) (text : List ℕ) → AddsVerdicts rules [] text text
+adds_nothing rules text = record { lines = []; verdicts = tt; whole = sym (append-nil text) }
+
+pub adds_one : (rules : List Rule) (url old new : List ℕ) (answer : Bool) → IsVerdict rules (prepared url) answer → new ≡ old ++ ended (verdict_line answer url ∷ []) → AddsVerdicts rules (url ∷ []) old new
+adds_one rules url old new answer is whole = record { lines = verdict_line answer url ∷ []; verdicts = ((answer, is, refl), tt); whole = whole }
+
+pub adds_more : (rules : List Rule) (urls others : List (List ℕ)) (old mid new : List ℕ) → AddsVerdicts rules urls old mid → AddsVerdicts rules others mid new → AddsVerdicts rules (urls ++ others) old new
+adds_more rules urls others old mid new one two = record {
+  lines = one.lines ++ two.lines;
+  verdicts = all_zip-append (IsVerdictLine rules) urls one.lines others two.lines one.verdicts two.verdicts;
+  whole = lines_added old mid new one.lines two.lines one.whole two.whole;
+}
+
+-- one URL more of a list
+pub adds_at : (rules : List Rule) (urls : List (Bor (List ℕ))) (place : ℕ) (url : Bor (List ℕ)) (old mid new : List ℕ) → place < length urls
+    → AddsVerdicts rules (map (λ url. url.now) (take place urls)) old mid → AddsVerdicts rules ((slice_index_or urls place url).now ∷ []) mid new
+    → AddsVerdicts rules (map (λ url. url.now) (take (place + 1) urls)) old new
+adds_at rules urls place url old mid new below one two =
+    rw (take_more urls place url below, map-append) (adds_more rules (map (λ url. url.now) (take place urls)) ((slice_index_or urls place url).now ∷ []) old mid new one two)
+
+denied_permuted : (rules others : List Rule) (text : List ℕ) → IsPermutation rules others → IsDenied rules text → IsDenied others text
+denied_permuted rules others text same denied = (
+  denied.0,
+  denied.1,
+  Contains-permutation rules others (denied.1, false) same denied.2,
+  denied.3,
+  λ q allows matches. denied.4 q (Contains-permutation others rules (q, true) (IsPermutation-sym rules others same) allows) matches,
+)
+
+verdict_permuted : (rules others : List Rule) (text : List ℕ) (answer : Bool) → IsPermutation rules others → IsVerdict rules text answer → IsVerdict others text answer
+verdict_permuted rules others text true same is = λ denied. is (denied_permuted others rules text (IsPermutation-sym rules others same) denied)
+verdict_permuted rules others text false same is = denied_permuted rules others text same is
+
+lines_permuted : (rules others : List Rule) (urls lines : List (List ℕ)) → IsPermutation rules others → AllZip (IsVerdictLine rules) urls lines → AllZip (IsVerdictLine others) urls lines
+lines_permuted rules others [] [] same are = tt
+lines_permuted rules others [] (line ∷ lines) same are = absurd are
+lines_permuted rules others (url ∷ urls) [] same are = absurd are
+lines_permuted rules others (url ∷ urls) (line ∷ lines) same are = (
+  (are.0.0, verdict_permuted rules others (prepared url) are.0.0 same are.0.1, are.0.2),
+  lines_permuted rules others urls lines same are.1,
+)
+
+-- ---- the report
+
+-- what is written line after line is the text of the report
+pub text_made : (agent : List ℕ) (urls : List (List ℕ)) (file one two text : List ℕ) (rules : List Rule)
+    → IsPermutation (rules_of agent (file_lines file)) rules
+    → one ≡ ended (delay_line (delay_for agent (file_lines file)) ∷ [])
+    → two ≡ one ++ ended (map sitemap_line (sitemaps_of (file_lines file)))
+    → AddsVerdicts rules urls two text → IsReportText agent urls file text
+text_made agent urls file one two text rules same first second last =
+    let delay : List (List ℕ) = delay_line (delay_for agent (file_lines file)) ∷ [] in
+    let sitemaps : List (List ℕ) = map sitemap_line (sitemaps_of (file_lines file)) in
+    record {
+      verdict_lines = last.lines;
+      verdicts = lines_permuted rules (rules_of agent (file_lines file)) urls last.lines (IsPermutation-sym (rules_of agent (file_lines file)) rules same) last.verdicts;
+      whole = lines_added one two text sitemaps last.lines second last.whole ∙ ap (λ t. t ++ ended (sitemaps ++ last.lines)) first ∙ sym (ended-append delay (sitemaps ++ last.lines));
+    }
+
+-- ---- one report
+
+verdict_once : (rules : List Rule) (text : List ℕ) (one two : Bool) → IsVerdict rules text one → IsVerdict rules text two → one ≡ two
+verdict_once rules text true true is is_too = refl
+verdict_once rules text true false is is_too = absurd (is is_too)
+verdict_once rules text false true is is_too = absurd (is_too is)
+verdict_once rules text false false is is_too = refl
+
+lines_once : (rules : List Rule) (urls lines others : List (List ℕ)) → AllZip (IsVerdictLine rules) urls lines → AllZip (IsVerdictLine rules) urls others → lines ≡ others
+lines_once rules [] [] [] one two = refl
+lines_once rules [] [] (other ∷ others) one two = absurd two
+lines_once rules [] (line ∷ lines) others one two = absurd one
+lines_once rules (url ∷ urls) [] others one two = absurd one
+lines_once rules (url ∷ urls) (line ∷ lines) [] one two = absurd two
+lines_once rules (url ∷ urls) (line ∷ lines) (other ∷ others) one two =
+    let answers : one.0.0 ≡ two.0.0 = verdict_once rules (prepared url) one.0.0 two.0.0 one.0.1 two.0.1 in
+    let first : line ≡ other = one.0.2 ∙ ap (λ answer. verdict_line answer url) answers ∙ sym two.0.2 in
+    let later : lines ≡ others = lines_once rules urls lines others one.1 two.1 in
+    cc
+
+text_once : (agent : List ℕ) (urls : List (List ℕ)) (file text other : List ℕ) → IsReportText agent urls file text → IsReportText agent urls file other → text ≡ other
+text_once agent urls file text other one two =
+    one.whole
+    ∙ ap (λ lines. ended (delay_line (delay_for agent (file_lines file)) ∷ (map sitemap_line (sitemaps_of (file_lines file)) ++ lines)))
+    (lines_once (rules_of agent (file_lines file)) urls one.verdict_lines two.verdict_lines one.verdicts two.verdicts)
+    ∙ sym two.whole
+
+-- a fact of one split holds of the other
+same_split : (P : List ℕ → List (List ℕ) → List ℕ → Type 0) (input agent other : List ℕ) (urls others : List (List ℕ)) (file rest : List ℕ)
+    → IsInput input agent urls file → IsInput input other others rest → P other others rest → P agent urls file
+same_split P input agent other urls others file rest one two is =
+    let same = one_split input agent other urls others file rest one two in
+    subst (λ a. P a urls file) (sym same.0) (subst (λ u. P other u file) (sym same.1) (subst (λ f. P other others f) (sym same.2) is))
+
+no_fault : (input : List ℕ) (text : List ℕ) (fault : Fault) → IsReport input (Ok text) → HasFault input fault → ⊥
+no_fault input text Read report has = has
+no_fault input text Write report has = has
+no_fault input text NoEmptyLine report has = has report.0 report.1 report.2 report.3
+no_fault input text HeaderNotUtf8 report has =
+    not_both report.0 report.1 report.4
+    (same_split (λ agent urls file. HoldNotUtf8 agent urls) input report.0 has.0 report.1 has.1 report.2 has.2 report.3 has.3 has.4)
+no_fault input text InvalidRule report has =
+    report.5 (same_split (λ agent urls file. IsRefused agent (file_lines file)) input report.0 has.0 report.1 has.1 report.2 has.2 report.3 has.3 has.5)
+no_fault input text Memory report has = has
+
+not_refused : (input : List ℕ) → HasFault input HeaderNotUtf8 → HasFault input InvalidRule → ⊥
+not_refused input one two =
+    not_both one.0 one.1 (same_split (λ agent urls file. AreUtf8 agent urls) input one.0 two.0 one.1 two.1 one.2 two.2 one.3 two.3 two.4) one.4
+
+same_fault : (input : List ℕ) (fault other : Fault) → HasFault input fault → HasFault input other → fault ≡ other
+same_fault input Read other one two = absurd one
+same_fault input Write other one two = absurd one
+same_fault input Memory other one two = absurd one
+same_fault input NoEmptyLine Read one two = absurd two
+same_fault input NoEmptyLine Write one two = absurd two
+same_fault input NoEmptyLine NoEmptyLine one two = refl
+same_fault input NoEmptyLine HeaderNotUtf8 one two = absurd (one two.0 two.1 two.2 two.3)
+same_fault input NoEmptyLine InvalidRule one two = absurd (one two.0 two.1 two.2 two.3)
+same_fault input NoEmptyLine Memory one two = absurd two
+same_fault input HeaderNotUtf8 Read one two = absurd two
+same_fault input HeaderNotUtf8 Write one two = absurd two
+same_fault input HeaderNotUtf8 NoEmptyLine one two = absurd (two one.0 one.1 one.2 one.3)
+same_fault input HeaderNotUtf8 HeaderNotUtf8 one two = refl
+same_fault input HeaderNotUtf8 InvalidRule one two = absurd (not_refused input one two)
+same_fault input HeaderNotUtf8 Memory one two = absurd two
+same_fault input InvalidRule Read one two = absurd two
+same_fault input InvalidRule Write one two = absurd two
+same_fault input InvalidRule NoEmptyLine one two = absurd (two one.0 one.1 one.2 one.3)
+same_fault input InvalidRule HeaderNotUtf8 one two = absurd (not_refused input two one)
+same_fault input InvalidRule InvalidRule one two = refl
+same_fault input InvalidRule Memory one two = absurd two
+
+pub one_report : EachInputHasOneReport
+one_report input (Ok text) (Ok other) one two =
+    ap (λ t. Ok t)
+    (text_once one.0 one.1 one.2 text other one.6 (same_split (λ agent urls file. IsReportText agent urls file other) input one.0 two.0 one.1 two.1 one.2 two.2 one.3 two.3 two.6))
+one_report input (Ok text) (Err fault) one two = absurd (no_fault input text fault one two)
+one_report input (Err fault) (Ok text) one two = absurd (no_fault input text fault two one)
+one_report input (Err fault) (Err other) one two = ap (λ f. Err f) (same_fault input fault other one two)
+
+-- ---- the run
+
+pub run_ok : {X : Type 0} (r : Result X Fault) (left old new : Option (List ℕ)) (items bytes text written : List ℕ)
+    → IfSome left (λ input. items ≡ input) → bytes ≡ items → IsReport bytes (Ok text) → written ≡ text → OnOk r (Appends old new written)
+    → OnOk r (IfSome left (AppendsReport old new))
+run_ok (Err fault) left old new items bytes text written read same report whole wrote = tt
+run_ok (Ok x) None old new items bytes text written read same report whole wrote = tt
+run_ok (Ok x) (Some input) old new items bytes text written read same report whole wrote = (
+  text,
+  subst (λ t. IsReport t (Ok text)) (same ∙ read) report,
+  subst (λ t. Appends old new t) whole wrote,
+)
+
+pub run_beginning : (left old new : Option (List ℕ)) (items bytes text written : List ℕ)
+    → IfSome left (λ input. items ≡ input) → bytes ≡ items → IsReport bytes (Ok text) → written ≡ text → AppendsBeginning old new written
+    → IfSome left (AppendsReportBeginning old new)
+run_beginning None old new items bytes text written read same report whole wrote = tt
+run_beginning (Some input) old new items bytes text written read same report whole wrote = (
+  text,
+  subst (λ t. IsReport t (Ok text)) (same ∙ read) report,
+  subst (λ t. AppendsBeginning old new t) whole wrote,
+)
+
+pub run_fault : {X : Type 0} (left : Option (List ℕ)) (items bytes : List ℕ) (r : Result X Fault) (fault wanted : Fault)
+    → IfSome left (λ input. items ≡ input) → bytes ≡ items → (fault ≢ Memory → HasFault bytes fault) → IsErrAnd r (λ other. other ≡ fault) → wanted ≢ Memory
+    → r ≡ Err wanted → IfSome left (λ input. IsReport input (Err wanted))
+run_fault left items bytes (Ok x) fault wanted read same has is known answer = absurd is
+run_fault None items bytes (Err e) fault wanted read same has is known answer = tt
+run_fault {X = X} (Some input) items bytes (Err e) fault wanted read same has is known answer =
+    let errors : ◌≡◌ {A = Result X Fault} (Err e) (Err wanted) = answer in
+    let found : fault ≡ wanted = cc in
+    subst (λ t. HasFault t wanted) (same ∙ read) (subst (λ f. HasFault bytes f) found (has (λ memory. known (sym found ∙ memory))))

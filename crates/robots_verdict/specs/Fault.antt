@@ -1,0 +1,28 @@
+-- What the program says where it stops, and the status that it ends with.
+use Rattle.std.specs.Prelude.{ℕ, List, codes}
+use Rattle.texting_robots.specs.declared.error.Error.{Error}
+use Rattle.texting_robots.specs.declared.error.Error.TheVariants as error
+use Rattle.robots_verdict.specs.declared.fault.Fault.{Fault}
+use Rattle.robots_verdict.specs.declared.fault.Fault.TheVariants.{HeaderNotUtf8, InvalidRule, Memory, NoEmptyLine, Read, Write}
+
+abbrev pub text_of : Fault → List ℕ
+text_of Read = codes "robots_verdict: reading the input failed"
+text_of Write = codes "robots_verdict: writing the output failed"
+text_of NoEmptyLine = codes "robots_verdict: no empty line after the URLs"
+text_of HeaderNotUtf8 = codes "robots_verdict: a header line isn't UTF-8"
+text_of InvalidRule = codes "robots_verdict: a captured rule with $ is too long"
+text_of Memory = codes "robots_verdict: out of memory"
+
+abbrev pub status_of : Fault → ℕ
+status_of Read = 1
+status_of Write = 1
+status_of NoEmptyLine = 2
+status_of HeaderNotUtf8 = 2
+status_of InvalidRule = 3
+status_of Memory = 4
+
+-- what an error of the library comes to; it never answers InvalidRobots
+abbrev pub fault_of : Error → Fault
+fault_of error.InvalidRobots = Memory
+fault_of error.InvalidRule = InvalidRule
+fault_of error.Memory = Memory

@@ -1,0 +1,4 @@
+pub mod Fault
+pub mod Input
+pub mod Report
+pub mod Steps

@@ -1,0 +1,71 @@
+-- What the program writes of what it reads.
+use Rattle.std.specs.Prelude.{◌≡◌, ℕ, Bool, true, false, List, [], ◌∷◌, ◌++◌, Option, Some, None, Result, Ok, Err, codes, decimal, map}
+use Rattle.std.specs.List.{AllZip}
+use Rattle.std.specs.Io.KnownBytes.{Appends}
+use Rattle.texting_robots.specs.Computed.Line.{file_lines}
+use Rattle.texting_robots.specs.Prepared.{prepared}
+use Rattle.texting_robots.specs.Rules.{IsRefused, Rule, delay_for, rules_of, sitemaps_of}
+use Rattle.texting_robots.specs.Verdict.{IsVerdict}
+use Rattle.robots_verdict.specs.declared.fault.Fault.{Fault}
+use Rattle.robots_verdict.specs.declared.fault.Fault.TheVariants.{HeaderNotUtf8, InvalidRule, Memory, NoEmptyLine, Read, Write}
+use Rattle.robots_verdict.specs.Input.{AreUtf8, HoldNotUtf8, IsInput, ended}
+
+-- ---- the lines of a report
+
+abbrev pub delay_line : Option ℕ → List ℕ
+delay_line None = codes "delay none"
+delay_line (Some micros) = codes "delay " ++ decimal micros
+
+abbrev pub sitemap_line : List ℕ → List ℕ
+sitemap_line sitemap = codes "sitemap " ++ sitemap
+
+abbrev pub verdict_line : Bool → List ℕ → List ℕ
+verdict_line true url = codes "allow " ++ url
+verdict_line false url = codes "deny " ++ url
+
+-- the line says the rules' verdict on the URL
+abbrev pub IsVerdictLine : List Rule → List ℕ → List ℕ → Type 0
+IsVerdictLine rules url line = (answer : Bool) × IsVerdict rules (prepared url) answer × (line ≡ verdict_line answer url)
+
+-- the text is the agent's delay, the file's sitemaps and the verdict on each URL, a line each
+pub record IsReportText (agent : List ℕ) (urls : List (List ℕ)) (file text : List ℕ) : Type 0 where
+  pub verdict_lines : List (List ℕ)
+  pub verdicts : AllZip (IsVerdictLine (rules_of agent (file_lines file))) urls verdict_lines
+  pub whole : text ≡ ended (delay_line (delay_for agent (file_lines file)) ∷ (map sitemap_line (sitemaps_of (file_lines file)) ++ verdict_lines))
+
+-- ---- the report of an input
+
+-- the input has this fault
+abbrev pub HasFault : List ℕ → Fault → Type 0
+HasFault input Read = ⊥
+HasFault input Write = ⊥
+HasFault input NoEmptyLine = (agent : List ℕ) (urls : List (List ℕ)) (file : List ℕ) → ¬ IsInput input agent urls file
+HasFault input HeaderNotUtf8 = (agent : List ℕ) × (urls : List (List ℕ)) × (file : List ℕ) × IsInput input agent urls file × HoldNotUtf8 agent urls
+HasFault input InvalidRule =
+    (agent : List ℕ) × (urls : List (List ℕ)) × (file : List ℕ) × IsInput input agent urls file × AreUtf8 agent urls × IsRefused agent (file_lines file)
+HasFault input Memory = ⊥
+
+-- the text of the report, or the fault of the input
+abbrev pub IsReport : List ℕ → Result (List ℕ) Fault → Type 0
+IsReport input (Ok text) =
+    (agent : List ℕ) × (urls : List (List ℕ)) × (file : List ℕ)
+    × IsInput input agent urls file × AreUtf8 agent urls × (¬ IsRefused agent (file_lines file)) × IsReportText agent urls file text
+IsReport input (Err fault) = HasFault input fault
+
+-- an input has one report at most
+abbrev pub EachInputHasOneReport : Type 0
+EachInputHasOneReport = (input : List ℕ) (report other : Result (List ℕ) Fault) → IsReport input report → IsReport input other → report ≡ other
+
+-- ---- what is written of it
+
+-- the writer holds what it held, and then the report of the input
+abbrev pub AppendsReport : Option (List ℕ) → Option (List ℕ) → List ℕ → Type 0
+AppendsReport old new input = (text : List ℕ) × IsReport input (Ok text) × Appends old new text
+
+-- the writer holds what it held, and then a beginning of the text
+abbrev pub AppendsBeginning : Option (List ℕ) → Option (List ℕ) → List ℕ → Type 0
+AppendsBeginning old new text = (front : List ℕ) × (back : List ℕ) × (text ≡ front ++ back) × Appends old new front
+
+-- the writer holds what it held, and then a beginning of the report of the input
+abbrev pub AppendsReportBeginning : Option (List ℕ) → Option (List ℕ) → List ℕ → Type 0
+AppendsReportBeginning old new input = (text : List ℕ) × IsReport input (Ok text) × AppendsBeginning old new text

@@ -1,0 +1,87 @@
+//! Why the program stopped.
+use std::alloc::{AllocError, AllocFailed};
+use texting_robots::Error;
+
+/// Why the program stopped.
+#[derive(Debug, PartialEq, Eq, Drop)]
+pub enum Fault {
+    /// A read failed, or the input didn't end within the reads that are made.
+    Read,
+    /// A write failed, or took nothing.
+    Write,
+    /// No line after the first one has an empty text.
+    NoEmptyLine,
+    /// The crawler's name or a URL isn't UTF-8.
+    HeaderNotUtf8,
+    /// A rule of the crawler's holds `$` and is too long.
+    InvalidRule,
+    /// Memory was refused.
+    Memory,
+}
+
+impl Fault {
+    ghost use Rattle.std.specs.Prelude.{◌≡◌};
+    ghost use Rattle.robots_verdict.specs.Fault.{status_of, text_of};
+
+    /// What is printed of it.
+    pub fn text(&self) -> &'static str
+        ensures { result.now ≡ text_of self.now }
+    {
+        match self {
+            Fault::Read => "robots_verdict: reading the input failed",
+            Fault::Write => "robots_verdict: writing the output failed",
+            Fault::NoEmptyLine => "robots_verdict: no empty line after the URLs",
+            Fault::HeaderNotUtf8 => "robots_verdict: a header line isn't UTF-8",
+            Fault::InvalidRule => "robots_verdict: a captured rule with $ is too long",
+            Fault::Memory => "robots_verdict: out of memory",
+        }
+    }
+
+    /// The status that the process ends with.
+    pub fn status(&self) -> u8
+        ensures { result ≡ status_of self.now }
+    {
+        match self {
+            Fault::Read | Fault::Write => 1,
+            Fault::NoEmptyLine | Fault::HeaderNotUtf8 => 2,
+            Fault::InvalidRule => 3,
+            Fault::Memory => 4,
+        }
+    }
+}
+
+impl From<AllocError> for Fault {
+    ghost use Rattle.std.specs.Prelude.{◌≡◌};
+    ghost use Rattle.robots_verdict.specs.declared.fault.Fault.TheVariants.{Memory};
+
+    ghost from_gives = { λ _ fault. fault ≡ Memory };
+
+    fn from(_: AllocError) -> Fault {
+        Fault::Memory
+    }
+}
+
+impl<T: Drop> From<AllocFailed<T>> for Fault {
+    ghost use Rattle.std.specs.Prelude.{◌≡◌};
+    ghost use Rattle.robots_verdict.specs.declared.fault.Fault.TheVariants.{Memory};
+
+    ghost from_gives = { λ _ fault. fault ≡ Memory };
+
+    fn from(_: AllocFailed<T>) -> Fault {
+        Fault::Memory
+    }
+}
+
+impl From<Error> for Fault {
+    ghost use Rattle.std.specs.Prelude.{◌≡◌};
+    ghost use Rattle.robots_verdict.specs.Fault.{fault_of};
+
+    ghost from_gives = { λ error fault. fault ≡ fault_of error };
+
+    fn from(error: Error) -> Fault {
+        match error {
+            Error::InvalidRule => Fault::InvalidRule,
+            Error::Memory | Error::InvalidRobots => Fault::Memory,
+        }
+    }
+}

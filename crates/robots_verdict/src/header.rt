@@ -1,0 +1,112 @@
+//! The header of an input: the crawler's name and the URLs.
+ghost use Rattle.std.specs.Prelude.{◌≡◌, ◌≢◌, Any, IfErr, IfOk, IsUtf8, MatchOption, map};
+ghost use Rattle.std.specs.List.{AllByRecursion as Each};
+ghost use Rattle.robots_verdict.specs.Input.{AreUtf8, IsInput, IsOneLine, without_cr};
+ghost use Rattle.robots_verdict.specs.Report.{HasFault};
+ghost use Rattle.robots_verdict.specs.Steps.{BeginsWithLine, IsFirstFeed};
+
+use crate::fault::Fault;
+use std::alloc::Global;
+
+/// What an input is made of.
+#[derive(Drop)]
+pub struct Header<'a> {
+    pub agent: &'a str,
+    pub urls: Vec<&'a str>,
+    pub file: &'a [u8],
+}
+
+/// The same, before anything is known of its bytes.
+#[derive(Drop)]
+struct Parts<'a> {
+    agent: &'a [u8],
+    urls: Vec<&'a [u8]>,
+    file: &'a [u8],
+}
+
+/// A line without one CR at its end.
+#[tactic(auto, using(crate::proofs::InputLemmas::without_cr_taken, crate::proofs::InputLemmas::without_cr_kept))]
+fn without_cr<'a>(line: &'a [u8]) -> &'a [u8]
+    ensures { result.now ≡ without_cr line.now }
+{
+    let Some((last, text)) = line.split_last() else {
+        return line;
+    };
+    if *last == b'\r' { text } else { line }
+}
+
+/// Where the first LF stands, if there is one.
+fn first_feed(input: &[u8]) -> Option<usize>
+    ensures { MatchOption result (IsOneLine input.now) (λ place. IsFirstFeed input.now place) }
+{
+    input.iter().position(|byte| *byte == b'\n')
+}
+
+/// The text of the first line and what follows its LF, if there is an LF.
+#[tactic(auto, using(crate::proofs::InputLemmas::line_before))]
+fn first_line<'a>(input: &'a [u8]) -> Option<(&'a [u8], &'a [u8])>
+    ensures { MatchOption result (IsOneLine input.now) (λ found. BeginsWithLine input.now found.0.now found.1.now) }
+{
+    let end = first_feed(input)?;
+    Some((without_cr(&input[..end]), &input[end + 1..]))
+}
+
+/// Splits an input at its first empty line after the first line.
+fn split<'a>(alloc: Global, input: &'a [u8]) -> Result<Parts<'a>, Fault>
+    ensures ok { IfOk result (λ parts. IsInput input.now parts.agent.now (map (λ url. url.now) parts.urls.items) parts.file.now) }
+    ensures fault { IfErr result (λ fault. fault ≢ Fault.Memory → HasFault input.now fault) }
+{
+    let Some((agent, mut rest)) = first_line(input) else {
+        return Err(Fault::NoEmptyLine);
+    };
+    let mut urls = Vec::new(alloc);
+    while let Some((url, next)) = first_line(rest) {
+        if url.is_empty() {
+            return Ok(Parts {
+                agent,
+                urls,
+                file: next,
+            });
+        }
+        urls.push(url)?;
+        rest = next;
+    }
+    Err(Fault::NoEmptyLine)
+}
+
+/// The bytes as a text.
+fn text_of<'a>(bytes: &'a [u8]) -> Result<&'a str, Fault>
+    ensures ok { IfOk result (λ text. (text.now ≡ bytes.now) × IsUtf8 bytes.now) }
+    ensures fault { IfErr result (λ fault. (fault ≡ Fault.HeaderNotUtf8) × ¬ IsUtf8 bytes.now) }
+{
+    match std::str::from_utf8(bytes) {
+        Ok(text) => Ok(text),
+        Err(_) => Err(Fault::HeaderNotUtf8),
+    }
+}
+
+/// The bytes of each URL as a text.
+fn texts_of<'a>(alloc: Global, urls: &[&'a [u8]]) -> Result<Vec<&'a str>, Fault>
+    ensures ok { IfOk result (λ texts. (map (λ url. url.now) texts.items ≡ map (λ url. url.now) urls.now) × Each IsUtf8 (map (λ url. url.now) urls.now)) }
+    ensures fault { IfErr result (λ fault. fault ≢ Fault.Memory → (fault ≡ Fault.HeaderNotUtf8) × Any (λ url. ¬ IsUtf8 url) (map (λ url. url.now) urls.now)) }
+{
+    let mut texts = Vec::new(alloc);
+    for url in urls {
+        texts.push(text_of(url)?)?;
+    }
+    Ok(texts)
+}
+
+/// Reads the header of an input. Where both faults could be answered, it is `NoEmptyLine`.
+pub(crate) fn read_header<'a>(alloc: Global, input: &'a [u8]) -> Result<Header<'a>, Fault>
+    ensures input { IfOk result (λ header. IsInput input.now header.agent.now (map (λ url. url.now) header.urls.items) header.file.now) }
+    ensures texts { IfOk result (λ header. AreUtf8 header.agent.now (map (λ url. url.now) header.urls.items)) }
+    ensures fault { IfErr result (λ fault. fault ≢ Fault.Memory → HasFault input.now fault) }
+{
+    let parts = split(alloc, input)?;
+    Ok(Header {
+        agent: text_of(parts.agent)?,
+        urls: texts_of(alloc, &parts.urls)?,
+        file: parts.file,
+    })
+}

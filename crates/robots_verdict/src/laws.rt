@@ -1,0 +1,13 @@
+//! Laws over the definitions, each the contract of a function that computes nothing.
+ghost use Rattle.robots_verdict.specs.Input.{EachInputHasOneSplit};
+ghost use Rattle.robots_verdict.specs.Report.{EachInputHasOneReport};
+
+/// An input is an agent, URLs and a file in one way at most.
+pub fn each_input_has_one_split()
+    ensures { EachInputHasOneSplit }
+{}
+
+/// An input has one report at most.
+pub fn each_input_has_one_report()
+    ensures { EachInputHasOneReport }
+{}

@@ -1,0 +1,28 @@
+//! Reads a crawler's name, some URLs and a robots.txt file from standard input, and prints which of the URLs the crawler may
+//! fetch.
+//!
+//! The input is a line with the crawler's name, a line for each URL, an empty line, and then the bytes of the file. The output
+//! is the delay in microseconds, the sitemaps, and for each URL `allow` or `deny`, a line each.
+#![tactic(auto)]
+
+mod ends;
+mod fault;
+mod header;
+mod laws;
+mod program;
+mod report;
+#[cfg(test)]
+mod tests;
+
+use program::run;
+use std::process::ExitCode;
+
+fn main(rt: HostRuntime) -> ExitCode {
+    match run(rt.alloc(), &mut rt.stdin(), &mut rt.stdout()) {
+        Ok(()) => ExitCode::SUCCESS,
+        Err(fault) => {
+            let _ = rt.eprintln(fault.text());
+            ExitCode::from(fault.status())
+        }
+    }
+}

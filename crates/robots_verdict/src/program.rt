@@ -1,0 +1,26 @@
+//! The program over a reader and a writer.
+ghost use Rattle.std.specs.Prelude.{◌≢◌, Err, IfErr, IfSome, IsErrOf, OnOk};
+ghost use Rattle.std.specs.Io.KnownBytes.{Keeps};
+ghost use Rattle.robots_verdict.specs.Report.{AppendsReport, AppendsReportBeginning, IsReport};
+
+use crate::ends::{read_all, write_out};
+use crate::fault::Fault;
+use crate::report::report_of;
+use std::alloc::Global;
+use std::io::{Read, Write};
+
+/// Reads an input to its end, makes its report, and then writes that.
+///
+/// `Fault::Read`, `Fault::Write` and `Fault::Memory` tell of a reader, a writer or memory that failed; no clause says when.
+pub fn run<R: Read, W: Write>(alloc: Global, reader: &mut R, writer: &mut W) -> Result<(), Fault>
+    ensures ok { OnOk result (IfSome (R.remaining reader.old) (AppendsReport (W.contents writer.old) (W.contents writer.new))) }
+    ensures no_empty_line { IsErrOf result Fault.NoEmptyLine → IfSome (R.remaining reader.old) (λ input. IsReport input (Err Fault.NoEmptyLine)) }
+    ensures header_not_utf8 { IsErrOf result Fault.HeaderNotUtf8 → IfSome (R.remaining reader.old) (λ input. IsReport input (Err Fault.HeaderNotUtf8)) }
+    ensures invalid_rule { IsErrOf result Fault.InvalidRule → IfSome (R.remaining reader.old) (λ input. IsReport input (Err Fault.InvalidRule)) }
+    ensures nothing_written { IfErr result (λ fault. fault ≢ Fault.Write → Keeps (W.contents writer.old) (W.contents writer.new)) }
+    ensures beginning { IsErrOf result Fault.Write → IfSome (R.remaining reader.old) (AppendsReportBeginning (W.contents writer.old) (W.contents writer.new)) }
+{
+    let input = read_all(alloc, reader)?;
+    let text = report_of(alloc, &input)?;
+    write_out(writer, text.as_bytes())
+}

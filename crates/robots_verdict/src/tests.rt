@@ -1,0 +1,323 @@
+//! Rows on `run` and on what a fault says.
+use crate::fault::Fault;
+use crate::program::run;
+use std::alloc::{AllocError, Global};
+use std::io;
+use std::io::{ErrorKind, Read, Write};
+use std::test::Fail;
+
+/// Gives a text piece by piece, over and over if it is endless, and fails after so many good calls, if it is told to.
+#[derive(Drop)]
+struct Source<'a> {
+    text: &'a [u8],
+    rest: &'a [u8],
+    piece: usize,
+    endless: bool,
+    good_calls: Option<u32>,
+    calls: u32,
+}
+
+impl<'a> Source<'a> {
+    fn new(text: &'a [u8], piece: usize) -> Self {
+        Source {
+            text,
+            rest: text,
+            piece,
+            endless: false,
+            good_calls: None,
+            calls: 0,
+        }
+    }
+}
+
+impl<'a> Read for Source<'a> {
+    fn read(&mut self, buf: &mut [u8]) -> io::Result<usize> {
+        if self.good_calls == Some(self.calls) {
+            return Err(io::Error::from(ErrorKind::BrokenPipe));
+        }
+        self.calls = self.calls.saturating_add(1);
+        if self.endless && self.rest.is_empty() {
+            self.rest = self.text;
+        }
+        let count = self.rest.len().min(self.piece).min(buf.len());
+        let (given, rest) = self.rest.split_at(count);
+        buf[..count].copy_from_slice(given);
+        self.rest = rest;
+        Ok(count)
+    }
+}
+
+/// Takes a text piece by piece, and fails after so many good calls or at the flush, if it is told to.
+#[derive(Drop)]
+struct Sink {
+    held: Vec<u8>,
+    piece: usize,
+    good_calls: Option<u32>,
+    flush_fails: bool,
+    calls: u32,
+}
+
+impl Sink {
+    fn new(alloc: Global, piece: usize) -> Self {
+        Sink {
+            held: Vec::new(alloc),
+            piece,
+            good_calls: None,
+            flush_fails: false,
+            calls: 0,
+        }
+    }
+}
+
+impl Write for Sink {
+    fn write(&mut self, buf: &[u8]) -> io::Result<usize> {
+        if self.good_calls == Some(self.calls) {
+            return Err(io::Error::from(ErrorKind::BrokenPipe));
+        }
+        self.calls = self.calls.saturating_add(1);
+        let count = buf.len().min(self.piece);
+        self.held.extend_from_slice(&buf[..count])?;
+        Ok(count)
+    }
+
+    fn flush(&mut self) -> io::Result<()> {
+        if self.flush_fails {
+            return Err(io::Error::from(ErrorKind::BrokenPipe));
+        }
+        Ok(())
+    }
+}
+
+const INPUT: &[u8] =
+    b"FerrisCrawler\nhttps://www.rust-lang.org/ocean\n/ocean\n/ocean/reef.html\n/rust\n/forest/tree/snake.py\n\nUser-Agent: FerrisCrawler\nAllow: /ocean\nDisallow: /rust\nDisallow: /forest*.py\nCrawl-Delay: 10\nUser-Agent: *\nDisallow: /\nSitemap: https://www.example.com/site.xml\n";
+
+const OUTPUT: &[u8] =
+    b"delay 10000000\nsitemap https://www.example.com/site.xml\nallow https://www.rust-lang.org/ocean\nallow /ocean\nallow /ocean/reef.html\ndeny /rust\ndeny /forest/tree/snake.py\n";
+
+/// What all pieces fit into.
+const WHOLE: usize = 65_536;
+
+/// A header, and a file whose one rule is too long.
+fn before_overlong(alloc: Global, header: &[u8]) -> Result<Vec<u8>, AllocError> {
+    let mut input = Vec::new(alloc);
+    input.extend_from_slice(header)?;
+    input.extend_from_slice(b"Disallow: /")?;
+    for _ in 0..4_095 {
+        input.push(b'a')?;
+    }
+    input.push(b'$')?;
+    Ok(input)
+}
+
+#[test]
+fn reports(rt: HostRuntime) -> Result<(), Fail> {
+    let rows: [(&str, &[u8], &[u8]); 7] = [
+        ("crawler example", INPUT, OUTPUT),
+        (
+            "two rules",
+            b"Ferris\n/secret\n/everything-else\n\nDisallow: /secret",
+            b"delay none\ndeny /secret\nallow /everything-else\n",
+        ),
+        (
+            "line ends with CR",
+            b"BobBot\r\n/a\r\n\r\nDisallow: /a",
+            b"delay none\ndeny /a\n",
+        ),
+        ("empty agent, no URL", b"\n\n", b"delay none\n"),
+        (
+            "empty agent and a URL",
+            b"\n/x\n\nUser-Agent:\nDisallow: /",
+            b"delay none\ndeny /x\n",
+        ),
+        ("empty sitemap", b"B\n\nSitemap:", b"delay none\nsitemap \n"),
+        ("one CR of two", b"B\r\r\n\n", b"delay none\n"),
+    ];
+    for (name, input, output) in rows {
+        let mut reader = input;
+        let mut sink = Sink::new(rt.alloc(), WHOLE);
+        assert_eq!(rt; run(rt.alloc(), &mut reader, &mut sink), Ok(()), "{name}");
+        assert_eq!(rt; sink.held.as_slice(), output, "{name}");
+    }
+    Ok(())
+}
+
+#[test]
+fn faults_of_inputs(rt: HostRuntime) -> Result<(), Fail> {
+    let not_utf8 = before_overlong(rt.alloc(), b"B\n\xFF\n\n")?;
+    let invalid = before_overlong(rt.alloc(), b"B\n\n")?;
+    let rows: [(&str, &[u8], Fault); 8] = [
+        ("nothing", b"", Fault::NoEmptyLine),
+        ("no empty line", b"BobBot\n/a\n", Fault::NoEmptyLine),
+        ("a CR that isn't ended", b"B\n/a\n\r", Fault::NoEmptyLine),
+        ("one line", b"\xFF\n", Fault::NoEmptyLine),
+        (
+            "no empty line and no text",
+            b"B\n\xFF\n",
+            Fault::NoEmptyLine,
+        ),
+        ("agent", b"\xFF\n\n", Fault::HeaderNotUtf8),
+        (
+            "URL, and an overlong rule",
+            not_utf8.as_slice(),
+            Fault::HeaderNotUtf8,
+        ),
+        ("overlong rule", invalid.as_slice(), Fault::InvalidRule),
+    ];
+    for (name, input, fault) in rows {
+        let mut reader = input;
+        let mut sink = Sink::new(rt.alloc(), WHOLE);
+        assert_eq!(rt;
+            run(rt.alloc(), &mut reader, &mut sink),
+            Err(fault),
+            "{name}"
+        );
+        assert!(rt; sink.held.is_empty(), "{name}");
+    }
+    Ok(())
+}
+
+#[test]
+fn fault_texts(rt: HostRuntime) {
+    let rows = [
+        (Fault::Read, 1, "robots_verdict: reading the input failed"),
+        (Fault::Write, 1, "robots_verdict: writing the output failed"),
+        (
+            Fault::NoEmptyLine,
+            2,
+            "robots_verdict: no empty line after the URLs",
+        ),
+        (
+            Fault::HeaderNotUtf8,
+            2,
+            "robots_verdict: a header line isn't UTF-8",
+        ),
+        (
+            Fault::InvalidRule,
+            3,
+            "robots_verdict: a captured rule with $ is too long",
+        ),
+        (Fault::Memory, 4, "robots_verdict: out of memory"),
+    ];
+    for (fault, status, text) in rows {
+        assert_eq!(rt; fault.status(), status, "{text}");
+        assert_eq!(rt; fault.text(), text);
+    }
+}
+
+#[test]
+fn reads_byte_by_byte(rt: HostRuntime) -> Result<(), Fail> {
+    let mut source = Source::new(INPUT, 1);
+    let mut sink = Sink::new(rt.alloc(), WHOLE);
+    assert_eq!(rt; run(rt.alloc(), &mut source, &mut sink), Ok(()));
+    assert_eq!(rt; sink.held.as_slice(), OUTPUT);
+    for call in 0..source.calls {
+        let mut failing = Source::new(INPUT, 1);
+        failing.good_calls = Some(call);
+        let mut empty = Sink::new(rt.alloc(), WHOLE);
+        assert_eq!(rt;
+            run(rt.alloc(), &mut failing, &mut empty),
+            Err(Fault::Read),
+            "call {call}"
+        );
+        assert!(rt; empty.held.is_empty(), "call {call}");
+    }
+    Ok(())
+}
+
+/// So many LF.
+fn feeds(alloc: Global, count: usize) -> Result<Vec<u8>, AllocError> {
+    vec![in alloc; b'\n'; count]
+}
+
+#[test]
+fn most_reads(rt: HostRuntime) -> Result<(), Fail> {
+    let most = feeds(rt.alloc(), 1_048_575)?;
+    let one_more = feeds(rt.alloc(), 1_048_576)?;
+    let rows: [(&str, &[u8], bool, Result<(), Fault>, &[u8], u32); 3] = [
+        (
+            "the last read is the end",
+            most.as_slice(),
+            false,
+            Ok(()),
+            b"delay none\n",
+            1_048_576,
+        ),
+        (
+            "one byte more",
+            one_more.as_slice(),
+            false,
+            Err(Fault::Read),
+            b"",
+            1_048_576,
+        ),
+        (
+            "without an end",
+            b"\n",
+            true,
+            Err(Fault::Read),
+            b"",
+            1_048_576,
+        ),
+    ];
+    for (name, text, endless, result, output, calls) in rows {
+        let mut source = Source::new(text, 1);
+        source.endless = endless;
+        let mut sink = Sink::new(rt.alloc(), WHOLE);
+        assert_eq!(rt; run(rt.alloc(), &mut source, &mut sink), result, "{name}");
+        assert_eq!(rt; sink.held.as_slice(), output, "{name}");
+        assert_eq!(rt; source.calls, calls, "{name}");
+    }
+    Ok(())
+}
+
+#[test]
+fn writes_byte_by_byte(rt: HostRuntime) -> Result<(), Fail> {
+    let mut sink = Sink::new(rt.alloc(), 1);
+    assert_eq!(rt;
+        run(rt.alloc(), &mut Source::new(INPUT, WHOLE), &mut sink),
+        Ok(())
+    );
+    assert_eq!(rt; sink.held.as_slice(), OUTPUT);
+    for call in 0..sink.calls {
+        let mut failing = Sink::new(rt.alloc(), 1);
+        failing.good_calls = Some(call);
+        assert_eq!(rt;
+            run(rt.alloc(), &mut Source::new(INPUT, WHOLE), &mut failing),
+            Err(Fault::Write),
+            "call {call}"
+        );
+        let written = usize::try_from(call)?;
+        assert_eq!(rt;
+            OUTPUT.get(..written),
+            Some(failing.held.as_slice()),
+            "call {call}"
+        );
+    }
+    Ok(())
+}
+
+#[test]
+fn writes_that_fail(rt: HostRuntime) {
+    let mut taking_nothing = Sink::new(rt.alloc(), 0);
+    assert_eq!(rt;
+        run(
+            rt.alloc(),
+            &mut Source::new(INPUT, WHOLE),
+            &mut taking_nothing
+        ),
+        Err(Fault::Write)
+    );
+    assert!(rt; taking_nothing.held.is_empty());
+    assert_eq!(rt; taking_nothing.calls, 1);
+    let mut not_flushing = Sink::new(rt.alloc(), WHOLE);
+    not_flushing.flush_fails = true;
+    assert_eq!(rt;
+        run(
+            rt.alloc(),
+            &mut Source::new(INPUT, WHOLE),
+            &mut not_flushing
+        ),
+        Err(Fault::Write)
+    );
+    assert_eq!(rt; not_flushing.held.as_slice(), OUTPUT);
+}
