@@ -1,186 +1,150 @@
--- Borders of borders, and how far a mismatch lets a search go on.
-use Rattle.std.proofs.Common.{◌≡◌, ◌≢◌, ⊎_elim, ℕ, zero, suc, ◌+◌, ◌-◌, ◌<◌, ◌≤◌, List, [], ◌∷◌, ◌++◌, length, get_or, take, drop, sym, ap, subst, subst₂, ◌∙◌, arith}
-use Rattle.std.proofs.lemmas.List.{drop-append-le, get_or_append_left, get_or_push, length-drop, length_push, take-append-drop, take-append-le}
+-- One search for two tasks: a piece is looked for in a text, and in itself from place 1 on, which gives the borders.
+-- `place` is the next place of the text to look at, and `matched` bytes before it agree with the piece.
+-- That the leftmost place of a piece loses no match is `behind_leftmost` of PlacingLemmas, and how many looks a search
+-- takes is in the invariant of `find`.
+use Rattle.std.proofs.Common.{◌≡◌, ◌≢◌, ◌↔◌, ⊎_elim, ℕ, ◌+◌, ◌-◌, ◌<◌, ◌≤◌, List, [], ◌∷◌, ◌++◌, length, get_or, sym, ap, subst, subst₂, ◌∙◌, arith, append_assoc}
 use Rattle.std.proofs.lemmas.Bool.{cases_eq, cases_lt}
-use Rattle.texting_robots.specs.Computed.Border.{BordersBelow, IsBorder, IsLongestBorder, IsTable, StandsAt, StandsNowhere}
+use Rattle.std.proofs.lemmas.Grind.{get_or_default_zero}
+use Rattle.std.proofs.lemmas.List.{get_or_append_left, get_or_push, get_or-append-add, length_push}
+use Rattle.texting_robots.specs.Computed.Border.{Agrees, AreBorders, IsLongestBorder, StandsAt, StandsNowhere}
 
--- the first len bytes of the piece stand in the text at this place
-abbrev pub FrontAt : List ℕ → List ℕ → ℕ → ℕ → Type 0
-FrontAt text piece at len = (k : ℕ) → k < len → get_or text (at + k) 0 ≡ get_or piece k 0
+-- From low on, the place `matched` bytes back is the first that is still open: there the piece agrees with the text
+-- up to `place`, and at each place before it disagrees with the text before `end`.
+pub record IsFirstOpen (text piece : List ℕ) (low end place matched : ℕ) : Type 0 where
+  pub behind : low + matched ≤ place
+  pub agrees : Agrees text piece (place - matched) place
+  pub closed : (at : ℕ) → low ≤ at → at < place - matched → ¬ Agrees text piece at end
 
-module _ (piece : List ℕ) where
-  same : (i j : ℕ) → i ≡ j → get_or piece i 0 ≡ get_or piece j 0
-  same i j e = ap (λ x. get_or piece x 0) e
+module _ (text piece : List ℕ) where
+  byte_at : {i j : ℕ} → i ≡ j → get_or text i 0 ≡ get_or text j 0
+  byte_at = ap (λ place. get_or text place 0)
 
-  empty_border : (len : ℕ) → 0 < len → IsBorder piece len 0
-  empty_border len some = record { proper = some; repeats = λ k l. absurd (omega arith) }
-
-  border-trans : {len b c : ℕ} → IsBorder piece len b → IsBorder piece b c → IsBorder piece len c
-  border-trans {len} {b} {c} outer inner =
-      let p = outer.proper in
-      let q = inner.proper in
-      record {
-        proper = omega arith;
-        repeats = λ k l. inner.repeats k l ∙ outer.repeats (b - c + k) (omega arith) ∙ same _ _ (omega arith);
-      }
-
-  border_between : {len b c : ℕ} → IsBorder piece len b → IsBorder piece len c → c < b → IsBorder piece b c
-  border_between {len} {b} {c} outer inner l =
-      let p = outer.proper in
-      record {
-        proper = l;
-        repeats = λ k m. inner.repeats k m ∙ same (len - c + k) (len - b + (b - c + k)) (omega arith) ∙ sym (outer.repeats (b - c + k) (omega arith));
-      }
-
-  -- b is a border of the first len bytes, and no longer one goes on with the byte at len
-  abbrev pub IsCandidate : ℕ → ℕ → Type 0
-  IsCandidate len b = IsBorder piece len b × ((c : ℕ) → b < c → IsBorder piece len c → get_or piece c 0 ≢ get_or piece len 0)
-
-  pub candidate_first : {len b : ℕ} → IsLongestBorder piece len b → IsCandidate len b
-  candidate_first h = (h.is_border, λ c l other. absurd (h.longest c l other))
-
-  pub candidate_next : (len b : ℕ) {c : ℕ} → IsCandidate len b → get_or piece b 0 ≢ get_or piece len 0 → IsLongestBorder piece b c → IsCandidate len c
-  candidate_next len b {c} old apart h = (
-    border-trans old.0 h.is_border,
-    λ d l other.
-        ⊎_elim (λ below. absurd (h.longest d l (border_between old.0 other below)))
-        (λ from. ⊎_elim (λ e. subst (λ x. get_or piece x 0 ≢ get_or piece len 0) (sym e) apart) (λ ne. old.1 d (omega arith) other) (cases_eq d b))
-        (cases_lt d b),
+  -- Where len bytes of the piece are read, it agrees farther on just as it agrees with itself.
+  agrees_farther : (at far there len end : ℕ) → there ≡ at + far → end ≡ at + len → len ≤ length piece → Agrees text piece at end → Agrees text piece there end ↔ Agrees piece piece far len
+  agrees_farther at far there len end ahead last fits here = (
+    λ agrees k l m. sym (here (far + k) (omega arith) (omega arith)) ∙ byte_at (omega arith) ∙ agrees k l (omega arith),
+    λ agrees k l m. byte_at (omega arith) ∙ here (far + k) (omega arith) (omega arith) ∙ agrees k l (omega arith),
   )
 
-  -- a border of one more byte is a border that goes on with that byte
-  shortened : (len c : ℕ) → IsBorder piece (len + 1) (suc c) → IsBorder piece len c × (get_or piece c 0 ≡ get_or piece len 0)
-  shortened len c h =
-      let p = h.proper in (
-        record { proper = omega arith; repeats = λ k l. h.repeats k (omega arith) ∙ same _ _ (omega arith) },
-        h.repeats c (omega arith) ∙ same _ _ (omega arith),
-      )
-
-  none_longer : (len b : ℕ) → IsCandidate len b → (other : ℕ) → b + 1 < other → ¬ IsBorder piece (len + 1) other
-  none_longer len b h zero l = absurd (omega arith)
-  none_longer len b h (suc c) l = λ other. h.1 c (omega arith) (shortened len c other).0 (shortened len c other).1
-
-  pub longest_more : (len b : ℕ) → IsCandidate len b → get_or piece b 0 ≡ get_or piece len 0 → IsLongestBorder piece (len + 1) (b + 1)
-  longest_more len b h goes =
-      let p = h.0.proper in
-      record {
-        is_border = record {
-          proper = omega arith;
-          repeats = λ k l.
-              ⊎_elim (λ e. same k b e ∙ goes ∙ same _ _ (omega arith)) (λ ne. h.0.repeats k (omega arith) ∙ same _ _ (omega arith)) (cases_eq k b);
-        };
-        longest = none_longer len b h;
-      }
-
-  pub longest_none : (len : ℕ) → IsCandidate len 0 → get_or piece 0 0 ≢ get_or piece len 0 → IsLongestBorder piece (len + 1) 0
-  longest_none len h apart = record {
-    is_border = empty_border (len + 1) (omega arith);
-    longest = λ other l found.
-        ⊎_elim (λ e. apart (shortened len 0 (subst (IsBorder piece (len + 1)) e found)).1) (λ ne. none_longer len 0 h other (omega arith) found) (cases_eq other 1);
-  }
-
-  pub longest_one : IsLongestBorder piece 1 0
-  longest_one = record { is_border = empty_border 1 (omega arith); longest = λ other l found. omega (arith, found.proper) }
-
-  module _ (text : List ℕ) (at len b : ℕ) (front : FrontAt text piece at len) (h : IsLongestBorder piece len b) where
-    read : (i j : ℕ) → i ≡ j → get_or text i 0 ≡ get_or text j 0
-    read i j e = ap (λ x. get_or text x 0) e
-
-    -- the border stands at the next place to try
-    pub front_border : FrontAt text piece (at + (len - b)) b
-    front_border k l =
-        let p = h.is_border.proper in
-        read _ (at + (len - b + k)) (omega arith) ∙ front (len - b + k) (omega arith) ∙ sym (h.is_border.repeats k l)
-
-    -- where the piece stands before that place there would be a longer border
-    pub nowhere_border : len < length piece → get_or text (at + len) 0 ≢ get_or piece len 0 → StandsNowhere text piece at (at + (len - b))
-    nowhere_border within apart k low high stands =
-        ⊎_elim (λ e. apart (read _ (k + len) (omega arith) ∙ stands.reads len within))
-        (λ ne. h.longest (len - (k - at)) (omega arith) (record {
-          proper = omega arith;
-          repeats = λ j l.
-              sym (stands.reads j (omega arith)) ∙ read _ (at + (k - at + j)) (omega arith) ∙ front (k - at + j) (omega arith) ∙ same _ _ (omega arith);
-        }))
-        (cases_eq k at)
-
--- the table's entry for the first len bytes
-pub table_entry : (piece table : List ℕ) (count len : ℕ) → BordersBelow piece table count → 0 < len → len ≤ count → IsLongestBorder piece len (get_or table (len - 1) 0)
-table_entry piece table count len known some within =
-    let there : len - 1 + 1 ≡ len = omega arith in
-    subst (λ x. IsLongestBorder piece x (get_or table (len - 1) 0)) there (known (len - 1) (omega arith))
-
--- Steps of a search: `place` is the next place to look at, and `matched` bytes before it are those of the piece.
-module _ (text piece : List ℕ) (from place matched : ℕ) (behind : from + matched ≤ place) (front : FrontAt text piece (place - matched) matched) (before : StandsNowhere text piece from (place - matched)) where
-  -- the byte is the piece's next one
-  pub front_more : get_or text place 0 ≡ get_or piece matched 0 → FrontAt text piece (place + 1 - (matched + 1)) (matched + 1)
-  front_more e k l =
-      ⊎_elim (λ (last : k ≡ matched). ap (λ x. get_or text x 0) (omega arith) ∙ e ∙ ap (λ x. get_or piece x 0) (sym last))
-      (λ ne. ap (λ x. get_or text x 0) (omega arith) ∙ front k (omega arith)) (cases_eq k matched)
-
-  pub before_more : StandsNowhere text piece from (place + 1 - (matched + 1))
-  before_more = subst (StandsNowhere text piece from) (omega arith) before
-
-  -- it is another, and nothing was matched
-  pub before_next : matched ≡ 0 → 0 < length piece → get_or text place 0 ≢ get_or piece matched 0 → StandsNowhere text piece from (place + 1 - matched)
-  before_next none some apart at low high stands =
-      ⊎_elim (λ (lower : at < place - matched). before at low lower stands)
-      (λ upper. apart (ap (λ x. get_or text x 0) (omega arith) ∙ stands.reads matched (omega arith))) (cases_lt at (place - matched))
-
-  -- it is another, and the search falls back to a border
-  module _ (b : ℕ) (h : IsLongestBorder piece matched b) where
-    shifted : place - matched + (matched - b) ≡ place - b
-    shifted = let p = h.is_border.proper in omega arith
-
-    pub front_back : FrontAt text piece (place - b) b
-    front_back = subst (λ x. FrontAt text piece x b) shifted (front_border piece text (place - matched) matched b front h)
-
-    pub before_back : matched < length piece → get_or text place 0 ≢ get_or piece matched 0 → StandsNowhere text piece from (place - b)
-    before_back within apart at low high stands =
-        let there : place - matched + matched ≡ place = omega arith in
-        ⊎_elim (λ (lower : at < place - matched). before at low lower stands)
-        (λ upper. nowhere_border piece text (place - matched) matched b front h within (subst (λ x. get_or text x 0 ≢ get_or piece matched 0) (sym there) apart) at upper (subst (λ x. at < x) (sym shifted) high) stands)
-        (cases_lt at (place - matched))
-
-  -- the whole piece is matched
-  pub stands_matched : matched ≡ length piece → place ≤ length text → StandsAt text piece (place - matched)
-  stands_matched all within = record { fits = omega arith; reads = λ k l. front k (omega arith) }
-
-  -- the text is at its end
-  pub nowhere_left : matched < length piece → place ≡ length text → StandsNowhere text piece from (length text + 1)
-  nowhere_left some end at low high stands =
-      let fits = stands.fits in
-      ⊎_elim (λ (lower : at < place - matched). before at low lower stands) (λ upper. omega arith) (cases_lt at (place - matched))
-
--- one more entry
-pub borders_more : (piece table : List ℕ) (len b : ℕ) → length table ≡ len → BordersBelow piece table len → IsLongestBorder piece (len + 1) b → BordersBelow piece (table ++ b ∷ []) (len + 1)
-borders_more piece table len b long known h k l =
-    ⊎_elim (λ (last : k ≡ len). subst₂ (IsLongestBorder piece) (ap (λ x. x + 1) (sym last)) (sym (get_or_push table b 0 k (long ∙ sym last))) h)
-    (λ ne. let below : k < length table = omega arith in subst (IsLongestBorder piece (k + 1)) (sym (get_or_append_left table (b ∷ []) 0 k below)) (known k (omega arith)))
-    (cases_eq k len)
-
--- the table so far, behind what stood there before
-pub record Known (piece old now : List ℕ) (len : ℕ) : Type 0 where
-  pub kept : take (length old) now ≡ old
-  pub long : length now ≡ length old + len
-  pub known : BordersBelow piece (drop (length old) now) len
-
-pub known_more : (piece old now : List ℕ) (len b : ℕ) → Known piece old now len → IsLongestBorder piece (len + 1) b → Known piece old (now ++ b ∷ []) (len + 1)
-known_more piece old now len b i h =
-    let long = i.long in
-    let fits : length old ≤ length now = omega arith in
-    let pushed = length_push now b in
-    let left = length-drop (length old) now in
-    record {
-      kept = take-append-le (length old) now (b ∷ []) fits ∙ i.kept;
-      long = omega arith;
-      known = subst (λ x. BordersBelow piece x (len + 1)) (sym (drop-append-le (length old) now (b ∷ []) fits)) (borders_more piece (drop (length old) now) len b (omega arith) i.known h);
+  module _ (low end place matched : ℕ) (first : IsFirstOpen text piece low end place matched) where
+    -- With more of the text a closed place stays closed.
+    pub open_farther : (later : ℕ) → end ≤ later → IsFirstOpen text piece low later place matched
+    open_farther later le = record {
+      behind = first.behind;
+      agrees = first.agrees;
+      closed = λ at from before agrees. first.closed at from before (λ k l m. agrees k l (omega arith));
     }
 
-pub known_all : (piece old now : List ℕ) → Known piece old now (length piece) → (table : List ℕ) × (now ≡ old ++ table) × IsTable piece table
-known_all piece old now i =
-    let long = i.long in
-    let left = length-drop (length old) now in (
-      drop (length old) now,
-      sym (take-append-drop (length old) now) ∙ ap (λ x. x ++ drop (length old) now) i.kept,
-      record { long = omega arith; borders = i.known },
-    )
+    -- The next byte agrees.
+    pub open_more : get_or text place 0 ≡ get_or piece matched 0 → IsFirstOpen text piece low end (place + 1) (matched + 1)
+    open_more next =
+        let behind = first.behind in
+        record {
+          behind = omega arith;
+          agrees = λ k l m.
+              ⊎_elim (λ (e : k ≡ matched). byte_at (omega arith) ∙ next ∙ ap (λ x. get_or piece x 0) (sym e))
+              (λ ne. byte_at (omega arith) ∙ first.agrees k l (omega arith))
+              (cases_eq k matched);
+          closed = λ at from before. first.closed at from (omega arith);
+        }
+
+    -- The next byte differs.
+    module _ (within : place < end) (some : matched < length piece) (differs : get_or text place 0 ≢ get_or piece matched 0) where
+      closed_here : (at : ℕ) → low ≤ at → at ≤ place - matched → ¬ Agrees text piece at end
+      closed_here at from upto agrees =
+          let behind = first.behind in
+          ⊎_elim (λ before. first.closed at from before agrees)
+          (λ here. differs (byte_at (omega arith) ∙ agrees matched some (omega arith)))
+          (cases_lt at (place - matched))
+
+      -- Nothing was matched: the next place is the first open one.
+      pub open_next : matched ≡ 0 → IsFirstOpen text piece low end (place + 1) matched
+      open_next none =
+          let behind = first.behind in
+          record {
+            behind = omega arith;
+            agrees = λ k l m. absurd (omega arith);
+            closed = λ at from before. closed_here at from (omega arith);
+          }
+
+      -- A fallback to the longest border skips no place where the piece stands.
+      pub open_back : (border : ℕ) → IsLongestBorder piece matched border → IsFirstOpen text piece low end place border
+      open_back border longest =
+          let behind = first.behind in
+          let proper = longest.proper in
+          let farther = λ (at longer : ℕ) (e : at ≡ place - matched + (matched - longer)). agrees_farther (place - matched) (matched - longer) at matched place e (omega arith) (omega arith) first.agrees in
+          record {
+            behind = omega arith;
+            agrees = (farther (place - border) border (omega arith)).1 longest.agrees;
+            closed = λ at from before agrees.
+                ⊎_elim (λ (skipped : place - matched < at). longest.longest (place - at) (omega arith) (omega arith)
+                ((farther at (place - at) (omega arith)).0 (λ k l m. agrees k l (omega arith))))
+                (λ upto. closed_here at from (omega arith) agrees)
+                (cases_lt (place - matched) at);
+          }
+
+  module _ (low place matched : ℕ) (first : IsFirstOpen text piece low (length text) place matched) where
+    -- All bytes agree, so the piece stands here.
+    pub open_stands : matched ≡ length piece → place ≤ length text → StandsAt text piece (place - matched)
+    open_stands all within =
+        let behind = first.behind in
+        record { fits = omega arith; agrees = λ k l m. first.agrees k l (omega arith) }
+
+    -- It stands nowhere before.
+    pub open_nowhere : StandsNowhere text piece low (place - matched)
+    open_nowhere at from before stands = first.closed at from before stands.agrees
+
+    -- The text is at its end, so it stands nowhere.
+    pub open_none : matched < length piece → place ≡ length text → StandsNowhere text piece low (length text + 1)
+    open_none some last at from upto stands =
+        let fits = stands.fits in
+        let behind = first.behind in
+        ⊎_elim (λ before. open_nowhere at from before stands) (λ here. omega arith) (cases_lt at (place - matched))
+
+module _ (piece : List ℕ) where
+  -- Where the piece is looked for in itself, the bytes matched are the longest proper border of the bytes read.
+  pub longest_border : (len border : ℕ) → IsFirstOpen piece piece 1 len len border → IsLongestBorder piece len border
+  longest_border len border first =
+      let behind = first.behind in
+      record {
+        proper = omega arith;
+        agrees = first.agrees;
+        longest = λ longer more less. first.closed (len - longer) (omega arith) (omega arith);
+      }
+
+  borders_push : (table : List ℕ) (border : ℕ) → AreBorders piece table → IsLongestBorder piece (length table + 1) border → AreBorders piece (table ++ border ∷ [])
+  borders_push table border known longest len some upto =
+      let pushed = length_push table border in
+      ⊎_elim
+      (λ (last : len ≡ length table + 1). subst₂ (IsLongestBorder piece) (sym last) (sym (get_or_push table border 0 (len - 1) (omega arith))) longest)
+      (λ ne. subst (IsLongestBorder piece len) (sym (get_or_append_left table (border ∷ []) 0 (len - 1) (omega arith))) (known len some (omega arith)))
+      (cases_eq len (length table + 1))
+
+-- The longest borders of the piece's beginnings of up to len bytes were added.
+pub record AddsBorders (piece old now : List ℕ) (len : ℕ) : Type 0 where
+  pub table : List ℕ
+  pub added : now ≡ old ++ table
+  pub long : length table ≡ len
+  pub borders : AreBorders piece table
+
+module _ (piece old now : List ℕ) (len : ℕ) (adds : AddsBorders piece old now len) where
+  pub adds_more : (border : ℕ) → IsLongestBorder piece (len + 1) border → AddsBorders piece old (now ++ border ∷ []) (len + 1)
+  adds_more border longest =
+      let pushed = length_push adds.table border in
+      let long = adds.long in
+      record {
+        table = adds.table ++ border ∷ [];
+        added = ap (λ items. items ++ border ∷ []) adds.added ∙ append_assoc old adds.table (border ∷ []);
+        long = omega arith;
+        borders = borders_push piece adds.table border adds.borders (subst (λ n. IsLongestBorder piece (n + 1) border) (sym long) longest);
+      }
+
+  -- Each entry of the table is the longest proper border of a beginning of its piece.
+  pub adds_entry : (count at entry : ℕ) → 0 < count → count ≤ len → at ≡ length old + count - 1 → entry ≡ get_or now at entry → IsLongestBorder piece count entry
+  adds_entry count at entry some upto place is =
+      let long = adds.long in
+      let there : at ≡ length old + (count - 1) = omega arith in
+      let same : entry ≡ get_or adds.table (count - 1) 0 =
+      is ∙ ap (λ items. get_or items at entry) adds.added ∙ ap (λ k. get_or (old ++ adds.table) k entry) there ∙ get_or-append-add old adds.table (count - 1) entry
+      ∙ get_or_default_zero adds.table (count - 1) entry (omega arith) in
+      subst (IsLongestBorder piece count) (sym same) (adds.borders count some (omega arith))

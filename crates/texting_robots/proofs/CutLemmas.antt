@@ -3,7 +3,7 @@ use Rattle.std.proofs.Common.{◌≡◌, ◌≢◌, ◌⊎◌, ℕ, true, false,
 use Rattle.std.specs.List.{AllByRecursion as Each}
 use Rattle.std.proofs.lemmas.Bool.{cases_Bool}
 use Rattle.std.proofs.lemmas.Bool.Decides.{nat_tests}
-use Rattle.texting_robots.specs.Cut.{Pair, cr, lf, IsBodyByte, IsEnding, BeginWithBody, spelled, IsCut}
+use Rattle.texting_robots.specs.Cut.{Pair, cr, lf, IsBodyByte, IsEnding, BeginWithBody, joined, IsCut}
 use Rattle.texting_robots.specs.Laws.{EachTextHasOneCut}
 use Rattle.texting_robots.specs.Computed.Cut.{cut, before_body, before_end}
 
@@ -80,7 +80,7 @@ is_cut (byte ∷ text) =
     ]
 
 -- the rest of a cut is a cut of the rest
-rest_is_cut : (pair : Pair) (later : List Pair) (text : List ℕ) → IsCut (pair ∷ later) text → IsCut later (spelled later)
+rest_is_cut : (pair : Pair) (later : List Pair) (text : List ℕ) → IsCut (pair ∷ later) text → IsCut later (joined later)
 rest_is_cut pair later text is = record {
   whole = refl;
   bodies = is.bodies.1;
@@ -153,15 +153,15 @@ last_body b [] all = cut_byte b [] all.0 ∙ ap (before_body b) cut_nil
 last_body b (b' ∷ body) all = cut_byte b (b' ∷ body) all.0 ∙ ap (before_body b) (last_body b' body all.1)
 
 -- a cut is what the walk gives
-only_spelled : (pairs : List Pair) → IsCut pairs (spelled pairs) → cut (spelled pairs) ≡ pairs
+only_spelled : (pairs : List Pair) → IsCut pairs (joined pairs) → cut (joined pairs) ≡ pairs
 only_spelled [] is = cut_nil
 only_spelled (pair ∷ later) is =
-    let rest : cut (spelled later) ≡ later = only_spelled later (rest_is_cut pair later (spelled (pair ∷ later)) is) in
+    let rest : cut (joined later) ≡ later = only_spelled later (rest_is_cut pair later (joined (pair ∷ later)) is) in
     elim (is_nil pair.ending) [
       | inl none ↦ let last = is.empty_endings.0 none in at_last pair.body pair.ending later none last.0 last.1 is.bodies.0
-      | inr some ↦ rw (append_assoc pair.body pair.ending (spelled later)) (
-          body_before pair.body (pair.ending ++ spelled later) pair.ending later is.bodies.0 (
-          some_end pair.ending (spelled later) is.endings.0 some (λ none_fed. rw rest (is.open_endings.0 none_fed)) ∙ ap (λ ps. record { body = []; ending = pair.ending } ∷ ps) rest))
+      | inr some ↦ rw (append_assoc pair.body pair.ending (joined later)) (
+          body_before pair.body (pair.ending ++ joined later) pair.ending later is.bodies.0 (
+          some_end pair.ending (joined later) is.endings.0 some (λ none_fed. rw rest (is.open_endings.0 none_fed)) ∙ ap (λ ps. record { body = []; ending = pair.ending } ∷ ps) rest))
     ]
   where
     is_nil : (xs : List ℕ) → (xs ≡ []) ⊎ (xs ≢ [])
@@ -169,7 +169,7 @@ only_spelled (pair ∷ later) is =
     is_nil (x ∷ xs) = inr (λ e. cc)
 
     at_last : (body ending : List ℕ) (later : List Pair) → ending ≡ [] → later ≡ [] → body ≢ [] → Each IsBodyByte body
-        → let first : Pair = record { body = body; ending = ending } in cut (spelled (first ∷ later)) ≡ first ∷ later
+        → let first : Pair = record { body = body; ending = ending } in cut (joined (first ∷ later)) ≡ first ∷ later
     at_last [] ending later e l some all = absurd (some refl)
     at_last (b ∷ body) ending later e l some all = rw (e, l, append-nil body, append-nil body) (last_body b body all)
 

@@ -5,7 +5,7 @@ use Rattle.std.proofs.lemmas.Bool.{cases_eq, cases_lt, ne_eqb}
 use Rattle.std.proofs.lemmas.List.{drop_at, take_at}
 use Rattle.std.proofs.lemmas.List.Elements.{All-append, All-drop, All-head, All-tail, All-take}
 use Rattle.std.proofs.lemmas.Str.Ascii.{lowercase_is}
-use Rattle.texting_robots.specs.Delay.{Decimal, HasExponent, IsDigit, IsExponent, IsInfinite, IsSign, Names, NamesUnsigned, Rounds, Spells, most}
+use Rattle.texting_robots.specs.Delay.{Decimal, HasExponent, IsDigit, IsExponent, IsInfinite, IsSign, NamesDelay, NamesUnsignedDelay, Rounds, Spells, greatest_delay}
 use Rattle.texting_robots.specs.Computed.DelayParts.{AreDigits, AreFraction, behind_sign, has_minus}
 
 -- the byte in front, or 0
@@ -235,18 +235,18 @@ number_same text n k h i =
     decimal_same k.whole n.whole k.fraction n.fraction n.minus k.minus n.exponent k.exponent parts.0 parts.1 exponent.0 exponent.1
 
 -- the text behind the sign
-pub unsigned_first : (text : List ℕ) (minus : Bool) (delay : ℕ) → NamesUnsigned text minus delay → 46 ≤ first text
+pub unsigned_first : (text : List ℕ) (minus : Bool) (delay : ℕ) → NamesUnsignedDelay text minus delay → 46 ≤ first text
 unsigned_first text minus delay is =
-    ⊎_elim (λ (p : IsInfinite text × (minus ≡ false) × (delay ≡ most)). let high = infinite_high text p.0 in omega arith)
+    ⊎_elim (λ (p : IsInfinite text × (minus ≡ false) × (delay ≡ greatest_delay)). let high = infinite_high text p.0 in omega arith)
     (λ p. (number_first text p.0 p.1).0) is
 
-pub named : (text : List ℕ) (minus : Bool) (unsigned : List ℕ) → minus ≡ has_minus text → unsigned ≡ behind_sign text → (delay : ℕ) → Names text delay → NamesUnsigned unsigned minus delay
+pub named : (text : List ℕ) (minus : Bool) (unsigned : List ℕ) → minus ≡ has_minus text → unsigned ≡ behind_sign text → (delay : ℕ) → NamesDelay text delay → NamesUnsignedDelay unsigned minus delay
 named text minus unsigned m u delay h =
     let low = unsigned_first h.unsigned h.minus delay h.is_delay in
     let sign = sign_same h.sign h.minus text h.unsigned h.is_sign h.is_text (λ e. omega arith) (λ e. omega arith) in
-    subst (λ x. NamesUnsigned x minus delay) (sign.1 ∙ sym u) (subst (λ x. NamesUnsigned h.unsigned x delay) (sign.0 ∙ sym m) h.is_delay)
+    subst (λ x. NamesUnsignedDelay x minus delay) (sign.1 ∙ sym u) (subst (λ x. NamesUnsignedDelay h.unsigned x delay) (sign.0 ∙ sym m) h.is_delay)
 
-pub names : (text : List ℕ) (minus : Bool) (unsigned : List ℕ) → minus ≡ has_minus text → unsigned ≡ behind_sign text → (delay : ℕ) → NamesUnsigned unsigned minus delay → Names text delay
+pub names : (text : List ℕ) (minus : Bool) (unsigned : List ℕ) → minus ≡ has_minus text → unsigned ≡ behind_sign text → (delay : ℕ) → NamesUnsignedDelay unsigned minus delay → NamesDelay text delay
 names text minus unsigned m u delay h =
     let s = sign_there text in
     record {
@@ -265,16 +265,16 @@ rounds_same n d e a b =
     omega arith
 
 -- a text names at most one delay
-pub names_same : (text : List ℕ) (d e : ℕ) → Names text d → Names text e → d ≡ e
+pub names_same : (text : List ℕ) (d e : ℕ) → NamesDelay text d → NamesDelay text e → d ≡ e
 names_same text d e a b =
     let x = named text (has_minus text) (behind_sign text) refl refl d a in
     let y = named text (has_minus text) (behind_sign text) refl refl e b in
     let u = behind_sign text in
-    ⊎_elim (λ (p : IsInfinite u × (has_minus text ≡ false) × (d ≡ most)).
-    ⊎_elim (λ (q : IsInfinite u × (has_minus text ≡ false) × (e ≡ most)). p.2 ∙ sym q.2)
+    ⊎_elim (λ (p : IsInfinite u × (has_minus text ≡ false) × (d ≡ greatest_delay)).
+    ⊎_elim (λ (q : IsInfinite u × (has_minus text ≡ false) × (e ≡ greatest_delay)). p.2 ∙ sym q.2)
     (λ q. absurd (infinite_no_number u q.0 p.0 q.1)) y)
     (λ p.
-    ⊎_elim (λ (q : IsInfinite u × (has_minus text ≡ false) × (e ≡ most)). absurd (infinite_no_number u p.0 q.0 p.1))
+    ⊎_elim (λ (q : IsInfinite u × (has_minus text ≡ false) × (e ≡ greatest_delay)). absurd (infinite_no_number u p.0 q.0 p.1))
     (λ q. rounds_same q.0 d e (subst (λ n. Rounds n d) (number_same u p.0 q.0 p.1 q.1) p.3) q.3) y) x
 
 pub some_length : (ds : List ℕ) → ds ≢ [] → 0 < length ds

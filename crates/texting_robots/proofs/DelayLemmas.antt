@@ -6,7 +6,7 @@ use Rattle.std.proofs.Math.Nat.{le-div_iff_mul-le, le-min, min-le_left, min-le_r
 use Rattle.std.proofs.lemmas.Bool.{cases_eq, cases_lt, eq-eqb, false≢true, ne_eqb}
 use Rattle.std.proofs.lemmas.Bool.Decides.{nat_tests}
 use Rattle.std.proofs.lemmas.List.Elements.{All-cons, All-head, All-nil, All-tail}
-use Rattle.texting_robots.specs.Delay.{Decimal, AtMost, IsDelay, IsDigit, IsExponent, IsInfinite, Names, NamesUnsigned, Rounds, Spells, down, most, spelled, up}
+use Rattle.texting_robots.specs.Delay.{Decimal, AtMost, IsDelay, IsDigit, IsExponent, IsInfinite, NamesDelay, NamesUnsignedDelay, Rounds, Spells, negative_exponent, greatest_delay, spelled, positive_exponent}
 use Rattle.texting_robots.specs.Computed.Delay.{are_same, are_zeros, behind_digits, behind_fraction, delay_of, digits_in_front, exponent_made, exponent_of, finite_delay, fraction_in_front, infinite_delay, is_digit, is_infinite, number_made, number_of, rounded}
 use Rattle.texting_robots.specs.Computed.DelayParts.{AreDigits, AreFraction, behind_sign, has_minus}
 use Rattle.texting_robots.specs.Laws.{EachTextHasOneDelay}
@@ -110,14 +110,14 @@ number_found text =
 rounded_rounds : (n : Decimal) → Rounds n (rounded n)
 rounded_rounds n =
     let f = 10 ^ length n.fraction in
-    let g = 10 ^ down n in
-    let top = spelled (n.whole ++ n.fraction) * 10 ^ 6 * 10 ^ up n in
-    let some : 0 < f * g = mul-pos (pow_some (length n.fraction)) (pow_some (down n)) in
+    let g = 10 ^ negative_exponent n in
+    let top = spelled (n.whole ++ n.fraction) * 10 ^ 6 * 10 ^ positive_exponent n in
+    let some : 0 < f * g = mul-pos (pow_some (length n.fraction)) (pow_some (negative_exponent n)) in
     let at : (d : ℕ) → d ≤ top / (f * g) → AtMost d n = λ d l. subst (λ x. x ≤ top) (sym (mul_assoc d f g)) ((le-div_iff_mul-le some).0 l) in
     let back : (d : ℕ) → AtMost d n → d ≤ top / (f * g) = λ d a. (le-div_iff_mul-le some).1 (subst (λ x. x ≤ top) (mul_assoc d f g) a) in
     record {
-      bound = min-le_right (top / (f * g)) most;
-      at_most = at (rounded n) (min-le_left (top / (f * g)) most);
+      bound = min-le_right (top / (f * g)) greatest_delay;
+      at_most = at (rounded n) (min-le_left (top / (f * g)) greatest_delay);
       greatest = λ d bound a. le-min (back d a) bound;
     }
 
@@ -125,22 +125,22 @@ module _ (text : List ℕ) where
   abbrev unsigned : List ℕ
   unsigned = behind_sign text
 
-  named_here : (delay : ℕ) → NamesUnsigned unsigned (has_minus text) delay → Names text delay
+  named_here : (delay : ℕ) → NamesUnsignedDelay unsigned (has_minus text) delay → NamesDelay text delay
   named_here delay h = names text (has_minus text) unsigned refl refl delay h
 
   by_parts : (t m : Bool) (o : Option Decimal) → Tells t (IsInfinite unsigned) → has_minus text ≡ m → NumberFound unsigned o → IsDelay text (cond t (infinite_delay m) (finite_delay m o))
   by_parts true true o is e found =
-      λ delay h. ⊎_elim (λ (p : IsInfinite unsigned × (has_minus text ≡ false) × (delay ≡ most)). false≢true (sym p.1 ∙ e)) (λ p. infinite_no_number unsigned p.0 is p.1) (named text (has_minus text) unsigned refl refl delay h)
-  by_parts true false o is e found = named_here most (inl (is, e, refl))
+      λ delay h. ⊎_elim (λ (p : IsInfinite unsigned × (has_minus text ≡ false) × (delay ≡ greatest_delay)). false≢true (sym p.1 ∙ e)) (λ p. infinite_no_number unsigned p.0 is p.1) (named text (has_minus text) unsigned refl refl delay h)
+  by_parts true false o is e found = named_here greatest_delay (inl (is, e, refl))
   by_parts false m None is e found =
-      λ delay h. ⊎_elim (λ (p : IsInfinite unsigned × (has_minus text ≡ false) × (delay ≡ most)). is p.0) (λ p. found p.0 p.1) (named text (has_minus text) unsigned refl refl delay h)
+      λ delay h. ⊎_elim (λ (p : IsInfinite unsigned × (has_minus text ≡ false) × (delay ≡ greatest_delay)). is p.0) (λ p. found p.0 p.1) (named text (has_minus text) unsigned refl refl delay h)
   by_parts false false (Some n) is e found = named_here (rounded n) (inr (n, found, (λ t. absurd (false≢true (sym e ∙ t))), rounded_rounds n))
   by_parts false true (Some n) is e found = by_zeros (are_zeros (n.whole ++ n.fraction)) (tells_zeros (n.whole ++ n.fraction))
     where
       by_zeros : (z : Bool) → Tells z (All (λ d. d ≡ 48) (n.whole ++ n.fraction)) → IsDelay text (cond z (Some (rounded n)) None)
       by_zeros true zeros = named_here (rounded n) (inr (n, found, (λ t. zeros), rounded_rounds n))
       by_zeros false zeros = λ delay h.
-          ⊎_elim (λ (p : IsInfinite unsigned × (has_minus text ≡ false) × (delay ≡ most)). is p.0)
+          ⊎_elim (λ (p : IsInfinite unsigned × (has_minus text ≡ false) × (delay ≡ greatest_delay)). is p.0)
           (λ p. zeros (subst (λ (k : Decimal). All (λ d. d ≡ 48) (k.whole ++ k.fraction)) (number_same unsigned p.0 n p.1 found) (p.2 e))) (named text (has_minus text) unsigned refl refl delay h)
 
   pub delay_of_is : IsDelay text (delay_of text)

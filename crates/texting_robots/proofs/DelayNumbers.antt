@@ -6,7 +6,7 @@ use Rattle.std.proofs.lemmas.Nat.{pow-add}
 use Rattle.std.proofs.lemmas.Bool.{cases_lt, cases_eq}
 use Rattle.std.proofs.lemmas.List.{length-append, length-drop, take-append-drop, take-append-le, take_all, take_more}
 use Rattle.std.proofs.lemmas.List.Elements.{All-head, All-tail, All-drop, All-append}
-use Rattle.texting_robots.specs.Delay.{Decimal, IsDigit, Rounds, down, most, spelled, up}
+use Rattle.texting_robots.specs.Delay.{Decimal, IsDigit, Rounds, negative_exponent, greatest_delay, spelled, positive_exponent}
 
 -- the greatest numbers
 module _ (m : ℕ) where
@@ -226,77 +226,77 @@ module _ (n : Decimal) where
   abbrev f : ℕ
   f = length n.fraction
 
-  rounds : (v : ℕ) → Between (spelled (n.whole ++ n.fraction)) v (f + down n) (6 + up n) → Rounds n (min v most)
+  rounds : (v : ℕ) → Between (spelled (n.whole ++ n.fraction)) v (f + negative_exponent n) (6 + positive_exponent n) → Rounds n (min v greatest_delay)
   rounds v h =
       let m = spelled (n.whole ++ n.fraction) in
-      let left : (d : ℕ) → d * 10 ^ f * 10 ^ down n ≡ d * 10 ^ (f + down n) = λ d. powers d f (down n) in
-      let right : m * 10 ^ 6 * 10 ^ up n ≡ m * 10 ^ (6 + up n) = powers m 6 (up n) in
-      let below : min v most * 10 ^ (f + down n) ≤ v * 10 ^ (f + down n) = mul-le-mul_right (10 ^ (f + down n)) (min-le_left v most) in
+      let left : (d : ℕ) → d * 10 ^ f * 10 ^ negative_exponent n ≡ d * 10 ^ (f + negative_exponent n) = λ d. powers d f (negative_exponent n) in
+      let right : m * 10 ^ 6 * 10 ^ positive_exponent n ≡ m * 10 ^ (6 + positive_exponent n) = powers m 6 (positive_exponent n) in
+      let below : min v greatest_delay * 10 ^ (f + negative_exponent n) ≤ v * 10 ^ (f + negative_exponent n) = mul-le-mul_right (10 ^ (f + negative_exponent n)) (min-le_left v greatest_delay) in
       let low = h.low in
       let high = h.high in
-      let within : min v most * 10 ^ (f + down n) ≤ m * 10 ^ (6 + up n) = omega arith in
+      let within : min v greatest_delay * 10 ^ (f + negative_exponent n) ≤ m * 10 ^ (6 + positive_exponent n) = omega arith in
       record {
-        bound = min-le_right v most;
-        at_most = subst (λ x. x ≤ m * 10 ^ 6 * 10 ^ up n) (sym (left (min v most))) (subst (λ x. min v most * 10 ^ (f + down n) ≤ x) (sym right) within);
+        bound = min-le_right v greatest_delay;
+        at_most = subst (λ x. x ≤ m * 10 ^ 6 * 10 ^ positive_exponent n) (sym (left (min v greatest_delay))) (subst (λ x. min v greatest_delay * 10 ^ (f + negative_exponent n) ≤ x) (sym right) within);
         greatest = λ d bound at_most.
-            let there : d * 10 ^ (f + down n) ≤ m * 10 ^ (6 + up n) = subst (λ x. x ≤ m * 10 ^ (6 + up n)) (left d) (subst (λ x. d * 10 ^ f * 10 ^ down n ≤ x) right at_most) in
-            let less : d * 10 ^ (f + down n) < (v + 1) * 10 ^ (f + down n) = omega arith in
-            let lt : d < v + 1 = lt_of_mul-lt-mul_right (10 ^ (f + down n)) less in
+            let there : d * 10 ^ (f + negative_exponent n) ≤ m * 10 ^ (6 + positive_exponent n) = subst (λ x. x ≤ m * 10 ^ (6 + positive_exponent n)) (left d) (subst (λ x. d * 10 ^ f * 10 ^ negative_exponent n ≤ x) right at_most) in
+            let less : d * 10 ^ (f + negative_exponent n) < (v + 1) * 10 ^ (f + negative_exponent n) = omega arith in
+            let lt : d < v + 1 = lt_of_mul-lt-mul_right (10 ^ (f + negative_exponent n)) less in
             le-min (omega arith) bound;
       }
 
   -- how many digits, from the first, make the whole microseconds
   abbrev pub places : ℕ
-  places = length n.whole + 6 + up n - down n
+  places = length n.whole + 6 + positive_exponent n - negative_exponent n
 
-  between : All IsDigit (n.whole ++ n.fraction) → Between (spelled (n.whole ++ n.fraction)) (shifted n.whole n.fraction places) (f + down n) (6 + up n)
+  between : All IsDigit (n.whole ++ n.fraction) → Between (spelled (n.whole ++ n.fraction)) (shifted n.whole n.fraction places) (f + negative_exponent n) (6 + positive_exponent n)
   between digits =
       let m = spelled (n.whole ++ n.fraction) in
       let size = length n.whole + f in
       let v = shifted n.whole n.fraction places in
       let h = shift n.whole n.fraction places digits in
-      ⊎_elim (λ (l : length n.whole + 6 + up n < down n).
+      ⊎_elim (λ (l : length n.whole + 6 + positive_exponent n < negative_exponent n).
       let zero_places : places ≡ 0 = omega arith in
       let none : v ≡ 0 = ap (shifted n.whole n.fraction) zero_places ∙ shifted_short n.whole n.fraction 0 (omega arith) ∙ spelled_nil in
       let back : size - places ≡ size = omega arith in
       let front : places - size ≡ 0 = omega arith in
       let here : Between m 0 size 0 = subst (λ x. Between m 0 x 0) back (subst (λ y. Between m 0 (size - places) y) front (subst (λ w. Between m w (size - places) (places - size)) none h)) in
-      let next : Between m 0 (6 + up n + size) (6 + up n) = rescale m 0 size 0 (6 + up n + size) (6 + up n) (omega arith) here in
+      let next : Between m 0 (6 + positive_exponent n + size) (6 + positive_exponent n) = rescale m 0 size 0 (6 + positive_exponent n + size) (6 + positive_exponent n) (omega arith) here in
       let ten : 0 < 10 = omega arith in
-      let far : 6 + up n + size ≤ f + down n = omega arith in
-      let wide : 10 ^ (6 + up n + size) ≤ 10 ^ (f + down n) = pow-le-pow_right ten far in
+      let far : 6 + positive_exponent n + size ≤ f + negative_exponent n = omega arith in
+      let wide : 10 ^ (6 + positive_exponent n + size) ≤ 10 ^ (f + negative_exponent n) = pow-le-pow_right ten far in
       let high = next.high in
-      let result : Between m 0 (f + down n) (6 + up n) = record { low = omega arith; high = omega arith } in
-      subst (λ w. Between m w (f + down n) (6 + up n)) (sym none) result)
-      (λ l. rescale m v (size - places) (places - size) (f + down n) (6 + up n) (omega arith) h)
-      (cases_lt (length n.whole + 6 + up n) (down n))
+      let result : Between m 0 (f + negative_exponent n) (6 + positive_exponent n) = record { low = omega arith; high = omega arith } in
+      subst (λ w. Between m w (f + negative_exponent n) (6 + positive_exponent n)) (sym none) result)
+      (λ l. rescale m v (size - places) (places - size) (f + negative_exponent n) (6 + positive_exponent n) (omega arith) h)
+      (cases_lt (length n.whole + 6 + positive_exponent n) (negative_exponent n))
 
 -- the microseconds that the code computes are those of the number
-pub micros_rounded : (n : Decimal) (digits : ℕ) → All IsDigit n.whole → All IsDigit n.fraction → length n.whole + length n.fraction < 2 ^ 63 → digits ≡ min (places n) most
-    → Rounds n (min (spelled (cut n.whole n.fraction digits) * 10 ^ min (zeros n.whole n.fraction digits) 20) most)
+pub micros_rounded : (n : Decimal) (digits : ℕ) → All IsDigit n.whole → All IsDigit n.fraction → length n.whole + length n.fraction < 2 ^ 63 → digits ≡ min (places n) greatest_delay
+    → Rounds n (min (spelled (cut n.whole n.fraction digits) * 10 ^ min (zeros n.whole n.fraction digits) 20) greatest_delay)
 micros_rounded n digits whole fraction short e =
     let h = rounds n (shifted n.whole n.fraction (places n)) (between n (All-append IsDigit n.whole n.fraction whole fraction)) in
-    let big : most ≤ 10 ^ 20 = omega arith in
-    let room : length n.whole + length n.fraction + 20 ≤ most = omega arith in
-    let all = min_zeros most (spelled (cut n.whole n.fraction digits)) (zeros n.whole n.fraction digits) big ∙ ap (λ x. min (shifted n.whole n.fraction x) most) e ∙ capped n.whole n.fraction (places n) most room big in
+    let big : greatest_delay ≤ 10 ^ 20 = omega arith in
+    let room : length n.whole + length n.fraction + 20 ≤ greatest_delay = omega arith in
+    let all = min_zeros greatest_delay (spelled (cut n.whole n.fraction digits)) (zeros n.whole n.fraction digits) big ∙ ap (λ x. min (shifted n.whole n.fraction x) greatest_delay) e ∙ capped n.whole n.fraction (places n) greatest_delay room big in
     subst (Rounds n) (sym all) h
 
 -- the digits that are read, one list after the other, and the zeros behind them
 pub micros_value : (whole fraction : List ℕ) (digits w f z a b s r : ℕ) → w ≡ min (length whole) digits → f ≡ min (length fraction) (digits - w) → z ≡ min (digits - w - f) 20
-    → a ≡ min (0 * 10 ^ length (take w whole) + spelled (take w whole)) most → b ≡ min (a * 10 ^ length (take f fraction) + spelled (take f fraction)) most → s ≡ min (10 ^ z) most → r ≡ min (b * s) most
-    → r ≡ min (spelled (cut whole fraction digits) * 10 ^ min (zeros whole fraction digits) 20) most
+    → a ≡ min (0 * 10 ^ length (take w whole) + spelled (take w whole)) greatest_delay → b ≡ min (a * 10 ^ length (take f fraction) + spelled (take f fraction)) greatest_delay → s ≡ min (10 ^ z) greatest_delay → r ≡ min (b * s) greatest_delay
+    → r ≡ min (spelled (cut whole fraction digits) * 10 ^ min (zeros whole fraction digits) 20) greatest_delay
 micros_value whole fraction digits w f z a b s r at_w at_f at_z at_a at_b at_s at_r =
     let front = take w whole in
     let back = take f fraction in
     let v = spelled (front ++ back) in
-    let first : a ≡ min (spelled front) most = at_a ∙ ap (λ x. min x most) (plain (10 ^ length front) (spelled front)) in
-    let both : b ≡ min v most = at_b ∙ ap (λ x. min (x * 10 ^ length back + spelled back) most) first ∙ min_append most (spelled front) (10 ^ length back) (spelled back) (pow_some (length back)) ∙ ap (λ x. min x most) (sym (spelled-append front back)) in
-    let some : 0 < most = omega arith in
-    let all : r ≡ min (v * 10 ^ z) most = at_r ∙ ap (λ x. min (x * s) most) both ∙ ap (λ x. min (min v most * x) most) at_s ∙ min_product most v (10 ^ z) some (pow_some z) in
+    let first : a ≡ min (spelled front) greatest_delay = at_a ∙ ap (λ x. min x greatest_delay) (plain (10 ^ length front) (spelled front)) in
+    let both : b ≡ min v greatest_delay = at_b ∙ ap (λ x. min (x * 10 ^ length back + spelled back) greatest_delay) first ∙ min_append greatest_delay (spelled front) (10 ^ length back) (spelled back) (pow_some (length back)) ∙ ap (λ x. min x greatest_delay) (sym (spelled-append front back)) in
+    let some : 0 < greatest_delay = omega arith in
+    let all : r ≡ min (v * 10 ^ z) greatest_delay = at_r ∙ ap (λ x. min (x * s) greatest_delay) both ∙ ap (λ x. min (min v greatest_delay * x) greatest_delay) at_s ∙ min_product greatest_delay v (10 ^ z) some (pow_some z) in
     let next : f ≡ min (length fraction) (digits - min (length whole) digits) = at_f ∙ ap (λ x. min (length fraction) (digits - x)) at_w in
     let left : z ≡ min (zeros whole fraction digits) 20 = at_z ∙ ap (λ x. min (digits - x - f) 20) at_w ∙ ap (λ x. min (digits - min (length whole) digits - x) 20) next in
     let lists : front ++ back ≡ cut whole fraction digits = ap (λ x. take x whole ++ back) at_w ∙ ap (λ x. take (min (length whole) digits) whole ++ take x fraction) next in
-    all ∙ ap (λ x. min (spelled x * 10 ^ z) most) lists ∙ ap (λ x. min (spelled (cut whole fraction digits) * 10 ^ x) most) left
+    all ∙ ap (λ x. min (spelled x * 10 ^ z) greatest_delay) lists ∙ ap (λ x. min (spelled (cut whole fraction digits) * 10 ^ x) greatest_delay) left
   where
     plain : (x y : ℕ) → 0 * x + y ≡ y
     plain x y = omega arith

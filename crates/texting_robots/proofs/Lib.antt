@@ -25,4 +25,3 @@ pub mod CollapseLemmas
 pub mod OrderLemmas
 pub mod LongestLemmas
 pub mod VerdictLemmas
-pub mod Made

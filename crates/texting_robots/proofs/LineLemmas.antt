@@ -8,9 +8,10 @@ use Rattle.texting_robots.specs.Cut.{Pair}
 use Rattle.texting_robots.specs.Computed.Cut.{cut}
 use Rattle.texting_robots.specs.Statement.{IsStatement, IsTailOf, colon}
 use Rattle.texting_robots.specs.Computed.Statement.{statement_of}
-use Rattle.texting_robots.specs.Line.{LineValue, delay_or_raw, line_with, IsLineOf, without, without_front, AreLinesOf, IsRangeOf, HoldsRangeOf, HoldRangesOf}
-use Rattle.texting_robots.specs.Computed.Line.{line_of, parsed}
+use Rattle.texting_robots.specs.Line.{LineValue, AreLinesOf, HoldRangesOf, HoldsRangeOf, IsDelayOrRaw, IsLineOf, IsLineWith, IsRangeOf, without, without_front}
+use Rattle.texting_robots.specs.Computed.Line.{delay_or_raw, line_of, line_with, parsed}
 use Rattle.texting_robots.specs.Computed.Delay.{delay_of}
+use Rattle.texting_robots.specs.Delay.{IsDelay}
 use Rattle.texting_robots.specs.Laws.{EachTextHasItsLines, ParseTakesAll}
 use Rattle.texting_robots.proofs.DelayLemmas.{delay_of_is, is_delay_of}
 use Rattle.texting_robots.proofs.CutLemmas.{is_cut, only_cut}
@@ -19,12 +20,33 @@ use Rattle.texting_robots.proofs.ReadLemmas.{line_stated, line_raw}
 
 -- ---- the line of a body
 
+with_delay : (value body : List ℕ) (delay : Option ℕ) → IsDelay value delay → IsDelayOrRaw value body (delay_or_raw delay body)
+with_delay value body None names = inr (names, refl)
+with_delay value body (Some delay) names = inl (delay, names, refl)
+
+is_line_with : (kind : Kind) (value body : List ℕ) → IsLineWith kind value body (line_with kind value body)
+is_line_with kind.UserAgent value body = refl
+is_line_with kind.Allow value body = refl
+is_line_with kind.Disallow [] body = refl
+is_line_with kind.Disallow (b ∷ value) body = refl
+is_line_with kind.Sitemap value body = refl
+is_line_with kind.CrawlDelay value body = with_delay value body (delay_of value) (delay_of_is value)
+
+only_line_with : (kind : Kind) (value body : List ℕ) (line : LineValue) → IsLineWith kind value body line → line ≡ line_with kind value body
+only_line_with kind.UserAgent value body line is = is
+only_line_with kind.Allow value body line is = is
+only_line_with kind.Disallow [] body line is = is
+only_line_with kind.Disallow (b ∷ value) body line is = is
+only_line_with kind.Sitemap value body line is = is
+only_line_with kind.CrawlDelay value body line (inl (delay, names, is)) = is ∙ ap (λ d. delay_or_raw d body) (is_delay_of value (Some delay) names)
+only_line_with kind.CrawlDelay value body line (inr (names, is)) = is ∙ ap (λ d. delay_or_raw d body) (is_delay_of value None names)
+
 is_line : (body : List ℕ) (found : Option (Kind × List ℕ)) → statement_of body ≡ found → IsLineOf (line_of body) body
 is_line body None none = inr (unstated body none, line_raw body none)
-is_line body (Some (kind, value)) found = inl (kind, value, delay_of value, found_statement kind value body found, delay_of_is value, line_stated body kind value found)
+is_line body (Some (kind, value)) found = inl (kind, value, found_statement kind value body found, subst (IsLineWith kind value body) (sym (line_stated body kind value found)) (is_line_with kind value body))
 
 only_line : (line : LineValue) (body : List ℕ) (found : Option (Kind × List ℕ)) → statement_of body ≡ found → IsLineOf line body → line ≡ line_of body
-only_line line body found reads (inl (kind, value, delay, is, names, line_is)) = line_is ∙ ap (λ d. line_with kind value d body) (is_delay_of value delay names) ∙ sym (line_stated body kind value (statement_found kind value body is))
+only_line line body found reads (inl (kind, value, is, line_is)) = only_line_with kind value body line line_is ∙ sym (line_stated body kind value (statement_found kind value body is))
 only_line line body None none (inr (not_one, line_is)) = line_is ∙ sym (line_raw body none)
 only_line line body (Some (kind, value)) found (inr (not_one, line_is)) = absurd (not_one kind value (found_statement kind value body found))
 
@@ -70,16 +92,16 @@ delay_range : (delay : Option ℕ) (body : List ℕ) → HoldsRangeOf (delay_or_
 delay_range None body = refl
 delay_range (Some delay) body = tt
 
-with_range : (kind : Kind) (value : List ℕ) (delay : Option ℕ) (body : List ℕ) → IsStatement kind value body → HoldsRangeOf (line_with kind value delay body) body
-with_range kind.UserAgent value delay body s = value_range kind.UserAgent value body s
-with_range kind.Allow value delay body s = inl (value_range kind.Allow value body s)
-with_range kind.Disallow [] delay body s = inr (refl, s)
-with_range kind.Disallow (b ∷ value) delay body s = value_range kind.Disallow (b ∷ value) body s
-with_range kind.Sitemap value delay body s = value_range kind.Sitemap value body s
-with_range kind.CrawlDelay value delay body s = delay_range delay body
+with_range : (kind : Kind) (value body : List ℕ) → IsStatement kind value body → HoldsRangeOf (line_with kind value body) body
+with_range kind.UserAgent value body s = value_range kind.UserAgent value body s
+with_range kind.Allow value body s = inl (value_range kind.Allow value body s)
+with_range kind.Disallow [] body s = inr (refl, s)
+with_range kind.Disallow (b ∷ value) body s = value_range kind.Disallow (b ∷ value) body s
+with_range kind.Sitemap value body s = value_range kind.Sitemap value body s
+with_range kind.CrawlDelay value body s = delay_range (delay_of value) body
 
 line_range : (body : List ℕ) → IsLineOf (line_of body) body → HoldsRangeOf (line_of body) body
-line_range body (inl (kind, value, delay, is, names, line_is)) = subst (λ l. HoldsRangeOf l body) (sym line_is) (with_range kind value delay body is)
+line_range body (inl (kind, value, is, line_is)) = subst (λ l. HoldsRangeOf l body) (sym (only_line_with kind value body _ line_is)) (with_range kind value body is)
 line_range body (inr (none, line_is)) = subst (λ l. HoldsRangeOf l body) (sym line_is) refl
 
 line_ranges : (pairs : List Pair) → AllZip HoldsRangeOf (map (λ pair. line_of pair.body) pairs) (map (λ pair. pair.body) pairs)

@@ -22,12 +22,14 @@ module _ (t : List ℕ) where
       (i + length front, omega arith, omega arith, sym (drop-drop (length front) i t) ∙ front_rest (drop i t) front u e)
 
   pub stands_split : (s : List ℕ) (at : ℕ) → StandsAt t s at → drop at t ≡ s ++ drop (at + length s) t
-  stands_split s at h = at_from_reads 0 t s at h.fits h.reads
+  stands_split s at h =
+      let fits = h.fits in
+      at_from_reads 0 t s at fits (λ k l. h.agrees k l (omega arith))
 
   pub stands_here : (s rest : List ℕ) (at : ℕ) → at ≤ length t → drop at t ≡ s ++ rest → StandsAt t s at × (rest ≡ drop (at + length s) t)
   stands_here s rest at le e =
       let sizes : length t - at ≡ length s + length rest = sym (length-drop at t) ∙ ap length e ∙ length-append s rest in
-      (record { fits = omega arith; reads = at_reads 0 t s at rest e }, sym (front_rest (drop at t) s rest e) ∙ drop-drop (length s) at t)
+      (record { fits = omega arith; agrees = λ k l m. at_reads 0 t s at rest e k l }, sym (front_rest (drop at t) s rest e) ∙ drop-drop (length s) at t)
 
 -- Behind an earlier place at least as much matches.
 pub behind_more : (ss : List (List ℕ)) (f : Finish) (u v : List ℕ) → (f ≡ closed → ⊥) → IsSuffix u v → Behind ss f u → Behind ss f v

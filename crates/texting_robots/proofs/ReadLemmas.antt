@@ -11,9 +11,9 @@ use Rattle.texting_robots.specs.Cut.{Pair, cr, lf}
 use Rattle.texting_robots.specs.Computed.Cut.{cut, before_body, before_end, body_len, end_len, read_byte, read_as}
 use Rattle.texting_robots.specs.declared.parser.statement.Kind.{Kind}
 use Rattle.texting_robots.specs.Computed.Statement.{statement_of}
-use Rattle.texting_robots.specs.Line.{LineValue, Raw, line_with}
+use Rattle.texting_robots.specs.Line.{LineValue, Raw}
 use Rattle.texting_robots.specs.Computed.Delay.{delay_of}
-use Rattle.texting_robots.specs.Computed.Line.{line_by, line_of, lines_of}
+use Rattle.texting_robots.specs.Computed.Line.{line_by, line_of, lines_of, line_with}
 use Rattle.texting_robots.proofs.CutLemmas.{cut_nil}
 
 -- ---- the first pair
@@ -217,7 +217,7 @@ body_found n test text (Some k) ends first = sym (place_is test text k first.0 f
 
 -- ---- the line of a body
 
-pub line_stated : (body : List ℕ) (kind : Kind) (value : List ℕ) → statement_of body ≡ Some (kind, value) → line_of body ≡ line_with kind value (delay_of value) body
+pub line_stated : (body : List ℕ) (kind : Kind) (value : List ℕ) → statement_of body ≡ Some (kind, value) → line_of body ≡ line_with kind value body
 unfolding line_of
 line_stated body kind value found = ap (λ s. line_by s body) found
 

@@ -13,16 +13,19 @@ is_web scheme = bytes_eq scheme (codes "http") || bytes_eq scheme (codes "https"
 -- `:` and the port, if one is kept
 abbrev pub port_text : Option ℕ → List ℕ
 port_text None = []
-port_text (Some port) = 58 ∷ decimal port
+port_text (Some port) = codes ":" ++ decimal port
 
+-- the address for this host, which may be missing
 abbrev pub address_at : Parts → Option (Host (List ℕ)) → Parsed (List ℕ)
 address_at url None = Err EmptyHost
 address_at url (Some host) = Ok (url.scheme ++ codes "://" ++ host_text host ++ port_text url.port ++ codes "/robots.txt")
 
+-- the address for the parts of a URL
 abbrev pub robots_address_of : Parts → Parsed (List ℕ)
 robots_address_of url =
     if cannot_be_a_base url then Err SetHostOnCannotBeABaseUrl
     else (if is_web url.scheme then address_at url (nonempty_host url) else Err EmptyHost)
 
+-- the address for a text, by the definition of parsing that `url` publishes
 abbrev pub robots_address : List ℕ → Parsed (List ℕ)
 robots_address text = and_then (parse_url None text) robots_address_of

@@ -40,12 +40,12 @@ abbrev pub FeedsOrBodyFollows : Pair → List Pair → Type 0
 FeedsOrBodyFollows pair later = Each (λ byte. byte ≢ lf) pair.ending → BeginWithBody later
 
 -- the bytes of the pairs, in order
-abbrev pub spelled : List Pair → List ℕ
-spelled pairs = flat_map (λ pair. pair.body ++ pair.ending) pairs
+abbrev pub joined : List Pair → List ℕ
+joined pairs = flat_map (λ pair. pair.body ++ pair.ending) pairs
 
 -- the pairs are a cut of the text
 pub record IsCut (pairs : List Pair) (text : List ℕ) : Type 0 where
-  pub whole : spelled pairs ≡ text
+  pub whole : joined pairs ≡ text
   pub bodies : Each (λ pair. Each IsBodyByte pair.body) pairs
   pub endings : Each (λ pair. IsEnding pair.ending) pairs
   pub empty_endings : EachWithLater EndsOrIsLast pairs

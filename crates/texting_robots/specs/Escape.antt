@@ -3,13 +3,16 @@ use Rattle.std.specs.Prelude.{ℕ, ◌/◌, ◌%◌, Bool, true, ◌||◌, ◌==
 use Rattle.std.specs.List.{flat_map}
 use Rattle.std.specs.Fmt.{digit_glyph}
 
--- a byte that doesn't stand for itself
+-- a byte that doesn't stand for itself: a control, a space, `"`, `<`, `>`, a backquote, or one past ASCII
 abbrev pub is_escaped : ℕ → Bool
 is_escaped b = nat_lt b 0x21 || b == 0x22 || b == 0x3C || b == 0x3E || b == 0x60 || nat_lt 0x7E b
 
+abbrev pub percent : ℕ
+percent = 37
+
 -- `%` and two upper-case hexadecimal digits, or the byte itself
 abbrev pub escape_byte : ℕ → List ℕ
-escape_byte b = if is_escaped b then 37 ∷ digit_glyph true (b / 16 % 16) ∷ digit_glyph true (b % 16) ∷ [] else b ∷ []
+escape_byte b = if is_escaped b then percent ∷ digit_glyph true (b / 16 % 16) ∷ digit_glyph true (b % 16) ∷ [] else b ∷ []
 
 -- each byte of the text, escaped
 abbrev pub escaped : List ℕ → List ℕ

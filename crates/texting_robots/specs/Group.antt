@@ -1,18 +1,14 @@
--- Which lines are captured for an agent, by places.
+-- Which lines are captured for an agent, by their places in a file.
 use Rattle.std.specs.Prelude.{◌⊎◌, ℕ, zero, suc, ◌<◌, nat_lt, Bool, false, not, ◌&&◌, ◌||◌, List, Option, None, IsTrue, codes, slice_get, bytes_eq, if◌then◌else◌}
 use Rattle.std.specs.List.{list_any, filter_map, enumerate_from}
 use Rattle.std.specs.Option.{option_map_or}
 use Rattle.std.specs.Str.{str_to_ascii_lowercase}
 use Rattle.texting_robots.specs.Line.{LineValue, UserAgent, Allow, Disallow, Sitemap, CrawlDelay, Raw, is_agent, is_group}
 
--- an agent line whose value lowers to the name
+-- a user-agent line whose value lowers to the name
 abbrev pub names : List ℕ → LineValue → Bool
 names name (UserAgent value) = bytes_eq (str_to_ascii_lowercase value) name
-names name (Allow value) = false
-names name (Disallow value) = false
-names name (Sitemap value) = false
-names name (CrawlDelay delay) = false
-names name (Raw body) = false
+names name _ = false
 
 -- the lowered agent where some line names it, else a star
 abbrev pub group_name : List ℕ → List LineValue → List ℕ
@@ -25,17 +21,17 @@ passes_at test lines at = option_map_or test (slice_get lines at) false
 abbrev pub NoAgent : List LineValue → Type 0
 NoAgent lines = (k : ℕ) → ¬ IsTrue (passes_at is_agent lines k)
 
--- a line before the place names the name, and after it there is no group line with an agent line behind it
+-- a user-agent line before the place holds the name, and between the two no user-agent line follows a group line
 abbrev pub IsNamedBefore : List ℕ → List LineValue → ℕ → Type 0
 IsNamedBefore name lines i =
     (j : ℕ) × (j < i) × IsTrue (passes_at (names name) lines j)
     × ¬ ((k : ℕ) × (l : ℕ) × (j < k) × (k < l) × (l < i) × IsTrue (passes_at is_group lines k) × IsTrue (passes_at is_agent lines l))
 
--- a group line at this place is captured
+-- a group line at this place, if one stands there, is captured
 abbrev pub IsCaptured : List ℕ → List LineValue → ℕ → Type 0
 IsCaptured name lines i = NoAgent lines ⊎ IsNamedBefore name lines i
 
--- ---- the same as a test that computes, for lists in order
+-- ---- the same as a test that computes, for lists in order; the law `captured_agrees` says that it agrees
 
 -- some number below this one passes
 abbrev pub some_below : (ℕ → Bool) → ℕ → Bool

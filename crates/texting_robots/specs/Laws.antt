@@ -1,17 +1,18 @@
 -- Laws over the definitions.
 use Rattle.std.specs.Prelude.{◌≡◌, ◌↔◌, ◌⊎◌, ℕ, Bool, true, false, not, ◌==◌, ◌&&◌, List, [], ◌∷◌, ◌++◌, Option, Some, IsTrue, IsPermutation, codes, filter, length, if◌then◌else◌}
+use Rattle.std.specs.declared.cmp.Ordering.TheVariants.{Less, Equal}
 use Rattle.std.specs.Str.{str_to_ascii_lowercase}
 use Rattle.texting_robots.specs.declared.parser.statement.Kind.{Kind}
 use Rattle.texting_robots.specs.Computed.Cut.{cut}
 use Rattle.texting_robots.specs.Computed.Delay.{delay_of}
-use Rattle.texting_robots.specs.Computed.Line.{parsed}
+use Rattle.texting_robots.specs.Computed.Line.{file_lines, parsed}
 use Rattle.texting_robots.specs.Cut.{IsCut, Pair, cr, lf}
 use Rattle.texting_robots.specs.Delay.{IsDelay}
 use Rattle.texting_robots.specs.Escape.{escaped}
 use Rattle.texting_robots.specs.Group.{IsCaptured, group_name, is_captured}
-use Rattle.texting_robots.specs.Line.{Allow, AreLinesOf, Disallow, HoldRangesOf, LineValue, is_raw, is_sitemap}
-use Rattle.texting_robots.specs.Order.{IsBefore}
-use Rattle.texting_robots.specs.Pattern.{Matches, collapsed}
+use Rattle.texting_robots.specs.Line.{Allow, AreFileLinesOf, AreLinesOf, Disallow, HoldRangesOf, LineValue, is_raw, is_sitemap}
+use Rattle.texting_robots.specs.Order.{IsBefore, pattern_cmp}
+use Rattle.texting_robots.specs.Pattern.{MatchesWith, collapsed}
 use Rattle.texting_robots.specs.Rules.{IsRefused, Rule, delay_for, rule_from, rules_of, share_of, sitemaps_of}
 use Rattle.texting_robots.specs.Statement.{IsStatement}
 use Rattle.texting_robots.specs.Verdict.{IsVerdict}
@@ -108,7 +109,7 @@ pub record OrderAgrees : Type 0 where
 
 -- collapsing changes no match
 abbrev pub CollapseKeepsMeaning : Type 0
-CollapseKeepsMeaning = (pattern text : List ℕ) → Matches (collapsed pattern) text ↔ Matches pattern text
+CollapseKeepsMeaning = (anchors : Bool) (pattern text : List ℕ) → MatchesWith anchors (collapsed pattern) text ↔ MatchesWith anchors pattern text
 
 -- a rule's length is that of its escaped value, whose stars aren't collapsed
 abbrev pub LengthIsNotCollapsed : Type 0
@@ -135,3 +136,12 @@ EachTextHasItsLines = (text : List ℕ) (lines : List LineValue) → AreLinesOf 
 -- the test by which lists are made says what the definition says
 abbrev pub CapturedAgrees : Type 0
 CapturedAgrees = (name : List ℕ) (lines : List LineValue) (i : ℕ) → IsTrue (is_captured name lines i) ↔ IsCaptured name lines i
+
+-- a file has these lines and no others
+abbrev pub EachFileHasItsLines : Type 0
+EachFileHasItsLines = (text : List ℕ) (lines : List LineValue) → AreFileLinesOf lines text ↔ lines ≡ file_lines text
+
+-- the comparison says what the order says
+pub record ComparisonAgrees : Type 0 where
+  pub less : (p q : List ℕ) → (pattern_cmp p q ≡ Less) ↔ IsBefore p q
+  pub equal : (p q : List ℕ) → (pattern_cmp p q ≡ Equal) ↔ (p ≡ q)

@@ -5,7 +5,7 @@ use Rattle.texting_robots.specs.declared.parser.Line.{Line}
 use Rattle.texting_robots.specs.declared.parser.Line.TheVariants as line
 use Rattle.texting_robots.specs.declared.parser.statement.Kind.{Kind}
 use Rattle.texting_robots.specs.declared.parser.statement.Kind.TheVariants as kind
-use Rattle.texting_robots.specs.Cut.{Pair, IsCut, spelled, lf}
+use Rattle.texting_robots.specs.Cut.{Pair, IsCut, joined, lf}
 use Rattle.texting_robots.specs.Delay.{IsDelay}
 use Rattle.texting_robots.specs.Statement.{IsStatement}
 
@@ -31,24 +31,24 @@ by_value (line.Raw body) = Raw body.now
 abbrev pub slash : List ℕ
 slash = codes "/"
 
--- the line with this delay, or the whole body where there is none
-abbrev pub delay_or_raw : Option ℕ → List ℕ → LineValue
-delay_or_raw None body = Raw body
-delay_or_raw (Some delay) body = CrawlDelay (Some delay)
+-- the delay that the value names, or the whole body where it names none
+abbrev pub IsDelayOrRaw : List ℕ → List ℕ → LineValue → Type 0
+IsDelayOrRaw value body line =
+    ((delay : ℕ) × IsDelay value (Some delay) × (line ≡ CrawlDelay (Some delay))) ⊎ (IsDelay value None × (line ≡ Raw body))
 
--- the line of a statement of this kind with this value, which names this delay or none, in this body
-abbrev pub line_with : Kind → List ℕ → Option ℕ → List ℕ → LineValue
-line_with kind.UserAgent value delay body = UserAgent value
-line_with kind.Allow value delay body = Allow value
-line_with kind.Disallow [] delay body = Allow slash
-line_with kind.Disallow (b ∷ value) delay body = Disallow (b ∷ value)
-line_with kind.Sitemap value delay body = Sitemap value
-line_with kind.CrawlDelay value delay body = delay_or_raw delay body
+-- the line is that of a statement of this kind with this value, in this body
+abbrev pub IsLineWith : Kind → List ℕ → List ℕ → LineValue → Type 0
+IsLineWith kind.UserAgent value body line = line ≡ UserAgent value
+IsLineWith kind.Allow value body line = line ≡ Allow value
+IsLineWith kind.Disallow [] body line = line ≡ Allow slash
+IsLineWith kind.Disallow (b ∷ value) body line = line ≡ Disallow (b ∷ value)
+IsLineWith kind.Sitemap value body line = line ≡ Sitemap value
+IsLineWith kind.CrawlDelay value body line = IsDelayOrRaw value body line
 
 -- the line is that of the body: its statement's, or the whole body where it is no statement
 abbrev pub IsLineOf : LineValue → List ℕ → Type 0
 IsLineOf line body =
-    ((kind : Kind) × (value : List ℕ) × (delay : Option ℕ) × IsStatement kind value body × IsDelay value delay × (line ≡ line_with kind value delay body))
+    ((kind : Kind) × (value : List ℕ) × IsStatement kind value body × IsLineWith kind value body line)
     ⊎ (((kind : Kind) (value : List ℕ) → ¬ IsStatement kind value body) × (line ≡ Raw body))
 
 -- ---- the lines of a text
@@ -58,7 +58,7 @@ abbrev pub without : ℕ → List ℕ → List ℕ
 without byte [] = []
 without byte (first ∷ text) = if first == byte then text else first ∷ text
 
--- the text without a byte order mark, or those bytes of one that stand at its front
+-- the text without EF where it begins with it, then without BB, then without BF, each where it then stands first
 abbrev pub without_front : List ℕ → List ℕ
 without_front text = without 0xBF (without 0xBB (without 0xEF text))
 
@@ -72,19 +72,24 @@ pub record AreLinesOf (lines : List LineValue) (text : List ℕ) : Type 0 where
 abbrev pub nul_as_lf : ℕ → ℕ
 nul_as_lf byte = if byte == 0 then lf else byte
 
+-- these are the lines of the file: those of its text with LF in place of each NUL
+abbrev pub AreFileLinesOf : List LineValue → List ℕ → Type 0
+AreFileLinesOf lines text = AreLinesOf lines (map nul_as_lf text)
+
 -- ---- where a line's bytes stand
 
 -- the value is a range of the body
 abbrev pub IsRangeOf : List ℕ → List ℕ → Type 0
 IsRangeOf value body = (before : List ℕ) × (after : List ℕ) × (body ≡ before ++ (value ++ after))
 
--- the bytes that the line holds are a range of the body, or the slash of an empty Disallow
+-- the bytes that the line holds are a range of the body, or the slash of an empty Disallow, and a delay is a number
 abbrev pub HoldsRangeOf : LineValue → List ℕ → Type 0
 HoldsRangeOf (UserAgent value) body = IsRangeOf value body
 HoldsRangeOf (Allow value) body = IsRangeOf value body ⊎ ((value ≡ slash) × IsStatement kind.Disallow [] body)
 HoldsRangeOf (Disallow value) body = IsRangeOf value body
 HoldsRangeOf (Sitemap value) body = IsRangeOf value body
-HoldsRangeOf (CrawlDelay delay) body = Unit {0}
+HoldsRangeOf (CrawlDelay None) body = ⊥
+HoldsRangeOf (CrawlDelay (Some delay)) body = Unit {0}
 HoldsRangeOf (Raw value) body = value ≡ body
 
 -- each line holds a range of its body, and the bodies and ends of the cut, in order, are the text from some place on
@@ -92,49 +97,31 @@ pub record HoldRangesOf (lines : List LineValue) (text : List ℕ) : Type 0 wher
   pub taken : List ℕ
   pub pairs : List Pair
   pub is_cut : IsCut pairs (without_front text)
-  pub whole : text ≡ taken ++ spelled pairs
+  pub whole : text ≡ taken ++ joined pairs
   pub each : AllZip HoldsRangeOf lines (map (λ pair. pair.body) pairs)
 
 -- ---- what a line is to a reader of groups
 
 abbrev pub is_agent : LineValue → Bool
 is_agent (UserAgent value) = true
-is_agent (Allow value) = false
-is_agent (Disallow value) = false
-is_agent (Sitemap value) = false
-is_agent (CrawlDelay delay) = false
-is_agent (Raw body) = false
+is_agent _ = false
 
 -- an Allow, a Disallow or a delay
 abbrev pub is_group : LineValue → Bool
-is_group (UserAgent value) = false
 is_group (Allow value) = true
 is_group (Disallow value) = true
-is_group (Sitemap value) = false
 is_group (CrawlDelay delay) = true
-is_group (Raw body) = false
+is_group _ = false
 
 abbrev pub is_sitemap : LineValue → Bool
-is_sitemap (UserAgent value) = false
-is_sitemap (Allow value) = false
-is_sitemap (Disallow value) = false
 is_sitemap (Sitemap value) = true
-is_sitemap (CrawlDelay delay) = false
-is_sitemap (Raw body) = false
+is_sitemap _ = false
 
 abbrev pub is_raw : LineValue → Bool
-is_raw (UserAgent value) = false
-is_raw (Allow value) = false
-is_raw (Disallow value) = false
-is_raw (Sitemap value) = false
-is_raw (CrawlDelay delay) = false
 is_raw (Raw body) = true
+is_raw _ = false
 
 -- the delay that the line gives
 abbrev pub delay_in : LineValue → Option ℕ
-delay_in (UserAgent value) = None
-delay_in (Allow value) = None
-delay_in (Disallow value) = None
-delay_in (Sitemap value) = None
 delay_in (CrawlDelay delay) = delay
-delay_in (Raw body) = None
+delay_in _ = None

@@ -21,20 +21,13 @@ abbrev pub rule_from : List ℕ → Bool → Option Rule
 rule_from value is_allow = if is_utf8 value then Some (escaped value, is_allow) else None
 
 abbrev pub rule_in : LineValue → Option Rule
-rule_in (UserAgent value) = None
 rule_in (Allow value) = rule_from value true
 rule_in (Disallow value) = rule_from value false
-rule_in (Sitemap value) = None
-rule_in (CrawlDelay delay) = None
-rule_in (Raw body) = None
+rule_in _ = None
 
 abbrev pub sitemap_in : LineValue → Option (List ℕ)
-sitemap_in (UserAgent value) = None
-sitemap_in (Allow value) = None
-sitemap_in (Disallow value) = None
 sitemap_in (Sitemap value) = text_from value
-sitemap_in (CrawlDelay delay) = None
-sitemap_in (Raw body) = None
+sitemap_in _ = None
 
 abbrev pub last_of : {X : Type 0} → List X → Option X
 last_of [] = None

@@ -47,7 +47,10 @@ fn address_of_url(alloc: Global, url: &Url) -> Result<String, ParseError>
     Ok(text_of(alloc, scheme, host, url.port())?)
 }
 
-/// The robots_address of the robots file of a URL.
+/// The address of the robots.txt file of the site that a URL is on.
+///
+/// A text that `url` refuses is refused with `url`'s error, a URL that can't be a base with `SetHostOnCannotBeABaseUrl`, and
+/// one that isn't `http` or `https`, or has no host, with `EmptyHost`. Want of memory is `OutOfMemory` or `Overflow`.
 pub fn get_robots_url(alloc: Global, url: &str) -> Result<String, ParseError>
     ensures { GivesBy string_bytes result (robots_address url.now) }
 {

@@ -8,10 +8,10 @@ pub enum Error {
     /// The file can't be parsed. No call answers this: every file can.
     #[error("Failed to parse robots.txt")]
     InvalidRobots,
-    /// A rule with `$` has more than 4,096 bytes, each run of stars counted as one.
+    /// A pattern with `$` has more than 4,096 bytes, each run of stars counted as one. `Robot::new` counts the escaped rule.
     #[error("Rule with $ is too long")]
     InvalidRule,
-    /// Memory was refused.
+    /// Memory was refused, or a URL came to more bytes than `url` can count.
     #[error("Out of memory")]
     Memory,
 }

@@ -6,12 +6,10 @@ use percent_encoding::{AsciiSet, CONTROLS, ascii_set, utf8_percent_encode};
 use std::alloc::{AllocError, Global};
 
 /// The ASCII bytes that are escaped.
-pub const ESCAPED: AsciiSet = ascii_set!(
-    CONTROLS.add(b' ').add(b'"').add(b'<').add(b'>').add(b'`')
-);
+const ESCAPED: AsciiSet = ascii_set!(CONTROLS.add(b' ').add(b'"').add(b'<').add(b'>').add(b'`'));
 
 /// The text with each byte of the set and each byte past ASCII escaped.
-pub fn escaped(alloc: Global, text: &str) -> Result<String, AllocError>
+pub(crate) fn escaped(alloc: Global, text: &str) -> Result<String, AllocError>
     ensures { IfOk result (λ s. string_bytes s ≡ escaped text.now) }
 {
     let mut out = String::new(alloc);

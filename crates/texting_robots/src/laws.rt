@@ -3,7 +3,9 @@ ghost use Rattle.texting_robots.specs.Laws.{
   AgentCase,
   CapturedAgrees,
   CollapseKeepsMeaning,
+  ComparisonAgrees,
   CrLfIsLf,
+  EachFileHasItsLines,
   EachTextHasItsLines,
   EachTextHasOneCut,
   EachTextHasOneDelay,
@@ -79,7 +81,7 @@ pub fn robots_file_allowed()
 {}
 
 /// Of two patterns exactly one holds: they are equal, the first is before the second, or the second before the first;
-/// and what is before is before all that comes after. Ordered maps and sets of patterns rely on it.
+/// and before is transitive. Ordered maps and sets of patterns rely on it.
 #[tactic(auto, using(crate::proofs::OrderLemmas::order_agrees))]
 pub fn order_agrees()
     ensures { OrderAgrees }
@@ -91,28 +93,42 @@ pub fn cr_lf_is_lf()
     ensures { CrLfIsLf }
 {}
 
-/// Each text has one cut into bodies and line ends.
+/// Each text has one cut into bodies and line ends. Whoever reads the definition of lines relies on it.
 pub fn each_text_has_one_cut()
     ensures { EachTextHasOneCut }
 {}
 
-/// A body is a statement of one kind with one value at most.
+/// A body is a statement of one kind with one value at most. Whoever reads the definition of lines relies on it.
 pub fn one_statement_fits()
     ensures { OneStatementFits }
 {}
 
-/// Each text names one delay or none, the one that `delay_of` computes.
+/// Each text names one delay or none, the one that `delay_of` computes. Whoever reads the definition of delays relies on it.
 pub fn each_text_has_one_delay()
     ensures { EachTextHasOneDelay }
 {}
 
-/// Each text has one list of lines, the one that `parsed` computes.
+/// Each text has one list of lines, the one that `parsed` computes. Whoever reads the contract of `robots_txt_parse` relies
+/// on it.
 pub fn each_text_has_its_lines()
     ensures { EachTextHasItsLines }
 {}
 
-/// The test by which lists of captured lines are made says what the definition by places says.
+/// Each file has one list of lines, the one that `file_lines` computes. Whoever reads the contract of `Robot::new` relies on
+/// it.
+pub fn each_file_has_its_lines()
+    ensures { EachFileHasItsLines }
+{}
+
+/// The test by which lists of captured lines are made says what the definition by places says. Whoever reads the contract of
+/// `Robot::new` relies on it.
 #[tactic(auto, using(crate::proofs::CapturedLemmas::is_captured_decides))]
 pub fn captured_agrees()
     ensures { CapturedAgrees }
+{}
+
+/// The comparison of patterns that `cmp` and `partial_cmp` make says what the order says. Ordered maps and sets of patterns
+/// rely on it.
+pub fn comparison_agrees()
+    ensures { ComparisonAgrees }
 {}

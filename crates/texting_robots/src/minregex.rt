@@ -150,7 +150,9 @@ impl PartialEq for MinRegex {
 
     ghost laws = { Prim.search (comparing, rules) };
 
-    fn eq(&self, other: &MinRegex) -> bool {
+    fn eq(&self, other: &MinRegex) -> bool
+        ensures { IsTrue result ↔ (self.now ≡ other.now) }
+    {
         self.pattern.as_str() == other.pattern.as_str()
     }
 }

@@ -2,10 +2,9 @@
 ghost use Rattle.std.specs.Prelude.{◌≡◌, IfErr, IfOk, map};
 ghost use Rattle.std.specs.Str.{str_to_ascii_lowercase};
 ghost use Rattle.std.specs.Iterator.{YieldsFirstBy, item_count};
-ghost use Rattle.texting_robots.specs.Computed.Delay.{delay_of};
-ghost use Rattle.texting_robots.specs.Computed.Line.{file_lines, line_of, parsed};
+ghost use Rattle.texting_robots.specs.Computed.Line.{file_lines, line_of, line_with, parsed};
 ghost use Rattle.texting_robots.specs.Group.{names};
-ghost use Rattle.texting_robots.specs.Line.{AreLinesOf, HoldRangesOf, by_value, is_agent, line_with, without_front};
+ghost use Rattle.texting_robots.specs.Line.{AreLinesOf, HoldRangesOf, by_value, is_agent, without_front};
 
 mod cut;
 mod delay;
@@ -73,7 +72,7 @@ impl<'a> Model for LineIter<'a> {
     ghost view = { λ s. lines_of (read_as s.nul_ends s.rest.now) };
 }
 
-/// The text without a byte order mark, or those bytes of one that stand at its front.
+/// The text without EF where it begins with it, then without BB, then without BF, each where it then stands first.
 fn without_front<'a>(text: &'a [u8]) -> &'a [u8]
     ensures { result.now ≡ without_front text.now }
 {
@@ -108,7 +107,7 @@ fn file_lines<'a>(input: &'a [u8]) -> LineIter<'a>
 /// The line of a statement of this kind with this value.
 #[tactic(auto, using(crate::proofs::DelayLemmas::is_delay_of))]
 fn line_with<'a>(kind: Kind, value: &'a [u8], body: &'a [u8]) -> Line<'a>
-    ensures { by_value result ≡ line_with kind value.now (delay_of value.now) body.now }
+    ensures { by_value result ≡ line_with kind value.now body.now }
 {
     match kind {
         Kind::UserAgent => Line::UserAgent(value),

@@ -39,8 +39,8 @@ impl Robot {
     /// Reads the file `txt` for the crawler that calls itself `agent`.
     ///
     /// The agent is compared whole with the file's User-Agent lines, ASCII letters in any case; it isn't trimmed. Every
-    /// file can be read: what is no statement says nothing. `Error::InvalidRule` says that a rule of this crawler's holds
-    /// `$` and is too long. The cost grows with the file's length.
+    /// file can be read: lines that are no statement are passed over. `Error::InvalidRule` says that a rule of this
+    /// crawler's holds `$` and has more than 4,096 bytes escaped, each run of stars counted as one.
     pub fn new(alloc: Global, agent: &str, txt: &[u8]) -> Result<Self, Error>
         ensures delay { IfOk result (λ robot. robot.delay ≡ delay_for agent.now (file_lines txt.now)) }
         ensures sitemaps { IfOk result (λ robot. robot.sitemaps ≡ sitemaps_of (file_lines txt.now)) }
@@ -57,7 +57,7 @@ impl Robot {
         })
     }
 
-    /// The text that rules are matched with: of a URL its path, query and fragment, escaped as the URL Standard has it.
+    /// The text that rules are matched with: of a URL its path, query and fragment, as the crate `url` writes them.
     ///
     /// The empty text gives `/`. What is no URL, as a path by itself, is escaped as rules are.
     pub fn prepare_url(alloc: Global, url: &str) -> Result<String, Error>

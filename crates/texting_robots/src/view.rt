@@ -21,9 +21,9 @@ impl<'a> Model for View<'a> {
 
     ghost Value = { Viewed };
 
-    ghost view = { λ v. record { text = v.text.now; looks = v.looks.total } };
+    ghost view = { λ v. record { text = v.text.now; looks = v.looks } };
 
-    ghost invariant = { λ v. v.count ≡ seen_of v.looks.total };
+    ghost invariant = { λ v. v.count ≡ seen_of v.looks };
 }
 
 impl<'a> View<'a> {

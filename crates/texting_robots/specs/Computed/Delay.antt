@@ -1,7 +1,7 @@
 -- The delay of a text as a function, found part by part.
 use Rattle.std.specs.Prelude.{ℕ, ◌*◌, ◌/◌, ◌^◌, ◌==◌, ◌&&◌, ◌||◌, nat_le, min, Bool, true, false, List, [], ◌∷◌, ◌++◌, Option, Some, None, if◌then◌else◌, codes, length, map}
 use Rattle.std.specs.Char.{to_ascii_lowercase}
-use Rattle.texting_robots.specs.Delay.{Decimal, down, most, spelled, up}
+use Rattle.texting_robots.specs.Delay.{Decimal, negative_exponent, greatest_delay, spelled, positive_exponent}
 use Rattle.texting_robots.specs.Computed.DelayParts.{behind_sign, has_minus}
 
 abbrev pub is_digit : ℕ → Bool
@@ -57,11 +57,11 @@ is_infinite text = are_same (map to_ascii_lowercase text) (codes "inf") || are_s
 
 -- a number of seconds in microseconds, rounded down
 abbrev pub rounded : Decimal → ℕ
-rounded n = min (spelled (n.whole ++ n.fraction) * 10 ^ 6 * 10 ^ up n / (10 ^ length n.fraction * 10 ^ down n)) most
+rounded n = min (spelled (n.whole ++ n.fraction) * 10 ^ 6 * 10 ^ positive_exponent n / (10 ^ length n.fraction * 10 ^ negative_exponent n)) greatest_delay
 
 abbrev pub infinite_delay : Bool → Option ℕ
 infinite_delay true = None
-infinite_delay false = Some most
+infinite_delay false = Some greatest_delay
 
 abbrev pub finite_delay : Bool → Option Decimal → Option ℕ
 finite_delay minus None = None

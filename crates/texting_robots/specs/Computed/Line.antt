@@ -1,14 +1,29 @@
 -- The lines of a text, computed.
-use Rattle.std.specs.Prelude.{ℕ, List, map, Option, Some, None}
+use Rattle.std.specs.Prelude.{ℕ, List, [], ◌∷◌, map, Option, Some, None}
 use Rattle.texting_robots.specs.declared.parser.statement.Kind.{Kind}
 use Rattle.texting_robots.specs.Computed.Cut.{cut}
 use Rattle.texting_robots.specs.Computed.Delay.{delay_of}
 use Rattle.texting_robots.specs.Computed.Statement.{statement_of}
-use Rattle.texting_robots.specs.Line.{LineValue, Raw, line_with, nul_as_lf, without_front}
+use Rattle.texting_robots.specs.declared.parser.statement.Kind.TheVariants as kind
+use Rattle.texting_robots.specs.Line.{LineValue, UserAgent, Allow, Disallow, Sitemap, CrawlDelay, Raw, nul_as_lf, slash, without_front}
+
+-- the line with this delay, or the whole body where there is none
+abbrev pub delay_or_raw : Option ℕ → List ℕ → LineValue
+delay_or_raw None body = Raw body
+delay_or_raw (Some delay) body = CrawlDelay (Some delay)
+
+-- the line of a statement of this kind with this value, in this body
+abbrev pub line_with : Kind → List ℕ → List ℕ → LineValue
+line_with kind.UserAgent value body = UserAgent value
+line_with kind.Allow value body = Allow value
+line_with kind.Disallow [] body = Allow slash
+line_with kind.Disallow (b ∷ value) body = Disallow (b ∷ value)
+line_with kind.Sitemap value body = Sitemap value
+line_with kind.CrawlDelay value body = delay_or_raw (delay_of value) body
 
 abbrev pub line_by : Option (Kind × List ℕ) → List ℕ → LineValue
 line_by None body = Raw body
-line_by (Some found) body = line_with found.0 found.1 (delay_of found.1) body
+line_by (Some found) body = line_with found.0 found.1 body
 
 -- the line of a body
 unfoldable pub line_of : List ℕ → LineValue

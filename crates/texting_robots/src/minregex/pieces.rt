@@ -1,6 +1,6 @@
 //! The pieces of a pattern, and where they stand in a text.
 ghost use Rattle.std.specs.Prelude.{◌≡◌, ℕ, ◌+◌, ◌-◌, ◌*◌, ◌<◌, ◌≤◌, ◌≢◌, ◌↔◌, ◌++◌, [], IsTrue, IfOk, IfNone, IfSome, unwrap_or, length, drop, slice_index, true, false, vec_len};
-ghost use Rattle.texting_robots.specs.Computed.Border.{BordersBelow, IsFirstEnd, IsLongestBorder, IsTable, StandsAt, StandsNowhere};
+ghost use Rattle.texting_robots.specs.Computed.Border.{IsFirstEnd, IsTable, StandsAt, StandsNowhere};
 ghost use Rattle.texting_robots.specs.Computed.Pieces.{AddsPieces, Closes, ArePieces, IsEnding, IsPieceEnd, IsStarsEnd, finish_of};
 ghost use Rattle.texting_robots.specs.Pattern.{Matches};
 ghost use Rattle.texting_robots.specs.Computed.Shape.{Behind, all_marks, is_mark};
@@ -87,34 +87,26 @@ fn only_marks(pattern: &[u8], at: usize) -> bool
     true
 }
 
-/// The longest proper border of the first `len + 1` bytes, from those of the shorter beginnings.
-fn next_border(piece: &[u8], borders: &[usize], len: usize) -> usize
-    requires within { len < length piece.now }
-    requires long { len ≤ length borders.now }
-    requires known { BordersBelow piece.now borders.now len }
-    ensures { IsLongestBorder piece.now (len + 1) result }
-{
-    if len == 0 {
-        return 0;
-    }
-    let mut border = borders[len - 1];
-    while piece[border] != piece[len] {
-        if border == 0 {
-            return 0;
-        }
-        border = borders[border - 1];
-    }
-    border + 1
-}
-
-/// Adds the table of a piece: for each beginning of it its longest proper border.
+/// Adds the table of a piece: for each beginning of it the length of its longest proper border.
 fn push_borders(borders: &mut Vec<usize>, piece: &[u8]) -> Result<(), AllocError>
     ensures { IfOk result (λ _. (table : _) × (borders.new.items ≡ borders.old.items ++ table) × IsTable piece.now table) }
 {
+    if piece.is_empty() {
+        return Ok(());
+    }
     let table = borders.len();
-    for len in 0..piece.len() {
-        let border = next_border(piece, &borders[table..], len);
-        borders.push(border)?;
+    borders.push(0)?;
+    let mut place = 1;
+    let mut matched = 0;
+    while place < piece.len() {
+        if piece[place] == piece[matched] {
+            matched += 1;
+        } else if matched > 0 {
+            matched = borders[table + matched - 1];
+            continue;
+        }
+        place += 1;
+        borders.push(matched)?;
     }
     Ok(())
 }

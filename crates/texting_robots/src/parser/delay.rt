@@ -1,6 +1,6 @@
 //! How long a crawler waits between two requests.
 ghost use Rattle.std.specs.Prelude.{◌≡◌, ◌≢◌, ℕ, ◌+◌, ◌-◌, ◌*◌, ◌^◌, ◌<◌, ◌≤◌, ◌++◌, ◌↔◌, [], All, IsTrue, MatchOption, MatchBool, cond, length, min};
-ghost use Rattle.texting_robots.specs.Delay.{Decimal, IsDigit, IsDelay, IsExponent, IsInfinite, Rounds, Spells, down, spelled, up};
+ghost use Rattle.texting_robots.specs.Delay.{Decimal, IsDigit, IsDelay, IsExponent, IsInfinite, Rounds, Spells, negative_exponent, spelled, positive_exponent};
 ghost use Rattle.texting_robots.specs.Computed.DelayParts.{AreDigits, AreFraction, IsDecimal, behind_sign, decimal_of, has_minus};
 
 /// A number of seconds in decimal: its digits, and those of its exponent.
@@ -120,7 +120,7 @@ impl Number<'_> {
     /// How many digits, counted from the first, are whole microseconds.
     fn micros_digits(&self) -> usize
         requires { IsDecimal (decimal_of self.now) }
-        ensures { result ≡ min (length self.now.whole.now + 6 + up (decimal_of self.now) - down (decimal_of self.now)) 18446744073709551615 }
+        ensures { result ≡ min (length self.now.whole.now + 6 + positive_exponent (decimal_of self.now) - negative_exponent (decimal_of self.now)) 18446744073709551615 }
     {
         let exponent = append_digits(0, self.exponent) as usize;
         let digits = self.whole.len() + MICROS_DIGITS;
@@ -158,7 +158,7 @@ fn is_infinite(text: &[u8]) -> bool
 /// The delay that a text names in seconds, as whole microseconds rounded down, at most `u64::MAX`.
 ///
 /// The text isn't trimmed. It is a decimal number, with an exponent or without, or `inf` or `infinity`; `None` refuses all
-/// else, and what is below zero. It takes no memory, and time that grows with the text's length alone.
+/// else, and what is below zero. It takes no memory, and its time grows in step with the text's length.
 pub fn read_delay(text: &[u8]) -> Option<u64>
     ensures { IsDelay text.now result }
 {

@@ -9,7 +9,7 @@ use memchr::memchr;
 
 /// What a statement is about.
 #[derive(Clone, Copy, PartialEq, Eq, Debug)]
-pub enum Kind {
+pub(crate) enum Kind {
     UserAgent,
     Allow,
     Disallow,

@@ -1,32 +1,39 @@
-//! A counter that only contracts read. It takes no memory, and its methods do nothing at run time.
-ghost use Rattle.std.specs.Prelude.{◌≡◌, ℕ, ◌+◌};
-ghost use Rattle.std.specs.Borrow.{ftrue};
+//! A counter that only contracts read: no number stands in it at run time.
+ghost use Rattle.std.specs.Prelude.{◌≡◌, ◌+◌};
 
-use std::marker::{Model, PhantomData};
+use std::marker::Model;
+use std::snapshot::Snapshot;
 
-/// How many looks were taken.
+/// How many looks were taken: none, or one more than before the last one. A snapshot has no bytes.
 #[derive(Drop)]
 pub(super) struct Looks {
-    of: PhantomData<()>,
-    pub ghost total: { ℕ },
+    before_last: Option<Snapshot<Looks>>,
 }
 
 impl Model for Looks {
-    ghost also_owns = { λ _. ftrue };
+    ghost use Rattle.std.specs.Prelude.{ℕ, ◌+◌, option_map, unwrap_or};
+
+    ghost Value = { ℕ };
+
+    ghost view = { λ looks. unwrap_or (option_map (λ before. before.value + 1) looks.before_last) 0 };
+
+    ghost size = { λ total. total };
 }
 
 impl Looks {
     /// No looks.
     pub(super) fn none() -> Looks
-        ensures { result.total ≡ 0 }
+        ensures { result ≡ 0 }
     {
-        Looks { of: PhantomData }
+        Looks { before_last: None }
     }
 
     /// One more look.
     pub(super) fn one_more(&self) -> Looks
-        ensures { result.total ≡ self.now.total + 1 }
+        ensures { result ≡ self.now + 1 }
     {
-        Looks { of: PhantomData }
+        Looks {
+            before_last: Some(Snapshot::of(self)),
+        }
     }
 }

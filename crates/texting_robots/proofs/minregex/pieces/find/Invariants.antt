@@ -1,18 +1,15 @@
 use Rattle.std.proofs.Common.{◌≡◌, ◌+◌, ◌-◌, ◌*◌, ◌≤◌, length}
-use Rattle.texting_robots.specs.Computed.Border.{StandsNowhere}
-use Rattle.texting_robots.proofs.BorderLemmas.{FrontAt}
+use Rattle.texting_robots.proofs.BorderLemmas.{IsFirstOpen}
 use Rattle.texting_robots.proofs.minregex.pieces.find.Given as goal
 
--- the matched bytes stand right before the place, the piece stands nowhere before them, and there were at most two looks for each place passed, less one for each matched byte
+-- the looks are at most twice the places passed, less the bytes matched
 abbrev pub invariant-loop-matched : goal.invariant-loop-matched
 invariant-loop-matched l =
     record {
       text : l.view.text ≡ l.fn.view.text;
       within : l.place ≤ l.len;
       matched : l.matched ≤ length l.piece;
-      behind : l.from + l.matched ≤ l.place;
-      front : FrontAt l.fn.view.text l.piece (l.place - l.matched) l.matched;
-      before : StandsNowhere l.fn.view.text l.piece l.from (l.place - l.matched);
+      first : IsFirstOpen l.fn.view.text l.piece l.from (length l.fn.view.text) l.place l.matched;
       grows : l.fn.view.looks ≤ l.view.looks;
       looks : l.view.looks + l.matched + 2 * l.from ≤ l.fn.view.looks + 2 * l.place;
     }

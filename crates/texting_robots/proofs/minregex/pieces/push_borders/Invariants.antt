@@ -1,6 +1,16 @@
-use Rattle.std.proofs.Common.{◌≡◌, length}
-use Rattle.texting_robots.proofs.BorderLemmas.{Known}
+use Rattle.std.proofs.Common.{◌≡◌, ◌+◌, ◌-◌, ◌*◌, ◌≤◌, length}
+use Rattle.texting_robots.proofs.BorderLemmas.{AddsBorders, IsFirstOpen}
 use Rattle.texting_robots.proofs.minregex.pieces.push_borders.Given as goal
 
-abbrev pub invariant-loop-len : goal.invariant-loop-len
-invariant-loop-len l = (l.table ≡ length l.fn.borders.items) × Known l.piece l.fn.borders.items l.borders.items l.len
+-- the piece is looked for in itself, and the borders of its first `place` bytes were added
+abbrev pub invariant-loop-place : goal.invariant-loop-place
+invariant-loop-place l =
+    record {
+      table : l.table ≡ length l.fn.borders.items;
+      within : l.place ≤ length l.piece;
+      first : IsFirstOpen l.piece l.piece 1 (l.place + 1) l.place l.matched;
+      adds : AddsBorders l.piece l.fn.borders.items l.borders.items l.place;
+    }
+
+abbrev pub decreases-loop-place : goal.decreases-loop-place
+decreases-loop-place l = 2 * (length l.piece - l.place) + l.matched
