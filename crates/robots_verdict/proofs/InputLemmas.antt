@@ -1,5 +1,5 @@
 -- How an input is split, line by line, and that there is one way at most.
-use Rattle.std.proofs.Common.{◌≡◌, ◌≢◌, ◌⊎◌, inl, inr, ℕ, zero, suc, ◌+◌, ◌<◌, ◌==◌, true, false, slice_index_or, Any, Bor, IfErr, IsUtf8, Result, Ok, Err, List, [], ◌∷◌, ◌++◌, length, map, slice_index, sym, refl, ap, subst, ◌∙◌, arith, append_assoc, take, drop}
+use Rattle.std.proofs.Common.{◌≡◌, ◌≢◌, inl, inr, ℕ, zero, suc, ◌+◌, ◌<◌, ◌==◌, true, false, slice_index_or, Any, Bor, IfErr, IsUtf8, Result, Ok, Err, List, [], ◌∷◌, ◌++◌, length, map, slice_index, sym, refl, ap, subst, ◌∙◌, arith, append_assoc, take, drop}
 use Rattle.std.specs.List.{AllByRecursion as Each}
 use Rattle.std.specs.Result.{IsErrAnd}
 use Rattle.std.proofs.lemmas.Bool.Decides.{nat_tests}

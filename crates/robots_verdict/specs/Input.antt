@@ -22,7 +22,8 @@ without_cr [] = []
 without_cr (byte ∷ []) = if byte == cr then [] else byte ∷ []
 without_cr (byte ∷ next ∷ line) = byte ∷ without_cr (next ∷ line)
 
--- the input is the agent's line, the lines of the URLs, a line with an empty text, and the file
+-- the input is the agent's line, the lines of the URLs, a line with an empty text, and the file;
+-- no URL is empty, so it is the first such line behind the agent's
 pub record IsInput (input agent : List ℕ) (urls : List (List ℕ)) (file : List ℕ) : Type 0 where
   pub agent_line : List ℕ
   pub url_lines : List (List ℕ)

@@ -1,5 +1,5 @@
 -- What the steps of the program do.
-use Rattle.std.specs.Prelude.{◌≡◌, ◌≢◌, ℕ, ◌<◌, List, [], ◌∷◌, ◌++◌, length, slice_index}
+use Rattle.std.specs.Prelude.{◌≡◌, ◌≢◌, ℕ, ◌<◌, List, ◌∷◌, ◌++◌, length, slice_index}
 use Rattle.std.specs.List.{AllZip}
 use Rattle.texting_robots.specs.Rules.{Rule}
 use Rattle.robots_verdict.specs.Input.{IsOneLine, ended, lf, without_cr}
