@@ -45,7 +45,8 @@ fn first_feed(input: &[u8]) -> Option<usize>
 /// The text of the first line and what follows its LF, if there is an LF.
 #[tactic(auto, using(crate::proofs::InputLemmas::line_before))]
 fn first_line<'a>(input: &'a [u8]) -> Option<(&'a [u8], &'a [u8])>
-    ensures { MatchOption result (IsOneLine input.now) (λ found. BeginsWithLine input.now found.0.now found.1.now) }
+    ensures { MatchOption result (IsOneLine input.now)
+        (λ found. BeginsWithLine input.now found.0.now found.1.now) }
 {
     let end = first_feed(input)?;
     Some((without_cr(&input[..end]), &input[end + 1..]))
@@ -53,7 +54,8 @@ fn first_line<'a>(input: &'a [u8]) -> Option<(&'a [u8], &'a [u8])>
 
 /// Splits an input at its first empty line after the first line.
 fn split<'a>(alloc: Global, input: &'a [u8]) -> Result<Parts<'a>, Fault>
-    ensures ok { IfOk result (λ parts. IsInput input.now parts.agent.now (map (λ url. url.now) parts.urls.items) parts.file.now) }
+    ensures ok { IfOk result (λ parts. IsInput input.now parts.agent.now
+        (map (λ url. url.now) parts.urls.items) parts.file.now) }
     ensures fault { IfErr result (λ fault. fault ≢ Fault.Memory → HasFault input.now fault) }
 {
     let Some((agent, mut rest)) = first_line(input) else {
@@ -87,8 +89,10 @@ fn text_of<'a>(bytes: &'a [u8]) -> Result<&'a str, Fault>
 
 /// The bytes of each URL as a text.
 fn texts_of<'a>(alloc: Global, urls: &[&'a [u8]]) -> Result<Vec<&'a str>, Fault>
-    ensures ok { IfOk result (λ texts. (map (λ url. url.now) texts.items ≡ map (λ url. url.now) urls.now) × Each IsUtf8 (map (λ url. url.now) urls.now)) }
-    ensures fault { IfErr result (λ fault. fault ≢ Fault.Memory → (fault ≡ Fault.HeaderNotUtf8) × Any (λ url. ¬ IsUtf8 url) (map (λ url. url.now) urls.now)) }
+    ensures ok { IfOk result (λ texts. (map (λ url. url.now) texts.items ≡ map (λ url. url.now) urls.now)
+        × Each IsUtf8 (map (λ url. url.now) urls.now)) }
+    ensures fault { IfErr result (λ fault. fault ≢ Fault.Memory → (fault ≡ Fault.HeaderNotUtf8)
+        × Any (λ url. ¬ IsUtf8 url) (map (λ url. url.now) urls.now)) }
 {
     let mut texts = Vec::new(alloc);
     for url in urls {
@@ -99,8 +103,10 @@ fn texts_of<'a>(alloc: Global, urls: &[&'a [u8]]) -> Result<Vec<&'a str>, Fault>
 
 /// Reads the header of an input. Where both faults could be answered, it is `NoEmptyLine`.
 pub(crate) fn read_header<'a>(alloc: Global, input: &'a [u8]) -> Result<Header<'a>, Fault>
-    ensures input { IfOk result (λ header. IsInput input.now header.agent.now (map (λ url. url.now) header.urls.items) header.file.now) }
-    ensures texts { IfOk result (λ header. AreUtf8 header.agent.now (map (λ url. url.now) header.urls.items)) }
+    ensures input { IfOk result (λ header. IsInput input.now header.agent.now
+        (map (λ url. url.now) header.urls.items) header.file.now) }
+    ensures texts { IfOk result (λ header. AreUtf8 header.agent.now
+        (map (λ url. url.now) header.urls.items)) }
     ensures fault { IfErr result (λ fault. fault ≢ Fault.Memory → HasFault input.now fault) }
 {
     let parts = split(alloc, input)?;

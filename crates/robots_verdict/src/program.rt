@@ -14,11 +14,16 @@ use std::io::{Read, Write};
 /// `Fault::Read`, `Fault::Write` and `Fault::Memory` tell of a reader, a writer or memory that failed; no clause says when.
 pub fn run<R: Read, W: Write>(alloc: Global, reader: &mut R, writer: &mut W) -> Result<(), Fault>
     ensures ok { OnOk result (IfSome (R.remaining reader.old) (AppendsReport (W.contents writer.old) (W.contents writer.new))) }
-    ensures no_empty_line { IsErrOf result Fault.NoEmptyLine → IfSome (R.remaining reader.old) (λ input. IsReport input (Err Fault.NoEmptyLine)) }
-    ensures header_not_utf8 { IsErrOf result Fault.HeaderNotUtf8 → IfSome (R.remaining reader.old) (λ input. IsReport input (Err Fault.HeaderNotUtf8)) }
-    ensures invalid_rule { IsErrOf result Fault.InvalidRule → IfSome (R.remaining reader.old) (λ input. IsReport input (Err Fault.InvalidRule)) }
-    ensures nothing_written { IfErr result (λ fault. fault ≢ Fault.Write → Keeps (W.contents writer.old) (W.contents writer.new)) }
-    ensures beginning { IsErrOf result Fault.Write → IfSome (R.remaining reader.old) (AppendsReportBeginning (W.contents writer.old) (W.contents writer.new)) }
+    ensures no_empty_line { IsErrOf result Fault.NoEmptyLine
+        → IfSome (R.remaining reader.old) (λ input. IsReport input (Err Fault.NoEmptyLine)) }
+    ensures header_not_utf8 { IsErrOf result Fault.HeaderNotUtf8
+        → IfSome (R.remaining reader.old) (λ input. IsReport input (Err Fault.HeaderNotUtf8)) }
+    ensures invalid_rule { IsErrOf result Fault.InvalidRule
+        → IfSome (R.remaining reader.old) (λ input. IsReport input (Err Fault.InvalidRule)) }
+    ensures nothing_written { IfErr result (λ fault. fault ≢ Fault.Write
+        → Keeps (W.contents writer.old) (W.contents writer.new)) }
+    ensures beginning { IsErrOf result Fault.Write
+        → IfSome (R.remaining reader.old) (AppendsReportBeginning (W.contents writer.old) (W.contents writer.new)) }
 {
     let input = read_all(alloc, reader)?;
     let text = report_of(alloc, &input)?;

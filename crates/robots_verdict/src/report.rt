@@ -12,7 +12,8 @@ use texting_robots::{Error, Robot};
 
 /// Adds a line made of two parts.
 fn push_line(text: &mut String, front: &str, back: &str) -> Result<(), AllocError>
-    ensures { OnOk result (string_bytes text.new ≡ string_bytes text.old ++ ended ((front.now ++ back.now) ∷ [])) }
+    ensures { OnOk result (string_bytes text.new ≡ string_bytes text.old
+        ++ ended ((front.now ++ back.now) ∷ [])) }
 {
     text.push_str(front)?;
     text.push_str(back)?;
@@ -21,7 +22,8 @@ fn push_line(text: &mut String, front: &str, back: &str) -> Result<(), AllocErro
 
 /// Adds the line of the delay.
 fn push_delay(alloc: Global, text: &mut String, delay: Option<u64>) -> Result<(), AllocError>
-    ensures { OnOk result (string_bytes text.new ≡ string_bytes text.old ++ ended (delay_line delay ∷ [])) }
+    ensures { OnOk result (string_bytes text.new ≡ string_bytes text.old
+        ++ ended (delay_line delay ∷ [])) }
 {
     match delay {
         Some(micros) => push_line(text, "delay ", &micros.to_string(alloc)?),
@@ -31,7 +33,8 @@ fn push_delay(alloc: Global, text: &mut String, delay: Option<u64>) -> Result<()
 
 /// Adds the lines of the sitemaps.
 fn push_sitemaps(text: &mut String, sitemaps: &[String]) -> Result<(), AllocError>
-    ensures { OnOk result (string_bytes text.new ≡ string_bytes text.old ++ ended (map sitemap_line (map string_bytes sitemaps.now))) }
+    ensures { OnOk result (string_bytes text.new ≡ string_bytes text.old
+        ++ ended (map sitemap_line (map string_bytes sitemaps.now))) }
 {
     for sitemap in sitemaps {
         push_line(text, "sitemap ", sitemap)?;
@@ -64,7 +67,8 @@ fn push_verdicts(
     robot: &Robot,
     urls: &[&str],
 ) -> Result<(), Error>
-    ensures ok { OnOk result (AddsVerdicts robot.now.rules (map (λ url. url.now) urls.now) (string_bytes text.old) (string_bytes text.new)) }
+    ensures ok { OnOk result (AddsVerdicts robot.now.rules
+        (map (λ url. url.now) urls.now) (string_bytes text.old) (string_bytes text.new)) }
     ensures memory { IfErr result (λ error. error ≡ Error.Memory) }
 {
     for url in urls {

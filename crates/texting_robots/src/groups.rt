@@ -10,7 +10,8 @@ use crate::parser::Line;
 
 /// Whether some line names the agent.
 fn is_named(agent: &[u8], lines: &[Line<'_>]) -> bool
-    ensures { result ≡ list_any (λ line. names (str_to_ascii_lowercase agent.now) (by_value line)) lines.now }
+    ensures { result ≡ list_any
+        (λ line. names (str_to_ascii_lowercase agent.now) (by_value line)) lines.now }
 {
     lines.iter().any(|line| line.names(agent))
 }

@@ -44,7 +44,8 @@ impl Robot {
     pub fn new(alloc: Global, agent: &str, txt: &[u8]) -> Result<Self, Error>
         ensures delay { IfOk result (λ robot. robot.delay ≡ delay_for agent.now (file_lines txt.now)) }
         ensures sitemaps { IfOk result (λ robot. robot.sitemaps ≡ sitemaps_of (file_lines txt.now)) }
-        ensures rules { IfOk result (λ robot. IsPermutation (rules_of agent.now (file_lines txt.now)) robot.rules) }
+        ensures rules { IfOk result
+            (λ robot. IsPermutation (rules_of agent.now (file_lines txt.now)) robot.rules) }
         ensures accepted { OnOk result (¬ IsRefused agent.now (file_lines txt.now)) }
         ensures refused { IsErrOf result Error.InvalidRule → IsRefused agent.now (file_lines txt.now) }
         ensures never_unparsed { IfErr result (λ e. e ≢ Error.InvalidRobots) }

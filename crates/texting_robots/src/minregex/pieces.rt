@@ -89,7 +89,8 @@ fn only_marks(pattern: &[u8], at: usize) -> bool
 
 /// Adds the table of a piece: for each beginning of it the length of its longest proper border.
 fn push_borders(borders: &mut Vec<usize>, piece: &[u8]) -> Result<(), AllocError>
-    ensures { IfOk result (λ _. (table : _) × (borders.new.items ≡ borders.old.items ++ table) × IsTable piece.now table) }
+    ensures { IfOk result (λ _. (table : _) × (borders.new.items ≡ borders.old.items ++ table)
+        × IsTable piece.now table) }
 {
     if piece.is_empty() {
         return Ok(());
@@ -164,7 +165,8 @@ fn find(view: &mut View<'_>, piece: &[u8], borders: &[usize], from: usize) -> Op
 fn ends(view: &mut View<'_>, pattern: &[u8], ending: Ending, place: usize) -> bool
     requires place { place ≤ length view.old.text }
     requires ending { IsEnding pattern.now ending }
-    ensures answer { IsTrue result ↔ Behind [] (finish_of pattern.now ending) (drop place view.old.text) }
+    ensures answer { IsTrue result
+        ↔ Behind [] (finish_of pattern.now ending) (drop place view.old.text) }
     ensures text { view.new.text ≡ view.old.text }
     ensures looks { view.old.looks ≤ view.new.looks }
     ensures cost { view.new.looks + place ≤ view.old.looks + length view.old.text }

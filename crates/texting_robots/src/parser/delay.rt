@@ -53,7 +53,8 @@ fn split_fraction(text: &[u8]) -> (&[u8], &[u8])
 
 /// Whether the exponent that the text is has a minus, and its digits.
 fn read_exponent(text: &[u8]) -> Option<(bool, &[u8])>
-    ensures { MatchOption result ((minus : _) (digits : _) → IsExponent text.now minus digits → ⊥) (λ e. IsExponent text.now e.0 e.1.now) }
+    ensures { MatchOption result ((minus : _) (digits : _) → IsExponent text.now minus digits → ⊥)
+        (λ e. IsExponent text.now e.0 e.1.now) }
 {
     let Some((letter, rest)) = text.split_first() else {
         return Some((false, text));
@@ -72,7 +73,8 @@ fn read_exponent(text: &[u8]) -> Option<(bool, &[u8])>
 
 /// The number that the text spells.
 fn read_number(text: &[u8]) -> Option<Number<'_>>
-    ensures { MatchOption result ((n : Decimal) → Spells text.now n → ⊥) (λ n. Spells text.now (decimal_of n)) }
+    ensures { MatchOption result ((n : Decimal) → Spells text.now n → ⊥)
+        (λ n. Spells text.now (decimal_of n)) }
 {
     let (whole, rest) = split_digits(text);
     let (fraction, rest) = split_fraction(rest);

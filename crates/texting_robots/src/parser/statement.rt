@@ -49,7 +49,9 @@ fn skip_blanks<'a>(text: &'a [u8]) -> &'a [u8]
 
 /// What follows the spelling, if the text begins with it in any letter case.
 fn after_spelling<'a>(spelling: &str, text: &'a [u8]) -> Option<&'a [u8]>
-    ensures { MatchOption result (begins spelling.now text.now ≡ false) (λ rest. (begins spelling.now text.now ≡ true) × (rest.now ≡ drop (length spelling.now) text.now)) }
+    ensures { MatchOption result (begins spelling.now text.now ≡ false)
+        (λ rest. (begins spelling.now text.now ≡ true)
+        × (rest.now ≡ drop (length spelling.now) text.now)) }
 {
     let (key, rest) = text.split_at_checked(spelling.len())?;
     if key.eq_ignore_ascii_case(spelling.as_bytes()) {
@@ -61,7 +63,9 @@ fn after_spelling<'a>(spelling: &str, text: &'a [u8]) -> Option<&'a [u8]>
 
 /// The kind of the first entry whose spelling the text begins with, and what follows that.
 fn key_in<'a>(entries: &[(Kind, &str)], text: &'a [u8]) -> Option<(Kind, &'a [u8])>
-    ensures { let all = map (λ entry. (entry.0, entry.1.now)) entries.now in MatchOption result (key_in all text.now ≡ None) (λ key. key_in all text.now ≡ Some (key.0, key.1.now)) }
+    ensures { let all = map (λ entry. (entry.0, entry.1.now)) entries.now
+        in MatchOption result (key_in all text.now ≡ None)
+        (λ key. key_in all text.now ≡ Some (key.0, key.1.now)) }
 {
     for (kind, spelling) in entries {
         if let Some(rest) = after_spelling(spelling, text) {
@@ -96,8 +100,10 @@ fn region_of<'a>(tail: &'a [u8]) -> &'a [u8]
 
 /// The kind and the value of a body that is a statement.
 pub(crate) fn statement_of<'a>(body: &'a [u8]) -> Option<(Kind, &'a [u8])>
-    ensures value { MatchOption result (statement_of body.now ≡ None) (λ found. statement_of body.now ≡ Some (found.0, found.1.now)) }
-    ensures decides { MatchOption result ((kind : Kind) (value : List ℕ) → ¬ IsStatement kind value body.now) (λ found. IsStatement found.0 found.1.now body.now) }
+    ensures value { MatchOption result (statement_of body.now ≡ None)
+        (λ found. statement_of body.now ≡ Some (found.0, found.1.now)) }
+    ensures decides { MatchOption result ((kind : Kind) (value : List ℕ)
+        → ¬ IsStatement kind value body.now) (λ found. IsStatement found.0 found.1.now body.now) }
 {
     let (kind, rest) = key_in(&SPELLINGS, skip_blanks(body))?;
     let tail = tail_of(rest)?;
