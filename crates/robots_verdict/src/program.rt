@@ -11,6 +11,8 @@ use std::io::{Read, Write};
 
 /// Reads an input to its end, makes its report, and then writes that.
 ///
+/// The clauses are about a reader and a writer that tell their bytes; of standard input and output nothing is claimed.
+///
 /// `Fault::Read`, `Fault::Write` and `Fault::Memory` tell of a reader, a writer or memory that failed; no clause says when.
 pub fn run<R: Read, W: Write>(alloc: Global, reader: &mut R, writer: &mut W) -> Result<(), Fault>
     ensures ok { OnOk result (IfSome (R.remaining reader.old) (AppendsReport (W.contents writer.old) (W.contents writer.new))) }

@@ -6,7 +6,7 @@ use std::io;
 use std::io::{ErrorKind, Read, Write};
 use std::test::Fail;
 
-/// Gives a text piece by piece, over and over if it is endless, and fails after so many good calls, if it is told to.
+/// Gives a text piece by piece, over and over if it is endless, and fails once, after so many good calls, if it is told to.
 #[derive(Drop)]
 struct Source<'a> {
     text: &'a [u8],
@@ -32,10 +32,11 @@ impl<'a> Source<'a> {
 
 impl<'a> Read for Source<'a> {
     fn read(&mut self, buf: &mut [u8]) -> io::Result<usize> {
-        if self.good_calls == Some(self.calls) {
+        let call = self.calls;
+        self.calls = call.saturating_add(1);
+        if self.good_calls == Some(call) {
             return Err(io::Error::from(ErrorKind::BrokenPipe));
         }
-        self.calls = self.calls.saturating_add(1);
         if self.endless && self.rest.is_empty() {
             self.rest = self.text;
         }
@@ -47,7 +48,7 @@ impl<'a> Read for Source<'a> {
     }
 }
 
-/// Takes a text piece by piece, and fails after so many good calls or at the flush, if it is told to.
+/// Takes a text piece by piece, and fails once, after so many good calls, or at the flush, if it is told to.
 #[derive(Drop)]
 struct Sink {
     held: Vec<u8>,
@@ -71,10 +72,11 @@ impl Sink {
 
 impl Write for Sink {
     fn write(&mut self, buf: &[u8]) -> io::Result<usize> {
-        if self.good_calls == Some(self.calls) {
+        let call = self.calls;
+        self.calls = call.saturating_add(1);
+        if self.good_calls == Some(call) {
             return Err(io::Error::from(ErrorKind::BrokenPipe));
         }
-        self.calls = self.calls.saturating_add(1);
         let count = buf.len().min(self.piece);
         self.held.extend_from_slice(&buf[..count])?;
         Ok(count)
@@ -111,7 +113,7 @@ fn before_overlong(alloc: Global, header: &[u8]) -> Result<Vec<u8>, AllocError> 
 
 #[test]
 fn reports(rt: HostRuntime) -> Result<(), Fail> {
-    let rows: [(&str, &[u8], &[u8]); 7] = [
+    let rows: [(&str, &[u8], &[u8]); 8] = [
         ("crawler example", INPUT, OUTPUT),
         (
             "two rules",
@@ -131,6 +133,11 @@ fn reports(rt: HostRuntime) -> Result<(), Fail> {
         ),
         ("empty sitemap", b"B\n\nSitemap:", b"delay none\nsitemap \n"),
         ("one CR of two", b"B\r\r\n\n", b"delay none\n"),
+        (
+            "the other CR stays",
+            b"B\r\r\n/x\n\nUser-Agent: B\nDisallow: /",
+            b"delay none\nallow /x\n",
+        ),
     ];
     for (name, input, output) in rows {
         let mut reader = input;
