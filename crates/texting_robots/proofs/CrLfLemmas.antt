@@ -1,12 +1,12 @@
 -- A CR LF and a LF end a line alike.
 use Rattle.std.proofs.Common.{◌≡◌, ℕ, true, false, ◌==◌, ◌&&◌, if◌then◌else◌, inl, inr, List, [], ◌∷◌, map, sym, refl, ap, ◌∙◌, arith}
-use Rattle.std.proofs.lemmas.Bool.{cases_Bool, cond-true, cond-false, and_parts}
-use Rattle.std.proofs.lemmas.Bool.Decides.{nat_tests}
+use Rattle.std.proofs.lemmas.Bool.{cases_Bool, cond-true, cond-false, and_parts, eqb-true}
 use Rattle.texting_robots.specs.Cut.{Pair, cr, lf}
 use Rattle.texting_robots.specs.Computed.Cut.{cut, before_body, before_end}
 use Rattle.texting_robots.specs.Line.{without, without_front}
 use Rattle.texting_robots.specs.Computed.Line.{line_of, lines_of, parsed}
 use Rattle.texting_robots.specs.Laws.{feeds_alone, CrLfIsLf}
+use Rattle.texting_robots.proofs.CutLemmas.{cut_at_lf, cut_at_cr, cut_at_other, pair_of}
 use Rattle.texting_robots.proofs.LineLemmas.{each_text_has_its_lines}
 
 -- ---- the bodies of a text, from its back
@@ -34,22 +34,18 @@ with_return : (pairs : List Pair) → bodies_of (before_end pairs) ≡ body_retu
 with_return [] = refl
 with_return (pair ∷ pairs) = at pair.body pair.ending pairs
   where
-    at : (body ending : List ℕ) (pairs : List Pair) → let first : Pair = record { body = body; ending = ending } in bodies_of (before_end (first ∷ pairs)) ≡ body_return (bodies_of (first ∷ pairs))
+    at : (body ending : List ℕ) (pairs : List Pair) → bodies_of (before_end (pair_of body ending ∷ pairs)) ≡ body_return (body ∷ bodies_of pairs)
     at [] ending pairs = refl
     at (b ∷ body) ending pairs = refl
 
 step : (b : ℕ) (text : List ℕ) → bodies_of (cut (b ∷ text)) ≡ body_step b (bodies_of (cut text))
-unfolding cut
 step b text = elim (cases_Bool (b == lf)) [
-  | inl is_lf ↦ rw is_lf refl
+  | inl is_lf ↦ rw (cut_at_lf b text is_lf, is_lf) refl
   | inr not_lf ↦ elim (cases_Bool (b == cr)) [
-    | inl is_cr ↦ rw (not_lf, is_cr) (with_return (cut text))
-    | inr not_cr ↦ rw (not_lf, not_cr) (with_byte b (cut text))
+    | inl is_cr ↦ rw (cut_at_cr b text not_lf is_cr, not_lf, is_cr) (with_return (cut text))
+    | inr not_cr ↦ rw (cut_at_other b text not_lf not_cr, not_lf, not_cr) (with_byte b (cut text))
   ]
 ]
-
-same_number : (b c : ℕ) → (b == c) ≡ true → b ≡ c
-same_number b c is = grind (arith, nat_tests)
 
 same_bodies : (text : List ℕ) → bodies_of (cut (feeds_alone text)) ≡ bodies_of (cut text)
 same_bodies [] = refl
@@ -57,8 +53,8 @@ same_bodies (b ∷ []) = refl
 same_bodies (b ∷ c ∷ text) = elim (cases_Bool (b == cr && c == lf)) [
   | inl pair ↦
       let both = and_parts (b == cr) (c == lf) pair in
-      let b_is : b ≡ cr = same_number b cr both.0 in
-      let c_is : c ≡ lf = same_number c lf both.1 in
+      let b_is : b ≡ cr = eqb-true b cr both.0 in
+      let c_is : c ≡ lf = eqb-true c lf both.1 in
       ap (λ t. bodies_of (cut t)) (cond-true _ _ _ pair) ∙ step lf (feeds_alone text) ∙ ap (body_step lf) (same_bodies text)
       ∙ sym (step b (c ∷ text) ∙ ap (body_step b) (step c text) ∙ rw (b_is, c_is) refl)
   | inr single ↦ ap (λ t. bodies_of (cut t)) (cond-false _ _ _ single) ∙ step b (feeds_alone (c ∷ text)) ∙ ap (body_step b) (same_bodies (c ∷ text)) ∙ sym (step b (c ∷ text))
@@ -77,7 +73,7 @@ without_alone byte [] no_lf no_cr = refl
 without_alone byte (b ∷ []) no_lf no_cr = elim (cases_Bool (b == byte)) [ inl is ↦ rw (is) refl | inr isnt ↦ rw (isnt) refl ]
 without_alone byte (b ∷ c ∷ text) no_lf no_cr = elim (cases_Bool (b == cr && c == lf)) [
   | inl pair ↦
-      let b_is : (b == byte) ≡ false = ap (λ x. x == byte) (same_number b cr (and_parts (b == cr) (c == lf) pair).0) ∙ no_cr in
+      let b_is : (b == byte) ≡ false = ap (λ x. x == byte) (eqb-true b cr (and_parts (b == cr) (c == lf) pair).0) ∙ no_cr in
       ap (without byte) (cond-true _ _ _ pair) ∙ cond-false _ _ _ no_lf ∙ sym (cond-true _ _ _ pair) ∙ ap feeds_alone (sym (cond-false _ _ _ b_is))
   | inr single ↦ ap (without byte) (cond-false _ _ _ single) ∙ elim (cases_Bool (b == byte)) [
     | inl is ↦ cond-true _ _ _ is ∙ ap feeds_alone (sym (cond-true _ _ _ is))

@@ -1,9 +1,11 @@
 -- The first line of a text, and the lines of the rest.
-use Rattle.std.proofs.Common.{◌≡◌, ◌≢◌, ℕ, zero, suc, ◌+◌, ◌≤◌, ◌<◌, Bool, true, false, ◌==◌, ◌||◌, inl, inr, List, [], ◌∷◌, length, take, drop, map, get_or, sym, refl, ap, ◌∙◌, arith, Option, Some, None}
+use Rattle.std.proofs.Common.{◌≡◌, ◌≢◌, ℕ, zero, suc, ◌+◌, ◌≤◌, ◌<◌, Bool, true, false, ◌==◌, ◌||◌, inl, inr, List, [], ◌∷◌, length, take, drop, map, get_or, sym, refl, ap, ◌∙◌, arith, cond, if◌then◌else◌, map-id, Option, Some, None}
 use Rattle.std.specs.List.{position_or_len}
-use Rattle.std.proofs.lemmas.Bool.{cases_Bool, cond-true, cond-false}
+use Rattle.std.proofs.lemmas.Bool.{cases_Bool, cond-true, cond-false, eqb-true, ne_eqb}
 use Rattle.std.proofs.lemmas.Bool.Decides.{nat_tests}
-use Rattle.std.proofs.lemmas.List.{drop_more, length-map}
+use Rattle.std.proofs.lemmas.List.{drop_more, drop_all, drop-map, length-map, nil_from_length}
+use Rattle.std.proofs.lemmas.List.Recursion.{is_position_or_len}
+use Rattle.std.proofs.Math.Bool.{or_comm}
 use Rattle.std.specs.Option.{unwrap_or}
 use Rattle.memchr.specs.Find.{is_byte2, is_byte3, IsFirstByte}
 use Rattle.texting_robots.proofs.RegionLemmas.{place_is, end_is}
@@ -14,53 +16,41 @@ use Rattle.texting_robots.specs.Computed.Statement.{statement_of}
 use Rattle.texting_robots.specs.Line.{LineValue, Raw}
 use Rattle.texting_robots.specs.Computed.Delay.{delay_of}
 use Rattle.texting_robots.specs.Computed.Line.{line_by, line_of, lines_of, line_with}
-use Rattle.texting_robots.proofs.CutLemmas.{cut_nil}
+use Rattle.texting_robots.proofs.CutLemmas.{cut_nil, cut_at_lf, cut_at_cr, cut_at_other, pair_of}
 
 -- ---- the first pair
 
-cut_lf : (b : ℕ) (text : List ℕ) → (b == lf) ≡ true → cut (b ∷ text) ≡ record { body = []; ending = lf ∷ [] } ∷ cut text
-unfolding cut
-cut_lf b text e = rw e refl
-
-cut_cr : (b : ℕ) (text : List ℕ) → (b == lf) ≡ false → (b == cr) ≡ true → cut (b ∷ text) ≡ before_end (cut text)
-unfolding cut
-cut_cr b text e f = rw (e, f) refl
-
-cut_body : (b : ℕ) (text : List ℕ) → (b == lf) ≡ false → (b == cr) ≡ false → cut (b ∷ text) ≡ before_body b (cut text)
-unfolding cut
-cut_body b text e f = rw (e, f) refl
-
 -- a CR before a line whose body isn't empty ends a line by itself
-alone : (c : ℕ) (ps : List Pair) → before_end (before_body c ps) ≡ record { body = []; ending = cr ∷ [] } ∷ before_body c ps
+alone : (c : ℕ) (ps : List Pair) → before_end (before_body c ps) ≡ pair_of [] (cr ∷ []) ∷ before_body c ps
 alone c [] = refl
 alone c (p ∷ ps) = refl
 
 -- after a CR: the end goes on, and the lines of the rest follow
-after_cr : (text : List ℕ) → (ending : List ℕ) × (before_end (cut text) ≡ record { body = []; ending = ending } ∷ cut (drop (end_len text) text))
+after_cr : (text : List ℕ) → (ending : List ℕ) × (before_end (cut text) ≡ pair_of [] ending ∷ cut (drop (end_len text) text))
 after_cr [] = (cr ∷ [], rw cut_nil refl)
 after_cr (c ∷ text) =
     elim (cases_Bool (c == lf)) [
-      | inl is_lf ↦ (cr ∷ lf ∷ [], rw (cut_lf c text is_lf, is_lf) refl)
+      | inl is_lf ↦ (cr ∷ lf ∷ [], rw (cut_at_lf c text is_lf, is_lf) refl)
       | inr not_lf ↦ elim (cases_Bool (c == cr)) [
-        | inl is_cr ↦ let next = after_cr text in (cr ∷ next.0, rw (cut_cr c text not_lf is_cr, next.1, not_lf, is_cr) refl)
-        | inr not_cr ↦ (cr ∷ [], rw (not_lf, not_cr, cut_body c text not_lf not_cr) (alone c (cut text)))
+        | inl is_cr ↦ let next = after_cr text in (cr ∷ next.0, rw (cut_at_cr c text not_lf is_cr, next.1, not_lf, is_cr) refl)
+        | inr not_cr ↦ (cr ∷ [], rw (not_lf, not_cr, cut_at_other c text not_lf not_cr) (alone c (cut text)))
       ]
     ]
 
 -- the text is cut after this many bytes of a body and of an end
 abbrev Cuts : List ℕ → ℕ → ℕ → Type 0
-Cuts text n m = (ending : List ℕ) × (cut text ≡ record { body = take n text; ending = ending } ∷ cut (drop m (drop n text)))
+Cuts text n m = (ending : List ℕ) × (cut text ≡ pair_of (take n text) ending ∷ cut (drop m (drop n text)))
 
 abbrev Further : ℕ → List ℕ → Type 0
-Further b text = (ending : List ℕ) × (before_body b (cut text) ≡ record { body = b ∷ take (body_len text) text; ending = ending } ∷ cut (drop (end_len (drop (body_len text) text)) (drop (body_len text) text)))
+Further b text = (ending : List ℕ) × (before_body b (cut text) ≡ pair_of (b ∷ take (body_len text) text) ending ∷ cut (drop (end_len (drop (body_len text) text)) (drop (body_len text) text)))
 
 starts : (b : ℕ) (text : List ℕ) → Further b text → Cuts (b ∷ text) (body_len (b ∷ text)) (end_len (drop (body_len (b ∷ text)) (b ∷ text)))
 starts b text further =
     elim (cases_Bool (b == lf)) [
-      | inl is_lf ↦ (lf ∷ [], rw (cut_lf b text is_lf, is_lf, is_lf) refl)
+      | inl is_lf ↦ (lf ∷ [], rw (cut_at_lf b text is_lf, is_lf, is_lf) refl)
       | inr not_lf ↦ elim (cases_Bool (b == cr)) [
-        | inl is_cr ↦ let next = after_cr text in (next.0, rw (cut_cr b text not_lf is_cr, next.1, not_lf, is_cr, not_lf, is_cr) refl)
-        | inr not_cr ↦ (further.0, rw (cut_body b text not_lf not_cr, not_lf, not_cr) further.1)
+        | inl is_cr ↦ let next = after_cr text in (next.0, rw (cut_at_cr b text not_lf is_cr, next.1, not_lf, is_cr, not_lf, is_cr) refl)
+        | inr not_cr ↦ (further.0, rw (cut_at_other b text not_lf not_cr, not_lf, not_cr) further.1)
       ]
     ]
 
@@ -79,24 +69,17 @@ lines_nil = ap (λ ps. map (λ p. line_of p.body) ps) cut_nil
 -- ---- reading NUL as LF
 
 drop_read : (n : Bool) (k : ℕ) (text : List ℕ) → drop k (read_as n text) ≡ read_as n (drop k text)
-drop_read n zero text = refl
-drop_read n (suc k) [] = refl
-drop_read n (suc k) (b ∷ text) = drop_read n k text
+drop_read n k text = drop-map (read_byte n) k text
 
 at_read : (n : Bool) (text : List ℕ) (i : ℕ) → i < length text → drop i (read_as n text) ≡ read_byte n (get_or text i 0) ∷ drop (i + 1) (read_as n text)
 at_read n text i within = drop_read n i text ∙ ap (read_as n) (drop_more text i 0 within) ∙ ap (λ t. read_byte n (get_or text i 0) ∷ t) (sym (drop_read n (i + 1) text))
 
 pub read_as_is : (text : List ℕ) → read_as false text ≡ text
-read_as_is [] = refl
-read_as_is (b ∷ text) = ap (λ t. b ∷ t) (read_as_is text)
+read_as_is text = map-id text
 
 return_read : (n : Bool) → read_byte n cr ≡ cr
 return_read true = refl
 return_read false = refl
-
-return_feed : (n : Bool) (b : ℕ) → (read_byte n b == lf) ≡ true → (b == cr) ≡ true → ⊥
-return_feed true b is_lf is_cr = grind (arith, nat_tests)
-return_feed false b is_lf is_cr = grind (arith, nat_tests)
 
 not_return : (n : Bool) (b : ℕ) → (b == cr) ≡ false → (read_byte n b == cr) ≡ false
 not_return true b isnt = elim (cases_Bool (b == 0)) [ inl z ↦ rw z refl | inr nz ↦ rw nz isnt ]
@@ -111,19 +94,10 @@ pub end_at_feed : (n : Bool) (text : List ℕ) (i : ℕ) → i < length text →
 end_at_feed n text i within is = ap end_len (at_read n text i within) ∙ cond-true _ _ _ is
 
 pub end_at_other : (n : Bool) (text : List ℕ) (i : ℕ) → i < length text → get_or text i 0 ≢ cr → (read_byte n (get_or text i 0) == lf) ≡ false → end_len (drop i (read_as n text)) ≡ 0
-end_at_other n text i within not_cr not_lf = ap end_len (at_read n text i within) ∙ cond-false _ _ _ not_lf ∙ cond-false _ _ _ (not_return n (get_or text i 0) (differs (get_or text i 0) not_cr))
-  where
-    differs : (b : ℕ) → b ≢ cr → (b == cr) ≡ false
-    differs b h = grind (arith, nat_tests)
+end_at_other n text i within not_cr not_lf = ap end_len (at_read n text i within) ∙ cond-false _ _ _ not_lf ∙ cond-false _ _ _ (not_return n (get_or text i 0) (ne_eqb (get_or text i 0) cr not_cr))
 
 pub end_at_end : (n : Bool) (text : List ℕ) (i : ℕ) → length text ≤ i → end_len (drop i (read_as n text)) ≡ 0
-end_at_end n text i over = ap end_len (drop_read n i text ∙ ap (read_as n) (nothing i text over))
-  where
-    nothing : (i : ℕ) (text : List ℕ) → length text ≤ i → drop i text ≡ []
-    nothing zero [] over = refl
-    nothing zero (b ∷ text) over = absurd (omega arith)
-    nothing (suc i) [] over = refl
-    nothing (suc i) (b ∷ text) over = nothing i text (omega arith)
+end_at_end n text i over = ap end_len (drop_read n i text ∙ ap (read_as n) (drop_all i text over))
 
 -- ---- the length of a body, as a search finds it
 
@@ -131,36 +105,29 @@ abbrev Ends : Bool → (ℕ → Bool) → Type 0
 Ends n test = (b : ℕ) → test b ≡ (read_byte n b == lf || read_byte n b == cr)
 
 pub body_by : (n : Bool) (test : ℕ → Bool) → Ends n test → (text : List ℕ) → position_or_len test text ≡ body_len (read_as n text)
-body_by n test ends [] = refl
-body_by n test ends (b ∷ text) =
-    elim (cases_Bool (read_byte n b == lf)) [
-      | inl is_lf ↦ let yes_end : test b ≡ true = ends b ∙ ap (λ x. x || read_byte n b == cr) is_lf in rw (yes_end, is_lf) refl
-      | inr not_lf ↦ elim (cases_Bool (read_byte n b == cr)) [
-        | inl is_cr ↦ let yes_end : test b ≡ true = ends b ∙ ap (λ x. x || read_byte n b == cr) not_lf ∙ is_cr in rw (yes_end, not_lf, is_cr) refl
-        | inr not_cr ↦ let no_end : test b ≡ false = ends b ∙ ap (λ x. x || read_byte n b == cr) not_lf ∙ not_cr in rw (no_end, not_lf, not_cr) (one_more (position_or_len test text) ∙ ap suc (body_by n test ends text))
-      ]
-    ]
+body_by n test ends text = sym (is_position_or_len (λ t. body_len (read_as n t)) test refl (λ b t. step (read_byte n b == lf) (read_byte n b == cr) (test b) (body_len (read_as n t)) (ends b)) text)
   where
-    one_more : (k : ℕ) → 1 + k ≡ suc k
-    one_more k = omega arith
+    step : (x y z : Bool) (k : ℕ) → z ≡ (x || y) → (if x then 0 else (if y then 0 else suc k)) ≡ cond z 0 (1 + k)
+    step true y z k e = rw e refl
+    step false true z k e = rw e refl
+    step false false z k e = rw e (omega arith)
 
 pub ends_as_is : Ends false (is_byte2 cr lf)
-ends_as_is b = elim (cases_Bool (b == cr)) [
-  | inl one ↦ elim (cases_Bool (b == lf)) [ inl two ↦ rw (one, two) refl | inr two ↦ rw (one, two) refl ]
-  | inr one ↦ elim (cases_Bool (b == lf)) [ inl two ↦ rw (one, two) refl | inr two ↦ rw (one, two) refl ]
-]
+ends_as_is b = or_comm (b == cr) (b == lf)
 
 pub ends_with_nul : Ends true (is_byte3 cr lf 0)
-ends_with_nul b = elim (cases_Bool (b == 0)) [
-  | inl nul ↦ elim (cases_Bool (b == cr)) [
-    | inl one ↦ rw (nul, one) refl
-    | inr one ↦ elim (cases_Bool (b == lf)) [ inl two ↦ rw (nul, one, two) refl | inr two ↦ rw (nul, one, two) refl ]
-  ]
-  | inr nul ↦ elim (cases_Bool (b == cr)) [
-    | inl one ↦ elim (cases_Bool (b == lf)) [ inl two ↦ rw (nul, one, two) refl | inr two ↦ rw (nul, one, two) refl ]
-    | inr one ↦ elim (cases_Bool (b == lf)) [ inl two ↦ rw (nul, one, two) refl | inr two ↦ rw (nul, one, two) refl ]
-  ]
-]
+ends_with_nul b = elim (cases_Bool (b == 0)) [ inl nul ↦ rw nul (last (b == cr) (b == lf)) | inr other ↦ rw other (turned (b == cr) (b == lf)) ]
+  where
+    last : (x y : Bool) → (x || y || true) ≡ true
+    last true y = refl
+    last false true = refl
+    last false false = refl
+
+    turned : (x y : Bool) → (x || y || false) ≡ (y || x)
+    turned true true = refl
+    turned true false = refl
+    turned false true = refl
+    turned false false = refl
 
 -- a body holds no NUL that is read as LF
 body_plain : (n : Bool) (text : List ℕ) → take (body_len (read_as n text)) (read_as n text) ≡ take (body_len (read_as n text)) text
@@ -198,15 +165,10 @@ next_line n rest body after k m some k_is body_is after_is m_is =
     first ∙ ap (λ t. line_of t ∷ lines_of (drop (end_len (drop (body_len text) text)) (drop (body_len text) text))) body_same ∙ ap (λ t. line_of body ∷ lines_of t) rest_same
 
 pub not_empty : (n : ℕ) (b : Bool) → b ≡ (n == 0) → b ≡ false → 0 < n
-not_empty zero b e f = let h : true ≡ false = sym e ∙ f in cc
-not_empty (suc n) b e f = omega arith
+not_empty n b e f = grind (arith, nat_tests)
 
 pub nothing_is : (text : List ℕ) (b : Bool) → b ≡ (length text == 0) → b ≡ true → text ≡ []
-nothing_is [] b e f = refl
-nothing_is (x ∷ text) b e f = absurd (nonzero (length text) (sym e ∙ f))
-  where
-    nonzero : (k : ℕ) → (suc k == 0) ≡ true → ⊥
-    nonzero k is = grind (arith, nat_tests)
+nothing_is text b e f = nil_from_length text (eqb-true (length text) 0 (sym e ∙ f))
 
 pub shorter : (x : LineValue) (s t : List LineValue) → s ≡ x ∷ t → length t < length s
 shorter x s t e = rw e (omega arith)

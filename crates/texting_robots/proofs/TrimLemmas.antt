@@ -15,6 +15,8 @@ use Rattle.bstr.proofs.lemmas.SoundLemmas.{SpellsChar-decoded}
 use Rattle.bstr.proofs.lemmas.TrimLemmas.{kept-skip, kept-stop, kept-nil, kept_end-nil}
 use lib.Utf8.{scalar, low_scalar}
 use Rattle.texting_robots.specs.Trim.{IsSpaces, IsTrimOf}
+use Rattle.texting_robots.specs.Statement.{IsBlank}
+use Rattle.texting_robots.specs.Computed.Statement.{trimmed}
 
 white_scalar : (c : ℕ) → is_whitespace c ≡ true → scalar c ≡ true
 white_scalar c white = low_scalar c (grind (arith, nat_tests))
@@ -262,10 +264,6 @@ back_of at bytes ends = elim ends [
   | inr (front, rest, whole, place, spaces) ↦ record { value = front; back = rest; whole = whole; place = omega (arith, place); spaces = spaces }
 ]
 
--- what the crate's `trim` leaves
-abbrev pub trimmed : List ℕ → List ℕ
-trimmed region = trim_end_by is_whitespace (trim_start_by is_whitespace region)
-
 pub trimmed_is_trim : (region : List ℕ) → IsTrimOf (trimmed region) region
 trimmed_is_trim region = at (trim_start_by is_whitespace region) (trim_start_front region)
   where
@@ -316,9 +314,6 @@ space_before c region value white t = record {
   back_spaces = t.back_spaces;
   back_longest = t.back_longest;
 }
-
-abbrev pub IsBlank : ℕ → Type 0
-IsBlank byte = (byte ≡ 32) ⊎ (byte ≡ 9)
 
 pub blank_before : (b : ℕ) (region value : List ℕ) → IsBlank b → IsTrimOf value region → IsTrimOf value (b ∷ region)
 unfolding encode_utf8
