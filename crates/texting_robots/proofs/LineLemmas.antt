@@ -8,17 +8,24 @@ use Rattle.texting_robots.specs.Cut.{Pair}
 use Rattle.texting_robots.specs.Computed.Cut.{cut}
 use Rattle.texting_robots.specs.Statement.{IsStatement, IsTailOf, colon}
 use Rattle.texting_robots.specs.Computed.Statement.{statement_of}
-use Rattle.texting_robots.specs.Line.{LineValue, AreLinesOf, HoldRangesOf, HoldsRangeOf, IsDelayOrRaw, IsLineOf, IsLineWith, IsRangeOf, without, without_front}
-use Rattle.texting_robots.specs.Computed.Line.{delay_or_raw, line_of, line_with, parsed}
+use Rattle.texting_robots.specs.Line.{LineValue, Raw, AreLinesOf, HoldRangesOf, HoldsRangeOf, IsDelayOrRaw, IsLineOf, IsLineWith, IsRangeOf, without, without_front}
+use Rattle.texting_robots.specs.Computed.Line.{delay_or_raw, line_by, line_of, line_with, parsed}
 use Rattle.texting_robots.specs.Computed.Delay.{delay_of}
 use Rattle.texting_robots.specs.Delay.{IsDelay}
 use Rattle.texting_robots.specs.Laws.{EachTextHasItsLines, ParseTakesAll}
 use Rattle.texting_robots.proofs.DelayLemmas.{delay_of_is, is_delay_of}
 use Rattle.texting_robots.proofs.CutLemmas.{is_cut, only_cut}
 use Rattle.texting_robots.proofs.StatementLemmas.{statement_found, found_statement, unstated}
-use Rattle.texting_robots.proofs.ReadLemmas.{line_stated, line_raw}
 
 -- ---- the line of a body
+
+pub line_stated : (body : List ℕ) (kind : Kind) (value : List ℕ) → statement_of body ≡ Some (kind, value) → line_of body ≡ line_with kind value body
+unfolding line_of
+line_stated body kind value found = ap (λ s. line_by s body) found
+
+pub line_raw : (body : List ℕ) → statement_of body ≡ None → line_of body ≡ Raw body
+unfolding line_of
+line_raw body none = ap (λ s. line_by s body) none
 
 with_delay : (value body : List ℕ) (delay : Option ℕ) → IsDelay value delay → IsDelayOrRaw value body (delay_or_raw delay body)
 with_delay value body None names = inr (names, refl)
