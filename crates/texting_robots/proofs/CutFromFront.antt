@@ -37,15 +37,19 @@ after_cr (c ∷ text) =
       ]
     ]
 
--- the text is cut after this many bytes of a body and of an end
-abbrev Cuts : List ℕ → ℕ → ℕ → Type 0
-Cuts text n m = (ending : List ℕ) × (cut text ≡ pair_of (take n text) ending ∷ cut (drop m (drop n text)))
+-- what follows the first body and its end
+abbrev rest_of : List ℕ → List ℕ
+rest_of text = let left = drop (body_len text) text in drop (end_len left) left
 
--- the same, for the text after a first byte that ends no line
-abbrev Further : ℕ → List ℕ → Type 0
-Further b text = (ending : List ℕ) × (before_body b (cut text) ≡ pair_of (b ∷ take (body_len text) text) ending ∷ cut (drop (end_len (drop (body_len text) text)) (drop (body_len text) text)))
+-- the first pair of the text ends before this rest
+abbrev Starts : List ℕ → Type 0
+Starts text = (ending : List ℕ) × (cut text ≡ pair_of (take (body_len text) text) ending ∷ cut (rest_of text))
 
-starts : (b : ℕ) (text : List ℕ) → Further b text → Cuts (b ∷ text) (body_len (b ∷ text)) (end_len (drop (body_len (b ∷ text)) (b ∷ text)))
+-- the same, with one more byte of the first body
+abbrev StartsBehind : ℕ → List ℕ → Type 0
+StartsBehind b text = (ending : List ℕ) × (before_body b (cut text) ≡ pair_of (b ∷ take (body_len text) text) ending ∷ cut (rest_of text))
+
+starts : (b : ℕ) (text : List ℕ) → StartsBehind b text → Starts (b ∷ text)
 starts b text further =
     elim (cases_Bool (b == lf)) [
       | inl is_lf ↦ (lf ∷ [], rw (cut_at_lf b text is_lf, is_lf, is_lf) refl)
@@ -56,11 +60,11 @@ starts b text further =
     ]
 
 -- the first pair of a text that isn't empty, and the pairs of the rest
-first_piece : (b : ℕ) (text : List ℕ) → Cuts (b ∷ text) (body_len (b ∷ text)) (end_len (drop (body_len (b ∷ text)) (b ∷ text)))
+first_piece : (b : ℕ) (text : List ℕ) → Starts (b ∷ text)
 first_piece b [] = starts b [] ([], rw cut_nil refl)
 first_piece b (c ∷ text) = let next = first_piece c text in starts b (c ∷ text) (next.0, rw next.1 refl)
 
-lines_first : (text : List ℕ) → 0 < length text → lines_of text ≡ line_of (take (body_len text) text) ∷ lines_of (drop (end_len (drop (body_len text) text)) (drop (body_len text) text))
+lines_first : (text : List ℕ) → 0 < length text → lines_of text ≡ line_of (take (body_len text) text) ∷ lines_of (rest_of text)
 lines_first [] some = absurd (omega (arith, some))
 lines_first (b ∷ text) some = ap (λ ps. map (λ p. line_of p.body) ps) (first_piece b text).1
 
@@ -168,9 +172,9 @@ next_line n rest body after k m some k_is body_is after_is m_is =
     let first = lines_first text (omega (arith, some, long_read n rest)) in
     let body_same : take (body_len text) text ≡ body = body_plain n rest ∙ ap (λ i. take i rest) (sym k_is) ∙ sym body_is in
     let after_same : drop (body_len text) text ≡ read_as n after = ap (λ i. drop i text) (sym k_is) ∙ drop_read n k rest ∙ ap (read_as n) (sym after_is) in
-    let rest_same : drop (end_len (drop (body_len text) text)) (drop (body_len text) text) ≡ read_as n (drop m after)
+    let rest_same : rest_of text ≡ read_as n (drop m after)
     = ap (λ t. drop (end_len t) t) after_same ∙ ap (λ i. drop i (read_as n after)) (sym m_is) ∙ drop_read n m after in
-    first ∙ ap (λ t. line_of t ∷ lines_of (drop (end_len (drop (body_len text) text)) (drop (body_len text) text))) body_same ∙ ap (λ t. line_of body ∷ lines_of t) rest_same
+    first ∙ ap (λ t. line_of t ∷ lines_of (rest_of text)) body_same ∙ ap (λ t. line_of body ∷ lines_of t) rest_same
 
 -- what the tests of the reader say
 pub not_empty : (n : ℕ) (b : Bool) → b ≡ (n == 0) → b ≡ false → 0 < n
