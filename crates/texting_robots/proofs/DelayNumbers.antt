@@ -1,5 +1,5 @@
 -- Numbers that digits spell, cut and rounded.
-use Rattle.std.proofs.Common.{◌≡◌, ⊎_elim, ℕ, suc, ◌+◌, ◌-◌, ◌*◌, ◌^◌, ◌<◌, ◌≤◌, min, List, [], ◌∷◌, ◌++◌, All, length, get_or, take, drop, refl, append-nil, sym, ap, subst, ◌∙◌, add-one, arith}
+use Rattle.std.proofs.Common.{◌≡◌, ⊎_elim, inl, inr, ℕ, suc, ◌+◌, ◌-◌, ◌*◌, ◌^◌, ◌<◌, ◌≤◌, min, List, [], ◌∷◌, ◌++◌, All, length, get_or, take, drop, refl, append-nil, sym, ap, subst, ◌∙◌, add-one, arith}
 use Rattle.std.proofs.Math.Nat.{mul-le-mul_left, mul-le-mul_right, mul_assoc, mul_right_comm, pow-suc, pow-le-pow_right, one-le-pow, min-eq_left, min-eq_right, min-le_left, min-le_right, le-min, lt_of_mul-lt-mul_right, le_of_mul-le-mul_right, mul-lt-mul_of_pos_right}
 use Rattle.std.proofs.Math.Seq.{take-append-add}
 use Rattle.std.proofs.lemmas.Nat.{pow-add}
@@ -8,10 +8,9 @@ use Rattle.std.proofs.lemmas.List.{length-append, length-drop, take-append-drop,
 use Rattle.std.proofs.lemmas.List.Elements.{All-head, All-tail, All-drop, All-append}
 use Rattle.texting_robots.specs.Delay.{Decimal, IsDigit, Rounds, negative_exponent, greatest_delay, spelled, positive_exponent}
 
--- the greatest numbers
-module _ (m : ℕ) where
-  pub min_step : (x d : ℕ) → min (min (min x m * 10) m + d) m ≡ min (x * 10 + d) m
-  min_step x d = omega arith
+-- one more digit, within the bound m
+pub min_step : (m x d : ℕ) → min (min (min x m * 10) m + d) m ≡ min (x * 10 + d) m
+min_step m x d = omega arith
 
 pub pow_some : (k : ℕ) → 0 < 10 ^ k
 pow_some k = one-le-pow k 10 (omega arith)
@@ -57,57 +56,42 @@ append_more start ds i h =
 
 -- bounded sums and products
 module _ (m : ℕ) where
-  above : (x : ℕ) → m ≤ x → min x m ≡ m
-  above x h = min-eq_right h
-
   pub min_append : (v p w : ℕ) → 0 < p → min (min v m * p + w) m ≡ min (v * p + w) m
-  min_append v p w some =
-      ⊎_elim (λ (l : v < m). let le : v ≤ m = omega arith in ap (λ x. min (x * p + w) m) (min-eq_left le))
-      (λ l.
-      let one : 1 ≤ p = some in
-      let a : m * 1 ≤ m * p = mul-le-mul_left m one in
-      let b : m * p ≤ v * p = mul-le-mul_right p l in
-      ap (λ x. min (x * p + w) m) (above v l) ∙ above (m * p + w) (omega arith) ∙ sym (above (v * p + w) (omega arith)))
-      (cases_lt v m)
+  min_append v p w some = elim (cases_lt v m) [
+    | inl l ↦ (let le : v ≤ m = omega arith in rw (min-eq_left le) refl)
+    | inr l ↦ (let one : 1 ≤ p = some in
+        let a : m * 1 ≤ m * p = mul-le-mul_left m one in
+        let b : m * p ≤ v * p = mul-le-mul_right p l in
+        rw (min-eq_right l) (omega arith))
+  ]
 
   -- a power that is above the bound may be replaced by one that is as well
   pub min_product : (v p : ℕ) → 0 < m → 0 < p → min (min v m * min p m) m ≡ min (v * p) m
-  min_product v p some pos =
-      ⊎_elim (λ (z : v ≡ 0). ap (λ x. min (min x m * min p m) m) z ∙ ap (λ x. min (x * min p m) m) none ∙ omega arith ∙ sym (ap (λ x. min (x * p) m) z))
-      (λ ne.
-      ⊎_elim (λ (l : p < m).
-      let le : p ≤ m = omega arith in
-      ap (λ x. min (min v m * x) m) (min-eq_left le) ∙ ap (λ x. min x m) (sym (add_none (min v m * p))) ∙ min_append v p 0 pos ∙ ap (λ x. min x m) (add_none (v * p)))
-      (λ l.
-      let one : 1 ≤ min v m = omega arith in
-      let v_one : 1 ≤ v = omega arith in
-      let a : 1 * m ≤ min v m * m = mul-le-mul_right m one in
-      let b : 1 * p ≤ v * p = mul-le-mul_right p v_one in
-      ap (λ x. min (min v m * x) m) (above p l) ∙ above (min v m * m) (omega arith) ∙ sym (above (v * p) (omega arith)))
-      (cases_lt p m))
-      (cases_eq v 0)
-    where
-      none : min 0 m ≡ 0
-      none = omega arith
-
-      add_none : (x : ℕ) → x + 0 ≡ x
-      add_none x = omega arith
+  min_product v p some pos = elim (cases_eq v 0) [
+    | inl z ↦ (let none : min 0 m ≡ 0 = omega arith in rw (z, none) (omega arith))
+    | inr ne ↦ elim (cases_lt p m) [
+      | inl l ↦ (let le : p ≤ m = omega arith in rw (min-eq_left le) (omega (arith, min_append v p 0 pos)))
+      | inr l ↦ (let one : 1 ≤ min v m = omega arith in
+          let v_one : 1 ≤ v = omega arith in
+          let a : 1 * m ≤ min v m * m = mul-le-mul_right m one in
+          let b : 1 * p ≤ v * p = mul-le-mul_right p v_one in
+          rw (min-eq_right l) (omega arith))
+    ]
+  ]
 
   pub min_zeros : (v z : ℕ) → m ≤ 10 ^ 20 → min (v * 10 ^ min z 20) m ≡ min (v * 10 ^ z) m
-  min_zeros v z big =
-      ⊎_elim (λ (l : z < 20). let le : z ≤ 20 = omega arith in ap (λ x. min (v * 10 ^ x) m) (min-eq_left le))
-      (λ l.
-      ap (λ x. min (v * 10 ^ x) m) (min-eq_right l)
-      ∙ ⊎_elim (λ (e : v ≡ 0). ap (λ x. min (x * 10 ^ 20) m) e ∙ omega arith ∙ sym (ap (λ x. min (x * 10 ^ z) m) e))
-      (λ ne.
-      let one : 1 ≤ v = omega arith in
-      let ten : 0 < 10 = omega arith in
-      let long : 10 ^ 20 ≤ 10 ^ z = pow-le-pow_right ten l in
-      let a : 1 * 10 ^ 20 ≤ v * 10 ^ 20 = mul-le-mul_right (10 ^ 20) one in
-      let b : 1 * 10 ^ z ≤ v * 10 ^ z = mul-le-mul_right (10 ^ z) one in
-      above (v * 10 ^ 20) (omega arith) ∙ sym (above (v * 10 ^ z) (omega arith)))
-      (cases_eq v 0))
-      (cases_lt z 20)
+  min_zeros v z big = elim (cases_lt z 20) [
+    | inl l ↦ (let le : z ≤ 20 = omega arith in rw (min-eq_left le) refl)
+    | inr l ↦ rw (min-eq_right l) (elim (cases_eq v 0) [
+      | inl e ↦ rw e (omega arith)
+      | inr ne ↦ (let one : 1 ≤ v = omega arith in
+          let ten : 0 < 10 = omega arith in
+          let long : 10 ^ 20 ≤ 10 ^ z = pow-le-pow_right ten l in
+          let a : 1 * 10 ^ 20 ≤ v * 10 ^ 20 = mul-le-mul_right (10 ^ 20) one in
+          let b : 1 * 10 ^ z ≤ v * 10 ^ z = mul-le-mul_right (10 ^ z) one in
+          omega arith)
+    ])
+  ]
 
 -- a power of ten on each side: v is m * 10^y / 10^x, rounded down
 pub record Between (m v x y : ℕ) : Type 0 where
@@ -147,23 +131,17 @@ shifted a b p = spelled (cut a b p) * 10 ^ zeros a b p
 
 module _ (a b : List ℕ) (p : ℕ) where
   cut_short : p ≤ length a + length b → cut a b p ≡ take p (a ++ b)
-  cut_short le =
-      ⊎_elim (λ (l : p < length a).
-      let w : min (length a) p ≡ p = omega arith in
-      let f : min (length b) (p - min (length a) p) ≡ 0 = omega arith in
-      let within : p ≤ length a = omega arith in
-      ap (λ x. take x a ++ take (min (length b) (p - min (length a) p)) b) w ∙ ap (λ x. take p a ++ take x b) f ∙ append-nil (take p a) ∙ sym (take-append-le p a b within))
-      (λ l.
-      let w : min (length a) p ≡ length a = omega arith in
-      let f : min (length b) (p - min (length a) p) ≡ p - length a = omega arith in
-      let all : length a ≤ length a = omega arith in
-      let back : length a + (p - length a) ≡ p = omega arith in
-      ap (λ x. take x a ++ take (min (length b) (p - min (length a) p)) b) w ∙ ap (λ x. take (length a) a ++ take x b) f ∙ ap (λ x. x ++ take (p - length a) b) (take_all (length a) a all)
-      ∙ sym (take-append-add a b (p - length a)) ∙ ap (λ x. take x (a ++ b)) back)
-      (cases_lt p (length a))
-
-  zeros_short : p ≤ length a + length b → zeros a b p ≡ 0
-  zeros_short le = omega arith
+  cut_short le = elim (cases_lt p (length a)) [
+    | inl l ↦ (let w : min (length a) p ≡ p = omega arith in
+        let f : min (length b) (p - min (length a) p) ≡ 0 = omega arith in
+        let within : p ≤ length a = omega arith in
+        rw (f, w) (append-nil (take p a) ∙ sym (take-append-le p a b within)))
+    | inr l ↦ (let w : min (length a) p ≡ length a = omega arith in
+        let f : min (length b) (p - min (length a) p) ≡ p - length a = omega arith in
+        let all : length a ≤ length a = omega arith in
+        let back : length a + (p - length a) ≡ p = omega arith in
+        rw (f, w, take_all (length a) a all) (sym (take-append-add a b (p - length a)) ∙ ap (λ x. take x (a ++ b)) back))
+  ]
 
   cut_long : length a + length b ≤ p → cut a b p ≡ a ++ b
   cut_long le =
@@ -171,16 +149,13 @@ module _ (a b : List ℕ) (p : ℕ) where
       let f : min (length b) (p - min (length a) p) ≡ length b = omega arith in
       let all_a : length a ≤ length a = omega arith in
       let all_b : length b ≤ length b = omega arith in
-      ap (λ x. take x a ++ take (min (length b) (p - min (length a) p)) b) w ∙ ap (λ x. take (length a) a ++ take x b) f ∙ ap (λ x. x ++ take (length b) b) (take_all (length a) a all_a) ∙ ap (λ x. a ++ x) (take_all (length b) b all_b)
-
-  zeros_long : length a + length b ≤ p → zeros a b p ≡ p - (length a + length b)
-  zeros_long le = omega arith
+      rw (f, w, take_all (length a) a all_a, take_all (length b) b all_b) refl
 
   shifted_long : length a + length b ≤ p → shifted a b p ≡ spelled (a ++ b) * 10 ^ (p - (length a + length b))
-  shifted_long le = ap (λ x. spelled x * 10 ^ zeros a b p) (cut_long le) ∙ ap (λ x. spelled (a ++ b) * 10 ^ x) (zeros_long le)
+  shifted_long le = let rest : zeros a b p ≡ p - (length a + length b) = omega arith in rw (cut_long le, rest) refl
 
   shifted_short : p ≤ length a + length b → shifted a b p ≡ spelled (take p (a ++ b))
-  shifted_short le = ap (λ x. spelled x * 10 ^ zeros a b p) (cut_short le) ∙ ap (λ x. spelled (take p (a ++ b)) * 10 ^ x) (zeros_short le) ∙ omega arith
+  shifted_short le = let none : zeros a b p ≡ 0 = omega arith in rw (cut_short le, none) (omega arith)
 
   module _ (digits : All IsDigit (a ++ b)) where
     shift_short : p ≤ length a + length b → Between (spelled (a ++ b)) (spelled (take p (a ++ b))) (length a + length b - p) 0
@@ -194,18 +169,12 @@ module _ (a b : List ℕ) (p : ℕ) where
         record { low = omega (arith, whole); high = omega (arith, whole, small) }
 
     shift : Between (spelled (a ++ b)) (shifted a b p) (length a + length b - p) (p - (length a + length b))
-    shift =
-        let m = spelled (a ++ b) in
-        let size = length a + length b in
-        ⊎_elim (λ (l : p < size).
-        let le : p ≤ size = omega arith in
-        let none : p - size ≡ 0 = omega arith in
-        subst (λ v. Between m v (size - p) (p - size)) (sym (shifted_short le)) (subst (λ y. Between m (spelled (take p (a ++ b))) (size - p) y) (sym none) (shift_short le)))
-        (λ l.
-        let none : size - p ≡ 0 = omega arith in
-        let here : Between m (m * 10 ^ (p - size)) 0 (p - size) = record { low = omega arith; high = omega arith } in
-        subst (λ v. Between m v (size - p) (p - size)) (sym (shifted_long l)) (subst (λ x. Between m (m * 10 ^ (p - size)) x (p - size)) (sym none) here))
-        (cases_lt p size)
+    shift = elim (cases_lt p (length a + length b)) [
+      | inl l ↦ (let le : p ≤ length a + length b = omega arith in
+          let none : p - (length a + length b) ≡ 0 = omega arith in
+          rw (shifted_short le, none) (shift_short le))
+      | inr l ↦ (let none : length a + length b - p ≡ 0 = omega arith in rw (shifted_long l, none) (record { low = omega arith; high = omega arith }))
+    ]
 
 -- digits beyond all that there are, and twenty zeros more, make no difference
 pub capped : (a b : List ℕ) (p m : ℕ) → length a + length b + 20 ≤ m → m ≤ 10 ^ 20 → min (shifted a b (min p m)) m ≡ min (shifted a b p) m
