@@ -1,6 +1,6 @@
 -- Numbers that digits spell, cut and rounded.
 use Rattle.std.proofs.Common.{◌≡◌, ⊎_elim, inl, inr, ℕ, suc, ◌+◌, ◌-◌, ◌*◌, ◌^◌, ◌<◌, ◌≤◌, min, List, [], ◌∷◌, ◌++◌, All, length, get_or, take, drop, refl, append-nil, sym, ap, subst, ◌∙◌, add-one, arith}
-use Rattle.std.proofs.Math.Nat.{mul-le-mul_left, mul-le-mul_right, mul_assoc, mul_right_comm, pow-suc, pow-le-pow_right, one-le-pow, min-eq_left, min-eq_right, min-le_left, min-le_right, le-min, lt_of_mul-lt-mul_right, le_of_mul-le-mul_right, mul-lt-mul_of_pos_right}
+use Rattle.std.proofs.Math.Nat.{add_comm, mul-le-mul_left, mul-le-mul_right, mul_assoc, mul_right_comm, pow-suc, pow-le-pow_right, one-le-pow, min-eq_left, min-eq_right, min-le_left, min-le_right, le-min, lt_of_mul-lt-mul_right, le_of_mul-le-mul_right, mul-lt-mul_of_pos_right}
 use Rattle.std.proofs.Math.Seq.{take-append-add}
 use Rattle.std.proofs.lemmas.Nat.{pow-add}
 use Rattle.std.proofs.lemmas.Bool.{cases_lt, cases_eq}
@@ -103,17 +103,15 @@ powers n i j = mul_assoc n (10 ^ i) (10 ^ j) ∙ ap (λ x. n * x) (sym (pow-add 
 
 module _ (m v x y s t : ℕ) (even : s + y ≡ t + x) (h : Between m v x y) where
   other : (n : ℕ) → n * 10 ^ s * 10 ^ y ≡ n * 10 ^ x * 10 ^ t
-  other n =
-      let turn : t + x ≡ x + t = omega arith in
-      powers n s y ∙ ap (λ i. n * 10 ^ i) (even ∙ turn) ∙ sym (powers n x t)
+  other n = powers n s y ∙ ap (λ i. n * 10 ^ i) (even ∙ add_comm t x) ∙ sym (powers n x t)
 
   rescale : Between m v s t
   rescale =
       let low : v * 10 ^ x * 10 ^ t ≤ m * 10 ^ y * 10 ^ t = mul-le-mul_right (10 ^ t) h.low in
       let high : m * 10 ^ y * 10 ^ t < (v + 1) * 10 ^ x * 10 ^ t = mul-lt-mul_of_pos_right h.high (pow_some t) in
       let right = mul_right_comm m (10 ^ y) (10 ^ t) in
-      let left_low : v * 10 ^ s * 10 ^ y ≤ m * 10 ^ t * 10 ^ y = subst (λ n. n ≤ m * 10 ^ t * 10 ^ y) (sym (other v)) (subst (λ n. v * 10 ^ x * 10 ^ t ≤ n) right low) in
-      let left_high : m * 10 ^ t * 10 ^ y < (v + 1) * 10 ^ s * 10 ^ y = subst (λ n. m * 10 ^ t * 10 ^ y < n) (sym (other (v + 1))) (subst (λ n. n < (v + 1) * 10 ^ x * 10 ^ t) right high) in
+      let left_low : v * 10 ^ s * 10 ^ y ≤ m * 10 ^ t * 10 ^ y = rw (other v, ← right) low in
+      let left_high : m * 10 ^ t * 10 ^ y < (v + 1) * 10 ^ s * 10 ^ y = rw (other (v + 1), ← right) high in
       record {
         low = le_of_mul-le-mul_right left_low (pow_some y);
         high = lt_of_mul-lt-mul_right (10 ^ y) left_high;
@@ -179,17 +177,15 @@ module _ (a b : List ℕ) (p : ℕ) where
 -- digits beyond all that there are, and twenty zeros more, make no difference
 pub capped : (a b : List ℕ) (p m : ℕ) → length a + length b + 20 ≤ m → m ≤ 10 ^ 20 → min (shifted a b (min p m)) m ≡ min (shifted a b p) m
 capped a b p m room big =
-    ⊎_elim (λ (l : p < m). let le : p ≤ m = omega arith in ap (λ x. min (shifted a b x) m) (min-eq_left le))
-    (λ l.
-    let size = length a + length b in
-    let many : size ≤ m = omega arith in
-    let more : size ≤ p = omega arith in
-    let far_m : min (m - size) 20 ≡ 20 = omega arith in
-    let far_p : min (p - size) 20 ≡ 20 = omega arith in
-    let top : (q : ℕ) → min (q - size) 20 ≡ 20 → size ≤ q → min (shifted a b q) m ≡ min (spelled (a ++ b) * 10 ^ 20) m = λ q far le.
-    ap (λ x. min x m) (shifted_long a b q le) ∙ sym (min_zeros m (spelled (a ++ b)) (q - size) big) ∙ ap (λ x. min (spelled (a ++ b) * 10 ^ x) m) far in
-    ap (λ x. min (shifted a b x) m) (min-eq_right l) ∙ top m far_m many ∙ sym (top p far_p more))
-    (cases_lt p m)
+    elim (cases_lt p m) [
+      | inl l ↦ (let le : p ≤ m = omega arith in rw (min-eq_left le) refl)
+      | inr l ↦ (let size = length a + length b in
+          let far_m : min (m - size) 20 ≡ 20 = omega arith in
+          let far_p : min (p - size) 20 ≡ 20 = omega arith in
+          let top : (q : ℕ) → min (q - size) 20 ≡ 20 → size ≤ q → min (shifted a b q) m ≡ min (spelled (a ++ b) * 10 ^ 20) m = λ q far le.
+          ap (λ x. min x m) (shifted_long a b q le) ∙ sym (min_zeros m (spelled (a ++ b)) (q - size) big) ∙ ap (λ x. min (spelled (a ++ b) * 10 ^ x) m) far in
+          rw (min-eq_right l) (top m far_m (omega arith) ∙ sym (top p far_p (omega arith))))
+    ]
 
 module _ (n : Decimal) where
   abbrev f : ℕ
@@ -206,9 +202,9 @@ module _ (n : Decimal) where
       let within : min v greatest_delay * 10 ^ (f + negative_exponent n) ≤ m * 10 ^ (6 + positive_exponent n) = omega arith in
       record {
         bound = min-le_right v greatest_delay;
-        at_most = subst (λ x. x ≤ m * 10 ^ 6 * 10 ^ positive_exponent n) (sym (left (min v greatest_delay))) (subst (λ x. min v greatest_delay * 10 ^ (f + negative_exponent n) ≤ x) (sym right) within);
+        at_most = rw (left (min v greatest_delay), right) within;
         greatest = λ d bound at_most.
-            let there : d * 10 ^ (f + negative_exponent n) ≤ m * 10 ^ (6 + positive_exponent n) = subst (λ x. x ≤ m * 10 ^ (6 + positive_exponent n)) (left d) (subst (λ x. d * 10 ^ f * 10 ^ negative_exponent n ≤ x) right at_most) in
+            let there : d * 10 ^ (f + negative_exponent n) ≤ m * 10 ^ (6 + positive_exponent n) = rw (← left d, ← right) at_most in
             let less : d * 10 ^ (f + negative_exponent n) < (v + 1) * 10 ^ (f + negative_exponent n) = omega arith in
             let lt : d < v + 1 = lt_of_mul-lt-mul_right (10 ^ (f + negative_exponent n)) less in
             le-min (omega arith) bound;
@@ -224,21 +220,18 @@ module _ (n : Decimal) where
       let size = length n.whole + f in
       let v = shifted n.whole n.fraction places in
       let h = shift n.whole n.fraction places digits in
-      ⊎_elim (λ (l : length n.whole + 6 + positive_exponent n < negative_exponent n).
-      let zero_places : places ≡ 0 = omega arith in
-      let none : v ≡ 0 = ap (shifted n.whole n.fraction) zero_places ∙ shifted_short n.whole n.fraction 0 (omega arith) ∙ spelled_nil in
-      let back : size - places ≡ size = omega arith in
-      let front : places - size ≡ 0 = omega arith in
-      let here : Between m 0 size 0 = subst (λ x. Between m 0 x 0) back (subst (λ y. Between m 0 (size - places) y) front (subst (λ w. Between m w (size - places) (places - size)) none h)) in
-      let next : Between m 0 (6 + positive_exponent n + size) (6 + positive_exponent n) = rescale m 0 size 0 (6 + positive_exponent n + size) (6 + positive_exponent n) (omega arith) here in
-      let ten : 0 < 10 = omega arith in
-      let far : 6 + positive_exponent n + size ≤ f + negative_exponent n = omega arith in
-      let wide : 10 ^ (6 + positive_exponent n + size) ≤ 10 ^ (f + negative_exponent n) = pow-le-pow_right ten far in
-      let high = next.high in
-      let result : Between m 0 (f + negative_exponent n) (6 + positive_exponent n) = record { low = omega arith; high = omega arith } in
-      subst (λ w. Between m w (f + negative_exponent n) (6 + positive_exponent n)) (sym none) result)
-      (λ l. rescale m v (size - places) (places - size) (f + negative_exponent n) (6 + positive_exponent n) (omega arith) h)
-      (cases_lt (length n.whole + 6 + positive_exponent n) (negative_exponent n))
+      elim (cases_lt (length n.whole + 6 + positive_exponent n) (negative_exponent n)) [
+        | inr l ↦ rescale m v (size - places) (places - size) (f + negative_exponent n) (6 + positive_exponent n) (omega arith) h
+        | inl l ↦ (let zero_places : places ≡ 0 = omega arith in
+            let none : v ≡ 0 = ap (shifted n.whole n.fraction) zero_places ∙ shifted_short n.whole n.fraction 0 (omega arith) ∙ spelled_nil in
+            let here : Between m 0 (size - places) (places - size) = subst (λ w. Between m w (size - places) (places - size)) none h in
+            let far : 6 + positive_exponent n + size ≤ f + negative_exponent n = omega arith in
+            let next : Between m 0 (6 + positive_exponent n + size) (6 + positive_exponent n) = rescale m 0 (size - places) (places - size) (6 + positive_exponent n + size) (6 + positive_exponent n) (omega arith) here in
+            let ten : 0 < 10 = omega arith in
+            let wide : 10 ^ (6 + positive_exponent n + size) ≤ 10 ^ (f + negative_exponent n) = pow-le-pow_right ten far in
+            let high = next.high in
+            subst (λ w. Between m w (f + negative_exponent n) (6 + positive_exponent n)) (sym none) (record { low = omega arith; high = omega arith }))
+      ]
 
 -- the microseconds that the code computes are those of the number
 pub micros_rounded : (n : Decimal) (digits : ℕ) → All IsDigit n.whole → All IsDigit n.fraction → length n.whole + length n.fraction < 2 ^ 63 → digits ≡ min (places n) greatest_delay
