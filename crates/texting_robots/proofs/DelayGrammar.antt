@@ -13,7 +13,7 @@ abbrev first : List ℕ → ℕ
 first text = get_or text 0 0
 
 -- digits in front are found in one way
-pub digits_same : (a b c d : List ℕ) → a ++ b ≡ c ++ d → All IsDigit a → All IsDigit c → (IsDigit (first b) → ⊥) → (IsDigit (first d) → ⊥) → (a ≡ c) × (b ≡ d)
+digits_same : (a b c d : List ℕ) → a ++ b ≡ c ++ d → All IsDigit a → All IsDigit c → (IsDigit (first b) → ⊥) → (IsDigit (first d) → ⊥) → (a ≡ c) × (b ≡ d)
 digits_same [] b [] d e ha hc hb hd = (refl, e)
 digits_same [] b (y ∷ c) d e ha hc hb hd = absurd (hb (subst (λ t. IsDigit (first t)) (sym e) (All-head IsDigit y c hc)))
 digits_same (x ∷ a) b [] d e ha hc hb hd = absurd (hd (subst (λ t. IsDigit (first t)) e (All-head IsDigit x a ha)))
@@ -25,14 +25,14 @@ digits_same (x ∷ a) b (y ∷ c) d e ha hc hb hd =
     (cc, same.1)
 
 -- both splits are found in one way
-pub split_same : (text a b c d : List ℕ) → AreDigits text a b → AreDigits text c d → (a ≡ c) × (b ≡ d)
+split_same : (text a b c d : List ℕ) → AreDigits text a b → AreDigits text c d → (a ≡ c) × (b ≡ d)
 split_same text a b c d x y = digits_same a b c d (sym x.is_text ∙ y.is_text) x.are_digits y.are_digits x.stop y.stop
 
 all_digits : (text ds : List ℕ) → text ≡ ds → All IsDigit ds → AreDigits text ds []
 all_digits text ds e digits = record { is_text = e ∙ sym (append-nil ds); are_digits = digits; stop = λ d. omega arith }
 
 -- a sign in front is found in one way
-pub sign_same : (sign : List ℕ) (minus : Bool) (text rest : List ℕ) → IsSign sign minus → text ≡ sign ++ rest → first rest ≢ 43 → first rest ≢ 45 → (minus ≡ has_minus text) × (rest ≡ behind_sign text)
+sign_same : (sign : List ℕ) (minus : Bool) (text rest : List ℕ) → IsSign sign minus → text ≡ sign ++ rest → first rest ≢ 43 → first rest ≢ 45 → (minus ≡ has_minus text) × (rest ≡ behind_sign text)
 sign_same sign minus text rest (inl (none, m)) e plus dash =
     let here : text ≡ rest = e ∙ ap (λ s. s ++ rest) none in
     let at = unsigned rest plus dash in
@@ -45,7 +45,7 @@ sign_same sign minus text rest (inr (inl (signed, m))) e plus dash = let here : 
 sign_same sign minus text rest (inr (inr (signed, m))) e plus dash = let here : text ≡ 45 ∷ rest = e ∙ ap (λ s. s ++ rest) signed in rw here (m, refl)
 
 -- a sign that the text begins with
-pub sign_there : (text : List ℕ) → (sign : List ℕ) × IsSign sign (has_minus text) × (text ≡ sign ++ behind_sign text)
+sign_there : (text : List ℕ) → (sign : List ℕ) × IsSign sign (has_minus text) × (text ≡ sign ++ behind_sign text)
 sign_there [] = ([], inl (refl, refl), refl)
 sign_there (b ∷ text) = elim (cases_eq b 45) [
   | inl minus ↦ rw minus (45 ∷ [], inr (inr (refl, refl)), refl)
@@ -67,7 +67,7 @@ exponent_first text minus ds (inr h) =
     elim h.is_letter [ inl e ↦ (λ d. omega arith, λ f. omega arith) | inr e ↦ (λ d. omega arith, λ f. omega arith) ]
 
 -- a digit or a point
-pub number_first : (text : List ℕ) (n : Decimal) → Spells text n → (46 ≤ first text) × (first text ≤ 57)
+number_first : (text : List ℕ) (n : Decimal) → Spells text n → (46 ≤ first text) × (first text ≤ 57)
 number_first text n h = by_whole n.whole h.is_text h.whole (λ none. point none h.is_point)
   where
     point : n.whole ≡ [] → ((h.point ≡ []) × (n.fraction ≡ [])) ⊎ (h.point ≡ 46 ∷ []) → h.point ≡ 46 ∷ []
@@ -91,7 +91,7 @@ infinite_first (b ∷ text) word e =
     let small : b < 65 → to_ascii_lowercase b ≡ b = (lowercase_is b).1 in
     elim (cases_lt b 65) [ inl l ↦ (let same : to_ascii_lowercase b ≡ b = small l in omega arith) | inr l ↦ omega arith ]
 
-pub infinite_high : (text : List ℕ) → IsInfinite text → 57 < first text
+infinite_high : (text : List ℕ) → IsInfinite text → 57 < first text
 infinite_high text (inl e) = infinite_first text (codes "nf") e
 infinite_high text (inr e) = infinite_first text (codes "nfinity") e
 
@@ -171,7 +171,7 @@ module _ (text : List ℕ) (n : Decimal) (h : Spells text n) where
     | inr p ↦ inl (n.fraction ++ h.tail, with_point p, record { is_text = refl; are_digits = h.fraction; stop = tail_first.0 })
   ]
 
-pub fraction_same : (text a b c d : List ℕ) → AreFraction text a b → AreFraction text c d → (a ≡ c) × (b ≡ d)
+fraction_same : (text a b c d : List ℕ) → AreFraction text a b → AreFraction text c d → (a ≡ c) × (b ≡ d)
 fraction_same text a b c d (inl (t, e, x)) (inl (u, f, y)) =
     let both : 46 ∷ t ≡ 46 ∷ u = sym e ∙ f in
     let same : t ≡ u = cc in
@@ -219,7 +219,7 @@ number_same text n k h i =
     parts_same k.whole n.whole k.fraction n.fraction n.minus k.minus n.exponent k.exponent parts.0 parts.1 exponent.0 exponent.1
 
 -- the text behind the sign
-pub unsigned_first : (text : List ℕ) (minus : Bool) (delay : ℕ) → NamesUnsignedDelay text minus delay → 46 ≤ first text
+unsigned_first : (text : List ℕ) (minus : Bool) (delay : ℕ) → NamesUnsignedDelay text minus delay → 46 ≤ first text
 unsigned_first text minus delay (inl p) = let high = infinite_high text p.0 in omega arith
 unsigned_first text minus delay (inr p) = (number_first text p.0 p.1).0
 

@@ -18,7 +18,7 @@ pow_some k = one-le-pow k 10 (omega arith)
 pow_more : (k : ℕ) → 10 ^ (k + 1) ≡ 10 ^ k * 10
 pow_more k = rw add-one (pow-suc 10 k)
 
-pub spelled-append : (xs ys : List ℕ) → spelled (xs ++ ys) ≡ spelled xs * 10 ^ length ys + spelled ys
+spelled-append : (xs ys : List ℕ) → spelled (xs ++ ys) ≡ spelled xs * 10 ^ length ys + spelled ys
 unfolding spelled
 spelled-append [] ys = omega arith
 spelled-append (x ∷ xs) ys =
@@ -28,11 +28,12 @@ spelled-append (x ∷ xs) ys =
     let a = (x - 48) * 10 ^ length xs in
     omega (arith, ih, first)
 
-pub spelled_push : (xs : List ℕ) (d : ℕ) → spelled (xs ++ d ∷ []) ≡ spelled xs * 10 + (d - 48)
+-- one more digit behind
+spelled_push : (xs : List ℕ) (d : ℕ) → spelled (xs ++ d ∷ []) ≡ spelled xs * 10 + (d - 48)
 unfolding spelled
 spelled_push xs d = spelled-append xs (d ∷ []) ∙ omega arith
 
-pub spelled-lt : (xs : List ℕ) → All IsDigit xs → spelled xs < 10 ^ length xs
+spelled-lt : (xs : List ℕ) → All IsDigit xs → spelled xs < 10 ^ length xs
 unfolding spelled
 spelled-lt [] h = omega arith
 spelled-lt (x ∷ xs) h =
@@ -43,7 +44,7 @@ spelled-lt (x ∷ xs) h =
     let long : 10 ^ suc (length xs) ≡ 10 ^ length xs * 10 = pow-suc 10 (length xs) in
     omega (arith, ih, first, long)
 
-pub spelled_nil : spelled [] ≡ 0
+spelled_nil : spelled [] ≡ 0
 unfolding spelled
 spelled_nil = refl
 
@@ -56,7 +57,8 @@ append_more start ds i h =
 
 -- bounded sums and products
 module _ (m : ℕ) where
-  pub min_append : (v p w : ℕ) → 0 < p → min (min v m * p + w) m ≡ min (v * p + w) m
+  -- a bound on the first part changes no bounded sum
+  min_append : (v p w : ℕ) → 0 < p → min (min v m * p + w) m ≡ min (v * p + w) m
   min_append v p w some = elim (cases_lt v m) [
     | inl l ↦ (let le : v ≤ m = omega arith in rw (min-eq_left le) refl)
     | inr l ↦ (let one : 1 ≤ p = some in
@@ -66,7 +68,7 @@ module _ (m : ℕ) where
   ]
 
   -- a power that is above the bound may be replaced by one that is as well
-  pub min_product : (v p : ℕ) → 0 < m → 0 < p → min (min v m * min p m) m ≡ min (v * p) m
+  min_product : (v p : ℕ) → 0 < m → 0 < p → min (min v m * min p m) m ≡ min (v * p) m
   min_product v p some pos = elim (cases_eq v 0) [
     | inl z ↦ (let none : min 0 m ≡ 0 = omega arith in rw (z, none) (omega arith))
     | inr ne ↦ elim (cases_lt p m) [
@@ -79,7 +81,8 @@ module _ (m : ℕ) where
     ]
   ]
 
-  pub min_zeros : (v z : ℕ) → m ≤ 10 ^ 20 → min (v * 10 ^ min z 20) m ≡ min (v * 10 ^ z) m
+  -- twenty zeros are as good as more
+  min_zeros : (v z : ℕ) → m ≤ 10 ^ 20 → min (v * 10 ^ min z 20) m ≡ min (v * 10 ^ z) m
   min_zeros v z big = elim (cases_lt z 20) [
     | inl l ↦ (let le : z ≤ 20 = omega arith in rw (min-eq_left le) refl)
     | inr l ↦ rw (min-eq_right l) (elim (cases_eq v 0) [
@@ -105,6 +108,7 @@ module _ (m v x y s t : ℕ) (even : s + y ≡ t + x) (h : Between m v x y) wher
   other : (n : ℕ) → n * 10 ^ s * 10 ^ y ≡ n * 10 ^ x * 10 ^ t
   other n = powers n s y ∙ ap (λ i. n * 10 ^ i) (even ∙ add_comm t x) ∙ sym (powers n x t)
 
+  -- the same at two other powers, as far apart
   rescale : Between m v s t
   rescale =
       let low : v * 10 ^ x * 10 ^ t ≤ m * 10 ^ y * 10 ^ t = mul-le-mul_right (10 ^ t) h.low in
@@ -118,18 +122,18 @@ module _ (m v x y s t : ℕ) (even : s + y ≡ t + x) (h : Between m v x y) wher
       }
 
 -- the first digits of the two lists, and the zeros behind them
-abbrev pub cut : List ℕ → List ℕ → ℕ → List ℕ
-cut a b p = take (min (length a) p) a ++ take (min (length b) (p - min (length a) p)) b
+abbrev pub front_digits : List ℕ → List ℕ → ℕ → List ℕ
+front_digits a b p = take (min (length a) p) a ++ take (min (length b) (p - min (length a) p)) b
 
 abbrev pub zeros : List ℕ → List ℕ → ℕ → ℕ
 zeros a b p = p - min (length a) p - min (length b) (p - min (length a) p)
 
 abbrev pub shifted : List ℕ → List ℕ → ℕ → ℕ
-shifted a b p = spelled (cut a b p) * 10 ^ zeros a b p
+shifted a b p = spelled (front_digits a b p) * 10 ^ zeros a b p
 
 module _ (a b : List ℕ) (p : ℕ) where
-  cut_short : p ≤ length a + length b → cut a b p ≡ take p (a ++ b)
-  cut_short le = elim (cases_lt p (length a)) [
+  front_short : p ≤ length a + length b → front_digits a b p ≡ take p (a ++ b)
+  front_short le = elim (cases_lt p (length a)) [
     | inl l ↦ (let w : min (length a) p ≡ p = omega arith in
         let f : min (length b) (p - min (length a) p) ≡ 0 = omega arith in
         let within : p ≤ length a = omega arith in
@@ -141,8 +145,8 @@ module _ (a b : List ℕ) (p : ℕ) where
         rw (f, w, take_all (length a) a all) (sym (take-append-add a b (p - length a)) ∙ ap (λ x. take x (a ++ b)) back))
   ]
 
-  cut_long : length a + length b ≤ p → cut a b p ≡ a ++ b
-  cut_long le =
+  front_long : length a + length b ≤ p → front_digits a b p ≡ a ++ b
+  front_long le =
       let w : min (length a) p ≡ length a = omega arith in
       let f : min (length b) (p - min (length a) p) ≡ length b = omega arith in
       let all_a : length a ≤ length a = omega arith in
@@ -150,10 +154,10 @@ module _ (a b : List ℕ) (p : ℕ) where
       rw (f, w, take_all (length a) a all_a, take_all (length b) b all_b) refl
 
   shifted_long : length a + length b ≤ p → shifted a b p ≡ spelled (a ++ b) * 10 ^ (p - (length a + length b))
-  shifted_long le = let rest : zeros a b p ≡ p - (length a + length b) = omega arith in rw (cut_long le, rest) refl
+  shifted_long le = let rest : zeros a b p ≡ p - (length a + length b) = omega arith in rw (front_long le, rest) refl
 
   shifted_short : p ≤ length a + length b → shifted a b p ≡ spelled (take p (a ++ b))
-  shifted_short le = let none : zeros a b p ≡ 0 = omega arith in rw (cut_short le, none) (omega arith)
+  shifted_short le = let none : zeros a b p ≡ 0 = omega arith in rw (front_short le, none) (omega arith)
 
   module _ (digits : All IsDigit (a ++ b)) where
     shift_short : p ≤ length a + length b → Between (spelled (a ++ b)) (spelled (take p (a ++ b))) (length a + length b - p) 0
@@ -175,7 +179,7 @@ module _ (a b : List ℕ) (p : ℕ) where
     ]
 
 -- digits beyond all that there are, and twenty zeros more, make no difference
-pub capped : (a b : List ℕ) (p m : ℕ) → length a + length b + 20 ≤ m → m ≤ 10 ^ 20 → min (shifted a b (min p m)) m ≡ min (shifted a b p) m
+capped : (a b : List ℕ) (p m : ℕ) → length a + length b + 20 ≤ m → m ≤ 10 ^ 20 → min (shifted a b (min p m)) m ≡ min (shifted a b p) m
 capped a b p m room big =
     elim (cases_lt p m) [
       | inl l ↦ (let le : p ≤ m = omega arith in rw (min-eq_left le) refl)
@@ -191,6 +195,7 @@ module _ (n : Decimal) where
   abbrev f : ℕ
   f = length n.fraction
 
+  -- a number of microseconds rounded down, and then bounded
   rounds : (v : ℕ) → Between (spelled (n.whole ++ n.fraction)) v (f + negative_exponent n) (6 + positive_exponent n) → Rounds n (min v greatest_delay)
   rounds v h =
       let m = spelled (n.whole ++ n.fraction) in
@@ -214,6 +219,7 @@ module _ (n : Decimal) where
   abbrev pub places : ℕ
   places = length n.whole + 6 + positive_exponent n - negative_exponent n
 
+  -- the digits up to that place are the number rounded down
   between : All IsDigit (n.whole ++ n.fraction) → Between (spelled (n.whole ++ n.fraction)) (shifted n.whole n.fraction places) (f + negative_exponent n) (6 + positive_exponent n)
   between digits =
       let m = spelled (n.whole ++ n.fraction) in
@@ -235,30 +241,26 @@ module _ (n : Decimal) where
 
 -- the microseconds that the code computes are those of the number
 pub micros_rounded : (n : Decimal) (digits : ℕ) → All IsDigit n.whole → All IsDigit n.fraction → length n.whole + length n.fraction < 2 ^ 63 → digits ≡ min (places n) greatest_delay
-    → Rounds n (min (spelled (cut n.whole n.fraction digits) * 10 ^ min (zeros n.whole n.fraction digits) 20) greatest_delay)
+    → Rounds n (min (spelled (front_digits n.whole n.fraction digits) * 10 ^ min (zeros n.whole n.fraction digits) 20) greatest_delay)
 micros_rounded n digits whole fraction short e =
     let h = rounds n (shifted n.whole n.fraction (places n)) (between n (All-append IsDigit n.whole n.fraction whole fraction)) in
     let big : greatest_delay ≤ 10 ^ 20 = omega arith in
     let room : length n.whole + length n.fraction + 20 ≤ greatest_delay = omega arith in
-    let all = min_zeros greatest_delay (spelled (cut n.whole n.fraction digits)) (zeros n.whole n.fraction digits) big ∙ ap (λ x. min (shifted n.whole n.fraction x) greatest_delay) e ∙ capped n.whole n.fraction (places n) greatest_delay room big in
+    let all = min_zeros greatest_delay (spelled (front_digits n.whole n.fraction digits)) (zeros n.whole n.fraction digits) big ∙ ap (λ x. min (shifted n.whole n.fraction x) greatest_delay) e ∙ capped n.whole n.fraction (places n) greatest_delay room big in
     subst (Rounds n) (sym all) h
 
 -- the digits that are read, one list after the other, and the zeros behind them
 pub micros_value : (whole fraction : List ℕ) (digits w f z a b s r : ℕ) → w ≡ min (length whole) digits → f ≡ min (length fraction) (digits - w) → z ≡ min (digits - w - f) 20
     → a ≡ min (0 * 10 ^ length (take w whole) + spelled (take w whole)) greatest_delay → b ≡ min (a * 10 ^ length (take f fraction) + spelled (take f fraction)) greatest_delay → s ≡ min (10 ^ z) greatest_delay → r ≡ min (b * s) greatest_delay
-    → r ≡ min (spelled (cut whole fraction digits) * 10 ^ min (zeros whole fraction digits) 20) greatest_delay
+    → r ≡ min (spelled (front_digits whole fraction digits) * 10 ^ min (zeros whole fraction digits) 20) greatest_delay
 micros_value whole fraction digits w f z a b s r at_w at_f at_z at_a at_b at_s at_r =
     let front = take w whole in
     let back = take f fraction in
     let v = spelled (front ++ back) in
-    let first : a ≡ min (spelled front) greatest_delay = at_a ∙ ap (λ x. min x greatest_delay) (plain (10 ^ length front) (spelled front)) in
+    let first : a ≡ min (spelled front) greatest_delay = omega (arith, at_a) in
     let both : b ≡ min v greatest_delay = at_b ∙ ap (λ x. min (x * 10 ^ length back + spelled back) greatest_delay) first ∙ min_append greatest_delay (spelled front) (10 ^ length back) (spelled back) (pow_some (length back)) ∙ ap (λ x. min x greatest_delay) (sym (spelled-append front back)) in
-    let some : 0 < greatest_delay = omega arith in
-    let all : r ≡ min (v * 10 ^ z) greatest_delay = at_r ∙ ap (λ x. min (x * s) greatest_delay) both ∙ ap (λ x. min (min v greatest_delay * x) greatest_delay) at_s ∙ min_product greatest_delay v (10 ^ z) some (pow_some z) in
+    let all : r ≡ min (v * 10 ^ z) greatest_delay = at_r ∙ ap (λ x. min (x * s) greatest_delay) both ∙ ap (λ x. min (min v greatest_delay * x) greatest_delay) at_s ∙ min_product greatest_delay v (10 ^ z) (omega arith) (pow_some z) in
     let next : f ≡ min (length fraction) (digits - min (length whole) digits) = at_f ∙ ap (λ x. min (length fraction) (digits - x)) at_w in
     let left : z ≡ min (zeros whole fraction digits) 20 = at_z ∙ ap (λ x. min (digits - x - f) 20) at_w ∙ ap (λ x. min (digits - min (length whole) digits - x) 20) next in
-    let lists : front ++ back ≡ cut whole fraction digits = ap (λ x. take x whole ++ back) at_w ∙ ap (λ x. take (min (length whole) digits) whole ++ take x fraction) next in
-    all ∙ ap (λ x. min (spelled x * 10 ^ z) greatest_delay) lists ∙ ap (λ x. min (spelled (cut whole fraction digits) * 10 ^ x) greatest_delay) left
-  where
-    plain : (x y : ℕ) → 0 * x + y ≡ y
-    plain x y = omega arith
+    let lists : front ++ back ≡ front_digits whole fraction digits = ap (λ x. take x whole ++ back) at_w ∙ ap (λ x. take (min (length whole) digits) whole ++ take x fraction) next in
+    all ∙ ap (λ x. min (spelled x * 10 ^ z) greatest_delay) lists ∙ ap (λ x. min (spelled (front_digits whole fraction digits) * 10 ^ x) greatest_delay) left

@@ -67,7 +67,7 @@ only_lines [] (pair ∷ pairs) all = absurd all
 only_lines (line ∷ lines) [] all = absurd all
 only_lines (line ∷ lines) (pair ∷ pairs) all = ap (λ x. x ∷ lines) (only_line line pair.body (statement_of pair.body) refl all.0) ∙ ap (λ t. line_of pair.body ∷ t) (only_lines lines pairs all.1)
 
-pub parsed_are_lines : (text : List ℕ) → AreLinesOf (parsed text) text
+parsed_are_lines : (text : List ℕ) → AreLinesOf (parsed text) text
 parsed_are_lines text = record { pairs = cut (without_front text); is_cut = is_cut (without_front text); each = are_lines (cut (without_front text)) }
 
 pub each_text_has_its_lines : EachTextHasItsLines
@@ -77,9 +77,6 @@ each_text_has_its_lines text lines = (
 )
 
 -- ---- ranges
-
-range_same : (bytes : List ℕ) → IsRangeOf bytes bytes
-range_same bytes = ([], [], simp append-nil)
 
 range_of_range : (part middle whole : List ℕ) → IsRangeOf part middle → IsRangeOf middle whole → IsRangeOf part whole
 range_of_range part middle whole (before, after, is) (first, last, all) = (first ++ before, after ++ last, rw (all, is) (simp append_assoc))
@@ -129,7 +126,7 @@ front_is_end text =
     let three = taken_off 0xBF (without 0xBB (without 0xEF text)) in
     (one.0 ++ (two.0 ++ three.0), one.1 ∙ ap (λ t. one.0 ++ t) (two.1 ∙ ap (λ t. two.0 ++ t) three.1) ∙ simp append_assoc)
 
-pub parsed_ranges : (text : List ℕ) → HoldRangesOf (parsed text) text
+parsed_ranges : (text : List ℕ) → HoldRangesOf (parsed text) text
 parsed_ranges text =
     let end = front_is_end text in
     record { taken = end.0; pairs = cut (without_front text); is_cut = is_cut (without_front text); whole = end.1 ∙ ap (λ t. end.0 ++ t) (sym (is_cut (without_front text)).whole); each = line_ranges (cut (without_front text)) }
