@@ -1,5 +1,5 @@
 -- The address of the robots file of a URL.
-use Rattle.std.specs.Prelude.{ℕ, List, [], ◌∷◌, ◌++◌, ◌||◌, Bool, Option, Some, None, Ok, Err, codes, bytes_eq, decimal, if◌then◌else◌}
+use Rattle.std.specs.Prelude.{ℕ, List, [], ◌++◌, ◌||◌, Bool, Option, Some, None, Ok, Err, codes, bytes_eq, decimal, if◌then◌else◌}
 use Rattle.url.specs.Parts.{Parts, cannot_be_a_base, nonempty_host}
 use Rattle.url.specs.Parser.{Parsed, parse_url, and_then}
 use Rattle.url.specs.Host.{host_text}

@@ -3,7 +3,7 @@ use Rattle.std.specs.Prelude.{◌⊎◌, ℕ, zero, suc, ◌<◌, nat_lt, Bool, 
 use Rattle.std.specs.List.{list_any, filter_map, enumerate_from}
 use Rattle.std.specs.Option.{option_map_or}
 use Rattle.std.specs.Str.{str_to_ascii_lowercase}
-use Rattle.texting_robots.specs.Line.{LineValue, UserAgent, Allow, Disallow, Sitemap, CrawlDelay, Raw, is_agent, is_group}
+use Rattle.texting_robots.specs.Line.{LineValue, UserAgent, is_agent, is_group}
 
 -- a user-agent line whose value lowers to the name
 abbrev pub names : List ℕ → LineValue → Bool

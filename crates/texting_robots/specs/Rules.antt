@@ -3,7 +3,7 @@ use Rattle.std.specs.Prelude.{ℕ, Bool, true, false, List, [], ◌∷◌, Optio
 use Rattle.std.specs.List.{list_any, filter_map}
 use Rattle.std.specs.Option.{option_or}
 use Rattle.std.specs.Str.{is_utf8}
-use Rattle.texting_robots.specs.Line.{LineValue, UserAgent, Allow, Disallow, Sitemap, CrawlDelay, Raw, is_agent, delay_in}
+use Rattle.texting_robots.specs.Line.{LineValue, Allow, Disallow, Sitemap, is_agent, delay_in}
 use Rattle.texting_robots.specs.Group.{group_name, from_captured}
 use Rattle.texting_robots.specs.Escape.{escaped}
 use Rattle.texting_robots.specs.Pattern.{IsOverlong}
