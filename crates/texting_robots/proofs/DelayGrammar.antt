@@ -1,11 +1,11 @@
 -- A text spells at most one number, and the steps of reading find it.
-use Rattle.std.proofs.Common.{◌≡◌, ◌≢◌, ◌⊎◌, ⊎_elim, inl, inr, ℕ, ◌<◌, ◌≤◌, Bool, false, eqb, List, [], ◌∷◌, ◌++◌, All, length, get_or, map, refl, sym, ap, subst, ◌∙◌, append-nil, arith, codes}
+use Rattle.std.proofs.Common.{◌≡◌, ◌≢◌, ◌⊎◌, inl, inr, ℕ, ◌<◌, ◌≤◌, Bool, false, List, [], ◌∷◌, ◌++◌, All, length, get_or, map, refl, sym, ap, subst, ◌∙◌, append-nil, arith, codes}
 use Rattle.std.specs.Char.{to_ascii_lowercase}
 use Rattle.std.proofs.lemmas.Bool.{cases_eq, cases_lt, ne_eqb}
 use Rattle.std.proofs.lemmas.List.{drop_at, take_at}
 use Rattle.std.proofs.lemmas.List.Elements.{All-drop, All-head, All-tail, All-take}
 use Rattle.std.proofs.lemmas.Str.Ascii.{lowercase_is}
-use Rattle.texting_robots.specs.Delay.{Decimal, HasExponent, IsDigit, IsExponent, IsInfinite, IsSign, NamesDelay, NamesUnsignedDelay, Rounds, Spells, greatest_delay}
+use Rattle.texting_robots.specs.Delay.{Decimal, IsDigit, IsExponent, IsInfinite, IsSign, NamesDelay, NamesUnsignedDelay, Rounds, Spells}
 use Rattle.texting_robots.specs.Computed.DelayParts.{AreDigits, AreFraction, behind_sign, has_minus}
 
 -- the byte in front, or 0

@@ -1,11 +1,11 @@
 -- A body is a statement of one kind with one value at most: the one that the walk gives.
-use Rattle.std.proofs.Common.{◌≡◌, ◌≢◌, ◌⊎◌, ℕ, suc, ◌+◌, ◌<◌, Bool, true, false, ◌==◌, ◌||◌, inl, inr, List, [], ◌∷◌, ◌++◌, All, flat_map, length, take, drop, map, sym, refl, ap, ◌∙◌, append-nil, arith, if◌then◌else◌, Option, Some, None, length-append, subst, nat_lt}
+use Rattle.std.proofs.Common.{◌≡◌, ◌≢◌, ℕ, suc, ◌+◌, ◌<◌, true, false, ◌==◌, ◌||◌, inl, inr, List, [], ◌∷◌, ◌++◌, All, flat_map, length, take, drop, map, sym, refl, ap, ◌∙◌, append-nil, arith, if◌then◌else◌, Option, Some, None, length-append, subst, nat_lt}
 use Rattle.std.specs.Bool.{Decides}
 use Rattle.std.specs.List.{AllByRecursion as Each, Contains}
 use Rattle.std.specs.Char.{to_ascii_lowercase}
 use Rattle.std.specs.Str.{bytes_eq}
 use Rattle.std.proofs.lemmas.Bool.{cases_Bool, cond-true, cond-false, eqb-true, eqb-false, ne_eqb, ltb-true, lt-ltb, false_from_ne_true, true≢false}
-use Rattle.std.proofs.lemmas.Bool.Decides.{Decides-or, Decides-eqb, not_from_Decides}
+use Rattle.std.proofs.lemmas.Bool.Decides.{Decides-or, Decides-eqb}
 use Rattle.std.proofs.lemmas.Slice.Eq.{bytes_eq-Decides}
 use Rattle.std.proofs.lemmas.List.{length-map, map-append, take-append-drop, take-map, drop_at}
 use Rattle.std.proofs.lemmas.List.Elements.{All-append, All-contains, All-contains_itself, All-from_recursion, All-head, All-map, All-nil, All-tail}

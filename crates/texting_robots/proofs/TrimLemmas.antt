@@ -1,11 +1,11 @@
 -- What `trim` leaves is the trim of its text, and there is no other.
-use Rattle.std.proofs.Common.{◌≡◌, ◌⊎◌, ℕ, zero, suc, ◌+◌, ◌-◌, ◌≤◌, ◌<◌, true, false, inl, inr, List, [], ◌∷◌, ◌++◌, length, take, drop, sym, refl, ap, ◌∙◌, append_assoc, arith, IsTrue, Option, Some, None, length-append, subst, cond, slice_index}
+use Rattle.std.proofs.Common.{◌≡◌, ◌⊎◌, ℕ, zero, suc, ◌+◌, ◌≤◌, ◌<◌, true, false, inl, inr, List, [], ◌∷◌, ◌++◌, length, take, drop, sym, refl, ap, ◌∙◌, append_assoc, arith, IsTrue, Option, Some, None, length-append, subst, cond, slice_index}
 use Rattle.std.specs.List.{AllByRecursion as Each}
 use Rattle.std.specs.Char.{is_whitespace, encode_utf8}
 use Rattle.std.specs.Str.{encode_utf8_all}
 use Rattle.std.proofs.lemmas.Bool.{cases_Bool, cond-true, cond-false, false_from_ne_true}
 use Rattle.std.proofs.lemmas.Bool.Decides.{nat_tests}
-use Rattle.std.proofs.lemmas.List.{append_cancel_left, append_cancel_right, drop_at, length-take-le, take-append-drop, take_at}
+use Rattle.std.proofs.lemmas.List.{append_cancel_right, drop_at, length-take-le, take-append-drop, take_at}
 use Rattle.bstr.specs.Utf8.{Decoded, decoded, good, or_replacement, bad, pieces, spans_from, continues}
 use Rattle.bstr.specs.Trim.{kept_start, kept_end, trim_start_by, trim_end_by}
 use Rattle.bstr.proofs.lemmas.PieceLemmas.{piece-bounds, spans-first, spans-nil, pieces-append, continuation-alone, StartsClean}

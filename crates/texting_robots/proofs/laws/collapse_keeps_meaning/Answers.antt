@@ -1,4 +1,3 @@
-use Rattle.std.proofs.Common.{true}
 use Rattle.texting_robots.proofs.CollapseLemmas.{matches_collapse}
 use Rattle.texting_robots.proofs.RulesLemmas.{rule_length}
 use Rattle.texting_robots.proofs.laws.collapse_keeps_meaning.Goals as goal
