@@ -46,6 +46,7 @@ Starts text = (ending : List ℕ) × (cut text ≡ pair_of (take (body_len text)
 abbrev StartsBehind : ℕ → List ℕ → Type 0
 StartsBehind b text = (ending : List ℕ) × (before_body b (cut text) ≡ pair_of (b ∷ take (body_len text) text) ending ∷ cut (rest_of text))
 
+-- the first pair, by the first byte
 starts : (b : ℕ) (text : List ℕ) → StartsBehind b text → Starts (b ∷ text)
 starts b text further =
     elim (cases_Bool (b == lf)) [

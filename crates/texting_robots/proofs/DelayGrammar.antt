@@ -28,6 +28,7 @@ digits_same (x ∷ a) b (y ∷ c) d e ha hc hb hd =
 split_same : (text a b c d : List ℕ) → AreDigits text a b → AreDigits text c d → (a ≡ c) × (b ≡ d)
 split_same text a b c d x y = digits_same a b c d (sym x.is_text ∙ y.is_text) x.are_digits y.are_digits x.stop y.stop
 
+-- a text of digits alone
 all_digits : (text ds : List ℕ) → text ≡ ds → All IsDigit ds → AreDigits text ds []
 all_digits text ds e digits = record { is_text = e ∙ sym (append-nil ds); are_digits = digits; stop = λ d. omega arith }
 
@@ -118,6 +119,7 @@ exponent_parts letter rest digits tail split minus ds (inr h) =
     let same = split_same (behind_sign rest) ds [] digits tail (all_digits (behind_sign rest) ds (sym sign.1) h.are_digits) split in
     (rw head h.is_letter, sign.0, same.0, sym same.1, h.some)
 
+-- a letter, a sign and digits are an exponent
 pub exponent_there : (text rest digits : List ℕ) (letter : ℕ) → text ≡ letter ∷ rest → (letter ≡ 101) ⊎ (letter ≡ 69) → AreDigits (behind_sign rest) digits [] → digits ≢ [] → IsExponent text (has_minus rest) digits
 exponent_there text rest digits letter e is split some =
     let s = sign_there rest in
@@ -184,12 +186,14 @@ abbrev made_of : List ℕ → List ℕ → Bool → List ℕ → Decimal
 made_of whole fraction minus exponent = record { whole = whole; fraction = fraction; minus = minus; exponent = exponent }
 
 module _ (text whole rest fraction tail : List ℕ) (front : AreDigits text whole rest) (middle : AreFraction rest fraction tail) where
+  -- the parts that the steps find are those of each number that the text spells
   pub number_parts : (n : Decimal) → Spells text n → (n.whole ≡ whole) × (n.fraction ≡ fraction) × IsExponent tail n.minus n.exponent
   number_parts n h =
       let one = split_same text n.whole (behind text n h) whole rest (whole_split text n h) front in
       let two = fraction_same rest n.fraction h.tail fraction tail (subst (λ x. AreFraction x n.fraction h.tail) one.1 (fraction_split text n h)) middle in
       (one.0, two.0, subst (λ x. IsExponent x n.minus n.exponent) two.1 h.exponent)
 
+  -- the parts that the steps find make a number that the text spells
   pub number_there : (minus : Bool) (exponent : List ℕ) → whole ++ fraction ≢ [] → IsExponent tail minus exponent → Spells text (made_of whole fraction minus exponent)
   number_there minus exponent some is = elim middle [
     | inl (t, e, split) ↦ made minus exponent some is (46 ∷ []) split.are_digits (inr refl) (e ∙ ap (λ x. 46 ∷ x) split.is_text)
@@ -212,6 +216,7 @@ module _ (text whole rest fraction tail : List ℕ) (front : AreDigits text whol
 parts_same : (v w g f : List ℕ) (m l : Bool) (e d : List ℕ) → v ≡ w → g ≡ f → m ≡ l → e ≡ d → made_of w f m e ≡ made_of v g l d
 parts_same v w g f m l e d a b c x = cc
 
+-- a text spells one number
 pub number_same : (text : List ℕ) (n k : Decimal) → Spells text n → Spells text k → n ≡ k
 number_same text n k h i =
     let parts = number_parts text n.whole (behind text n h) n.fraction h.tail (whole_split text n h) (fraction_split text n h) k i in
@@ -223,12 +228,14 @@ unsigned_first : (text : List ℕ) (minus : Bool) (delay : ℕ) → NamesUnsigne
 unsigned_first text minus delay (inl p) = let high = infinite_high text p.0 in omega arith
 unsigned_first text minus delay (inr p) = (number_first text p.0 p.1).0
 
+-- a delay of the text is one of the text behind its sign
 pub named : (text : List ℕ) (minus : Bool) (unsigned : List ℕ) → minus ≡ has_minus text → unsigned ≡ behind_sign text → (delay : ℕ) → NamesDelay text delay → NamesUnsignedDelay unsigned minus delay
 named text minus unsigned m u delay h =
     let low = unsigned_first h.unsigned h.minus delay h.is_delay in
     let sign = sign_same h.sign h.minus text h.unsigned h.is_sign h.is_text (λ e. omega arith) (λ e. omega arith) in
     subst (λ x. NamesUnsignedDelay x minus delay) (sign.1 ∙ sym u) (subst (λ x. NamesUnsignedDelay h.unsigned x delay) (sign.0 ∙ sym m) h.is_delay)
 
+-- a delay of the text behind its sign is one of the text
 pub names : (text : List ℕ) (minus : Bool) (unsigned : List ℕ) → minus ≡ has_minus text → unsigned ≡ behind_sign text → (delay : ℕ) → NamesUnsignedDelay unsigned minus delay → NamesDelay text delay
 names text minus unsigned m u delay h =
     let s = sign_there text in
@@ -241,6 +248,7 @@ names text minus unsigned m u delay h =
       is_delay = h;
     }
 
+-- a number rounds to one delay
 rounds_same : (n : Decimal) (d e : ℕ) → Rounds n d → Rounds n e → d ≡ e
 rounds_same n d e a b =
     let x : d ≤ e = b.greatest d a.bound a.at_most in

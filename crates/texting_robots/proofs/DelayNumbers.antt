@@ -33,6 +33,7 @@ spelled_push : (xs : List ℕ) (d : ℕ) → spelled (xs ++ d ∷ []) ≡ spelle
 unfolding spelled
 spelled_push xs d = spelled-append xs (d ∷ []) ∙ omega arith
 
+-- digits spell less than a one with as many zeros
 spelled-lt : (xs : List ℕ) → All IsDigit xs → spelled xs < 10 ^ length xs
 unfolding spelled
 spelled-lt [] h = omega arith
@@ -101,6 +102,7 @@ pub record Between (m v x y : ℕ) : Type 0 where
   pub low : v * 10 ^ x ≤ m * 10 ^ y
   pub high : m * 10 ^ y < (v + 1) * 10 ^ x
 
+-- two powers are one
 powers : (n i j : ℕ) → n * 10 ^ i * 10 ^ j ≡ n * 10 ^ (i + j)
 powers n i j = mul_assoc n (10 ^ i) (10 ^ j) ∙ ap (λ x. n * x) (sym (pow-add 10 i j))
 
@@ -160,6 +162,7 @@ module _ (a b : List ℕ) (p : ℕ) where
   shifted_short le = let none : zeros a b p ≡ 0 = omega arith in rw (front_short le, none) (omega arith)
 
   module _ (digits : All IsDigit (a ++ b)) where
+    -- digits that are dropped round down
     shift_short : p ≤ length a + length b → Between (spelled (a ++ b)) (spelled (take p (a ++ b))) (length a + length b - p) 0
     shift_short le =
         let front = spelled (take p (a ++ b)) in
@@ -170,6 +173,7 @@ module _ (a b : List ℕ) (p : ℕ) where
         let small : back < 10 ^ (length a + length b - p) = subst (λ n. back < 10 ^ n) size (spelled-lt (drop p (a ++ b)) (All-drop IsDigit p (a ++ b) digits)) in
         record { low = omega (arith, whole); high = omega (arith, whole, small) }
 
+    -- the digits up to a place, with zeros behind them, round down
     shift : Between (spelled (a ++ b)) (shifted a b p) (length a + length b - p) (p - (length a + length b))
     shift = elim (cases_lt p (length a + length b)) [
       | inl l ↦ (let le : p ≤ length a + length b = omega arith in
