@@ -118,10 +118,12 @@ open_end : (r : ℕ) (returns text : List ℕ) → Each (λ byte. byte ≡ cr) (
 open_end r [] text all begin = rw all.0 (cut_at_cr cr text refl refl ∙ lone_return (cut text) begin)
 open_end r (r' ∷ returns) text all begin = rw all.0 (cut_at_cr cr (r' ∷ (returns ++ text)) refl refl ∙ ap before_end (open_end r' returns text all.1 begin))
 
+-- CRs hold no LF
 no_feed : (returns : List ℕ) → Each (λ byte. byte ≡ cr) returns → Each (λ byte. byte ≢ lf) returns
 no_feed [] all = tt
 no_feed (r ∷ returns) all = ((λ e. omega (arith, all.0, e)), no_feed returns all.1)
 
+-- an end is cut off before what may follow it
 some_end : (ending text : List ℕ) → IsEnding ending → ending ≢ [] → (Each (λ byte. byte ≢ lf) ending → BeginWithBody (cut text)) → cut (ending ++ text) ≡ pair_of [] ending ∷ cut text
 some_end ending text is some follows = elim is.4 [
   | inr fed ↦ let e : ending ≡ is.0 ++ lf ∷ [] = is.2 ∙ ap (λ f. is.0 ++ f) fed in rw (e, append_assoc is.0 (lf ∷ []) text) (feed_end is.0 text is.3)
@@ -132,6 +134,7 @@ some_end ending text is some follows = elim is.4 [
     at [] some all begin = absurd (some refl)
     at (r ∷ returns) some all begin = open_end r returns text all begin
 
+-- the walk at a byte of a body
 cut_byte : (byte : ℕ) (text : List ℕ) → IsBodyByte byte → cut (byte ∷ text) ≡ before_body byte (cut text)
 cut_byte byte text of_body = cut_at_other byte text (ne_eqb byte lf of_body.1) (ne_eqb byte cr of_body.0)
 

@@ -1,11 +1,11 @@
 -- A text spells at most one number, and the steps of reading find it.
-use Rattle.std.proofs.Common.{◌≡◌, ◌≢◌, ◌⊎◌, ⊎_elim, inl, inr, ℕ, ◌<◌, ◌≤◌, Bool, false, eqb, List, [], ◌∷◌, ◌++◌, All, length, get_or, map, refl, sym, ap, subst, ◌∙◌, append-nil, arith, codes}
+use Rattle.std.proofs.Common.{◌≡◌, ◌≢◌, ◌⊎◌, inl, inr, ℕ, ◌<◌, ◌≤◌, Bool, false, List, [], ◌∷◌, ◌++◌, All, length, get_or, map, refl, sym, ap, subst, ◌∙◌, append-nil, arith, codes}
 use Rattle.std.specs.Char.{to_ascii_lowercase}
 use Rattle.std.proofs.lemmas.Bool.{cases_eq, cases_lt, ne_eqb}
 use Rattle.std.proofs.lemmas.List.{drop_at, take_at}
-use Rattle.std.proofs.lemmas.List.Elements.{All-append, All-drop, All-head, All-tail, All-take}
+use Rattle.std.proofs.lemmas.List.Elements.{All-drop, All-head, All-tail, All-take}
 use Rattle.std.proofs.lemmas.Str.Ascii.{lowercase_is}
-use Rattle.texting_robots.specs.Delay.{Decimal, HasExponent, IsDigit, IsExponent, IsInfinite, IsSign, NamesDelay, NamesUnsignedDelay, Rounds, Spells, greatest_delay}
+use Rattle.texting_robots.specs.Delay.{Decimal, IsDigit, IsExponent, IsInfinite, IsSign, NamesDelay, NamesUnsignedDelay, Rounds, Spells}
 use Rattle.texting_robots.specs.Computed.DelayParts.{AreDigits, AreFraction, behind_sign, has_minus}
 
 -- the byte in front, or 0
@@ -13,7 +13,7 @@ abbrev first : List ℕ → ℕ
 first text = get_or text 0 0
 
 -- digits in front are found in one way
-pub digits_same : (a b c d : List ℕ) → a ++ b ≡ c ++ d → All IsDigit a → All IsDigit c → (IsDigit (first b) → ⊥) → (IsDigit (first d) → ⊥) → (a ≡ c) × (b ≡ d)
+digits_same : (a b c d : List ℕ) → a ++ b ≡ c ++ d → All IsDigit a → All IsDigit c → (IsDigit (first b) → ⊥) → (IsDigit (first d) → ⊥) → (a ≡ c) × (b ≡ d)
 digits_same [] b [] d e ha hc hb hd = (refl, e)
 digits_same [] b (y ∷ c) d e ha hc hb hd = absurd (hb (subst (λ t. IsDigit (first t)) (sym e) (All-head IsDigit y c hc)))
 digits_same (x ∷ a) b [] d e ha hc hb hd = absurd (hd (subst (λ t. IsDigit (first t)) e (All-head IsDigit x a ha)))
@@ -24,37 +24,37 @@ digits_same (x ∷ a) b (y ∷ c) d e ha hc hb hd =
     let front : a ≡ c = same.0 in
     (cc, same.1)
 
-no_digit : (text : List ℕ) (b : ℕ) → first text ≡ b → (IsDigit b → ⊥) → IsDigit (first text) → ⊥
-no_digit text b e h d = h (subst IsDigit e d)
+-- both splits are found in one way
+split_same : (text a b c d : List ℕ) → AreDigits text a b → AreDigits text c d → (a ≡ c) × (b ≡ d)
+split_same text a b c d x y = digits_same a b c d (sym x.is_text ∙ y.is_text) x.are_digits y.are_digits x.stop y.stop
+
+-- a text of digits alone
+all_digits : (text ds : List ℕ) → text ≡ ds → All IsDigit ds → AreDigits text ds []
+all_digits text ds e digits = record { is_text = e ∙ sym (append-nil ds); are_digits = digits; stop = λ d. omega arith }
 
 -- a sign in front is found in one way
-pub sign_same : (sign : List ℕ) (minus : Bool) (text rest : List ℕ) → IsSign sign minus → text ≡ sign ++ rest → first rest ≢ 43 → first rest ≢ 45 → (minus ≡ has_minus text) × (rest ≡ behind_sign text)
-sign_same sign minus text rest is e plus dash =
-    ⊎_elim (λ (n : (sign ≡ []) × (minus ≡ false)).
-    let here : text ≡ rest = e ∙ ap (λ s. s ++ rest) n.0 in
+sign_same : (sign : List ℕ) (minus : Bool) (text rest : List ℕ) → IsSign sign minus → text ≡ sign ++ rest → first rest ≢ 43 → first rest ≢ 45 → (minus ≡ has_minus text) × (rest ≡ behind_sign text)
+sign_same sign minus text rest (inl (none, m)) e plus dash =
+    let here : text ≡ rest = e ∙ ap (λ s. s ++ rest) none in
     let at = unsigned rest plus dash in
-    (n.1 ∙ sym (ap has_minus here ∙ at.0), sym (ap behind_sign here ∙ at.1)))
-    (λ signed. ⊎_elim (λ (p : (sign ≡ 43 ∷ []) × (minus ≡ false)).
-    let here : text ≡ 43 ∷ rest = e ∙ ap (λ s. s ++ rest) p.0 in
-    (p.1 ∙ sym (ap has_minus here), sym (ap behind_sign here)))
-    (λ m.
-    let here : text ≡ 45 ∷ rest = e ∙ ap (λ s. s ++ rest) m.0 in
-    (m.1 ∙ sym (ap has_minus here), sym (ap behind_sign here))) signed) is
+    rw here (m ∙ sym at.0, sym at.1)
   where
     unsigned : (text : List ℕ) → first text ≢ 43 → first text ≢ 45 → (has_minus text ≡ false) × (behind_sign text ≡ text)
     unsigned [] p d = (refl, refl)
     unsigned (b ∷ text) p d = (ne_eqb b 45 d, rw (ne_eqb b 45 d, ne_eqb b 43 p) refl)
+sign_same sign minus text rest (inr (inl (signed, m))) e plus dash = let here : text ≡ 43 ∷ rest = e ∙ ap (λ s. s ++ rest) signed in rw here (m, refl)
+sign_same sign minus text rest (inr (inr (signed, m))) e plus dash = let here : text ≡ 45 ∷ rest = e ∙ ap (λ s. s ++ rest) signed in rw here (m, refl)
 
 -- a sign that the text begins with
-pub sign_there : (text : List ℕ) → (sign : List ℕ) × IsSign sign (has_minus text) × (text ≡ sign ++ behind_sign text)
+sign_there : (text : List ℕ) → (sign : List ℕ) × IsSign sign (has_minus text) × (text ≡ sign ++ behind_sign text)
 sign_there [] = ([], inl (refl, refl), refl)
-sign_there (b ∷ text) =
-    ⊎_elim (λ (m : b ≡ 45). (45 ∷ [], inr (inr (refl, ap (λ x. eqb x 45) m)), there 45 m refl))
-    (λ no_minus. ⊎_elim (λ (p : b ≡ 43). (43 ∷ [], inr (inl (refl, ap (λ x. eqb x 45) p)), there 43 p refl))
-    (λ no_plus. ([], inl (refl, ne_eqb b 45 no_minus), rw (ne_eqb b 45 no_minus, ne_eqb b 43 no_plus) refl)) (cases_eq b 43)) (cases_eq b 45)
-  where
-    there : (x : ℕ) → b ≡ x → behind_sign (x ∷ text) ≡ text → b ∷ text ≡ x ∷ behind_sign (b ∷ text)
-    there x e back = ap (λ y. y ∷ text) e ∙ ap (λ t. x ∷ t) (sym (ap (λ y. behind_sign (y ∷ text)) e ∙ back))
+sign_there (b ∷ text) = elim (cases_eq b 45) [
+  | inl minus ↦ rw minus (45 ∷ [], inr (inr (refl, refl)), refl)
+  | inr no_minus ↦ elim (cases_eq b 43) [
+    | inl plus ↦ rw plus (43 ∷ [], inr (inl (refl, refl)), refl)
+    | inr no_plus ↦ rw (ne_eqb b 45 no_minus, ne_eqb b 43 no_plus) ([], inl (refl, refl), refl)
+  ]
+]
 
 -- the first byte of digits, of an exponent, of a number and of an infinite text
 digits_first : (ds tail : List ℕ) → ds ≢ [] → All IsDigit ds → IsDigit (first (ds ++ tail))
@@ -62,23 +62,18 @@ digits_first [] tail some h = absurd (some refl)
 digits_first (d ∷ ds) tail some h = All-head IsDigit d ds h
 
 exponent_first : (text : List ℕ) (minus : Bool) (ds : List ℕ) → IsExponent text minus ds → (IsDigit (first text) → ⊥) × (first text ≢ 46)
-exponent_first text minus ds is =
-    ⊎_elim (λ (n : (text ≡ []) × (minus ≡ false) × (ds ≡ [])).
-    let here : first text ≡ 0 = ap first n.0 in
-    (λ d. omega arith, λ e. omega arith))
-    (λ (h : HasExponent text minus ds).
+exponent_first text minus ds (inl none) = let here : first text ≡ 0 = ap first none.0 in (λ d. omega arith, λ e. omega arith)
+exponent_first text minus ds (inr h) =
     let here : first text ≡ h.letter = ap first h.is_text in
-    let big : 58 ≤ h.letter = ⊎_elim (λ (e : h.letter ≡ 101). omega arith) (λ e. omega arith) h.is_letter in
-    (λ d. omega arith, λ e. omega arith)) is
+    elim h.is_letter [ inl e ↦ (λ d. omega arith, λ f. omega arith) | inr e ↦ (λ d. omega arith, λ f. omega arith) ]
 
-not_empty : (a b : List ℕ) → a ++ b ≢ [] → a ≡ [] → b ≢ []
-not_empty a b some none e = some (ap (λ x. x ++ b) none ∙ e)
-
-pub number_first : (text : List ℕ) (n : Decimal) → Spells text n → (46 ≤ first text) × (first text ≤ 57)
-number_first text n h = by_whole n.whole h.is_text h.whole (λ none. point none)
+-- a digit or a point
+number_first : (text : List ℕ) (n : Decimal) → Spells text n → (46 ≤ first text) × (first text ≤ 57)
+number_first text n h = by_whole n.whole h.is_text h.whole (λ none. point none h.is_point)
   where
-    point : n.whole ≡ [] → h.point ≡ 46 ∷ []
-    point none = ⊎_elim (λ (p : (h.point ≡ []) × (n.fraction ≡ [])). absurd (not_empty n.whole n.fraction h.some none p.1)) (λ e. e) h.is_point
+    point : n.whole ≡ [] → ((h.point ≡ []) × (n.fraction ≡ [])) ⊎ (h.point ≡ 46 ∷ []) → h.point ≡ 46 ∷ []
+    point none (inl p) = absurd (h.some (ap (λ x. x ++ n.fraction) none ∙ p.1))
+    point none (inr p) = p
 
     by_whole : (w : List ℕ) → text ≡ w ++ (h.point ++ (n.fraction ++ h.tail)) → All IsDigit w → (w ≡ [] → h.point ≡ 46 ∷ []) → (46 ≤ first text) × (first text ≤ 57)
     by_whole [] e d p =
@@ -89,15 +84,17 @@ number_first text n h = by_whole n.whole h.is_text h.whole (λ none. point none)
         let digit = All-head IsDigit x w d in
         (omega arith, omega arith)
 
+-- the `i` of an infinite text, in either letter case
 infinite_first : (text word : List ℕ) → map to_ascii_lowercase text ≡ 105 ∷ word → 57 < first text
 infinite_first [] word e = cc
 infinite_first (b ∷ text) word e =
     let here : to_ascii_lowercase b ≡ 105 = cc in
     let small : b < 65 → to_ascii_lowercase b ≡ b = (lowercase_is b).1 in
-    ⊎_elim (λ (l : b < 65). let same : to_ascii_lowercase b ≡ b = small l in omega arith) (λ l. omega arith) (cases_lt b 65)
+    elim (cases_lt b 65) [ inl l ↦ (let same : to_ascii_lowercase b ≡ b = small l in omega arith) | inr l ↦ omega arith ]
 
-pub infinite_high : (text : List ℕ) → IsInfinite text → 57 < first text
-infinite_high text is = ⊎_elim (λ (e : map to_ascii_lowercase text ≡ codes "inf"). infinite_first text (110 ∷ 102 ∷ []) e) (λ e. infinite_first text (110 ∷ 102 ∷ 105 ∷ 110 ∷ 105 ∷ 116 ∷ 121 ∷ []) e) is
+infinite_high : (text : List ℕ) → IsInfinite text → 57 < first text
+infinite_high text (inl e) = infinite_first text (codes "nf") e
+infinite_high text (inr e) = infinite_first text (codes "nfinity") e
 
 pub infinite_no_number : (text : List ℕ) (n : Decimal) → IsInfinite text → Spells text n → ⊥
 infinite_no_number text n is h =
@@ -105,20 +102,24 @@ infinite_no_number text n is h =
     let low = number_first text n h in
     omega arith
 
+-- the sign of an exponent
+sign_in_front : (rest : List ℕ) (minus : Bool) (ds sign : List ℕ) → IsSign sign minus → ds ≢ [] → All IsDigit ds → rest ≡ sign ++ ds → (minus ≡ has_minus rest) × (ds ≡ behind_sign rest)
+sign_in_front rest minus ds sign is some digits e =
+    let digit : IsDigit (first ds) = subst (λ x. IsDigit (first x)) (append-nil ds) (digits_first ds [] some digits) in
+    sign_same sign minus rest ds is e (λ p. omega arith) (λ p. omega arith)
+
 -- an exponent is found in one way
 pub exponent_parts : (letter : ℕ) (rest digits tail : List ℕ) → AreDigits (behind_sign rest) digits tail → (minus : Bool) (ds : List ℕ) → IsExponent (letter ∷ rest) minus ds → ((letter ≡ 101) ⊎ (letter ≡ 69)) × (minus ≡ has_minus rest) × (ds ≡ digits) × (tail ≡ []) × (ds ≢ [])
-exponent_parts letter rest digits tail split minus ds is =
-    ⊎_elim (λ (n : (letter ∷ rest ≡ []) × (minus ≡ false) × (ds ≡ [])). let e : letter ∷ rest ≡ [] = n.0 in absurd cc)
-    (λ (h : HasExponent (letter ∷ rest) minus ds).
+exponent_parts letter rest digits tail split minus ds (inl none) = let e : letter ∷ rest ≡ [] = none.0 in absurd cc
+exponent_parts letter rest digits tail split minus ds (inr h) =
     let e : letter ∷ rest ≡ h.letter ∷ (h.sign ++ ds) = h.is_text in
     let head : letter ≡ h.letter = cc in
     let behind : rest ≡ h.sign ++ ds = cc in
-    let digit : IsDigit (first ds) = subst (λ x. IsDigit (first x)) (append-nil ds) (digits_first ds [] h.some h.are_digits) in
-    let sign = sign_same h.sign minus rest ds h.is_sign behind (λ p. omega arith) (λ p. omega arith) in
-    let none : IsDigit (first []) → ⊥ = λ d. omega arith in
-    let same = digits_same ds [] digits tail (append-nil ds ∙ sign.1 ∙ split.is_text) h.are_digits split.are_digits none split.stop in
-    (⊎_elim (λ (x : h.letter ≡ 101). inl (head ∙ x)) (λ x. inr (head ∙ x)) h.is_letter, sign.0, same.0, sym same.1, h.some)) is
+    let sign = sign_in_front rest minus ds h.sign h.is_sign h.some h.are_digits behind in
+    let same = split_same (behind_sign rest) ds [] digits tail (all_digits (behind_sign rest) ds (sym sign.1) h.are_digits) split in
+    (rw head h.is_letter, sign.0, same.0, sym same.1, h.some)
 
+-- a letter, a sign and digits are an exponent
 pub exponent_there : (text rest digits : List ℕ) (letter : ℕ) → text ≡ letter ∷ rest → (letter ≡ 101) ⊎ (letter ≡ 69) → AreDigits (behind_sign rest) digits [] → digits ≢ [] → IsExponent text (has_minus rest) digits
 exponent_there text rest digits letter e is split some =
     let s = sign_there rest in
@@ -133,19 +134,14 @@ exponent_there text rest digits letter e is split some =
     })
 
 exponent_same : (text : List ℕ) (minus other : Bool) (ds es : List ℕ) → IsExponent text minus ds → IsExponent text other es → (minus ≡ other) × (ds ≡ es)
-exponent_same text minus other ds es a b =
-    ⊎_elim (λ (n : (text ≡ []) × (minus ≡ false) × (ds ≡ [])).
-    ⊎_elim (λ (k : (text ≡ []) × (other ≡ false) × (es ≡ [])). (n.1 ∙ sym k.1, n.2 ∙ sym k.2))
-    (λ (k : HasExponent text other es). let x : [] ≡ k.letter ∷ (k.sign ++ es) = sym n.0 ∙ k.is_text in absurd cc) b)
-    (λ (h : HasExponent text minus ds).
-    let digit : IsDigit (first ds) = subst (λ x. IsDigit (first x)) (append-nil ds) (digits_first ds [] h.some h.are_digits) in
+exponent_same text minus other ds es (inl n) (inl k) = (n.1 ∙ sym k.1, n.2 ∙ sym k.2)
+exponent_same text minus other ds es (inl n) (inr k) = let x : [] ≡ k.letter ∷ (k.sign ++ es) = sym n.0 ∙ k.is_text in absurd cc
+exponent_same text minus other ds es (inr h) b =
     let rest = h.sign ++ ds in
-    let sign = sign_same h.sign minus rest ds h.is_sign refl (λ p. omega arith) (λ p. omega arith) in
-    let none : IsDigit (first []) → ⊥ = λ d. omega arith in
-    let split : AreDigits (behind_sign rest) ds [] = record { is_text = sym sign.1 ∙ sym (append-nil ds); are_digits = h.are_digits; stop = none } in
-    let there = subst (λ t. IsExponent t other es) h.is_text b in
-    let parts = exponent_parts h.letter rest ds [] split other es there in
-    (sign.0 ∙ sym parts.1, sym parts.2)) a
+    let sign = sign_in_front rest minus ds h.sign h.is_sign h.some h.are_digits refl in
+    let split = all_digits (behind_sign rest) ds (sym sign.1) h.are_digits in
+    let parts = exponent_parts h.letter rest ds [] split other es (subst (λ t. IsExponent t other es) h.is_text b) in
+    (sign.0 ∙ sym parts.1, sym parts.2)
 
 -- how the text of a number is split
 module _ (text : List ℕ) (n : Decimal) (h : Spells text n) where
@@ -165,51 +161,47 @@ module _ (text : List ℕ) (n : Decimal) (h : Spells text n) where
   whole_split = record {
     is_text = h.is_text;
     are_digits = h.whole;
-    stop = ⊎_elim (λ (p : (h.point ≡ []) × (n.fraction ≡ [])) d. tail_first.0 (subst (λ x. IsDigit (first x)) (no_point p) d))
-        (λ p d.
-        let dot : IsDigit 46 = subst (λ x. IsDigit (first x)) (with_point p) d in
-        omega arith) h.is_point;
+    stop = λ d. elim h.is_point [
+      | inl p ↦ tail_first.0 (subst (λ x. IsDigit (first x)) (no_point p) d)
+      | inr p ↦ (let dot : IsDigit 46 = subst (λ x. IsDigit (first x)) (with_point p) d in omega arith)
+    ];
   }
 
-  fraction_digits : AreDigits (n.fraction ++ h.tail) n.fraction h.tail
-  fraction_digits = record { is_text = refl; are_digits = h.fraction; stop = tail_first.0 }
-
   fraction_split : AreFraction behind n.fraction h.tail
-  fraction_split =
-      ⊎_elim (λ (p : (h.point ≡ []) × (n.fraction ≡ [])). inr ((λ e. tail_first.1 (sym (ap first (no_point p)) ∙ e)), p.1, sym (no_point p)))
-      (λ p. inl (n.fraction ++ h.tail, with_point p, fraction_digits)) h.is_point
+  fraction_split = elim h.is_point [
+    | inl p ↦ inr ((λ e. tail_first.1 (sym (ap first (no_point p)) ∙ e)), p.1, sym (no_point p))
+    | inr p ↦ inl (n.fraction ++ h.tail, with_point p, record { is_text = refl; are_digits = h.fraction; stop = tail_first.0 })
+  ]
 
--- both splits are found in one way
-pub split_same : (text a b c d : List ℕ) → AreDigits text a b → AreDigits text c d → (a ≡ c) × (b ≡ d)
-split_same text a b c d x y = digits_same a b c d (sym x.is_text ∙ y.is_text) x.are_digits y.are_digits x.stop y.stop
+fraction_same : (text a b c d : List ℕ) → AreFraction text a b → AreFraction text c d → (a ≡ c) × (b ≡ d)
+fraction_same text a b c d (inl (t, e, x)) (inl (u, f, y)) =
+    let both : 46 ∷ t ≡ 46 ∷ u = sym e ∙ f in
+    let same : t ≡ u = cc in
+    split_same u a b c d (subst (λ t. AreDigits t a b) same x) y
+fraction_same text a b c d (inl (t, e, x)) (inr q) = absurd (q.0 (ap first e))
+fraction_same text a b c d (inr p) (inl (u, f, y)) = absurd (p.0 (ap first f))
+fraction_same text a b c d (inr p) (inr q) = (p.1 ∙ sym q.1, p.2 ∙ sym q.2)
 
-pub fraction_same : (text a b c d : List ℕ) → AreFraction text a b → AreFraction text c d → (a ≡ c) × (b ≡ d)
-fraction_same text a b c d x y =
-    ⊎_elim (λ (p : (tail : List ℕ) × (text ≡ 46 ∷ tail) × AreDigits tail a b).
-    ⊎_elim (λ (q : (tail : List ℕ) × (text ≡ 46 ∷ tail) × AreDigits tail c d).
-    let e : 46 ∷ p.0 ≡ 46 ∷ q.0 = sym p.1 ∙ q.1 in
-    let same : p.0 ≡ q.0 = cc in
-    split_same q.0 a b c d (subst (λ t. AreDigits t a b) same p.2) q.2)
-    (λ q. absurd (q.0 (ap first p.1))) y)
-    (λ p.
-    ⊎_elim (λ (q : (tail : List ℕ) × (text ≡ 46 ∷ tail) × AreDigits tail c d). absurd (p.0 (ap first q.1)))
-    (λ q. (p.1 ∙ sym q.1, p.2 ∙ sym q.2)) y) x
+abbrev made_of : List ℕ → List ℕ → Bool → List ℕ → Decimal
+made_of whole fraction minus exponent = record { whole = whole; fraction = fraction; minus = minus; exponent = exponent }
 
 module _ (text whole rest fraction tail : List ℕ) (front : AreDigits text whole rest) (middle : AreFraction rest fraction tail) where
+  -- the parts that the steps find are those of each number that the text spells
   pub number_parts : (n : Decimal) → Spells text n → (n.whole ≡ whole) × (n.fraction ≡ fraction) × IsExponent tail n.minus n.exponent
   number_parts n h =
       let one = split_same text n.whole (behind text n h) whole rest (whole_split text n h) front in
       let two = fraction_same rest n.fraction h.tail fraction tail (subst (λ x. AreFraction x n.fraction h.tail) one.1 (fraction_split text n h)) middle in
       (one.0, two.0, subst (λ x. IsExponent x n.minus n.exponent) two.1 h.exponent)
 
-  pub number_there : (minus : Bool) (exponent : List ℕ) → whole ++ fraction ≢ [] → IsExponent tail minus exponent → Spells text (record { whole = whole; fraction = fraction; minus = minus; exponent = exponent })
-  number_there minus exponent some is =
-      ⊎_elim (λ (p : (t : List ℕ) × (rest ≡ 46 ∷ t) × AreDigits t fraction tail).
-      made minus exponent some is (46 ∷ []) p.2.are_digits (inr refl) (p.1 ∙ ap (λ x. 46 ∷ x) p.2.is_text))
-      (λ p. made minus exponent some is [] (λ k d l. absurd (omega (arith, ap length p.1))) (inl (refl, p.1)) (sym p.2 ∙ ap (λ x. x ++ tail) (sym p.1))) middle
+  -- the parts that the steps find make a number that the text spells
+  pub number_there : (minus : Bool) (exponent : List ℕ) → whole ++ fraction ≢ [] → IsExponent tail minus exponent → Spells text (made_of whole fraction minus exponent)
+  number_there minus exponent some is = elim middle [
+    | inl (t, e, split) ↦ made minus exponent some is (46 ∷ []) split.are_digits (inr refl) (e ∙ ap (λ x. 46 ∷ x) split.is_text)
+    | inr (none, empty, same) ↦ made minus exponent some is [] (λ k d l. absurd (omega (arith, ap length empty))) (inl (refl, empty)) (sym same ∙ ap (λ x. x ++ tail) (sym empty))
+  ]
     where
       made : (minus : Bool) (exponent : List ℕ) → whole ++ fraction ≢ [] → IsExponent tail minus exponent → (point : List ℕ) → All IsDigit fraction → ((point ≡ []) × (fraction ≡ [])) ⊎ (point ≡ 46 ∷ []) → rest ≡ point ++ (fraction ++ tail)
-          → Spells text (record { whole = whole; fraction = fraction; minus = minus; exponent = exponent })
+          → Spells text (made_of whole fraction minus exponent)
       made minus exponent some is point digits is_point e = record {
         point = point;
         tail = tail;
@@ -221,31 +213,29 @@ module _ (text whole rest fraction tail : List ℕ) (front : AreDigits text whol
         is_text = front.is_text ∙ ap (λ x. whole ++ x) e;
       }
 
--- two numbers are the same
-abbrev IsSame : Decimal → Decimal → Type 0
-IsSame n k = n ≡ k
+parts_same : (v w g f : List ℕ) (m l : Bool) (e d : List ℕ) → v ≡ w → g ≡ f → m ≡ l → e ≡ d → made_of w f m e ≡ made_of v g l d
+parts_same v w g f m l e d a b c x = cc
 
-decimal_same : (v w g f : List ℕ) (m l : Bool) (e d : List ℕ) → v ≡ w → g ≡ f → m ≡ l → e ≡ d → IsSame (record { whole = w; fraction = f; minus = m; exponent = e }) (record { whole = v; fraction = g; minus = l; exponent = d })
-decimal_same v w g f m l e d a b c x = cc
-
+-- a text spells one number
 pub number_same : (text : List ℕ) (n k : Decimal) → Spells text n → Spells text k → n ≡ k
 number_same text n k h i =
     let parts = number_parts text n.whole (behind text n h) n.fraction h.tail (whole_split text n h) (fraction_split text n h) k i in
     let exponent = exponent_same h.tail n.minus k.minus n.exponent k.exponent h.exponent parts.2 in
-    decimal_same k.whole n.whole k.fraction n.fraction n.minus k.minus n.exponent k.exponent parts.0 parts.1 exponent.0 exponent.1
+    parts_same k.whole n.whole k.fraction n.fraction n.minus k.minus n.exponent k.exponent parts.0 parts.1 exponent.0 exponent.1
 
 -- the text behind the sign
-pub unsigned_first : (text : List ℕ) (minus : Bool) (delay : ℕ) → NamesUnsignedDelay text minus delay → 46 ≤ first text
-unsigned_first text minus delay is =
-    ⊎_elim (λ (p : IsInfinite text × (minus ≡ false) × (delay ≡ greatest_delay)). let high = infinite_high text p.0 in omega arith)
-    (λ p. (number_first text p.0 p.1).0) is
+unsigned_first : (text : List ℕ) (minus : Bool) (delay : ℕ) → NamesUnsignedDelay text minus delay → 46 ≤ first text
+unsigned_first text minus delay (inl p) = let high = infinite_high text p.0 in omega arith
+unsigned_first text minus delay (inr p) = (number_first text p.0 p.1).0
 
+-- a delay of the text is one of the text behind its sign
 pub named : (text : List ℕ) (minus : Bool) (unsigned : List ℕ) → minus ≡ has_minus text → unsigned ≡ behind_sign text → (delay : ℕ) → NamesDelay text delay → NamesUnsignedDelay unsigned minus delay
 named text minus unsigned m u delay h =
     let low = unsigned_first h.unsigned h.minus delay h.is_delay in
     let sign = sign_same h.sign h.minus text h.unsigned h.is_sign h.is_text (λ e. omega arith) (λ e. omega arith) in
     subst (λ x. NamesUnsignedDelay x minus delay) (sign.1 ∙ sym u) (subst (λ x. NamesUnsignedDelay h.unsigned x delay) (sign.0 ∙ sym m) h.is_delay)
 
+-- a delay of the text behind its sign is one of the text
 pub names : (text : List ℕ) (minus : Bool) (unsigned : List ℕ) → minus ≡ has_minus text → unsigned ≡ behind_sign text → (delay : ℕ) → NamesUnsignedDelay unsigned minus delay → NamesDelay text delay
 names text minus unsigned m u delay h =
     let s = sign_there text in
@@ -258,6 +248,7 @@ names text minus unsigned m u delay h =
       is_delay = h;
     }
 
+-- a number rounds to one delay
 rounds_same : (n : Decimal) (d e : ℕ) → Rounds n d → Rounds n e → d ≡ e
 rounds_same n d e a b =
     let x : d ≤ e = b.greatest d a.bound a.at_most in
@@ -266,16 +257,19 @@ rounds_same n d e a b =
 
 -- a text names at most one delay
 pub names_same : (text : List ℕ) (d e : ℕ) → NamesDelay text d → NamesDelay text e → d ≡ e
-names_same text d e a b =
-    let x = named text (has_minus text) (behind_sign text) refl refl d a in
-    let y = named text (has_minus text) (behind_sign text) refl refl e b in
-    let u = behind_sign text in
-    ⊎_elim (λ (p : IsInfinite u × (has_minus text ≡ false) × (d ≡ greatest_delay)).
-    ⊎_elim (λ (q : IsInfinite u × (has_minus text ≡ false) × (e ≡ greatest_delay)). p.2 ∙ sym q.2)
-    (λ q. absurd (infinite_no_number u q.0 p.0 q.1)) y)
-    (λ p.
-    ⊎_elim (λ (q : IsInfinite u × (has_minus text ≡ false) × (e ≡ greatest_delay)). absurd (infinite_no_number u p.0 q.0 p.1))
-    (λ q. rounds_same q.0 d e (subst (λ n. Rounds n d) (number_same u p.0 q.0 p.1 q.1) p.3) q.3) y) x
+names_same text d e a b = at (named text minus u refl refl d a) (named text minus u refl refl e b)
+  where
+    minus : Bool
+    minus = has_minus text
+
+    u : List ℕ
+    u = behind_sign text
+
+    at : NamesUnsignedDelay u minus d → NamesUnsignedDelay u minus e → d ≡ e
+    at (inl p) (inl q) = p.2 ∙ sym q.2
+    at (inl p) (inr q) = absurd (infinite_no_number u q.0 p.0 q.1)
+    at (inr p) (inl q) = absurd (infinite_no_number u p.0 q.0 p.1)
+    at (inr p) (inr q) = rounds_same q.0 d e (subst (λ n. Rounds n d) (number_same u p.0 q.0 p.1 q.1) p.3) q.3
 
 pub some_length : (ds : List ℕ) → ds ≢ [] → 0 < length ds
 some_length [] some = absurd (some refl)
@@ -284,14 +278,7 @@ some_length (d ∷ ds) some = omega arith
 pub length_some : (ds : List ℕ) → 0 < length ds → ds ≢ []
 length_some ds l e = let none : length ds ≡ 0 = ap length e in omega arith
 
-pub length_none : (ds : List ℕ) → length ds ≡ 0 → ds ≡ []
-length_none [] e = refl
-length_none (d ∷ ds) e = absurd (omega arith)
-
--- only zeros in two lists and in both joined
-pub zeros_joined : (a b : List ℕ) → All (λ d. d ≡ 48) a → All (λ d. d ≡ 48) b → All (λ d. d ≡ 48) (a ++ b)
-zeros_joined a b h i = All-append (λ d. d ≡ 48) a b h i
-
+-- only zeros in two lists joined are only zeros in each
 pub zeros_first : (a b : List ℕ) → All (λ d. d ≡ 48) (a ++ b) → All (λ d. d ≡ 48) a
 zeros_first a b h = subst (All (λ d. d ≡ 48)) (take_at a b (length a) refl) (All-take (λ d. d ≡ 48) (length a) (a ++ b) h)
 

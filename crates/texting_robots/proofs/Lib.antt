@@ -1,6 +1,6 @@
 pub mod CutLemmas
 pub mod CrLfLemmas
-pub mod ReadLemmas
+pub mod CutFromFront
 pub mod TrimLemmas
 pub mod KeyLemmas
 pub mod RegionLemmas

@@ -8,17 +8,24 @@ use Rattle.texting_robots.specs.Cut.{Pair}
 use Rattle.texting_robots.specs.Computed.Cut.{cut}
 use Rattle.texting_robots.specs.Statement.{IsStatement, IsTailOf, colon}
 use Rattle.texting_robots.specs.Computed.Statement.{statement_of}
-use Rattle.texting_robots.specs.Line.{LineValue, AreLinesOf, HoldRangesOf, HoldsRangeOf, IsDelayOrRaw, IsLineOf, IsLineWith, IsRangeOf, without, without_front}
-use Rattle.texting_robots.specs.Computed.Line.{delay_or_raw, line_of, line_with, parsed}
+use Rattle.texting_robots.specs.Line.{LineValue, Raw, AreLinesOf, HoldRangesOf, HoldsRangeOf, IsDelayOrRaw, IsLineOf, IsLineWith, IsRangeOf, without, without_front}
+use Rattle.texting_robots.specs.Computed.Line.{delay_or_raw, line_by, line_of, line_with, parsed}
 use Rattle.texting_robots.specs.Computed.Delay.{delay_of}
 use Rattle.texting_robots.specs.Delay.{IsDelay}
 use Rattle.texting_robots.specs.Laws.{EachTextHasItsLines, ParseTakesAll}
 use Rattle.texting_robots.proofs.DelayLemmas.{delay_of_is, is_delay_of}
 use Rattle.texting_robots.proofs.CutLemmas.{is_cut, only_cut}
 use Rattle.texting_robots.proofs.StatementLemmas.{statement_found, found_statement, unstated}
-use Rattle.texting_robots.proofs.ReadLemmas.{line_stated, line_raw}
 
 -- ---- the line of a body
+
+pub line_stated : (body : List ℕ) (kind : Kind) (value : List ℕ) → statement_of body ≡ Some (kind, value) → line_of body ≡ line_with kind value body
+unfolding line_of
+line_stated body kind value found = ap (λ s. line_by s body) found
+
+pub line_raw : (body : List ℕ) → statement_of body ≡ None → line_of body ≡ Raw body
+unfolding line_of
+line_raw body none = ap (λ s. line_by s body) none
 
 with_delay : (value body : List ℕ) (delay : Option ℕ) → IsDelay value delay → IsDelayOrRaw value body (delay_or_raw delay body)
 with_delay value body None names = inr (names, refl)
@@ -60,7 +67,7 @@ only_lines [] (pair ∷ pairs) all = absurd all
 only_lines (line ∷ lines) [] all = absurd all
 only_lines (line ∷ lines) (pair ∷ pairs) all = ap (λ x. x ∷ lines) (only_line line pair.body (statement_of pair.body) refl all.0) ∙ ap (λ t. line_of pair.body ∷ t) (only_lines lines pairs all.1)
 
-pub parsed_are_lines : (text : List ℕ) → AreLinesOf (parsed text) text
+parsed_are_lines : (text : List ℕ) → AreLinesOf (parsed text) text
 parsed_are_lines text = record { pairs = cut (without_front text); is_cut = is_cut (without_front text); each = are_lines (cut (without_front text)) }
 
 pub each_text_has_its_lines : EachTextHasItsLines
@@ -70,9 +77,6 @@ each_text_has_its_lines text lines = (
 )
 
 -- ---- ranges
-
-range_same : (bytes : List ℕ) → IsRangeOf bytes bytes
-range_same bytes = ([], [], simp append-nil)
 
 range_of_range : (part middle whole : List ℕ) → IsRangeOf part middle → IsRangeOf middle whole → IsRangeOf part whole
 range_of_range part middle whole (before, after, is) (first, last, all) = (first ++ before, after ++ last, rw (all, is) (simp append_assoc))
@@ -122,7 +126,7 @@ front_is_end text =
     let three = taken_off 0xBF (without 0xBB (without 0xEF text)) in
     (one.0 ++ (two.0 ++ three.0), one.1 ∙ ap (λ t. one.0 ++ t) (two.1 ∙ ap (λ t. two.0 ++ t) three.1) ∙ simp append_assoc)
 
-pub parsed_ranges : (text : List ℕ) → HoldRangesOf (parsed text) text
+parsed_ranges : (text : List ℕ) → HoldRangesOf (parsed text) text
 parsed_ranges text =
     let end = front_is_end text in
     record { taken = end.0; pairs = cut (without_front text); is_cut = is_cut (without_front text); whole = end.1 ∙ ap (λ t. end.0 ++ t) (sym (is_cut (without_front text)).whole); each = line_ranges (cut (without_front text)) }

@@ -75,6 +75,7 @@ abbrev read_in : List (Kind × List ℕ) → List ℕ → List ℕ → Option (K
 read_in [] low text = None
 read_in (entry ∷ entries) low text = if bytes_eq (take (length entry.1) low) (map to_ascii_lowercase entry.1) then Some (entry.0, drop (length entry.1) text) else read_in entries low text
 
+-- `key_in` reads the text in small letters
 read_low : (entries : List (Kind × List ℕ)) (text : List ℕ) → key_in entries text ≡ read_in entries (map to_ascii_lowercase text) text
 read_low [] text = refl
 read_low (entry ∷ entries) text = rw (take-map to_ascii_lowercase (length entry.1) text, read_low entries text) refl
@@ -98,9 +99,11 @@ each_read Disallow = (
 each_read Sitemap = ((refl, refl, λ m t. refl), ((refl, refl, λ m t. refl), ((refl, refl, λ m t. refl), tt)))
 each_read CrawlDelay = ((refl, refl, λ m t. refl), ((refl, refl, λ m t. refl), ((refl, refl, λ m t. refl), tt)))
 
+-- each spelling of a kind is read as that kind
 is_read : (kind : Kind) (s : List ℕ) → Contains (spellings kind) s → IsRead kind s
 is_read kind s is = All-contains (IsRead kind) (spellings kind) s (All-from_recursion (IsRead kind) (spellings kind) (each_read kind)) is
 
+-- a key begins with no blank
 key_plain : (key rest : List ℕ) → HeadPlain (map to_ascii_lowercase key) → StartsPlain (key ++ rest)
 key_plain [] rest plain = absurd plain
 key_plain (b ∷ key) rest plain = at b plain
@@ -152,6 +155,7 @@ found_key (entry ∷ entries) text kind rest are is = elim (cases_Bool (begins e
 colon_skipped : (tail rest : List ℕ) → IsColonAnd tail rest → skip_blanks rest ≡ colon ∷ tail
 colon_skipped tail rest (blanks, all, whole) = ap skip_blanks whole ∙ skip_front blanks (colon ∷ tail) all
 
+-- what is skipped to a colon is blanks, a colon and a tail
 colon_there : (tail rest : List ℕ) → skip_blanks rest ≡ colon ∷ tail → IsColonAnd tail rest
 colon_there tail rest reads = let s = skipped rest in (s.blanks, s.all, s.whole ∙ ap (λ t. s.blanks ++ t) reads)
 
@@ -201,6 +205,7 @@ blanks_tail rest left tail reads is none = elim (cases_Bool (nat_lt (length left
     at [] all whole less = absurd (omega (arith, less, ap length whole))
     at (b ∷ blanks) all whole less = (b, blanks, all, whole)
 
+-- what the walk takes for the tail is one
 tail_is : (rest left tail : List ℕ) → skip_blanks rest ≡ left → after_separator rest left ≡ Some tail → IsTailOf tail rest
 tail_is rest [] tail reads is = blanks_tail rest [] tail reads is (λ other e. cc)
 tail_is rest (c ∷ left) tail reads is = elim (cases_Bool (c == colon)) [
@@ -239,6 +244,7 @@ parted (b ∷ tail) = elim (cases_Bool (b == hash)) [
       subst (λ r. Parted r (b ∷ tail)) (sym (region_other b tail isnt)) (record { comment = p.comment; whole = ap (λ t. b ∷ t) p.whole; plain = (eqb-false b hash isnt, p.plain); is = p.is })
 ]
 
+-- bytes that are no hash go to the region
 region_front : (front tail : List ℕ) → Each (λ byte. byte ≢ hash) front → region_of (front ++ tail) ≡ front ++ region_of tail
 region_front [] tail plain = refl
 region_front (b ∷ front) tail plain = region_other b (front ++ tail) (ne_eqb b hash plain.0) ∙ ap (λ t. b ∷ t) (region_front front tail plain.1)

@@ -1,11 +1,11 @@
 -- What `trim` leaves is the trim of its text, and there is no other.
-use Rattle.std.proofs.Common.{◌≡◌, ◌⊎◌, ℕ, zero, suc, ◌+◌, ◌-◌, ◌≤◌, ◌<◌, true, false, inl, inr, List, [], ◌∷◌, ◌++◌, length, take, drop, sym, refl, ap, ◌∙◌, append_assoc, arith, IsTrue, Option, Some, None, length-append, subst, cond, slice_index}
+use Rattle.std.proofs.Common.{◌≡◌, ◌⊎◌, ℕ, zero, suc, ◌+◌, ◌≤◌, ◌<◌, true, false, inl, inr, List, [], ◌∷◌, ◌++◌, length, take, drop, sym, refl, ap, ◌∙◌, append_assoc, arith, IsTrue, Option, Some, None, length-append, subst, cond, slice_index}
 use Rattle.std.specs.List.{AllByRecursion as Each}
 use Rattle.std.specs.Char.{is_whitespace, encode_utf8}
 use Rattle.std.specs.Str.{encode_utf8_all}
 use Rattle.std.proofs.lemmas.Bool.{cases_Bool, cond-true, cond-false, false_from_ne_true}
 use Rattle.std.proofs.lemmas.Bool.Decides.{nat_tests}
-use Rattle.std.proofs.lemmas.List.{append_cancel_left, append_cancel_right, drop_at, length-take-le, take-append-drop, take_at}
+use Rattle.std.proofs.lemmas.List.{append_cancel_right, drop_at, length-take-le, take-append-drop, take_at}
 use Rattle.bstr.specs.Utf8.{Decoded, decoded, good, or_replacement, bad, pieces, spans_from, continues}
 use Rattle.bstr.specs.Trim.{kept_start, kept_end, trim_start_by, trim_end_by}
 use Rattle.bstr.proofs.lemmas.PieceLemmas.{piece-bounds, spans-first, spans-nil, pieces-append, continuation-alone, StartsClean}
@@ -30,6 +30,7 @@ more_spaces c bytes white is = (c ∷ is.0, (white, is.1), ap (λ t. encode_utf8
 starts_white : (c : ℕ) (bytes rest : List ℕ) → is_whitespace c ≡ true → bytes ≡ encode_utf8 c ++ rest → decoded bytes ≡ good c (length (encode_utf8 c))
 starts_white c bytes rest white e = rw e (decoded-encode c rest (low_scalar c (grind (arith, nat_tests))))
 
+-- a space has bytes
 some_bytes : (c : ℕ) (bytes rest : List ℕ) → is_whitespace c ≡ true → bytes ≡ encode_utf8 c ++ rest → 0 < length bytes
 some_bytes c (b ∷ bytes) rest white e = omega arith
 some_bytes c [] rest white e =
@@ -84,6 +85,7 @@ space_first bytes first more white is = subst (λ p. IsSpaces (p ++ more)) (sym 
 abbrev NoneLonger : List ℕ → List ℕ → Type 0
 NoneLonger front bytes = (s r : List ℕ) → bytes ≡ s ++ r → IsSpaces s → length s ≤ length front
 
+-- where the first character is no space, no spaces stand in front
 nothing_longer : (bytes : List ℕ) (first : Step bytes) → is_whitespace first.char ≡ false → NoneLonger [] bytes
 nothing_longer bytes first other s r e ([], all, is) = rw is (omega arith)
 nothing_longer bytes first other s r e (c ∷ cs, all, is) =
@@ -91,6 +93,7 @@ nothing_longer bytes first other s r e (c ∷ cs, all, is) =
     let clash : true ≡ false = sym all.0 ∙ ap is_whitespace (sym same.0) ∙ other in
     cc
 
+-- a first space makes the longest front longer by itself
 longer : (bytes : List ℕ) (first : Step bytes) (front : List ℕ) → is_whitespace first.char ≡ true → NoneLonger front first.later → NoneLonger (first.piece ++ front) bytes
 longer bytes first front white longest s r e ([], all, is) = rw is (omega arith)
 longer bytes first front white longest s r e (c ∷ cs, all, is) =
@@ -121,6 +124,7 @@ front_later at at' off bytes first white same f = record {
   longest = longer bytes first f.front white f.longest;
 }
 
+-- the place is where the longest front of spaces ends
 front_of : (n end off : ℕ) (bytes : List ℕ) → length bytes ≤ n → end ≡ off + length bytes → FrontOf (start_at end off bytes) off bytes
 front_of n end off [] le is =
     let place : start_at end off [] ≡ off + 0 = ap (kept_start is_whitespace end) (spans-nil [] off refl) ∙ kept-nil is_whitespace end ∙ is in
@@ -214,6 +218,7 @@ end_at_spaces (c ∷ cs) end off all =
     let same = first.reads c (encode_utf8_all cs) all.0 refl in
     end_at_space bytes first end off (ap is_whitespace same.0 ∙ all.0) ∙ ap (end_at end (off + length first.piece)) same.2 ∙ end_at_spaces cs end (off + length first.piece) all.1
 
+-- pieces that move no end leave it where those before them put it
 kept_end_before : (ps qs : List Decoded) (end off : ℕ) → ((e o : ℕ) → kept_end is_whitespace e (spans_from o qs) ≡ e) → kept_end is_whitespace end (spans_from off (ps ++ qs)) ≡ kept_end is_whitespace end (spans_from off ps)
 unfolding kept_end spans_from
 kept_end_before [] qs end off none = none end off

@@ -125,7 +125,7 @@ fn line_with<'a>(kind: Kind, value: &'a [u8], body: &'a [u8]) -> Line<'a>
 }
 
 /// The line of a body.
-#[tactic(auto, using(crate::proofs::ReadLemmas::line_stated, crate::proofs::ReadLemmas::line_raw))]
+#[tactic(auto, using(crate::proofs::LineLemmas::line_stated, crate::proofs::LineLemmas::line_raw))]
 fn line_of<'a>(body: &'a [u8]) -> Line<'a>
     ensures { by_value result ≡ line_of body.now }
 {

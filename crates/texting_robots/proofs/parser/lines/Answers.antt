@@ -1,6 +1,6 @@
 use Rattle.std.proofs.Common.{◌∙◌, ap}
 use Rattle.texting_robots.specs.Computed.Line.{lines_of}
-use Rattle.texting_robots.proofs.ReadLemmas.{read_as_is}
+use Rattle.texting_robots.proofs.CutFromFront.{read_as_is}
 use Rattle.texting_robots.proofs.LineLemmas.{lines_are, lines_range}
 use Rattle.texting_robots.proofs.parser.lines.Goals as goal
 

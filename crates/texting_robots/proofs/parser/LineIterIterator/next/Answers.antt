@@ -1,7 +1,7 @@
 use Rattle.std.proofs.Common.{◌∙◌, sym, ap}
 use Rattle.texting_robots.specs.Computed.Cut.{read_as}
 use Rattle.texting_robots.specs.Computed.Line.{lines_of}
-use Rattle.texting_robots.proofs.ReadLemmas.{lines_nil, next_line, not_empty, nothing_is, shorter}
+use Rattle.texting_robots.proofs.CutFromFront.{lines_nil, next_line, not_empty, nothing_is, shorter}
 use Rattle.texting_robots.proofs.parser.LineIterIterator.next.Goals as goal
 
 pub returns-then-is_empty-clause-steps : goal.returns-then-is_empty-clause-steps

@@ -2,7 +2,7 @@ use Rattle.std.proofs.Common.{sym, ◌∙◌, ap, length, true, false}
 use Rattle.std.specs.Option.{unwrap_or}
 use Rattle.texting_robots.specs.Computed.Cut.{body_len, read_as}
 use Rattle.memchr.specs.Find.{is_byte2, is_byte3}
-use Rattle.texting_robots.proofs.ReadLemmas.{body_found, ends_as_is, ends_with_nul}
+use Rattle.texting_robots.proofs.CutFromFront.{body_found, ends_as_is, ends_with_nul}
 use Rattle.texting_robots.proofs.parser.cut.body_len.Goals as goal
 use Rattle.texting_robots.proofs.parser.cut.body_len.Goals.{then-nul_ends, else-nul_ends}
 

@@ -1,5 +1,5 @@
 use Rattle.std.proofs.Common.{sym, ◌∙◌, arith}
-use Rattle.texting_robots.proofs.ReadLemmas.{end_at_return, end_at_feed, end_at_other, end_at_end}
+use Rattle.texting_robots.proofs.CutFromFront.{end_at_return, end_at_feed, end_at_other, end_at_end}
 use Rattle.texting_robots.proofs.parser.cut.end_len.Goals as goal
 use Rattle.texting_robots.proofs.parser.cut.end_len.Goals.{then-loop-at-test+else-text-at-eq13, else-loop-at-test, else-at-text-via-then-at-text+else-feeds, else-at-text-via-else-at-text}
 

@@ -1,8 +1,9 @@
 use Rattle.std.proofs.Common.{◌≡◌, ◌⊎◌, ◌<◌, ◌∷◌, length, inl, inr, sym, ap, subst, ◌∙◌, arith}
 use Rattle.std.proofs.lemmas.Bool.Decides.{nat_tests}
+use Rattle.std.proofs.lemmas.List.{nil_from_length}
 use Rattle.texting_robots.specs.Delay.{IsExponent}
 use Rattle.texting_robots.specs.Computed.DelayParts.{AreDigits, behind_sign}
-use Rattle.texting_robots.proofs.DelayGrammar.{exponent_parts, exponent_there, length_none, length_some, some_length}
+use Rattle.texting_robots.proofs.DelayGrammar.{exponent_parts, exponent_there, length_some, some_length}
 use Rattle.texting_robots.proofs.parser.delay.read_exponent.Goals as goal
 use Rattle.texting_robots.proofs.parser.delay.read_exponent.Goals.{then-is_empty, else-is_empty, else-letter-ne101-via-then-letter-ne101+else-letter-ne69, else-letter-ne101-via-else-letter-ne101}
 
@@ -26,5 +27,5 @@ returns-else-not-is_empty c =
     let some : 0 < length digits = elim c.if-is_empty.branch [ then-is_empty w ↦ grind (arith, nat_tests) | else-is_empty w ↦ grind (arith, nat_tests) ] in
     let none : length behind ≡ 0 = elim c.if-is_empty.branch [ then-is_empty w ↦ absurd (grind (arith, nat_tests)) | else-is_empty w ↦ grind (arith, nat_tests) ] in
     let split : AreDigits (behind_sign c.in-Some.rest.now) digits behind = subst (λ x. AreDigits x digits behind) c.split_sign-minus.ensures.rest c.split_digits.ensures in
-    let there = exponent_there c.args.text.now c.in-Some.rest.now digits c.in-Some.letter.now text letter (subst (λ x. AreDigits (behind_sign c.in-Some.rest.now) digits x) (length_none behind none) split) (length_some digits some) in
+    let there = exponent_there c.args.text.now c.in-Some.rest.now digits c.in-Some.letter.now text letter (subst (λ x. AreDigits (behind_sign c.in-Some.rest.now) digits x) (nil_from_length behind none) split) (length_some digits some) in
     subst (λ m. IsExponent c.args.text.now m digits) (sym c.split_sign-minus.ensures.minus) there

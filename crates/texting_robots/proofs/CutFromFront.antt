@@ -1,4 +1,4 @@
--- The first line of a text, and the lines of the rest.
+-- The cut read from the front: the first line of a text, and the lines of the rest.
 use Rattle.std.proofs.Common.{◌≡◌, ◌≢◌, ℕ, suc, ◌+◌, ◌≤◌, ◌<◌, Bool, true, false, ◌==◌, ◌||◌, inl, inr, List, [], ◌∷◌, length, take, drop, map, get_or, sym, refl, ap, ◌∙◌, arith, cond, if◌then◌else◌, map-id, Option, Some, None}
 use Rattle.std.specs.List.{position_or_len}
 use Rattle.std.proofs.lemmas.Bool.{cases_Bool, cond-true, cond-false, eqb-true, ne_eqb}
@@ -11,10 +11,8 @@ use Rattle.memchr.specs.Find.{is_byte2, is_byte3, IsFirstByte}
 use Rattle.texting_robots.proofs.RegionLemmas.{place_is, end_is}
 use Rattle.texting_robots.specs.Cut.{Pair, cr, lf}
 use Rattle.texting_robots.specs.Computed.Cut.{cut, before_body, before_end, body_len, end_len, read_byte, read_as}
-use Rattle.texting_robots.specs.declared.parser.statement.Kind.{Kind}
-use Rattle.texting_robots.specs.Computed.Statement.{statement_of}
-use Rattle.texting_robots.specs.Line.{LineValue, Raw}
-use Rattle.texting_robots.specs.Computed.Line.{line_by, line_of, lines_of, line_with}
+use Rattle.texting_robots.specs.Line.{LineValue}
+use Rattle.texting_robots.specs.Computed.Line.{line_of, lines_of}
 use Rattle.texting_robots.proofs.CutLemmas.{cut_nil, cut_at_lf, cut_at_cr, cut_at_other, pair_of}
 
 -- ---- the first pair
@@ -36,14 +34,20 @@ after_cr (c ∷ text) =
       ]
     ]
 
--- the text is cut after this many bytes of a body and of an end
-abbrev Cuts : List ℕ → ℕ → ℕ → Type 0
-Cuts text n m = (ending : List ℕ) × (cut text ≡ pair_of (take n text) ending ∷ cut (drop m (drop n text)))
+-- what follows the first body and its end
+abbrev rest_of : List ℕ → List ℕ
+rest_of text = let left = drop (body_len text) text in drop (end_len left) left
 
-abbrev Further : ℕ → List ℕ → Type 0
-Further b text = (ending : List ℕ) × (before_body b (cut text) ≡ pair_of (b ∷ take (body_len text) text) ending ∷ cut (drop (end_len (drop (body_len text) text)) (drop (body_len text) text)))
+-- the first pair of the text ends before this rest
+abbrev Starts : List ℕ → Type 0
+Starts text = (ending : List ℕ) × (cut text ≡ pair_of (take (body_len text) text) ending ∷ cut (rest_of text))
 
-starts : (b : ℕ) (text : List ℕ) → Further b text → Cuts (b ∷ text) (body_len (b ∷ text)) (end_len (drop (body_len (b ∷ text)) (b ∷ text)))
+-- the same, with one more byte of the first body
+abbrev StartsBehind : ℕ → List ℕ → Type 0
+StartsBehind b text = (ending : List ℕ) × (before_body b (cut text) ≡ pair_of (b ∷ take (body_len text) text) ending ∷ cut (rest_of text))
+
+-- the first pair, by the first byte
+starts : (b : ℕ) (text : List ℕ) → StartsBehind b text → Starts (b ∷ text)
 starts b text further =
     elim (cases_Bool (b == lf)) [
       | inl is_lf ↦ (lf ∷ [], rw (cut_at_lf b text is_lf, is_lf, is_lf) refl)
@@ -54,11 +58,11 @@ starts b text further =
     ]
 
 -- the first pair of a text that isn't empty, and the pairs of the rest
-first_piece : (b : ℕ) (text : List ℕ) → Cuts (b ∷ text) (body_len (b ∷ text)) (end_len (drop (body_len (b ∷ text)) (b ∷ text)))
+first_piece : (b : ℕ) (text : List ℕ) → Starts (b ∷ text)
 first_piece b [] = starts b [] ([], rw cut_nil refl)
 first_piece b (c ∷ text) = let next = first_piece c text in starts b (c ∷ text) (next.0, rw next.1 refl)
 
-lines_first : (text : List ℕ) → 0 < length text → lines_of text ≡ line_of (take (body_len text) text) ∷ lines_of (drop (end_len (drop (body_len text) text)) (drop (body_len text) text))
+lines_first : (text : List ℕ) → 0 < length text → lines_of text ≡ line_of (take (body_len text) text) ∷ lines_of (rest_of text)
 lines_first [] some = absurd (omega (arith, some))
 lines_first (b ∷ text) some = ap (λ ps. map (λ p. line_of p.body) ps) (first_piece b text).1
 
@@ -70,6 +74,7 @@ lines_nil = ap (λ ps. map (λ p. line_of p.body) ps) cut_nil
 drop_read : (n : Bool) (k : ℕ) (text : List ℕ) → drop k (read_as n text) ≡ read_as n (drop k text)
 drop_read n k text = drop-map (read_byte n) k text
 
+-- the text from a place within it on, as it is read
 at_read : (n : Bool) (text : List ℕ) (i : ℕ) → i < length text → drop i (read_as n text) ≡ read_byte n (get_or text i 0) ∷ drop (i + 1) (read_as n text)
 at_read n text i within = drop_read n i text ∙ ap (read_as n) (drop_more text i 0 within) ∙ ap (λ t. read_byte n (get_or text i 0) ∷ t) (sym (drop_read n (i + 1) text))
 
@@ -100,10 +105,11 @@ end_at_end n text i over = ap end_len (drop_read n i text ∙ ap (read_as n) (dr
 
 -- ---- the length of a body, as a search finds it
 
+-- the test passes the bytes that are read as CR or LF
 abbrev Ends : Bool → (ℕ → Bool) → Type 0
 Ends n test = (b : ℕ) → test b ≡ (read_byte n b == lf || read_byte n b == cr)
 
-pub body_by : (n : Bool) (test : ℕ → Bool) → Ends n test → (text : List ℕ) → position_or_len test text ≡ body_len (read_as n text)
+body_by : (n : Bool) (test : ℕ → Bool) → Ends n test → (text : List ℕ) → position_or_len test text ≡ body_len (read_as n text)
 body_by n test ends text = sym (is_position_or_len (λ t. body_len (read_as n t)) test refl (λ b t. step (read_byte n b == lf) (read_byte n b == cr) (test b) (body_len (read_as n t)) (ends b)) text)
   where
     step : (x y z : Bool) (k : ℕ) → z ≡ (x || y) → (if x then 0 else (if y then 0 else suc k)) ≡ cond z 0 (1 + k)
@@ -127,6 +133,11 @@ ends_with_nul b = elim (cases_Bool (b == 0)) [ inl nul ↦ rw nul (last (b == cr
     turned true false = refl
     turned false true = refl
     turned false false = refl
+
+-- what `memchr` finds
+pub body_found : (n : Bool) (test : ℕ → Bool) (text : List ℕ) (found : Option ℕ) → Ends n test → IsFirstByte test text found → unwrap_or found (length text) ≡ body_len (read_as n text)
+body_found n test text None ends none = sym (end_is test text none) ∙ body_by n test ends text
+body_found n test text (Some k) ends first = sym (place_is test text k first.0 first.1) ∙ body_by n test ends text
 
 -- a body holds no NUL that is read as LF
 body_plain : (n : Bool) (text : List ℕ) → take (body_len (read_as n text)) (read_as n text) ≡ take (body_len (read_as n text)) text
@@ -159,10 +170,11 @@ next_line n rest body after k m some k_is body_is after_is m_is =
     let first = lines_first text (omega (arith, some, long_read n rest)) in
     let body_same : take (body_len text) text ≡ body = body_plain n rest ∙ ap (λ i. take i rest) (sym k_is) ∙ sym body_is in
     let after_same : drop (body_len text) text ≡ read_as n after = ap (λ i. drop i text) (sym k_is) ∙ drop_read n k rest ∙ ap (read_as n) (sym after_is) in
-    let rest_same : drop (end_len (drop (body_len text) text)) (drop (body_len text) text) ≡ read_as n (drop m after)
+    let rest_same : rest_of text ≡ read_as n (drop m after)
     = ap (λ t. drop (end_len t) t) after_same ∙ ap (λ i. drop i (read_as n after)) (sym m_is) ∙ drop_read n m after in
-    first ∙ ap (λ t. line_of t ∷ lines_of (drop (end_len (drop (body_len text) text)) (drop (body_len text) text))) body_same ∙ ap (λ t. line_of body ∷ lines_of t) rest_same
+    first ∙ ap (λ t. line_of t ∷ lines_of (rest_of text)) body_same ∙ ap (λ t. line_of body ∷ lines_of t) rest_same
 
+-- what the tests of the reader say
 pub not_empty : (n : ℕ) (b : Bool) → b ≡ (n == 0) → b ≡ false → 0 < n
 not_empty n b e f = grind (arith, nat_tests)
 
@@ -171,17 +183,3 @@ nothing_is text b e f = nil_from_length text (eqb-true (length text) 0 (sym e �
 
 pub shorter : (x : LineValue) (s t : List LineValue) → s ≡ x ∷ t → length t < length s
 shorter x s t e = rw e (omega arith)
-
-pub body_found : (n : Bool) (test : ℕ → Bool) (text : List ℕ) (found : Option ℕ) → Ends n test → IsFirstByte test text found → unwrap_or found (length text) ≡ body_len (read_as n text)
-body_found n test text None ends none = sym (end_is test text none) ∙ body_by n test ends text
-body_found n test text (Some k) ends first = sym (place_is test text k first.0 first.1) ∙ body_by n test ends text
-
--- ---- the line of a body
-
-pub line_stated : (body : List ℕ) (kind : Kind) (value : List ℕ) → statement_of body ≡ Some (kind, value) → line_of body ≡ line_with kind value body
-unfolding line_of
-line_stated body kind value found = ap (λ s. line_by s body) found
-
-pub line_raw : (body : List ℕ) → statement_of body ≡ None → line_of body ≡ Raw body
-unfolding line_of
-line_raw body none = ap (λ s. line_by s body) none
