@@ -1,12 +1,14 @@
--- One search for two tasks: a piece is looked for in a text, and in itself from place 1 on, which gives the borders.
+-- One search for two tasks: a piece is looked for in a text, and in itself from 1 on, which gives borders.
 -- `place` is the next place of the text to look at, and `matched` bytes before it agree with the piece.
--- That the leftmost place of a piece loses no match is `behind_leftmost` of PlacingLemmas, and how many looks a search
--- takes is in the invariant of `find`.
-use Rattle.std.proofs.Common.{◌≡◌, ◌≢◌, ◌↔◌, ⊎_elim, ℕ, ◌+◌, ◌-◌, ◌<◌, ◌≤◌, List, [], ◌∷◌, ◌++◌, length, get_or, sym, ap, subst, subst₂, ◌∙◌, arith, append_assoc}
+-- That the leftmost place of a piece loses no match is `first_is_enough` of PlacingLemmas; how many looks a
+-- search takes is in the invariant of `find`.
+use Rattle.std.proofs.Common.{◌≡◌, ◌≢◌, ◌↔◌, ⊎_elim, ℕ, ◌+◌, ◌-◌, ◌<◌, ◌≤◌, Some, None, List, [], ◌∷◌, ◌++◌}
+use Rattle.std.proofs.Common.{length, get_or, sym, ap, subst, subst₂, ◌∙◌, arith, append_assoc}
 use Rattle.std.proofs.lemmas.Bool.{cases_eq, cases_lt}
 use Rattle.std.proofs.lemmas.Grind.{get_or_default_zero}
 use Rattle.std.proofs.lemmas.List.{get_or_append_left, get_or_push, get_or-append-add, length_push}
-use Rattle.texting_robots.specs.Computed.Border.{Agrees, AreBorders, IsLongestBorder, StandsAt, StandsNowhere}
+use Rattle.memchr.specs.Find.{FindsNeedle, Nowhere, OccursAt}
+use Rattle.texting_robots.specs.Computed.Border.{Agrees, AreBorders, IsLongestBorder}
 
 -- From low on, the place `matched` bytes back is the first that is still open: there the piece agrees with the text
 -- up to `place`, and at each place before it disagrees with the text before `end`.
@@ -15,18 +17,24 @@ pub record IsFirstOpen (text piece : List ℕ) (low end place matched : ℕ) : T
   pub agrees : Agrees text piece (place - matched) place
   pub closed : (at : ℕ) → low ≤ at → at < place - matched → ¬ Agrees text piece at end
 
-module _ (text piece : List ℕ) where
-  byte_at : {i j : ℕ} → i ≡ j → get_or text i 0 ≡ get_or text j 0
-  byte_at = ap (λ place. get_or text place 0)
+byte_at : (text : List ℕ) {i j : ℕ} → i ≡ j → get_or text i 0 ≡ get_or text j 0
+byte_at text = ap (λ place. get_or text place 0)
 
-  -- Where len bytes of the piece are read, it agrees farther on just as it agrees with itself.
-  agrees_farther : (at far there len end : ℕ) → there ≡ at + far → end ≡ at + len → len ≤ length piece → Agrees text piece at end → Agrees text piece there end ↔ Agrees piece piece far len
-  agrees_farther at far there len end ahead last fits here = (
-    λ agrees k l m. sym (here (far + k) (omega arith) (omega arith)) ∙ byte_at (omega arith) ∙ agrees k l (omega arith),
-    λ agrees k l m. byte_at (omega arith) ∙ here (far + k) (omega arith) (omega arith) ∙ agrees k l (omega arith),
+-- Where len bytes of the piece are read, it agrees farther on just as it agrees with itself.
+module _ (text piece : List ℕ) (at far there len end : ℕ) where
+  agrees_farther : there ≡ at + far → end ≡ at + len → len ≤ length piece → Agrees text piece at end
+      → Agrees text piece there end ↔ Agrees piece piece far len
+  agrees_farther ahead last fits here = (
+    λ agrees k l m.
+        let read = here (far + k) (omega arith) (omega arith) in
+        sym read ∙ byte_at text (omega arith) ∙ agrees k l (omega arith),
+    λ agrees k l m.
+        let read = here (far + k) (omega arith) (omega arith) in
+        byte_at text (omega arith) ∙ read ∙ agrees k l (omega arith),
   )
 
-  module _ (low end place matched : ℕ) (first : IsFirstOpen text piece low end place matched) where
+module _ {text piece : List ℕ} where
+  module _ {low end place matched : ℕ} (first : IsFirstOpen text piece low end place matched) where
     -- With more of the text a closed place stays closed.
     pub open_farther : (later : ℕ) → end ≤ later → IsFirstOpen text piece low later place matched
     open_farther later le = record {
@@ -36,25 +44,27 @@ module _ (text piece : List ℕ) where
     }
 
     -- The next byte agrees.
-    pub open_more : get_or text place 0 ≡ get_or piece matched 0 → IsFirstOpen text piece low end (place + 1) (matched + 1)
+    pub open_more : get_or text place 0 ≡ get_or piece matched 0
+        → IsFirstOpen text piece low end (place + 1) (matched + 1)
     open_more next =
         let behind = first.behind in
         record {
           behind = omega arith;
           agrees = λ k l m.
-              ⊎_elim (λ (e : k ≡ matched). byte_at (omega arith) ∙ next ∙ ap (λ x. get_or piece x 0) (sym e))
-              (λ ne. byte_at (omega arith) ∙ first.agrees k l (omega arith))
+              ⊎_elim (λ (e : k ≡ matched). byte_at text (omega arith) ∙ next ∙ byte_at piece (sym e))
+              (λ ne. byte_at text (omega arith) ∙ first.agrees k l (omega arith))
               (cases_eq k matched);
           closed = λ at from before. first.closed at from (omega arith);
         }
 
     -- The next byte differs.
-    module _ (within : place < end) (some : matched < length piece) (differs : get_or text place 0 ≢ get_or piece matched 0) where
+    module _ (within : place < end) (some : matched < length piece)
+        (differs : get_or text place 0 ≢ get_or piece matched 0) where
       closed_here : (at : ℕ) → low ≤ at → at ≤ place - matched → ¬ Agrees text piece at end
       closed_here at from upto agrees =
           let behind = first.behind in
           ⊎_elim (λ before. first.closed at from before agrees)
-          (λ here. differs (byte_at (omega arith) ∙ agrees matched some (omega arith)))
+          (λ here. differs (byte_at text (omega arith) ∙ agrees matched some (omega arith)))
           (cases_lt at (place - matched))
 
       -- Nothing was matched: the next place is the first open one.
@@ -68,43 +78,52 @@ module _ (text piece : List ℕ) where
           }
 
       -- A fallback to the longest border skips no place where the piece stands.
-      pub open_back : (border : ℕ) → IsLongestBorder piece matched border → IsFirstOpen text piece low end place border
-      open_back border longest =
+      pub open_back : {border : ℕ} → IsLongestBorder piece matched border
+          → IsFirstOpen text piece low end place border
+      open_back {border} longest =
           let behind = first.behind in
           let proper = longest.proper in
-          let farther = λ (at longer : ℕ) (e : at ≡ place - matched + (matched - longer)). agrees_farther (place - matched) (matched - longer) at matched place e (omega arith) (omega arith) first.agrees in
+          let here = place - matched in
+          let farther = λ (at longer : ℕ) (e : at ≡ here + (matched - longer)).
+          agrees_farther text piece here (matched - longer) at matched place e
+          (omega arith) (omega arith) first.agrees in
           record {
             behind = omega arith;
             agrees = (farther (place - border) border (omega arith)).1 longest.agrees;
             closed = λ at from before agrees.
-                ⊎_elim (λ (skipped : place - matched < at). longest.longest (place - at) (omega arith) (omega arith)
-                ((farther at (place - at) (omega arith)).0 (λ k l m. agrees k l (omega arith))))
+                ⊎_elim (λ (skipped : place - matched < at).
+                let border = (farther at (place - at) (omega arith)).0 (λ k l m. agrees k l (omega arith)) in
+                longest.longest (place - at) (omega arith) (omega arith) border)
                 (λ upto. closed_here at from (omega arith) agrees)
                 (cases_lt (place - matched) at);
           }
 
-  module _ (low place matched : ℕ) (first : IsFirstOpen text piece low (length text) place matched) where
-    -- All bytes agree, so the piece stands here.
-    pub open_stands : matched ≡ length piece → place ≤ length text → StandsAt text piece (place - matched)
-    open_stands all within =
+  module _ {low place matched : ℕ} (first : IsFirstOpen text piece low (length text) place matched) where
+    open_before : Nowhere (OccursAt text piece) low (place - matched)
+    open_before at from before occurs = first.closed at from before (λ k l m. occurs.reads k l)
+
+    -- All bytes agree, so the piece occurs here, and nowhere before.
+    pub open_found : matched ≡ length piece → place ≤ length text
+        → FindsNeedle text piece low (Some (place - length piece))
+    open_found all within =
         let behind = first.behind in
-        record { fits = omega arith; agrees = λ k l m. first.agrees k l (omega arith) }
+        rw (← all) (
+          record { low = omega arith; high = omega arith; before = open_before },
+          record { fits = omega arith; reads = λ k l. first.agrees k (omega arith) (omega arith) },
+        )
 
-    -- It stands nowhere before.
-    pub open_nowhere : StandsNowhere text piece low (place - matched)
-    open_nowhere at from before stands = first.closed at from before stands.agrees
-
-    -- The text is at its end, so it stands nowhere.
-    pub open_none : matched < length piece → place ≡ length text → StandsNowhere text piece low (length text + 1)
-    open_none some last at from upto stands =
-        let fits = stands.fits in
+    -- The text is at its end, so it occurs nowhere.
+    pub open_none : matched < length piece → place ≡ length text → FindsNeedle text piece low None
+    open_none some last at from upto occurs =
+        let fits = occurs.fits in
         let behind = first.behind in
-        ⊎_elim (λ before. open_nowhere at from before stands) (λ here. omega arith) (cases_lt at (place - matched))
+        ⊎_elim (λ before. open_before at from before occurs) (λ l. omega arith) (cases_lt at (place - matched))
 
-module _ (piece : List ℕ) where
+module _ {piece : List ℕ} where
   -- Where the piece is looked for in itself, the bytes matched are the longest proper border of the bytes read.
-  pub longest_border : (len border : ℕ) → IsFirstOpen piece piece 1 len len border → IsLongestBorder piece len border
-  longest_border len border first =
+  pub longest_border : {len border : ℕ} → IsFirstOpen piece piece 1 len len border
+      → IsLongestBorder piece len border
+  longest_border {len} {border} first =
       let behind = first.behind in
       record {
         proper = omega arith;
@@ -112,12 +131,16 @@ module _ (piece : List ℕ) where
         longest = λ longer more less. first.closed (len - longer) (omega arith) (omega arith);
       }
 
-  borders_push : (table : List ℕ) (border : ℕ) → AreBorders piece table → IsLongestBorder piece (length table + 1) border → AreBorders piece (table ++ border ∷ [])
+  borders_push : (table : List ℕ) (border : ℕ) → AreBorders piece table
+      → IsLongestBorder piece (length table + 1) border → AreBorders piece (table ++ border ∷ [])
   borders_push table border known longest len some upto =
       let pushed = length_push table border in
-      ⊎_elim
-      (λ (last : len ≡ length table + 1). subst₂ (IsLongestBorder piece) (sym last) (sym (get_or_push table border 0 (len - 1) (omega arith))) longest)
-      (λ ne. subst (IsLongestBorder piece len) (sym (get_or_append_left table (border ∷ []) 0 (len - 1) (omega arith))) (known len some (omega arith)))
+      ⊎_elim (λ (last : len ≡ length table + 1).
+      let new = get_or_push table border 0 (len - 1) (omega arith) in
+      subst₂ (IsLongestBorder piece) (sym last) (sym new) longest)
+      (λ ne.
+      let old = get_or_append_left table (border ∷ []) 0 (len - 1) (omega arith) in
+      subst (IsLongestBorder piece len) (sym old) (known len some (omega arith)))
       (cases_eq len (length table + 1))
 
 -- The longest borders of the piece's beginnings of up to len bytes were added.
@@ -127,24 +150,27 @@ pub record AddsBorders (piece old now : List ℕ) (len : ℕ) : Type 0 where
   pub long : length table ≡ len
   pub borders : AreBorders piece table
 
-module _ (piece old now : List ℕ) (len : ℕ) (adds : AddsBorders piece old now len) where
-  pub adds_more : (border : ℕ) → IsLongestBorder piece (len + 1) border → AddsBorders piece old (now ++ border ∷ []) (len + 1)
-  adds_more border longest =
+module _ {piece old now : List ℕ} {len : ℕ} (adds : AddsBorders piece old now len) where
+  pub adds_more : {border : ℕ} → IsLongestBorder piece (len + 1) border
+      → AddsBorders piece old (now ++ border ∷ []) (len + 1)
+  adds_more {border} longest =
       let pushed = length_push adds.table border in
       let long = adds.long in
       record {
         table = adds.table ++ border ∷ [];
         added = ap (λ items. items ++ border ∷ []) adds.added ∙ append_assoc old adds.table (border ∷ []);
         long = omega arith;
-        borders = borders_push piece adds.table border adds.borders (subst (λ n. IsLongestBorder piece (n + 1) border) (sym long) longest);
+        borders = borders_push adds.table border adds.borders (rw long longest);
       }
 
   -- Each entry of the table is the longest proper border of a beginning of its piece.
-  pub adds_entry : (count at entry : ℕ) → 0 < count → count ≤ len → at ≡ length old + count - 1 → entry ≡ get_or now at entry → IsLongestBorder piece count entry
-  adds_entry count at entry some upto place is =
+  pub adds_entry : (count : ℕ) → 0 < count → count ≤ len → (at : ℕ) → at ≡ length old + count - 1
+      → (entry : ℕ) → entry ≡ get_or now at entry → IsLongestBorder piece count entry
+  adds_entry count some upto at place entry is =
       let long = adds.long in
       let there : at ≡ length old + (count - 1) = omega arith in
-      let same : entry ≡ get_or adds.table (count - 1) 0 =
-      is ∙ ap (λ items. get_or items at entry) adds.added ∙ ap (λ k. get_or (old ++ adds.table) k entry) there ∙ get_or-append-add old adds.table (count - 1) entry
-      ∙ get_or_default_zero adds.table (count - 1) entry (omega arith) in
+      let moved = ap (λ k. get_or (old ++ adds.table) k entry) there in
+      let read = is ∙ ap (λ items. get_or items at entry) adds.added ∙ moved in
+      let in_table = get_or-append-add old adds.table (count - 1) entry in
+      let same = read ∙ in_table ∙ get_or_default_zero adds.table (count - 1) entry (omega arith) in
       subst (IsLongestBorder piece count) (sym same) (adds.borders count some (omega arith))

@@ -15,13 +15,12 @@ pub mod RulesLemmas
 pub mod LawLemmas
 pub mod EscapeLemmas
 pub mod PatternLemmas
-pub mod ShapeLemmas
+pub mod StarLemmas
 pub mod PieceLemmas
 pub mod PlacingLemmas
-pub mod MatchLemmas
-pub mod PlainSearch
 pub mod BorderLemmas
 pub mod CollapseLemmas
 pub mod OrderLemmas
 pub mod LongestLemmas
 pub mod VerdictLemmas
+pub mod CountLemmas

@@ -1,182 +1,149 @@
--- A pattern matches just where its pieces stand.
-use Rattle.std.proofs.Common.{◌≡◌, ◌↔◌, ◌⊎◌, inl, inr, ⊎_elim, ℕ, Bool, true, false, cond, eqb, ◌&&◌, ◌||◌, List, [], ◌∷◌, ◌++◌, refl, sym, ap, subst, subst₂, ◌∙◌, append-nil, append_assoc}
-use Rattle.std.proofs.lemmas.Bool.{cases_Bool, eqb-true, and_parts, or_cases, false≢true}
-use Rattle.texting_robots.specs.Pattern.{begins_with_star, IsSuffix, MatchesWith}
-use Rattle.texting_robots.specs.Computed.Shape.{Finish, anything, closed, last, never, Shape, Behind, Placed, all_marks, starred, starred_finish, behind_star, behind_dollar, behind_byte, shape}
+-- What a pattern matches, piece by piece.
+use Rattle.std.proofs.Common.{◌≡◌, ◌≢◌, ◌↔◌, ℕ, suc, ◌+◌, ◌==◌, ◌&&◌, Bool, true, false, inl, inr}
+use Rattle.std.proofs.Common.{List, [], ◌∷◌, ◌++◌, All, drop, refl, sym, ap, subst, ◌∙◌, append_assoc, arith}
+use Rattle.std.specs.List.{list_all, prefix_len}
+use Rattle.std.proofs.lemmas.Bool.{cases_Bool, eqb-true, ne_eqb, or_cases, or_parts, false≢true}
+use Rattle.std.proofs.lemmas.List.Elements.{All-head, All-tail, All-weaker}
+use Rattle.texting_robots.specs.Pattern.{begins_with_star, dollar, IsSuffix, Matches, MatchesWith, star}
+use Rattle.texting_robots.specs.Computed.Pieces.{behind_stars, is_mark, IsAtMark, Closes, Grows}
 
--- a byte is a star, a dollar that stands for the end, or stands for itself
+-- a byte that stands for itself
 abbrev pub IsPlain : Bool → ℕ → Type 0
-IsPlain anchors b = (eqb b 42 ≡ false) × ((anchors && eqb b 36) ≡ false)
+IsPlain anchors b = ((b == star) ≡ false) × ((anchors && (b == dollar)) ≡ false)
 
-kinds : (anchors : Bool) (b : ℕ) → (b ≡ 42) ⊎ (((anchors ≡ true) × (b ≡ 36)) ⊎ IsPlain anchors b)
-kinds anchors b =
-    ⊎_elim (λ star. inl (eqb-true b 42 star))
-    (λ not_star.
-    ⊎_elim (λ dollar. let p = and_parts anchors (eqb b 36) dollar in inr (inl (p.0, eqb-true b 36 p.1))) (λ plain. inr (inr (not_star, plain)))
-    (cases_Bool (anchors && eqb b 36)))
-    (cases_Bool (eqb b 42))
+-- with stars alone, and with dollars too
+pub plain_stars : (piece : List ℕ) → All (λ b. b ≢ star) piece → All (IsPlain false) piece
+plain_stars = All-weaker (λ b. b ≢ star) (IsPlain false) (λ b other. (ne_eqb b star other, refl))
 
--- the three cases of the definition
-MatchesWith-star : (anchors : Bool) (q t : List ℕ) → MatchesWith anchors (42 ∷ q) t ≡ ((s : List ℕ) × IsSuffix s t × MatchesWith anchors q s)
+pub plain_marks : (piece : List ℕ) → All (λ b. is_mark b ≡ false) piece → All (IsPlain true) piece
+plain_marks =
+    All-weaker (λ b. is_mark b ≡ false) (IsPlain true) (λ b other. or_parts (b == star) (b == dollar) other)
+
+-- an end of an end
+pub suffix_trans : {a b c : List ℕ} → IsSuffix a b → IsSuffix b c → IsSuffix a c
+suffix_trans {a} (f, e) (g, h) = (g ++ f, h ∙ ap (λ x. g ++ x) e ∙ sym (append_assoc g f a))
+
+module _ (anchors : Bool) where
+  -- a plain piece stands in front of the text
+  pub in_front : (piece q t : List ℕ) → All (IsPlain anchors) piece → MatchesWith anchors (piece ++ q) t
+      ↔ ((after : List ℕ) × (t ≡ piece ++ after) × MatchesWith anchors q after)
+  unfolding MatchesWith
+  in_front [] q t all = (λ m. (t, refl, m), λ (after, e, m). rw e m)
+  in_front (b ∷ piece) q t all =
+      let later = λ (s : List ℕ). in_front piece q s (All-tail (IsPlain anchors) b piece all) in
+      let (not_star, not_end) = All-head (IsPlain anchors) b piece all in
+      rw (not_star, not_end) (
+        λ (s, e, m). let (after, f, n) = (later s).0 m in (after, e ∙ ap (λ x. b ∷ x) f, n),
+        λ (after, e, n). (piece ++ after, e, (later (piece ++ after)).1 (after, refl, n)),
+      )
+
+  -- behind a star it stands somewhere in the text
+  pub somewhere : (piece q t : List ℕ) → All (IsPlain anchors) piece
+      → MatchesWith anchors (star ∷ (piece ++ q)) t
+      ↔ ((after : List ℕ) × IsSuffix (piece ++ after) t × MatchesWith anchors q after)
+  unfolding MatchesWith
+  somewhere piece q t all = (
+    λ (s, i, m). let (after, e, n) = (in_front piece q s all).0 m in (after, rw (← e) i, n),
+    λ (after, i, n). (piece ++ after, i, (in_front piece q (piece ++ after) all).1 (after, refl, n)),
+  )
+
+  -- behind an earlier place a star matches at least as much
+  pub star_grows : (q s t : List ℕ) → IsSuffix s t
+      → MatchesWith anchors (star ∷ q) s → MatchesWith anchors (star ∷ q) t
+  unfolding MatchesWith
+  star_grows q s t i (u, j, m) = (u, suffix_trans j i, m)
+
+  -- the first of two stars adds nothing
+  pub star_star : (q t : List ℕ) → begins_with_star q ≡ true
+      → MatchesWith anchors (star ∷ q) t ↔ MatchesWith anchors q t
+  unfolding MatchesWith
+  star_star [] t two = absurd (false≢true two)
+  star_star (c ∷ q) t two =
+      rw (eqb-true c star two) (λ (s, i, m). star_grows q s t i m, λ m. (t, ([], refl), m))
+
+  -- nor do more stars behind the first
+  pub star_stars : (q t : List ℕ)
+      → MatchesWith anchors (star ∷ behind_stars q) t ↔ MatchesWith anchors (star ∷ q) t
+  star_stars [] t = (λ m. m, λ m. m)
+  star_stars (b ∷ q) t = elim (cases_Bool (b == star)) [
+    | inl first ↦
+        let is = eqb-true b star first in
+        let n = prefix_len (λ b. b == star) q in
+        let one_more : 1 + n ≡ suc n = omega arith in
+        let skips : behind_stars (b ∷ q) ≡ behind_stars q = rw first (ap (λ n. drop n (b ∷ q)) one_more) in
+        let (drops, adds) = star_star (b ∷ q) t first in
+        let (to, from) = star_stars q t in
+        subst (λ x. MatchesWith anchors (star ∷ x) t ↔ MatchesWith anchors (star ∷ b ∷ q) t) (sym skips) (
+          λ m. adds (subst (λ x. MatchesWith anchors (x ∷ q) t) (sym is) (to m)),
+          λ m. from (subst (λ x. MatchesWith anchors (x ∷ q) t) is (drops m)),
+        )
+    | inr other ↦ rw other (λ m. m, λ m. m)
+  ]
+
+  -- patterns that match the same match the same behind a byte
+  pub behind_byte : (b : ℕ) (p q : List ℕ)
+      → ((t : List ℕ) → MatchesWith anchors p t ↔ MatchesWith anchors q t)
+      → (t : List ℕ) → MatchesWith anchors (b ∷ p) t ↔ MatchesWith anchors (b ∷ q) t
+  unfolding MatchesWith
+  behind_byte b p q same t = elim (cases_Bool (b == star)) [
+    | inl star ↦ rw star (λ (s, i, m). (s, i, (same s).0 m), λ (s, i, m). (s, i, (same s).1 m))
+    | inr other ↦ elim (cases_Bool (anchors && (b == dollar))) [
+      | inl end ↦ rw (other, end) (λ (e, m). (e, (same t).0 m), λ (e, m). (e, (same t).1 m))
+      | inr plain ↦ rw (other, plain) (λ (s, e, m). (s, e, (same s).0 m), λ (s, e, m). (s, e, (same s).1 m))
+    ]
+  ]
+
+-- at its end a pattern matches anything
+pub end_matches : (anchors : Bool) (t : List ℕ) → MatchesWith anchors [] t
 unfolding MatchesWith
-MatchesWith-star anchors q t = refl
-
-MatchesWith-dollar : (q t : List ℕ) → MatchesWith true (36 ∷ q) t ≡ ((t ≡ []) × MatchesWith true q t)
-unfolding MatchesWith
-MatchesWith-dollar q t = refl
-
-MatchesWith-plain : (anchors : Bool) (b : ℕ) (q t : List ℕ) → IsPlain anchors b → MatchesWith anchors (b ∷ q) t ≡ ((s : List ℕ) × (t ≡ b ∷ s) × MatchesWith anchors q s)
-unfolding MatchesWith
-MatchesWith-plain anchors b q t plain = rw (plain.0, plain.1) refl
-
-pub suffix-trans : {a b c : List ℕ} → IsSuffix a b → IsSuffix b c → IsSuffix a c
-suffix-trans {a} (f, e) (g, h) = (g ++ f, h ∙ ap (λ x. g ++ x) e ∙ sym (append_assoc g f a))
-
--- the second of two stars adds nothing
-star_star : (anchors : Bool) (q t : List ℕ) → begins_with_star q ≡ true → MatchesWith anchors (42 ∷ q) t ↔ MatchesWith anchors q t
-unfolding MatchesWith
-star_star anchors [] t two = absurd (false≢true two)
-star_star anchors (c ∷ q) t two =
-    let starry : c ≡ 42 = eqb-true c 42 two in
-    subst (λ x. MatchesWith anchors (42 ∷ x ∷ q) t ↔ MatchesWith anchors (x ∷ q) t) (sym starry) (forth, back)
-  where
-    forth : MatchesWith anchors (42 ∷ 42 ∷ q) t → MatchesWith anchors (42 ∷ q) t
-    forth (s, i, (u, j, m)) = (u, suffix-trans j i, m)
-
-    back : MatchesWith anchors (42 ∷ q) t → MatchesWith anchors (42 ∷ 42 ∷ q) t
-    back m = (t, ([], refl), m)
-
--- only a shape with no searched pieces is closed
-abbrev ClosedAlone : Shape → Type 0
-ClosedAlone sh = sh.finish ≡ closed → sh.searched ≡ []
-
--- a text whose end is placed so is placed behind a star
-star_placed : (sh : Shape) (t : List ℕ) → ClosedAlone sh → ((s : List ℕ) × IsSuffix s t × Placed sh s) ↔ Placed (behind_star sh) t
-star_placed sh t alone = by_finish sh.first sh.searched sh.finish alone
-  where
-    by_finish : (first : List ℕ) (ss : List (List ℕ)) (f : Finish) → (f ≡ closed → ss ≡ []) → ((s : List ℕ) × IsSuffix s t × ((rest : List ℕ) × (s ≡ first ++ rest) × Behind ss f rest)) ↔ ((rest : List ℕ) × (t ≡ rest) × Behind (starred first ss f) (starred_finish first f) rest)
-    by_finish first ss anything _ = (
-      λ h. (t, refl, (h.2.0, subst (λ x. IsSuffix x t) h.2.1 h.1, h.2.2)),
-      λ h. (first ++ h.2.0, subst (IsSuffix (first ++ h.2.0)) (sym h.1) h.2.1, (h.2.0, refl, h.2.2)),
-    )
-    by_finish first ss closed none = (
-      λ h.
-          let at_end : h.2.0 ≡ [] = subst (λ xs. Behind xs closed h.2.0) (none refl) h.2.2 in
-          (t, refl, subst (λ x. IsSuffix x t) (h.2.1 ∙ ap (λ x. first ++ x) at_end ∙ append-nil first) h.1),
-      λ h. (first, subst (IsSuffix first) (sym h.1) h.2, ([], sym (append-nil first), subst (λ xs. Behind xs closed []) (sym (none refl)) refl)),
-    )
-    by_finish first ss (last l) _ = (
-      λ h. (t, refl, (h.2.0, subst (λ x. IsSuffix x t) h.2.1 h.1, h.2.2)),
-      λ h. (first ++ h.2.0, subst (IsSuffix (first ++ h.2.0)) (sym h.1) h.2.1, (h.2.0, refl, h.2.2)),
-    )
-    by_finish first ss never _ = (
-      λ h. (t, refl, (h.2.0, subst (λ x. IsSuffix x t) h.2.1 h.1, h.2.2)),
-      λ h. (first ++ h.2.0, subst (IsSuffix (first ++ h.2.0)) (sym h.1) h.2.1, (h.2.0, refl, h.2.2)),
-    )
-
--- a text that is placed so behind a byte
-byte_placed : (b : ℕ) (sh : Shape) (t : List ℕ) → ((s : List ℕ) × (t ≡ b ∷ s) × Placed sh s) ↔ Placed (behind_byte b sh) t
-byte_placed b sh t = (
-  λ h. (h.2.0, h.1 ∙ ap (λ x. b ∷ x) h.2.1, h.2.2),
-  λ h. (sh.first ++ h.0, h.1, (h.0, refl, h.2)),
-)
-
--- behind a star no shape is closed
-pub star_open : (first : List ℕ) (f : Finish) → starred_finish first f ≡ closed → ⊥
-star_open first anything e = cc
-star_open first closed e = cc
-star_open first (last l) e = cc
-star_open first never e = cc
-
-pub shape_closed : (anchors : Bool) (p : List ℕ) → ClosedAlone (shape anchors p)
-unfolding shape
-shape_closed anchors [] e = refl
-shape_closed anchors (b ∷ q) e =
-    by_tests (eqb b 42) (begins_with_star q) (anchors && eqb b 36) (shape anchors q) (shape_closed anchors q) e
-  where
-    by_tests : (star two dollar : Bool) (sh : Shape) → ClosedAlone sh → ClosedAlone (cond star (cond two sh (behind_star sh)) (cond dollar (behind_dollar (all_marks q)) (behind_byte b sh)))
-    by_tests true true dollar sh ih = ih
-    by_tests true false dollar sh ih = λ h. absurd (star_open sh.first sh.finish h)
-    by_tests false two true sh ih = λ _. refl
-    by_tests false two false sh ih = ih
+end_matches anchors t = tt
 
 -- the empty text is matched just by stars and dollars
-pub marks_match : (q : List ℕ) → all_marks q ≡ true → MatchesWith true q []
+none_left : (front s : List ℕ) → [] ≡ front ++ s → s ≡ []
+none_left [] s e = sym e
+none_left (b ∷ front) s e = cc
+
+pub only_marks_match : (q : List ℕ) → (list_all is_mark q ≡ true) ↔ Matches q []
 unfolding MatchesWith
-marks_match [] marks = tt
-marks_match (b ∷ q) marks =
-    let p = and_parts (eqb b 42 || eqb b 36) (all_marks q) marks in
-    ⊎_elim (λ star. subst (λ x. MatchesWith true (x ∷ q) []) (sym (eqb-true b 42 star)) ([], ([], refl), marks_match q p.1))
-    (λ dollar. subst (λ x. MatchesWith true (x ∷ q) []) (sym (eqb-true b 36 dollar)) (refl, marks_match q p.1))
-    (or_cases (eqb b 42) (eqb b 36) p.0)
+only_marks_match [] = (λ _. tt, λ _. refl)
+only_marks_match (b ∷ q) =
+    let (marks, match) = only_marks_match q in
+    elim (cases_Bool (b == star)) [
+      | inl first ↦ rw first (
+        λ m. ([], ([], refl), marks m),
+        λ (s, (front, e), m). match (rw (none_left front s e) at m),
+      )
+      | inr other ↦ elim (cases_Bool (b == dollar)) [
+        | inl end ↦ rw (other, end) (λ m. (refl, marks m), λ (e, m). match m)
+        | inr plain ↦ rw (other, plain) (λ e. absurd (false≢true e), λ (s, e, m). cc)
+      ]
+    ]
 
-nil_from_append : (xs ys : List ℕ) → [] ≡ xs ++ ys → ys ≡ []
-nil_from_append [] ys e = sym e
-nil_from_append (x ∷ xs) ys e = cc
-
-module _ (b : ℕ) (q : List ℕ) (ih : MatchesWith true q [] → all_marks q ≡ true) where
-  marks_behind_star : MatchesWith true (42 ∷ q) [] → b ≡ 42 → all_marks (b ∷ q) ≡ true
-  unfolding MatchesWith
-  marks_behind_star h e =
-      let rest : all_marks q ≡ true = ih (subst (MatchesWith true q) (nil_from_append h.1.0 h.0 h.1.1) h.2) in
-      rw (e, rest) refl
-
-  marks_behind_dollar : MatchesWith true (36 ∷ q) [] → b ≡ 36 → all_marks (b ∷ q) ≡ true
-  unfolding MatchesWith
-  marks_behind_dollar h e = let rest : all_marks q ≡ true = ih h.1 in rw (e, rest) refl
-
-  no_byte : IsPlain true b → MatchesWith true (b ∷ q) [] → ⊥
-  no_byte plain m = let n = subst (λ (X : Type 0). X) (MatchesWith-plain true b q [] plain) m in nothing n.0 n.1
-    where
-      nothing : (s : List ℕ) → [] ≡ b ∷ s → ⊥
-      nothing s e = cc
-
-pub match_marks : (q : List ℕ) → MatchesWith true q [] → all_marks q ≡ true
-match_marks [] m = refl
-match_marks (b ∷ q) m =
-    ⊎_elim (λ e. marks_behind_star b q (match_marks q) (subst (λ x. MatchesWith true (x ∷ q) []) e m) e)
-    (⊎_elim (λ d. marks_behind_dollar b q (match_marks q) (subst (λ x. MatchesWith true (x ∷ q) []) d.1 m) d.1)
-    (λ plain. absurd (no_byte b q (match_marks q) plain m)))
-    (kinds true b)
-
-module _ (anchors : Bool) (b : ℕ) (q t : List ℕ) (ih : (s : List ℕ) → MatchesWith anchors q s ↔ Placed (shape anchors q) s) where
-  two_stars : begins_with_star q ≡ true → MatchesWith anchors (42 ∷ q) t ↔ Placed (shape anchors (42 ∷ q)) t
-  unfolding shape
-  two_stars e =
-      let h = star_star anchors q t e in
-      let k = ih t in
-      subst (λ v. MatchesWith anchors (42 ∷ q) t ↔ Placed (cond v (shape anchors q) (behind_star (shape anchors q))) t) (sym e)
-      (λ m. k.0 (h.0 m), λ m. h.1 (k.1 m))
-
-  one_star : begins_with_star q ≡ false → MatchesWith anchors (42 ∷ q) t ↔ Placed (shape anchors (42 ∷ q)) t
-  unfolding shape MatchesWith
-  one_star e =
-      let h = star_placed (shape anchors q) t (shape_closed anchors q) in
-      subst (λ v. MatchesWith anchors (42 ∷ q) t ↔ Placed (cond v (shape anchors q) (behind_star (shape anchors q))) t) (sym e)
-      (λ m. h.0 (m.0, m.1, (ih m.0).0 m.2), λ m. let n = h.1 m in (n.0, n.1, (ih n.0).1 n.2))
-
-  byte_case : IsPlain anchors b → MatchesWith anchors (b ∷ q) t ↔ Placed (shape anchors (b ∷ q)) t
-  unfolding shape MatchesWith
-  byte_case plain =
-      let h = byte_placed b (shape anchors q) t in
-      rw (plain.0, plain.1) (λ m. h.0 (m.0, m.1, (ih m.0).0 m.2), λ m. let n = h.1 m in (n.0, n.1, (ih n.0).1 n.2))
-
-dollar_case : (q t : List ℕ) (v : Bool) → all_marks q ≡ v → MatchesWith true (36 ∷ q) t ↔ Placed (behind_dollar v) t
+-- a pattern that closes matches the empty text alone, and any other from a dollar on matches nothing
+pub closes_decides : (q t : List ℕ) → Closes q → Matches q t ↔ (t ≡ [])
 unfolding MatchesWith
-dollar_case q t true e = (λ m. (t, refl, m.0), λ m. let none : t ≡ [] = m.1 ∙ m.2 in (none, subst (MatchesWith true q) (sym none) (marks_match q e)))
-dollar_case q t false e = (λ m. absurd (false≢true (sym e ∙ match_marks q (subst (MatchesWith true q) m.0 m.1))), λ m. absurd m.2)
+closes_decides q t c = rw c.dollar (λ (e, m). e, λ e. (e, rw e c.empty))
 
-shape-dollar : (q : List ℕ) → shape true (36 ∷ q) ≡ behind_dollar (all_marks q)
-unfolding shape
-shape-dollar q = refl
+pub dollar_matches_none : (q t : List ℕ) → ¬ Closes (dollar ∷ q) → ¬ Matches (dollar ∷ q) t
+unfolding MatchesWith
+dollar_matches_none q t other (e, m) = other (record { behind = q; dollar = refl; empty = rw e at m })
 
--- A pattern matches just the texts that its shape is placed in.
-pub matches_placed : (anchors : Bool) (p t : List ℕ) → MatchesWith anchors p t ↔ Placed (shape anchors p) t
-unfolding MatchesWith shape
-matches_placed anchors [] t = (λ _. (t, refl, tt), λ _. tt)
-matches_placed anchors (b ∷ q) t =
-    ⊎_elim (λ e. subst (λ x. MatchesWith anchors (x ∷ q) t ↔ Placed (shape anchors (x ∷ q)) t) (sym e)
-    (⊎_elim (two_stars anchors b q t (matches_placed anchors q)) (one_star anchors b q t (matches_placed anchors q)) (cases_Bool (begins_with_star q))))
-    (⊎_elim (λ d. subst₂ (λ a x. MatchesWith a (x ∷ q) t ↔ Placed (shape a (x ∷ q)) t) (sym d.0) (sym d.1) (dollar_case q t (all_marks q) refl))
-    (byte_case anchors b q t (matches_placed anchors q)))
-    (kinds anchors b)
+-- what begins with a mark and doesn't close matches more of a text where it matches less
+pub grows_at_mark : (q : List ℕ) → IsAtMark q → ¬ Closes q → Grows q
+unfolding MatchesWith
+grows_at_mark [] at_mark other = λ s t i m. tt
+grows_at_mark (b ∷ q) at_mark other = elim (or_cases (b == star) (b == dollar) at_mark) [
+  | inl first ↦ let e = eqb-true b star first in rw e (star_grows true q)
+  | inr first ↦
+      let e = eqb-true b dollar first in
+      rw e (λ s t i m. absurd (dollar_matches_none q s (rw e at other) m))
+]
+
+-- any other pattern that begins with a mark matches nothing
+pub mark_matches_none : (q t : List ℕ) → IsAtMark q → q ≢ [] → ((rest : List ℕ) → q ≢ star ∷ rest)
+    → ¬ Closes q → ¬ Matches q t
+mark_matches_none [] t at_mark some no_star other = absurd (some refl)
+mark_matches_none (b ∷ q) t at_mark some no_star other = elim (or_cases (b == star) (b == dollar) at_mark) [
+  | inl first ↦ absurd (no_star q (ap (λ x. x ∷ q) (eqb-true b star first)))
+  | inr first ↦ let e = eqb-true b dollar first in rw e (dollar_matches_none q t (rw e at other))
+]

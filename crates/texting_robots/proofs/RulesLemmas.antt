@@ -17,7 +17,6 @@ use Rattle.texting_robots.specs.Line.{LineValue, by_value, is_agent, delay_in}
 use Rattle.texting_robots.specs.Escape.{escaped}
 use Rattle.texting_robots.specs.Rules.{Rule, rule_from, sitemap_in, text_from, last_of, before_agent}
 use Rattle.texting_robots.specs.Computed.Group.{step, start_of}
-use Rattle.texting_robots.specs.Laws.{LengthIsNotCollapsed}
 use Rattle.texting_robots.proofs.CapturedLemmas.{caught, caught_all}
 
 pub rule_taken : (value : List ℕ) (is_allow : Bool) → IsUtf8 value → rule_from value is_allow ≡ Some (escaped value, is_allow)
@@ -174,9 +173,3 @@ pub same_error : {T U : Type 0} (r : Result T Error) (e : Error) → IsErrAnd r 
 same_error (Ok x) e h is = absurd h
 same_error {T = T} (Err x) e h is = let k : ◌≡◌ {A = Result T Error} (Err x) (Err mine.InvalidRule) = is in let same : x ≡ mine.InvalidRule = cc in ap (λ y. Err y) (sym h ∙ same)
 
-pub rule_length : LengthIsNotCollapsed
-rule_length value is_allow rule made = at (is_utf8 value) made
-  where
-    at : (utf8 : Bool) → cond utf8 (Some (escaped value, is_allow)) None ≡ Some rule → length rule.0 ≡ length (escaped value)
-    at true made = let same : ◌≡◌ {A = Rule} (escaped value, is_allow) rule = cc in ap (λ (r : Rule). length r.0) (sym same)
-    at false made = absurd (let k : ◌≡◌ {A = Option Rule} None (Some rule) = made in cc)

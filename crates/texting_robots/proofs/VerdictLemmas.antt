@@ -1,12 +1,12 @@
 -- The verdict knows members only.
-use Rattle.std.proofs.Common.{◌≡◌, inl, inr, ℕ, Bool, true, false, List, [], ◌∷◌, ◌++◌, ap, sym, IsPermutation, arith}
+use Rattle.std.proofs.Common.{◌≡◌, ◌<◌, ◌⊎◌, zero, suc, length, subst, refl, inl, inr, ℕ, Bool, true, false, List, [], ◌∷◌, ◌++◌, ap, sym, IsPermutation, arith}
 use Rattle.std.specs.List.{Contains}
 use Rattle.std.proofs.lemmas.Bool.{false≢true}
 use Rattle.std.proofs.lemmas.List.Elements.{Contains-append_left, Contains-append_right, Contains-append_cases, Contains-push_cases}
 use Rattle.std.proofs.lemmas.List.Sorted.{Contains-permutation, IsPermutation-sym}
 use Rattle.texting_robots.specs.Rules.{Rule}
 use Rattle.texting_robots.specs.Verdict.{IsDenied, IsVerdict}
-use Rattle.texting_robots.specs.Laws.{OrderChangesNothing, OneMoreDisallow, OneMoreAllow}
+use Rattle.texting_robots.specs.Laws.{OrderChangesNothing, OneMoreDisallow, OneMoreAllow, LengthIsNotCollapsed}
 
 denied_permuted : (rules others : List Rule) (text : List ℕ) → IsPermutation rules others → IsDenied rules text → IsDenied others text
 denied_permuted rules others text same (other, p, has, matches, longest) =
@@ -52,3 +52,20 @@ one_more_disallow front back pattern text (other, p, has, matches, longest) =
 pub one_more_allow : OneMoreAllow
 one_more_allow front back pattern text allowed (other, p, has, matches, longest) =
     allowed (other, p, contains_less front back (pattern, true) (p, false) (disallow_isnt p pattern) has, matches, λ q stands. longest q (contains_more front back (pattern, true) (q, true) stands))
+
+of_two : (a b x : Rule) → Contains (a ∷ b ∷ []) x → ◌≡◌ {A = Rule} a x ⊎ ◌≡◌ {A = Rule} b x
+of_two a b x (zero, below, at) = inl at
+of_two a b x (suc zero, below, at) = inr at
+of_two a b x (suc (suc k), below, at) = absurd (omega arith)
+
+pub length_decides : LengthIsNotCollapsed
+length_decides deny allow text other denies allows = (
+  λ (differs, p, has, matches, longest). elim (of_two (deny, false) (allow, true) (p, false) has) [
+    | inl same ↦ subst (λ (r : Rule). length allow < length r.0) (sym same) (longest allow (1, omega arith, refl) allows)
+    | inr turned ↦ absurd (disallow_isnt p allow turned)
+  ],
+  λ longer. (other, deny, (0, omega arith, refl), denies, λ q has matches. elim (of_two (deny, false) (allow, true) (q, true) has) [
+    | inl turned ↦ absurd (allow_isnt deny q turned)
+    | inr same ↦ subst (λ (r : Rule). length r.0 < length deny) same longer
+  ]),
+)

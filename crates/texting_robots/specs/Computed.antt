@@ -7,5 +7,5 @@ pub mod DelayParts
 pub mod Line
 pub mod Group
 pub mod Border
-pub mod Shape
+pub mod Stars
 pub mod Pieces

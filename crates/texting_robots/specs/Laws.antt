@@ -1,5 +1,5 @@
 -- Laws over the definitions.
-use Rattle.std.specs.Prelude.{◌≡◌, ◌↔◌, ◌⊎◌, ℕ, Bool, true, false, not, ◌==◌, ◌&&◌, List, [], ◌∷◌, ◌++◌, Option, Some, IsTrue, IsPermutation, codes, filter, length, if◌then◌else◌}
+use Rattle.std.specs.Prelude.{◌≡◌, ◌≢◌, ◌<◌, ◌↔◌, ◌⊎◌, ℕ, Bool, true, false, not, ◌==◌, ◌&&◌, List, [], ◌∷◌, ◌++◌, Option, Some, IsTrue, IsPermutation, codes, filter, length, if◌then◌else◌}
 use Rattle.std.specs.declared.cmp.Ordering.TheVariants.{Less, Equal}
 use Rattle.std.specs.Str.{str_to_ascii_lowercase}
 use Rattle.texting_robots.specs.declared.parser.statement.Kind.{Kind}
@@ -8,12 +8,11 @@ use Rattle.texting_robots.specs.Computed.Delay.{delay_of}
 use Rattle.texting_robots.specs.Computed.Line.{file_lines, parsed}
 use Rattle.texting_robots.specs.Cut.{IsCut, Pair, cr, lf}
 use Rattle.texting_robots.specs.Delay.{IsDelay}
-use Rattle.texting_robots.specs.Escape.{escaped}
 use Rattle.texting_robots.specs.Group.{IsCaptured, group_name, is_captured}
 use Rattle.texting_robots.specs.Line.{Allow, AreFileLinesOf, AreLinesOf, Disallow, HoldRangesOf, LineValue, is_raw, is_sitemap}
 use Rattle.texting_robots.specs.Order.{IsBefore, pattern_cmp}
-use Rattle.texting_robots.specs.Pattern.{MatchesWith, collapsed}
-use Rattle.texting_robots.specs.Rules.{IsRefused, Rule, delay_for, rule_from, rules_of, share_of, sitemaps_of}
+use Rattle.texting_robots.specs.Pattern.{Matches, MatchesWith, collapsed}
+use Rattle.texting_robots.specs.Rules.{IsRefused, Rule, delay_for, rules_of, share_of, sitemaps_of}
 use Rattle.texting_robots.specs.Statement.{IsStatement}
 use Rattle.texting_robots.specs.Verdict.{IsVerdict}
 
@@ -111,9 +110,11 @@ pub record OrderAgrees : Type 0 where
 abbrev pub CollapseKeepsMeaning : Type 0
 CollapseKeepsMeaning = (anchors : Bool) (pattern text : List ℕ) → MatchesWith anchors (collapsed pattern) text ↔ MatchesWith anchors pattern text
 
--- a rule's length is that of its escaped value, whose stars aren't collapsed
+-- between a matching Disallow and a matching Allow the lengths before collapsing decide
 abbrev pub LengthIsNotCollapsed : Type 0
-LengthIsNotCollapsed = (value : List ℕ) (is_allow : Bool) (rule : Rule) → rule_from value is_allow ≡ Some rule → length rule.0 ≡ length (escaped value)
+LengthIsNotCollapsed =
+    (deny allow text : List ℕ) → text ≢ codes "/robots.txt" → Matches deny text → Matches allow text
+    → IsVerdict ((deny, false) ∷ (allow, true) ∷ []) text false ↔ (length allow < length deny)
 
 -- ---- the definitions are met once, and by what computes them
 

@@ -13,6 +13,7 @@ mod groups;
 pub mod laws;
 pub mod minregex;
 pub mod parser;
+mod pieces;
 pub mod robot;
 mod rules;
 mod verdict;

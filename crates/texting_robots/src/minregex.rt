@@ -1,20 +1,18 @@
 //! Patterns of rules: `*` stands for any bytes, and `$` for the end of the text.
-ghost use Rattle.std.specs.Prelude.{◌≡◌, ◌≢◌, ◌+◌, ◌*◌, ◌<◌, ◌≤◌, ◌↔◌, ◌==◌, IsTrue, IfErr, IfNone, IfOk, IfSome, IsErrOf, OnOk, length, string_bytes};
+ghost use Rattle.std.specs.Prelude.{◌≡◌, ◌≢◌, ◌+◌, ◌*◌, ◌≤◌, ◌↔◌, ◌==◌, IsTrue, IfErr, IfOk, IsErrOf, OnOk, MatchOption, length, string_bytes};
 ghost use Rattle.std.specs.Cmp.{partial_order_from_own_ties};
 ghost use Rattle.std.specs.Cmp.Lexicographic.{pointwise};
 ghost use Rattle.std.specs.Cmp.Rules.{comparing};
 ghost use Rattle.std.specs.Ordering.{as_partial_cmp, on};
 ghost use Rattle.std.proofs.Common.{rules};
-ghost use Rattle.texting_robots.specs.Computed.Border.{IsFirstEnd, StandsNowhere};
-ghost use Rattle.texting_robots.specs.Computed.Pieces.{IsStarFrom};
+ghost use Rattle.texting_robots.specs.Computed.Stars.{IsBehindFirst, IsCutAtStar, StandsNowhere};
 ghost use Rattle.texting_robots.specs.Order.{IsBefore, pattern_cmp};
 ghost use Rattle.texting_robots.specs.Pattern.{IsOverlong, Matches, MatchesStars, collapsed};
 
-mod pieces;
-
 use crate::error::Error;
+use crate::pieces::{DOLLAR, Ends, Pattern, Piece, STAR, push_pieces};
 use crate::view::View;
-use pieces::{Cut, DOLLAR, Piece, STAR, matches_pieces, push_pieces, stars_end};
+use memchr::{memchr, memmem};
 use std::alloc::{AllocError, Global};
 use std::cmp::Ordering;
 use std::marker::Model;
@@ -27,8 +25,8 @@ const LONGEST_WITH_DOLLAR: usize = 4096;
 pub struct MinRegex {
     pattern: String,
     collapsed_text: String,
-    cut: Cut,
-    searched: Vec<Piece>,
+    ends: Ends,
+    pieces: Vec<Piece>,
     borders: Vec<usize>,
 }
 
@@ -42,7 +40,7 @@ impl Model for MinRegex {
     ghost view = { λ r. string_bytes r.pattern };
 
     ghost invariant = { λ r. (string_bytes r.collapsed_text ≡ collapsed (string_bytes r.pattern))
-        × ArePieces (string_bytes r.pattern) r.cut r.searched.items r.borders.items };
+        × ArePieces (string_bytes r.pattern) r.ends r.pieces.items r.borders.items };
 }
 
 impl MinRegex {
@@ -58,15 +56,15 @@ impl MinRegex {
         if collapsed_text.len() > LONGEST_WITH_DOLLAR && pattern.as_bytes().contains(&DOLLAR) {
             return Err(Error::InvalidRule);
         }
-        let mut searched = Vec::new(alloc);
+        let mut pieces = Vec::new(alloc);
         let mut borders = Vec::new(alloc);
-        let cut = push_pieces(pattern.as_bytes(), &mut searched, &mut borders)?;
+        let ends = push_pieces(pattern.as_bytes(), &mut pieces, &mut borders)?;
         let pattern = String::from_str(alloc, pattern)?;
         Ok(MinRegex {
             pattern,
             collapsed_text,
-            cut,
-            searched,
+            ends,
+            pieces,
             borders,
         })
     }
@@ -79,8 +77,8 @@ impl MinRegex {
         Ok(MinRegex {
             pattern: String::from_str(alloc, self.pattern.as_str())?,
             collapsed_text: String::from_str(alloc, self.collapsed_text.as_str())?,
-            cut: self.cut,
-            searched: self.searched.to_vec(alloc)?,
+            ends: self.ends,
+            pieces: self.pieces.to_vec(alloc)?,
             borders: self.borders.to_vec(alloc)?,
         })
     }
@@ -100,11 +98,17 @@ impl MinRegex {
         ensures looks { view.old.looks ≤ view.new.looks }
         ensures cost { view.new.looks ≤ view.old.looks + 2 * length view.old.text }
     {
-        matches_pieces(
-            view,
+        self.as_pattern().matches(view)
+    }
+
+    /// The pattern, lent with its pieces.
+    fn as_pattern(&self) -> Pattern<'_>
+        ensures { result ≡ self.now }
+    {
+        Pattern::new(
             self.pattern.as_bytes(),
-            self.cut,
-            &self.searched,
+            self.ends,
+            &self.pieces,
             &self.borders,
         )
     }
@@ -121,18 +125,17 @@ impl MinRegex {
     pub fn match_stars(&self, pattern: &[u8], text: &[u8]) -> bool
         ensures { IsTrue result ↔ MatchesStars pattern.now text.now }
     {
-        let mut end = star_from(pattern, 0);
-        if !text.starts_with(&pattern[..end]) {
+        let (first, mut left) = cut_at_star(pattern);
+        let Some(mut rest) = text.strip_prefix(first) else {
             return false;
-        }
-        let mut place = end;
-        while end < pattern.len() {
-            let start = stars_end(pattern, end);
-            end = star_from(pattern, start);
-            match find_plainly(text, &pattern[start..end], place) {
-                Some(behind) => place = behind,
-                None => return false,
-            }
+        };
+        while let Some(pattern) = left {
+            let (piece, next) = cut_at_star(pattern);
+            let Some(behind) = behind_first(rest, piece) else {
+                return false;
+            };
+            rest = behind;
+            left = next;
         }
         true
     }
@@ -217,30 +220,22 @@ fn collapse_stars(alloc: Global, pattern: &str) -> Result<String, AllocError>
     Ok(text)
 }
 
-/// The place of the first star from `at` on, or the pattern's length.
-fn star_from(pattern: &[u8], at: usize) -> usize
-    requires { at ≤ length pattern.now }
-    ensures { IsStarFrom pattern.now at result }
+/// What stands before the first star, and what follows that star, if there is one.
+fn cut_at_star(pattern: &[u8]) -> (&[u8], Option<&[u8]>)
+    ensures { IsCutAtStar pattern.now result.0.now result.1 }
 {
-    let mut end = at;
-    while end < pattern.len() && pattern[end] != STAR {
-        end += 1;
+    match memchr(STAR, pattern) {
+        Some(at) => (&pattern[..at], Some(&pattern[at + 1..])),
+        None => (pattern, None),
     }
-    end
 }
 
-/// The place right behind the piece where it first stands from `from` on, found by comparing it at each place.
-fn find_plainly(text: &[u8], piece: &[u8], from: usize) -> Option<usize>
-    requires { from ≤ length text.now }
-    ensures none { IfNone result (StandsNowhere text.now piece.now from (length text.now + 1)) }
-    ensures some { IfSome result (λ end. IsFirstEnd text.now piece.now from end) }
+/// What follows the piece where it first stands in the text.
+fn behind_first<'a>(text: &'a [u8], piece: &[u8]) -> Option<&'a [u8]>
+    ensures { MatchOption result (StandsNowhere piece.now text.now)
+        (λ rest. IsBehindFirst piece.now text.now rest.now) }
 {
-    let mut at = from;
-    while at <= text.len() && piece.len() <= text.len() - at {
-        if text[at..].starts_with(piece) {
-            return Some(at + piece.len());
-        }
-        at += 1;
-    }
-    None
+    let at = memmem::find(text, piece)?;
+    let (_, rest) = text.split_at(at + piece.len());
+    Some(rest)
 }

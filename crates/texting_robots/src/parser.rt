@@ -1,5 +1,5 @@
 //! The lines of a robots.txt file.
-ghost use Rattle.std.specs.Prelude.{◌≡◌, IfErr, IfOk, map};
+ghost use Rattle.std.specs.Prelude.{◌≡◌, ◌≤◌, IfErr, IfOk, length, map};
 ghost use Rattle.std.specs.Str.{str_to_ascii_lowercase};
 ghost use Rattle.std.specs.Iterator.{YieldsFirstBy, item_count};
 ghost use Rattle.texting_robots.specs.Computed.Line.{file_lines, line_of, line_with, parsed};
@@ -85,6 +85,7 @@ fn without_front<'a>(text: &'a [u8]) -> &'a [u8]
 #[tactic(auto, using(crate::proofs::LineLemmas::lines_are, crate::proofs::LineLemmas::lines_range))]
 pub fn lines<'a>(input: &'a [u8]) -> LineIter<'a>
     ensures value { result ≡ parsed input.now }
+    ensures count { length result ≤ length input.now }
     ensures lines { AreLinesOf result input.now }
     ensures ranges { HoldRangesOf result input.now }
 {

@@ -1,5 +1,5 @@
 //! What one crawler gets of a robots.txt file.
-ghost use Rattle.std.specs.Prelude.{◌≡◌, ◌≢◌, ◌+◌, ◌*◌, ◌≤◌, IfErr, IfOk, IsErrOf, IsPermutation, OnOk, length, string_bytes};
+ghost use Rattle.std.specs.Prelude.{◌≡◌, ◌≢◌, ◌+◌, ◌*◌, ◌≤◌, ◌↔◌, ℕ, Bool, List, IfErr, IfOk, IsErrOf, IsPermutation, OnOk, length, string_bytes};
 ghost use Rattle.texting_robots.specs.Computed.Line.{file_lines};
 ghost use Rattle.texting_robots.specs.Prepared.{prepared, target_of};
 ghost use Rattle.texting_robots.specs.Rules.{IsRefused, delay_for, rules_of, sitemaps_of};
@@ -46,6 +46,8 @@ impl Robot {
         ensures sitemaps { IfOk result (λ robot. robot.sitemaps ≡ sitemaps_of (file_lines txt.now)) }
         ensures rules { IfOk result
             (λ robot. IsPermutation (rules_of agent.now (file_lines txt.now)) robot.rules) }
+        ensures verdicts { IfOk result (λ robot. (text : List ℕ) (answer : Bool)
+            → IsVerdict robot.rules text answer ↔ IsVerdict (rules_of agent.now (file_lines txt.now)) text answer) }
         ensures accepted { OnOk result (¬ IsRefused agent.now (file_lines txt.now)) }
         ensures refused { IsErrOf result Error.InvalidRule → IsRefused agent.now (file_lines txt.now) }
         ensures never_unparsed { IfErr result (λ e. e ≢ Error.InvalidRobots) }

@@ -1,13 +1,39 @@
--- What the parts of a cut pattern stand for.
-use Rattle.std.specs.Prelude.{◌≡◌, ◌≢◌, ℕ, ◌+◌, ◌<◌, ◌≤◌, ◌++◌, List, All, drop, length, map, slice_index, slice_range, true, false}
-use Rattle.texting_robots.specs.declared.minregex.pieces.Span.{Span}
-use Rattle.texting_robots.specs.declared.minregex.pieces.Piece.{Piece}
-use Rattle.texting_robots.specs.declared.minregex.pieces.Ending.{Ending}
-use Rattle.texting_robots.specs.declared.minregex.pieces.Ending.TheVariants.{Open, Closed, Last, Never}
-use Rattle.texting_robots.specs.declared.minregex.pieces.Cut.{Cut}
+-- What the parts of a cut pattern stand for, by what is left of the pattern behind each.
+use Rattle.std.specs.Prelude.{◌≡◌, ◌↔◌, ℕ, ◌+◌, ◌≤◌, ◌==◌, ◌||◌, Bool, true, false}
+use Rattle.std.specs.Prelude.{List, [], ◌∷◌, ◌++◌, All, drop, length, slice_range, take}
+use Rattle.std.specs.List.{prefix_len}
+use Rattle.texting_robots.specs.declared.pieces.Span.{Span}
+use Rattle.texting_robots.specs.declared.pieces.Piece.{Piece}
+use Rattle.texting_robots.specs.declared.pieces.Ending.{Ending}
+use Rattle.texting_robots.specs.declared.pieces.Ending.TheVariants.{Open, Closed, Last, Never}
+use Rattle.texting_robots.specs.declared.pieces.Ends.{Ends}
 use Rattle.texting_robots.specs.Computed.Border.{IsTable}
-use Rattle.texting_robots.specs.Pattern.{dollar, star}
-use Rattle.texting_robots.specs.Computed.Shape.{Finish, Shape, is_mark, anything, closed, last, never, all_marks, shape}
+use Rattle.texting_robots.specs.Pattern.{dollar, IsSuffix, Matches, star}
+
+-- a star or a dollar
+abbrev pub is_mark : ℕ → Bool
+is_mark b = (b == star) || (b == dollar)
+
+-- it is at its end, or begins with a mark
+abbrev pub IsAtMark : List ℕ → Type 0
+IsAtMark [] = Unit {0}
+IsAtMark (b ∷ q) = is_mark b ≡ true
+
+-- the piece stands before the pattern's first mark, and there the rest begins
+pub record IsCutAtMark (pattern piece rest : List ℕ) : Type 0 where
+  pub plain : All (λ b. is_mark b ≡ false) piece
+  pub parts : pattern ≡ piece ++ rest
+  pub at_mark : IsAtMark rest
+
+-- what follows the stars at the front
+abbrev pub behind_stars : List ℕ → List ℕ
+behind_stars pattern = drop (prefix_len (λ b. b == star) pattern) pattern
+
+-- it is a dollar, and behind that what matches the empty text
+pub record Closes (pattern : List ℕ) : Type 0 where
+  pub behind : List ℕ
+  pub dollar : pattern ≡ dollar ∷ behind
+  pub empty : Matches behind []
 
 -- the range lies within the pattern
 pub record IsSpan (pattern : List ℕ) (span : Span) : Type 0 where
@@ -18,18 +44,24 @@ pub record IsSpan (pattern : List ℕ) (span : Span) : Type 0 where
 abbrev pub bytes_of : List ℕ → Span → List ℕ
 bytes_of pattern span = slice_range pattern span.start span.end
 
-abbrev pub finish_of : List ℕ → Ending → Finish
-finish_of pattern Open = anything
-finish_of pattern Closed = closed
-finish_of pattern (Last span) = last (bytes_of pattern span)
-finish_of pattern Never = never
+-- the text is the piece, and then what the rest of the pattern matches
+abbrev pub InFront : List ℕ → List ℕ → List ℕ → Type 0
+InFront piece rest text = (after : List ℕ) × (text ≡ piece ++ after) × Matches rest after
 
-abbrev pub shape_of : List ℕ → Cut → List Piece → Shape
-shape_of pattern cut searched = record {
-  first = bytes_of pattern cut.first;
-  searched = map (λ piece. bytes_of pattern piece.span) searched;
-  finish = finish_of pattern cut.ending;
-}
+-- the piece stands somewhere in the text, and then comes what the rest of the pattern matches
+abbrev pub Somewhere : List ℕ → List ℕ → List ℕ → Type 0
+Somewhere piece rest text = (after : List ℕ) × IsSuffix (piece ++ after) text × Matches rest after
+
+-- where it matches the end of a text, it matches the text
+abbrev pub Grows : List ℕ → Type 0
+Grows pattern = (end text : List ℕ) → IsSuffix end text → Matches pattern end → Matches pattern text
+
+-- what the ending says of the text that is left
+abbrev pub EndsAs : List ℕ → Ending → List ℕ → Type 0
+EndsAs pattern Open text = Unit {0}
+EndsAs pattern Closed text = text ≡ []
+EndsAs pattern (Last span) text = IsSuffix (bytes_of pattern span) text
+EndsAs pattern Never text = ⊥
 
 -- the range of an ending lies within the pattern
 abbrev pub IsEnding : List ℕ → Ending → Type 0
@@ -42,44 +74,34 @@ IsEnding pattern Never = Unit {0}
 pub record IsPiece (pattern borders : List ℕ) (piece : Piece) : Type 0 where
   pub span : IsSpan pattern piece.span
   pub fits : piece.table + length (bytes_of pattern piece.span) ≤ length borders
-  pub table : IsTable (bytes_of pattern piece.span) (slice_range borders piece.table (piece.table + length (bytes_of pattern piece.span)))
+  pub table : IsTable (bytes_of pattern piece.span)
+      (slice_range borders piece.table (piece.table + length (bytes_of pattern piece.span)))
 
--- these are the pieces of the pattern, with their tables
-pub record ArePieces (pattern : List ℕ) (cut : Cut) (searched : List Piece) (borders : List ℕ) : Type 0 where
-  pub shape : shape_of pattern cut searched ≡ shape true pattern
-  pub first : IsSpan pattern cut.first
-  pub ending : IsEnding pattern cut.ending
-  pub pieces : All (IsPiece pattern borders) searched
+-- what is left of the pattern is the piece, which may stand anywhere, and then the rest
+pub record IsLeft (left piece rest : List ℕ) : Type 0 where
+  pub decides : (text : List ℕ) → Matches left text ↔ Somewhere piece rest text
+  pub grows : Grows rest
+
+-- what is left of the pattern is these pieces, one after the other, and then the ending
+abbrev pub AreLeft : List ℕ → Ending → List Piece → List ℕ → Type 0
+AreLeft pattern ending [] left = (text : List ℕ) → Matches left text ↔ EndsAs pattern ending text
+AreLeft pattern ending (piece ∷ pieces) left =
+    (rest : List ℕ) × IsLeft left (bytes_of pattern piece.span) rest × AreLeft pattern ending pieces rest
+
+-- the pattern is its first piece, these pieces with their tables, and its ending
+pub record ArePieces (pattern : List ℕ) (ends : Ends) (pieces : List Piece) (borders : List ℕ) : Type 0 where
+  pub first : ends.first_len ≤ length pattern
+  pub known : All (IsPiece pattern borders) pieces
+  pub ending : IsEnding pattern ends.ending
+  pub rest : List ℕ
+  pub decides : (text : List ℕ) → Matches pattern text ↔ InFront (take ends.first_len pattern) rest text
+  pub left : AreLeft pattern ends.ending pieces rest
 
 -- the pieces and their tables were added
-pub record AddsPieces (pattern : List ℕ) (cut : Cut) (old_pieces new_pieces : List Piece) (old_borders new_borders : List ℕ) : Type 0 where
+pub record AddsPieces (pattern : List ℕ) (ends : Ends) (old_pieces new_pieces : List Piece)
+    (old_borders new_borders : List ℕ) : Type 0 where
   pub pieces : List Piece
   pub tables : List ℕ
-  pub searched : new_pieces ≡ old_pieces ++ pieces
-  pub borders : new_borders ≡ old_borders ++ tables
-  pub is_cut : ArePieces pattern cut pieces tables
-
--- from `at` on the first star or dollar stands at `end`, or there is none
-pub record IsPieceEnd (pattern : List ℕ) (at end : ℕ) : Type 0 where
-  pub after : at ≤ end
-  pub within : end ≤ length pattern
-  pub plain : (k : ℕ) → at ≤ k → k < end → is_mark (slice_index pattern k) ≡ false
-  pub stop : end < length pattern → is_mark (slice_index pattern end) ≡ true
-
--- from `at` on the first byte that is no star stands at `end`, or there is none
-pub record IsStarsEnd (pattern : List ℕ) (at end : ℕ) : Type 0 where
-  pub after : at ≤ end
-  pub within : end ≤ length pattern
-  pub stars : (k : ℕ) → at ≤ k → k < end → slice_index pattern k ≡ star
-  pub stop : end < length pattern → slice_index pattern end ≢ star
-
--- a dollar stands here, and only stars and dollars behind it
-abbrev pub Closes : List ℕ → ℕ → Type 0
-Closes pattern at = (at < length pattern) × (slice_index pattern at ≡ dollar) × (all_marks (drop at pattern) ≡ true)
-
--- from `at` on the first star stands at `end`, or there is none
-pub record IsStarFrom (pattern : List ℕ) (at end : ℕ) : Type 0 where
-  pub after : at ≤ end
-  pub within : end ≤ length pattern
-  pub plain : (k : ℕ) → at ≤ k → k < end → slice_index pattern k ≢ star
-  pub stop : end < length pattern → slice_index pattern end ≡ star
+  pub put_pieces : new_pieces ≡ old_pieces ++ pieces
+  pub put_tables : new_borders ≡ old_borders ++ tables
+  pub are_pieces : ArePieces pattern ends pieces tables

@@ -6,7 +6,10 @@ use Rattle.texting_robots.proofs.minregex.collapse_stars.Given as goal
 
 -- the text so far, and what is left, collapsed
 abbrev pub invariant-loop-before : goal.invariant-loop-before
-invariant-loop-before l = record { text : string_bytes l.text ++ collapsed l.rest ≡ collapsed l.pattern; utf8 : shadow (Utf8 l.rest) }
+invariant-loop-before l = record {
+  text : string_bytes l.text ++ collapsed l.rest ≡ collapsed l.pattern;
+  utf8 : shadow (Utf8 l.rest);
+}
 
 abbrev pub decreases-loop-before : goal.decreases-loop-before
 decreases-loop-before l = length l.rest

@@ -1,3 +1,7 @@
+use Rattle.std.proofs.Common.{◌≤◌, false, length, subst, sym}
+use Rattle.texting_robots.specs.Computed.Cut.{read_as}
+use Rattle.texting_robots.specs.Computed.Line.{lines_of}
+use Rattle.texting_robots.proofs.CountLemmas.{lines_within}
 use Rattle.std.proofs.Common.{◌∙◌, ap}
 use Rattle.texting_robots.specs.Computed.Line.{lines_of}
 use Rattle.texting_robots.proofs.CutFromFront.{read_as_is}
@@ -9,3 +13,6 @@ returns-clause-lines c = lines_are _ _ (ap lines_of (read_as_is c.without_front.
 
 pub returns-clause-ranges : goal.returns-clause-ranges
 returns-clause-ranges c = lines_range _ _ (ap lines_of (read_as_is c.without_front.result.now ∙ c.without_front.ensures))
+
+pub returns-clause-count : goal.returns-clause-count
+returns-clause-count c = subst (λ rest. length (lines_of (read_as false rest)) ≤ length c.args.input.now) (sym c.without_front.ensures) (lines_within false c.args.input.now)

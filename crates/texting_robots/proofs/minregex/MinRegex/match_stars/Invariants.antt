@@ -1,17 +1,11 @@
-use Rattle.std.proofs.Common.{◌≡◌, ◌↔◌, ◌-◌, ◌<◌, ◌≤◌, false, length, drop, get_or}
+use Rattle.std.proofs.Common.{◌↔◌, length}
+use Rattle.texting_robots.specs.Computed.Stars.{from_star}
 use Rattle.texting_robots.specs.Pattern.{MatchesStars}
-use Rattle.texting_robots.specs.Computed.Shape.{Behind, anything, shape}
 use Rattle.texting_robots.proofs.minregex.MinRegex.match_stars.Given as goal
 
--- the pattern's rest, at a star or the end, decides at this place
-abbrev pub invariant-loop-end : goal.invariant-loop-end
-invariant-loop-end l =
-    record {
-      within : l.end ≤ length l.pattern;
-      stop : l.end < length l.pattern → get_or l.pattern l.end 0 ≡ 42;
-      place : l.place ≤ length l.text;
-      answer : MatchesStars l.pattern l.text ↔ Behind (shape false (drop l.end l.pattern)).searched anything (drop l.place l.text);
-    }
+-- what is left of the pattern decides on what is left of the text
+abbrev pub invariant-loop-left : goal.invariant-loop-left
+invariant-loop-left l = MatchesStars l.fn.pattern l.text ↔ MatchesStars (from_star l.left) l.rest
 
-abbrev pub decreases-loop-end : goal.decreases-loop-end
-decreases-loop-end l = length l.pattern - l.end
+abbrev pub decreases-loop-left : goal.decreases-loop-left
+decreases-loop-left l = length (from_star l.left)

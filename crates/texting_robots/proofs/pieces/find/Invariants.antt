@@ -1,6 +1,6 @@
 use Rattle.std.proofs.Common.{◌≡◌, ◌+◌, ◌-◌, ◌*◌, ◌≤◌, length}
 use Rattle.texting_robots.proofs.BorderLemmas.{IsFirstOpen}
-use Rattle.texting_robots.proofs.minregex.pieces.find.Given as goal
+use Rattle.texting_robots.proofs.pieces.find.Given as goal
 
 -- the looks are at most twice the places passed, less the bytes matched
 abbrev pub invariant-loop-matched : goal.invariant-loop-matched

@@ -1,0 +1,60 @@
+use Rattle.std.proofs.Common.{◌≡◌, ◌∷◌, [], ◌-◌, Some, None, drop, length, length-append, arith, sym, ap, ◌∙◌}
+use Rattle.std.proofs.lemmas.Bool.{eqb-true, false≢true, iff_false}
+use Rattle.std.proofs.lemmas.Bool.Decides.{Decides-eqb}
+use Rattle.std.proofs.lemmas.List.{take_all}
+use Rattle.std.proofs.lemmas.Slice.Eq.{strip_prefix_is}
+use Rattle.texting_robots.specs.Pattern.{star}
+use Rattle.texting_robots.proofs.PieceLemmas.{cut_closed, cut_first, cut_last, cut_more, cut_never, cut_open}
+use Rattle.texting_robots.proofs.PieceLemmas.{IsFromStar}
+use Rattle.texting_robots.proofs.pieces.push_pieces.Goals as goal
+
+pub loop-behind-init : goal.loop-behind-init
+loop-behind-init c = record { base = omega arith; cut = cut_first _ _ _ _ _ c.cut_at_mark.ensures }
+
+pub returns-then-closes : goal.returns-then-closes
+returns-then-closes c =
+    let left = c.loop-behind.left.now in
+    let behind = c.in-Some.behind in
+    let is : IsFromStar left _ _ _ = record {
+      behind = behind.now;
+      star_first = strip_prefix_is Decides-eqb left (star ∷ []) (Some behind) c.in-Some.ensures.cases;
+      skips = c.split_at.ensures.back ∙ ap (λ n. drop n behind.now) c.stars_len.ensures.value;
+      cut = c.cut_at_mark-in-Some.ensures;
+    } in
+    cut_last c.loop-behind.invariant.cut is (c.closes.ensures.0 c.if-closes.true)
+
+pub loop-behind-preserved : goal.loop-behind-preserved
+loop-behind-preserved c =
+    let i = c.loop-behind.invariant in
+    let left = c.loop-behind.left.now in
+    let behind = c.in-Some.behind in
+    let is : IsFromStar left _ _ _ = record {
+      behind = behind.now;
+      star_first = strip_prefix_is Decides-eqb left (star ∷ []) (Some behind) c.in-Some.ensures.cases;
+      skips = c.split_at.ensures.back ∙ ap (λ n. drop n behind.now) c.stars_len.ensures.value;
+      cut = c.cut_at_mark-in-Some.ensures;
+    } in
+    let (table, put, is_table) = c.in_ok-push_borders.ensures in
+    let sizes = ap length i.cut.put in
+    let more = length-append c.args.borders.now.items i.cut.tables in
+    let at : c.len.result - c.len-base.result ≡ length i.cut.tables = omega arith in
+    let next = cut_more i.cut is _ table at (iff_false c.closes.ensures c.if-closes.false) is_table in
+    record { base = i.base; cut = rw (c.in_ok-push.ensures.items, put) next }
+
+pub returns-then-is_empty : goal.returns-then-is_empty
+returns-then-is_empty c =
+    let left = c.loop-behind.left.now in
+    let none : length left ≡ 0 = eqb-true (length left) 0 (sym c.if-is_empty.ensures) in
+    cut_open c.loop-behind.invariant.cut (sym (take_all 0 left (omega arith)))
+
+pub returns-then-closes-2 : goal.returns-then-closes-2
+returns-then-closes-2 c =
+    cut_closed c.loop-behind.invariant.cut (c.closes-else-is_empty.ensures.0 c.if-closes-2.true)
+
+pub returns-else-closes-2 : goal.returns-else-closes-2
+returns-else-closes-2 c =
+    let left = c.loop-behind.left.now in
+    let some = λ (none : left ≡ []). false≢true (rw none at c.if-is_empty.ensures) in
+    let no_star = strip_prefix_is Decides-eqb left (star ∷ []) None c.in_default.ensures.cases in
+    let other = iff_false c.closes-else-is_empty.ensures c.if-closes-2.false in
+    cut_never c.loop-behind.invariant.cut some no_star other

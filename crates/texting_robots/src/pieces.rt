@@ -1,0 +1,301 @@
+//! The pieces of a pattern, and where they stand in a text.
+ghost use Rattle.std.specs.Prelude.{◌≡◌, ℕ, ◌+◌, ◌-◌, ◌*◌, ◌≤◌, ◌↔◌, ◌++◌, ◌==◌, IsTrue, IfOk, IfNone, IfSome, unwrap_or, length, drop};
+ghost use Rattle.std.specs.List.{list_all, prefix_len};
+ghost use Rattle.memchr.specs.Find.{OccursAt};
+ghost use Rattle.texting_robots.specs.Computed.Border.{IsTable};
+ghost use Rattle.texting_robots.specs.Computed.Pieces.{AddsPieces, ArePieces, Closes, EndsAs, IsCutAtMark, IsEnding, is_mark};
+ghost use Rattle.texting_robots.specs.Computed.Stars.{IsBehindFirst, StandsNowhere};
+ghost use Rattle.texting_robots.specs.Pattern.{Matches, star};
+
+use crate::view::View;
+use memchr::memchr2;
+use std::alloc::AllocError;
+use std::marker::Model;
+
+/// Stands for any bytes.
+pub(crate) const STAR: u8 = b'*';
+
+/// Stands for the end of the text.
+pub(crate) const DOLLAR: u8 = b'$';
+
+/// A range of a pattern's bytes with no star and no dollar.
+#[derive(Clone, Copy, Debug)]
+pub(crate) struct Span {
+    start: usize,
+    end: usize,
+}
+
+/// A piece that may stand anywhere behind the one before, and where its table begins.
+#[derive(Clone, Copy, Debug)]
+pub(crate) struct Piece {
+    span: Span,
+    table: usize,
+}
+
+/// What has to follow the searched pieces.
+#[derive(Clone, Copy, Debug)]
+pub(crate) enum Ending {
+    /// Anything: the pattern has no dollar.
+    Open,
+    /// The text's end, right behind the first piece: a dollar comes before any star.
+    Closed,
+    /// These bytes, at the text's end: they stand between the last star and the dollar.
+    Last(Span),
+    /// Nothing does: a byte other than a star or a dollar stands behind the dollar.
+    Never,
+}
+
+/// How many bytes stand before the first star or dollar, and what has to follow the searched pieces.
+#[derive(Clone, Copy, Debug)]
+pub(crate) struct Ends {
+    first_len: usize,
+    ending: Ending,
+}
+
+/// A pattern, lent with its pieces and their tables.
+#[derive(Drop)]
+pub(crate) struct Pattern<'a> {
+    bytes: &'a [u8],
+    ends: Ends,
+    pieces: &'a [Piece],
+    borders: &'a [usize],
+}
+
+impl<'a> Model for Pattern<'a> {
+    ghost use Rattle.std.specs.Prelude.{ℕ, List};
+    ghost use Rattle.texting_robots.specs.Computed.Pieces.{ArePieces};
+
+    ghost Value = { List ℕ };
+
+    ghost view = { λ p. p.bytes.now };
+
+    ghost invariant = { λ p. ArePieces p.bytes.now p.ends p.pieces.now p.borders.now };
+}
+
+impl<'a> Pattern<'a> {
+    /// The pattern whose pieces and tables these are.
+    pub(crate) fn new(
+        bytes: &'a [u8],
+        ends: Ends,
+        pieces: &'a [Piece],
+        borders: &'a [usize],
+    ) -> Self
+        requires { ArePieces bytes.now ends pieces.now borders.now }
+        ensures { result ≡ bytes.now }
+    {
+        Pattern {
+            bytes,
+            ends,
+            pieces,
+            borders,
+        }
+    }
+
+    /// Whether the pattern matches the view's text, or a beginning of it.
+    pub(crate) fn matches(&self, view: &mut View<'_>) -> bool
+        ensures answer { IsTrue result ↔ Matches self.now view.old.text }
+        ensures text { view.new.text ≡ view.old.text }
+        ensures looks { view.old.looks ≤ view.new.looks }
+        ensures cost { view.new.looks ≤ view.old.looks + 2 * length view.old.text }
+    {
+        let first = &self.bytes[..self.ends.first_len];
+        if !stands_at(view, 0, first) {
+            return false;
+        }
+        let mut place = first.len();
+        for piece in self.pieces {
+            let bytes = &self.bytes[piece.span.start..piece.span.end];
+            let table = &self.borders[piece.table..piece.table + bytes.len()];
+            match find(view, bytes, table, place) {
+                Some(end) => place = end,
+                None => return false,
+            }
+        }
+        ends_as(view, self.bytes, self.ends.ending, place)
+    }
+}
+
+/// What stands before the first star or dollar, and the rest from there on.
+fn cut_at_mark(pattern: &[u8]) -> (&[u8], &[u8])
+    ensures { IsCutAtMark pattern.now result.0.now result.1.now }
+{
+    pattern.split_at(memchr2(STAR, DOLLAR, pattern).unwrap_or(pattern.len()))
+}
+
+/// How many stars stand at the front.
+fn stars_len(pattern: &[u8]) -> usize
+    ensures value { result ≡ prefix_len (λ b. b == star) pattern.now }
+    ensures within { result ≤ length pattern.now }
+{
+    pattern.iter().take_while(|b| **b == STAR).count()
+}
+
+/// Whether there are only stars and dollars.
+fn only_marks(pattern: &[u8]) -> bool
+    ensures { result ≡ list_all is_mark pattern.now }
+{
+    pattern.iter().all(|b| *b == STAR || *b == DOLLAR)
+}
+
+/// Whether it is a dollar, and behind that only stars and dollars.
+fn closes(pattern: &[u8]) -> bool
+    ensures { IsTrue result ↔ Closes pattern.now }
+{
+    match pattern.strip_prefix(b"$") {
+        Some(behind) => only_marks(behind),
+        None => false,
+    }
+}
+
+/// Adds the table of a piece: for each beginning of it the length of its longest proper border.
+fn push_borders(borders: &mut Vec<usize>, piece: &[u8]) -> Result<(), AllocError>
+    ensures { IfOk result (λ _. (table : _) × (borders.new.items ≡ borders.old.items ++ table)
+        × IsTable piece.now table) }
+{
+    if piece.is_empty() {
+        return Ok(());
+    }
+    let table = borders.len();
+    borders.push(0)?;
+    let mut place = 1;
+    let mut matched = 0;
+    while place < piece.len() {
+        if piece[place] == piece[matched] {
+            matched += 1;
+        } else if matched > 0 {
+            matched = borders[table + matched - 1];
+            continue;
+        }
+        place += 1;
+        borders.push(matched)?;
+    }
+    Ok(())
+}
+
+/// Whether the piece stands in the text at this place.
+fn stands_at(view: &mut View<'_>, at: usize, piece: &[u8]) -> bool
+    requires { at ≤ length view.old.text }
+    ensures answer { IsTrue result ↔ OccursAt view.old.text piece.now at }
+    ensures text { view.new.text ≡ view.old.text }
+    ensures looks { view.old.looks ≤ view.new.looks }
+    ensures by_piece { view.new.looks ≤ view.old.looks + length piece.now }
+    ensures by_text { view.new.looks + at ≤ view.old.looks + length view.old.text }
+{
+    if piece.len() > view.len() - at {
+        return false;
+    }
+    for (k, byte) in piece.iter().enumerate() {
+        if !view.same(at + k, *byte) {
+            return false;
+        }
+    }
+    true
+}
+
+/// The place right behind the piece where it first stands from `from` on, found by its table.
+fn find(view: &mut View<'_>, piece: &[u8], borders: &[usize], from: usize) -> Option<usize>
+    requires from { from ≤ length view.old.text }
+    requires table { IsTable piece.now borders.now }
+    ensures none { IfNone result (StandsNowhere piece.now (drop from view.old.text)) }
+    ensures some { IfSome result (λ end. (end ≤ length view.old.text)
+        × IsBehindFirst piece.now (drop from view.old.text) (drop end view.old.text)) }
+    ensures text { view.new.text ≡ view.old.text }
+    ensures looks { view.old.looks ≤ view.new.looks }
+    ensures cost { view.new.looks + 2 * from ≤ view.old.looks + 2 * unwrap_or result (length view.old.text) }
+{
+    let len = view.len();
+    let mut place = from;
+    let mut matched = 0;
+    while matched < piece.len() {
+        if place == len {
+            return None;
+        }
+        if view.same(place, piece[matched]) {
+            place += 1;
+            matched += 1;
+        } else if matched == 0 {
+            place += 1;
+        } else {
+            matched = borders[matched - 1];
+        }
+    }
+    Some(place)
+}
+
+/// Whether the text goes on from `place` as the ending says.
+fn ends_as(view: &mut View<'_>, pattern: &[u8], ending: Ending, place: usize) -> bool
+    requires place { place ≤ length view.old.text }
+    requires ending { IsEnding pattern.now ending }
+    ensures answer { IsTrue result ↔ EndsAs pattern.now ending (drop place view.old.text) }
+    ensures text { view.new.text ≡ view.old.text }
+    ensures looks { view.old.looks ≤ view.new.looks }
+    ensures cost { view.new.looks + place ≤ view.old.looks + length view.old.text }
+{
+    match ending {
+        Ending::Open => true,
+        Ending::Closed => place == view.len(),
+        Ending::Last(span) => {
+            let last = &pattern[span.start..span.end];
+            last.len() <= view.len() - place && stands_at(view, view.len() - last.len(), last)
+        }
+        Ending::Never => false,
+    }
+}
+
+/// Cuts a pattern, and adds its searched pieces and their tables at the end.
+pub(crate) fn push_pieces(
+    pattern: &[u8],
+    pieces: &mut Vec<Piece>,
+    borders: &mut Vec<usize>,
+) -> Result<Ends, AllocError>
+    ensures { IfOk result (λ ends. AddsPieces pattern.now ends pieces.old.items pieces.new.items
+        borders.old.items borders.new.items) }
+{
+    let base = borders.len();
+    let (piece, mut left) = cut_at_mark(pattern);
+    let first_len = piece.len();
+    while let Some(behind) = left.strip_prefix(b"*") {
+        let (_, behind) = behind.split_at(stars_len(behind));
+        let (piece, rest) = cut_at_mark(behind);
+        let span = Span {
+            start: pattern.len() - behind.len(),
+            end: pattern.len() - rest.len(),
+        };
+        if closes(rest) {
+            let ending = Ending::Last(span);
+            return Ok(Ends { first_len, ending });
+        }
+        let table = borders.len() - base;
+        push_borders(borders, piece)?;
+        pieces.push(Piece { span, table })?;
+        left = rest;
+    }
+    let ending = if left.is_empty() {
+        Ending::Open
+    } else if closes(left) {
+        Ending::Closed
+    } else {
+        Ending::Never
+    };
+    Ok(Ends { first_len, ending })
+}
+
+#[cfg(test)]
+mod tests {
+    use super::*;
+    use std::test::Fail;
+
+    #[test]
+    fn tables(rt: HostRuntime) -> Result<(), Fail> {
+        let mut borders = Vec::new(rt.alloc());
+        push_borders(&mut borders, b"aaaab")?;
+        assert_eq!(rt; borders.as_slice(), [0, 1, 2, 3, 0].as_slice());
+        let mut borders = Vec::new(rt.alloc());
+        push_borders(&mut borders, b"aabaaab")?;
+        assert_eq!(rt; borders.as_slice(), [0, 1, 0, 1, 2, 2, 3].as_slice());
+        let mut borders = Vec::new(rt.alloc());
+        push_borders(&mut borders, b"abab")?;
+        assert_eq!(rt; borders.as_slice(), [0, 0, 1, 2].as_slice());
+        Ok(())
+    }
+}
