@@ -3,6 +3,7 @@ use crate::helpers::{BOB, check_prepared, check_url, forms_of, long_bytes, long_
 use crate::lines::check_lines;
 use std::process::Abort;
 use std::test::Fail;
+use texting_robots::Robot;
 use texting_robots::minregex::MinRegex;
 use texting_robots::parser::{Line, read_delay};
 use texting_robots::view::View;
@@ -184,5 +185,14 @@ fn long_delays(rt: HostRuntime) -> Result<(), Fail> {
         let delay = read_delay(text.as_bytes());
         assert!(rt; delay == Some(*want), "{name}: {delay:?}");
     }
+    Ok(())
+}
+
+/// It takes no memory: with the first request for it refused the answer is the same.
+#[test]
+fn many_lf(rt: HostRuntime) -> Result<(), Fail> {
+    let robot = Robot::new(rt.alloc(), BOB, &[b'\n'; 65_536])?;
+    assert_eq!(rt; robot.delay, None);
+    assert!(rt; robot.sitemaps.is_empty());
     Ok(())
 }

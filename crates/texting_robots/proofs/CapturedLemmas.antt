@@ -1,234 +1,275 @@
--- The walk along the lines: what a running state knows.
-use Rattle.std.proofs.Common.{◌≡◌, ◌⊎◌, inl, inr, ℕ, zero, suc, ◌+◌, ◌<◌, nat_lt, Bool, true, false, not, ◌&&◌, ◌||◌, List, [], ◌∷◌, Option, Some, None, IsTrue, slice_get, drop, cond, add-one, sym, refl, ◌∙◌, arith}
+-- The walk along the lines says what the definition by places says.
+use Rattle.std.proofs.Common.{◌≡◌, ◌≤◌, ◌⊎◌, inl, inr, ℕ, zero, suc, ◌+◌, ◌<◌, nat_lt, Bool, true, false, not, ◌&&◌, ◌||◌, List, [], ◌∷◌, Option, Some, None, slice_get, drop, cond, add-one, map, ap, sym, refl, ◌∙◌, arith}
 use Rattle.std.specs.Bool.{Decides}
+use Rattle.std.proofs.Math.Bool.{and-true, and-false, or-false}
 use Rattle.std.specs.List.{list_any, cons_option, filter_map, enumerate_from}
-use Rattle.std.proofs.lemmas.Bool.Decides.{Decides-below_or, Decides-and, Decides-or, Decides-not, Decides-ltb, Decides-like, same_from_decides}
-use Rattle.std.proofs.lemmas.Bool.{cases_Bool, cases_order, or_cases, or_left, or_right, false≢true, not-true, not_from_false, or_parts}
+use Rattle.std.proofs.lemmas.Bool.Decides.{Decides-below_or, Decides-and, Decides-or, Decides-not, Decides-ltb, Decides-like}
+use Rattle.std.proofs.lemmas.Bool.{cases_Bool, or_cases, or_left, or_right, and_left, and_right, le-ltb, lt-ltb, false≢true}
 use Rattle.texting_robots.specs.declared.groups.Walk.{Walk}
-use Rattle.texting_robots.specs.Line.{LineValue, UserAgent, Allow, Disallow, Sitemap, CrawlDelay, Raw, is_agent, is_group}
-use Rattle.texting_robots.specs.Group.{names, passes_at, NoAgent, IsNamedBefore, IsCaptured, some_below, is_captured, from_captured}
-use Rattle.texting_robots.specs.Computed.Group.{start_of, step, group_step, agent_step}
+use Rattle.texting_robots.specs.Line.{LineValue, UserAgent, is_agent, is_group}
+use Rattle.texting_robots.specs.Group.{names, passes_at, NoAgent, IsCaptured, some_below, is_captured, from_captured, group_name, Mark, marks_of, in_captured}
+use Rattle.texting_robots.specs.Rules.{PlacedRule, Rule, placed, rule_at, rule_in, rules_of, sitemap_at, sitemap_in, sitemaps_of, unplaced}
+use Rattle.texting_robots.specs.Computed.Group.{start_of, step, marks_from}
+
+-- ---- tests of places: of agent lines, group lines and agent lines of the name
+
+-- a group line stands behind the first place, before the second
+abbrev crossed : (ℕ → Bool) → ℕ → ℕ → Bool
+crossed G j i = some_below (λ k. nat_lt j k && G k) i
+
+-- and an agent line behind it
+abbrev broken : (ℕ → Bool) → (ℕ → Bool) → ℕ → ℕ → Bool
+broken A G j i = some_below (λ l. A l && crossed G j l) i
+
+-- named since the last group line
+abbrev open_at : (ℕ → Bool) → (ℕ → Bool) → ℕ → Bool
+open_at G N i = some_below (λ j. N j && not (crossed G j i)) i
+
+-- named by a line that no agent line behind a group line parts from the place
+abbrev named_at : (ℕ → Bool) → (ℕ → Bool) → (ℕ → Bool) → ℕ → Bool
+named_at A G N i = some_below (λ j. N j && not (broken A G j i)) i
 
 -- ---- the test that computes decides the definition
 
-some_below_decides : (test : ℕ → Bool) (P : ℕ → Type 0) (each : (k : ℕ) → Decides (test k) (P k)) (n : ℕ) → Decides (some_below test n) ((k : ℕ) × (k < n) × P k)
-some_below_decides test P each n = Decides-below_or test P (some_below test) each refl (λ _. refl) n
+below_decides : (test : ℕ → Bool) (P : ℕ → Type 0) → ((k : ℕ) → Decides (test k) (P k))
+    → (n : ℕ) → Decides (some_below test n) ((k : ℕ) × (k < n) × P k)
+below_decides test P each n = Decides-below_or test P (some_below test) each refl (λ _. refl) n
 
 itself : (b : Bool) → Decides b (b ≡ true)
 itself b = (λ h. h, λ h. h)
 
-found : (test : LineValue → Bool) (lines : List LineValue) → list_any test lines ≡ true → (k : ℕ) × (passes_at test lines k ≡ true)
-found test [] h = absurd (false≢true h)
-found test (line ∷ lines) h =
-    elim (or_cases _ _ h) [
-      | inl here ↦ (0, here)
-      | inr later ↦ let (k, passes) = found test lines later in (suc k, passes)
-    ]
+abbrev SomePasses : (LineValue → Bool) → List LineValue → Type 0
+SomePasses test lines = (k : ℕ) × (passes_at test lines k ≡ true)
 
-nowhere : (test : LineValue → Bool) (lines : List LineValue) → list_any test lines ≡ false → (k : ℕ) → passes_at test lines k ≡ true → ⊥
-nowhere test [] h k passes = false≢true passes
-nowhere test (line ∷ lines) h zero passes = let (here, later) = or_parts _ _ h in false≢true (sym here ∙ passes)
-nowhere test (line ∷ lines) h (suc k) passes = let (here, later) = or_parts _ _ h in nowhere test lines later k passes
+some_passes : (test : LineValue → Bool) (lines : List LineValue)
+    → Decides (list_any test lines) (SomePasses test lines)
+some_passes test [] = (λ h. absurd (false≢true h), λ (k, h). absurd (false≢true h))
+some_passes test (line ∷ lines) =
+    (λ h. found (some_passes test lines).0 (or_cases _ _ h), λ (k, h). at (some_passes test lines).1 k h)
+  where
+    found : (list_any test lines ≡ true → SomePasses test lines)
+        → (test line ≡ true) ⊎ (list_any test lines ≡ true) → SomePasses test (line ∷ lines)
+    found later (inl here) = (0, here)
+    found later (inr some) = let (k, passes) = later some in (suc k, passes)
+
+    at : (SomePasses test lines → list_any test lines ≡ true)
+        → (k : ℕ) → passes_at test (line ∷ lines) k ≡ true → list_any test (line ∷ lines) ≡ true
+    at later zero passes = or_left _ _ passes
+    at later (suc k) passes = or_right _ _ (later (k, passes))
 
 no_agent_decides : (lines : List LineValue) → Decides (not (list_any is_agent lines)) (NoAgent lines)
-no_agent_decides lines = (
-  λ h. nowhere is_agent lines (not-true _ h),
-  λ none. elim (cases_Bool (list_any is_agent lines)) [
-    | inl some ↦ let (k, passes) = found is_agent lines some in absurd (none k passes)
-    | inr fails ↦ not_from_false _ fails
-  ],
-)
+no_agent_decides lines =
+    Decides-like _ (λ none k passes. none (k, passes)) (λ none (k, passes). none k passes)
+    (Decides-not _ (some_passes is_agent lines))
 
-abbrev Broken : List LineValue → ℕ → ℕ → Type 0
-Broken lines j i = (l : ℕ) × (l < i) × ((passes_at is_agent lines l ≡ true) × ((k : ℕ) × (k < l) × ((j < k) × (passes_at is_group lines k ≡ true))))
+abbrev Crossed : (ℕ → Bool) → ℕ → ℕ → Type 0
+Crossed G j i = (k : ℕ) × (k < i) × ((j < k) × (G k ≡ true))
 
-broken_decides : (lines : List LineValue) (j i : ℕ) → Decides (some_below (λ l. passes_at is_agent lines l && some_below (λ k. nat_lt j k && passes_at is_group lines k) l) i) (Broken lines j i)
-broken_decides lines j i =
-    some_below_decides _ (λ l. (passes_at is_agent lines l ≡ true) × ((k : ℕ) × (k < l) × ((j < k) × (passes_at is_group lines k ≡ true))))
-    (λ l. Decides-and _ _ (itself _) (some_below_decides _ (λ k. (j < k) × (passes_at is_group lines k ≡ true)) (λ k. Decides-and _ _ (Decides-ltb j k) (itself _)) l)) i
+abbrev Broken : (ℕ → Bool) → (ℕ → Bool) → ℕ → ℕ → Type 0
+Broken A G j i = (l : ℕ) × (l < i) × ((A l ≡ true) × Crossed G j l)
 
-named_before_decides : (name : List ℕ) (lines : List LineValue) (i : ℕ)
-    → Decides (some_below (λ j. passes_at (names name) lines j
-    && not (some_below (λ l. passes_at is_agent lines l && some_below (λ k. nat_lt j k && passes_at is_group lines k) l) i)) i) (IsNamedBefore name lines i)
-named_before_decides name lines i =
-    Decides-like _
-    (λ (j, below, (is_named, apart)). (j, below, is_named, λ (k, l, jk, kl, li, group, agent). apart (l, li, (agent, (k, kl, (jk, group))))))
-    (λ (j, below, is_named, apart). (j, below, (is_named, λ (l, li, (agent, (k, kl, (jk, group)))). apart (k, l, jk, kl, li, group, agent))))
-    (some_below_decides _ (λ j. (passes_at (names name) lines j ≡ true) × ¬ (Broken lines j i)) (λ j. Decides-and _ _ (itself _) (Decides-not _ (broken_decides lines j i))) i)
+crossed_decides : (G : ℕ → Bool) (j i : ℕ) → Decides (crossed G j i) (Crossed G j i)
+crossed_decides G j i =
+    below_decides _ (λ k. (j < k) × (G k ≡ true)) (λ k. Decides-and _ _ (Decides-ltb j k) (itself _)) i
 
-pub is_captured_decides : (name : List ℕ) (lines : List LineValue) (i : ℕ) → Decides (is_captured name lines i) (IsCaptured name lines i)
-is_captured_decides name lines i = Decides-or _ _ (no_agent_decides lines) (named_before_decides name lines i)
+broken_decides : (A G : ℕ → Bool) (j i : ℕ) → Decides (broken A G j i) (Broken A G j i)
+broken_decides A G j i =
+    below_decides _ (λ l. (A l ≡ true) × Crossed G j l)
+    (λ l. Decides-and _ _ (itself _) (crossed_decides G j l)) i
 
--- ---- one step of the walk, over tests of places
+named_decides : (A G N : ℕ → Bool) (i : ℕ)
+    → Decides (named_at A G N i) ((j : ℕ) × (j < i) × ((N j ≡ true) × ¬ (Broken A G j i)))
+named_decides A G N i =
+    below_decides _ (λ j. (N j ≡ true) × ¬ (Broken A G j i))
+    (λ j. Decides-and _ _ (itself _) (Decides-not _ (broken_decides A G j i))) i
 
-abbrev NoneOf : (ℕ → Bool) → Type 0
-NoneOf A = (k : ℕ) → ¬ IsTrue (A k)
+pub is_captured_decides : (name : List ℕ) (lines : List LineValue) (i : ℕ)
+    → Decides (is_captured name lines i) (IsCaptured name lines i)
+is_captured_decides name lines i =
+    Decides-or _ _ (no_agent_decides lines)
+    (Decides-like _
+    (λ (j, below, (is_named, apart)).
+    (j, below, is_named, λ (k, l, jk, kl, li, g, agent). apart (l, li, (agent, (k, kl, (jk, g))))))
+    (λ (j, below, is_named, apart).
+    (j, below, (is_named, λ (l, li, (agent, (k, kl, (jk, g)))). apart (k, l, jk, kl, li, g, agent))))
+    (named_decides (passes_at is_agent lines) (passes_at is_group lines) (passes_at (names name) lines) i))
 
-abbrev NamedIn : (ℕ → Bool) → (ℕ → Bool) → (ℕ → Bool) → ℕ → Type 0
-NamedIn A G N i = (j : ℕ) × (j < i) × IsTrue (N j) × ¬ ((k : ℕ) × (l : ℕ) × (j < k) × (k < l) × (l < i) × IsTrue (G k) × IsTrue (A l))
+-- ---- one place further
 
--- named since the last group line
-abbrev OpenIn : (ℕ → Bool) → (ℕ → Bool) → ℕ → Type 0
-OpenIn G N i = (j : ℕ) × (j < i) × IsTrue (N j) × ¬ ((k : ℕ) × (j < k) × (k < i) × IsTrue (G k))
+below_same : (f g : ℕ → Bool) (n : ℕ) → ((j : ℕ) → j < n → f j ≡ g j) → some_below f n ≡ some_below g n
+below_same f g zero same = refl
+below_same f g (suc n) same =
+    rw (same n (omega arith)) (ap (λ b. g n || b) (below_same f g n (λ j less. same j (omega arith))))
 
-clash : {b : Bool} → b ≡ false → b ≡ true → ⊥
-clash fails holds = false≢true (sym fails ∙ holds)
+none_below : (f : ℕ → Bool) (n : ℕ) → ((j : ℕ) → j < n → f j ≡ false) → some_below f n ≡ false
+none_below f zero none = refl
+none_below f (suc n) none = rw (none n (omega arith)) (none_below f n (λ j less. none j (omega arith)))
 
-agent_captured : (A G N : ℕ → Bool) (i : ℕ) (named : Bool) → A i ≡ true → Decides named (OpenIn G N i) → Decides (named || N i) (NoneOf A ⊎ NamedIn A G N (i + 1))
-agent_captured A G N i named agent knows = (
-  λ h. inr (elim (or_cases _ _ h) [
-    | inl was ↦ let (j, below, is_named, apart) = knows.0 was in (j, omega arith, is_named, λ (k, l, jk, kl, li, g, a). apart (k, jk, omega arith, g))
-    | inr now ↦ (i, omega arith, now, λ (k, l, jk, kl, li, g, a). omega arith)
-  ]),
-  λ h. elim h [
-    | inl none ↦ absurd (none i agent)
-    | inr (j, below, is_named, apart) ↦ elim (cases_order j i) [
-      | inl same ↦ or_right _ _ (rw same at is_named)
-      | inr (inl less) ↦ or_left _ _ (knows.1 (j, less, is_named, λ (k, jk, ki, g). apart (k, i, jk, ki, omega arith, g, agent)))
-      | inr (inr more) ↦ absurd (omega arith)
-    ]
-  ],
-)
+not_crossed : (G : ℕ → Bool) (j i : ℕ) → i ≤ j + 1 → crossed G j i ≡ false
+not_crossed G j i near =
+    none_below (λ k. nat_lt j k && G k) i (λ k less. and_left _ _ (le-ltb j k (omega arith)))
 
-agent_open : (G N : ℕ → Bool) (i : ℕ) (named : Bool) → G i ≡ false → Decides named (OpenIn G N i) → Decides (named || N i) (OpenIn G N (i + 1))
-agent_open G N i named no_group knows = (
-  λ h. elim (or_cases _ _ h) [
-    | inl was ↦ let (j, below, is_named, apart) = knows.0 was in (
-      j,
-      omega arith,
-      is_named,
-      λ (k, jk, ki, g). elim (cases_order k i) [
-        | inl same ↦ clash no_group (rw same at g)
-        | inr (inl less) ↦ apart (k, jk, less, g)
-        | inr (inr more) ↦ omega arith
-      ],
-    )
-    | inr now ↦ (i, omega arith, now, λ (k, jk, ki, g). omega arith)
-  ],
-  λ (j, below, is_named, apart). elim (cases_order j i) [
-    | inl same ↦ or_right _ _ (rw same at is_named)
-    | inr (inl less) ↦ or_left _ _ (knows.1 (j, less, is_named, λ (k, jk, ki, g). apart (k, jk, omega arith, g)))
-    | inr (inr more) ↦ absurd (omega arith)
-  ],
-)
+not_broken : (A G : ℕ → Bool) (j i : ℕ) → i ≤ j + 1 → broken A G j i ≡ false
+not_broken A G j i near =
+    none_below (λ l. A l && crossed G j l) i (λ l less. and_right _ _ (not_crossed G j l (omega arith)))
 
-quiet_captured : (A G N : ℕ → Bool) (i : ℕ) (captured : Bool) → A i ≡ false → N i ≡ false → Decides captured (NoneOf A ⊎ NamedIn A G N i) → Decides captured (NoneOf A ⊎ NamedIn A G N (i + 1))
-quiet_captured A G N i captured no_agent no_name knows =
-    Decides-like captured
-    (λ h. elim h [
-      | inl none ↦ inl none
-      | inr (j, below, is_named, apart) ↦ inr (
-        j,
-        omega arith,
-        is_named,
-        λ (k, l, jk, kl, li, g, a). elim (cases_order l i) [
-          | inl same ↦ clash no_agent (rw same at a)
-          | inr (inl less) ↦ apart (k, l, jk, kl, less, g, a)
-          | inr (inr more) ↦ omega arith
-        ],
-      )
-    ])
-    (λ h. elim h [
-      | inl none ↦ inl none
-      | inr (j, below, is_named, apart) ↦ elim (cases_order j i) [
-        | inl same ↦ absurd (clash no_name (rw same at is_named))
-        | inr (inl less) ↦ inr (j, less, is_named, λ (k, l, jk, kl, li, g, a). apart (k, l, jk, kl, omega arith, g, a))
-        | inr (inr more) ↦ absurd (omega arith)
-      ]
-    ])
-    knows
+-- what is broken is crossed
+absorbed : (A G : ℕ → Bool) (j i : ℕ) → (crossed G j i || broken A G j i) ≡ crossed G j i
+absorbed A G j zero = refl
+absorbed A G j (suc i) = at (nat_lt j i && G i) (A i) (crossed G j i) (broken A G j i) (absorbed A G j i)
+  where
+    at : (x a c b : Bool) → (c || b) ≡ c → ((x || c) || ((a && c) || b)) ≡ (x || c)
+    at true a c b same = refl
+    at false true true b same = refl
+    at false true false b same = same
+    at false false c b same = same
 
-group_open : (G N : ℕ → Bool) (i : ℕ) → G i ≡ true → N i ≡ false → Decides false (OpenIn G N (i + 1))
-group_open G N i group no_name = (
-  λ h. absurd (false≢true h),
-  λ (j, below, is_named, apart). elim (cases_order j i) [
-    | inl same ↦ absurd (clash no_name (rw same at is_named))
-    | inr (inl less) ↦ absurd (apart (i, less, omega arith, group))
-    | inr (inr more) ↦ absurd (omega arith)
-  ],
-)
+broken_next : (A G : ℕ → Bool) (j i : ℕ) → broken A G j (suc i) ≡ cond (A i) (crossed G j i) (broken A G j i)
+broken_next A G j i = at (A i)
+  where
+    at : (a : Bool) → ((a && crossed G j i) || broken A G j i) ≡ cond a (crossed G j i) (broken A G j i)
+    at true = absorbed A G j i
+    at false = refl
 
-quiet_open : (G N : ℕ → Bool) (i : ℕ) (named : Bool) → G i ≡ false → N i ≡ false → Decides named (OpenIn G N i) → Decides named (OpenIn G N (i + 1))
-quiet_open G N i named no_group no_name knows =
-    Decides-like named
-    (λ (j, below, is_named, apart). (
-      j,
-      omega arith,
-      is_named,
-      λ (k, jk, ki, g). elim (cases_order k i) [
-        | inl same ↦ clash no_group (rw same at g)
-        | inr (inl less) ↦ apart (k, jk, less, g)
-        | inr (inr more) ↦ omega arith
-      ],
-    ))
-    (λ (j, below, is_named, apart). elim (cases_order j i) [
-      | inl same ↦ absurd (clash no_name (rw same at is_named))
-      | inr (inl less) ↦ (j, less, is_named, λ (k, jk, ki, g). apart (k, jk, omega arith, g))
-      | inr (inr more) ↦ absurd (omega arith)
-    ])
-    knows
+-- the last place, or an earlier one
+here_or_before : (N : ℕ → Bool) (f g : ℕ → Bool) (i : ℕ) → f i ≡ false → ((j : ℕ) → j < i → f j ≡ g j)
+    → some_below (λ j. N j && not (f j)) (suc i) ≡ (N i || some_below (λ j. N j && not (g j)) i)
+here_or_before N f g i none same =
+    rw (none, and-true)
+    (ap (λ b. N i || b) (below_same _ _ i (λ j less. ap (λ b. N j && not b) (same j less))))
+
+named_next : (A G N : ℕ → Bool) (i : ℕ)
+    → named_at A G N (suc i) ≡ (N i || cond (A i) (open_at G N i) (named_at A G N i))
+named_next A G N i =
+    here_or_before N (λ j. broken A G j (suc i)) (λ j. cond (A i) (crossed G j i) (broken A G j i)) i
+    (not_broken A G i (suc i) (omega arith)) (λ j less. broken_next A G j i)
+    ∙ at (A i)
+  where
+    at : (a : Bool) → (N i || some_below (λ j. N j && not (cond a (crossed G j i) (broken A G j i))) i)
+        ≡ (N i || cond a (open_at G N i) (named_at A G N i))
+    at true = refl
+    at false = refl
+
+open_next : (G N : ℕ → Bool) (i : ℕ) → open_at G N (suc i) ≡ (N i || (not (G i) && open_at G N i))
+open_next G N i =
+    here_or_before N (λ j. crossed G j (suc i)) (λ j. G i || crossed G j i) i
+    (not_crossed G i (suc i) (omega arith)) (λ j less. rw (lt-ltb j i less) refl)
+    ∙ at (G i)
+  where
+    at : (g : Bool) → (N i || some_below (λ j. N j && not (g || crossed G j i)) i)
+        ≡ (N i || (not g && open_at G N i))
+    at true = ap (λ b. N i || b) (none_below _ i (λ j less. and-false (N j)))
+    at false = refl
 
 -- ---- the walk
 
--- the walk's state knows what the definition says of this place
+abbrev pub open_in : List ℕ → List LineValue → ℕ → Bool
+open_in name lines i = open_at (passes_at is_group lines) (passes_at (names name) lines) i
+
+abbrev named_in : List ℕ → List LineValue → ℕ → Bool
+named_in name lines i =
+    named_at (passes_at is_agent lines) (passes_at is_group lines) (passes_at (names name) lines) i
+
+-- the walk's state says what the definition says of this place
 pub record Stands (name : List ℕ) (lines : List LineValue) (i : ℕ) (walk : Walk) : Type 0 where
-  pub captured : Decides walk.captured (IsCaptured name lines i)
-  pub named : Decides walk.named (OpenIn (passes_at is_group lines) (passes_at (names name) lines) i)
+  pub captured : is_captured name lines i ≡ walk.captured
+  pub named : open_in name lines i ≡ walk.named
 
 pub stands_first : (name : List ℕ) (lines : List LineValue) → Stands name lines 0 (start_of lines)
-stands_first name lines = record {
-  captured = Decides-like _ (λ none. inl none) (λ h. elim h [ inl none ↦ none | inr (j, below, is_named, apart) ↦ absurd (omega arith) ]) (no_agent_decides lines);
-  named = (λ h. absurd (false≢true h), λ (j, below, is_named, apart). absurd (omega arith));
+stands_first name lines = record { captured = or-false _; named = refl }
+
+-- the tests at the place are those of its line
+named_on : (name : List ℕ) (lines : List LineValue) (i : ℕ) (line : LineValue) → slice_get lines i ≡ Some line
+    → is_captured name lines (i + 1) ≡ (not (list_any is_agent lines)
+    || (names name line || cond (is_agent line) (open_in name lines i) (named_in name lines i)))
+named_on name lines i line at =
+    ap (is_captured name lines) (add-one i)
+    ∙ ap (λ b. not (list_any is_agent lines) || b)
+    (named_next (passes_at is_agent lines) (passes_at is_group lines) (passes_at (names name) lines) i)
+    ∙ rw at refl
+
+open_on : (name : List ℕ) (lines : List LineValue) (i : ℕ) (line : LineValue) → slice_get lines i ≡ Some line
+    → open_in name lines (i + 1) ≡ (names name line || (not (is_group line) && open_in name lines i))
+open_on name lines i line at =
+    ap (open_in name lines) (add-one i)
+    ∙ open_next (passes_at is_group lines) (passes_at (names name) lines) i
+    ∙ rw at refl
+
+only_agents : (name : List ℕ) (line : LineValue) → is_agent line ≡ false → names name line ≡ false
+only_agents name (UserAgent value) isnt = absurd (false≢true (sym isnt))
+only_agents name _ isnt = refl
+
+pub stands_next : (name : List ℕ) (lines : List LineValue) (i : ℕ) (walk : Walk) (line : LineValue)
+    → slice_get lines i ≡ Some line → Stands name lines i walk
+    → Stands name lines (i + 1) (step name walk line)
+stands_next name lines i walk line at stands = record {
+  captured = named_on name lines i line at ∙ elim (cases_Bool (is_agent line)) [
+    | inl is ↦ rw (is, (some_passes is_agent lines).1 (i, rw (at, is) refl), stands.named) refl
+    | inr isnt ↦ rw (isnt, only_agents name line isnt) stands.captured
+  ];
+  named = open_on name lines i line at ∙ ap (λ b. names name line || (not (is_group line) && b)) stands.named;
 }
 
-passes : (test : LineValue → Bool) (lines : List LineValue) (i : ℕ) (line : LineValue) → slice_get lines i ≡ Some line → passes_at test lines i ≡ test line
-passes test lines i line at = rw at refl
-
-group_stands : (name : List ℕ) (lines : List LineValue) (i : ℕ) (walk : Walk) → passes_at is_agent lines i ≡ false → passes_at (names name) lines i ≡ false → passes_at is_group lines i ≡ true → Stands name lines i walk → Stands name lines (i + 1) (group_step walk)
-group_stands name lines i walk no_agent no_name group stands = record {
-  captured = quiet_captured (passes_at is_agent lines) (passes_at is_group lines) (passes_at (names name) lines) i walk.captured no_agent no_name stands.captured;
-  named = group_open (passes_at is_group lines) (passes_at (names name) lines) i group no_name;
-}
-
-quiet_stands : (name : List ℕ) (lines : List LineValue) (i : ℕ) (walk : Walk) → passes_at is_agent lines i ≡ false → passes_at (names name) lines i ≡ false → passes_at is_group lines i ≡ false → Stands name lines i walk → Stands name lines (i + 1) walk
-quiet_stands name lines i walk no_agent no_name no_group stands = record {
-  captured = quiet_captured (passes_at is_agent lines) (passes_at is_group lines) (passes_at (names name) lines) i walk.captured no_agent no_name stands.captured;
-  named = quiet_open (passes_at is_group lines) (passes_at (names name) lines) i walk.named no_group no_name stands.named;
-}
-
-agent_stands : (name : List ℕ) (lines : List LineValue) (i : ℕ) (walk : Walk) (is_named : Bool) → passes_at is_agent lines i ≡ true → passes_at (names name) lines i ≡ is_named → passes_at is_group lines i ≡ false → Stands name lines i walk → Stands name lines (i + 1) (agent_step is_named walk)
-agent_stands name lines i walk is_named agent name_is no_group stands = rw (← name_is) (record {
-  captured = agent_captured (passes_at is_agent lines) (passes_at is_group lines) (passes_at (names name) lines) i walk.named agent stands.named;
-  named = agent_open (passes_at is_group lines) (passes_at (names name) lines) i walk.named no_group stands.named;
-})
-
-pub stands_next : (name : List ℕ) (lines : List LineValue) (i : ℕ) (walk : Walk) (line : LineValue) → slice_get lines i ≡ Some line → Stands name lines i walk → Stands name lines (i + 1) (step name walk line)
-stands_next name lines i walk (UserAgent value) at = agent_stands name lines i walk _ (passes is_agent lines i (UserAgent value) at) (passes (names name) lines i (UserAgent value) at) (passes is_group lines i (UserAgent value) at)
-stands_next name lines i walk (Allow value) at = group_stands name lines i walk (passes is_agent lines i (Allow value) at) (passes (names name) lines i (Allow value) at) (passes is_group lines i (Allow value) at)
-stands_next name lines i walk (Disallow value) at = group_stands name lines i walk (passes is_agent lines i (Disallow value) at) (passes (names name) lines i (Disallow value) at) (passes is_group lines i (Disallow value) at)
-stands_next name lines i walk (Sitemap value) at = quiet_stands name lines i walk (passes is_agent lines i (Sitemap value) at) (passes (names name) lines i (Sitemap value) at) (passes is_group lines i (Sitemap value) at)
-stands_next name lines i walk (CrawlDelay delay) at = group_stands name lines i walk (passes is_agent lines i (CrawlDelay delay) at) (passes (names name) lines i (CrawlDelay delay) at) (passes is_group lines i (CrawlDelay delay) at)
-stands_next name lines i walk (Raw body) at = quiet_stands name lines i walk (passes is_agent lines i (Raw body) at) (passes (names name) lines i (Raw body) at) (passes is_group lines i (Raw body) at)
-
--- what the walk finds in the lines that are left
-abbrev pub caught : {X : Type 0} → (ℕ → LineValue → Option X) → List ℕ → Walk → ℕ → List LineValue → List X
-caught given name walk place [] = []
-caught given name walk place (line ∷ lines) = cons_option (cond walk.captured (given place line) None) (caught given name (step name walk line) (place + 1) lines)
-
-pub at_front : (lines : List LineValue) (place : ℕ) (line : LineValue) (rest : List LineValue) → drop place lines ≡ line ∷ rest → (slice_get lines place ≡ Some line) × (drop (place + 1) lines ≡ rest)
+pub at_front : (lines : List LineValue) (place : ℕ) (line : LineValue) (rest : List LineValue)
+    → drop place lines ≡ line ∷ rest → (slice_get lines place ≡ Some line) × (drop (place + 1) lines ≡ rest)
 at_front [] zero line rest h = absurd (let k : [] ≡ line ∷ rest = h in cc)
 at_front [] (suc n) line rest h = absurd (let k : [] ≡ line ∷ rest = h in cc)
-at_front (x ∷ lines) zero line rest h = (let k : x ∷ lines ≡ line ∷ rest = h in cc, let k : x ∷ lines ≡ line ∷ rest = h in cc)
-at_front (x ∷ lines) (suc n) line rest h = let (at, next) = at_front lines n line rest h in (at, rw add-one (rw add-one at next))
+at_front (x ∷ lines) zero line rest h =
+    (let k : x ∷ lines ≡ line ∷ rest = h in cc, let k : x ∷ lines ≡ line ∷ rest = h in cc)
+at_front (x ∷ lines) (suc n) line rest h =
+    let (at, next) = at_front lines n line rest h in (at, rw add-one (rw add-one at next))
 
-caught_from : {X : Type 0} (given : ℕ → LineValue → Option X) (name : List ℕ) (all : List LineValue) (walk : Walk) (place : ℕ) (lines : List LineValue) → Stands name all place walk → drop place all ≡ lines
-    → filter_map (λ (p : ℕ × LineValue). cond (is_captured name all p.0) (given p.0 p.1) None) (enumerate_from place lines) ≡ caught given name walk place lines
-caught_from given name all walk place [] stands left = refl
-caught_from given name all walk place (line ∷ lines) stands left =
+-- the line at a place, marked by a test of places
+abbrev by_test : (ℕ → Bool) → ℕ × LineValue → Mark
+by_test test p = record { number = p.0 + 1; captured = test p.0; line = p.1 }
+
+marks_are : (name : List ℕ) (all : List LineValue) (walk : Walk) (place : ℕ) (lines : List LineValue)
+    → Stands name all place walk → drop place all ≡ lines
+    → map (by_test (is_captured name all)) (enumerate_from place lines) ≡ marks_from name walk place lines
+marks_are name all walk place [] stands left = refl
+marks_are name all walk place (line ∷ lines) stands left =
     let (at, next) = at_front all place line lines left in
-    let same : is_captured name all place ≡ walk.captured = same_from_decides _ _ (is_captured_decides name all place) stands.captured in
-    rw (same, caught_from given name all (step name walk line) (place + 1) lines (stands_next name all place walk line at stands) next) refl
+    let stands_there = stands_next name all place walk line at stands in
+    rw (stands.captured, marks_are name all (step name walk line) (place + 1) lines stands_there next) refl
+
+-- the walk from the start marks the lines as the definition does
+pub marks_are_walked : (name : List ℕ) (lines : List LineValue)
+    → marks_of name lines ≡ marks_from name (start_of lines) 0 lines
+marks_are_walked name lines = marks_are name lines (start_of lines) 0 lines (stands_first name lines) refl
+
+-- ---- what lines give
+
+-- the rules without their lines are what the captured lines give
+unplaced_next : (number : ℕ) (found : Option Rule) (rest : List PlacedRule) (rules : List Rule) → unplaced rest ≡ rules
+    → unplaced (cons_option (placed number found) rest) ≡ cons_option found rules
+unplaced_next number None rest rules same = same
+unplaced_next number (Some rule) rest rules same = ap (λ (all : List Rule). rule ∷ all) same
+
+unplaced_found : (marks : List Mark) → unplaced (filter_map rule_at marks) ≡ filter_map (in_captured rule_in) marks
+unplaced_found [] = refl
+unplaced_found (mark ∷ marks) =
+    unplaced_next mark.number (in_captured rule_in mark) (filter_map rule_at marks) _ (unplaced_found marks)
+
+pub rules_are : (agent : List ℕ) (lines : List LineValue)
+    → rules_of agent lines ≡ from_captured rule_in (group_name agent lines) lines
+rules_are agent lines = unplaced_found (marks_of (group_name agent lines) lines)
+
+sitemaps_from : (test : ℕ → Bool) (n : ℕ) (lines : List LineValue)
+    → sitemaps_of lines ≡ filter_map sitemap_at (map (by_test test) (enumerate_from n lines))
+sitemaps_from test n [] = refl
+sitemaps_from test n (line ∷ lines) =
+    ap (λ found. cons_option (sitemap_in line) found) (sitemaps_from test (n + 1) lines)
+
+-- the sitemaps of all marked lines are those of the lines
+pub sitemaps_are : (name : List ℕ) (lines : List LineValue)
+    → sitemaps_of lines ≡ filter_map sitemap_at (marks_of name lines)
+sitemaps_are name lines = sitemaps_from (is_captured name lines) 0 lines
+
+-- what the walk finds in the lines that are left
+abbrev pub caught : {X : Type 0} → (LineValue → Option X) → List ℕ → Walk → ℕ → List LineValue → List X
+caught given name walk place lines = filter_map (in_captured given) (marks_from name walk place lines)
 
 -- the walk from the start finds what the captured lines give
-pub caught_all : {X : Type 0} (given : ℕ → LineValue → Option X) (name : List ℕ) (lines : List LineValue) → from_captured given name lines ≡ caught given name (start_of lines) 0 lines
-caught_all given name lines = caught_from given name lines (start_of lines) 0 lines (stands_first name lines) refl
+pub caught_all : {X : Type 0} (given : LineValue → Option X) (name : List ℕ) (lines : List LineValue)
+    → from_captured given name lines ≡ caught given name (start_of lines) 0 lines
+caught_all given name lines = ap (filter_map (in_captured given)) (marks_are_walked name lines)

@@ -1,7 +1,9 @@
 -- Collapsing a pattern.
-use Rattle.std.proofs.Common.{◌≡◌, ◌≢◌, ◌↔◌, ℕ, suc, ◌<◌, Bool, false, ◌==◌, ◌&&◌, inl, inr}
+use Rattle.std.proofs.Common.{◌≡◌, ◌≢◌, ◌↔◌, ℕ, suc, ◌<◌, ◌≤◌, Bool, true, false, eqb, ◌==◌, ◌&&◌, inl, inr}
 use Rattle.std.proofs.Common.{List, [], ◌∷◌, ◌++◌, length, get_or, arith}
 use Rattle.std.proofs.Common.{refl, sym, ap, ◌∙◌, append_assoc, append-nil}
+use Rattle.std.specs.List.{starts_with}
+use Rattle.std.proofs.lemmas.Cmp.{nat_eq_equiv}
 use Rattle.std.proofs.lemmas.Bool.{and_parts, cases_Bool, eq-eqb, eqb-true, ne_eqb}
 use Rattle.texting_robots.specs.Pattern.{MatchesWith, begins_with_star, collapsed, star}
 use Rattle.texting_robots.proofs.PatternLemmas.{behind_byte, star_star}
@@ -60,3 +62,43 @@ collapse_keeps_meaning anchors (b ∷ q) t = elim (cases_Bool ((b == star) && be
       rw (two, eqb-true b star first) (λ m. one.1 (rest.0 m), λ m. rest.1 (one.0 m))
   | inr other ↦ rw other (behind_byte anchors b (collapsed q) q (collapse_keeps_meaning anchors q) t)
 ]
+
+-- ---- how long a collapsed pattern is
+
+pub length_none : (q : List ℕ) → length q ≡ 0 → length (collapsed q) ≡ 0
+unfolding collapsed
+length_none [] none = refl
+length_none (b ∷ q) none = absurd (omega (arith, none))
+
+module _ (b : ℕ) (q : List ℕ) where
+  -- a star before another one
+  pub length_merged : b ≡ star → begins_with_star q ≡ true → length (collapsed (b ∷ q)) ≡ length (collapsed q)
+  unfolding collapsed
+  length_merged is two = rw (eq-eqb b star is, two) refl
+
+  pub length_plain : b ≢ star → length (collapsed (b ∷ q)) ≡ suc (length (collapsed q))
+  unfolding collapsed
+  length_plain plain = rw (ne_eqb b star plain) refl
+
+  pub length_last : begins_with_star q ≡ false → length (collapsed (b ∷ q)) ≡ suc (length (collapsed q))
+  unfolding collapsed
+  length_last one = elim (cases_Bool (b == star)) [
+    | inl is ↦ rw (is, one) refl
+    | inr plain ↦ rw plain refl
+  ]
+
+pub length_within : (q : List ℕ) → length (collapsed q) ≤ length q
+unfolding collapsed
+length_within [] = omega arith
+length_within (b ∷ q) = elim (cases_Bool ((b == star) && begins_with_star q)) [
+  | inl two ↦ rw two (omega (arith, length_within q))
+  | inr other ↦ rw other (omega (arith, length_within q))
+]
+
+and_true : (v : Bool) → (v && true) ≡ v
+and_true true = refl
+and_true false = refl
+
+pub star_starts : (q : List ℕ) → starts_with eqb q (star ∷ []) ≡ begins_with_star q
+star_starts [] = refl
+star_starts (b ∷ q) = and_true (eqb star b) ∙ nat_eq_equiv.symm star b

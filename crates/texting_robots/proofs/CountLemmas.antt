@@ -7,7 +7,8 @@ use Rattle.texting_robots.specs.Computed.Line.{line_of, lines_of}
 use Rattle.texting_robots.specs.Line.{without, without_front}
 use Rattle.texting_robots.proofs.CutLemmas.{pair_of}
 
-ended_at : (body ending : List ℕ) (later : List Pair) → length (before_end (pair_of body ending ∷ later)) ≤ length later + 2
+ended_at : (body ending : List ℕ) (later : List Pair)
+    → length (before_end (pair_of body ending ∷ later)) ≤ length later + 2
 ended_at [] ending later = omega arith
 ended_at (byte ∷ body) ending later = omega arith
 
@@ -20,7 +21,8 @@ body_adds byte [] = omega arith
 body_adds byte (pair ∷ later) = omega arith
 
 byte_adds : (is_lf is_cr : Bool) (byte : ℕ) (text : List ℕ) → length (cut text) ≤ length text
-    → length (if is_lf then pair_of [] (lf ∷ []) ∷ cut text else (if is_cr then before_end (cut text) else before_body byte (cut text))) ≤ length (byte ∷ text)
+    → length (if is_lf then pair_of [] (lf ∷ []) ∷ cut text
+    else (if is_cr then before_end (cut text) else before_body byte (cut text))) ≤ length (byte ∷ text)
 byte_adds true is_cr byte text within = omega (arith, within)
 byte_adds false true byte text within = omega (arith, within, end_adds (cut text))
 byte_adds false false byte text within = omega (arith, within, body_adds byte (cut text))
@@ -30,7 +32,8 @@ unfolding cut
 cut_within [] = omega arith
 cut_within (byte ∷ text) = byte_adds (byte == lf) (byte == cr) byte text (cut_within text)
 
-taken_if : (is : Bool) (first : ℕ) (text : List ℕ) → length (if is then text else first ∷ text) ≤ length (first ∷ text)
+taken_if : (is : Bool) (first : ℕ) (text : List ℕ)
+    → length (if is then text else first ∷ text) ≤ length (first ∷ text)
 taken_if true first text = omega arith
 taken_if false first text = omega arith
 
@@ -39,11 +42,19 @@ without_within byte [] = omega arith
 without_within byte (first ∷ text) = taken_if (first == byte) first text
 
 front_within : (text : List ℕ) → length (without_front text) ≤ length text
-front_within text = omega (arith, without_within 0xEF text, without_within 0xBB (without 0xEF text), without_within 0xBF (without 0xBB (without 0xEF text)))
+front_within text =
+    let one = without 0xEF text in
+    omega (arith, without_within 0xEF text, without_within 0xBB one, without_within 0xBF (without 0xBB one))
 
-pub lines_within : (nul_ends : Bool) (text : List ℕ) → length (lines_of (read_as nul_ends (without_front text))) ≤ length text
+pub lines_within : (nul_ends : Bool) (text : List ℕ)
+    → length (lines_of (read_as nul_ends (without_front text))) ≤ length text
 lines_within nul_ends text =
-    let cuts : length (lines_of (read_as nul_ends (without_front text))) ≤ length (read_as nul_ends (without_front text)) =
-    rw (length-map (cut (read_as nul_ends (without_front text))) (λ pair. line_of pair.body)) (cut_within (read_as nul_ends (without_front text))) in
-    let bytes : length (read_as nul_ends (without_front text)) ≤ length text = rw (length-map (without_front text) (read_byte nul_ends)) (front_within text) in
-    omega (arith, cuts, bytes)
+    let rest = without_front text in
+    let pairs = cut (read_as nul_ends rest) in
+    omega (
+      arith,
+      length-map pairs (λ pair. line_of pair.body),
+      cut_within (read_as nul_ends rest),
+      length-map rest (read_byte nul_ends),
+      front_within text,
+    )

@@ -6,13 +6,13 @@ use Rattle.std.specs.Str.{str_to_ascii_lowercase}
 use Rattle.std.proofs.lemmas.Bool.{cases_Bool, false≢true, false_from_ne_true}
 use Rattle.texting_robots.specs.declared.groups.Walk.{Walk}
 use Rattle.texting_robots.specs.Line.{LineValue, UserAgent, Allow, Disallow, Sitemap, CrawlDelay, Raw, is_agent, is_raw, is_sitemap, delay_in}
-use Rattle.texting_robots.specs.Group.{names, group_name, IsCaptured, from_captured}
-use Rattle.texting_robots.specs.Rules.{Rule, rule_in, sitemap_in, last_of, before_agent, rules_of, delay_for, sitemaps_of}
+use Rattle.texting_robots.specs.Group.{names, group_name, IsCaptured, from_captured, marks_of}
+use Rattle.texting_robots.specs.Rules.{Rule, rule_at, rule_in, sitemap_in, last_or, before_agent, rules_of, delay_for, sitemaps_of, unplaced}
 use Rattle.texting_robots.specs.Pattern.{IsOverlong}
 use Rattle.texting_robots.specs.Verdict.{IsVerdict}
 use Rattle.texting_robots.specs.Computed.Group.{start_of, step}
 use Rattle.texting_robots.specs.Laws.{SameButSitemaps, RawChangesNothing, UncapturedReachesNothing, SitemapsChangeNothingElse, AgentCase, IsSameKind}
-use Rattle.texting_robots.proofs.CapturedLemmas.{Stands, stands_first, stands_next, caught, caught_all, at_front}
+use Rattle.texting_robots.proofs.CapturedLemmas.{Stands, is_captured_decides, stands_first, stands_next, caught, caught_all, at_front, rules_are}
 
 along : {X : Type 0} (P : X → Type 0) (x y : X) → x ≡ y → P x ↔ P y
 along P x y e = (subst P e, subst P (sym e))
@@ -59,7 +59,7 @@ found_kept given keep drops (line ∷ lines) =
     ]
 
 caught_kept : {X : Type 0} (given : LineValue → Option X) (keep : LineValue → Bool) (name : List ℕ) → DropsNeutral keep → ((line : LineValue) → keep line ≡ false → given line ≡ None)
-    → (walk : Walk) (p q : ℕ) (lines : List LineValue) → caught (λ place line. given line) name walk p lines ≡ caught (λ place line. given line) name walk q (filter keep lines)
+    → (walk : Walk) (p q : ℕ) (lines : List LineValue) → caught given name walk p lines ≡ caught given name walk q (filter keep lines)
 caught_kept {X = X} given keep name neutral drops walk p q [] = refl
 caught_kept {X = X} given keep name neutral drops walk p q (line ∷ lines) =
     elim (cases_Bool (keep line)) [
@@ -86,17 +86,19 @@ start_kept : (keep : LineValue → Bool) → DropsNeutral keep → (lines : List
 start_kept keep neutral lines = ap (λ b. let w : Walk = record { captured = not b; named = false } in w) (any_kept is_agent keep (λ line dropped. (neutral line dropped).agent) lines)
 
 captured_kept : {X : Type 0} (given : LineValue → Option X) (agent : List ℕ) (keep : LineValue → Bool) → DropsNeutral keep → ((line : LineValue) → keep line ≡ false → given line ≡ None) → (lines : List LineValue)
-    → from_captured (λ place line. given line) (group_name agent lines) lines ≡ from_captured (λ place line. given line) (group_name agent (filter keep lines)) (filter keep lines)
+    → from_captured given (group_name agent lines) lines ≡ from_captured given (group_name agent (filter keep lines)) (filter keep lines)
 captured_kept given agent keep neutral drops lines =
     let name = group_name agent (filter keep lines) in
-    ap (λ n. from_captured (λ place line. given line) n lines) (name_kept agent keep neutral lines)
-    ∙ caught_all (λ place line. given line) name lines
+    ap (λ n. from_captured given n lines) (name_kept agent keep neutral lines)
+    ∙ caught_all given name lines
     ∙ caught_kept given keep name neutral drops (start_of lines) 0 0 lines
-    ∙ ap (λ w. caught (λ place line. given line) name w 0 (filter keep lines)) (start_kept keep neutral lines)
-    ∙ sym (caught_all (λ place line. given line) name (filter keep lines))
+    ∙ ap (λ w. caught given name w 0 (filter keep lines)) (start_kept keep neutral lines)
+    ∙ sym (caught_all given name (filter keep lines))
 
 rules_kept : (agent : List ℕ) (keep : LineValue → Bool) → DropsNeutral keep → (lines : List LineValue) → rules_of agent lines ≡ rules_of agent (filter keep lines)
-rules_kept agent keep neutral lines = captured_kept rule_in agent keep neutral (λ line dropped. (neutral line dropped).rule) lines
+rules_kept agent keep neutral lines =
+    rules_are agent lines ∙ captured_kept rule_in agent keep neutral (λ line dropped. (neutral line dropped).rule) lines
+    ∙ sym (rules_are agent (filter keep lines))
 
 delay_kept : (agent : List ℕ) (keep : LineValue → Bool) → DropsNeutral keep → (lines : List LineValue) → delay_for agent lines ≡ delay_for agent (filter keep lines)
 delay_kept agent keep neutral lines =
@@ -148,8 +150,8 @@ pub agent_case : AgentCase
 agent_case agent other lines same =
     let name : group_name agent lines ≡ group_name other lines = ap (λ (n : List ℕ). cond (list_any (names n) lines) n (codes "*")) same in (
       same_from agent lines other lines
-          (ap (λ n. from_captured (λ place line. rule_in line) n lines) name)
-          (ap (λ n. option_or (slice_get (from_captured (λ place line. delay_in line) n lines) 0) (cond (list_any is_agent lines) (last_of (filter_map delay_in (before_agent lines))) None)) name),
+          (ap (λ n. unplaced (filter_map rule_at (marks_of n lines))) name)
+          (ap (λ n. option_or (slice_get (from_captured delay_in n lines) 0) (cond (list_any is_agent lines) (last_or None (filter_map delay_in (before_agent lines))) None)) name),
       refl,
     )
 
@@ -205,14 +207,14 @@ before_alike given (first ∷ front) back line other agent same =
     ]
 
 caught_uncaptured : {X : Type 0} (given : LineValue → Option X) (name : List ℕ) (walk : Walk) (p : ℕ) (front back : List LineValue) (line other : LineValue) → IsAlike line other → (walked name walk front).captured ≡ false
-    → caught (λ place l. given l) name walk p (front ++ line ∷ back) ≡ caught (λ place l. given l) name walk p (front ++ other ∷ back)
+    → caught given name walk p (front ++ line ∷ back) ≡ caught given name walk p (front ++ other ∷ back)
 caught_uncaptured given name walk p [] back line other same uncaptured = rw (same.step name walk, uncaptured) refl
 caught_uncaptured given name walk p (first ∷ front) back line other same uncaptured =
     ap (λ xs. cons_option (cond walk.captured (given first) None) xs) (caught_uncaptured given name (step name walk first) (p + 1) front back line other same uncaptured)
 
 captured_uncaptured : {X : Type 0} (given : LineValue → Option X) (agent : List ℕ) (front back : List LineValue) (line other : LineValue) → IsAlike line other
     → ¬ IsCaptured (group_name agent (front ++ line ∷ back)) (front ++ line ∷ back) (length front)
-    → from_captured (λ place l. given l) (group_name agent (front ++ line ∷ back)) (front ++ line ∷ back) ≡ from_captured (λ place l. given l) (group_name agent (front ++ other ∷ back)) (front ++ other ∷ back)
+    → from_captured given (group_name agent (front ++ line ∷ back)) (front ++ line ∷ back) ≡ from_captured given (group_name agent (front ++ other ∷ back)) (front ++ other ∷ back)
 captured_uncaptured given agent front back line other same uncaptured =
     let lines : List LineValue = front ++ line ∷ back in
     let others : List LineValue = front ++ other ∷ back in
@@ -221,18 +223,20 @@ captured_uncaptured given agent front back line other same uncaptured =
     let start_same : start_of lines ≡ start_of others = ap (λ b. let w : Walk = record { captured = not b; named = false } in w) (any_alike is_agent front back line other same.agent) in
     let stands : Stands name lines (0 + length front) (walked name (start_of lines) front) = stands_walked name lines (start_of lines) 0 front (line ∷ back) (stands_first name lines) refl in
     let here : Stands name lines (length front) (walked name (start_of lines) front) = rw (zero-add (length front)) at stands in
-    let fails : (walked name (start_of lines) front).captured ≡ false = false_from_ne_true _ (λ h. uncaptured (here.captured.0 h)) in
-    caught_all (λ place l. given l) name lines
+    let fails : (walked name (start_of lines) front).captured ≡ false = false_from_ne_true _ (λ h. uncaptured ((is_captured_decides _ _ _).0 (here.captured ∙ h))) in
+    caught_all given name lines
     ∙ caught_uncaptured given name (start_of lines) 0 front back line other same fails
-    ∙ ap (λ w. caught (λ place l. given l) name w 0 others) start_same
-    ∙ sym (caught_all (λ place l. given l) name others)
-    ∙ ap (λ n. from_captured (λ place l. given l) n others) names_same
+    ∙ ap (λ w. caught given name w 0 others) start_same
+    ∙ sym (caught_all given name others)
+    ∙ ap (λ n. from_captured given n others) names_same
 
 pub uncaptured_reaches_nothing : UncapturedReachesNothing
 uncaptured_reaches_nothing agent front back line other kind uncaptured =
     let same : IsAlike line other = alike line other kind in (
       same_from agent (front ++ line ∷ back) agent (front ++ other ∷ back)
-          (captured_uncaptured rule_in agent front back line other same uncaptured)
+          (rules_are agent (front ++ line ∷ back)
+          ∙ captured_uncaptured rule_in agent front back line other same uncaptured
+          ∙ sym (rules_are agent (front ++ other ∷ back)))
           (rw (captured_uncaptured delay_in agent front back line other same uncaptured, before_alike delay_in front back line other same.agent same.delay, any_alike is_agent front back line other same.agent) refl),
       found_alike sitemap_in front back line other same.sitemap,
     )

@@ -9,6 +9,7 @@ pub mod DelayGrammar
 pub mod DelayNumbers
 pub mod DelayLemmas
 pub mod LineLemmas
+pub mod CountLemmas
 pub mod NameLemmas
 pub mod CapturedLemmas
 pub mod RulesLemmas
@@ -21,6 +22,7 @@ pub mod PlacingLemmas
 pub mod BorderLemmas
 pub mod CollapseLemmas
 pub mod OrderLemmas
-pub mod LongestLemmas
+pub mod SortLemmas
+pub mod SharingLemmas
+pub mod FirstLemmas
 pub mod VerdictLemmas
-pub mod CountLemmas

@@ -11,10 +11,10 @@ use Rattle.std.proofs.lemmas.Cmp.{back_total, nat_cmp_total, nat_list_cmp_total,
 use Rattle.texting_robots.specs.Laws.{OrderAgrees}
 use Rattle.texting_robots.specs.Order.{IsSmaller, IsBefore, pattern_cmp}
 
-below : (x y : ℕ) → x < y → nat_cmp x y ≡ Less
+pub below : (x y : ℕ) → x < y → nat_cmp x y ≡ Less
 below x y h = rw (lt-ltb x y h) refl
 
-alike : (x : ℕ) → nat_cmp x x ≡ Equal
+pub alike : (x : ℕ) → nat_cmp x x ≡ Equal
 alike x = let lt : nat_lt x x ≡ false = grind (arith, nat_tests) in let eq : (x == x) ≡ true = grind (arith, nat_tests) in rw (lt, eq) refl
 
 above : (x y : ℕ) → y < x → nat_cmp x y ≡ Greater

@@ -13,7 +13,7 @@ use Rattle.texting_robots.specs.declared.pieces.Ending.TheVariants.{Open, Closed
 use Rattle.texting_robots.specs.declared.pieces.Piece.{Piece}
 use Rattle.texting_robots.specs.declared.pieces.Span.{Span}
 use Rattle.texting_robots.specs.Computed.Border.{IsTable}
-use Rattle.texting_robots.specs.Computed.Pieces.{AddsPieces, AreLeft, ArePieces, behind_stars, bytes_of}
+use Rattle.texting_robots.specs.Computed.Pieces.{AddsPieces, AreLeft, ArePieces, behind_stars, part_of}
 use Rattle.texting_robots.specs.Computed.Pieces.{Closes, EndsAs, IsAtMark, IsCutAtMark, IsEnding, IsLeft}
 use Rattle.texting_robots.specs.Computed.Pieces.{IsPiece, IsSpan, Somewhere}
 use Rattle.texting_robots.specs.Computed.Stars.{IsBehindFirst, StandsNowhere}
@@ -104,7 +104,7 @@ between p next rest = record { start = length p - length next; end = length p - 
 
 -- what stands between two ends of the pattern
 spanned : (p next piece rest : List ℕ) → IsSuffix next p → next ≡ piece ++ rest
-    → IsSpan p (between p next rest) × (bytes_of p (between p next rest) ≡ piece)
+    → IsSpan p (between p next rest) × (part_of p (between p next rest) ≡ piece)
 spanned p next piece rest (front, e) f =
     let all = ap length e ∙ length-append front next in
     let more = ap length f ∙ length-append piece rest in
@@ -113,10 +113,10 @@ spanned p next piece rest (front, e) f =
     (record { ordered = omega arith; within = omega arith }, bytes)
 
 -- a table stands in the tables where it was put
-piece_put : (p tables table more : List ℕ) (span : Span) → IsSpan p span → IsTable (bytes_of p span) table
+piece_put : (p tables table more : List ℕ) (span : Span) → IsSpan p span → IsTable (part_of p span) table
     → IsPiece p (tables ++ (table ++ more)) (record { span = span; table = length tables })
 piece_put p tables table more span is_span is_table =
-    let size = length tables + length (bytes_of p span) - length tables in
+    let size = length tables + length (part_of p span) - length tables in
     let long = is_table.long in
     let all = length-append tables (table ++ more) in
     let from_table = length-append table more in
@@ -207,7 +207,7 @@ module _ {p : List ℕ} {first_len : ℕ} {old_pieces pieces : List Piece} {old_
     abbrev span : Span
     span = between p next rest
 
-    is_span : IsSpan p span × (bytes_of p span ≡ piece)
+    is_span : IsSpan p span × (part_of p span ≡ piece)
     is_span = spanned p next piece rest next_in_p is.cut.parts
 
     -- the piece stands before a dollar that closes
@@ -231,7 +231,7 @@ module _ {p : List ℕ} {first_len : ℕ} {old_pieces pieces : List Piece} {old_
               let put : IsPiece p all added =
               rw there (piece_put p upto.tables table tables span within (rw bytes is_table)) in
               let known : All (IsPiece p all) more = rw append_assoc at h.known in
-              let is_left : IsLeft left (bytes_of p span) rest = rw bytes (star_is_left is other) in
+              let is_left : IsLeft left (part_of p span) rest = rw bytes (star_is_left is other) in
               let whole : IsRest p all left (added ∷ more) ending = record {
                 known = All-cons (IsPiece p all) added more put known;
                 is_ending = h.is_ending;

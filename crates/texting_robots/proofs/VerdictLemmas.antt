@@ -1,10 +1,11 @@
 -- The verdict knows members only.
-use Rattle.std.proofs.Common.{◌≡◌, ◌<◌, ◌⊎◌, zero, suc, length, subst, refl, inl, inr, ℕ, Bool, true, false, List, [], ◌∷◌, ◌++◌, ap, sym, IsPermutation, arith}
+use Rattle.std.proofs.Common.{◌≡◌, ◌<◌, ◌⊎◌, zero, suc, length, subst, refl, inl, inr, ℕ, Bool, true, false, List, [], ◌∷◌, ◌++◌, ◌↔◌, Option, Some, None, ap, sym, IsPermutation, arith}
 use Rattle.std.specs.List.{Contains}
 use Rattle.std.proofs.lemmas.Bool.{false≢true}
 use Rattle.std.proofs.lemmas.List.Elements.{Contains-append_left, Contains-append_right, Contains-append_cases, Contains-push_cases}
-use Rattle.std.proofs.lemmas.List.Sorted.{Contains-permutation, IsPermutation-sym}
-use Rattle.texting_robots.specs.Rules.{Rule}
+use Rattle.std.proofs.lemmas.List.Sorted.{Contains-permutation, IsPermutation-map, IsPermutation-sym}
+use Rattle.texting_robots.specs.Decision.{IsDecidingLine, IsLongestMatch}
+use Rattle.texting_robots.specs.Rules.{PlacedRule, Rule, unplaced}
 use Rattle.texting_robots.specs.Verdict.{IsDenied, IsVerdict}
 use Rattle.texting_robots.specs.Laws.{OrderChangesNothing, OneMoreDisallow, OneMoreAllow, LengthIsNotCollapsed}
 
@@ -68,4 +69,50 @@ length_decides deny allow text other denies allows = (
     | inl turned ↦ absurd (allow_isnt deny q turned)
     | inr same ↦ subst (λ (r : Rule). length r.0 < length deny) same longer
   ]),
+)
+
+-- ---- the line that decides
+
+longest_permuted : (rules others : List PlacedRule) (text : List ℕ) (placed : PlacedRule) → IsPermutation rules others
+    → IsLongestMatch rules text placed → IsLongestMatch others text placed
+longest_permuted rules others text placed same is = record {
+  listed = Contains-permutation rules others placed same is.listed;
+  matches = is.matches;
+  longest = λ other listed.
+      is.longest other (Contains-permutation others rules other (IsPermutation-sym rules others same) listed);
+}
+
+pub deciding_permuted : (rules others : List PlacedRule) (text : List ℕ) (line : Option ℕ) → IsPermutation rules others
+    → IsDecidingLine rules text line → IsDecidingLine others text line
+deciding_permuted rules others text None same is = elim is [
+  | inl file ↦ inl file
+  | inr none ↦ inr (λ placed listed.
+      none placed (Contains-permutation others rules placed (IsPermutation-sym rules others same) listed))
+]
+deciding_permuted rules others text (Some line) same (differs, placed, decides, at) =
+    let back = λ (other : PlacedRule). longest_permuted others rules text other (IsPermutation-sym rules others same) in (
+      differs,
+      placed,
+      record {
+        is_longest = longest_permuted rules others text placed same decides.is_longest;
+        allows = λ other is. decides.allows other (back other is);
+        first = λ other is. decides.first other (back other is);
+      },
+      at,
+    )
+
+-- a robot with the rules of a file, in any order, gives the verdicts of the file, by the same lines
+pub same_verdicts : (rules others : List PlacedRule) → IsPermutation rules others → (text : List ℕ) (answer : Bool)
+    → IsVerdict (unplaced others) text answer ↔ IsVerdict (unplaced rules) text answer
+same_verdicts rules others same text answer =
+    let alike = IsPermutation-map (λ (placed : PlacedRule). placed.rule) rules others same in (
+      order_changes_nothing _ _ text answer (IsPermutation-sym (unplaced rules) (unplaced others) alike),
+      order_changes_nothing _ _ text answer alike,
+    )
+
+pub same_lines : (rules others : List PlacedRule) → IsPermutation rules others → (text : List ℕ) (line : Option ℕ)
+    → IsDecidingLine others text line ↔ IsDecidingLine rules text line
+same_lines rules others same text line = (
+  deciding_permuted others rules text line (IsPermutation-sym rules others same),
+  deciding_permuted rules others text line same,
 )

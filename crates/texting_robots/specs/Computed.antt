@@ -9,3 +9,4 @@ pub mod Group
 pub mod Border
 pub mod Stars
 pub mod Pieces
+pub mod Entries

@@ -1,9 +1,10 @@
 -- Which lines are captured for an agent, by their places in a file.
-use Rattle.std.specs.Prelude.{◌⊎◌, ℕ, zero, suc, ◌<◌, nat_lt, Bool, false, not, ◌&&◌, ◌||◌, List, Option, None, IsTrue, codes, slice_get, bytes_eq, if◌then◌else◌}
+use Rattle.std.specs.Prelude.{◌⊎◌, ℕ, zero, suc, ◌+◌, ◌<◌, nat_lt, Bool, false, not, ◌&&◌, ◌||◌, List, Option, None, IsTrue, codes, map, slice_get, bytes_eq, if◌then◌else◌}
 use Rattle.std.specs.List.{list_any, filter_map, enumerate_from}
 use Rattle.std.specs.Option.{option_map_or}
 use Rattle.std.specs.Str.{str_to_ascii_lowercase}
-use Rattle.texting_robots.specs.Line.{LineValue, UserAgent, is_agent, is_group}
+use Rattle.texting_robots.specs.declared.groups.Marked.{Marked}
+use Rattle.texting_robots.specs.Line.{LineValue, UserAgent, by_value, is_agent, is_group}
 
 -- a user-agent line whose value lowers to the name
 abbrev pub names : List ℕ → LineValue → Bool
@@ -44,6 +45,26 @@ is_captured name lines i =
     || some_below (λ j. passes_at (names name) lines j
     && not (some_below (λ l. passes_at is_agent lines l && some_below (λ k. nat_lt j k && passes_at is_group lines k) l) i)) i
 
--- what `given` finds in the captured lines, in order; it is handed a line's place too
-abbrev pub from_captured : {X : Type 0} → (ℕ → LineValue → Option X) → List ℕ → List LineValue → List X
-from_captured given name lines = filter_map (λ p. if is_captured name lines p.0 then given p.0 p.1 else None) (enumerate_from 0 lines)
+-- ---- the lines one by one
+
+-- a line with its number, counted from 1, and whether a group line there is captured
+pub record Mark : Type 0 where
+  pub number : ℕ
+  pub captured : Bool
+  pub line : LineValue
+
+abbrev pub mark_of : Marked → Mark
+mark_of marked = record { number = marked.number; captured = marked.is_captured; line = by_value marked.line }
+
+-- all lines, in order
+abbrev pub marks_of : List ℕ → List LineValue → List Mark
+marks_of name lines =
+    map (λ p. record { number = p.0 + 1; captured = is_captured name lines p.0; line = p.1 }) (enumerate_from 0 lines)
+
+-- what `given` finds in the line, if it is captured
+abbrev pub in_captured : {X : Type 0} → (LineValue → Option X) → Mark → Option X
+in_captured given mark = if mark.captured then given mark.line else None
+
+-- what `given` finds in the captured lines, in order
+abbrev pub from_captured : {X : Type 0} → (LineValue → Option X) → List ℕ → List LineValue → List X
+from_captured given name lines = filter_map (in_captured given) (marks_of name lines)

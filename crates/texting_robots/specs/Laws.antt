@@ -12,7 +12,8 @@ use Rattle.texting_robots.specs.Group.{IsCaptured, group_name, is_captured}
 use Rattle.texting_robots.specs.Line.{Allow, AreFileLinesOf, AreLinesOf, Disallow, HoldRangesOf, LineValue, is_raw, is_sitemap}
 use Rattle.texting_robots.specs.Order.{IsBefore, pattern_cmp}
 use Rattle.texting_robots.specs.Pattern.{Matches, MatchesWith, collapsed}
-use Rattle.texting_robots.specs.Rules.{IsRefused, Rule, delay_for, rules_of, share_of, sitemaps_of}
+use Rattle.texting_robots.specs.Robot.{IsRobotOf, RobotValue}
+use Rattle.texting_robots.specs.Rules.{IsRefused, Rule, delay_for, rules_of, sitemaps_of}
 use Rattle.texting_robots.specs.Statement.{IsStatement}
 use Rattle.texting_robots.specs.Verdict.{IsVerdict}
 
@@ -95,9 +96,11 @@ OneMoreAllow =
 abbrev pub RobotsFileIsAllowed : Type 0
 RobotsFileIsAllowed = (rules : List Rule) → IsVerdict rules (codes "/robots.txt") true
 
--- every agent gets the same sitemaps
+-- the robots of any two agents have the same sitemaps of one file
 abbrev pub SitemapsForAll : Type 0
-SitemapsForAll = (agent other : List ℕ) (lines : List LineValue) → (share_of agent lines).sitemaps ≡ (share_of other lines).sitemaps
+SitemapsForAll =
+    (agent other : List ℕ) (lines : List LineValue) (robot another : RobotValue)
+    → IsRobotOf agent lines robot → IsRobotOf other lines another → robot.sitemaps ≡ another.sitemaps
 
 -- of two patterns exactly one holds: they are equal, the first is before the second, or the second before the first
 pub record OrderAgrees : Type 0 where

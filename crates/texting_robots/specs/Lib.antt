@@ -1,4 +1,5 @@
 pub mod Cut
+pub mod Error
 pub mod Trim
 pub mod Statement
 pub mod Delay
@@ -8,6 +9,7 @@ pub mod Escape
 pub mod Pattern
 pub mod Rules
 pub mod Verdict
+pub mod Decision
 pub mod Order
 pub mod View
 pub mod Robot

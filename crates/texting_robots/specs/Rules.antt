@@ -1,16 +1,25 @@
 -- What an agent gets of a file.
-use Rattle.std.specs.Prelude.{ℕ, Bool, true, false, List, [], ◌∷◌, Option, Some, None, slice_get, Any, if◌then◌else◌}
+use Rattle.std.specs.Prelude.{◌≡◌, ℕ, Bool, true, false, List, [], ◌∷◌, Option, Some, None, slice_get, Any, map, option_map, if◌then◌else◌}
 use Rattle.std.specs.List.{list_any, filter_map}
 use Rattle.std.specs.Option.{option_or}
 use Rattle.std.specs.Str.{is_utf8}
 use Rattle.texting_robots.specs.Line.{LineValue, Allow, Disallow, Sitemap, is_agent, delay_in}
-use Rattle.texting_robots.specs.Group.{group_name, from_captured}
+use Rattle.texting_robots.specs.Group.{Mark, from_captured, group_name, in_captured, marks_of}
 use Rattle.texting_robots.specs.Escape.{escaped}
 use Rattle.texting_robots.specs.Pattern.{IsOverlong}
 
 -- a pattern, and whether it allows
 abbrev pub Rule : Type 0
 Rule = List ℕ × Bool
+
+-- a rule, and the number of its line, counted from 1
+pub record PlacedRule : Type 0 where
+  pub rule : Rule
+  pub line : ℕ
+
+-- the rules without their lines
+abbrev pub unplaced : List PlacedRule → List Rule
+unplaced rules = map (λ (placed : PlacedRule). placed.rule) rules
 
 -- the value, if it is a text
 abbrev pub text_from : List ℕ → Option (List ℕ)
@@ -29,25 +38,51 @@ abbrev pub sitemap_in : LineValue → Option (List ℕ)
 sitemap_in (Sitemap value) = text_from value
 sitemap_in _ = None
 
-abbrev pub last_of : {X : Type 0} → List X → Option X
-last_of [] = None
-last_of (x ∷ []) = Some x
-last_of (x ∷ y ∷ xs) = last_of (y ∷ xs)
+-- the last one, else the one that is handed over
+abbrev pub last_or : {X : Type 0} → Option X → List X → Option X
+last_or other [] = other
+last_or other (x ∷ xs) = last_or (Some x) xs
 
 -- the lines before the first agent line
 abbrev pub before_agent : List LineValue → List LineValue
 before_agent [] = []
 before_agent (line ∷ lines) = if is_agent line then [] else line ∷ before_agent lines
 
+-- the rule, if there is one, with this line
+abbrev pub placed : ℕ → Option Rule → Option PlacedRule
+placed line rule = option_map (λ (r : Rule). record { rule = r; line = line }) rule
+
+-- the rule of a marked line, if it gives one and is captured
+abbrev pub rule_at : Mark → Option PlacedRule
+rule_at mark = placed mark.number (in_captured rule_in mark)
+
+-- the captured rules with their lines, in order
+abbrev pub placed_rules : List ℕ → List LineValue → List PlacedRule
+placed_rules agent lines = filter_map rule_at (marks_of (group_name agent lines) lines)
+
 -- the captured rules, in order
 abbrev pub rules_of : List ℕ → List LineValue → List Rule
-rules_of agent lines = from_captured (λ place line. rule_in line) (group_name agent lines) lines
+rules_of agent lines = unplaced (placed_rules agent lines)
 
--- the first captured delay, else the last one before the first agent line where there is one
+-- the delay of a marked line, if it gives one and is captured
+abbrev pub delay_at : Mark → Option ℕ
+delay_at mark = in_captured delay_in mark
+
+abbrev pub sitemap_at : Mark → Option (List ℕ)
+sitemap_at mark = sitemap_in mark.line
+
+-- the captured delays, in order
+abbrev pub captured_delays : List ℕ → List LineValue → List ℕ
+captured_delays agent lines = from_captured delay_in (group_name agent lines) lines
+
+-- the last delay before the first agent line, if there is such a line
+abbrev pub delay_before_agents : List LineValue → Option ℕ
+delay_before_agents lines =
+    if list_any is_agent lines then last_or None (filter_map delay_in (before_agent lines)) else None
+
+-- the first captured delay, else that before the agents
 abbrev pub delay_for : List ℕ → List LineValue → Option ℕ
-delay_for agent lines =
-    option_or (slice_get (from_captured (λ place line. delay_in line) (group_name agent lines) lines) 0)
-    (if list_any is_agent lines then last_of (filter_map delay_in (before_agent lines)) else None)
+delay_for agent lines = option_or (slice_get (captured_delays agent lines) 0) (delay_before_agents lines)
 
 abbrev pub sitemaps_of : List LineValue → List (List ℕ)
 sitemaps_of lines = filter_map sitemap_in lines
@@ -56,11 +91,6 @@ sitemaps_of lines = filter_map sitemap_in lines
 abbrev pub IsRefused : List ℕ → List LineValue → Type 0
 IsRefused agent lines = Any (λ (rule : Rule). IsOverlong rule.0) (rules_of agent lines)
 
--- all of it
-pub record Share : Type 0 where
-  pub delay : Option ℕ
-  pub sitemaps : List (List ℕ)
-  pub rules : List Rule
-
-abbrev pub share_of : List ℕ → List LineValue → Share
-share_of agent lines = record { delay = delay_for agent lines; sitemaps = sitemaps_of lines; rules = rules_of agent lines }
+-- the agent gets no rule, and no sitemap is listed
+abbrev pub GivesNothing : List ℕ → List LineValue → Type 0
+GivesNothing agent lines = (rules_of agent lines ≡ []) × (sitemaps_of lines ≡ [])

@@ -3,10 +3,13 @@ use Rattle.std.specs.Prelude.{◌≢◌, ℕ, ◌<◌, Bool, true, false, List, 
 use Rattle.texting_robots.specs.Pattern.{Matches}
 use Rattle.texting_robots.specs.Rules.{Rule}
 
+abbrev pub robots_file : List ℕ
+robots_file = codes "/robots.txt"
+
 -- the text isn't the robots file, and some matching Disallow rule is longer than every matching Allow rule
 abbrev pub IsDenied : List Rule → List ℕ → Type 0
 IsDenied rules text =
-    (text ≢ codes "/robots.txt")
+    (text ≢ robots_file)
     × (p : List ℕ) × Contains rules (p, false) × Matches p text
     × ((q : List ℕ) → Contains rules (q, true) → Matches q text → length q < length p)
 

@@ -1,57 +1,68 @@
-//! Which lines of a file are captured for an agent.
-ghost use Rattle.std.specs.Prelude.{◌≡◌, map};
+//! Whose lines are whose: the group of a file that an agent gets, and the file's lines, each marked by it.
+ghost use Rattle.std.specs.Prelude.{◌≡◌, ◌<◌, ◌^◌, length};
+ghost use Rattle.std.specs.Iterator.{YieldsFirstBy, item_count};
 ghost use Rattle.std.specs.List.{list_any};
 ghost use Rattle.std.specs.Str.{str_to_ascii_lowercase};
-ghost use Rattle.texting_robots.specs.Group.{group_name, names};
-ghost use Rattle.texting_robots.specs.Line.{is_agent, by_value};
-ghost use Rattle.texting_robots.specs.Computed.Group.{start_of, step};
+ghost use Rattle.texting_robots.specs.Computed.Group.{step};
+ghost use Rattle.texting_robots.specs.Group.{group_name, mark_of, marks_of};
+ghost use Rattle.texting_robots.specs.Line.{by_value, is_agent};
+ghost use Rattle.texting_robots.specs.Rules.{delay_before_agents};
 
-use crate::parser::Line;
+use crate::parser::{Line, LineIter};
+use std::marker::Model;
 
-/// Whether some line names the agent.
-fn is_named(agent: &[u8], lines: &[Line<'_>]) -> bool
-    ensures { result ≡ list_any
-        (λ line. names (str_to_ascii_lowercase agent.now) (by_value line)) lines.now }
-{
-    lines.iter().any(|line| line.names(agent))
+/// What the first pass over a file finds out for an agent.
+#[derive(Drop)]
+pub(crate) struct Group<'a> {
+    /// The name whose groups the agent gets: its own where a line names it, else a star.
+    name: &'a [u8],
+    /// Whether there is an agent line.
+    has_agents: bool,
+    /// The last delay before the first agent line, where there is one.
+    pub(crate) stray_delay: Option<u64>,
 }
 
-/// Whether there is an agent line.
-fn has_agent(lines: &[Line<'_>]) -> bool
-    ensures { result ≡ list_any (λ line. is_agent (by_value line)) lines.now }
+/// The first pass. It ends at the first line that names the agent.
+#[tactic(auto, using(crate::proofs::RulesLemmas::last_more))]
+pub(crate) fn group_for<'a>(agent: &'a [u8], lines: LineIter<'_>) -> Group<'a>
+    ensures name { str_to_ascii_lowercase result.name.now ≡ group_name agent.now lines.entry }
+    ensures has_agents { result.has_agents ≡ list_any is_agent lines.entry }
+    ensures stray_delay { result.stray_delay ≡ delay_before_agents lines.entry }
 {
-    lines.iter().any(|line| line.is_agent())
-}
-
-/// The name whose groups the agent gets: its own where a line names it, else a star.
-pub(crate) fn name_for<'a>(agent: &'a [u8], lines: &[Line<'_>]) -> &'a [u8]
-    ensures { str_to_ascii_lowercase result.now ≡ group_name agent.now (map by_value lines.now) }
-{
-    if is_named(agent, lines) { agent } else { b"*" }
+    let mut has_agents = false;
+    let mut last = None;
+    for line in lines {
+        if line.names(agent) {
+            return Group {
+                name: agent,
+                has_agents: true,
+                stray_delay: last,
+            };
+        }
+        has_agents = has_agents || line.is_agent();
+        if !has_agents {
+            last = line.delay().or(last);
+        }
+    }
+    Group {
+        name: b"*",
+        has_agents,
+        stray_delay: if has_agents { last } else { None },
+    }
 }
 
 /// Where a walk along the lines stands.
 #[derive(Clone, Copy)]
-pub(crate) struct Walk {
+struct Walk {
     /// A group line here is captured.
-    pub(crate) captured: bool,
+    captured: bool,
     /// The name stood in an agent line since the last group line.
     named: bool,
 }
 
 impl Walk {
-    /// The walk before the first line.
-    pub(crate) fn start(lines: &[Line<'_>]) -> Self
-        ensures { result ≡ start_of (map by_value lines.now) }
-    {
-        Walk {
-            captured: !has_agent(lines),
-            named: false,
-        }
-    }
-
     /// Goes on over a line.
-    pub(crate) fn step(&mut self, name: &[u8], line: Line<'_>)
+    fn step(&mut self, name: &[u8], line: Line<'_>)
         ensures { self.new ≡ step (str_to_ascii_lowercase name.now) self.old (by_value line.entry) }
     {
         match line {
@@ -62,5 +73,75 @@ impl Walk {
             Line::Allow(_) | Line::Disallow(_) | Line::CrawlDelay(_) => self.named = false,
             Line::Sitemap(_) | Line::Raw(_) => {}
         }
+    }
+}
+
+/// A line of a file, numbered and marked.
+#[derive(Drop)]
+pub(crate) struct Marked<'a> {
+    /// Its number, counted from 1 among all lines.
+    pub(crate) number: usize,
+    /// Whether it is captured, if it is a group line.
+    pub(crate) is_captured: bool,
+    /// The line itself.
+    pub(crate) line: Line<'a>,
+}
+
+/// An iterator over the marked lines of a file, which takes no memory.
+#[derive(Drop)]
+pub(crate) struct MarkedLines<'a> {
+    name: &'a [u8],
+    lines: LineIter<'a>,
+    place: usize,
+    walk: Walk,
+}
+
+impl<'a> Model for MarkedLines<'a> {
+    ghost use Rattle.std.specs.Prelude.{List, length, ◌+◌, ◌<◌, ◌^◌};
+    ghost use Rattle.std.specs.Str.{str_to_ascii_lowercase};
+    ghost use Rattle.texting_robots.specs.Group.{Mark};
+    ghost use Rattle.texting_robots.specs.Computed.Group.{marks_from};
+
+    ghost Value = { List Mark };
+
+    ghost view = { λ s. marks_from (str_to_ascii_lowercase s.name.now) s.walk s.place s.lines };
+
+    ghost invariant = { λ s. s.place + length s.lines < 2 ^ 64 };
+}
+
+/// The lines of a file, marked for the group that the first pass found in it.
+pub(crate) fn marked_lines<'a>(group: &Group<'a>, lines: LineIter<'a>) -> MarkedLines<'a>
+    requires agents { group.now.has_agents ≡ list_any is_agent lines }
+    requires count { length lines < 2 ^ 64 }
+    ensures { result ≡ marks_of (str_to_ascii_lowercase group.now.name.now) lines.entry }
+{
+    MarkedLines {
+        name: group.name,
+        lines,
+        place: 0,
+        walk: Walk {
+            captured: !group.has_agents,
+            named: false,
+        },
+    }
+}
+
+impl<'a> Iterator for MarkedLines<'a> {
+    type Item = Marked<'a>;
+
+    ghost next_gives = { YieldsFirstBy mark_of (λ s. s) };
+
+    ghost remaining = { item_count (λ s. s) };
+
+    fn next(&mut self) -> Option<Marked<'a>> {
+        let line = self.lines.next()?;
+        self.place += 1;
+        let marked = Marked {
+            number: self.place,
+            is_captured: self.walk.captured,
+            line,
+        };
+        self.walk.step(self.name, line);
+        Some(marked)
     }
 }

@@ -7,6 +7,7 @@
 #![tactic(auto)]
 
 pub mod address;
+mod decision;
 mod error;
 mod escape;
 mod groups;
@@ -14,11 +15,11 @@ pub mod laws;
 pub mod minregex;
 pub mod parser;
 mod pieces;
+mod reading;
 pub mod robot;
 mod rules;
-mod verdict;
 pub mod view;
 
 pub use address::get_robots_url;
 pub use error::Error;
-pub use robot::Robot;
+pub use robot::{Decision, Robot};

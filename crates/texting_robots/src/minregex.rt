@@ -6,22 +6,22 @@ ghost use Rattle.std.specs.Cmp.Rules.{comparing};
 ghost use Rattle.std.specs.Ordering.{as_partial_cmp, on};
 ghost use Rattle.std.proofs.Common.{rules};
 ghost use Rattle.texting_robots.specs.Computed.Stars.{IsBehindFirst, IsCutAtStar, StandsNowhere};
+ghost use Rattle.texting_robots.specs.Error.{IsMemoryOr};
 ghost use Rattle.texting_robots.specs.Order.{IsBefore, pattern_cmp};
 ghost use Rattle.texting_robots.specs.Pattern.{IsOverlong, Matches, MatchesStars, collapsed};
+ghost use Rattle.texting_robots.specs.View.{LooksAtMost};
 
 use crate::error::Error;
-use crate::pieces::{DOLLAR, Ends, Pattern, Piece, STAR, push_pieces};
+use crate::pieces::{Ends, Pattern, Piece, STAR, is_overlong, push_pieces};
 use crate::view::View;
 use memchr::{memchr, memmem};
 use std::alloc::{AllocError, Global};
 use std::cmp::Ordering;
+use std::fmt::{self, Debug, Formatter};
 use std::marker::Model;
 
-/// How many bytes a pattern with `$` may have, each run of stars counted as one.
-const LONGEST_WITH_DOLLAR: usize = 4096;
-
 /// A pattern, ready to be matched. It is compared by its bytes before collapsing: the longer first, then by bytes.
-#[derive(Debug, Drop)]
+#[derive(Drop)]
 pub struct MinRegex {
     pattern: String,
     collapsed_text: String,
@@ -49,13 +49,12 @@ impl MinRegex {
     pub fn new(alloc: Global, pattern: &str) -> Result<Self, Error>
         ensures ok { IfOk result (λ regex. regex ≡ pattern.now) }
         ensures accepted { OnOk result (¬ IsOverlong pattern.now) }
-        ensures refused { IsErrOf result Error.InvalidRule → IsOverlong pattern.now }
-        ensures never_unparsed { IfErr result (λ e. e ≢ Error.InvalidRobots) }
+        ensures refused { IfErr result (IsMemoryOr (IsOverlong pattern.now)) }
     {
-        let collapsed_text = collapse_stars(alloc, pattern)?;
-        if collapsed_text.len() > LONGEST_WITH_DOLLAR && pattern.as_bytes().contains(&DOLLAR) {
+        if is_overlong(pattern.as_bytes()) {
             return Err(Error::InvalidRule);
         }
+        let collapsed_text = collapse_stars(alloc, pattern)?;
         let mut pieces = Vec::new(alloc);
         let mut borders = Vec::new(alloc);
         let ends = push_pieces(pattern.as_bytes(), &mut pieces, &mut borders)?;
@@ -83,20 +82,11 @@ impl MinRegex {
         })
     }
 
-    /// How many bytes the pattern has before collapsing.
-    pub(crate) fn pattern_len(&self) -> usize
-        ensures { result ≡ length self.now }
-    {
-        self.pattern.len()
-    }
-
     /// Whether the pattern matches the view's text, or a beginning of it. It takes no memory, and looks at bytes of the text
     /// at most twice the text's length times.
     pub fn matches_view(&self, view: &mut View<'_>) -> bool
         ensures answer { IsTrue result ↔ Matches self.now view.old.text }
-        ensures text { view.new.text ≡ view.old.text }
-        ensures looks { view.old.looks ≤ view.new.looks }
-        ensures cost { view.new.looks ≤ view.old.looks + 2 * length view.old.text }
+        ensures looks { LooksAtMost view.old view.new (2 * length view.old.text) }
     {
         self.as_pattern().matches(view)
     }
@@ -121,7 +111,7 @@ impl MinRegex {
     }
 
     /// Whether the pattern handed in matches the text, with `$` as an ordinary byte. The object plays no part. It takes no
-    /// memory, and so no tables: its cost may grow with the product of the two lengths.
+    /// memory: each piece between stars is found by `memchr::memmem`, in time that grows in step with the text's length.
     pub fn match_stars(&self, pattern: &[u8], text: &[u8]) -> bool
         ensures { IsTrue result ↔ MatchesStars pattern.now text.now }
     {
@@ -145,6 +135,12 @@ impl MinRegex {
         ensures { result.now ≡ collapsed self.now }
     {
         self.collapsed_text.as_str()
+    }
+}
+
+impl Debug for MinRegex {
+    fn fmt<W: fmt::Write>(&self, f: &mut Formatter<W>) -> fmt::Result {
+        f.debug_tuple("MinRegex").field(&self.pattern).finish()
     }
 }
 

@@ -4,7 +4,7 @@ ghost use Rattle.std.specs.Str.{str_to_ascii_lowercase};
 ghost use Rattle.std.specs.Iterator.{YieldsFirstBy, item_count};
 ghost use Rattle.texting_robots.specs.Computed.Line.{file_lines, line_of, line_with, parsed};
 ghost use Rattle.texting_robots.specs.Group.{names};
-ghost use Rattle.texting_robots.specs.Line.{AreLinesOf, HoldRangesOf, by_value, is_agent, without_front};
+ghost use Rattle.texting_robots.specs.Line.{AreFileLinesOf, AreLinesOf, HoldRangesOf, by_value, delay_in, is_agent, without_front};
 
 mod cut;
 mod delay;
@@ -52,6 +52,16 @@ impl<'a> Line<'a> {
             _ => false,
         }
     }
+
+    /// The delay that it gives.
+    pub(crate) fn delay(&self) -> Option<u64>
+        ensures { result ≡ delay_in (by_value self.now) }
+    {
+        match self {
+            Line::CrawlDelay(delay) => *delay,
+            _ => None,
+        }
+    }
 }
 
 /// An iterator over the lines of a text, which takes no memory.
@@ -95,9 +105,12 @@ pub fn lines<'a>(input: &'a [u8]) -> LineIter<'a>
     }
 }
 
-/// The lines of a file: those of its text with each NUL read as LF.
-fn file_lines<'a>(input: &'a [u8]) -> LineIter<'a>
-    ensures { result ≡ file_lines input.now }
+/// The lines of a file, one after the other: those of its text with each NUL read as LF. It takes no
+/// memory, and there are no more lines than bytes.
+pub fn file_lines<'a>(input: &'a [u8]) -> LineIter<'a>
+    ensures value { result ≡ file_lines input.now }
+    ensures lines { AreFileLinesOf result input.now }
+    ensures count { length result ≤ length input.now }
 {
     LineIter {
         rest: without_front(input),
@@ -175,14 +188,4 @@ pub fn robots_txt_parse<'a>(alloc: Global, input: &'a [u8]) -> Result<Vec<Line<'
     ensures memory { IfErr result (λ e. e ≡ Error.Memory) }
 {
     Ok(collected(alloc, lines(input))?)
-}
-
-/// All lines of a file, in which NUL ends a line as LF does.
-pub(crate) fn all_file_lines<'a>(
-    alloc: Global,
-    input: &'a [u8],
-) -> Result<Vec<Line<'a>>, AllocError>
-    ensures { IfOk result (λ lines. map by_value lines.items ≡ file_lines input.now) }
-{
-    collected(alloc, file_lines(input))
 }

@@ -5,7 +5,8 @@ ghost use Rattle.memchr.specs.Find.{OccursAt};
 ghost use Rattle.texting_robots.specs.Computed.Border.{IsTable};
 ghost use Rattle.texting_robots.specs.Computed.Pieces.{AddsPieces, ArePieces, Closes, EndsAs, IsCutAtMark, IsEnding, is_mark};
 ghost use Rattle.texting_robots.specs.Computed.Stars.{IsBehindFirst, StandsNowhere};
-ghost use Rattle.texting_robots.specs.Pattern.{Matches, star};
+ghost use Rattle.texting_robots.specs.Pattern.{IsOverlong, Matches, collapsed, star};
+ghost use Rattle.texting_robots.specs.View.{LooksAtMost};
 
 use crate::view::View;
 use memchr::memchr2;
@@ -16,13 +17,25 @@ use std::marker::Model;
 pub(crate) const STAR: u8 = b'*';
 
 /// Stands for the end of the text.
-pub(crate) const DOLLAR: u8 = b'$';
+const DOLLAR: u8 = b'$';
 
-/// A range of a pattern's bytes with no star and no dollar.
+/// How many bytes a pattern with `$` may have, each run of stars counted as one.
+const LONGEST_WITH_DOLLAR: usize = 4096;
+
+/// A range of a list.
 #[derive(Clone, Copy, Debug)]
 pub(crate) struct Span {
-    start: usize,
-    end: usize,
+    pub(crate) start: usize,
+    pub(crate) end: usize,
+}
+
+impl Span {
+    /// How many elements it has.
+    pub(crate) fn len(&self) -> usize
+        ensures { result ≡ self.now.end - self.now.start }
+    {
+        self.end.saturating_sub(self.start)
+    }
 }
 
 /// A piece that may stand anywhere behind the one before, and where its table begins.
@@ -94,9 +107,7 @@ impl<'a> Pattern<'a> {
     /// Whether the pattern matches the view's text, or a beginning of it.
     pub(crate) fn matches(&self, view: &mut View<'_>) -> bool
         ensures answer { IsTrue result ↔ Matches self.now view.old.text }
-        ensures text { view.new.text ≡ view.old.text }
-        ensures looks { view.old.looks ≤ view.new.looks }
-        ensures cost { view.new.looks ≤ view.old.looks + 2 * length view.old.text }
+        ensures looks { LooksAtMost view.old view.new (2 * length view.old.text) }
     {
         let first = &self.bytes[..self.ends.first_len];
         if !stands_at(view, 0, first) {
@@ -145,6 +156,32 @@ fn closes(pattern: &[u8]) -> bool
         Some(behind) => only_marks(behind),
         None => false,
     }
+}
+
+/// How many bytes a pattern has, each run of stars counted as one.
+fn collapsed_len(pattern: &[u8]) -> usize
+    ensures { result ≡ length (collapsed pattern.now) }
+{
+    let mut len = 0;
+    let mut rest = pattern;
+    while let Some((byte, after)) = rest.split_first() {
+        if *byte != STAR || !after.starts_with(b"*") {
+            len += 1;
+        }
+        rest = after;
+    }
+    len
+}
+
+/// Whether a pattern holds `$` and is too long for that.
+#[tactic(auto, using(crate::proofs::CollapseLemmas::length_within))]
+pub(crate) fn is_overlong(pattern: &[u8]) -> bool
+    ensures { IsTrue result ↔ IsOverlong pattern.now }
+{
+    if pattern.len() <= LONGEST_WITH_DOLLAR {
+        return false;
+    }
+    pattern.contains(&DOLLAR) && collapsed_len(pattern) > LONGEST_WITH_DOLLAR
 }
 
 /// Adds the table of a piece: for each beginning of it the length of its longest proper border.

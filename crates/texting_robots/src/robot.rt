@@ -1,19 +1,29 @@
 //! What one crawler gets of a robots.txt file.
-ghost use Rattle.std.specs.Prelude.{◌≡◌, ◌≢◌, ◌+◌, ◌*◌, ◌≤◌, ◌↔◌, ℕ, Bool, List, IfErr, IfOk, IsErrOf, IsPermutation, OnOk, length, string_bytes};
+ghost use Rattle.std.specs.Prelude.{◌≡◌, ◌*◌, Contains, IfErr, IfOk, IsOk, length, string_bytes, take};
 ghost use Rattle.texting_robots.specs.Computed.Line.{file_lines};
+ghost use Rattle.texting_robots.specs.Decision.{IsDecidingLine, as_long_as};
+ghost use Rattle.texting_robots.specs.Error.{IsMemoryOr};
+ghost use Rattle.texting_robots.specs.Pattern.{Matches};
 ghost use Rattle.texting_robots.specs.Prepared.{prepared, target_of};
-ghost use Rattle.texting_robots.specs.Rules.{IsRefused, delay_for, rules_of, sitemaps_of};
+ghost use Rattle.texting_robots.specs.Robot.{IsRobotOf};
+ghost use Rattle.texting_robots.specs.Rules.{GivesNothing, IsRefused, PlacedRule, unplaced};
 ghost use Rattle.texting_robots.specs.Verdict.{IsVerdict};
+ghost use Rattle.texting_robots.specs.View.{LooksAtMost};
 
+pub use crate::decision::Decision;
 use crate::error::Error;
 use crate::escape::escaped;
-use crate::parser::all_file_lines;
-use crate::rules::{Rule, delay_for, rules_for, sitemaps_in};
-use crate::verdict::is_allowed;
+use crate::groups::{group_for, marked_lines};
+use crate::parser::file_lines;
+use crate::reading::Reading;
+use crate::rules::Rules;
 use crate::view::View;
 use std::alloc::{AllocError, Global};
 use std::marker::Model;
 use url::{ParseError, Url};
+
+/// How many bytes of a file [`Robot::new`] reads: Google's limit of 500 kibibytes.
+pub const FILE_LIMIT: usize = 512_000;
 
 /// What one crawler gets of a robots.txt file.
 #[derive(Debug, Drop)]
@@ -22,41 +32,65 @@ pub struct Robot {
     pub delay: Option<u64>,
     /// The sitemaps that the file lists, for every crawler, in the file's order.
     pub sitemaps: Vec<String>,
-    rules: Vec<Rule>,
+    rules: Rules,
 }
 
 impl Model for Robot {
     ghost use Rattle.std.specs.Prelude.{map, string_bytes};
-    ghost use Rattle.texting_robots.specs.Robot.{rule_of};
-    ghost use Rattle.texting_robots.specs.Rules.{Share};
+    ghost use Rattle.texting_robots.specs.Robot.{RobotValue};
 
-    ghost Value = { Share };
+    ghost Value = { RobotValue };
 
-    ghost view = { λ r. record { delay = r.delay; sitemaps = map string_bytes r.sitemaps.items; rules = map rule_of r.rules.items } };
+    ghost view = { λ r. record { delay = r.delay; sitemaps = map string_bytes r.sitemaps.items; rules = r.rules } };
 }
 
 impl Robot {
-    /// Reads the file `txt` for the crawler that calls itself `agent`.
+    /// Reads the first [`FILE_LIMIT`] bytes of the file `txt` for the crawler that calls itself `agent`.
     ///
     /// The agent is compared whole with the file's User-Agent lines, ASCII letters in any case; it isn't trimmed. Every
     /// file can be read: lines that are no statement are passed over. `Error::InvalidRule` says that a rule of this
-    /// crawler's holds `$` and has more than 4,096 bytes escaped, each run of stars counted as one.
+    /// crawler's holds `$` and has more than 4,096 bytes escaped, each run of stars counted as one. Memory is taken only for
+    /// rules and sitemaps.
     pub fn new(alloc: Global, agent: &str, txt: &[u8]) -> Result<Self, Error>
-        ensures delay { IfOk result (λ robot. robot.delay ≡ delay_for agent.now (file_lines txt.now)) }
-        ensures sitemaps { IfOk result (λ robot. robot.sitemaps ≡ sitemaps_of (file_lines txt.now)) }
-        ensures rules { IfOk result
-            (λ robot. IsPermutation (rules_of agent.now (file_lines txt.now)) robot.rules) }
-        ensures verdicts { IfOk result (λ robot. (text : List ℕ) (answer : Bool)
-            → IsVerdict robot.rules text answer ↔ IsVerdict (rules_of agent.now (file_lines txt.now)) text answer) }
-        ensures accepted { OnOk result (¬ IsRefused agent.now (file_lines txt.now)) }
-        ensures refused { IsErrOf result Error.InvalidRule → IsRefused agent.now (file_lines txt.now) }
-        ensures never_unparsed { IfErr result (λ e. e ≢ Error.InvalidRobots) }
+        ensures robot { IfOk result (IsRobotOf agent.now (file_lines (take FILE_LIMIT txt.now))) }
+        ensures refused { IfErr result (IsMemoryOr (IsRefused agent.now (file_lines (take FILE_LIMIT txt.now)))) }
+        ensures without_memory { GivesNothing agent.now (file_lines (take FILE_LIMIT txt.now)) → IsOk result }
     {
-        let lines = all_file_lines(alloc, txt)?;
+        Robot::with_limit(alloc, agent, txt, FILE_LIMIT)
+    }
+
+    /// Reads the first `limit` bytes of the file `txt`, or all if there are fewer, as [`Robot::new`] does.
+    ///
+    /// The limit counts the file's bytes as they came, those of a byte order mark too, and may cut a line anywhere: what
+    /// stands before the cut is read as a line.
+    pub fn with_limit(
+        alloc: Global,
+        agent: &str,
+        txt: &[u8],
+        limit: usize,
+    ) -> Result<Self, Error>
+        ensures robot { IfOk result (IsRobotOf agent.now (file_lines (take limit txt.now))) }
+        ensures refused { IfErr result (IsMemoryOr (IsRefused agent.now (file_lines (take limit txt.now)))) }
+        ensures without_memory { GivesNothing agent.now (file_lines (take limit txt.now)) → IsOk result }
+    {
+        Robot::read(alloc, agent, &txt[..limit.min(txt.len())])
+    }
+
+    /// Reads a whole file, in two passes: for the agent's group, and for what the group's lines give.
+    fn read(alloc: Global, agent: &str, txt: &[u8]) -> Result<Self, Error>
+        ensures robot { IfOk result (IsRobotOf agent.now (file_lines txt.now)) }
+        ensures refused { IfErr result (IsMemoryOr (IsRefused agent.now (file_lines txt.now))) }
+        ensures without_memory { GivesNothing agent.now (file_lines txt.now) → IsOk result }
+    {
+        let group = group_for(agent.as_bytes(), file_lines(txt));
+        let mut reading = Reading::new(alloc);
+        for marked in marked_lines(&group, file_lines(txt)) {
+            reading.take(alloc, marked)?;
+        }
         Ok(Robot {
-            delay: delay_for(agent.as_bytes(), &lines),
-            sitemaps: sitemaps_in(alloc, &lines)?,
-            rules: rules_for(alloc, agent.as_bytes(), &lines)?,
+            delay: reading.delay.or(group.stray_delay),
+            sitemaps: reading.sitemaps,
+            rules: Rules::sorted(reading.rules),
         })
     }
 
@@ -79,7 +113,7 @@ impl Robot {
 
     /// Whether the crawler may fetch a URL, or a path by itself.
     pub fn allowed(&self, alloc: Global, url: &str) -> Result<bool, Error>
-        ensures ok { IfOk result (λ answer. IsVerdict self.now.rules (prepared url.now) answer) }
+        ensures ok { IfOk result (λ answer. IsVerdict (unplaced self.now.rules) (prepared url.now) answer) }
         ensures memory { IfErr result (λ e. e ≡ Error.Memory) }
     {
         let text = Robot::prepare_url(alloc, url)?;
@@ -88,20 +122,33 @@ impl Robot {
 
     /// Whether the crawler may fetch what a prepared text stands for. It takes no memory.
     pub fn allowed_prepared(&self, text: &str) -> bool
-        ensures { IsVerdict self.now.rules text.now result }
+        ensures { IsVerdict (unplaced self.now.rules) text.now result }
     {
         self.allowed_view(&mut View::new(text))
     }
 
     /// Whether the crawler may fetch what a view's prepared text stands for. It takes no memory, and looks at bytes of the
-    /// text at most twice the text's length times for each rule.
+    /// text at most twice the text's length times for each rule. Where a rule matches, only the rules count that are at
+    /// least as long.
     pub fn allowed_view(&self, view: &mut View<'_>) -> bool
-        ensures verdict { IsVerdict self.now.rules view.old.text result }
-        ensures text { view.new.text ≡ view.old.text }
-        ensures looks { view.old.looks ≤ view.new.looks }
-        ensures cost { view.new.looks ≤ view.old.looks + 2 * length view.old.text * length self.now.rules }
+        ensures verdict { IsVerdict (unplaced self.now.rules) view.old.text result }
+        ensures looks { LooksAtMost view.old view.new (2 * length view.old.text * length self.now.rules) }
+        ensures tried { (placed : PlacedRule) → Contains self.now.rules placed → Matches placed.rule.0 view.old.text
+            → LooksAtMost view.old view.new (2 * length view.old.text * as_long_as placed self.now.rules) }
     {
-        is_allowed(&self.rules, view)
+        self.decision(view).allowed
+    }
+
+    /// The verdict on what a view's prepared text stands for, and the line that it follows from. It takes no memory, and
+    /// looks at bytes of the text as [`Robot::allowed_view`] does.
+    pub fn decision(&self, view: &mut View<'_>) -> Decision
+        ensures verdict { IsVerdict (unplaced self.now.rules) view.old.text result.allowed }
+        ensures line { IsDecidingLine self.now.rules view.old.text result.line }
+        ensures looks { LooksAtMost view.old view.new (2 * length view.old.text * length self.now.rules) }
+        ensures tried { (placed : PlacedRule) → Contains self.now.rules placed → Matches placed.rule.0 view.old.text
+            → LooksAtMost view.old view.new (2 * length view.old.text * as_long_as placed self.now.rules) }
+    {
+        self.rules.decide(view)
     }
 }
 
@@ -119,4 +166,18 @@ fn target(alloc: Global, url: &Url) -> Result<String, AllocError>
         text.push_str(fragment)?;
     }
     Ok(text)
+}
+
+#[cfg(test)]
+mod tests {
+    use super::*;
+    use std::test::Fail;
+
+    #[test]
+    fn rules_show_as_patterns(rt: HostRuntime) -> Result<(), Fail> {
+        let robot = Robot::new(rt.alloc(), "BobBot", b"Allow: /\nDisallow: /x***y/")?;
+        let shown = format!(in rt.alloc(); "{:?}", robot.rules)?;
+        assert_eq!(rt; shown.as_str(), "[(\"/x***y/\", false, 2), (\"/\", true, 1)]");
+        Ok(())
+    }
 }

@@ -17,9 +17,9 @@ pub struct View<'a> {
 
 impl<'a> Model for View<'a> {
     ghost use Rattle.std.specs.Prelude.{◌≡◌, ℕ, List};
-    ghost use Rattle.texting_robots.specs.View.{Viewed, seen_of};
+    ghost use Rattle.texting_robots.specs.View.{ViewValue, seen_of};
 
-    ghost Value = { Viewed };
+    ghost Value = { ViewValue };
 
     ghost view = { λ v. record { text = v.text.now; looks = v.looks } };
 

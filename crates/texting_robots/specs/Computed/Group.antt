@@ -1,23 +1,24 @@
--- One step of the code's walk along the lines.
-use Rattle.std.specs.Prelude.{ℕ, Bool, false, not, ◌||◌, List, bytes_eq}
+-- The code's walk along the lines.
+use Rattle.std.specs.Prelude.{ℕ, ◌+◌, false, not, ◌&&◌, ◌||◌, List, [], ◌∷◌, if◌then◌else◌}
 use Rattle.std.specs.List.{list_any}
-use Rattle.std.specs.Str.{str_to_ascii_lowercase}
 use Rattle.texting_robots.specs.declared.groups.Walk.{Walk}
-use Rattle.texting_robots.specs.Line.{LineValue, UserAgent, Allow, Disallow, Sitemap, CrawlDelay, Raw, is_agent}
+use Rattle.texting_robots.specs.Group.{Mark, names}
+use Rattle.texting_robots.specs.Line.{LineValue, is_agent, is_group}
 
+-- before the first line
 abbrev pub start_of : List LineValue → Walk
 start_of lines = record { captured = not (list_any is_agent lines); named = false }
 
-abbrev pub group_step : Walk → Walk
-group_step walk = record { captured = walk.captured; named = false }
-
-abbrev pub agent_step : Bool → Walk → Walk
-agent_step names walk = record { captured = walk.named || names; named = walk.named || names }
-
+-- one line further
 abbrev pub step : List ℕ → Walk → LineValue → Walk
-step name walk (UserAgent value) = agent_step (bytes_eq (str_to_ascii_lowercase value) name) walk
-step name walk (Allow value) = group_step walk
-step name walk (Disallow value) = group_step walk
-step name walk (Sitemap value) = walk
-step name walk (CrawlDelay delay) = group_step walk
-step name walk (Raw body) = walk
+step name walk line = record {
+  captured = if is_agent line then names name line || walk.named else walk.captured;
+  named = names name line || (not (is_group line) && walk.named);
+}
+
+-- the lines that are left, marked by the walk
+abbrev pub marks_from : List ℕ → Walk → ℕ → List LineValue → List Mark
+marks_from name walk place [] = []
+marks_from name walk place (line ∷ lines) =
+    record { number = place + 1; captured = walk.captured; line = line }
+    ∷ marks_from name (step name walk line) (place + 1) lines

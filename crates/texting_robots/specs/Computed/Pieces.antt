@@ -35,14 +35,14 @@ pub record Closes (pattern : List ℕ) : Type 0 where
   pub dollar : pattern ≡ dollar ∷ behind
   pub empty : Matches behind []
 
--- the range lies within the pattern
-pub record IsSpan (pattern : List ℕ) (span : Span) : Type 0 where
+-- the range lies within the list
+pub record IsSpan {X : Type 0} (xs : List X) (span : Span) : Type 0 where
   pub ordered : span.start ≤ span.end
-  pub within : span.end ≤ length pattern
+  pub within : span.end ≤ length xs
 
--- its bytes
-abbrev pub bytes_of : List ℕ → Span → List ℕ
-bytes_of pattern span = slice_range pattern span.start span.end
+-- the elements of a range
+abbrev pub part_of : {X : Type 0} → List X → Span → List X
+part_of xs span = slice_range xs span.start span.end
 
 -- the text is the piece, and then what the rest of the pattern matches
 abbrev pub InFront : List ℕ → List ℕ → List ℕ → Type 0
@@ -60,7 +60,7 @@ Grows pattern = (end text : List ℕ) → IsSuffix end text → Matches pattern 
 abbrev pub EndsAs : List ℕ → Ending → List ℕ → Type 0
 EndsAs pattern Open text = Unit {0}
 EndsAs pattern Closed text = text ≡ []
-EndsAs pattern (Last span) text = IsSuffix (bytes_of pattern span) text
+EndsAs pattern (Last span) text = IsSuffix (part_of pattern span) text
 EndsAs pattern Never text = ⊥
 
 -- the range of an ending lies within the pattern
@@ -73,9 +73,9 @@ IsEnding pattern Never = Unit {0}
 -- the table of the piece's bytes stands where the piece says
 pub record IsPiece (pattern borders : List ℕ) (piece : Piece) : Type 0 where
   pub span : IsSpan pattern piece.span
-  pub fits : piece.table + length (bytes_of pattern piece.span) ≤ length borders
-  pub table : IsTable (bytes_of pattern piece.span)
-      (slice_range borders piece.table (piece.table + length (bytes_of pattern piece.span)))
+  pub fits : piece.table + length (part_of pattern piece.span) ≤ length borders
+  pub table : IsTable (part_of pattern piece.span)
+      (slice_range borders piece.table (piece.table + length (part_of pattern piece.span)))
 
 -- what is left of the pattern is the piece, which may stand anywhere, and then the rest
 pub record IsLeft (left piece rest : List ℕ) : Type 0 where
@@ -86,7 +86,7 @@ pub record IsLeft (left piece rest : List ℕ) : Type 0 where
 abbrev pub AreLeft : List ℕ → Ending → List Piece → List ℕ → Type 0
 AreLeft pattern ending [] left = (text : List ℕ) → Matches left text ↔ EndsAs pattern ending text
 AreLeft pattern ending (piece ∷ pieces) left =
-    (rest : List ℕ) × IsLeft left (bytes_of pattern piece.span) rest × AreLeft pattern ending pieces rest
+    (rest : List ℕ) × IsLeft left (part_of pattern piece.span) rest × AreLeft pattern ending pieces rest
 
 -- the pattern is its first piece, these pieces with their tables, and its ending
 pub record ArePieces (pattern : List ℕ) (ends : Ends) (pieces : List Piece) (borders : List ℕ) : Type 0 where

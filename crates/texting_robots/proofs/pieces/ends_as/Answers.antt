@@ -2,7 +2,7 @@ use Rattle.std.proofs.Common.{◌-◌, length, sym, ap, subst, eq-eqb, arith, le
 use Rattle.std.proofs.lemmas.Bool.{eqb-true, leb-true}
 use Rattle.std.proofs.lemmas.List.{drop_all}
 use Rattle.memchr.specs.Find.{OccursAt}
-use Rattle.texting_robots.specs.Computed.Pieces.{bytes_of}
+use Rattle.texting_robots.specs.Computed.Pieces.{part_of}
 use Rattle.texting_robots.proofs.PlacingLemmas.{ends_short, ends_with}
 use Rattle.texting_robots.proofs.pieces.ends_as.Goals as goal
 
@@ -18,7 +18,7 @@ returns-in-Closed-clause-answer c =
 pub returns-then-last-len-clause-answer : goal.returns-then-last-len-clause-answer
 returns-then-last-len-clause-answer c =
     let text = c.args.view.now.text in
-    let last = bytes_of c.args.pattern.now c.in-Last.span in
+    let last = part_of c.args.pattern.now c.in-Last.span in
     let (at_end, ends) = ends_with text last c.args.place (omega arith) in
     let at = ap (λ n. n - length last) c.len-then-last-len.ensures in
     rw c.in-Last.is (
@@ -29,7 +29,7 @@ returns-then-last-len-clause-answer c =
 pub returns-else-last-len-clause-answer : goal.returns-else-last-len-clause-answer
 returns-else-last-len-clause-answer c =
     let text = c.args.view.now.text in
-    let last = bytes_of c.args.pattern.now c.in-Last.span in
+    let last = part_of c.args.pattern.now c.in-Last.span in
     rw c.in-Last.is (
       λ e. absurd (let fits = leb-true (length last) (c.len-in-Last.result - c.args.place) e in omega arith),
       λ i. absurd (let fits = ends_short text last c.args.place c.requires.place i in omega arith),

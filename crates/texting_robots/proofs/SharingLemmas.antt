@@ -1,0 +1,101 @@
+-- What stands in shared vectors stays there when more is added.
+use Rattle.std.proofs.Common.{◌≡◌, ℕ, ◌-◌, List, [], ◌∷◌, ◌++◌, All, length, drop, map, take, refl, sym, ap, ◌∙◌, arith}
+use Rattle.std.proofs.lemmas.List.{drop-append-le, drop_at, length-append, length-drop, map_push, take-append-le, take_all}
+use Rattle.std.proofs.lemmas.List.Elements.{All-head, All-push, All-tail, All-weaker}
+use Rattle.texting_robots.specs.declared.pieces.Piece.{Piece}
+use Rattle.texting_robots.specs.declared.pieces.Span.{Span}
+use Rattle.texting_robots.specs.declared.rules.Entry.{Entry}
+use Rattle.texting_robots.specs.Computed.Entries.{IsEntry, placed_at}
+use Rattle.texting_robots.specs.Computed.Pieces.{ArePieces, IsSpan, part_of}
+
+-- the range of what was added
+pub record IsNew {X : Type 0} (old new : List X) (span : Span) : Type 0 where
+  pub start : span.start ≡ length old
+  pub end : span.end ≡ length new
+
+module _ {X : Type 0} (xs more : List X) (span : Span) where
+  part_kept : IsSpan xs span → part_of (xs ++ more) span ≡ part_of xs span
+  part_kept h =
+      let ordered = h.ordered in
+      let within = h.within in
+      let left = length-drop span.start xs in
+      ap (take (span.end - span.start)) (drop-append-le span.start xs more (omega arith))
+      ∙ take-append-le (span.end - span.start) (drop span.start xs) more (omega arith)
+
+  span_kept : IsSpan xs span → IsSpan (xs ++ more) span
+  span_kept h =
+      let sizes = length-append xs more in
+      let within = h.within in
+      record { ordered = h.ordered; within = omega arith }
+
+  pub part_new : IsNew xs (xs ++ more) span → part_of (xs ++ more) span ≡ more
+  part_new h =
+      let sizes = length-append xs more in
+      let start = h.start in
+      let end = h.end in
+      ap (take (span.end - span.start)) (drop_at xs more span.start (sym start))
+      ∙ take_all (span.end - span.start) more (omega arith)
+
+  span_new : IsNew xs (xs ++ more) span → IsSpan (xs ++ more) span
+  span_new h =
+      let sizes = length-append xs more in
+      let start = h.start in
+      let end = h.end in
+      record { ordered = omega arith; within = omega arith }
+
+module _ (text more_text : List ℕ) (pieces more_pieces : List Piece) (borders more_borders : List ℕ) where
+  abbrev IsOld : Entry → Type 0
+  IsOld = IsEntry text pieces borders
+
+  abbrev IsNow : Entry → Type 0
+  IsNow = IsEntry (text ++ more_text) (pieces ++ more_pieces) (borders ++ more_borders)
+
+  entry_kept : (entry : Entry) → IsOld entry → IsNow entry
+  entry_kept entry h =
+      let one = part_kept text more_text entry.pattern h.pattern in
+      let two = part_kept pieces more_pieces entry.pieces h.searched in
+      let three = part_kept borders more_borders entry.borders h.tables in
+      record {
+        pattern = span_kept text more_text entry.pattern h.pattern;
+        searched = span_kept pieces more_pieces entry.pieces h.searched;
+        tables = span_kept borders more_borders entry.borders h.tables;
+        is_cut = rw (one, two, three) h.is_cut;
+      }
+
+  module _ (entry : Entry) (pattern : IsNew text (text ++ more_text) entry.pattern)
+      (searched : IsNew pieces (pieces ++ more_pieces) entry.pieces)
+      (tables : IsNew borders (borders ++ more_borders) entry.borders)
+      (is_cut : ArePieces more_text entry.ends more_pieces more_borders) where
+    entry_new : IsNow entry
+    entry_new =
+        let one = part_new text more_text entry.pattern pattern in
+        let two = part_new pieces more_pieces entry.pieces searched in
+        let three = part_new borders more_borders entry.borders tables in
+        record {
+          pattern = span_new text more_text entry.pattern pattern;
+          searched = span_new pieces more_pieces entry.pieces searched;
+          tables = span_new borders more_borders entry.borders tables;
+          is_cut = rw (one, two, three) is_cut;
+        }
+
+    pub entries_pushed : (entries : List Entry) → All IsOld entries → All IsNow (entries ++ entry ∷ [])
+    entries_pushed entries known =
+        All-push IsNow entries entry (All-weaker IsOld IsNow entry_kept entries known) entry_new
+
+module _ (text more : List ℕ) (pieces : List Piece) (borders : List ℕ) where
+  rules_kept : (entries : List Entry) → All (IsEntry text pieces borders) entries
+      → map (placed_at (text ++ more)) entries ≡ map (placed_at text) entries
+  rules_kept [] known = refl
+  rules_kept (entry ∷ entries) known =
+      let own = All-head (IsEntry text pieces borders) entry entries known in
+      let one = part_kept text more entry.pattern own.pattern in
+      let rest = rules_kept entries (All-tail (IsEntry text pieces borders) entry entries known) in
+      rw (one, rest) refl
+
+  pub rules_pushed : (entries : List Entry) (entry : Entry) → All (IsEntry text pieces borders) entries
+      → IsNew text (text ++ more) entry.pattern
+      → map (placed_at (text ++ more)) (entries ++ entry ∷ [])
+      ≡ map (placed_at text) entries ++ record { rule = (more, entry.is_allow); line = entry.line } ∷ []
+  rules_pushed entries entry known pattern =
+      let pushed = map_push (placed_at (text ++ more)) entries entry in
+      rw (pushed, rules_kept entries known, part_new text more entry.pattern pattern) refl

@@ -1,0 +1,17 @@
+use Rattle.std.proofs.Common.{◌≡◌, ◌||◌, cond}
+use Rattle.std.specs.List.{list_any}
+use Rattle.std.specs.Str.{str_to_ascii_lowercase}
+use Rattle.texting_robots.specs.Group.{names}
+use Rattle.texting_robots.specs.Line.{is_agent}
+use Rattle.texting_robots.specs.Rules.{delay_before_agents}
+use Rattle.texting_robots.proofs.RulesLemmas.{stray_from}
+use Rattle.texting_robots.proofs.groups.group_for.Given as goal
+
+abbrev pub invariant-loop-line : goal.invariant-loop-line
+invariant-loop-line l =
+    let is_its = names (str_to_ascii_lowercase l.agent) in
+    record {
+      named : list_any is_its l.line-iterator ≡ list_any is_its l.fn.lines;
+      agents : (l.has_agents || list_any is_agent l.line-iterator) ≡ list_any is_agent l.fn.lines;
+      stray : cond l.has_agents l.last (stray_from l.last l.line-iterator) ≡ delay_before_agents l.fn.lines;
+    }

@@ -1,0 +1,13 @@
+use Rattle.std.proofs.Common.{true, rules}
+use Rattle.texting_robots.proofs.CountLemmas.{lines_within}
+use Rattle.texting_robots.proofs.LineLemmas.{lines_are}
+use Rattle.texting_robots.proofs.parser.file_lines.Goals as goal
+
+pub returns-clause-value : goal.returns-clause-value
+returns-clause-value c = search rules
+
+pub returns-clause-lines : goal.returns-clause-lines
+returns-clause-lines c = lines_are _ _ (returns-clause-value c)
+
+pub returns-clause-count : goal.returns-clause-count
+returns-clause-count c = rw c.without_front.ensures (lines_within true c.args.input.now)

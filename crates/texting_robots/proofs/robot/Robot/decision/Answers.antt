@@ -1,0 +1,10 @@
+use Rattle.std.proofs.Common.{List, subst, ap}
+use Rattle.texting_robots.specs.Robot.{RobotValue}
+use Rattle.texting_robots.specs.Rules.{PlacedRule, unplaced}
+use Rattle.texting_robots.specs.Verdict.{IsVerdict}
+use Rattle.texting_robots.proofs.robot.Robot.decision.Goals as goal
+
+pub returns-clause-verdict : goal.returns-clause-verdict
+returns-clause-verdict c =
+    subst (λ (rules : List PlacedRule). IsVerdict (unplaced rules) c.args.view.now.text c.decide.result.allowed)
+    (ap (λ (robot : RobotValue). robot.rules) c.self.view_is) c.decide.ensures.verdict

@@ -1,0 +1,82 @@
+use Rattle.std.proofs.Common.{◌≡◌, List, IsPermutation, ap, arith, refl, subst, sym, ◌∙◌}
+use Rattle.std.specs.Option.{option_or}
+use Rattle.std.proofs.lemmas.List.{append-nil}
+use Rattle.std.proofs.lemmas.Bool.{false≢true}
+use Rattle.texting_robots.specs.Computed.Line.{file_lines}
+use Rattle.texting_robots.specs.Group.{group_name, marks_of}
+use Rattle.texting_robots.specs.Pattern.{IsOverlong}
+use Rattle.texting_robots.specs.Rules.{PlacedRule, Rule, delay_at, delay_before_agents, rule_at, sitemap_at, unplaced}
+use Rattle.texting_robots.proofs.CapturedLemmas.{sitemaps_are}
+use Rattle.texting_robots.proofs.RulesLemmas.{all_added, any_unplaced, first_more, given_any, given_more, given_none}
+use Rattle.texting_robots.proofs.RulesLemmas.{no_rules, none_unplaced, option_or_none, passed_on, refused_wider}
+use Rattle.texting_robots.proofs.VerdictLemmas.{same_lines, same_verdicts}
+use Rattle.texting_robots.proofs.robot.Robot.read.Goals as goal
+
+pub loop-marked-preserved : goal.loop-marked-preserved
+loop-marked-preserved c =
+    let next = c.in-Some.ensures.steps in
+    let added = c.in_ok-take.ensures in
+    let so_far = c.loop-marked.invariant in
+    record {
+      known = added.known;
+      rules = given_more rule_at _ _ _ _ _ _ next added.rules so_far.rules;
+      sitemaps = given_more sitemap_at _ _ _ _ _ _ next added.sitemaps so_far.sitemaps;
+      delay = first_more delay_at _ _ _ _ _ _ next added.delay so_far.delay;
+      accepted = all_added (λ (placed : PlacedRule). ¬ IsOverlong placed.rule.0) _ _ _
+          added.rules added.accepted so_far.accepted;
+    }
+
+pub loop-marked-init : goal.loop-marked-init
+loop-marked-init c =
+    let lines = file_lines c.args.txt.now in
+    let name = group_name c.args.agent.now lines in
+    let group_is =
+    rw (c.file_lines.ensures.value, c.as_bytes.ensures.value) at c.group_for-group.ensures.name in
+    let marks : c.into_iter-marked-iterator.result ≡ marks_of name lines
+    = c.into_iter-marked-iterator.ensures.into_iter_gives
+    ∙ (rw (group_is, c.file_lines-2.ensures.value) at c.marked_lines-marked-items.ensures) in
+    let empty = c.new-reading.ensures in
+    rw (empty.rules, empty.sitemaps, empty.delay, marks) (record {
+      known = empty.known;
+      rules = refl;
+      sitemaps = sym (sitemaps_are name lines);
+      delay = refl;
+      accepted = λ k d below. absurd (omega arith);
+    })
+
+pub returns-in_err-take-clause-refused : goal.returns-in_err-take-clause-refused
+returns-in_err-take-clause-refused c =
+    let overlong = λ (placed : PlacedRule). IsOverlong placed.rule.0 in
+    passed_on _ c.from_residual.result c.in_err-take.field-0.0 c.from_residual.ensures.1
+    (refused_wider _ _ _ (λ here. any_unplaced (λ (rule : Rule). IsOverlong rule.0) _
+    (given_any overlong rule_at _ _ _ _ _ c.in-Some.ensures.steps here c.loop-marked.invariant.rules))
+    c.in_err-take.ensures.refused)
+
+-- a line that takes memory gives a rule or a sitemap
+pub returns-in_err-take-clause-without_memory : goal.returns-in_err-take-clause-without_memory
+returns-in_err-take-clause-without_memory c = λ (rules, sitemaps).
+    let next = c.in-Some.ensures.steps in
+    let so_far = c.loop-marked.invariant in
+    absurd (false≢true (c.in_err-take.ensures.unasked
+    (given_none rule_at _ _ _ _ next (so_far.rules ∙ no_rules _ rules))
+    (given_none sitemap_at _ _ _ _ next (so_far.sitemaps ∙ sitemaps))))
+
+pub returns-clause-robot : goal.returns-clause-robot
+returns-clause-robot c =
+    let lines = file_lines c.args.txt.now in
+    let (end, gone) = c.in-None.ensures.steps in
+    let so_far = c.loop-marked.invariant in
+    let rules = rw (end, append-nil) at so_far.rules in
+    let sorted = subst (λ (all : List PlacedRule). IsPermutation all c.sorted.result) rules c.sorted.ensures in
+    let first = rw end at so_far.delay in
+    let stray = rw c.file_lines.ensures.value at c.group_for-group.ensures.stray_delay in
+    let none = none_unplaced (λ (rule : Rule). IsOverlong rule.0) _ so_far.accepted in
+    record {
+      delay = c.or.ensures ∙ ap (λ last. option_or c.loop-marked.reading.delay last) stray
+          ∙ ap (λ delay. option_or delay (delay_before_agents lines)) (sym (option_or_none _) ∙ first);
+      sitemaps = rw (end, append-nil) at so_far.sitemaps;
+      rules = sorted;
+      verdicts = same_verdicts _ _ sorted;
+      deciding = same_lines _ _ sorted;
+      accepted = rw rules at none;
+    }

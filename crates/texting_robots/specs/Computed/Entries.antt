@@ -1,0 +1,80 @@
+-- Rules by their ranges of shared vectors.
+use Rattle.std.specs.Prelude.{◌≡◌, ℕ, ◌-◌, ◌<◌, ◌≤◌, Bool, true, false, List, All, length, map, slice_range, slice_index_or, string_bytes}
+use Rattle.std.specs.Ordering.{bool_cmp, flip_args, nat_cmp, on, then_cmp}
+use Rattle.std.specs.declared.cmp.Ordering.{Ordering}
+use Rattle.texting_robots.specs.declared.pieces.Span.{Span}
+use Rattle.texting_robots.specs.declared.pieces.Piece.{Piece}
+use Rattle.texting_robots.specs.declared.pieces.Ending.TheVariants.{Open}
+use Rattle.texting_robots.specs.declared.rules.Entry.{Entry}
+use Rattle.texting_robots.specs.declared.rules.Gathered.{Gathered}
+use Rattle.texting_robots.specs.Computed.Pieces.{ArePieces, IsSpan, part_of}
+use Rattle.texting_robots.specs.Pattern.{Matches}
+use Rattle.texting_robots.specs.Rules.{PlacedRule}
+
+-- the ranges hold a pattern, its pieces and their tables
+pub record IsEntry (text : List ℕ) (pieces : List Piece) (borders : List ℕ) (entry : Entry) : Type 0 where
+  pub pattern : IsSpan text entry.pattern
+  pub searched : IsSpan pieces entry.pieces
+  pub tables : IsSpan borders entry.borders
+  pub is_cut : ArePieces (part_of text entry.pattern) entry.ends (part_of pieces entry.pieces)
+      (part_of borders entry.borders)
+
+abbrev pub AreEntries : Gathered → Type 0
+AreEntries all = All (IsEntry (string_bytes all.text) all.pieces.items all.borders.items) all.entries.items
+
+-- the pattern, whether it allows, and its line
+abbrev pub placed_at : List ℕ → Entry → PlacedRule
+placed_at text entry = record { rule = (part_of text entry.pattern, entry.is_allow); line = entry.line }
+
+abbrev pub rules_in : Gathered → List PlacedRule
+rules_in all = map (placed_at (string_bytes all.text)) all.entries.items
+
+-- ---- the order
+
+-- how many bytes the pattern has
+abbrev pub len_of : Entry → ℕ
+len_of entry = entry.pattern.end - entry.pattern.start
+
+abbrev pub allows : Entry → Bool
+allows entry = entry.is_allow
+
+abbrev pub line_of : Entry → ℕ
+line_of entry = entry.line
+
+-- which of two is asked first
+abbrev pub entry_cmp : Entry → Entry → Ordering
+entry_cmp = then_cmp (then_cmp (flip_args (on len_of nat_cmp)) (flip_args (on allows bool_cmp))) (on line_of nat_cmp)
+
+-- the longer goes first, of two as long an Allow before a Disallow, and then the earlier line
+pub record GoesBefore (first second : Entry) : Type 0 where
+  pub longer : len_of second ≤ len_of first
+  pub allows : len_of second ≡ len_of first → second.is_allow ≡ true → first.is_allow ≡ true
+  pub earlier : len_of second ≡ len_of first → second.is_allow ≡ first.is_allow → first.line ≤ second.line
+
+-- ---- which rule matches first
+
+-- stands for an entry where there is none
+abbrev pub no_entry : Entry
+no_entry =
+    let none : Span = record { start = 0; end = 0 } in
+    record {
+      pattern = none;
+      pieces = none;
+      borders = none;
+      ends = record { first_len = 0; ending = Open };
+      is_allow = false;
+      line = 0;
+    }
+
+-- the rule at this place matches the text
+abbrev pub MatchesAt : Gathered → ℕ → List ℕ → Type 0
+MatchesAt all at text =
+    Matches (part_of (string_bytes all.text) (slice_index_or all.entries.items at no_entry).pattern) text
+
+abbrev pub NoneMatches : Gathered → List ℕ → Type 0
+NoneMatches all text = (k : ℕ) → k < length all.entries.items → ¬ MatchesAt all k text
+
+-- the rule at this place matches the text, and none before it does
+abbrev pub IsFirstMatch : Gathered → List ℕ → ℕ → Type 0
+IsFirstMatch all text at =
+    (at < length all.entries.items) × MatchesAt all at text × ((k : ℕ) → k < at → ¬ MatchesAt all k text)

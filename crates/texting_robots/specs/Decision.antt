@@ -1,0 +1,30 @@
+-- Which line decides, and how many rules are asked.
+use Rattle.std.specs.Prelude.{◌≡◌, ◌≢◌, ◌⊎◌, ℕ, ◌≤◌, nat_le, true, List, Option, Some, None, Contains, codes, count_by, length}
+use Rattle.texting_robots.specs.Pattern.{Matches}
+use Rattle.texting_robots.specs.Rules.{PlacedRule}
+use Rattle.texting_robots.specs.Verdict.{robots_file}
+
+-- the rule matches the text, and no rule that matches is longer
+pub record IsLongestMatch (rules : List PlacedRule) (text : List ℕ) (placed : PlacedRule) : Type 0 where
+  pub listed : Contains rules placed
+  pub matches : Matches placed.rule.0 text
+  pub longest : (other : PlacedRule) → Contains rules other → Matches other.rule.0 text
+      → length other.rule.0 ≤ length placed.rule.0
+
+-- it is the first Allow among the longest rules that match, or the first Disallow where no Allow is among them
+pub record Decides (rules : List PlacedRule) (text : List ℕ) (placed : PlacedRule) : Type 0 where
+  pub is_longest : IsLongestMatch rules text placed
+  pub allows : (other : PlacedRule) → IsLongestMatch rules text other → other.rule.1 ≡ true → placed.rule.1 ≡ true
+  pub first : (other : PlacedRule) → IsLongestMatch rules text other → other.rule.1 ≡ placed.rule.1
+      → placed.line ≤ other.line
+
+-- the line of the rule that decides; none decides of the robots file, and where none matches
+abbrev pub IsDecidingLine : List PlacedRule → List ℕ → Option ℕ → Type 0
+IsDecidingLine rules text None =
+    (text ≡ robots_file) ⊎ ((placed : PlacedRule) → Contains rules placed → ¬ Matches placed.rule.0 text)
+IsDecidingLine rules text (Some line) =
+    (text ≢ robots_file) × (placed : PlacedRule) × Decides rules text placed × (placed.line ≡ line)
+
+-- how many of the rules are at least as long as this one
+abbrev pub as_long_as : PlacedRule → List PlacedRule → ℕ
+as_long_as placed rules = count_by (λ (other : PlacedRule). nat_le (length placed.rule.0) (length other.rule.0)) rules

@@ -1,0 +1,106 @@
+//! The second pass over a file: what its marked lines give.
+ghost use Rattle.std.specs.Prelude.{◌≡◌, ◌++◌, [], IfErr, IsOk, None, OnOk, map, string_bytes};
+ghost use Rattle.std.specs.Option.{IfSome, IsSomeAnd, option_or, option_to_list};
+ghost use Rattle.texting_robots.specs.Computed.Entries.{AreEntries, rules_in};
+ghost use Rattle.texting_robots.specs.Error.{IsMemoryOr};
+ghost use Rattle.texting_robots.specs.Group.{mark_of};
+ghost use Rattle.texting_robots.specs.Pattern.{IsOverlong};
+ghost use Rattle.texting_robots.specs.Rules.{delay_at, placed, rule_at, rule_from, sitemap_at, text_from};
+
+use crate::error::Error;
+use crate::groups::Marked;
+use crate::parser::Line;
+use crate::rules::Gathered;
+use std::alloc::{AllocError, Global};
+
+/// What the lines gave so far.
+#[derive(Drop)]
+pub(crate) struct Reading {
+    /// The first captured delay.
+    pub(crate) delay: Option<u64>,
+    /// The sitemaps, in the order of the file.
+    pub(crate) sitemaps: Vec<String>,
+    /// The captured rules.
+    pub(crate) rules: Gathered,
+}
+
+/// Adds the rule that a value gives, if it is a text.
+#[tactic(auto, using(crate::proofs::RulesLemmas::no_text))]
+fn push_rule(
+    rules: &mut Gathered,
+    value: &[u8],
+    is_allow: bool,
+    line: usize,
+) -> Result<(), Error>
+    requires { AreEntries rules.old }
+    ensures known { OnOk result (AreEntries rules.new) }
+    ensures added { OnOk result (rules_in rules.new
+        ≡ rules_in rules.old ++ option_to_list (placed line (rule_from value.now is_allow))) }
+    ensures accepted { OnOk result (IfSome (rule_from value.now is_allow) (λ rule. ¬ IsOverlong rule.0)) }
+    ensures refused { IfErr result (IsMemoryOr
+        (IsSomeAnd (rule_from value.now is_allow) (λ rule. IsOverlong rule.0))) }
+    ensures unasked { rule_from value.now is_allow ≡ None → IsOk result }
+{
+    match std::str::from_utf8(value) {
+        Ok(text) => rules.push(text, is_allow, line),
+        Err(_) => Ok(()),
+    }
+}
+
+/// Adds a value, if it is a text.
+#[tactic(auto, using(crate::proofs::RulesLemmas::no_text))]
+fn push_text(alloc: Global, texts: &mut Vec<String>, value: &[u8]) -> Result<(), AllocError>
+    ensures added { OnOk result (map string_bytes texts.new.items ≡ map string_bytes texts.old.items
+        ++ option_to_list (text_from value.now)) }
+    ensures unasked { text_from value.now ≡ None → IsOk result }
+{
+    let Ok(text) = std::str::from_utf8(value) else {
+        return Ok(());
+    };
+    texts.push(String::from_str(alloc, text)?)?;
+    Ok(())
+}
+
+impl Reading {
+    /// Nothing yet.
+    pub(crate) fn new(alloc: Global) -> Self
+        ensures known { AreEntries result.rules }
+        ensures delay { result.delay ≡ None }
+        ensures sitemaps { map string_bytes result.sitemaps.items ≡ [] }
+        ensures rules { rules_in result.rules ≡ [] }
+    {
+        Reading {
+            delay: None,
+            sitemaps: Vec::new(alloc),
+            rules: Gathered::new(alloc),
+        }
+    }
+
+    /// Adds what a line gives. It takes memory only for a rule or a sitemap.
+    pub(crate) fn take(&mut self, alloc: Global, marked: Marked<'_>) -> Result<(), Error>
+        requires { AreEntries self.old.rules }
+        ensures known { OnOk result (AreEntries self.new.rules) }
+        ensures rules { OnOk result (rules_in self.new.rules
+            ≡ rules_in self.old.rules ++ option_to_list (rule_at (mark_of marked.entry))) }
+        ensures sitemaps { OnOk result (map string_bytes self.new.sitemaps.items
+            ≡ map string_bytes self.old.sitemaps.items ++ option_to_list (sitemap_at (mark_of marked.entry))) }
+        ensures delay { OnOk result (self.new.delay ≡ option_or self.old.delay (delay_at (mark_of marked.entry))) }
+        ensures accepted { OnOk result (IfSome (rule_at (mark_of marked.entry)) (λ placed. ¬ IsOverlong placed.rule.0)) }
+        ensures refused { IfErr result (IsMemoryOr
+            (IsSomeAnd (rule_at (mark_of marked.entry)) (λ placed. IsOverlong placed.rule.0))) }
+        ensures unasked { rule_at (mark_of marked.entry) ≡ None
+            → sitemap_at (mark_of marked.entry) ≡ None → IsOk result }
+    {
+        match marked.line {
+            Line::Sitemap(value) => Ok(push_text(alloc, &mut self.sitemaps, value)?),
+            _ if !marked.is_captured => Ok(()),
+            Line::Allow(value) => push_rule(&mut self.rules, value, true, marked.number),
+            Line::Disallow(value) => push_rule(&mut self.rules, value, false, marked.number),
+            Line::CrawlDelay(delay) => {
+                self.delay = self.delay.or(delay);
+                Ok(())
+            }
+            Line::UserAgent(_) | Line::Raw(_) => Ok(()),
+        }
+    }
+}
