@@ -1,19 +1,21 @@
 -- How a report is made, and that an input has one at most.
-use Rattle.std.proofs.Common.{◌≡◌, ◌≢◌, ℕ, ◌+◌, ◌<◌, length, take, slice_index_or, Bor, Bool, true, false, List, [], ◌∷◌, ◌++◌, Option, Some, None, Result, Ok, Err, IfSome, OnOk, map, sym, refl, ap, subst, ◌∙◌, append_assoc, IsPermutation}
+use Rattle.std.proofs.Common.{◌≡◌, ◌≢◌, ℕ, ◌+◌, ◌<◌, length, take, slice_index_or, Bor, Bool, true, false, List, [], ◌∷◌, ◌++◌, Option, Some, None, Result, Ok, Err, IfSome, OnOk, map, sym, refl, ap, subst, ◌∙◌, append_assoc}
 use Rattle.std.specs.Io.KnownBytes.{Appends}
 use Rattle.std.specs.List.{AllZip}
 use Rattle.std.specs.Result.{IsErrAnd}
 use Rattle.std.proofs.lemmas.List.{append-nil, map-append, take_more}
 use Rattle.std.proofs.lemmas.List.Concat.{flat_map-append}
-use Rattle.std.proofs.lemmas.List.Sorted.{Contains-permutation, IsPermutation-sym}
-use Rattle.texting_robots.specs.Computed.Line.{file_lines}
+use Rattle.texting_robots.specs.Decision.{IsDecidingLine}
+use Rattle.texting_robots.specs.Line.{LineValue}
 use Rattle.texting_robots.specs.Prepared.{prepared}
-use Rattle.texting_robots.specs.Rules.{IsRefused, Rule, delay_for, rules_of, sitemaps_of}
-use Rattle.texting_robots.specs.Verdict.{IsDenied, IsVerdict}
+use Rattle.texting_robots.specs.Robot.{IsRobotOf, RobotValue}
+use Rattle.texting_robots.specs.Rules.{IsRefused, PlacedRule, Rule, delay_for, placed_rules, sitemaps_of, unplaced}
+use Rattle.texting_robots.specs.Verdict.{IsVerdict}
+use Rattle.texting_robots.proofs.VerdictLemmas.{one_line_decides}
 use Rattle.robots_verdict.specs.declared.fault.Fault.{Fault}
 use Rattle.robots_verdict.specs.declared.fault.Fault.TheVariants.{HeaderNotUtf8, InvalidRule, Memory, NoEmptyLine, Read, Write}
 use Rattle.robots_verdict.specs.Input.{AreUtf8, HoldNotUtf8, IsInput, ended, lf}
-use Rattle.robots_verdict.specs.Report.{AppendsBeginning, AppendsReport, AppendsReportBeginning, EachInputHasOneReport, HasFault, IsReport, IsReportText, IsVerdictLine, delay_line, sitemap_line, verdict_line}
+use Rattle.robots_verdict.specs.Report.{AppendsBeginning, AppendsReport, AppendsReportBeginning, EachInputHasOneReport, HasFault, IsReport, IsReportText, IsVerdictLine, delay_line, lines_read, sitemap_line, verdict_line}
 use Rattle.robots_verdict.specs.Steps.{AddsVerdicts}
 use Rattle.robots_verdict.proofs.InputLemmas.{not_both, one_split}
 
@@ -34,13 +36,19 @@ all_zip-append R (x ∷ xs) (y ∷ ys) more others one two = (one.0, all_zip-app
 
 -- ---- verdicts
 
-pub adds_nothing : (rules : List Rule) (text : List ℕ) → AddsVerdicts rules [] text text
+pub adds_nothing : (rules : List PlacedRule) (text : List ℕ) → AddsVerdicts rules [] text text
 adds_nothing rules text = record { lines = []; verdicts = tt; whole = sym (append-nil text) }
 
-pub adds_one : (rules : List Rule) (url old new : List ℕ) (answer : Bool) → IsVerdict rules (prepared url) answer → new ≡ old ++ ended (verdict_line answer url ∷ []) → AddsVerdicts rules (url ∷ []) old new
-adds_one rules url old new answer is whole = record { lines = verdict_line answer url ∷ []; verdicts = ((answer, is, refl), tt); whole = whole }
+pub adds_one : (rules : List PlacedRule) (url old new : List ℕ) (allowed : Bool) (number : Option ℕ)
+    → IsVerdict (unplaced rules) (prepared url) allowed → IsDecidingLine rules (prepared url) number
+    → new ≡ old ++ ended (verdict_line allowed number url ∷ []) → AddsVerdicts rules (url ∷ []) old new
+adds_one rules url old new allowed number verdict deciding whole = record {
+  lines = verdict_line allowed number url ∷ [];
+  verdicts = (record { allowed = allowed; number = number; verdict = verdict; deciding = deciding; whole = refl }, tt);
+  whole = whole;
+}
 
-pub adds_more : (rules : List Rule) (urls others : List (List ℕ)) (old mid new : List ℕ) → AddsVerdicts rules urls old mid → AddsVerdicts rules others mid new → AddsVerdicts rules (urls ++ others) old new
+pub adds_more : (rules : List PlacedRule) (urls others : List (List ℕ)) (old mid new : List ℕ) → AddsVerdicts rules urls old mid → AddsVerdicts rules others mid new → AddsVerdicts rules (urls ++ others) old new
 adds_more rules urls others old mid new one two = record {
   lines = one.lines ++ two.lines;
   verdicts = all_zip-append (IsVerdictLine rules) urls one.lines others two.lines one.verdicts two.verdicts;
@@ -48,49 +56,47 @@ adds_more rules urls others old mid new one two = record {
 }
 
 -- one URL more of a list
-pub adds_at : (rules : List Rule) (urls : List (Bor (List ℕ))) (place : ℕ) (url : Bor (List ℕ)) (old mid new : List ℕ) → place < length urls
+pub adds_at : (rules : List PlacedRule) (urls : List (Bor (List ℕ))) (place : ℕ) (url : Bor (List ℕ)) (old mid new : List ℕ) → place < length urls
     → AddsVerdicts rules (map (λ url. url.now) (take place urls)) old mid → AddsVerdicts rules ((slice_index_or urls place url).now ∷ []) mid new
     → AddsVerdicts rules (map (λ url. url.now) (take (place + 1) urls)) old new
 adds_at rules urls place url old mid new below one two =
     rw (take_more urls place url below, map-append) (adds_more rules (map (λ url. url.now) (take place urls)) ((slice_index_or urls place url).now ∷ []) old mid new one two)
 
-denied_permuted : (rules others : List Rule) (text : List ℕ) → IsPermutation rules others → IsDenied rules text → IsDenied others text
-denied_permuted rules others text same denied = (
-  denied.0,
-  denied.1,
-  Contains-permutation rules others (denied.1, false) same denied.2,
-  denied.3,
-  λ q allows matches. denied.4 q (Contains-permutation others rules (q, true) (IsPermutation-sym rules others same) allows) matches,
-)
-
-verdict_permuted : (rules others : List Rule) (text : List ℕ) (answer : Bool) → IsPermutation rules others → IsVerdict rules text answer → IsVerdict others text answer
-verdict_permuted rules others text true same is = λ denied. is (denied_permuted others rules text (IsPermutation-sym rules others same) denied)
-verdict_permuted rules others text false same is = denied_permuted rules others text same is
-
-lines_permuted : (rules others : List Rule) (urls lines : List (List ℕ)) → IsPermutation rules others → AllZip (IsVerdictLine rules) urls lines → AllZip (IsVerdictLine others) urls lines
-lines_permuted rules others [] [] same are = tt
-lines_permuted rules others [] (line ∷ lines) same are = absurd are
-lines_permuted rules others (url ∷ urls) [] same are = absurd are
-lines_permuted rules others (url ∷ urls) (line ∷ lines) same are = (
-  (are.0.0, verdict_permuted rules others (prepared url) are.0.0 same are.0.1, are.0.2),
-  lines_permuted rules others urls lines same are.1,
+-- a robot's verdicts are those of its file
+lines_like : (agent : List ℕ) (lines : List LineValue) (robot : RobotValue) → IsRobotOf agent lines robot
+    → (urls texts : List (List ℕ)) → AllZip (IsVerdictLine robot.rules) urls texts
+    → AllZip (IsVerdictLine (placed_rules agent lines)) urls texts
+lines_like agent lines robot is [] [] are = tt
+lines_like agent lines robot is [] (text ∷ texts) are = absurd are
+lines_like agent lines robot is (url ∷ urls) [] are = absurd are
+lines_like agent lines robot is (url ∷ urls) (text ∷ texts) (first, later) = (
+  record {
+    allowed = first.allowed;
+    number = first.number;
+    verdict = (is.verdicts (prepared url) first.allowed).0 first.verdict;
+    deciding = (is.deciding (prepared url) first.number).0 first.deciding;
+    whole = first.whole;
+  },
+  lines_like agent lines robot is urls texts later,
 )
 
 -- ---- the report
 
 -- what is written line after line is the text of the report
-pub text_made : (agent : List ℕ) (urls : List (List ℕ)) (file one two text : List ℕ) (rules : List Rule)
-    → IsPermutation (rules_of agent (file_lines file)) rules
-    → one ≡ ended (delay_line (delay_for agent (file_lines file)) ∷ [])
-    → two ≡ one ++ ended (map sitemap_line (sitemaps_of (file_lines file)))
-    → AddsVerdicts rules urls two text → IsReportText agent urls file text
-text_made agent urls file one two text rules same first second last =
-    let delay : List (List ℕ) = delay_line (delay_for agent (file_lines file)) ∷ [] in
-    let sitemaps : List (List ℕ) = map sitemap_line (sitemaps_of (file_lines file)) in
+pub text_made : (agent : List ℕ) (urls : List (List ℕ)) (file one two text : List ℕ) (robot : RobotValue)
+    → IsRobotOf agent (lines_read file) robot → one ≡ ended (delay_line robot.delay ∷ [])
+    → two ≡ one ++ ended (map sitemap_line robot.sitemaps) → AddsVerdicts robot.rules urls two text
+    → IsReportText agent urls file text
+text_made agent urls file one two text robot is first second last =
+    let lines = lines_read file in
+    let delay : List (List ℕ) = delay_line (delay_for agent lines) ∷ [] in
+    let sitemaps : List (List ℕ) = map sitemap_line (sitemaps_of lines) in
     record {
       verdict_lines = last.lines;
-      verdicts = lines_permuted rules (rules_of agent (file_lines file)) urls last.lines (IsPermutation-sym (rules_of agent (file_lines file)) rules same) last.verdicts;
-      whole = lines_added one two text sitemaps last.lines second last.whole ∙ ap (λ t. t ++ ended (sitemaps ++ last.lines)) first ∙ sym (ended-append delay (sitemaps ++ last.lines));
+      verdicts = lines_like agent lines robot is urls last.lines last.verdicts;
+      whole = lines_added one two text sitemaps last.lines (rw is.sitemaps at second) last.whole
+          ∙ ap (λ t. t ++ ended (sitemaps ++ last.lines)) (rw is.delay at first)
+          ∙ sym (ended-append delay (sitemaps ++ last.lines));
     }
 
 -- ---- one report
@@ -101,23 +107,28 @@ verdict_once rules text true false is is_too = absurd (is is_too)
 verdict_once rules text false true is is_too = absurd (is_too is)
 verdict_once rules text false false is is_too = refl
 
-lines_once : (rules : List Rule) (urls lines others : List (List ℕ)) → AllZip (IsVerdictLine rules) urls lines → AllZip (IsVerdictLine rules) urls others → lines ≡ others
+lines_once : (rules : List PlacedRule) (urls lines others : List (List ℕ)) → AllZip (IsVerdictLine rules) urls lines
+    → AllZip (IsVerdictLine rules) urls others → lines ≡ others
 lines_once rules [] [] [] one two = refl
 lines_once rules [] [] (other ∷ others) one two = absurd two
 lines_once rules [] (line ∷ lines) others one two = absurd one
 lines_once rules (url ∷ urls) [] others one two = absurd one
 lines_once rules (url ∷ urls) (line ∷ lines) [] one two = absurd two
-lines_once rules (url ∷ urls) (line ∷ lines) (other ∷ others) one two =
-    let answers : one.0.0 ≡ two.0.0 = verdict_once rules (prepared url) one.0.0 two.0.0 one.0.1 two.0.1 in
-    let first : line ≡ other = one.0.2 ∙ ap (λ answer. verdict_line answer url) answers ∙ sym two.0.2 in
-    let later : lines ≡ others = lines_once rules urls lines others one.1 two.1 in
+lines_once rules (url ∷ urls) (line ∷ lines) (other ∷ others) (one, more) (two, rest) =
+    let answers = verdict_once (unplaced rules) (prepared url) one.allowed two.allowed one.verdict two.verdict in
+    let numbers = one_line_decides rules (prepared url) one.number two.number one.deciding two.deciding in
+    let first : line ≡ other = one.whole ∙ ap (λ allowed. verdict_line allowed one.number url) answers
+    ∙ ap (λ number. verdict_line two.allowed number url) numbers ∙ sym two.whole in
+    let later : lines ≡ others = lines_once rules urls lines others more rest in
     cc
 
-text_once : (agent : List ℕ) (urls : List (List ℕ)) (file text other : List ℕ) → IsReportText agent urls file text → IsReportText agent urls file other → text ≡ other
+text_once : (agent : List ℕ) (urls : List (List ℕ)) (file text other : List ℕ) → IsReportText agent urls file text
+    → IsReportText agent urls file other → text ≡ other
 text_once agent urls file text other one two =
+    let lines = lines_read file in
     one.whole
-    ∙ ap (λ lines. ended (delay_line (delay_for agent (file_lines file)) ∷ (map sitemap_line (sitemaps_of (file_lines file)) ++ lines)))
-    (lines_once (rules_of agent (file_lines file)) urls one.verdict_lines two.verdict_lines one.verdicts two.verdicts)
+    ∙ ap (λ verdicts. ended (delay_line (delay_for agent lines) ∷ (map sitemap_line (sitemaps_of lines) ++ verdicts)))
+    (lines_once (placed_rules agent lines) urls one.verdict_lines two.verdict_lines one.verdicts two.verdicts)
     ∙ sym two.whole
 
 -- a fact of one split holds of the other
@@ -135,7 +146,7 @@ no_fault input text HeaderNotUtf8 report has =
     not_both report.0 report.1 report.4
     (same_split (λ agent urls file. HoldNotUtf8 agent urls) input report.0 has.0 report.1 has.1 report.2 has.2 report.3 has.3 has.4)
 no_fault input text InvalidRule report has =
-    report.5 (same_split (λ agent urls file. IsRefused agent (file_lines file)) input report.0 has.0 report.1 has.1 report.2 has.2 report.3 has.3 has.5)
+    report.5 (same_split (λ agent urls file. IsRefused agent (lines_read file)) input report.0 has.0 report.1 has.1 report.2 has.2 report.3 has.3 has.5)
 no_fault input text Memory report has = has
 
 not_refused : (input : List ℕ) → HasFault input HeaderNotUtf8 → HasFault input InvalidRule → ⊥

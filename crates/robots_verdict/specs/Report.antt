@@ -1,11 +1,14 @@
 -- What the program writes of what it reads.
-use Rattle.std.specs.Prelude.{◌≡◌, ℕ, Bool, true, false, List, ◌∷◌, ◌++◌, Option, Some, None, Result, Ok, Err, codes, decimal, map}
+use Rattle.std.specs.Prelude.{◌≡◌, ℕ, Bool, true, false, List, ◌∷◌, ◌++◌, Option, Some, None, Result, Ok, Err, codes, decimal, map, take}
 use Rattle.std.specs.List.{AllZip}
 use Rattle.std.specs.Io.KnownBytes.{Appends}
 use Rattle.texting_robots.specs.Computed.Line.{file_lines}
+use Rattle.texting_robots.specs.Decision.{IsDecidingLine}
+use Rattle.texting_robots.specs.Line.{LineValue}
 use Rattle.texting_robots.specs.Prepared.{prepared}
-use Rattle.texting_robots.specs.Rules.{IsRefused, Rule, delay_for, rules_of, sitemaps_of}
+use Rattle.texting_robots.specs.Rules.{IsRefused, PlacedRule, delay_for, placed_rules, sitemaps_of, unplaced}
 use Rattle.texting_robots.specs.Verdict.{IsVerdict}
+use Rattle.texting_robots.specs.declared.TheConstants.{FILE_LIMIT}
 use Rattle.robots_verdict.specs.declared.fault.Fault.{Fault}
 use Rattle.robots_verdict.specs.declared.fault.Fault.TheVariants.{HeaderNotUtf8, InvalidRule, Memory, NoEmptyLine, Read, Write}
 use Rattle.robots_verdict.specs.Input.{AreUtf8, HoldNotUtf8, IsInput, ended}
@@ -19,19 +22,36 @@ delay_line (Some micros) = codes "delay " ++ decimal micros
 abbrev pub sitemap_line : List ℕ → List ℕ
 sitemap_line sitemap = codes "sitemap " ++ sitemap
 
-abbrev pub verdict_line : Bool → List ℕ → List ℕ
-verdict_line true url = codes "allow " ++ url
-verdict_line false url = codes "deny " ++ url
+abbrev pub verdict_word : Bool → List ℕ
+verdict_word true = codes "allow "
+verdict_word false = codes "deny "
 
--- the line says the rules' verdict on the URL
-abbrev pub IsVerdictLine : List Rule → List ℕ → List ℕ → Type 0
-IsVerdictLine rules url line = (answer : Bool) × IsVerdict rules (prepared url) answer × (line ≡ verdict_line answer url)
+-- the number of the deciding line, or `-` where there is none
+abbrev pub line_text : Option ℕ → List ℕ
+line_text None = codes "-"
+line_text (Some number) = decimal number
+
+abbrev pub verdict_line : Bool → Option ℕ → List ℕ → List ℕ
+verdict_line allowed number url = verdict_word allowed ++ line_text number ++ codes " " ++ url
+
+-- the line says the rules' verdict on the URL, and which line of the file decides
+pub record IsVerdictLine (rules : List PlacedRule) (url line : List ℕ) : Type 0 where
+  pub allowed : Bool
+  pub number : Option ℕ
+  pub verdict : IsVerdict (unplaced rules) (prepared url) allowed
+  pub deciding : IsDecidingLine rules (prepared url) number
+  pub whole : line ≡ verdict_line allowed number url
+
+-- the lines that are read of a file: those of its first bytes
+abbrev pub lines_read : List ℕ → List LineValue
+lines_read file = file_lines (take FILE_LIMIT file)
 
 -- the text is the agent's delay, the file's sitemaps and the verdict on each URL, a line each
 pub record IsReportText (agent : List ℕ) (urls : List (List ℕ)) (file text : List ℕ) : Type 0 where
   pub verdict_lines : List (List ℕ)
-  pub verdicts : AllZip (IsVerdictLine (rules_of agent (file_lines file))) urls verdict_lines
-  pub whole : text ≡ ended (delay_line (delay_for agent (file_lines file)) ∷ (map sitemap_line (sitemaps_of (file_lines file)) ++ verdict_lines))
+  pub verdicts : AllZip (IsVerdictLine (placed_rules agent (lines_read file))) urls verdict_lines
+  pub whole : text ≡ ended (delay_line (delay_for agent (lines_read file))
+      ∷ (map sitemap_line (sitemaps_of (lines_read file)) ++ verdict_lines))
 
 -- ---- the report of an input
 
@@ -42,14 +62,14 @@ HasFault input Write = ⊥
 HasFault input NoEmptyLine = (agent : List ℕ) (urls : List (List ℕ)) (file : List ℕ) → ¬ IsInput input agent urls file
 HasFault input HeaderNotUtf8 = (agent : List ℕ) × (urls : List (List ℕ)) × (file : List ℕ) × IsInput input agent urls file × HoldNotUtf8 agent urls
 HasFault input InvalidRule =
-    (agent : List ℕ) × (urls : List (List ℕ)) × (file : List ℕ) × IsInput input agent urls file × AreUtf8 agent urls × IsRefused agent (file_lines file)
+    (agent : List ℕ) × (urls : List (List ℕ)) × (file : List ℕ) × IsInput input agent urls file × AreUtf8 agent urls × IsRefused agent (lines_read file)
 HasFault input Memory = ⊥
 
 -- the text of the report, or the fault of the input
 abbrev pub IsReport : List ℕ → Result (List ℕ) Fault → Type 0
 IsReport input (Ok text) =
     (agent : List ℕ) × (urls : List (List ℕ)) × (file : List ℕ)
-    × IsInput input agent urls file × AreUtf8 agent urls × (¬ IsRefused agent (file_lines file)) × IsReportText agent urls file text
+    × IsInput input agent urls file × AreUtf8 agent urls × (¬ IsRefused agent (lines_read file)) × IsReportText agent urls file text
 IsReport input (Err fault) = HasFault input fault
 
 -- an input has one report at most

@@ -1,7 +1,7 @@
 -- What the steps of the program do.
 use Rattle.std.specs.Prelude.{◌≡◌, ◌≢◌, ℕ, ◌<◌, List, ◌∷◌, ◌++◌, length, slice_index}
 use Rattle.std.specs.List.{AllZip}
-use Rattle.texting_robots.specs.Rules.{Rule}
+use Rattle.texting_robots.specs.Rules.{PlacedRule}
 use Rattle.robots_verdict.specs.Input.{IsOneLine, ended, lf, without_cr}
 use Rattle.robots_verdict.specs.Report.{IsVerdictLine}
 
@@ -19,7 +19,7 @@ pub record BeginsWithLine (input text rest : List ℕ) : Type 0 where
   pub text_of : text ≡ without_cr line
 
 -- the verdict on each URL was added, a line each
-pub record AddsVerdicts (rules : List Rule) (urls : List (List ℕ)) (old new : List ℕ) : Type 0 where
+pub record AddsVerdicts (rules : List PlacedRule) (urls : List (List ℕ)) (old new : List ℕ) : Type 0 where
   pub lines : List (List ℕ)
   pub verdicts : AllZip (IsVerdictLine rules) urls lines
   pub whole : new ≡ old ++ ended lines

@@ -1,5 +1,5 @@
 //! The report of an input.
-ghost use Rattle.std.specs.Prelude.{◌≡◌, ◌≢◌, ◌++◌, ◌∷◌, [], ℕ, List, IfErr, IfOk, OnOk, Ok, map, string_bytes};
+ghost use Rattle.std.specs.Prelude.{◌≡◌, ◌≢◌, ◌++◌, ◌∷◌, [], IfErr, IfOk, OnOk, Ok, map, string_bytes};
 ghost use Rattle.robots_verdict.specs.Input.{ended};
 ghost use Rattle.robots_verdict.specs.Report.{HasFault, IsReport, delay_line, sitemap_line, verdict_line};
 ghost use Rattle.robots_verdict.specs.Steps.{AddsVerdicts};
@@ -8,7 +8,7 @@ use crate::fault::Fault;
 use crate::header::read_header;
 use std::alloc::{AllocError, Global};
 use texting_robots::view::View;
-use texting_robots::{Error, Robot};
+use texting_robots::{Decision, Error, Robot};
 
 /// Adds a line made of two parts.
 fn push_line(text: &mut String, front: &str, back: &str) -> Result<(), AllocError>
@@ -42,11 +42,22 @@ fn push_sitemaps(text: &mut String, sitemaps: &[String]) -> Result<(), AllocErro
     Ok(())
 }
 
-/// What stands before the URL in a verdict's line.
-fn verdict_front(allowed: bool) -> &'static str
-    ensures { (url : List ℕ) → verdict_line allowed url ≡ result.now ++ url }
+/// Adds the line of a decision on a URL.
+fn push_decision(
+    alloc: Global,
+    text: &mut String,
+    decision: Decision,
+    url: &str,
+) -> Result<(), AllocError>
+    ensures { OnOk result (string_bytes text.new ≡ string_bytes text.old
+        ++ ended (verdict_line decision.allowed decision.line url.now ∷ [])) }
 {
-    if allowed { "allow " } else { "deny " }
+    text.push_str(if decision.allowed { "allow " } else { "deny " })?;
+    match decision.line {
+        Some(line) => text.push_str(&line.to_string(alloc)?)?,
+        None => text.push('-')?,
+    }
+    push_line(text, " ", url)
 }
 
 /// Adds the line of the robot's verdict on a URL.
@@ -56,8 +67,8 @@ fn push_verdict(alloc: Global, text: &mut String, robot: &Robot, url: &str) -> R
     ensures memory { IfErr result (λ error. error ≡ Error.Memory) }
 {
     let prepared = Robot::prepare_url(alloc, url)?;
-    let allowed = robot.allowed_view(&mut View::new(&prepared));
-    Ok(push_line(text, verdict_front(allowed), url)?)
+    let decision = robot.decision(&mut View::new(&prepared));
+    Ok(push_decision(alloc, text, decision, url)?)
 }
 
 /// Adds the lines of the robot's verdicts on the URLs.

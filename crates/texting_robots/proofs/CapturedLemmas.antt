@@ -220,7 +220,7 @@ at_front (x ∷ lines) (suc n) line rest h =
     let (at, next) = at_front lines n line rest h in (at, rw add-one (rw add-one at next))
 
 -- the line at a place, marked by a test of places
-abbrev by_test : (ℕ → Bool) → ℕ × LineValue → Mark
+abbrev pub by_test : (ℕ → Bool) → ℕ × LineValue → Mark
 by_test test p = record { number = p.0 + 1; captured = test p.0; line = p.1 }
 
 marks_are : (name : List ℕ) (all : List LineValue) (walk : Walk) (place : ℕ) (lines : List LineValue)

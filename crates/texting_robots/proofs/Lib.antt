@@ -26,3 +26,4 @@ pub mod SortLemmas
 pub mod SharingLemmas
 pub mod FirstLemmas
 pub mod VerdictLemmas
+pub mod PlacedLemmas

@@ -7,7 +7,7 @@ use Rattle.std.proofs.lemmas.List.Sorted.{Contains-permutation, IsPermutation-ma
 use Rattle.texting_robots.specs.Decision.{IsDecidingLine, IsLongestMatch}
 use Rattle.texting_robots.specs.Rules.{PlacedRule, Rule, unplaced}
 use Rattle.texting_robots.specs.Verdict.{IsDenied, IsVerdict}
-use Rattle.texting_robots.specs.Laws.{OrderChangesNothing, OneMoreDisallow, OneMoreAllow, LengthIsNotCollapsed}
+use Rattle.texting_robots.specs.Laws.{OrderChangesNothing, OneMoreDisallow, OneMoreAllow, LengthIsNotCollapsed, OneLineDecides}
 
 denied_permuted : (rules others : List Rule) (text : List ℕ) → IsPermutation rules others → IsDenied rules text → IsDenied others text
 denied_permuted rules others text same (other, p, has, matches, longest) =
@@ -116,3 +116,28 @@ same_lines rules others same text line = (
   deciding_permuted others rules text line (IsPermutation-sym rules others same),
   deciding_permuted rules others text line same,
 )
+
+-- ---- one line decides
+
+same_bool : (a b : Bool) → (a ≡ true → b ≡ true) → (b ≡ true → a ≡ true) → a ≡ b
+same_bool true b to back = sym (to refl)
+same_bool false true to back = back refl
+same_bool false false to back = refl
+
+none_decides : (rules : List PlacedRule) (text : List ℕ) (line : ℕ) → IsDecidingLine rules text None
+    → ¬ (IsDecidingLine rules text (Some line))
+none_decides rules text line none (differs, placed, decides, at) = elim none [
+  | inl file ↦ differs file
+  | inr nothing ↦ nothing placed decides.is_longest.listed decides.is_longest.matches
+]
+
+pub one_line_decides : OneLineDecides
+one_line_decides rules text None None one two = refl
+one_line_decides rules text None (Some line) one two = absurd (none_decides rules text line one two)
+one_line_decides rules text (Some line) None one two = absurd (none_decides rules text line two one)
+one_line_decides rules text (Some line) (Some other) (_, a, first, at) (_, b, second, there) =
+    let kinds = same_bool a.rule.1 b.rule.1 (second.allows a first.is_longest) (first.allows b second.is_longest) in
+    let less = first.first b second.is_longest (sym kinds) in
+    let more = second.first a first.is_longest kinds in
+    let same : line ≡ other = omega arith in
+    ap (λ n. Some n) same

@@ -1,5 +1,5 @@
 -- Laws over the definitions.
-use Rattle.std.specs.Prelude.{◌≡◌, ◌≢◌, ◌<◌, ◌↔◌, ◌⊎◌, ℕ, Bool, true, false, not, ◌==◌, ◌&&◌, List, [], ◌∷◌, ◌++◌, Option, Some, IsTrue, IsPermutation, codes, filter, length, if◌then◌else◌}
+use Rattle.std.specs.Prelude.{◌≡◌, ◌≢◌, ◌+◌, ◌<◌, slice_get, ◌↔◌, ◌⊎◌, ℕ, Bool, true, false, not, ◌==◌, ◌&&◌, List, [], ◌∷◌, ◌++◌, Option, Some, IsTrue, IsPermutation, codes, filter, length, if◌then◌else◌}
 use Rattle.std.specs.declared.cmp.Ordering.TheVariants.{Less, Equal}
 use Rattle.std.specs.Str.{str_to_ascii_lowercase}
 use Rattle.texting_robots.specs.declared.parser.statement.Kind.{Kind}
@@ -7,13 +7,15 @@ use Rattle.texting_robots.specs.Computed.Cut.{cut}
 use Rattle.texting_robots.specs.Computed.Delay.{delay_of}
 use Rattle.texting_robots.specs.Computed.Line.{file_lines, parsed}
 use Rattle.texting_robots.specs.Cut.{IsCut, Pair, cr, lf}
+use Rattle.texting_robots.specs.Decision.{Decides, IsDecidingLine}
 use Rattle.texting_robots.specs.Delay.{IsDelay}
+use Rattle.texting_robots.specs.Escape.{escaped}
 use Rattle.texting_robots.specs.Group.{IsCaptured, group_name, is_captured}
 use Rattle.texting_robots.specs.Line.{Allow, AreFileLinesOf, AreLinesOf, Disallow, HoldRangesOf, LineValue, is_raw, is_sitemap}
 use Rattle.texting_robots.specs.Order.{IsBefore, pattern_cmp}
 use Rattle.texting_robots.specs.Pattern.{Matches, MatchesWith, collapsed}
 use Rattle.texting_robots.specs.Robot.{IsRobotOf, RobotValue}
-use Rattle.texting_robots.specs.Rules.{IsRefused, Rule, delay_for, rules_of, sitemaps_of}
+use Rattle.texting_robots.specs.Rules.{IsRefused, PlacedRule, Rule, delay_for, placed_rules, rules_of, sitemaps_of}
 use Rattle.texting_robots.specs.Statement.{IsStatement}
 use Rattle.texting_robots.specs.Verdict.{IsVerdict}
 
@@ -149,3 +151,25 @@ EachFileHasItsLines = (text : List ℕ) (lines : List LineValue) → AreFileLine
 pub record ComparisonAgrees : Type 0 where
   pub less : (p q : List ℕ) → (pattern_cmp p q ≡ Less) ↔ IsBefore p q
   pub equal : (p q : List ℕ) → (pattern_cmp p q ≡ Equal) ↔ (p ≡ q)
+
+-- of a text one line decides at most
+abbrev pub OneLineDecides : Type 0
+OneLineDecides =
+    (rules : List PlacedRule) (text : List ℕ) (line other : Option ℕ)
+    → IsDecidingLine rules text line → IsDecidingLine rules text other → line ≡ other
+
+-- the line with this number, counted from 1, is captured, and is an Allow or a Disallow whose escaped value is the pattern
+pub record HoldsRule (agent : List ℕ) (lines : List LineValue) (number : ℕ) (rule : Rule) : Type 0 where
+  pub place : ℕ
+  pub value : List ℕ
+  pub is_number : number ≡ place + 1
+  pub captured : IsCaptured (group_name agent lines) lines place
+  pub line : slice_get lines place ≡ Some (if rule.1 then Allow value else Disallow value)
+  pub pattern : rule.0 ≡ escaped value
+
+-- the line that decides holds the rule that decides
+abbrev pub DecidingLineHoldsItsRule : Type 0
+DecidingLineHoldsItsRule =
+    (agent : List ℕ) (lines : List LineValue) (text : List ℕ) (number : ℕ)
+    → IsDecidingLine (placed_rules agent lines) text (Some number)
+    → (placed : PlacedRule) × Decides (placed_rules agent lines) text placed × HoldsRule agent lines number placed.rule

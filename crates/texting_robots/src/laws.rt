@@ -5,11 +5,13 @@ ghost use Rattle.texting_robots.specs.Laws.{
   CollapseKeepsMeaning,
   ComparisonAgrees,
   CrLfIsLf,
+  DecidingLineHoldsItsRule,
   EachFileHasItsLines,
   EachTextHasItsLines,
   EachTextHasOneCut,
   EachTextHasOneDelay,
   LengthIsNotCollapsed,
+  OneLineDecides,
   OneMoreAllow,
   OneMoreDisallow,
   OneStatementFits,
@@ -131,4 +133,15 @@ pub fn captured_agrees()
 /// rely on it.
 pub fn comparison_agrees()
     ensures { ComparisonAgrees }
+{}
+
+/// Of a text one line decides at most. Whoever reads the contract of `Robot::decision` relies on it.
+pub fn one_line_decides()
+    ensures { OneLineDecides }
+{}
+
+/// The line that decides is captured, and is an Allow or a Disallow whose escaped value is the deciding pattern.
+/// Whoever shows a site owner why a URL is allowed or not relies on it.
+pub fn deciding_line_holds_its_rule()
+    ensures { DecidingLineHoldsItsRule }
 {}
