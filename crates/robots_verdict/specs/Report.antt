@@ -8,7 +8,7 @@ use Rattle.texting_robots.specs.Line.{LineValue}
 use Rattle.texting_robots.specs.Prepared.{prepared}
 use Rattle.texting_robots.specs.Rules.{IsRefused, PlacedRule, delay_for, placed_rules, sitemaps_of, unplaced}
 use Rattle.texting_robots.specs.Verdict.{IsVerdict}
-use Rattle.texting_robots.specs.declared.TheConstants.{FILE_LIMIT}
+use Rattle.texting_robots.specs.declared.robot.TheConstants.{FILE_LIMIT}
 use Rattle.robots_verdict.specs.declared.fault.Fault.{Fault}
 use Rattle.robots_verdict.specs.declared.fault.Fault.TheVariants.{HeaderNotUtf8, InvalidRule, Memory, NoEmptyLine, Read, Write}
 use Rattle.robots_verdict.specs.Input.{AreUtf8, HoldNotUtf8, IsInput, ended}

@@ -1,7 +1,7 @@
 //! The report of an input.
 ghost use Rattle.std.specs.Prelude.{◌≡◌, ◌≢◌, ◌++◌, ◌∷◌, [], IfErr, IfOk, OnOk, Ok, map, string_bytes};
 ghost use Rattle.robots_verdict.specs.Input.{ended};
-ghost use Rattle.robots_verdict.specs.Report.{HasFault, IsReport, delay_line, sitemap_line, verdict_line};
+ghost use Rattle.robots_verdict.specs.Report.{HasFault, IsReport, delay_line, line_text, sitemap_line, verdict_line, verdict_word};
 ghost use Rattle.robots_verdict.specs.Steps.{AddsVerdicts};
 
 use crate::fault::Fault;
@@ -42,6 +42,23 @@ fn push_sitemaps(text: &mut String, sitemaps: &[String]) -> Result<(), AllocErro
     Ok(())
 }
 
+/// The word of a verdict, with the space behind it.
+fn verdict_word(allowed: bool) -> &'static str
+    ensures { result.now ≡ verdict_word allowed }
+{
+    if allowed { "allow " } else { "deny " }
+}
+
+/// Adds the number of the deciding line, or `-` where there is none.
+fn push_number(alloc: Global, text: &mut String, line: Option<usize>) -> Result<(), AllocError>
+    ensures { OnOk result (string_bytes text.new ≡ string_bytes text.old ++ line_text line) }
+{
+    match line {
+        Some(number) => text.push_str(&number.to_string(alloc)?),
+        None => text.push('-'),
+    }
+}
+
 /// Adds the line of a decision on a URL.
 fn push_decision(
     alloc: Global,
@@ -52,11 +69,8 @@ fn push_decision(
     ensures { OnOk result (string_bytes text.new ≡ string_bytes text.old
         ++ ended (verdict_line decision.allowed decision.line url.now ∷ [])) }
 {
-    text.push_str(if decision.allowed { "allow " } else { "deny " })?;
-    match decision.line {
-        Some(line) => text.push_str(&line.to_string(alloc)?)?,
-        None => text.push('-')?,
-    }
+    text.push_str(verdict_word(decision.allowed))?;
+    push_number(alloc, text, decision.line)?;
     push_line(text, " ", url)
 }
 

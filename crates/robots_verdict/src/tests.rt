@@ -94,7 +94,7 @@ const INPUT: &[u8] =
     b"FerrisCrawler\nhttps://www.rust-lang.org/ocean\n/ocean\n/ocean/reef.html\n/rust\n/forest/tree/snake.py\n\nUser-Agent: FerrisCrawler\nAllow: /ocean\nDisallow: /rust\nDisallow: /forest*.py\nCrawl-Delay: 10\nUser-Agent: *\nDisallow: /\nSitemap: https://www.example.com/site.xml\n";
 
 const OUTPUT: &[u8] =
-    b"delay 10000000\nsitemap https://www.example.com/site.xml\nallow https://www.rust-lang.org/ocean\nallow /ocean\nallow /ocean/reef.html\ndeny /rust\ndeny /forest/tree/snake.py\n";
+    b"delay 10000000\nsitemap https://www.example.com/site.xml\nallow 2 https://www.rust-lang.org/ocean\nallow 2 /ocean\nallow 2 /ocean/reef.html\ndeny 3 /rust\ndeny 4 /forest/tree/snake.py\n";
 
 /// What all pieces fit into.
 const WHOLE: usize = 65_536;
@@ -118,25 +118,25 @@ fn reports(rt: HostRuntime) -> Result<(), Fail> {
         (
             "two rules",
             b"Ferris\n/secret\n/everything-else\n\nDisallow: /secret",
-            b"delay none\ndeny /secret\nallow /everything-else\n",
+            b"delay none\ndeny 1 /secret\nallow - /everything-else\n",
         ),
         (
             "line ends with CR",
             b"BobBot\r\n/a\r\n\r\nDisallow: /a",
-            b"delay none\ndeny /a\n",
+            b"delay none\ndeny 1 /a\n",
         ),
         ("empty agent, no URL", b"\n\n", b"delay none\n"),
         (
             "empty agent and a URL",
             b"\n/x\n\nUser-Agent:\nDisallow: /",
-            b"delay none\ndeny /x\n",
+            b"delay none\ndeny 2 /x\n",
         ),
         ("empty sitemap", b"B\n\nSitemap:", b"delay none\nsitemap \n"),
         ("one CR of two", b"B\r\r\n\n", b"delay none\n"),
         (
             "the other CR stays",
             b"B\r\r\n/x\n\nUser-Agent: B\nDisallow: /",
-            b"delay none\nallow /x\n",
+            b"delay none\nallow - /x\n",
         ),
     ];
     for (name, input, output) in rows {
