@@ -5,7 +5,7 @@ ghost use Rattle.texting_robots.specs.Prepared.{prepared, target_of};
 ghost use Rattle.texting_robots.specs.Rules.{IsRefused, delay_for, rules_of, sitemaps_of};
 ghost use Rattle.texting_robots.specs.Verdict.{IsVerdict};
 
-use crate::error::Error;
+use crate::error::{Error, is_want_of_memory};
 use crate::escape::escaped;
 use crate::parser::all_file_lines;
 use crate::rules::{Rule, delay_for, rules_for, sitemaps_in};
@@ -13,7 +13,7 @@ use crate::verdict::is_allowed;
 use crate::view::View;
 use std::alloc::{AllocError, Global};
 use std::marker::Model;
-use url::{ParseError, Url};
+use url::Url;
 
 /// What one crawler gets of a robots.txt file.
 #[derive(Debug, Drop)]
@@ -70,7 +70,7 @@ impl Robot {
         }
         match Url::parse(alloc, url) {
             Ok(parsed) => Ok(target(alloc, &parsed)?),
-            Err(ParseError::OutOfMemory | ParseError::Overflow) => Err(Error::Memory),
+            Err(error) if is_want_of_memory(&error) => Err(Error::Memory),
             Err(_) => Ok(escaped(alloc, url)?),
         }
     }
