@@ -112,10 +112,8 @@ fn ferris(alloc: Global) -> Result<Robot, Error> {
 fn is_right_robot(robot: &Robot) -> bool {
     robot.delay == Some(10_000_000)
         && robot.sitemaps.len() == 1
-        && robot
-            .sitemaps
-            .iter()
-            .all(|sitemap| sitemap.as_str() == "https://www.example.com/site.xml")
+        && robot.sitemaps.iter().all(|sitemap| sitemap.as_str()
+            == "https://www.example.com/site.xml")
         && robot.allowed_prepared("/ocean/reef.html")
         && !robot.allowed_prepared("/rust")
         && !robot.allowed_prepared("/forest/tree/snake.py")
@@ -139,7 +137,11 @@ fn allowed(alloc: Global) -> Result<bool, Error> {
             _ => return Ok(false),
         }
     }
-    if refused { Err(Error::Memory) } else { Ok(true) }
+    if refused {
+        Err(Error::Memory)
+    } else {
+        Ok(true)
+    }
 }
 
 fn prepare(alloc: Global, url: &str, want: &str) -> Result<bool, Error> {

@@ -3,13 +3,13 @@ use crate::calls::{Asked, PAGE, PAGE_LINES, make_asked};
 use std::alloc::Global;
 use std::cmp::Ordering;
 use texting_robots::minregex::MinRegex;
-use texting_robots::parser::{Line, lines, read_delay};
+use texting_robots::parser::{Line, LineIter, lines, read_delay};
 use texting_robots::view::View;
 use texting_robots::{Error, Robot};
 
 /// The names of the calls, in the order in which they are made.
 ///
-/// `LINE_ENDS` joins them, and its line the file `stdout`, as soon as a file is read in place.
+/// As soon as files are read in place, `LINE_ENDS` stands here too, and its line in the file `stdout`.
 pub(crate) const NAMES: &[&str] = &[
     "Robot::allowed_prepared without memory",
     "Robot::allowed_view without memory",
@@ -38,7 +38,8 @@ pub(crate) fn answer(alloc: Global, name: &str) -> Result<bool, Error> {
         "MinRegex::as_str without memory" => Ok(asked.pattern.as_str() == "/*ab*ba$"),
         "comparisons without memory" => Ok(compares(&asked)),
         "View without memory" => Ok(looks()),
-        "parser::lines without memory" => Ok(reads_lines()),
+        "parser::lines without memory" => Ok(gives_page(lines(PAGE))),
+        // here `file_lines` is asked in the same way as soon as it is public
         "parser::read_delay without memory" => Ok(reads_delays()),
         LINE_ENDS => reads_line_ends(alloc),
         _ => Ok(false),
@@ -90,15 +91,14 @@ fn looks() -> bool {
         && !view.is_robots_file()
 }
 
-// `parser::file_lines` is asked here too as soon as it is public: with a NUL in the place of each LF it gives the same lines.
-fn reads_lines() -> bool {
-    let mut read = lines(PAGE);
+/// Whether these are the lines of the page.
+fn gives_page(mut given: LineIter<'_>) -> bool {
     for line in PAGE_LINES {
-        if read.next() != Some(line) {
+        if given.next() != Some(line) {
             return false;
         }
     }
-    read.next() == None && read.next() == None
+    given.next() == None && given.next() == None
 }
 
 fn reads_delays() -> bool {
