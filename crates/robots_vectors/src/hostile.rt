@@ -1,12 +1,13 @@
-//! Long files, long texts and long numbers.
+//! Long files, long texts and long numbers: each is answered, and no call wants memory.
 use crate::helpers::{BOB, check_prepared, check_url, forms_of, long_bytes, long_text, robot_of};
 use crate::lines::check_lines;
 use std::process::Abort;
 use std::test::Fail;
 use texting_robots::Robot;
 use texting_robots::minregex::MinRegex;
-use texting_robots::parser::{Line, read_delay};
+use texting_robots::parser::{Line, read_delay, robots_txt_parse};
 use texting_robots::view::View;
+use texting_robots::{Robot, get_robots_url};
 
 /// A file and texts by their parts, each with how often it stands, and whether the texts may be fetched.
 struct LongRow {
@@ -148,6 +149,54 @@ fn long_files(rt: HostRuntime) -> Result<(), Fail> {
         for file in &forms_of(rt.alloc(), &file)? {
             check_long(&rt, row, file);
         }
+    }
+    Ok(())
+}
+
+#[test]
+fn no_rule_of_nul(rt: HostRuntime) -> Result<(), Fail> {
+    let file = long_bytes(rt.alloc(), &[(b"\0", 1_000_000)])?;
+    let robot = robot_of(&rt, "many_nul", BOB, &file);
+    let text = format!(in rt.alloc(); "{robot:?}")?;
+    assert!(rt; text.contains("rules: []"), "{text}");
+    assert!(rt; robot.delay == None && robot.sitemaps.is_empty());
+    Ok(())
+}
+
+#[test]
+fn five_megabytes(rt: HostRuntime) -> Result<(), Fail> {
+    let line: &[u8] = b"Disallow: /private/folder # nothing to see\n";
+    let count = 5_000_000usize.div_ceil(line.len());
+    let file = long_bytes(rt.alloc(), &[(line, count)])?;
+    assert!(rt; file.len() >= 5_000_000);
+    let lines = robots_txt_parse(rt.alloc(), &file)?;
+    assert!(rt; lines.len() == count);
+    let want = Line::Disallow(b"/private/folder");
+    assert!(rt; lines.iter().all(|line| *line == want));
+    let robot = robot_of(&rt, "five_megabytes", BOB, &file);
+    check_url(&rt, "five_megabytes", &robot, "/private/folder/x", false);
+    check_url(&rt, "five_megabytes", &robot, "/public", true);
+    Ok(())
+}
+
+#[test]
+fn long_urls(rt: HostRuntime) -> Result<(), Fail> {
+    let path = long_text(rt.alloc(), &[("/", 1), ("a", 99_976)])?;
+    let url = format!(in rt.alloc(); "https://www.example.com{path}")?;
+    assert!(rt; url.len() == 100_000);
+    let prepared = Robot::prepare_url(rt.alloc(), url.as_str())?;
+    assert!(rt; prepared.as_str() == path.as_str());
+    let address = get_robots_url(rt.alloc(), url.as_str())?;
+    assert!(rt; address.as_str() == "https://www.example.com/robots.txt");
+    let rows: [(&[u8], bool); 3] = [
+        (b"Disallow: /*a$", false),
+        (b"Disallow: /*a$\nAllow: /aaaaaa", true),
+        (b"Disallow: /*ab", true),
+    ];
+    for (file, want) in rows {
+        let robot = robot_of(&rt, "long_url", BOB, file);
+        let answer = robot.allowed(rt.alloc(), url.as_str())?;
+        assert!(rt; answer == want, "{robot:?}");
     }
     Ok(())
 }

@@ -1,5 +1,5 @@
 -- What the program says where it stops, and the status that it ends with.
-use Rattle.std.specs.Prelude.{ℕ, List, codes}
+use Rattle.std.specs.Prelude.{ℕ, List, Option, None, Some, Result, Ok, Err, codes}
 use Rattle.texting_robots.specs.declared.error.Error.{Error}
 use Rattle.texting_robots.specs.declared.error.Error.TheVariants as error
 use Rattle.robots_verdict.specs.declared.fault.Fault.{Fault}
@@ -20,6 +20,15 @@ status_of NoEmptyLine = 2
 status_of HeaderNotUtf8 = 2
 status_of InvalidRule = 3
 status_of Memory = 4
+
+-- the status that the process ends with, and what it says before on standard error
+abbrev pub status_after : Result (Unit {0}) Fault → ℕ
+status_after (Ok _) = 0
+status_after (Err fault) = status_of fault
+
+abbrev pub said_after : Result (Unit {0}) Fault → Option (List ℕ)
+said_after (Ok _) = None
+said_after (Err fault) = Some (text_of fault)
 
 -- what an error of the library comes to; it never answers InvalidRobots
 abbrev pub fault_of : Error → Fault

@@ -1,6 +1,7 @@
 //! The two ends of the program: reading all of an input, and writing all of a report.
-ghost use Rattle.std.specs.Prelude.{◌≡◌, ◌⊎◌, IfErr, IfOk, IfSome, OnOk};
-ghost use Rattle.std.specs.Io.KnownBytes.{Appends};
+ghost use Rattle.std.specs.Prelude.{◌≡◌, ◌⊎◌, ◌+◌, IfErr, IfOk, IfSome, OnOk};
+ghost use Rattle.std.specs.Io.{ReadsAtMost};
+ghost use Rattle.std.specs.Io.KnownBytes.{Appends, ReadConsumes};
 ghost use Rattle.robots_verdict.specs.Report.{AppendsBeginning};
 
 use crate::fault::Fault;
@@ -13,6 +14,23 @@ const PIECE: usize = 65_536;
 /// How many reads are made at most.
 const MOST_READS: u32 = 1_048_576;
 
+/// Makes one more read, if one is left. A read that fails is `Fault::Read`, and so is the lack of one that is left.
+fn read_piece<R: Read>(reader: &mut R, left: &mut u32, piece: &mut [u8]) -> Result<usize, Fault>
+    ensures counted { OnOk result (left.new + 1 ≡ left.old) }
+    ensures bound { ReadsAtMost result piece.new }
+    ensures bytes { ReadConsumes (R.remaining reader.old) (R.remaining reader.new) result piece.new }
+    ensures fault { IfErr result (λ fault. fault ≡ Fault.Read) }
+{
+    if *left == 0 {
+        return Err(Fault::Read);
+    }
+    *left -= 1;
+    match reader.read(piece) {
+        Ok(count) => Ok(count),
+        Err(_) => Err(Fault::Read),
+    }
+}
+
 /// Reads to the end of the input.
 pub(crate) fn read_all<R: Read>(alloc: Global, reader: &mut R) -> Result<Vec<u8>, Fault>
     ensures ok { IfOk result (λ all. IfSome (R.remaining reader.old) (λ input. all.items ≡ input)) }
@@ -20,14 +38,14 @@ pub(crate) fn read_all<R: Read>(alloc: Global, reader: &mut R) -> Result<Vec<u8>
 {
     let mut all = Vec::new(alloc);
     let mut piece = [0u8; PIECE];
-    for _ in 0..MOST_READS {
-        match reader.read(&mut piece) {
-            Ok(0) => return Ok(all),
-            Ok(count) => all.extend_from_slice(&piece[..count])?,
-            Err(_) => return Err(Fault::Read),
+    let mut left = MOST_READS;
+    loop {
+        let count = read_piece(reader, &mut left, &mut piece)?;
+        if count == 0 {
+            return Ok(all);
         }
+        all.extend_from_slice(&piece[..count])?;
     }
-    Err(Fault::Read)
 }
 
 /// Writes the whole text and flushes.

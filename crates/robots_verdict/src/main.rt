@@ -5,6 +5,7 @@
 //! is the delay in microseconds, the sitemaps, and for each URL `allow` or `deny`, a line each.
 #![tactic(auto)]
 
+mod ending;
 mod ends;
 mod fault;
 mod header;
@@ -14,15 +15,14 @@ mod report;
 #[cfg(test)]
 mod tests;
 
+use ending::ending_of;
 use program::run;
 use std::process::ExitCode;
 
 fn main(rt: HostRuntime) -> ExitCode {
-    match run(rt.alloc(), &mut rt.stdin(), &mut rt.stdout()) {
-        Ok(()) => ExitCode::SUCCESS,
-        Err(fault) => {
-            let _ = rt.eprintln(fault.text());
-            ExitCode::from(fault.status())
-        }
+    let ending = ending_of(&run(rt.alloc(), &mut rt.stdin(), &mut rt.stdout()));
+    if let Some(text) = ending.text {
+        let _ = rt.eprintln(text);
     }
+    ExitCode::from(ending.status)
 }

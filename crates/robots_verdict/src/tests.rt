@@ -1,4 +1,5 @@
-//! Rows on `run` and on what a fault says.
+//! Rows on `run`, and on what the process ends with.
+use crate::ending::{Ending, ending_of};
 use crate::fault::Fault;
 use crate::program::run;
 use std::alloc::{AllocError, Global};
@@ -15,6 +16,7 @@ struct Source<'a> {
     endless: bool,
     good_calls: Option<u32>,
     calls: u32,
+    most_asked: usize,
 }
 
 impl<'a> Source<'a> {
@@ -26,6 +28,7 @@ impl<'a> Source<'a> {
             endless: false,
             good_calls: None,
             calls: 0,
+            most_asked: 0,
         }
     }
 }
@@ -34,6 +37,7 @@ impl<'a> Read for Source<'a> {
     fn read(&mut self, buf: &mut [u8]) -> io::Result<usize> {
         let call = self.calls;
         self.calls = call.saturating_add(1);
+        self.most_asked = self.most_asked.max(buf.len());
         if self.good_calls == Some(call) {
             return Err(io::Error::from(ErrorKind::BrokenPipe));
         }
@@ -184,7 +188,7 @@ fn faults_of_inputs(rt: HostRuntime) -> Result<(), Fail> {
 }
 
 #[test]
-fn fault_texts(rt: HostRuntime) {
+fn endings(rt: HostRuntime) {
     let rows = [
         (Fault::Read, 1, "robots_verdict: reading the input failed"),
         (Fault::Write, 1, "robots_verdict: writing the output failed"),
@@ -208,7 +212,17 @@ fn fault_texts(rt: HostRuntime) {
     for (fault, status, text) in rows {
         assert_eq!(rt; fault.status(), status, "{text}");
         assert_eq!(rt; fault.text(), text);
+        let ending = Ending {
+            status,
+            text: Some(text),
+        };
+        assert_eq!(rt; ending_of(&Err(fault)), ending);
     }
+    let ending = Ending {
+        status: 0,
+        text: None,
+    };
+    assert_eq!(rt; ending_of(&Ok(())), ending);
 }
 
 #[test]
@@ -273,6 +287,7 @@ fn most_reads(rt: HostRuntime) -> Result<(), Fail> {
         assert_eq!(rt; run(rt.alloc(), &mut source, &mut sink), result, "{name}");
         assert_eq!(rt; sink.held.as_slice(), output, "{name}");
         assert_eq!(rt; source.calls, calls, "{name}");
+        assert!(rt; source.most_asked <= 65_536, "{name}");
     }
     Ok(())
 }
@@ -327,4 +342,61 @@ fn writes_that_fail(rt: HostRuntime) {
         Err(Fault::Write)
     );
     assert_eq!(rt; not_flushing.held.as_slice(), OUTPUT);
+}
+
+/// The text with this number out of `/`, `a`, `*` and `$`: the empty one is 0, and shorter ones come first.
+fn small_text(alloc: Global, number: u32) -> Result<String, AllocError> {
+    let mut text = String::new(alloc);
+    let mut left = number;
+    for _ in 0..6 {
+        if left == 0 {
+            break;
+        }
+        left -= 1;
+        text.push(match left % 4 {
+            0 => '/',
+            1 => 'a',
+            2 => '*',
+            _ => '$',
+        })?;
+        left /= 4;
+    }
+    Ok(text)
+}
+
+#[test]
+fn small_inputs(rt: HostRuntime) -> Result<(), Fail> {
+    // all texts of at most six bytes
+    for number in 0..5_461 {
+        let text = small_text(rt.alloc(), number)?;
+        let input = format!(in rt.alloc(); "B\n/{text}\n\nAllow: {text}")?;
+        let output = format!(in rt.alloc(); "delay none\nallow /{text}\n")?;
+        let mut reader = input.as_bytes();
+        let mut sink = Sink::new(rt.alloc(), WHOLE);
+        assert_eq!(rt; run(rt.alloc(), &mut reader, &mut sink), Ok(()), "{text}");
+        assert_eq!(rt; sink.held.as_slice(), output.as_bytes(), "{text}");
+    }
+    Ok(())
+}
+
+#[test]
+fn many_urls(rt: HostRuntime) -> Result<(), Fail> {
+    let mut input = String::from_str(rt.alloc(), "BobBot\n")?;
+    let mut output = String::from_str(rt.alloc(), "delay none\n")?;
+    for number in 0..10_000 {
+        let url = format!(in rt.alloc(); "https://www.example.com/archive/page-number-{number}")?;
+        for (folder, word) in [("/open", "allow"), ("/closed", "deny")] {
+            input.push_str(&format!(in rt.alloc(); "{url}{folder}\n")?)?;
+            output.push_str(&format!(in rt.alloc(); "{word} {url}{folder}\n")?)?;
+        }
+    }
+    input.push_str("\nDisallow: /archive/*/closed\n")?;
+    assert!(rt; output.len() > 1_048_576);
+    let mut source = Source::new(input.as_bytes(), WHOLE);
+    let mut sink = Sink::new(rt.alloc(), WHOLE);
+    assert_eq!(rt; run(rt.alloc(), &mut source, &mut sink), Ok(()));
+    assert_eq!(rt; sink.held.as_slice(), output.as_bytes());
+    assert!(rt; source.calls > 2, "the input takes several reads");
+    assert!(rt; source.most_asked <= 65_536);
+    Ok(())
 }

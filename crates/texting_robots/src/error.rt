@@ -1,6 +1,10 @@
 //! Why a call was refused.
+ghost use Rattle.std.specs.Prelude.{◌↔◌, IsTrue};
+ghost use Rattle.url.specs.Parser.{IsOutOfRoom};
+
 use std::alloc::{AllocError, AllocFailed};
 use thiserror::Error;
+use url::ParseError;
 
 /// Why a call was refused.
 #[derive(Debug, Drop, Error)]
@@ -36,4 +40,11 @@ impl<T: Drop> From<AllocFailed<T>> for Error {
     fn from(_: AllocFailed<T>) -> Error {
         Error::Memory
     }
+}
+
+/// Whether an error of `url` is want of memory: memory was refused, or a URL came to more bytes than `url` can count.
+pub(crate) fn is_want_of_memory(error: &ParseError) -> bool
+    ensures { IsTrue result ↔ IsOutOfRoom error.now }
+{
+    matches!(error, ParseError::OutOfMemory | ParseError::Overflow)
 }

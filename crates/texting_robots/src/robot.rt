@@ -11,7 +11,7 @@ ghost use Rattle.texting_robots.specs.Verdict.{IsVerdict};
 ghost use Rattle.texting_robots.specs.View.{LooksAtMost};
 
 pub use crate::decision::Decision;
-use crate::error::Error;
+use crate::error::{Error, is_want_of_memory};
 use crate::escape::escaped;
 use crate::groups::{group_for, marked_lines};
 use crate::parser::file_lines;
@@ -20,7 +20,7 @@ use crate::rules::Rules;
 use crate::view::View;
 use std::alloc::{AllocError, Global};
 use std::marker::Model;
-use url::{ParseError, Url};
+use url::Url;
 
 /// How many bytes of a file [`Robot::new`] reads: Google's limit of 500 kibibytes.
 pub const FILE_LIMIT: usize = 512_000;
@@ -106,7 +106,7 @@ impl Robot {
         }
         match Url::parse(alloc, url) {
             Ok(parsed) => Ok(target(alloc, &parsed)?),
-            Err(ParseError::OutOfMemory | ParseError::Overflow) => Err(Error::Memory),
+            Err(error) if is_want_of_memory(&error) => Err(Error::Memory),
             Err(_) => Ok(escaped(alloc, url)?),
         }
     }

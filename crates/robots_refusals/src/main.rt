@@ -1,0 +1,53 @@
+//! Makes the library's calls one after the other, and prints for each whether its answer is right.
+//!
+//! With memory for all, each line says `right`. The script `refusals/run` runs this program while requests for memory are
+//! refused; then a call that takes memory may also say `out of memory`. A name on standard input chooses one call.
+#![tactic(auto)]
+
+mod calls;
+mod quiet;
+
+use std::io::Read;
+use std::process::ExitCode;
+use texting_robots::Error;
+
+/// Prints what came of a call, and tells whether that may be.
+fn tell(rt: &HostRuntime, name: &str, answer: Result<bool, Error>) -> bool {
+    let (word, may_be) = match answer {
+        Ok(true) => ("right", true),
+        Ok(false) => ("WRONG", false),
+        Err(Error::Memory) => ("out of memory", true),
+        Err(Error::InvalidRobots | Error::InvalidRule) => ("WRONG ERROR", false),
+    };
+    println!(rt; "{name}: {word}").is_ok() && may_be
+}
+
+/// Whether the line on standard input chooses the call of this name. Where there is none, all are chosen.
+fn is_chosen(line: &[u8], name: &str) -> bool {
+    line.is_empty() || line.strip_suffix(b"\n") == Some(name.as_bytes())
+}
+
+fn main(rt: HostRuntime) -> ExitCode {
+    let alloc = rt.alloc();
+    let mut buffer = [0; 80];
+    let Ok(count) = rt.stdin().read(&mut buffer) else {
+        return ExitCode::FAILURE;
+    };
+    let line = &buffer[..count];
+    let mut well = true;
+    for name in calls::NAMES {
+        if is_chosen(line, name) {
+            well &= tell(&rt, name, calls::answer(alloc, name));
+        }
+    }
+    for name in quiet::NAMES {
+        if is_chosen(line, name) {
+            well &= tell(&rt, name, quiet::answer(alloc, name));
+        }
+    }
+    if well {
+        ExitCode::SUCCESS
+    } else {
+        ExitCode::FAILURE
+    }
+}

@@ -1,0 +1,31 @@
+//! How the process ends.
+ghost use Rattle.std.specs.Prelude.{◌≡◌};
+ghost use Rattle.std.specs.Option.{option_map};
+ghost use Rattle.robots_verdict.specs.Fault.{said_after, status_after};
+
+use crate::fault::Fault;
+
+/// What the process ends with.
+#[derive(Debug, PartialEq, Eq, Drop)]
+pub struct Ending {
+    pub status: u8,
+    /// What is said on standard error, if something is.
+    pub text: Option<&'static str>,
+}
+
+/// What the process ends with where this came of a run.
+pub fn ending_of(outcome: &Result<(), Fault>) -> Ending
+    ensures status { result.status ≡ status_after outcome.now }
+    ensures text { option_map (λ text. text.now) result.text ≡ said_after outcome.now }
+{
+    match outcome {
+        Ok(()) => Ending {
+            status: 0,
+            text: None,
+        },
+        Err(fault) => Ending {
+            status: fault.status(),
+            text: Some(fault.text()),
+        },
+    }
+}
