@@ -28,9 +28,27 @@ smaller (x ∷ p) (y ∷ q) n h =
     elim (cases_order x y) [
       | inl same ↦
           let k : slice_cmp nat_cmp p q ≡ Less = rw (same, alike y) at h in
-          let (front, a, b, more, rest, left, right, less) = smaller p q (omega (arith, n)) k in
-          (x ∷ front, a, b, more, rest, ap (λ t. x ∷ t) left, ap (λ t. y ∷ t) right ∙ ap (λ z. z ∷ (front ++ b ∷ rest)) (sym same), less)
-      | inr (inl less) ↦ ([], x, y, p, q, refl, refl, less)
+          let later = smaller p q (omega (arith, n)) k in
+          record {
+            same = x ∷ later.same;
+            smaller = later.smaller;
+            greater = later.greater;
+            left_rest = later.left_rest;
+            right_rest = later.right_rest;
+            less = later.less;
+            is_left = ap (λ t. x ∷ t) later.is_left;
+            is_right = ap (λ t. y ∷ t) later.is_right ∙ ap (λ z. z ∷ (later.same ++ later.greater ∷ later.right_rest)) (sym same);
+          }
+      | inr (inl less) ↦ record {
+        same = [];
+        smaller = x;
+        greater = y;
+        left_rest = p;
+        right_rest = q;
+        is_left = refl;
+        is_right = refl;
+        less = less;
+      }
       | inr (inr more) ↦ absurd (let k : Greater ≡ Less = rw (above x y more) at h in cc)
     ]
 
@@ -47,7 +65,9 @@ less_is_before p q = (
   ],
   λ before. elim before [
     | inl longer ↦ rw (below (length q) (length p) longer) refl
-    | inr (same, (front, a, b, more, rest, left, right, less)) ↦ rw (same, alike (length q), left, right) (larger front a b more rest less)
+    | inr (same, is) ↦
+        rw (same, alike (length q), is.is_left, is.is_right)
+        (larger is.same is.smaller is.greater is.left_rest is.right_rest is.less)
   ],
 )
 

@@ -88,7 +88,7 @@ module _ (anchors : Bool) where
   behind_byte b p q same t = elim (cases_Bool (b == star)) [
     | inl star ↦ rw star (λ (s, i, m). (s, i, (same s).0 m), λ (s, i, m). (s, i, (same s).1 m))
     | inr other ↦ elim (cases_Bool (anchors && (b == dollar))) [
-      | inl end ↦ rw (other, end) (λ (e, m). (e, (same t).0 m), λ (e, m). (e, (same t).1 m))
+      | inl end ↦ rw (other, end) (λ (s, e, m). (s, e, (same s).0 m), λ (s, e, m). (s, e, (same s).1 m))
       | inr plain ↦ rw (other, plain) (λ (s, e, m). (s, e, (same s).0 m), λ (s, e, m). (s, e, (same s).1 m))
     ]
   ]
@@ -114,7 +114,7 @@ only_marks_match (b ∷ q) =
         λ (s, (front, e), m). match (rw (none_left front s e) at m),
       )
       | inr other ↦ elim (cases_Bool (b == dollar)) [
-        | inl end ↦ rw (other, end) (λ m. (refl, marks m), λ (e, m). match m)
+        | inl end ↦ rw (other, end) (λ m. ([], (refl, refl), marks m), λ (s, (e, gone), m). match (rw gone at m))
         | inr plain ↦ rw (other, plain) (λ e. absurd (false≢true e), λ (s, e, m). cc)
       ]
     ]
@@ -122,11 +122,12 @@ only_marks_match (b ∷ q) =
 -- a pattern that closes matches the empty text alone, and any other from a dollar on matches nothing
 pub closes_decides : (q t : List ℕ) → Closes q → Matches q t ↔ (t ≡ [])
 unfolding MatchesWith
-closes_decides q t c = rw c.dollar (λ (e, m). e, λ e. (e, rw e c.empty))
+closes_decides q t c = rw c.dollar (λ (s, (e, gone), m). e, λ e. ([], (e, refl), c.empty))
 
 pub dollar_matches_none : (q t : List ℕ) → ¬ Closes (dollar ∷ q) → ¬ Matches (dollar ∷ q) t
 unfolding MatchesWith
-dollar_matches_none q t other (e, m) = other (record { behind = q; dollar = refl; empty = rw e at m })
+dollar_matches_none q t other (s, (e, gone), m) =
+    other (record { behind = q; dollar = refl; empty = rw gone at m })
 
 -- what begins with a mark and doesn't close matches more of a text where it matches less
 pub grows_at_mark : (q : List ℕ) → IsAtMark q → ¬ Closes q → Grows q

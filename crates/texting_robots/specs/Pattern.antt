@@ -15,14 +15,18 @@ longest_with_dollar = 4096
 abbrev pub IsSuffix : List ℕ → List ℕ → Type 0
 IsSuffix s t = (front : List ℕ) × (t ≡ front ++ s)
 
--- The pattern matches the text, or a beginning of it: a star stands for any bytes, and any other byte for itself.
--- Where `anchors` is true, a dollar stands for the text's end, wherever it stands in the pattern.
+-- The sign b stands for a beginning of t, and s is what is left behind it: a star for any beginning, and any other byte for
+-- itself. Where `anchors` is true, a dollar stands for nothing, at the text's end alone.
+abbrev pub Takes : Bool → ℕ → List ℕ → List ℕ → Type 0
+Takes anchors b t s =
+    MatchBool (b == star) (IsSuffix s t)
+    (MatchBool (anchors && (b == dollar)) ((t ≡ []) × (s ≡ []))
+    (t ≡ b ∷ s))
+
+-- the pattern matches the text, or a beginning of it: its signs take what they stand for, one after the other
 unfoldable pub MatchesWith : Bool → List ℕ → List ℕ → Type 0
 MatchesWith anchors [] t = Unit {0}
-MatchesWith anchors (b ∷ q) t =
-    MatchBool (b == star) ((s : List ℕ) × IsSuffix s t × MatchesWith anchors q s)
-    (MatchBool (anchors && (b == dollar)) ((t ≡ []) × MatchesWith anchors q t)
-    ((s : List ℕ) × (t ≡ b ∷ s) × MatchesWith anchors q s))
+MatchesWith anchors (b ∷ q) t = (s : List ℕ) × Takes anchors b t s × MatchesWith anchors q s
 
 -- what a rule's pattern matches
 abbrev pub Matches : List ℕ → List ℕ → Type 0
