@@ -6,8 +6,8 @@ use Rattle.std.specs.List.{list_any, cons_option, filter_map, enumerate_from}
 use Rattle.std.proofs.lemmas.Bool.Decides.{Decides-below_or, Decides-and, Decides-or, Decides-not, Decides-ltb, Decides-like}
 use Rattle.std.proofs.lemmas.Bool.{cases_Bool, or_cases, or_left, or_right, and_left, and_right, le-ltb, lt-ltb, false≢true}
 use Rattle.texting_robots.specs.declared.groups.Walk.{Walk}
-use Rattle.texting_robots.specs.Line.{LineValue, UserAgent, is_agent, is_group}
-use Rattle.texting_robots.specs.Group.{names, passes_at, NoAgent, IsCaptured, some_below, is_captured, from_captured, group_name, Mark, marks_of, in_captured}
+use Rattle.texting_robots.specs.Line.{LineValue, UserAgent}
+use Rattle.texting_robots.specs.Group.{IsCaptured, Mark, NoAgent, from_captured, group_name, in_captured, is_agent, is_captured, is_group, marks_of, is_agent_named, passes_at, some_below}
 use Rattle.texting_robots.specs.Rules.{PlacedRule, Rule, placed, rule_at, rule_in, rules_of, sitemap_at, sitemap_in, sitemaps_of, unplaced}
 use Rattle.texting_robots.specs.Computed.Group.{start_of, step, marks_from}
 
@@ -92,7 +92,7 @@ is_captured_decides name lines i =
     (j, below, is_named, λ (k, l, jk, kl, li, g, agent). apart (l, li, (agent, (k, kl, (jk, g))))))
     (λ (j, below, is_named, apart).
     (j, below, (is_named, λ (l, li, (agent, (k, kl, (jk, g)))). apart (k, l, jk, kl, li, g, agent))))
-    (named_decides (passes_at is_agent lines) (passes_at is_group lines) (passes_at (names name) lines) i))
+    (named_decides (passes_at is_agent lines) (passes_at is_group lines) (passes_at (is_agent_named name) lines) i))
 
 -- ---- one place further
 
@@ -164,11 +164,11 @@ open_next G N i =
 -- ---- the walk
 
 abbrev pub open_in : List ℕ → List LineValue → ℕ → Bool
-open_in name lines i = open_at (passes_at is_group lines) (passes_at (names name) lines) i
+open_in name lines i = open_at (passes_at is_group lines) (passes_at (is_agent_named name) lines) i
 
 abbrev named_in : List ℕ → List LineValue → ℕ → Bool
 named_in name lines i =
-    named_at (passes_at is_agent lines) (passes_at is_group lines) (passes_at (names name) lines) i
+    named_at (passes_at is_agent lines) (passes_at is_group lines) (passes_at (is_agent_named name) lines) i
 
 -- the walk's state says what the definition says of this place
 pub record Stands (name : List ℕ) (lines : List LineValue) (i : ℕ) (walk : Walk) : Type 0 where
@@ -181,21 +181,21 @@ stands_first name lines = record { captured = or-false _; named = refl }
 -- the tests at the place are those of its line
 named_on : (name : List ℕ) (lines : List LineValue) (i : ℕ) (line : LineValue) → slice_get lines i ≡ Some line
     → is_captured name lines (i + 1) ≡ (not (list_any is_agent lines)
-    || (names name line || cond (is_agent line) (open_in name lines i) (named_in name lines i)))
+    || (is_agent_named name line || cond (is_agent line) (open_in name lines i) (named_in name lines i)))
 named_on name lines i line at =
     ap (is_captured name lines) (add-one i)
     ∙ ap (λ b. not (list_any is_agent lines) || b)
-    (named_next (passes_at is_agent lines) (passes_at is_group lines) (passes_at (names name) lines) i)
+    (named_next (passes_at is_agent lines) (passes_at is_group lines) (passes_at (is_agent_named name) lines) i)
     ∙ rw at refl
 
 open_on : (name : List ℕ) (lines : List LineValue) (i : ℕ) (line : LineValue) → slice_get lines i ≡ Some line
-    → open_in name lines (i + 1) ≡ (names name line || (not (is_group line) && open_in name lines i))
+    → open_in name lines (i + 1) ≡ (is_agent_named name line || (not (is_group line) && open_in name lines i))
 open_on name lines i line at =
     ap (open_in name lines) (add-one i)
-    ∙ open_next (passes_at is_group lines) (passes_at (names name) lines) i
+    ∙ open_next (passes_at is_group lines) (passes_at (is_agent_named name) lines) i
     ∙ rw at refl
 
-only_agents : (name : List ℕ) (line : LineValue) → is_agent line ≡ false → names name line ≡ false
+only_agents : (name : List ℕ) (line : LineValue) → is_agent line ≡ false → is_agent_named name line ≡ false
 only_agents name (UserAgent value) isnt = absurd (false≢true (sym isnt))
 only_agents name _ isnt = refl
 
@@ -207,7 +207,7 @@ stands_next name lines i walk line at stands = record {
     | inl is ↦ rw (is, (some_passes is_agent lines).1 (i, rw (at, is) refl), stands.named) refl
     | inr isnt ↦ rw (isnt, only_agents name line isnt) stands.captured
   ];
-  named = open_on name lines i line at ∙ ap (λ b. names name line || (not (is_group line) && b)) stands.named;
+  named = open_on name lines i line at ∙ ap (λ b. is_agent_named name line || (not (is_group line) && b)) stands.named;
 }
 
 pub at_front : (lines : List LineValue) (place : ℕ) (line : LineValue) (rest : List LineValue)

@@ -5,8 +5,8 @@ use Rattle.std.specs.Option.{option_or}
 use Rattle.std.specs.Str.{str_to_ascii_lowercase}
 use Rattle.std.proofs.lemmas.Bool.{cases_Bool, false≢true, false_from_ne_true}
 use Rattle.texting_robots.specs.declared.groups.Walk.{Walk}
-use Rattle.texting_robots.specs.Line.{LineValue, UserAgent, Allow, Disallow, Sitemap, CrawlDelay, Raw, is_agent, is_raw, is_sitemap, delay_in}
-use Rattle.texting_robots.specs.Group.{names, group_name, IsCaptured, from_captured, marks_of}
+use Rattle.texting_robots.specs.Line.{LineValue, UserAgent, Allow, Disallow, Sitemap, CrawlDelay, Raw, is_raw, is_sitemap, delay_in}
+use Rattle.texting_robots.specs.Group.{IsCaptured, from_captured, group_name, is_agent, marks_of, is_agent_named}
 use Rattle.texting_robots.specs.Rules.{Rule, rule_at, rule_in, sitemap_in, last_or, before_agent, rules_of, delay_for, sitemaps_of, unplaced}
 use Rattle.texting_robots.specs.Pattern.{IsOverlong}
 use Rattle.texting_robots.specs.Verdict.{IsVerdict}
@@ -30,7 +30,7 @@ same_from agent lines other others rules delay = record {
 -- the line plays no part in groups, rules and delays
 pub record IsNeutral (line : LineValue) : Type 0 where
   pub agent : is_agent line ≡ false
-  pub names : (name : List ℕ) → names name line ≡ false
+  pub names : (name : List ℕ) → is_agent_named name line ≡ false
   pub rule : rule_in line ≡ None
   pub delay : delay_in line ≡ None
   pub step : (name : List ℕ) (walk : Walk) → step name walk line ≡ walk
@@ -80,7 +80,7 @@ before_kept given keep neutral drops (line ∷ lines) =
     ]
 
 name_kept : (agent : List ℕ) (keep : LineValue → Bool) → DropsNeutral keep → (lines : List LineValue) → group_name agent lines ≡ group_name agent (filter keep lines)
-name_kept agent keep neutral lines = ap (λ b. cond b (str_to_ascii_lowercase agent) (codes "*")) (any_kept (names (str_to_ascii_lowercase agent)) keep (λ line dropped. (neutral line dropped).names (str_to_ascii_lowercase agent)) lines)
+name_kept agent keep neutral lines = ap (λ b. cond b (str_to_ascii_lowercase agent) (codes "*")) (any_kept (is_agent_named (str_to_ascii_lowercase agent)) keep (λ line dropped. (neutral line dropped).names (str_to_ascii_lowercase agent)) lines)
 
 start_kept : (keep : LineValue → Bool) → DropsNeutral keep → (lines : List LineValue) → start_of lines ≡ start_of (filter keep lines)
 start_kept keep neutral lines = ap (λ b. let w : Walk = record { captured = not b; named = false } in w) (any_kept is_agent keep (λ line dropped. (neutral line dropped).agent) lines)
@@ -148,7 +148,7 @@ sitemaps_change_nothing_else agent lines others same = same_kept (λ line. not (
 
 pub agent_case : AgentCase
 agent_case agent other lines same =
-    let name : group_name agent lines ≡ group_name other lines = ap (λ (n : List ℕ). cond (list_any (names n) lines) n (codes "*")) same in (
+    let name : group_name agent lines ≡ group_name other lines = ap (λ (n : List ℕ). cond (list_any (is_agent_named n) lines) n (codes "*")) same in (
       same_from agent lines other lines
           (ap (λ n. unplaced (filter_map rule_at (marks_of n lines))) name)
           (ap (λ n. option_or (slice_get (from_captured delay_in n lines) 0) (cond (list_any is_agent lines) (last_or None (filter_map delay_in (before_agent lines))) None)) name),
@@ -173,7 +173,7 @@ stands_walked name all walk place (line ∷ front) back stands left =
 -- what two lines of one kind have in common
 pub record IsAlike (line other : LineValue) : Type 0 where
   pub agent : is_agent line ≡ is_agent other
-  pub names : (name : List ℕ) → names name line ≡ names name other
+  pub names : (name : List ℕ) → is_agent_named name line ≡ is_agent_named name other
   pub delay : delay_in line ≡ delay_in other
   pub sitemap : sitemap_in line ≡ sitemap_in other
   pub step : (name : List ℕ) (walk : Walk) → step name walk line ≡ step name walk other
@@ -219,7 +219,7 @@ captured_uncaptured given agent front back line other same uncaptured =
     let lines : List LineValue = front ++ line ∷ back in
     let others : List LineValue = front ++ other ∷ back in
     let name : List ℕ = group_name agent lines in
-    let names_same : name ≡ group_name agent others = ap (λ b. cond b (str_to_ascii_lowercase agent) (codes "*")) (any_alike (names (str_to_ascii_lowercase agent)) front back line other (same.names (str_to_ascii_lowercase agent))) in
+    let names_same : name ≡ group_name agent others = ap (λ b. cond b (str_to_ascii_lowercase agent) (codes "*")) (any_alike (is_agent_named (str_to_ascii_lowercase agent)) front back line other (same.names (str_to_ascii_lowercase agent))) in
     let start_same : start_of lines ≡ start_of others = ap (λ b. let w : Walk = record { captured = not b; named = false } in w) (any_alike is_agent front back line other same.agent) in
     let stands : Stands name lines (0 + length front) (walked name (start_of lines) front) = stands_walked name lines (start_of lines) 0 front (line ∷ back) (stands_first name lines) refl in
     let here : Stands name lines (length front) (walked name (start_of lines) front) = rw (zero-add (length front)) at stands in

@@ -10,11 +10,12 @@ use Rattle.std.proofs.lemmas.List.Elements.{All-push}
 use Rattle.std.proofs.lemmas.Str.{IsUtf8-from_is_utf8, is_utf8-from_IsUtf8}
 use Rattle.texting_robots.specs.declared.error.Error.{Error}
 use Rattle.texting_robots.specs.declared.error.Error.TheVariants as mine
-use Rattle.texting_robots.specs.Line.{LineValue, is_agent, delay_in}
+use Rattle.texting_robots.specs.Line.{LineValue, delay_in}
 use Rattle.texting_robots.specs.Escape.{escaped}
 use Rattle.texting_robots.specs.Rules.{PlacedRule, Rule, before_agent, last_or, unplaced}
 use Rattle.texting_robots.specs.Error.{IsMemoryOr}
 use Rattle.texting_robots.proofs.FirstLemmas.{placed_of}
+use Rattle.texting_robots.specs.Group.{is_agent}
 
 -- ---- values that are texts
 

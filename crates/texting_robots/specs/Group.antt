@@ -1,19 +1,34 @@
 -- Which lines are captured for an agent, by their places in a file.
-use Rattle.std.specs.Prelude.{◌⊎◌, ℕ, zero, suc, ◌+◌, ◌<◌, nat_lt, Bool, false, not, ◌&&◌, ◌||◌, List, Option, None, IsTrue, codes, map, slice_get, bytes_eq, if◌then◌else◌}
+use Rattle.std.specs.Prelude.{◌⊎◌, ℕ, zero, suc, ◌+◌, ◌<◌, nat_lt, Bool, true, false, not, ◌&&◌, ◌||◌, List, Option, None, IsTrue, codes, map, slice_get, bytes_eq, if◌then◌else◌}
 use Rattle.std.specs.List.{list_any, filter_map, enumerate_from}
 use Rattle.std.specs.Option.{option_map_or}
 use Rattle.std.specs.Str.{str_to_ascii_lowercase}
 use Rattle.texting_robots.specs.declared.groups.Marked.{Marked}
-use Rattle.texting_robots.specs.Line.{LineValue, UserAgent, by_value, is_agent, is_group}
+use Rattle.texting_robots.specs.Line.{Allow, CrawlDelay, Disallow, LineValue, UserAgent, by_value}
+
+-- ---- what groups ask of a line
+
+abbrev pub is_agent : LineValue → Bool
+is_agent (UserAgent value) = true
+is_agent _ = false
+
+-- an Allow, a Disallow or a delay
+abbrev pub is_group : LineValue → Bool
+is_group (Allow value) = true
+is_group (Disallow value) = true
+is_group (CrawlDelay delay) = true
+is_group _ = false
 
 -- a user-agent line whose value lowers to the name
-abbrev pub names : List ℕ → LineValue → Bool
-names name (UserAgent value) = bytes_eq (str_to_ascii_lowercase value) name
-names name _ = false
+abbrev pub is_agent_named : List ℕ → LineValue → Bool
+is_agent_named name (UserAgent value) = bytes_eq (str_to_ascii_lowercase value) name
+is_agent_named name _ = false
+
+-- ---- captured lines
 
 -- the lowered agent where some line names it, else a star
 abbrev pub group_name : List ℕ → List LineValue → List ℕ
-group_name agent lines = if list_any (names (str_to_ascii_lowercase agent)) lines then str_to_ascii_lowercase agent else codes "*"
+group_name agent lines = if list_any (is_agent_named (str_to_ascii_lowercase agent)) lines then str_to_ascii_lowercase agent else codes "*"
 
 -- a line stands at the place, and passes the test
 abbrev pub passes_at : (LineValue → Bool) → List LineValue → ℕ → Bool
@@ -22,11 +37,15 @@ passes_at test lines at = option_map_or test (slice_get lines at) false
 abbrev pub NoAgent : List LineValue → Type 0
 NoAgent lines = (k : ℕ) → ¬ IsTrue (passes_at is_agent lines k)
 
--- a user-agent line before the place holds the name, and between the two no user-agent line follows a group line
+-- between the two places a user-agent line stands behind a group line
+abbrev pub HasNewRun : List LineValue → ℕ → ℕ → Type 0
+HasNewRun lines j i =
+    (k : ℕ) × (l : ℕ) × (j < k) × (k < l) × (l < i) × IsTrue (passes_at is_group lines k) × IsTrue (passes_at is_agent lines l)
+
+-- a user-agent line before the place holds the name, and no new run of user-agent lines begins between the two
 abbrev pub IsNamedBefore : List ℕ → List LineValue → ℕ → Type 0
 IsNamedBefore name lines i =
-    (j : ℕ) × (j < i) × IsTrue (passes_at (names name) lines j)
-    × ¬ ((k : ℕ) × (l : ℕ) × (j < k) × (k < l) × (l < i) × IsTrue (passes_at is_group lines k) × IsTrue (passes_at is_agent lines l))
+    (j : ℕ) × (j < i) × IsTrue (passes_at (is_agent_named name) lines j) × ¬ (HasNewRun lines j i)
 
 -- a group line at this place, if one stands there, is captured
 abbrev pub IsCaptured : List ℕ → List LineValue → ℕ → Type 0
@@ -39,11 +58,14 @@ abbrev pub some_below : (ℕ → Bool) → ℕ → Bool
 some_below test zero = false
 some_below test (suc n) = test n || some_below test n
 
+abbrev pub has_new_run : List LineValue → ℕ → ℕ → Bool
+has_new_run lines j i =
+    some_below (λ l. passes_at is_agent lines l && some_below (λ k. nat_lt j k && passes_at is_group lines k) l) i
+
 abbrev pub is_captured : List ℕ → List LineValue → ℕ → Bool
 is_captured name lines i =
     not (list_any is_agent lines)
-    || some_below (λ j. passes_at (names name) lines j
-    && not (some_below (λ l. passes_at is_agent lines l && some_below (λ k. nat_lt j k && passes_at is_group lines k) l) i)) i
+    || some_below (λ j. passes_at (is_agent_named name) lines j && not (has_new_run lines j i)) i
 
 -- ---- the lines one by one
 

@@ -100,18 +100,7 @@ pub record HoldRangesOf (lines : List LineValue) (text : List ℕ) : Type 0 wher
   pub whole : text ≡ taken ++ joined pairs
   pub each : AllZip HoldsRangeOf lines (map (λ pair. pair.body) pairs)
 
--- ---- what a line is to a reader of groups
-
-abbrev pub is_agent : LineValue → Bool
-is_agent (UserAgent value) = true
-is_agent _ = false
-
--- an Allow, a Disallow or a delay
-abbrev pub is_group : LineValue → Bool
-is_group (Allow value) = true
-is_group (Disallow value) = true
-is_group (CrawlDelay delay) = true
-is_group _ = false
+-- ---- what else is asked of a line
 
 abbrev pub is_sitemap : LineValue → Bool
 is_sitemap (Sitemap value) = true

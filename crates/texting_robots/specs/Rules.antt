@@ -3,8 +3,8 @@ use Rattle.std.specs.Prelude.{◌≡◌, ℕ, Bool, true, false, List, [], ◌�
 use Rattle.std.specs.List.{list_any, filter_map}
 use Rattle.std.specs.Option.{option_or}
 use Rattle.std.specs.Str.{is_utf8}
-use Rattle.texting_robots.specs.Line.{LineValue, Allow, Disallow, Sitemap, is_agent, delay_in}
-use Rattle.texting_robots.specs.Group.{Mark, from_captured, group_name, in_captured, marks_of}
+use Rattle.texting_robots.specs.Line.{LineValue, Allow, Disallow, Sitemap, delay_in}
+use Rattle.texting_robots.specs.Group.{Mark, from_captured, group_name, in_captured, is_agent, marks_of}
 use Rattle.texting_robots.specs.Escape.{escaped}
 use Rattle.texting_robots.specs.Pattern.{IsOverlong}
 

@@ -4,12 +4,40 @@ ghost use Rattle.std.specs.Iterator.{YieldsFirstBy, item_count};
 ghost use Rattle.std.specs.List.{list_any};
 ghost use Rattle.std.specs.Str.{str_to_ascii_lowercase};
 ghost use Rattle.texting_robots.specs.Computed.Group.{step};
-ghost use Rattle.texting_robots.specs.Group.{group_name, mark_of, marks_of};
-ghost use Rattle.texting_robots.specs.Line.{by_value, is_agent};
+ghost use Rattle.texting_robots.specs.Group.{group_name, is_agent, is_agent_named, mark_of, marks_of};
+ghost use Rattle.texting_robots.specs.Line.{by_value, delay_in};
 ghost use Rattle.texting_robots.specs.Rules.{delay_before_agents};
 
 use crate::parser::{Line, LineIter};
 use std::marker::Model;
+
+/// Whether it is an agent line.
+fn is_agent(line: Line<'_>) -> bool
+    ensures { result ≡ is_agent (by_value line.entry) }
+{
+    matches!(line, Line::UserAgent(_))
+}
+
+/// Whether it is an agent line of this name, ASCII letters in any case.
+#[tactic(auto, using(crate::proofs::NameLemmas::tested_names))]
+fn is_agent_named(line: Line<'_>, name: &[u8]) -> bool
+    ensures { result ≡ is_agent_named (str_to_ascii_lowercase name.now) (by_value line.entry) }
+{
+    match line {
+        Line::UserAgent(value) => value.eq_ignore_ascii_case(name),
+        _ => false,
+    }
+}
+
+/// The delay that a line gives.
+fn delay_in(line: Line<'_>) -> Option<u64>
+    ensures { result ≡ delay_in (by_value line.entry) }
+{
+    match line {
+        Line::CrawlDelay(delay) => delay,
+        _ => None,
+    }
+}
 
 /// What the first pass over a file finds out for an agent.
 #[derive(Drop)]
@@ -32,16 +60,16 @@ pub(crate) fn group_for<'a>(agent: &'a [u8], lines: LineIter<'_>) -> Group<'a>
     let mut has_agents = false;
     let mut last = None;
     for line in lines {
-        if line.names(agent) {
+        if is_agent_named(line, agent) {
             return Group {
                 name: agent,
                 has_agents: true,
                 stray_delay: last,
             };
         }
-        has_agents = has_agents || line.is_agent();
+        has_agents = has_agents || is_agent(line);
         if !has_agents {
-            last = line.delay().or(last);
+            last = delay_in(line).or(last);
         }
     }
     Group {
@@ -67,7 +95,7 @@ impl Walk {
     {
         match line {
             Line::UserAgent(_) => {
-                self.named = self.named || line.names(name);
+                self.named = self.named || is_agent_named(line, name);
                 self.captured = self.named;
             }
             Line::Allow(_) | Line::Disallow(_) | Line::CrawlDelay(_) => self.named = false,

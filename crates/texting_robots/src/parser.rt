@@ -1,10 +1,8 @@
 //! The lines of a robots.txt file.
 ghost use Rattle.std.specs.Prelude.{◌≡◌, ◌≤◌, IfErr, IfOk, length, map};
-ghost use Rattle.std.specs.Str.{str_to_ascii_lowercase};
 ghost use Rattle.std.specs.Iterator.{YieldsFirstBy, item_count};
 ghost use Rattle.texting_robots.specs.Computed.Line.{file_lines, line_of, line_with, parsed};
-ghost use Rattle.texting_robots.specs.Group.{names};
-ghost use Rattle.texting_robots.specs.Line.{AreFileLinesOf, AreLinesOf, HoldRangesOf, by_value, delay_in, is_agent, without_front};
+ghost use Rattle.texting_robots.specs.Line.{AreFileLinesOf, AreLinesOf, HoldRangesOf, by_value, without_front};
 
 mod cut;
 mod delay;
@@ -32,36 +30,6 @@ pub enum Line<'a> {
     CrawlDelay(Option<u64>),
     /// All else: the whole line without its end.
     Raw(&'a [u8]),
-}
-
-impl<'a> Line<'a> {
-    /// Whether it is an agent line.
-    pub(crate) fn is_agent(&self) -> bool
-        ensures { result ≡ is_agent (by_value self.now) }
-    {
-        matches!(self, Line::UserAgent(_))
-    }
-
-    /// Whether it is an agent line of this name, ASCII letters in any case.
-    #[tactic(auto, using(crate::proofs::NameLemmas::tested_names))]
-    pub(crate) fn names(&self, name: &[u8]) -> bool
-        ensures { result ≡ names (str_to_ascii_lowercase name.now) (by_value self.now) }
-    {
-        match self {
-            Line::UserAgent(value) => value.eq_ignore_ascii_case(name),
-            _ => false,
-        }
-    }
-
-    /// The delay that it gives.
-    pub(crate) fn delay(&self) -> Option<u64>
-        ensures { result ≡ delay_in (by_value self.now) }
-    {
-        match self {
-            Line::CrawlDelay(delay) => *delay,
-            _ => None,
-        }
-    }
 }
 
 /// An iterator over the lines of a text, which takes no memory.

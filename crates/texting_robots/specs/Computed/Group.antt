@@ -2,8 +2,8 @@
 use Rattle.std.specs.Prelude.{ℕ, ◌+◌, false, not, ◌&&◌, ◌||◌, List, [], ◌∷◌, if◌then◌else◌}
 use Rattle.std.specs.List.{list_any}
 use Rattle.texting_robots.specs.declared.groups.Walk.{Walk}
-use Rattle.texting_robots.specs.Group.{Mark, names}
-use Rattle.texting_robots.specs.Line.{LineValue, is_agent, is_group}
+use Rattle.texting_robots.specs.Group.{Mark, is_agent, is_group, is_agent_named}
+use Rattle.texting_robots.specs.Line.{LineValue}
 
 -- before the first line
 abbrev pub start_of : List LineValue → Walk
@@ -12,8 +12,8 @@ start_of lines = record { captured = not (list_any is_agent lines); named = fals
 -- one line further
 abbrev pub step : List ℕ → Walk → LineValue → Walk
 step name walk line = record {
-  captured = if is_agent line then names name line || walk.named else walk.captured;
-  named = names name line || (not (is_group line) && walk.named);
+  captured = if is_agent line then is_agent_named name line || walk.named else walk.captured;
+  named = is_agent_named name line || (not (is_group line) && walk.named);
 }
 
 -- the lines that are left, marked by the walk

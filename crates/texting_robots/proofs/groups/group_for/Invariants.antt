@@ -1,15 +1,14 @@
 use Rattle.std.proofs.Common.{◌≡◌, ◌||◌, cond}
 use Rattle.std.specs.List.{list_any}
 use Rattle.std.specs.Str.{str_to_ascii_lowercase}
-use Rattle.texting_robots.specs.Group.{names}
-use Rattle.texting_robots.specs.Line.{is_agent}
+use Rattle.texting_robots.specs.Group.{is_agent, is_agent_named}
 use Rattle.texting_robots.specs.Rules.{delay_before_agents}
 use Rattle.texting_robots.proofs.RulesLemmas.{stray_from}
 use Rattle.texting_robots.proofs.groups.group_for.Given as goal
 
 abbrev pub invariant-loop-line : goal.invariant-loop-line
 invariant-loop-line l =
-    let is_its = names (str_to_ascii_lowercase l.agent) in
+    let is_its = is_agent_named (str_to_ascii_lowercase l.agent) in
     record {
       named : list_any is_its l.line-iterator ≡ list_any is_its l.fn.lines;
       agents : (l.has_agents || list_any is_agent l.line-iterator) ≡ list_any is_agent l.fn.lines;
