@@ -3,16 +3,15 @@ use crate::calls::{Asked, PAGE, PAGE_LINES, make_asked};
 use std::alloc::Global;
 use std::cmp::Ordering;
 use texting_robots::minregex::MinRegex;
-use texting_robots::parser::{Line, LineIter, lines, read_delay};
+use texting_robots::parser::{Line, LineIter, file_lines, lines, read_delay};
 use texting_robots::view::View;
-use texting_robots::{Error, Robot};
+use texting_robots::{Decision, Error, Robot};
 
 /// The names of the calls, in the order in which they are made.
-///
-/// As soon as files are read in place, `LINE_ENDS` stands here too, and its line in the file `stdout`.
 pub(crate) const NAMES: &[&str] = &[
     "Robot::allowed_prepared without memory",
     "Robot::allowed_view without memory",
+    "Robot::decision without memory",
     "MinRegex::is_match without memory",
     "MinRegex::matches_view without memory",
     "MinRegex::match_stars without memory",
@@ -20,7 +19,9 @@ pub(crate) const NAMES: &[&str] = &[
     "comparisons without memory",
     "View without memory",
     "parser::lines without memory",
+    "parser::file_lines without memory",
     "parser::read_delay without memory",
+    LINE_ENDS,
 ];
 
 /// The name of `Robot::new` on a file of line ends alone.
@@ -32,6 +33,7 @@ pub(crate) fn answer(alloc: Global, name: &str) -> Result<bool, Error> {
     match name {
         "Robot::allowed_prepared without memory" => Ok(asks_prepared(&asked.robot)),
         "Robot::allowed_view without memory" => Ok(asks_view(&asked.robot)),
+        "Robot::decision without memory" => Ok(asks_decision(&asked.robot)),
         "MinRegex::is_match without memory" => Ok(asks_match(&asked.pattern)),
         "MinRegex::matches_view without memory" => Ok(asks_match_of_view(&asked.pattern)),
         "MinRegex::match_stars without memory" => Ok(asks_match_of_stars(&asked.pattern)),
@@ -39,7 +41,7 @@ pub(crate) fn answer(alloc: Global, name: &str) -> Result<bool, Error> {
         "comparisons without memory" => Ok(compares(&asked)),
         "View without memory" => Ok(looks()),
         "parser::lines without memory" => Ok(gives_page(lines(PAGE))),
-        // here `file_lines` is asked in the same way as soon as it is public
+        "parser::file_lines without memory" => Ok(gives_page(file_lines(PAGE))),
         "parser::read_delay without memory" => Ok(reads_delays()),
         LINE_ENDS => reads_line_ends(alloc),
         _ => Ok(false),
@@ -56,6 +58,15 @@ fn asks_prepared(robot: &Robot) -> bool {
 fn asks_view(robot: &Robot) -> bool {
     let mut view = View::new("/forest/tree/snake.py");
     !robot.allowed_view(&mut view) && robot.allowed_view(&mut View::new("/ocean"))
+}
+
+fn asks_decision(robot: &Robot) -> bool {
+    let refused = Decision {
+        allowed: false,
+        line: Some(4),
+    };
+    robot.decision(&mut View::new("/forest/tree/snake.py")) == refused
+        && robot.decision(&mut View::new("/robots.txt")).line == None
 }
 
 fn asks_match(pattern: &MinRegex) -> bool {

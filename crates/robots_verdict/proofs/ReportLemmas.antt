@@ -9,7 +9,7 @@ use Rattle.texting_robots.specs.Decision.{IsDecidingLine}
 use Rattle.texting_robots.specs.Line.{LineValue}
 use Rattle.texting_robots.specs.Prepared.{prepared}
 use Rattle.texting_robots.specs.Robot.{IsRobotOf, RobotValue}
-use Rattle.texting_robots.specs.Rules.{IsRefused, PlacedRule, Rule, delay_for, placed_rules, sitemaps_of, unplaced}
+use Rattle.texting_robots.specs.Rules.{IsRefused, PlacedRule, Rule, delay_for, placed_rules, sitemaps_in, unplaced}
 use Rattle.texting_robots.specs.Verdict.{IsVerdict}
 use Rattle.texting_robots.proofs.VerdictLemmas.{one_line_decides}
 use Rattle.robots_verdict.specs.declared.fault.Fault.{Fault}
@@ -90,7 +90,7 @@ pub text_made : (agent : List ℕ) (urls : List (List ℕ)) (file one two text :
 text_made agent urls file one two text robot is first second last =
     let lines = lines_read file in
     let delay : List (List ℕ) = delay_line (delay_for agent lines) ∷ [] in
-    let sitemaps : List (List ℕ) = map sitemap_line (sitemaps_of lines) in
+    let sitemaps : List (List ℕ) = map sitemap_line (sitemaps_in lines) in
     record {
       verdict_lines = last.lines;
       verdicts = lines_like agent lines robot is urls last.lines last.verdicts;
@@ -127,7 +127,7 @@ text_once : (agent : List ℕ) (urls : List (List ℕ)) (file text other : List 
 text_once agent urls file text other one two =
     let lines = lines_read file in
     one.whole
-    ∙ ap (λ verdicts. ended (delay_line (delay_for agent lines) ∷ (map sitemap_line (sitemaps_of lines) ++ verdicts)))
+    ∙ ap (λ verdicts. ended (delay_line (delay_for agent lines) ∷ (map sitemap_line (sitemaps_in lines) ++ verdicts)))
     (lines_once (placed_rules agent lines) urls one.verdict_lines two.verdict_lines one.verdicts two.verdicts)
     ∙ sym two.whole
 

@@ -6,7 +6,7 @@ use Rattle.texting_robots.specs.Computed.Line.{file_lines}
 use Rattle.texting_robots.specs.Decision.{IsDecidingLine}
 use Rattle.texting_robots.specs.Line.{LineValue}
 use Rattle.texting_robots.specs.Prepared.{prepared}
-use Rattle.texting_robots.specs.Rules.{IsRefused, PlacedRule, delay_for, placed_rules, sitemaps_of, unplaced}
+use Rattle.texting_robots.specs.Rules.{IsRefused, PlacedRule, delay_for, placed_rules, sitemaps_in, unplaced}
 use Rattle.texting_robots.specs.Verdict.{IsVerdict}
 use Rattle.texting_robots.specs.declared.robot.TheConstants.{FILE_LIMIT}
 use Rattle.robots_verdict.specs.declared.fault.Fault.{Fault}
@@ -51,7 +51,7 @@ pub record IsReportText (agent : List ℕ) (urls : List (List ℕ)) (file text :
   pub verdict_lines : List (List ℕ)
   pub verdicts : AllZip (IsVerdictLine (placed_rules agent (lines_read file))) urls verdict_lines
   pub whole : text ≡ ended (delay_line (delay_for agent (lines_read file))
-      ∷ (map sitemap_line (sitemaps_of (lines_read file)) ++ verdict_lines))
+      ∷ (map sitemap_line (sitemaps_in (lines_read file)) ++ verdict_lines))
 
 -- ---- the report of an input
 

@@ -8,7 +8,7 @@ use Rattle.std.proofs.lemmas.Bool.{cases_Bool, or_cases, or_left, or_right, and_
 use Rattle.texting_robots.specs.declared.groups.Walk.{Walk}
 use Rattle.texting_robots.specs.Line.{LineValue, UserAgent}
 use Rattle.texting_robots.specs.Group.{IsCaptured, Mark, NoAgent, from_captured, group_name, in_captured, is_agent, is_captured, is_group, marks_of, is_agent_named, passes_at, some_below}
-use Rattle.texting_robots.specs.Rules.{PlacedRule, Rule, placed, rule_at, rule_in, rules_of, sitemap_at, sitemap_in, sitemaps_of, unplaced}
+use Rattle.texting_robots.specs.Rules.{PlacedRule, Rule, placed, rule_at, rule_in, rules_for, sitemap_at, sitemap_in, sitemaps_in, unplaced}
 use Rattle.texting_robots.specs.Computed.Group.{start_of, step, marks_from}
 
 -- ---- tests of places: of agent lines, group lines and agent lines of the name
@@ -251,18 +251,18 @@ unplaced_found (mark ∷ marks) =
     unplaced_next mark.number (in_captured rule_in mark) (filter_map rule_at marks) _ (unplaced_found marks)
 
 pub rules_are : (agent : List ℕ) (lines : List LineValue)
-    → rules_of agent lines ≡ from_captured rule_in (group_name agent lines) lines
+    → rules_for agent lines ≡ from_captured rule_in (group_name agent lines) lines
 rules_are agent lines = unplaced_found (marks_of (group_name agent lines) lines)
 
 sitemaps_from : (test : ℕ → Bool) (n : ℕ) (lines : List LineValue)
-    → sitemaps_of lines ≡ filter_map sitemap_at (map (by_test test) (enumerate_from n lines))
+    → sitemaps_in lines ≡ filter_map sitemap_at (map (by_test test) (enumerate_from n lines))
 sitemaps_from test n [] = refl
 sitemaps_from test n (line ∷ lines) =
     ap (λ found. cons_option (sitemap_in line) found) (sitemaps_from test (n + 1) lines)
 
 -- the sitemaps of all marked lines are those of the lines
 pub sitemaps_are : (name : List ℕ) (lines : List LineValue)
-    → sitemaps_of lines ≡ filter_map sitemap_at (marks_of name lines)
+    → sitemaps_in lines ≡ filter_map sitemap_at (marks_of name lines)
 sitemaps_are name lines = sitemaps_from (is_captured name lines) 0 lines
 
 -- what the walk finds in the lines that are left

@@ -1,13 +1,13 @@
 -- What a change of the lines leaves as it was.
 use Rattle.std.proofs.Common.{◌≡◌, ◌↔◌, inl, inr, ℕ, suc, ◌+◌, Bool, true, false, not, ◌||◌, List, [], ◌∷◌, ◌++◌, Option, None, slice_get, length, drop, filter, cond, zero-add, add-zero, sym, refl, ap, ◌∙◌, subst, codes, arith}
-use Rattle.std.specs.List.{Any, list_any, cons_option, filter_map}
+use Rattle.std.specs.List.{Any, cons_option, filter_map, last_or, list_any}
 use Rattle.std.specs.Option.{option_or}
 use Rattle.std.specs.Str.{str_to_ascii_lowercase}
 use Rattle.std.proofs.lemmas.Bool.{cases_Bool, false≢true, false_from_ne_true}
 use Rattle.texting_robots.specs.declared.groups.Walk.{Walk}
 use Rattle.texting_robots.specs.Line.{LineValue, UserAgent, Allow, Disallow, Sitemap, CrawlDelay, Raw, is_raw, is_sitemap, delay_in}
 use Rattle.texting_robots.specs.Group.{IsCaptured, from_captured, group_name, is_agent, marks_of, is_agent_named}
-use Rattle.texting_robots.specs.Rules.{Rule, rule_at, rule_in, sitemap_in, last_or, before_agent, rules_of, delay_for, sitemaps_of, unplaced}
+use Rattle.texting_robots.specs.Rules.{Rule, rule_at, rule_in, sitemap_in, before_agent, rules_for, delay_for, sitemaps_in, unplaced}
 use Rattle.texting_robots.specs.Pattern.{IsOverlong}
 use Rattle.texting_robots.specs.Verdict.{IsVerdict}
 use Rattle.texting_robots.specs.Computed.Group.{start_of, step}
@@ -17,7 +17,7 @@ use Rattle.texting_robots.proofs.CapturedLemmas.{Stands, is_captured_decides, st
 along : {X : Type 0} (P : X → Type 0) (x y : X) → x ≡ y → P x ↔ P y
 along P x y e = (subst P e, subst P (sym e))
 
-same_from : (agent : List ℕ) (lines : List LineValue) (other : List ℕ) (others : List LineValue) → rules_of agent lines ≡ rules_of other others → delay_for agent lines ≡ delay_for other others → SameButSitemaps agent lines other others
+same_from : (agent : List ℕ) (lines : List LineValue) (other : List ℕ) (others : List LineValue) → rules_for agent lines ≡ rules_for other others → delay_for agent lines ≡ delay_for other others → SameButSitemaps agent lines other others
 same_from agent lines other others rules delay = record {
   rules = rules;
   verdict = λ text answer. along (λ (r : List Rule). IsVerdict r text answer) _ _ rules;
@@ -95,7 +95,7 @@ captured_kept given agent keep neutral drops lines =
     ∙ ap (λ w. caught given name w 0 (filter keep lines)) (start_kept keep neutral lines)
     ∙ sym (caught_all given name (filter keep lines))
 
-rules_kept : (agent : List ℕ) (keep : LineValue → Bool) → DropsNeutral keep → (lines : List LineValue) → rules_of agent lines ≡ rules_of agent (filter keep lines)
+rules_kept : (agent : List ℕ) (keep : LineValue → Bool) → DropsNeutral keep → (lines : List LineValue) → rules_for agent lines ≡ rules_for agent (filter keep lines)
 rules_kept agent keep neutral lines =
     rules_are agent lines ∙ captured_kept rule_in agent keep neutral (λ line dropped. (neutral line dropped).rule) lines
     ∙ sym (rules_are agent (filter keep lines))
@@ -108,7 +108,7 @@ delay_kept agent keep neutral lines =
 same_kept : (keep : LineValue → Bool) → DropsNeutral keep → (agent : List ℕ) (lines others : List LineValue) → filter keep lines ≡ filter keep others → SameButSitemaps agent lines agent others
 same_kept keep neutral agent lines others same =
     same_from agent lines agent others
-    (rules_kept agent keep neutral lines ∙ ap (λ ls. rules_of agent ls) same ∙ sym (rules_kept agent keep neutral others))
+    (rules_kept agent keep neutral lines ∙ ap (λ ls. rules_for agent ls) same ∙ sym (rules_kept agent keep neutral others))
     (delay_kept agent keep neutral lines ∙ ap (λ ls. delay_for agent ls) same ∙ sym (delay_kept agent keep neutral others))
 
 raw_neutral : DropsNeutral (λ line. not (is_raw line))
@@ -138,7 +138,7 @@ sitemap_neutral (Raw body) h = absurd (false≢true (sym h))
 pub raw_changes_nothing : RawChangesNothing
 raw_changes_nothing agent lines others same = (
   same_kept (λ line. not (is_raw line)) raw_neutral agent lines others same,
-  found_kept sitemap_in (λ line. not (is_raw line)) raw_no_sitemap lines ∙ ap (λ ls. sitemaps_of ls) same ∙ sym (found_kept sitemap_in (λ line. not (is_raw line)) raw_no_sitemap others),
+  found_kept sitemap_in (λ line. not (is_raw line)) raw_no_sitemap lines ∙ ap (λ ls. sitemaps_in ls) same ∙ sym (found_kept sitemap_in (λ line. not (is_raw line)) raw_no_sitemap others),
 )
 
 pub sitemaps_change_nothing_else : SitemapsChangeNothingElse

@@ -1,6 +1,6 @@
 -- What the code's loops keep.
 use Rattle.std.proofs.Common.{◌≡◌, ℕ, Bool, true, false, cond, List, [], ◌∷◌, ◌++◌, Option, Some, None, length, slice_get, Result, Ok, Err, IfErr, append_assoc, length-append, subst, sym, refl, ap, ◌∙◌, arith}
-use Rattle.std.specs.List.{list_any, cons_option, filter_map, Any, All}
+use Rattle.std.specs.List.{All, Any, cons_option, filter_map, last_or, list_any}
 use Rattle.std.specs.Option.{option_to_list, option_or, IfSome, IsSomeAnd}
 use Rattle.std.specs.Result.{IsErrAnd}
 use Rattle.std.specs.Str.{IsUtf8, is_utf8}
@@ -12,7 +12,7 @@ use Rattle.texting_robots.specs.declared.error.Error.{Error}
 use Rattle.texting_robots.specs.declared.error.Error.TheVariants as mine
 use Rattle.texting_robots.specs.Line.{LineValue, delay_in}
 use Rattle.texting_robots.specs.Escape.{escaped}
-use Rattle.texting_robots.specs.Rules.{PlacedRule, Rule, before_agent, last_or, unplaced}
+use Rattle.texting_robots.specs.Rules.{PlacedRule, Rule, before_agent, unplaced}
 use Rattle.texting_robots.specs.Error.{IsMemoryOr}
 use Rattle.texting_robots.proofs.FirstLemmas.{placed_of}
 use Rattle.texting_robots.specs.Group.{is_agent}

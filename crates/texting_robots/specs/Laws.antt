@@ -15,7 +15,7 @@ use Rattle.texting_robots.specs.Line.{Allow, AreFileLinesOf, AreLinesOf, Disallo
 use Rattle.texting_robots.specs.Order.{IsBefore, pattern_cmp}
 use Rattle.texting_robots.specs.Pattern.{Matches, MatchesWith, collapsed}
 use Rattle.texting_robots.specs.Robot.{IsRobotOf, RobotValue}
-use Rattle.texting_robots.specs.Rules.{IsRefused, PlacedRule, Rule, delay_for, placed_rules, rules_of, sitemaps_of}
+use Rattle.texting_robots.specs.Rules.{IsRefused, PlacedRule, Rule, delay_for, placed_rules, rules_for, sitemaps_in}
 use Rattle.texting_robots.specs.Statement.{IsStatement}
 use Rattle.texting_robots.specs.Verdict.{IsVerdict}
 
@@ -39,14 +39,14 @@ CrLfIsLf = (text : List ℕ) (lines : List LineValue) → AreLinesOf lines (feed
 
 -- one agent's lines and another's give the same rules, verdicts, delay and refusal
 pub record SameButSitemaps (agent : List ℕ) (lines : List LineValue) (other : List ℕ) (others : List LineValue) : Type 0 where
-  pub rules : rules_of agent lines ≡ rules_of other others
-  pub verdict : (text : List ℕ) (answer : Bool) → IsVerdict (rules_of agent lines) text answer ↔ IsVerdict (rules_of other others) text answer
+  pub rules : rules_for agent lines ≡ rules_for other others
+  pub verdict : (text : List ℕ) (answer : Bool) → IsVerdict (rules_for agent lines) text answer ↔ IsVerdict (rules_for other others) text answer
   pub delay : delay_for agent lines ≡ delay_for other others
   pub refusal : IsRefused agent lines ↔ IsRefused other others
 
 -- and the same sitemaps
 abbrev pub Same : List ℕ → List LineValue → List ℕ → List LineValue → Type 0
-Same agent lines other others = SameButSitemaps agent lines other others × (sitemaps_of lines ≡ sitemaps_of others)
+Same agent lines other others = SameButSitemaps agent lines other others × (sitemaps_in lines ≡ sitemaps_in others)
 
 -- adding or removing `Raw` lines changes nothing
 abbrev pub RawChangesNothing : Type 0

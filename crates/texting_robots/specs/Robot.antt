@@ -2,7 +2,7 @@
 use Rattle.std.specs.Prelude.{◌≡◌, ◌↔◌, ℕ, Bool, List, Option, IsPermutation}
 use Rattle.texting_robots.specs.Decision.{IsDecidingLine}
 use Rattle.texting_robots.specs.Line.{LineValue}
-use Rattle.texting_robots.specs.Rules.{IsRefused, PlacedRule, delay_for, placed_rules, rules_of, sitemaps_of, unplaced}
+use Rattle.texting_robots.specs.Rules.{IsRefused, PlacedRule, delay_for, placed_rules, rules_for, sitemaps_in, unplaced}
 use Rattle.texting_robots.specs.Verdict.{IsVerdict}
 
 -- the delay, the sitemaps, and the rules with their lines
@@ -15,10 +15,10 @@ pub record RobotValue : Type 0 where
 -- its rules are those of the file, each as often, so they give the same verdicts by the same lines
 pub record IsRobotOf (agent : List ℕ) (lines : List LineValue) (robot : RobotValue) : Type 0 where
   pub delay : robot.delay ≡ delay_for agent lines
-  pub sitemaps : robot.sitemaps ≡ sitemaps_of lines
+  pub sitemaps : robot.sitemaps ≡ sitemaps_in lines
   pub rules : IsPermutation (placed_rules agent lines) robot.rules
   pub verdicts : (text : List ℕ) (answer : Bool)
-      → IsVerdict (unplaced robot.rules) text answer ↔ IsVerdict (rules_of agent lines) text answer
+      → IsVerdict (unplaced robot.rules) text answer ↔ IsVerdict (rules_for agent lines) text answer
   pub deciding : (text : List ℕ) (line : Option ℕ)
       → IsDecidingLine robot.rules text line ↔ IsDecidingLine (placed_rules agent lines) text line
   pub accepted : ¬ IsRefused agent lines

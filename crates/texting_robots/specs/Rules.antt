@@ -1,6 +1,6 @@
 -- What an agent gets of a file.
 use Rattle.std.specs.Prelude.{◌≡◌, ℕ, Bool, true, false, List, [], ◌∷◌, Option, Some, None, slice_get, Any, map, option_map, if◌then◌else◌}
-use Rattle.std.specs.List.{list_any, filter_map}
+use Rattle.std.specs.List.{filter_map, last_or, list_any}
 use Rattle.std.specs.Option.{option_or}
 use Rattle.std.specs.Str.{is_utf8}
 use Rattle.texting_robots.specs.Line.{LineValue, Allow, Disallow, Sitemap, delay_in}
@@ -26,22 +26,17 @@ abbrev pub text_from : List ℕ → Option (List ℕ)
 text_from value = if is_utf8 value then Some value else None
 
 -- the rule that a value gives
-abbrev pub rule_from : List ℕ → Bool → Option Rule
-rule_from value is_allow = if is_utf8 value then Some (escaped value, is_allow) else None
+abbrev pub rule_with : List ℕ → Bool → Option Rule
+rule_with value is_allow = if is_utf8 value then Some (escaped value, is_allow) else None
 
 abbrev pub rule_in : LineValue → Option Rule
-rule_in (Allow value) = rule_from value true
-rule_in (Disallow value) = rule_from value false
+rule_in (Allow value) = rule_with value true
+rule_in (Disallow value) = rule_with value false
 rule_in _ = None
 
 abbrev pub sitemap_in : LineValue → Option (List ℕ)
 sitemap_in (Sitemap value) = text_from value
 sitemap_in _ = None
-
--- the last one, else the one that is handed over
-abbrev pub last_or : {X : Type 0} → Option X → List X → Option X
-last_or other [] = other
-last_or other (x ∷ xs) = last_or (Some x) xs
 
 -- the lines before the first agent line
 abbrev pub before_agent : List LineValue → List LineValue
@@ -61,8 +56,8 @@ abbrev pub placed_rules : List ℕ → List LineValue → List PlacedRule
 placed_rules agent lines = filter_map rule_at (marks_of (group_name agent lines) lines)
 
 -- the captured rules, in order
-abbrev pub rules_of : List ℕ → List LineValue → List Rule
-rules_of agent lines = unplaced (placed_rules agent lines)
+abbrev pub rules_for : List ℕ → List LineValue → List Rule
+rules_for agent lines = unplaced (placed_rules agent lines)
 
 -- the delay of a marked line, if it gives one and is captured
 abbrev pub delay_at : Mark → Option ℕ
@@ -84,13 +79,13 @@ delay_before_agents lines =
 abbrev pub delay_for : List ℕ → List LineValue → Option ℕ
 delay_for agent lines = option_or (slice_get (captured_delays agent lines) 0) (delay_before_agents lines)
 
-abbrev pub sitemaps_of : List LineValue → List (List ℕ)
-sitemaps_of lines = filter_map sitemap_in lines
+abbrev pub sitemaps_in : List LineValue → List (List ℕ)
+sitemaps_in lines = filter_map sitemap_in lines
 
 -- some captured rule is overlong
 abbrev pub IsRefused : List ℕ → List LineValue → Type 0
-IsRefused agent lines = Any (λ (rule : Rule). IsOverlong rule.0) (rules_of agent lines)
+IsRefused agent lines = Any (λ (rule : Rule). IsOverlong rule.0) (rules_for agent lines)
 
 -- the agent gets no rule, and no sitemap is listed
 abbrev pub GivesNothing : List ℕ → List LineValue → Type 0
-GivesNothing agent lines = (rules_of agent lines ≡ []) × (sitemaps_of lines ≡ [])
+GivesNothing agent lines = (rules_for agent lines ≡ []) × (sitemaps_in lines ≡ [])

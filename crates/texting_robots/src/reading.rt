@@ -5,7 +5,7 @@ ghost use Rattle.texting_robots.specs.Computed.Entries.{AreEntries, rules_in};
 ghost use Rattle.texting_robots.specs.Error.{IsMemoryOr};
 ghost use Rattle.texting_robots.specs.Group.{mark_of};
 ghost use Rattle.texting_robots.specs.Pattern.{IsOverlong};
-ghost use Rattle.texting_robots.specs.Rules.{delay_at, placed, rule_at, rule_from, sitemap_at, text_from};
+ghost use Rattle.texting_robots.specs.Rules.{delay_at, placed, rule_at, rule_with, sitemap_at, text_from};
 
 use crate::error::Error;
 use crate::groups::Marked;
@@ -35,11 +35,11 @@ fn push_rule(
     requires { AreEntries rules.old }
     ensures known { OnOk result (AreEntries rules.new) }
     ensures added { OnOk result (rules_in rules.new
-        ≡ rules_in rules.old ++ option_to_list (placed line (rule_from value.now is_allow))) }
-    ensures accepted { OnOk result (IfSome (rule_from value.now is_allow) (λ rule. ¬ IsOverlong rule.0)) }
+        ≡ rules_in rules.old ++ option_to_list (placed line (rule_with value.now is_allow))) }
+    ensures accepted { OnOk result (IfSome (rule_with value.now is_allow) (λ rule. ¬ IsOverlong rule.0)) }
     ensures refused { IfErr result (IsMemoryOr
-        (IsSomeAnd (rule_from value.now is_allow) (λ rule. IsOverlong rule.0))) }
-    ensures unasked { rule_from value.now is_allow ≡ None → IsOk result }
+        (IsSomeAnd (rule_with value.now is_allow) (λ rule. IsOverlong rule.0))) }
+    ensures unasked { rule_with value.now is_allow ≡ None → IsOk result }
 {
     match std::str::from_utf8(value) {
         Ok(text) => rules.push(text, is_allow, line),
