@@ -195,7 +195,7 @@ open_on name lines i line at =
     ∙ open_next (passes_at is_group lines) (passes_at (is_agent_named name) lines) i
     ∙ rw at refl
 
-only_agents : (name : List ℕ) (line : LineValue) → is_agent line ≡ false → is_agent_named name line ≡ false
+pub only_agents : (name : List ℕ) (line : LineValue) → is_agent line ≡ false → is_agent_named name line ≡ false
 only_agents name (UserAgent value) isnt = absurd (false≢true (sym isnt))
 only_agents name _ isnt = refl
 

@@ -1,23 +1,126 @@
 -- What a change of the lines leaves as it was.
-use Rattle.std.proofs.Common.{◌≡◌, ◌↔◌, inl, inr, ℕ, suc, ◌+◌, Bool, true, false, not, ◌||◌, List, [], ◌∷◌, ◌++◌, Option, None, slice_get, length, drop, filter, cond, zero-add, add-zero, sym, refl, ap, ◌∙◌, subst, codes, arith}
+use Rattle.std.proofs.Common.{◌≡◌, ◌↔◌, inl, inr, ℕ, suc, ◌+◌, Bool, true, false, not, ◌||◌, List, [], ◌∷◌, ◌++◌}
+use Rattle.std.proofs.Common.{Option, None, slice_get, length, drop, filter, cond, codes, zero-add, add-zero, arith}
+use Rattle.std.proofs.Common.{sym, refl, ap, ◌∙◌, subst}
 use Rattle.std.specs.List.{Any, cons_option, filter_map, last_or, list_any}
 use Rattle.std.specs.Option.{option_or}
 use Rattle.std.specs.Str.{str_to_ascii_lowercase}
 use Rattle.std.proofs.lemmas.Bool.{cases_Bool, false≢true, false_from_ne_true}
 use Rattle.texting_robots.specs.declared.groups.Walk.{Walk}
-use Rattle.texting_robots.specs.Line.{LineValue, UserAgent, Allow, Disallow, Sitemap, CrawlDelay, Raw, is_raw, is_sitemap, delay_in}
-use Rattle.texting_robots.specs.Group.{IsCaptured, from_captured, group_name, is_agent, marks_of, is_agent_named}
-use Rattle.texting_robots.specs.Rules.{Rule, rule_at, rule_in, sitemap_in, before_agent, rules_for, delay_for, sitemaps_in, unplaced}
+use Rattle.texting_robots.specs.Line.{LineValue, UserAgent, Allow, Disallow, Sitemap, CrawlDelay, Raw}
+use Rattle.texting_robots.specs.Line.{delay_in, is_raw, is_sitemap}
+use Rattle.texting_robots.specs.Group.{IsCaptured, from_captured, group_name, is_agent, is_agent_named, is_group, marks_of}
+use Rattle.texting_robots.specs.Rules.{Rule, before_agent, delay_before_agents, delay_for, rule_at, rule_in, rules_for}
+use Rattle.texting_robots.specs.Rules.{sitemap_in, sitemaps_in, unplaced}
 use Rattle.texting_robots.specs.Pattern.{IsOverlong}
 use Rattle.texting_robots.specs.Verdict.{IsVerdict}
 use Rattle.texting_robots.specs.Computed.Group.{start_of, step}
-use Rattle.texting_robots.specs.Laws.{SameButSitemaps, RawChangesNothing, UncapturedReachesNothing, SitemapsChangeNothingElse, AgentCase, IsSameKind}
-use Rattle.texting_robots.proofs.CapturedLemmas.{Stands, is_captured_decides, stands_first, stands_next, caught, caught_all, at_front, rules_are}
+use Rattle.texting_robots.specs.Laws.{AgentCase, IsSameKind, RawChangesNothing, Same, SameButSitemaps}
+use Rattle.texting_robots.specs.Laws.{SitemapsChangeNothingElse, UncapturedReachesNothing}
+use Rattle.texting_robots.proofs.CapturedLemmas.{Stands, at_front, caught, caught_all, is_captured_decides, only_agents}
+use Rattle.texting_robots.proofs.CapturedLemmas.{rules_are, stands_first, stands_next}
+
+-- ---- lines that play no part, and lines that differ in their value alone
+
+record IsNeutral (line : LineValue) : Type 0 where
+  agent : is_agent line ≡ false
+  group : is_group line ≡ false
+
+no_rule : (line : LineValue) → is_group line ≡ false → rule_in line ≡ None
+no_rule (UserAgent value) isnt = refl
+no_rule (Sitemap value) isnt = refl
+no_rule (Raw body) isnt = refl
+no_rule (Allow value) isnt = absurd (false≢true (sym isnt))
+no_rule (Disallow value) isnt = absurd (false≢true (sym isnt))
+no_rule (CrawlDelay delay) isnt = refl
+
+no_delay : (line : LineValue) → is_group line ≡ false → delay_in line ≡ None
+no_delay (CrawlDelay delay) isnt = absurd (false≢true (sym isnt))
+no_delay _ isnt = refl
+
+neutral_step : (name : List ℕ) (walk : Walk) (line : LineValue) → IsNeutral line → step name walk line ≡ walk
+neutral_step name walk line is = rw (is.agent, is.group, only_agents name line is.agent) refl
+
+record IsAlike (line other : LineValue) : Type 0 where
+  agent : is_agent line ≡ is_agent other
+  named : (name : List ℕ) → is_agent_named name line ≡ is_agent_named name other
+  group : is_group line ≡ is_group other
+  delay : delay_in line ≡ delay_in other
+  sitemap : sitemap_in line ≡ sitemap_in other
+
+alike_step : (name : List ℕ) (walk : Walk) (line other : LineValue) → IsAlike line other
+    → step name walk line ≡ step name walk other
+alike_step name walk line other is = rw (is.agent, is.named name, is.group) refl
+
+-- from a walk on, the lines give the same as the others: lines that play no part are left out, and one that isn't
+-- captured may have another value
+data IsLike : List ℕ → Walk → List LineValue → List LineValue → Type 0 where
+  none : {name : List ℕ} {walk : Walk} → IsLike name walk [] []
+  both : {name : List ℕ} {walk : Walk} {lines others : List LineValue} (line : LineValue)
+      → IsLike name (step name walk line) lines others → IsLike name walk (line ∷ lines) (line ∷ others)
+  left_out : {name : List ℕ} {walk : Walk} {lines others : List LineValue} (line : LineValue) → IsNeutral line
+      → IsLike name walk lines others → IsLike name walk (line ∷ lines) others
+  turned : {name : List ℕ} {walk : Walk} {lines others : List LineValue} (line other : LineValue)
+      → IsAlike line other → walk.captured ≡ false → IsLike name (step name walk line) lines others
+      → IsLike name walk (line ∷ lines) (other ∷ others)
+
+itself : (name : List ℕ) (walk : Walk) (lines : List LineValue) → IsLike name walk lines lines
+itself name walk [] = none
+itself name walk (line ∷ lines) = both line (itself name (step name walk line) lines)
+
+-- ---- what lists that are alike give
+
+cond_same : {X : Type 0} (b : Bool) (x : X) → cond b x x ≡ x
+cond_same true x = refl
+cond_same false x = refl
+
+uncaught : {X : Type 0} (captured : Bool) (a b : Option X) (xs ys : List X) → captured ≡ false → xs ≡ ys
+    → cons_option (cond captured a None) xs ≡ cons_option (cond captured b None) ys
+uncaught captured a b xs ys free same = rw free same
+
+any_like : {name : List ℕ} {walk : Walk} {lines others : List LineValue} (test : LineValue → Bool)
+    → ((line : LineValue) → IsNeutral line → test line ≡ false)
+    → ((line other : LineValue) → IsAlike line other → test line ≡ test other)
+    → IsLike name walk lines others → list_any test lines ≡ list_any test others
+any_like test drops same none = refl
+any_like test drops same (both line like) = ap (λ b. test line || b) (any_like test drops same like)
+any_like test drops same (left_out line neutral like) = rw (drops line neutral) (any_like test drops same like)
+any_like test drops same (turned line other alike captured like) =
+    rw (same line other alike) (ap (λ b. test other || b) (any_like test drops same like))
+
+caught_like : {X : Type 0} {name : List ℕ} {walk : Walk} {lines others : List LineValue} (given : LineValue → Option X)
+    → ((line : LineValue) → IsNeutral line → given line ≡ None) → (p q : ℕ) → IsLike name walk lines others
+    → caught given name walk p lines ≡ caught given name walk q others
+caught_like given drops p q none = refl
+caught_like {walk = walk} given drops p q (both line like) =
+    ap (λ found. cons_option (cond walk.captured (given line) None) found) (caught_like given drops (p + 1) (q + 1) like)
+caught_like {X = X} {name = name} {walk = walk} given drops p q (left_out line neutral like) =
+    rw (drops line neutral, cond_same {X = Option X} walk.captured None, neutral_step name walk line neutral)
+    (caught_like given drops (p + 1) q like)
+caught_like {name = name} {walk = walk} {others = _ ∷ others} given drops p q (turned line other alike free like) =
+    let later = λ (w : Walk). caught given name w (q + 1) others in
+    uncaught walk.captured (given line) (given other) _ _ free
+    (caught_like given drops (p + 1) (q + 1) like ∙ ap later (alike_step name walk line other alike))
+
+before_like : {name : List ℕ} {walk : Walk} {lines others : List LineValue} → IsLike name walk lines others
+    → filter_map delay_in (before_agent lines) ≡ filter_map delay_in (before_agent others)
+before_like none = refl
+before_like (both line like) = elim (cases_Bool (is_agent line)) [
+  | inl agent ↦ rw agent refl
+  | inr other ↦ rw other (ap (λ found. cons_option (delay_in line) found) (before_like like))
+]
+before_like (left_out line neutral like) = rw (neutral.agent, no_delay line neutral.group) (before_like like)
+before_like (turned line other alike captured like) = elim (cases_Bool (is_agent other)) [
+  | inl agent ↦ rw (alike.agent, agent) refl
+  | inr isnt ↦ rw (alike.agent, isnt, alike.delay) (ap (λ found. cons_option (delay_in other) found) (before_like like))
+]
 
 along : {X : Type 0} (P : X → Type 0) (x y : X) → x ≡ y → P x ↔ P y
 along P x y e = (subst P e, subst P (sym e))
 
-same_from : (agent : List ℕ) (lines : List LineValue) (other : List ℕ) (others : List LineValue) → rules_for agent lines ≡ rules_for other others → delay_for agent lines ≡ delay_for other others → SameButSitemaps agent lines other others
+same_from : (agent : List ℕ) (lines : List LineValue) (other : List ℕ) (others : List LineValue)
+    → rules_for agent lines ≡ rules_for other others → delay_for agent lines ≡ delay_for other others
+    → SameButSitemaps agent lines other others
 same_from agent lines other others rules delay = record {
   rules = rules;
   verdict = λ text answer. along (λ (r : List Rule). IsVerdict r text answer) _ _ rules;
@@ -25,133 +128,110 @@ same_from agent lines other others rules delay = record {
   refusal = along (λ (r : List Rule). Any (λ (rule : Rule). IsOverlong rule.0) r) _ _ rules;
 }
 
--- ---- lines that may be left out
+module _ (agent : List ℕ) (lines others : List LineValue) (like : IsLike (group_name agent lines) (start_of lines) lines others) where
+  agents_like : list_any is_agent lines ≡ list_any is_agent others
+  agents_like = any_like is_agent (λ line is. is.agent) (λ line other is. is.agent) like
 
--- the line plays no part in groups, rules and delays
-pub record IsNeutral (line : LineValue) : Type 0 where
-  pub agent : is_agent line ≡ false
-  pub names : (name : List ℕ) → is_agent_named name line ≡ false
-  pub rule : rule_in line ≡ None
-  pub delay : delay_in line ≡ None
-  pub step : (name : List ℕ) (walk : Walk) → step name walk line ≡ walk
+  name_like : group_name agent lines ≡ group_name agent others
+  name_like =
+      let low = str_to_ascii_lowercase agent in
+      ap (λ b. cond b low (codes "*")) (any_like (is_agent_named low) (λ line is. only_agents low line is.agent)
+      (λ line other is. is.named low) like)
 
-abbrev DropsNeutral : (LineValue → Bool) → Type 0
-DropsNeutral keep = (line : LineValue) → keep line ≡ false → IsNeutral line
+  captured_like : {X : Type 0} (given : LineValue → Option X) → ((line : LineValue) → IsNeutral line → given line ≡ None)
+      → from_captured given (group_name agent lines) lines ≡ from_captured given (group_name agent others) others
+  captured_like given drops =
+      let name = group_name agent lines in
+      let start : start_of lines ≡ start_of others =
+      ap (λ b. let walk : Walk = record { captured = not b; named = false } in walk) agents_like in
+      caught_all given name lines ∙ caught_like given drops 0 0 like
+      ∙ ap (λ walk. caught given name walk 0 others) start ∙ sym (caught_all given name others)
+      ∙ ap (λ n. from_captured given n others) name_like
 
-cond_same : {X : Type 0} (b : Bool) (x : X) → cond b x x ≡ x
-cond_same true x = refl
-cond_same false x = refl
+  same_like : SameButSitemaps agent lines agent others
+  same_like =
+      let rules = captured_like rule_in (λ line is. no_rule line is.group) in
+      let delays = captured_like delay_in (λ line is. no_delay line is.group) in
+      same_from agent lines agent others
+      (rules_are agent lines ∙ rules ∙ sym (rules_are agent others))
+      (rw (delays, before_like like, agents_like) refl)
 
-any_kept : (test keep : LineValue → Bool) → ((line : LineValue) → keep line ≡ false → test line ≡ false) → (lines : List LineValue) → list_any test lines ≡ list_any test (filter keep lines)
-any_kept test keep drops [] = refl
-any_kept test keep drops (line ∷ lines) =
-    elim (cases_Bool (keep line)) [
-      | inl keeps ↦ rw keeps (ap (λ b. test line || b) (any_kept test keep drops lines))
-      | inr dropped ↦ rw (dropped, drops line dropped) (any_kept test keep drops lines)
-    ]
+-- ---- lines that are left out
 
-found_kept : {X : Type 0} (given : LineValue → Option X) (keep : LineValue → Bool) → ((line : LineValue) → keep line ≡ false → given line ≡ None) → (lines : List LineValue) → filter_map given lines ≡ filter_map given (filter keep lines)
+kept_like : (keep : LineValue → Bool) → ((line : LineValue) → keep line ≡ false → IsNeutral line)
+    → (name : List ℕ) (walk : Walk) (lines : List LineValue) → IsLike name walk lines (filter keep lines)
+kept_like keep neutral name walk [] = none
+kept_like keep neutral name walk (line ∷ lines) = elim (cases_Bool (keep line)) [
+  | inl keeps ↦ rw keeps (both line (kept_like keep neutral name (step name walk line) lines))
+  | inr dropped ↦ rw dropped (left_out line (neutral line dropped) (kept_like keep neutral name walk lines))
+]
+
+found_kept : {X : Type 0} (given : LineValue → Option X) (keep : LineValue → Bool)
+    → ((line : LineValue) → keep line ≡ false → given line ≡ None) → (lines : List LineValue)
+    → filter_map given lines ≡ filter_map given (filter keep lines)
 found_kept given keep drops [] = refl
-found_kept given keep drops (line ∷ lines) =
-    elim (cases_Bool (keep line)) [
-      | inl keeps ↦ rw keeps (ap (λ xs. cons_option (given line) xs) (found_kept given keep drops lines))
-      | inr dropped ↦ rw (dropped, drops line dropped) (found_kept given keep drops lines)
-    ]
+found_kept given keep drops (line ∷ lines) = elim (cases_Bool (keep line)) [
+  | inl keeps ↦ rw keeps (ap (λ found. cons_option (given line) found) (found_kept given keep drops lines))
+  | inr dropped ↦ rw (dropped, drops line dropped) (found_kept given keep drops lines)
+]
 
-caught_kept : {X : Type 0} (given : LineValue → Option X) (keep : LineValue → Bool) (name : List ℕ) → DropsNeutral keep → ((line : LineValue) → keep line ≡ false → given line ≡ None)
-    → (walk : Walk) (p q : ℕ) (lines : List LineValue) → caught given name walk p lines ≡ caught given name walk q (filter keep lines)
-caught_kept {X = X} given keep name neutral drops walk p q [] = refl
-caught_kept {X = X} given keep name neutral drops walk p q (line ∷ lines) =
-    elim (cases_Bool (keep line)) [
-      | inl keeps ↦ rw keeps (ap (λ xs. cons_option (cond walk.captured (given line) None) xs) (caught_kept given keep name neutral drops (step name walk line) (p + 1) (q + 1) lines))
-      | inr dropped ↦ rw (dropped, drops line dropped, cond_same {X = Option X} walk.captured None, (neutral line dropped).step name walk) (caught_kept given keep name neutral drops walk (p + 1) q lines)
-    ]
+turned_around : (agent : List ℕ) (lines others : List LineValue) → SameButSitemaps agent lines agent others
+    → SameButSitemaps agent others agent lines
+turned_around agent lines others same = same_from agent others agent lines (sym same.rules) (sym same.delay)
 
-before_kept : {X : Type 0} (given : LineValue → Option X) (keep : LineValue → Bool) → DropsNeutral keep → ((line : LineValue) → keep line ≡ false → given line ≡ None) → (lines : List LineValue)
-    → filter_map given (before_agent lines) ≡ filter_map given (before_agent (filter keep lines))
-before_kept given keep neutral drops [] = refl
-before_kept given keep neutral drops (line ∷ lines) =
-    elim (cases_Bool (keep line)) [
-      | inl keeps ↦ rw keeps (elim (cases_Bool (is_agent line)) [
-        | inl agent ↦ rw agent refl
-        | inr other ↦ rw other (ap (λ xs. cons_option (given line) xs) (before_kept given keep neutral drops lines))
-      ])
-      | inr dropped ↦ rw (dropped, (neutral line dropped).agent, drops line dropped) (before_kept given keep neutral drops lines)
-    ]
+both_ways : (agent : List ℕ) (lines between others : List LineValue) → SameButSitemaps agent lines agent between
+    → SameButSitemaps agent between agent others → SameButSitemaps agent lines agent others
+both_ways agent lines between others one two =
+    same_from agent lines agent others (one.rules ∙ two.rules) (one.delay ∙ two.delay)
 
-name_kept : (agent : List ℕ) (keep : LineValue → Bool) → DropsNeutral keep → (lines : List LineValue) → group_name agent lines ≡ group_name agent (filter keep lines)
-name_kept agent keep neutral lines = ap (λ b. cond b (str_to_ascii_lowercase agent) (codes "*")) (any_kept (is_agent_named (str_to_ascii_lowercase agent)) keep (λ line dropped. (neutral line dropped).names (str_to_ascii_lowercase agent)) lines)
-
-start_kept : (keep : LineValue → Bool) → DropsNeutral keep → (lines : List LineValue) → start_of lines ≡ start_of (filter keep lines)
-start_kept keep neutral lines = ap (λ b. let w : Walk = record { captured = not b; named = false } in w) (any_kept is_agent keep (λ line dropped. (neutral line dropped).agent) lines)
-
-captured_kept : {X : Type 0} (given : LineValue → Option X) (agent : List ℕ) (keep : LineValue → Bool) → DropsNeutral keep → ((line : LineValue) → keep line ≡ false → given line ≡ None) → (lines : List LineValue)
-    → from_captured given (group_name agent lines) lines ≡ from_captured given (group_name agent (filter keep lines)) (filter keep lines)
-captured_kept given agent keep neutral drops lines =
-    let name = group_name agent (filter keep lines) in
-    ap (λ n. from_captured given n lines) (name_kept agent keep neutral lines)
-    ∙ caught_all given name lines
-    ∙ caught_kept given keep name neutral drops (start_of lines) 0 0 lines
-    ∙ ap (λ w. caught given name w 0 (filter keep lines)) (start_kept keep neutral lines)
-    ∙ sym (caught_all given name (filter keep lines))
-
-rules_kept : (agent : List ℕ) (keep : LineValue → Bool) → DropsNeutral keep → (lines : List LineValue) → rules_for agent lines ≡ rules_for agent (filter keep lines)
-rules_kept agent keep neutral lines =
-    rules_are agent lines ∙ captured_kept rule_in agent keep neutral (λ line dropped. (neutral line dropped).rule) lines
-    ∙ sym (rules_are agent (filter keep lines))
-
-delay_kept : (agent : List ℕ) (keep : LineValue → Bool) → DropsNeutral keep → (lines : List LineValue) → delay_for agent lines ≡ delay_for agent (filter keep lines)
-delay_kept agent keep neutral lines =
-    let drops : (line : LineValue) → keep line ≡ false → delay_in line ≡ None = λ line dropped. (neutral line dropped).delay in
-    rw (captured_kept delay_in agent keep neutral drops lines, before_kept delay_in keep neutral drops lines, any_kept is_agent keep (λ line dropped. (neutral line dropped).agent) lines) refl
-
-same_kept : (keep : LineValue → Bool) → DropsNeutral keep → (agent : List ℕ) (lines others : List LineValue) → filter keep lines ≡ filter keep others → SameButSitemaps agent lines agent others
+same_kept : (keep : LineValue → Bool) → ((line : LineValue) → keep line ≡ false → IsNeutral line) → (agent : List ℕ)
+    (lines others : List LineValue) → filter keep lines ≡ filter keep others → SameButSitemaps agent lines agent others
 same_kept keep neutral agent lines others same =
-    same_from agent lines agent others
-    (rules_kept agent keep neutral lines ∙ ap (λ ls. rules_for agent ls) same ∙ sym (rules_kept agent keep neutral others))
-    (delay_kept agent keep neutral lines ∙ ap (λ ls. delay_for agent ls) same ∙ sym (delay_kept agent keep neutral others))
+    let left = λ (ls : List LineValue). same_like agent ls (filter keep ls) (kept_like keep neutral _ _ ls) in
+    both_ways agent lines (filter keep lines) others (left lines)
+    (rw same (turned_around agent others (filter keep others) (left others)))
 
-raw_neutral : DropsNeutral (λ line. not (is_raw line))
+raw_neutral : (line : LineValue) → not (is_raw line) ≡ false → IsNeutral line
+raw_neutral (Raw body) h = record { agent = refl; group = refl }
 raw_neutral (UserAgent value) h = absurd (false≢true (sym h))
 raw_neutral (Allow value) h = absurd (false≢true (sym h))
 raw_neutral (Disallow value) h = absurd (false≢true (sym h))
 raw_neutral (Sitemap value) h = absurd (false≢true (sym h))
 raw_neutral (CrawlDelay delay) h = absurd (false≢true (sym h))
-raw_neutral (Raw body) h = record { agent = refl; names = λ name. refl; rule = refl; delay = refl; step = λ name walk. refl }
 
 raw_no_sitemap : (line : LineValue) → not (is_raw line) ≡ false → sitemap_in line ≡ None
-raw_no_sitemap (UserAgent value) h = refl
-raw_no_sitemap (Allow value) h = refl
-raw_no_sitemap (Disallow value) h = refl
 raw_no_sitemap (Sitemap value) h = absurd (false≢true (sym h))
-raw_no_sitemap (CrawlDelay delay) h = refl
-raw_no_sitemap (Raw body) h = refl
+raw_no_sitemap _ h = refl
 
-sitemap_neutral : DropsNeutral (λ line. not (is_sitemap line))
+sitemap_neutral : (line : LineValue) → not (is_sitemap line) ≡ false → IsNeutral line
+sitemap_neutral (Sitemap value) h = record { agent = refl; group = refl }
 sitemap_neutral (UserAgent value) h = absurd (false≢true (sym h))
 sitemap_neutral (Allow value) h = absurd (false≢true (sym h))
 sitemap_neutral (Disallow value) h = absurd (false≢true (sym h))
-sitemap_neutral (Sitemap value) h = record { agent = refl; names = λ name. refl; rule = refl; delay = refl; step = λ name walk. refl }
 sitemap_neutral (CrawlDelay delay) h = absurd (false≢true (sym h))
 sitemap_neutral (Raw body) h = absurd (false≢true (sym h))
 
 pub raw_changes_nothing : RawChangesNothing
-raw_changes_nothing agent lines others same = (
-  same_kept (λ line. not (is_raw line)) raw_neutral agent lines others same,
-  found_kept sitemap_in (λ line. not (is_raw line)) raw_no_sitemap lines ∙ ap (λ ls. sitemaps_in ls) same ∙ sym (found_kept sitemap_in (λ line. not (is_raw line)) raw_no_sitemap others),
-)
+raw_changes_nothing agent lines others same =
+    let found = found_kept sitemap_in (λ line. not (is_raw line)) raw_no_sitemap in (
+      same_kept (λ line. not (is_raw line)) raw_neutral agent lines others same,
+      found lines ∙ ap (λ ls. sitemaps_in ls) same ∙ sym (found others),
+    )
 
 pub sitemaps_change_nothing_else : SitemapsChangeNothingElse
-sitemaps_change_nothing_else agent lines others same = same_kept (λ line. not (is_sitemap line)) sitemap_neutral agent lines others same
+sitemaps_change_nothing_else agent lines others same =
+    same_kept (λ line. not (is_sitemap line)) sitemap_neutral agent lines others same
 
 -- ---- agents in another case
 
 pub agent_case : AgentCase
 agent_case agent other lines same =
-    let name : group_name agent lines ≡ group_name other lines = ap (λ (n : List ℕ). cond (list_any (is_agent_named n) lines) n (codes "*")) same in (
+    let low = λ (n : List ℕ). cond (list_any (is_agent_named n) lines) n (codes "*") in
+    let name : group_name agent lines ≡ group_name other lines = ap low same in
+    let stray = delay_before_agents lines in (
       same_from agent lines other lines
           (ap (λ n. unplaced (filter_map rule_at (marks_of n lines))) name)
-          (ap (λ n. option_or (slice_get (from_captured delay_in n lines) 0) (cond (list_any is_agent lines) (last_or None (filter_map delay_in (before_agent lines))) None)) name),
+          (ap (λ n. option_or (slice_get (from_captured delay_in n lines) 0) stray) name),
       refl,
     )
 
@@ -162,81 +242,45 @@ abbrev walked : List ℕ → Walk → List LineValue → Walk
 walked name walk [] = walk
 walked name walk (line ∷ lines) = walked name (step name walk line) lines
 
-stands_walked : (name : List ℕ) (all : List LineValue) (walk : Walk) (place : ℕ) (front back : List LineValue) → Stands name all place walk → drop place all ≡ front ++ back → Stands name all (place + length front) (walked name walk front)
+stands_walked : (name : List ℕ) (all : List LineValue) (walk : Walk) (place : ℕ) (front back : List LineValue)
+    → Stands name all place walk → drop place all ≡ front ++ back
+    → Stands name all (place + length front) (walked name walk front)
 stands_walked name all walk place [] back stands left = rw (add-zero place) stands
 stands_walked name all walk place (line ∷ front) back stands left =
     let (at, next) = at_front all place line (front ++ back) left in
-    let further = stands_walked name all (step name walk line) (place + 1) front back (stands_next name all place walk line at stands) next in
+    let here = stands_next name all place walk line at stands in
     let sum : place + suc (length front) ≡ (place + 1) + length front = omega arith in
-    rw sum further
+    rw sum (stands_walked name all (step name walk line) (place + 1) front back here next)
 
--- what two lines of one kind have in common
-pub record IsAlike (line other : LineValue) : Type 0 where
-  pub agent : is_agent line ≡ is_agent other
-  pub names : (name : List ℕ) → is_agent_named name line ≡ is_agent_named name other
-  pub delay : delay_in line ≡ delay_in other
-  pub sitemap : sitemap_in line ≡ sitemap_in other
-  pub step : (name : List ℕ) (walk : Walk) → step name walk line ≡ step name walk other
+turned_like : (name : List ℕ) (walk : Walk) (front back : List LineValue) (line other : LineValue) → IsAlike line other
+    → (walked name walk front).captured ≡ false → IsLike name walk (front ++ line ∷ back) (front ++ other ∷ back)
+turned_like name walk [] back line other alike free = turned line other alike free (itself name (step name walk line) back)
+turned_like name walk (first ∷ front) back line other alike free =
+    both first (turned_like name (step name walk first) front back line other alike free)
 
-alike : (line other : LineValue) → IsSameKind line other → IsAlike line other
-alike line other (value, another, kinds) =
+found_alike : (front back : List LineValue) (line other : LineValue) → IsAlike line other
+    → sitemaps_in (front ++ line ∷ back) ≡ sitemaps_in (front ++ other ∷ back)
+found_alike [] back line other alike = ap (λ o. cons_option o (sitemaps_in back)) alike.sitemap
+found_alike (first ∷ front) back line other alike =
+    ap (λ found. cons_option (sitemap_in first) found) (found_alike front back line other alike)
+
+same_kind : (line other : LineValue) → IsSameKind line other → IsAlike line other
+same_kind line other (value, another, kinds) =
     elim kinds [
-      | inl (is, others) ↦ rw (is, others) (record { agent = refl; names = λ name. refl; delay = refl; sitemap = refl; step = λ name walk. refl })
-      | inr (is, others) ↦ rw (is, others) (record { agent = refl; names = λ name. refl; delay = refl; sitemap = refl; step = λ name walk. refl })
+      | inl (is, others) ↦ rw (is, others)
+          (record { agent = refl; named = λ name. refl; group = refl; delay = refl; sitemap = refl })
+      | inr (is, others) ↦ rw (is, others)
+          (record { agent = refl; named = λ name. refl; group = refl; delay = refl; sitemap = refl })
     ]
-
-any_alike : (test : LineValue → Bool) (front back : List LineValue) (line other : LineValue) → test line ≡ test other → list_any test (front ++ line ∷ back) ≡ list_any test (front ++ other ∷ back)
-any_alike test [] back line other same = ap (λ b. b || list_any test back) same
-any_alike test (first ∷ front) back line other same = ap (λ b. test first || b) (any_alike test front back line other same)
-
-found_alike : {X : Type 0} (given : LineValue → Option X) (front back : List LineValue) (line other : LineValue) → given line ≡ given other → filter_map given (front ++ line ∷ back) ≡ filter_map given (front ++ other ∷ back)
-found_alike given [] back line other same = ap (λ o. cons_option o (filter_map given back)) same
-found_alike given (first ∷ front) back line other same = ap (λ xs. cons_option (given first) xs) (found_alike given front back line other same)
-
-before_alike : {X : Type 0} (given : LineValue → Option X) (front back : List LineValue) (line other : LineValue) → is_agent line ≡ is_agent other → given line ≡ given other
-    → filter_map given (before_agent (front ++ line ∷ back)) ≡ filter_map given (before_agent (front ++ other ∷ back))
-before_alike given [] back line other agent same =
-    elim (cases_Bool (is_agent other)) [
-      | inl is ↦ rw (agent, is) refl
-      | inr isnt ↦ rw (agent, isnt, same) refl
-    ]
-before_alike given (first ∷ front) back line other agent same =
-    elim (cases_Bool (is_agent first)) [
-      | inl is ↦ rw is refl
-      | inr isnt ↦ rw isnt (ap (λ xs. cons_option (given first) xs) (before_alike given front back line other agent same))
-    ]
-
-caught_uncaptured : {X : Type 0} (given : LineValue → Option X) (name : List ℕ) (walk : Walk) (p : ℕ) (front back : List LineValue) (line other : LineValue) → IsAlike line other → (walked name walk front).captured ≡ false
-    → caught given name walk p (front ++ line ∷ back) ≡ caught given name walk p (front ++ other ∷ back)
-caught_uncaptured given name walk p [] back line other same uncaptured = rw (same.step name walk, uncaptured) refl
-caught_uncaptured given name walk p (first ∷ front) back line other same uncaptured =
-    ap (λ xs. cons_option (cond walk.captured (given first) None) xs) (caught_uncaptured given name (step name walk first) (p + 1) front back line other same uncaptured)
-
-captured_uncaptured : {X : Type 0} (given : LineValue → Option X) (agent : List ℕ) (front back : List LineValue) (line other : LineValue) → IsAlike line other
-    → ¬ IsCaptured (group_name agent (front ++ line ∷ back)) (front ++ line ∷ back) (length front)
-    → from_captured given (group_name agent (front ++ line ∷ back)) (front ++ line ∷ back) ≡ from_captured given (group_name agent (front ++ other ∷ back)) (front ++ other ∷ back)
-captured_uncaptured given agent front back line other same uncaptured =
-    let lines : List LineValue = front ++ line ∷ back in
-    let others : List LineValue = front ++ other ∷ back in
-    let name : List ℕ = group_name agent lines in
-    let names_same : name ≡ group_name agent others = ap (λ b. cond b (str_to_ascii_lowercase agent) (codes "*")) (any_alike (is_agent_named (str_to_ascii_lowercase agent)) front back line other (same.names (str_to_ascii_lowercase agent))) in
-    let start_same : start_of lines ≡ start_of others = ap (λ b. let w : Walk = record { captured = not b; named = false } in w) (any_alike is_agent front back line other same.agent) in
-    let stands : Stands name lines (0 + length front) (walked name (start_of lines) front) = stands_walked name lines (start_of lines) 0 front (line ∷ back) (stands_first name lines) refl in
-    let here : Stands name lines (length front) (walked name (start_of lines) front) = rw (zero-add (length front)) at stands in
-    let fails : (walked name (start_of lines) front).captured ≡ false = false_from_ne_true _ (λ h. uncaptured ((is_captured_decides _ _ _).0 (here.captured ∙ h))) in
-    caught_all given name lines
-    ∙ caught_uncaptured given name (start_of lines) 0 front back line other same fails
-    ∙ ap (λ w. caught given name w 0 others) start_same
-    ∙ sym (caught_all given name others)
-    ∙ ap (λ n. from_captured given n others) names_same
 
 pub uncaptured_reaches_nothing : UncapturedReachesNothing
 uncaptured_reaches_nothing agent front back line other kind uncaptured =
-    let same : IsAlike line other = alike line other kind in (
-      same_from agent (front ++ line ∷ back) agent (front ++ other ∷ back)
-          (rules_are agent (front ++ line ∷ back)
-          ∙ captured_uncaptured rule_in agent front back line other same uncaptured
-          ∙ sym (rules_are agent (front ++ other ∷ back)))
-          (rw (captured_uncaptured delay_in agent front back line other same uncaptured, before_alike delay_in front back line other same.agent same.delay, any_alike is_agent front back line other same.agent) refl),
-      found_alike sitemap_in front back line other same.sitemap,
+    let lines : List LineValue = front ++ line ∷ back in
+    let name = group_name agent lines in
+    let alike = same_kind line other kind in
+    let stands = stands_walked name lines (start_of lines) 0 front (line ∷ back) (stands_first name lines) refl in
+    let here : Stands name lines (length front) (walked name (start_of lines) front) = rw (zero-add (length front)) at stands in
+    let free = false_from_ne_true _ (λ h. uncaptured ((is_captured_decides _ _ _).0 (here.captured ∙ h))) in (
+      same_like agent lines (front ++ other ∷ back) (turned_like name (start_of lines) front back line other alike free),
+      found_alike front back line other alike,
     )
