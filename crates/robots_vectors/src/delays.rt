@@ -1,4 +1,7 @@
 //! What a delay text says, and which delay an agent gets.
+use crate::files::{
+    BROKEN_VALUES, CRAWLER_EXAMPLE, MANY_LINE_ENDS, NEWS_SITE, NO_AGENT_LINES, NUL_AS_LF,
+};
 use crate::helpers::{BOB, forms_of, robot_of};
 use std::process::Abort;
 use std::test::Fail;
@@ -11,6 +14,7 @@ struct DelayRow {
     delays: &'static [(&'static str, Option<u64>)],
 }
 
+// a delay text, and how many microseconds it says
 const NUMBERS: &[(&str, u64)] = &[
     ("3.14", 3_140_000),
     (".5", 500_000),
@@ -20,21 +24,22 @@ const NUMBERS: &[(&str, u64)] = &[
     ("1e-7", 0),
     ("-0", 0),
     ("0e999999999999999999999", 0),
-    ("inf", 18446744073709551615),
-    ("1e999999999999999999999", 18446744073709551615),
+    ("inf", u64::MAX),
+    ("1e999999999999999999999", u64::MAX),
     ("18446744073709.551614", 18446744073709551614),
-    ("18446744073709.551616", 18446744073709551615),
+    ("18446744073709.551616", u64::MAX),
     ("1.0000009", 1_000_000),
     ("9e-7", 0),
     ("5.e1", 50_000_000),
     ("1e+13", 10_000_000_000_000_000_000),
-    ("1e14", 18446744073709551615),
-    ("18446744073709551615e-6", 18446744073709551615),
+    ("1e14", u64::MAX),
+    ("18446744073709551615e-6", u64::MAX),
     ("-0.0e5", 0),
-    ("+inf", 18446744073709551615),
-    ("INFINITY", 18446744073709551615),
+    ("+inf", u64::MAX),
+    ("INFINITY", u64::MAX),
 ];
 
+// texts that say no delay
 const NO_DELAYS: &[&str] = &[
     "", ".", "nan", "1e", " 5", "-inf", "-1e-99", "+", "e5", ".e5", "1_0", "infin", "-nan", "-.5",
 ];
@@ -42,8 +47,7 @@ const NO_DELAYS: &[&str] = &[
 const DELAYS: &[DelayRow] = &[
     DelayRow {
         name: "crawler_example",
-        file: b"User-Agent: FerrisCrawler\nAllow: /ocean\nDisallow: /rust\nDisallow: /forest*.py\nCrawl-Delay: 10\n\
-            User-Agent: *\nDisallow: /\nSitemap: https://www.example.com/site.xml",
+        file: CRAWLER_EXAMPLE,
         delays: &[("FerrisCrawler", Some(10_000_000))],
     },
     DelayRow {
@@ -78,7 +82,7 @@ const DELAYS: &[DelayRow] = &[
     },
     DelayRow {
         name: "nul_as_lf",
-        file: b"User-Agent: *\n\0\0Allow: /family\0\0\nDisallow: /family/photos\0\0\0\nCrawl-Delay: 42",
+        file: NUL_AS_LF,
         delays: &[(BOB, Some(42_000_000))],
     },
     DelayRow {
@@ -100,7 +104,7 @@ const DELAYS: &[DelayRow] = &[
     DelayRow {
         name: "greatest",
         file: b"Crawl-Delay: 115792089237316195423570985008687907853269984665640564039457584007913129639936",
-        delays: &[(BOB, Some(18446744073709551615))],
+        delays: &[(BOB, Some(u64::MAX))],
     },
     DelayRow {
         name: "spellings",
@@ -114,23 +118,22 @@ const DELAYS: &[DelayRow] = &[
     },
     DelayRow {
         name: "broken_values",
-        file: b"User-Agent: A\nAllow: A\xC2\xC3\xB1B\nDisallow: A\xC2\xC3\xB1B\nSiteMap: A\xC2\xC3\xB1B\n\
-            Crawl-Delay: A\xC2\xC3\xB1B\nDisallow: /bob/",
+        file: BROKEN_VALUES,
         delays: &[("A", None)],
     },
     DelayRow {
         name: "many_line_ends",
-        file: b"User-agent: *\r\r\nDisallow: /en\r\r\r\n\n\r\nUser-Agent: BobBot\nDisallow: /fi\r\r\n\r\nCrawl-Delay: 4",
+        file: MANY_LINE_ENDS,
         delays: &[(BOB, Some(4_000_000))],
     },
     DelayRow {
         name: "no_agent_lines",
-        file: b"Disallow: /path\nAllow: /path/exception\nCrawl-delay: 5.2",
+        file: NO_AGENT_LINES,
         delays: &[(BOB, Some(5_200_000))],
     },
     DelayRow {
         name: "news_site",
-        file: b"User-Agent: *\nDisallow: /threads?\nCrawl-delay: 30",
+        file: NEWS_SITE,
         delays: &[(BOB, Some(30_000_000))],
     },
     DelayRow {
@@ -140,7 +143,7 @@ const DELAYS: &[DelayRow] = &[
     },
 ];
 
-/// The delay that each agent of the row gets of a form of its file.
+/// Each agent of the row gets its delay of a form of the file.
 fn check_delays(rt: &(impl Abort + AllocGlobal), row: &DelayRow, file: &[u8]) {
     let name = row.name;
     for (agent, want) in row.delays {
@@ -150,7 +153,7 @@ fn check_delays(rt: &(impl Abort + AllocGlobal), row: &DelayRow, file: &[u8]) {
 }
 
 #[test]
-fn delay_texts(rt: HostRuntime) -> Result<(), Fail> {
+fn texts_are_read_as_microseconds(rt: HostRuntime) -> Result<(), Fail> {
     for (text, want) in NUMBERS {
         let delay = read_delay(text.as_bytes());
         assert!(rt; delay == Some(*want), "{text}: {delay:?}");
@@ -163,7 +166,7 @@ fn delay_texts(rt: HostRuntime) -> Result<(), Fail> {
 }
 
 #[test]
-fn delays_of_files(rt: HostRuntime) -> Result<(), Fail> {
+fn each_agent_gets_its_delay(rt: HostRuntime) -> Result<(), Fail> {
     for row in DELAYS {
         for file in &forms_of(rt.alloc(), row.file)? {
             check_delays(&rt, row, file);

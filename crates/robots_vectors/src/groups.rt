@@ -1,5 +1,6 @@
 //! Which groups of a file an agent gets, and the sitemaps that every agent gets.
-use crate::helpers::{BOB, FileRow, check_file, check_file_at, forms_of, robot_of};
+use crate::files::{BROKEN_VALUES, CRAWLER_EXAMPLE, MANY_LINE_ENDS, MERGED_GROUPS, NUL_AS_LF};
+use crate::helpers::{BOB, FileRow, check_file, check_file_at, check_nothing, forms_of, robot_of};
 use std::process::Abort;
 use std::test::Fail;
 
@@ -11,26 +12,15 @@ struct SitemapRow {
     sitemaps: &'static [&'static str],
 }
 
-const FERRIS: &[u8] =
-    b"User-Agent: FerrisCrawler\nAllow: /ocean\nDisallow: /rust\nDisallow: /forest*.py\n\
-    Crawl-Delay: 10\nUser-Agent: *\nDisallow: /\nSitemap: https://www.example.com/site.xml";
-
 const OLD_BOTS: &[u8] =
     b"User-agent: unhipbot\nDisallow: /\n\nUser-agent: webcrawler\nUser-agent: excite\nDisallow:\n\n\
     User-agent: *\nDisallow: /org/plans.html\nAllow: /org/\nAllow: /serv\nAllow: /~mak\nDisallow: /";
-
-const LINE_ENDS: &[u8] =
-    b"User-agent: *\r\r\nDisallow: /en\r\r\r\n\n\r\nUser-Agent: BobBot\nDisallow: /fi\r\r\n\r\nCrawl-Delay: 4";
-
-const MERGED: &[u8] =
-    b"allow: /foo/bar/\nuser-agent: FooBot\ndisallow: /\nallow: /x/\nuser-agent: BarBot\n\
-    disallow: /\nallow: /y/\n\n\nallow: /w/\nuser-agent: BazBot\n\nuser-agent: FooBot\nallow: /z/\ndisallow: /";
 
 const GROUPS: &[FileRow] = &[
     FileRow {
         name: "crawler_example",
         agent: "FerrisCrawler",
-        file: FERRIS,
+        file: CRAWLER_EXAMPLE,
         verdicts: &[
             ("https://www.rust-lang.org/ocean", true),
             ("/ocean", true),
@@ -73,31 +63,9 @@ const GROUPS: &[FileRow] = &[
         )],
     },
     FileRow {
-        name: "agent_at_the_end",
-        agent: "A",
-        file: b"User-Agent: A",
-        verdicts: &[
-            ("", true),
-            ("/", true),
-            ("/x", true),
-            ("https://example.com/a?b#c", true),
-        ],
-    },
-    FileRow {
-        name: "agent_at_the_end_for_another",
-        agent: BOB,
-        file: b"User-Agent: A",
-        verdicts: &[
-            ("", true),
-            ("/", true),
-            ("/x", true),
-            ("https://example.com/a?b#c", true),
-        ],
-    },
-    FileRow {
         name: "nul_as_lf",
         agent: BOB,
-        file: b"User-Agent: *\n\0\0Allow: /family\0\0\nDisallow: /family/photos\0\0\0\nCrawl-Delay: 42",
+        file: NUL_AS_LF,
         verdicts: &[("/family", true), ("/family/photos", false)],
     },
     FileRow {
@@ -109,20 +77,19 @@ const GROUPS: &[FileRow] = &[
     FileRow {
         name: "broken_values",
         agent: "A",
-        file: b"User-Agent: A\nAllow: A\xC2\xC3\xB1B\nDisallow: A\xC2\xC3\xB1B\nSiteMap: A\xC2\xC3\xB1B\n\
-            Crawl-Delay: A\xC2\xC3\xB1B\nDisallow: /bob/",
+        file: BROKEN_VALUES,
         verdicts: &[("/bob/", false)],
     },
     FileRow {
         name: "many_line_ends",
         agent: BOB,
-        file: LINE_ENDS,
+        file: MANY_LINE_ENDS,
         verdicts: &[("/en", true), ("/fi", false)],
     },
     FileRow {
         name: "many_line_ends_of_all",
         agent: "Z",
-        file: LINE_ENDS,
+        file: MANY_LINE_ENDS,
         verdicts: &[("/en", false)],
     },
     FileRow {
@@ -166,11 +133,11 @@ const GROUPS: &[FileRow] = &[
     },
 ];
 
-const MERGED_GROUPS: &[FileRow] = &[
+const MERGED: &[FileRow] = &[
     FileRow {
         name: "merged_groups",
         agent: "FooBot",
-        file: MERGED,
+        file: MERGED_GROUPS,
         verdicts: &[
             ("/x/b", true),
             ("/z/d", true),
@@ -181,7 +148,7 @@ const MERGED_GROUPS: &[FileRow] = &[
     FileRow {
         name: "group_in_the_middle",
         agent: "BarBot",
-        file: MERGED,
+        file: MERGED_GROUPS,
         verdicts: &[
             ("/y/c", true),
             ("/w/a", true),
@@ -192,7 +159,7 @@ const MERGED_GROUPS: &[FileRow] = &[
     FileRow {
         name: "run_of_two_agents",
         agent: "BazBot",
-        file: MERGED,
+        file: MERGED_GROUPS,
         verdicts: &[("/z/d", true), ("/foo/bar/", false)],
     },
 ];
@@ -201,7 +168,7 @@ const SITEMAPS: &[SitemapRow] = &[
     SitemapRow {
         name: "crawler_example",
         agent: "FerrisCrawler",
-        file: FERRIS,
+        file: CRAWLER_EXAMPLE,
         sitemaps: &["https://www.example.com/site.xml"],
     },
     SitemapRow {
@@ -213,8 +180,7 @@ const SITEMAPS: &[SitemapRow] = &[
     SitemapRow {
         name: "broken_values",
         agent: "A",
-        file: b"User-Agent: A\nAllow: A\xC2\xC3\xB1B\nDisallow: A\xC2\xC3\xB1B\nSiteMap: A\xC2\xC3\xB1B\n\
-            Crawl-Delay: A\xC2\xC3\xB1B\nDisallow: /bob/",
+        file: BROKEN_VALUES,
         sitemaps: &[],
     },
     SitemapRow {
@@ -225,7 +191,7 @@ const SITEMAPS: &[SitemapRow] = &[
     },
 ];
 
-/// The sitemaps of a form of the row's file.
+/// The row's agent gets these sitemaps of a form of the file.
 fn check_sitemaps(rt: &(impl Abort + AllocGlobal), row: &SitemapRow, file: &[u8]) {
     let name = row.name;
     let sitemaps = robot_of(rt, name, row.agent, file).sitemaps;
@@ -239,7 +205,7 @@ fn check_sitemaps(rt: &(impl Abort + AllocGlobal), row: &SitemapRow, file: &[u8]
 }
 
 #[test]
-fn groups(rt: HostRuntime) -> Result<(), Fail> {
+fn agents_get_the_rules_of_their_groups(rt: HostRuntime) -> Result<(), Fail> {
     for row in GROUPS {
         check_file(&rt, row);
     }
@@ -247,8 +213,16 @@ fn groups(rt: HostRuntime) -> Result<(), Fail> {
 }
 
 #[test]
-fn merged_groups(rt: HostRuntime) -> Result<(), Fail> {
-    for row in MERGED_GROUPS {
+fn a_group_without_lines_gives_nothing(rt: HostRuntime) -> Result<(), Fail> {
+    for agent in ["A", BOB] {
+        check_nothing(&rt, agent, &robot_of(&rt, agent, agent, b"User-Agent: A"));
+    }
+    Ok(())
+}
+
+#[test]
+fn groups_of_one_agent_are_merged(rt: HostRuntime) -> Result<(), Fail> {
+    for row in MERGED {
         check_file(&rt, row);
         check_file_at(&rt, row, "http://foo.bar");
     }
@@ -256,7 +230,7 @@ fn merged_groups(rt: HostRuntime) -> Result<(), Fail> {
 }
 
 #[test]
-fn sitemaps(rt: HostRuntime) -> Result<(), Fail> {
+fn every_agent_gets_the_sitemaps(rt: HostRuntime) -> Result<(), Fail> {
     for row in SITEMAPS {
         for file in &forms_of(rt.alloc(), row.file)? {
             check_sitemaps(&rt, row, file);

@@ -1,31 +1,34 @@
 //! Long files, long texts and long numbers: each is answered, and no call wants memory.
-use crate::helpers::{BOB, check_prepared, check_url, forms_of, long_bytes, long_text, robot_of};
+use crate::helpers::{
+    BOB, FileParts, TextParts, check_nothing, check_prepared, check_url, forms_of, long_bytes,
+    long_text, robot_of,
+};
 use crate::lines::check_lines;
 use std::process::Abort;
 use std::test::Fail;
-use texting_robots::Robot;
 use texting_robots::minregex::MinRegex;
 use texting_robots::parser::{Line, read_delay, robots_txt_parse};
 use texting_robots::view::View;
 use texting_robots::{Robot, get_robots_url};
 
-/// A file and texts by their parts, each with how often it stands, and whether the texts may be fetched.
+/// A file and texts, and whether each may be fetched.
 struct LongRow {
     name: &'static str,
-    file: &'static [(&'static [u8], usize)],
-    texts: &'static [(&'static [(&'static str, usize)], bool)],
+    file: FileParts,
+    texts: &'static [(TextParts, bool)],
 }
 
-/// A file and a text that may be fetched, and how many looks at most show it.
+/// A file and a text, whether it may be fetched, and how many looks at most say so.
 struct LookRow {
     name: &'static str,
-    file: &'static [(&'static [u8], usize)],
-    text: &'static [(&'static str, usize)],
+    file: FileParts,
+    text: TextParts,
+    allowed: bool,
     most: u64,
 }
 
-// a name, a text by its parts, and its only line
-const ONE_LINE: &[(&str, &[(&[u8], usize)], Line<'static>)] = &[
+// a name, a text, and its only line
+const ONE_LINE: &[(&str, FileParts, Line<'static>)] = &[
     ("many_cr", &[(b"\r", 1_000_000)], Line::Raw(b"")),
     (
         "many_cr_and_lf",
@@ -41,11 +44,6 @@ const ONE_LINE: &[(&str, &[(&[u8], usize)], Line<'static>)] = &[
 
 const LONG: &[LongRow] = &[
     LongRow {
-        name: "many_nul",
-        file: &[(b"\0", 1_000_000)],
-        texts: &[(&[], true), (&[("/", 1)], true), (&[("/x", 1)], true)],
-    },
-    LongRow {
         name: "many_stars",
         file: &[(b"Disallow: ", 1), (b"*", 400_000), (b"\nAllow: /x", 1)],
         texts: &[(&[("/x", 1)], false), (&[("/robots.txt", 1)], true)],
@@ -56,7 +54,8 @@ const LONG: &[LongRow] = &[
         texts: &[
             (&[("/A", 1)], true),
             (&[("/", 1), ("A", 1_000_000)], false),
-            (&[("/", 1), ("A", 511_989)], true),
+            (&[("/", 1), ("A", 511_989)], false),
+            (&[("/", 1), ("A", 511_988)], true),
         ],
     },
 ];
@@ -66,25 +65,35 @@ const LOOKS: &[LookRow] = &[
         name: "look_count",
         file: &[(b"Disallow: /*aaaab", 1)],
         text: &[("/", 1), ("a", 1000)],
+        allowed: true,
         most: 2_002,
     },
     LookRow {
         name: "long_piece",
         file: &[(b"Disallow: /*", 1), (b"a", 2000), (b"b", 1)],
         text: &[("/", 1), ("a", 100_000)],
+        allowed: true,
         most: 200_002,
     },
     LookRow {
         name: "many_rules",
         file: &[(b"Disallow: /*aaaab\n", 1000)],
         text: &[("/", 1), ("a", 1000)],
+        allowed: true,
         most: 2_002_000,
+    },
+    LookRow {
+        name: "shorter_rules_are_passed_over",
+        file: &[(b"Allow: /*b\n", 1000), (b"Disallow: /aaaa", 1)],
+        text: &[("/", 1), ("a", 1004)],
+        allowed: false,
+        most: 2_010,
     },
 ];
 
-// a name, a delay text by its parts, and the delay
-const DELAYS: &[(&str, &[(&str, usize)], u64)] = &[
-    ("many_nines", &[("9", 1_000_000)], 18446744073709551615),
+// a name, a delay text, and the delay
+const DELAYS: &[(&str, TextParts, u64)] = &[
+    ("many_nines", &[("9", 1_000_000)], u64::MAX),
     (
         "many_zeros_in_the_fraction",
         &[("0.", 1), ("0", 1_000_000), ("1", 1)],
@@ -100,11 +109,7 @@ const DELAYS: &[(&str, &[(&str, usize)], u64)] = &[
         &[("0.", 1), ("0", 999_999), ("1e1000000", 1)],
         1_000_000,
     ),
-    (
-        "long_exponent",
-        &[("1e", 1), ("9", 1_000_000)],
-        18446744073709551615,
-    ),
+    ("long_exponent", &[("1e", 1), ("9", 1_000_000)], u64::MAX),
     ("long_exponent_down", &[("1e-", 1), ("9", 1_000_000)], 0),
     ("long_exponent_of_zero", &[("0e", 1), ("9", 1_000_000)], 0),
 ];
@@ -119,20 +124,24 @@ fn check_long(rt: &(impl Abort + AllocGlobal), row: &LongRow, file: &[u8]) {
     }
 }
 
-/// Asks the robot of a form of the row's file by a view, and counts the looks.
+/// Asks the robot of a form of the row's file by views, and counts the looks.
 fn check_looks(rt: &(impl Abort + AllocGlobal), row: &LookRow, file: &[u8]) {
     let name = row.name;
     let text = long_text(rt.alloc(), row.text).expect(rt, name);
     let robot = robot_of(rt, name, BOB, file);
+    check_prepared(rt, name, &robot, text.as_str(), row.allowed);
     let mut view = View::new(text.as_str());
-    assert!(rt; robot.allowed_view(&mut view), "{name}");
+    robot.allowed_view(&mut view);
     let seen = view.seen();
     assert!(rt; seen <= row.most, "{name}: {seen} looks");
-    check_prepared(rt, name, &robot, text.as_str(), true);
+    let mut view = View::new(text.as_str());
+    robot.decision(&mut view);
+    let seen = view.seen();
+    assert!(rt; seen <= row.most, "{name}: {seen} looks, with its line");
 }
 
 #[test]
-fn long_lines(rt: HostRuntime) -> Result<(), Fail> {
+fn long_texts_have_their_lines(rt: HostRuntime) -> Result<(), Fail> {
     for (name, parts, want) in ONE_LINE {
         let text = long_bytes(rt.alloc(), parts)?;
         check_lines(&rt, name, &text, &[*want]);
@@ -143,23 +152,13 @@ fn long_lines(rt: HostRuntime) -> Result<(), Fail> {
 }
 
 #[test]
-fn long_files(rt: HostRuntime) -> Result<(), Fail> {
+fn long_files_are_read(rt: HostRuntime) -> Result<(), Fail> {
     for row in LONG {
         let file = long_bytes(rt.alloc(), row.file)?;
         for file in &forms_of(rt.alloc(), &file)? {
             check_long(&rt, row, file);
         }
     }
-    Ok(())
-}
-
-#[test]
-fn no_rule_of_nul(rt: HostRuntime) -> Result<(), Fail> {
-    let file = long_bytes(rt.alloc(), &[(b"\0", 1_000_000)])?;
-    let robot = robot_of(&rt, "many_nul", BOB, &file);
-    let text = format!(in rt.alloc(); "{robot:?}")?;
-    assert!(rt; text.contains("rules: []"), "{text}");
-    assert!(rt; robot.delay == None && robot.sitemaps.is_empty());
     Ok(())
 }
 
@@ -202,7 +201,7 @@ fn long_urls(rt: HostRuntime) -> Result<(), Fail> {
 }
 
 #[test]
-fn look_counts(rt: HostRuntime) -> Result<(), Fail> {
+fn looks_are_bounded(rt: HostRuntime) -> Result<(), Fail> {
     for row in LOOKS {
         let file = long_bytes(rt.alloc(), row.file)?;
         for file in &forms_of(rt.alloc(), &file)? {
@@ -213,7 +212,7 @@ fn look_counts(rt: HostRuntime) -> Result<(), Fail> {
 }
 
 #[test]
-fn many_stars(rt: HostRuntime) -> Result<(), Fail> {
+fn a_million_stars_are_one(rt: HostRuntime) -> Result<(), Fail> {
     let pattern = long_text(rt.alloc(), &[("*", 1_000_000), ("$", 1)])?;
     let regex = MinRegex::new(rt.alloc(), pattern.as_str())?;
     assert!(rt; regex.as_str() == "*$");
@@ -228,7 +227,7 @@ fn many_stars(rt: HostRuntime) -> Result<(), Fail> {
 }
 
 #[test]
-fn long_delays(rt: HostRuntime) -> Result<(), Fail> {
+fn long_delays_are_exact(rt: HostRuntime) -> Result<(), Fail> {
     for (name, parts, want) in DELAYS {
         let text = long_text(rt.alloc(), parts)?;
         let delay = read_delay(text.as_bytes());
@@ -237,9 +236,17 @@ fn long_delays(rt: HostRuntime) -> Result<(), Fail> {
     Ok(())
 }
 
-/// It takes no memory: with the first request for it refused the answer is the same.
 #[test]
-fn many_lf(rt: HostRuntime) -> Result<(), Fail> {
+fn a_million_nul_give_nothing(rt: HostRuntime) -> Result<(), Fail> {
+    let name = "many_nul";
+    let file = long_bytes(rt.alloc(), &[(b"\0", 1_000_000)])?;
+    check_nothing(&rt, name, &robot_of(&rt, name, BOB, &file));
+    Ok(())
+}
+
+/// Nothing here asks for memory, so it passes in `rt try --test --fail-alloc 1` too, where the first request is refused.
+#[test]
+fn many_lf_give_nothing(rt: HostRuntime) -> Result<(), Fail> {
     let robot = Robot::new(rt.alloc(), BOB, &[b'\n'; 65_536])?;
     assert_eq!(rt; robot.delay, None);
     assert!(rt; robot.sitemaps.is_empty());

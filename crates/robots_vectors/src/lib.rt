@@ -3,13 +3,19 @@
 #![tactic(auto)]
 
 #[cfg(test)]
+mod decisions;
+#[cfg(test)]
 mod delays;
+#[cfg(test)]
+mod files;
 #[cfg(test)]
 mod groups;
 #[cfg(test)]
 mod helpers;
 #[cfg(test)]
 mod hostile;
+#[cfg(test)]
+mod limits;
 #[cfg(test)]
 mod lines;
 #[cfg(test)]

@@ -1,8 +1,9 @@
 //! How a text is cut into lines, and what each line is.
+use crate::files::NUL_AS_LF;
 use crate::helpers::forms_of;
 use std::process::Abort;
 use std::test::Fail;
-use texting_robots::parser::{Line, lines, robots_txt_parse};
+use texting_robots::parser::{Line, LineIter, file_lines, lines, robots_txt_parse};
 
 /// A text and its lines.
 struct LinesRow {
@@ -21,6 +22,8 @@ const SIX: &[Line<'static>] = &[
 ];
 
 const MARKED: &[Line<'static>] = &[Line::UserAgent(b"foo"), Line::Allow(b"/AnyValue")];
+
+const CR_NUL: &[u8] = b"Disallow: /a\r\0Allow: /b";
 
 const TEXTS: &[LinesRow] = &[
     LinesRow {
@@ -81,7 +84,7 @@ const TEXTS: &[LinesRow] = &[
     },
     LinesRow {
         name: "cr_nul",
-        text: b"Disallow: /a\r\0Allow: /b",
+        text: CR_NUL,
         lines: &[Line::Disallow(b"/a"), Line::Raw(b"\0Allow: /b")],
     },
     LinesRow {
@@ -196,6 +199,37 @@ const TEXTS: &[LinesRow] = &[
     },
 ];
 
+// texts with NUL, which ends a line of a file
+const NUL_TEXTS: &[LinesRow] = &[
+    LinesRow {
+        name: "cr_nul",
+        text: CR_NUL,
+        lines: &[Line::Disallow(b"/a"), Line::Allow(b"/b")],
+    },
+    LinesRow {
+        name: "nul_first",
+        text: b"\0Disallow: /",
+        lines: &[Line::Raw(b""), Line::Disallow(b"/")],
+    },
+    LinesRow {
+        name: "nul_among_line_ends",
+        text: NUL_AS_LF,
+        lines: &[
+            Line::UserAgent(b"*"),
+            Line::Raw(b""),
+            Line::Raw(b""),
+            Line::Allow(b"/family"),
+            Line::Raw(b""),
+            Line::Raw(b""),
+            Line::Disallow(b"/family/photos"),
+            Line::Raw(b""),
+            Line::Raw(b""),
+            Line::Raw(b""),
+            Line::CrawlDelay(Some(42_000_000)),
+        ],
+    },
+];
+
 /// Whether it is the wanted line, which has eight spaces before it if it is raw and indented.
 fn is_line(line: Line<'_>, want: Line<'_>, indented: bool) -> bool {
     match (line, want) {
@@ -208,28 +242,30 @@ fn is_line(line: Line<'_>, want: Line<'_>, indented: bool) -> bool {
 
 /// Whether these are the wanted lines, which have eight spaces before each raw line after the first if they are indented.
 fn are_lines(lines: &[Line<'_>], want: &[Line<'_>], indented: bool) -> bool {
-    if lines.len() != want.len() {
-        return false;
-    }
-    for place in 0..lines.len() {
-        if !is_line(lines[place], want[place], indented && place > 0) {
-            return false;
-        }
-    }
-    true
+    let mut pairs = lines.iter().zip(want).enumerate();
+    lines.len() == want.len()
+        && pairs.all(|(place, (line, want))| is_line(*line, *want, indented && place > 0))
 }
 
-/// The vector of the text's lines, and the lines one by one.
+/// The iterator gives these lines, and then nothing more.
+fn check_each(rt: &impl Abort, name: &str, lines: LineIter<'_>, want: &[Line<'_>]) {
+    let mut lines = lines;
+    for line in want {
+        let next = lines.next().expect(rt, name);
+        assert!(rt; next == *line, "{name}: {next:?}");
+    }
+    assert!(rt; lines.next().is_none(), "{name}: one line too many");
+    assert!(rt; lines.next().is_none(), "{name}: a line after the end");
+}
+
+/// The vector of the text's lines, and the lines one by one. Where no NUL is in the text, those of the file are the same.
 pub fn check_lines(rt: &(impl Abort + AllocGlobal), name: &str, text: &[u8], want: &[Line<'_>]) {
     let parsed = robots_txt_parse(rt.alloc(), text).expect(rt, name);
-    assert!(rt; are_lines(&parsed, want, false), "{name}: {parsed:?}");
-    let mut one_by_one = lines(text);
-    for line in want {
-        let next = one_by_one.next().expect(rt, name);
-        assert!(rt; is_line(next, *line, false), "{name}: {next:?}");
+    assert!(rt; parsed.as_slice() == want, "{name}: {parsed:?}");
+    check_each(rt, name, lines(text), want);
+    if !text.contains(&b'\0') {
+        check_each(rt, name, file_lines(text), want);
     }
-    assert!(rt; one_by_one.next().is_none(), "{name}: one line too many");
-    assert!(rt; one_by_one.next().is_none(), "{name}: a line after the end");
 }
 
 /// The lines of a form of the row's text, where only raw lines differ.
@@ -244,12 +280,20 @@ fn check_form(rt: &(impl Abort + AllocGlobal), row: &LinesRow, text: &[u8]) {
 }
 
 #[test]
-fn lines_of_texts(rt: HostRuntime) -> Result<(), Fail> {
+fn texts_have_their_lines(rt: HostRuntime) -> Result<(), Fail> {
     for row in TEXTS {
         check_lines(&rt, row.name, row.text, row.lines);
         for text in &forms_of(rt.alloc(), row.text)? {
             check_form(&rt, row, text);
         }
+    }
+    Ok(())
+}
+
+#[test]
+fn nul_ends_a_line_of_a_file(rt: HostRuntime) -> Result<(), Fail> {
+    for row in NUL_TEXTS {
+        check_each(&rt, row.name, file_lines(row.text), row.lines);
     }
     Ok(())
 }

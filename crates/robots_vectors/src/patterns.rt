@@ -70,7 +70,7 @@ fn check_match(rt: &impl Abort, name: &str, regex: &MinRegex, text: &str, want: 
 }
 
 #[test]
-fn matches(rt: HostRuntime) -> Result<(), Fail> {
+fn patterns_match_with_few_looks(rt: HostRuntime) -> Result<(), Fail> {
     for (name, pattern, text, want) in MATCHES {
         let regex = regex_of(&rt, name, pattern);
         check_match(&rt, name, &regex, text, *want);
@@ -88,7 +88,7 @@ fn matches(rt: HostRuntime) -> Result<(), Fail> {
 }
 
 #[test]
-fn match_stars(rt: HostRuntime) -> Result<(), Fail> {
+fn dollar_is_an_ordinary_byte_for_stars(rt: HostRuntime) -> Result<(), Fail> {
     let regex = MinRegex::new(rt.alloc(), "")?;
     for (name, pattern, text, want) in STARS {
         assert!(rt; regex.match_stars(pattern, text) == *want, "{name}");
@@ -97,7 +97,7 @@ fn match_stars(rt: HostRuntime) -> Result<(), Fail> {
 }
 
 #[test]
-fn collapsed_texts(rt: HostRuntime) -> Result<(), Fail> {
+fn each_run_of_stars_shows_as_one(rt: HostRuntime) -> Result<(), Fail> {
     for (name, pattern, want) in COLLAPSED {
         let regex = regex_of(&rt, name, pattern);
         assert!(rt; regex.as_str() == *want, "{name}");
@@ -108,7 +108,7 @@ fn collapsed_texts(rt: HostRuntime) -> Result<(), Fail> {
 }
 
 #[test]
-fn orders(rt: HostRuntime) -> Result<(), Fail> {
+fn longer_patterns_come_first_and_then_bytes_decide(rt: HostRuntime) -> Result<(), Fail> {
     for (name, left, right, want) in ORDERS {
         let left = regex_of(&rt, name, left);
         let right = regex_of(&rt, name, right);

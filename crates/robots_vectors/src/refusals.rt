@@ -1,15 +1,15 @@
 //! Which rules with `$` are too long.
-use crate::helpers::{BOB, forms_of, long_bytes, long_text};
+use crate::helpers::{BOB, FileParts, forms_of, long_bytes, long_text};
 use std::process::Abort;
 use std::test::Fail;
 use texting_robots::minregex::MinRegex;
 use texting_robots::{Error, Robot};
 
-/// A file by its parts, each with how often it stands, and whether the agent's robot is refused.
+/// A file, and whether the agent's robot is refused for an overlong rule.
 struct RefusalRow {
     name: &'static str,
     agent: &'static str,
-    file: &'static [(&'static [u8], usize)],
+    file: FileParts,
     refused: bool,
 }
 
@@ -106,7 +106,7 @@ const FILES: &[RefusalRow] = &[
     },
 ];
 
-/// Whether the robot is refused for a rule.
+/// Whether the robot is refused for an overlong rule.
 fn is_refused(rt: &(impl Abort + AllocGlobal), name: &str, agent: &str, file: &[u8]) -> bool {
     match Robot::new(rt.alloc(), agent, file) {
         Ok(_) => false,
@@ -116,7 +116,7 @@ fn is_refused(rt: &(impl Abort + AllocGlobal), name: &str, agent: &str, file: &[
 }
 
 #[test]
-fn overlong_rules(rt: HostRuntime) -> Result<(), Fail> {
+fn robots_are_refused_for_overlong_rules(rt: HostRuntime) -> Result<(), Fail> {
     for row in FILES {
         let name = row.name;
         let file = long_bytes(rt.alloc(), row.file)?;
@@ -131,7 +131,7 @@ fn overlong_rules(rt: HostRuntime) -> Result<(), Fail> {
 }
 
 #[test]
-fn overlong_patterns(rt: HostRuntime) -> Result<(), Fail> {
+fn overlong_patterns_are_refused(rt: HostRuntime) -> Result<(), Fail> {
     let pattern = long_text(rt.alloc(), &[("/", 1), ("a", 4095), ("$", 1)])?;
     let answer = MinRegex::new(rt.alloc(), pattern.as_str());
     assert!(rt; matches!(answer, Err(Error::InvalidRule)));

@@ -79,14 +79,72 @@ const NO_ADDRESS: &[(&str, &str, ParseError)] = &[
     ),
 ];
 
-// a name, and a text that is no URL
-const NO_URLS: &[(&str, &str)] = &[
-    ("path_alone", "/rust/v1/index.html"),
-    ("broken_host", "http://:::cnn.com/"),
+// a name, a text that is no URL, its prepared text, and why it is none
+const NO_URLS: &[(&str, &str, &str, ParseError)] = &[
+    (
+        "path_alone",
+        "/rust/v1/index.html",
+        "/rust/v1/index.html",
+        ParseError::RelativeUrlWithoutBase,
+    ),
+    (
+        "colons_for_a_host",
+        "http://:::cnn.com/",
+        "http://:::cnn.com/",
+        ParseError::EmptyHost,
+    ),
+    (
+        "port_alone",
+        "http://:80/a b",
+        "http://:80/a%20b",
+        ParseError::EmptyHost,
+    ),
+    (
+        "query_alone",
+        "https://?<a>",
+        "https://?%3Ca%3E",
+        ParseError::EmptyHost,
+    ),
+    (
+        "port_too_great",
+        "http://a:99999999/\u{e1}",
+        "http://a:99999999/%C3%A1",
+        ParseError::InvalidPort,
+    ),
+    (
+        "port_with_letters",
+        "http://a:8o/`",
+        "http://a:8o/%60",
+        ParseError::InvalidPort,
+    ),
+    (
+        "unclosed_bracket",
+        "http://[::1",
+        "http://[::1",
+        ParseError::InvalidIpv6Address,
+    ),
+    (
+        "path_in_the_bracket",
+        "http://[::1/\"a\"",
+        "http://[::1/%22a%22",
+        ParseError::InvalidIpv6Address,
+    ),
+    (
+        "number_above_255",
+        "http://256.256.256.256/a b",
+        "http://256.256.256.256/a%20b",
+        ParseError::InvalidIpv4Address,
+    ),
+    (
+        "five_numbers",
+        "http://1.2.3.4.5/a b#c",
+        "http://1.2.3.4.5/a%20b#c",
+        ParseError::InvalidIpv4Address,
+    ),
 ];
 
 #[test]
-fn prepared_texts(rt: HostRuntime) -> Result<(), Fail> {
+fn urls_have_their_prepared_texts(rt: HostRuntime) -> Result<(), Fail> {
     for (name, url, want) in PREPARED {
         let text = Robot::prepare_url(rt.alloc(), url).expect(&rt, name);
         assert!(rt; text.as_str() == *want, "{name}: {text}");
@@ -95,7 +153,7 @@ fn prepared_texts(rt: HostRuntime) -> Result<(), Fail> {
 }
 
 #[test]
-fn robots_addresses(rt: HostRuntime) -> Result<(), Fail> {
+fn urls_have_their_robots_addresses(rt: HostRuntime) -> Result<(), Fail> {
     for (name, url, want) in ADDRESSES {
         let address = get_robots_url(rt.alloc(), url).expect(&rt, name);
         assert!(rt; address.as_str() == *want, "{name}: {address}");
@@ -104,17 +162,23 @@ fn robots_addresses(rt: HostRuntime) -> Result<(), Fail> {
 }
 
 #[test]
-fn no_robots_addresses(rt: HostRuntime) -> Result<(), Fail> {
+fn urls_without_a_web_host_have_no_address(rt: HostRuntime) -> Result<(), Fail> {
     for (name, url, want) in NO_ADDRESS {
         let error = get_robots_url(rt.alloc(), url).expect_err(&rt, name);
         assert!(rt; error == *want, "{name}: {error}");
     }
-    for (name, text) in NO_URLS {
-        let error = get_robots_url(rt.alloc(), text).expect_err(&rt, name);
+    Ok(())
+}
+
+#[test]
+fn texts_that_are_no_urls_are_escaped_and_have_no_address(rt: HostRuntime) -> Result<(), Fail> {
+    for (name, text, want, cause) in NO_URLS {
         let own = Url::parse(rt.alloc(), text).expect_err(&rt, name);
-        assert!(rt; error == own, "{name}: {error}");
-        let memory = matches!(error, ParseError::OutOfMemory | ParseError::Overflow);
-        assert!(rt; !memory, "{name}: {error}");
+        assert!(rt; own == *cause, "{name}: {own}");
+        let error = get_robots_url(rt.alloc(), text).expect_err(&rt, name);
+        assert!(rt; error == *cause, "{name}: {error}");
+        let prepared = Robot::prepare_url(rt.alloc(), text).expect(&rt, name);
+        assert!(rt; prepared.as_str() == *want, "{name}: {prepared}");
     }
     Ok(())
 }

@@ -1,5 +1,8 @@
 //! Which texts a robot may fetch by its rules.
-use crate::helpers::{BOB, FileRow, check_file, check_file_at, check_prepared, robot_of};
+use crate::files::{NEWS_SITE, NO_AGENT_LINES};
+use crate::helpers::{
+    ALL_ALLOWED, BOB, FileRow, check_file, check_file_at, check_prepared, robot_of,
+};
 use std::test::Fail;
 
 const RULES: &[FileRow] = &[
@@ -46,6 +49,12 @@ const RULES: &[FileRow] = &[
         verdicts: &[("/ab", true), ("*abc", true)],
     },
     FileRow {
+        name: "tie_behind_a_shorter_rule",
+        agent: BOB,
+        file: b"Disallow: /ab\nAllow: /*b\nAllow: /",
+        verdicts: &[("/ab", true)],
+    },
+    FileRow {
         name: "length_before_collapsing",
         agent: BOB,
         file: b"Disallow: /***b\nAllow: /aab",
@@ -81,14 +90,7 @@ const RULES: &[FileRow] = &[
         name: "empty_rules",
         agent: BOB,
         file: b"Disallow:\nAllow:",
-        verdicts: &[
-            ("", true),
-            ("/", true),
-            ("/x", true),
-            ("x", true),
-            ("/robots.txt", true),
-            ("https://example.com/a?b#c", true),
-        ],
+        verdicts: ALL_ALLOWED,
     },
     FileRow {
         name: "empty_allow",
@@ -106,14 +108,7 @@ const RULES: &[FileRow] = &[
         name: "empty_file",
         agent: BOB,
         file: b"",
-        verdicts: &[
-            ("", true),
-            ("/", true),
-            ("/x", true),
-            ("x", true),
-            ("/robots.txt", true),
-            ("https://example.com/a?b#c", true),
-        ],
+        verdicts: ALL_ALLOWED,
     },
     FileRow {
         name: "fragment_stays",
@@ -173,7 +168,7 @@ const SITES: &[FileRow] = &[
     FileRow {
         name: "exception",
         agent: BOB,
-        file: b"Disallow: /path\nAllow: /path/exception\nCrawl-delay: 5.2",
+        file: NO_AGENT_LINES,
         verdicts: &[
             ("/path", false),
             ("https://example.com/path/exception", true),
@@ -220,7 +215,7 @@ const SITES: &[FileRow] = &[
     FileRow {
         name: "news_site",
         agent: BOB,
-        file: b"User-Agent: *\nDisallow: /threads?\nCrawl-delay: 30",
+        file: NEWS_SITE,
         verdicts: &[
             ("https://news.ycombinator.com/threads?id=S", false),
             ("/item?id=3", true),
@@ -272,7 +267,7 @@ const HOSTED: &[FileRow] = &[
 ];
 
 #[test]
-fn rules(rt: HostRuntime) -> Result<(), Fail> {
+fn the_longest_matching_rule_decides(rt: HostRuntime) -> Result<(), Fail> {
     for row in RULES {
         check_file(&rt, row);
     }
@@ -280,7 +275,7 @@ fn rules(rt: HostRuntime) -> Result<(), Fail> {
 }
 
 #[test]
-fn sites(rt: HostRuntime) -> Result<(), Fail> {
+fn rules_of_sites_decide(rt: HostRuntime) -> Result<(), Fail> {
     for row in SITES {
         check_file(&rt, row);
     }
@@ -288,7 +283,7 @@ fn sites(rt: HostRuntime) -> Result<(), Fail> {
 }
 
 #[test]
-fn hosted(rt: HostRuntime) -> Result<(), Fail> {
+fn rules_decide_on_urls_with_a_host(rt: HostRuntime) -> Result<(), Fail> {
     for row in HOSTED {
         check_file_at(&rt, row, "http://foo.bar");
     }
@@ -296,7 +291,7 @@ fn hosted(rt: HostRuntime) -> Result<(), Fail> {
 }
 
 #[test]
-fn lone_dollar(rt: HostRuntime) -> Result<(), Fail> {
+fn a_lone_dollar_refuses_the_empty_prepared_text(rt: HostRuntime) -> Result<(), Fail> {
     let name = "lone_dollar";
     let robot = robot_of(&rt, name, BOB, b"Disallow: $");
     check_prepared(&rt, name, &robot, "", false);
