@@ -117,8 +117,18 @@ fn before_overlong(alloc: Global, header: &[u8]) -> Result<Vec<u8>, AllocError> 
 
 #[test]
 fn reports(rt: HostRuntime) -> Result<(), Fail> {
-    let rows: [(&str, &[u8], &[u8]); 8] = [
+    let rows: [(&str, &[u8], &[u8]); 10] = [
         ("crawler example", INPUT, OUTPUT),
+        (
+            "the robots file",
+            b"B\n/robots.txt\n/x\n\nDisallow: /",
+            b"delay none\nallow - /robots.txt\ndeny 1 /x\n",
+        ),
+        (
+            "all lines are counted",
+            b"B\n/x\n\n\0\r\n# nothing\nDisallow: /",
+            b"delay none\ndeny 4 /x\n",
+        ),
         (
             "two rules",
             b"Ferris\n/secret\n/everything-else\n\nDisallow: /secret",
@@ -149,6 +159,32 @@ fn reports(rt: HostRuntime) -> Result<(), Fail> {
         assert_eq!(rt; run(rt.alloc(), &mut reader, &mut sink), Ok(()), "{name}");
         assert_eq!(rt; sink.held.as_slice(), output, "{name}");
     }
+    Ok(())
+}
+
+/// An input with an empty header whose file is so many bytes of a comment, LF, and then this line.
+fn behind_comment(alloc: Global, bytes: usize, line: &[u8]) -> Result<Vec<u8>, AllocError> {
+    let mut input = Vec::new(alloc);
+    input.extend_from_slice(b"B\n\n")?;
+    for _ in 0..bytes {
+        input.push(b'#')?;
+    }
+    input.push(b'\n')?;
+    input.extend_from_slice(line)?;
+    Ok(input)
+}
+
+#[test]
+fn bytes_past_the_limit_count_for_nothing(rt: HostRuntime) -> Result<(), Fail> {
+    let overlong = before_overlong(rt.alloc(), b"")?;
+    let inside = behind_comment(rt.alloc(), 500_000, &overlong)?;
+    let mut sink = Sink::new(rt.alloc(), WHOLE);
+    let fault = run(rt.alloc(), &mut inside.as_slice(), &mut sink);
+    assert_eq!(rt; fault, Err(Fault::InvalidRule));
+    let past = behind_comment(rt.alloc(), 511_999, &overlong)?;
+    let mut sink = Sink::new(rt.alloc(), WHOLE);
+    assert_eq!(rt; run(rt.alloc(), &mut past.as_slice(), &mut sink), Ok(()));
+    assert_eq!(rt; sink.held.as_slice(), b"delay none\n".as_slice());
     Ok(())
 }
 
@@ -370,11 +406,13 @@ fn small_inputs(rt: HostRuntime) -> Result<(), Fail> {
     for number in 0..5_461 {
         let text = small_text(rt.alloc(), number)?;
         let input = format!(in rt.alloc(); "B\n/{text}\n\nAllow: {text}")?;
-        let output = format!(in rt.alloc(); "delay none\nallow /{text}\n")?;
+        let by_rule = format!(in rt.alloc(); "delay none\nallow 1 /{text}\n")?;
+        let by_none = format!(in rt.alloc(); "delay none\nallow - /{text}\n")?;
         let mut reader = input.as_bytes();
         let mut sink = Sink::new(rt.alloc(), WHOLE);
         assert_eq!(rt; run(rt.alloc(), &mut reader, &mut sink), Ok(()), "{text}");
-        assert_eq!(rt; sink.held.as_slice(), output.as_bytes(), "{text}");
+        let written = sink.held.as_slice();
+        assert!(rt; written == by_rule.as_bytes() || written == by_none.as_bytes(), "{text}");
     }
     Ok(())
 }
@@ -385,7 +423,7 @@ fn many_urls(rt: HostRuntime) -> Result<(), Fail> {
     let mut output = String::from_str(rt.alloc(), "delay none\n")?;
     for number in 0..10_000 {
         let url = format!(in rt.alloc(); "https://www.example.com/archive/page-number-{number}")?;
-        for (folder, word) in [("/open", "allow"), ("/closed", "deny")] {
+        for (folder, word) in [("/open", "allow -"), ("/closed", "deny 1")] {
             input.push_str(&format!(in rt.alloc(); "{url}{folder}\n")?)?;
             output.push_str(&format!(in rt.alloc(); "{word} {url}{folder}\n")?)?;
         }
