@@ -1,12 +1,11 @@
 -- The cut read from the front: the first line of a text, and the lines of the rest.
-use Rattle.std.proofs.Common.{◌≡◌, ◌≢◌, ℕ, suc, ◌+◌, ◌≤◌, ◌<◌, Bool, true, false, ◌==◌, ◌||◌, inl, inr, List, [], ◌∷◌, length, take, drop, map, get_or, sym, refl, ap, ◌∙◌, arith, cond, if◌then◌else◌, map-id, Option, Some, None}
+use Rattle.std.proofs.Common.{◌≡◌, ◌≢◌, ℕ, suc, ◌+◌, ◌≤◌, ◌<◌, Bool, true, false, ◌==◌, ◌||◌, inl, inr, List, [], ◌∷◌, length, take, drop, map, get_or, sym, refl, ap, ◌∙◌, arith, cond, if◌then◌else◌, map-id, Option, Some, None, MatchOption, zero}
 use Rattle.std.specs.List.{position_or_len}
 use Rattle.std.proofs.lemmas.Bool.{cases_Bool, cond-true, cond-false, eqb-true, ne_eqb}
 use Rattle.std.proofs.lemmas.Bool.Decides.{nat_tests}
-use Rattle.std.proofs.lemmas.List.{drop_more, drop_all, drop-map, length-map, nil_from_length}
+use Rattle.std.proofs.lemmas.List.{drop_more, drop_all, drop-map, take-map, length-map, nil_from_length}
 use Rattle.std.proofs.lemmas.List.Recursion.{is_position_or_len}
 use Rattle.std.proofs.Math.Bool.{or_comm}
-use Rattle.std.specs.Option.{unwrap_or}
 use Rattle.memchr.specs.Find.{is_byte2, is_byte3, IsFirstByte}
 use Rattle.texting_robots.proofs.RegionLemmas.{place_is, end_is}
 use Rattle.texting_robots.specs.Cut.{Pair, cr, lf}
@@ -81,27 +80,24 @@ at_read n text i within = drop_read n i text ∙ ap (read_as n) (drop_more text 
 pub read_as_is : (text : List ℕ) → read_as false text ≡ text
 read_as_is text = map-id text
 
-return_read : (n : Bool) → read_byte n cr ≡ cr
-return_read true = refl
-return_read false = refl
+-- ---- an end, as a loop goes past it
 
-not_return : (n : Bool) (b : ℕ) → (b == cr) ≡ false → (read_byte n b == cr) ≡ false
-not_return true b isnt = elim (cases_Bool (b == 0)) [ inl z ↦ rw z refl | inr nz ↦ rw nz isnt ]
-not_return false b isnt = isnt
+pub past_return : (n : Bool) (after : List ℕ)
+    → drop (end_len (read_as n (cr ∷ after))) (cr ∷ after) ≡ drop (end_len (read_as n after)) after
+past_return true after = refl
+past_return false after = refl
 
--- ---- the length of an end, as a loop finds it
+pub past_feed : (n : Bool) (b : ℕ) (after : List ℕ) → (read_byte n b == lf) ≡ true
+    → drop (end_len (read_as n (b ∷ after))) (b ∷ after) ≡ after
+past_feed n b after is = rw is refl
 
-pub end_at_return : (n : Bool) (text : List ℕ) (i : ℕ) → i < length text → get_or text i 0 ≡ cr → end_len (drop i (read_as n text)) ≡ suc (end_len (drop (i + 1) (read_as n text)))
-end_at_return n text i within is = ap end_len (at_read n text i within ∙ ap (λ b. b ∷ drop (i + 1) (read_as n text)) (ap (read_byte n) is ∙ return_read n))
-
-pub end_at_feed : (n : Bool) (text : List ℕ) (i : ℕ) → i < length text → (read_byte n (get_or text i 0) == lf) ≡ true → end_len (drop i (read_as n text)) ≡ 1
-end_at_feed n text i within is = ap end_len (at_read n text i within) ∙ cond-true _ _ _ is
-
-pub end_at_other : (n : Bool) (text : List ℕ) (i : ℕ) → i < length text → get_or text i 0 ≢ cr → (read_byte n (get_or text i 0) == lf) ≡ false → end_len (drop i (read_as n text)) ≡ 0
-end_at_other n text i within not_cr not_lf = ap end_len (at_read n text i within) ∙ cond-false _ _ _ not_lf ∙ cond-false _ _ _ (not_return n (get_or text i 0) (ne_eqb (get_or text i 0) cr not_cr))
-
-pub end_at_end : (n : Bool) (text : List ℕ) (i : ℕ) → length text ≤ i → end_len (drop i (read_as n text)) ≡ 0
-end_at_end n text i over = ap end_len (drop_read n i text ∙ ap (read_as n) (drop_all i text over))
+pub no_end : (n : Bool) (b : ℕ) (after : List ℕ) → b ≢ cr → (read_byte n b == lf) ≡ false
+    → drop (end_len (read_as n (b ∷ after))) (b ∷ after) ≡ b ∷ after
+no_end n b after not_cr not_lf = rw (not_lf, plain n) refl
+  where
+    plain : (n : Bool) → (read_byte n b == cr) ≡ false
+    plain true = elim (cases_Bool (b == 0)) [ inl z ↦ rw z refl | inr nz ↦ rw nz (ne_eqb b cr not_cr) ]
+    plain false = ne_eqb b cr not_cr
 
 -- ---- the length of a body, as a search finds it
 
@@ -135,9 +131,30 @@ ends_with_nul b = elim (cases_Bool (b == 0)) [ inl nul ↦ rw nul (last (b == cr
     turned false false = refl
 
 -- what `memchr` finds
-pub body_found : (n : Bool) (test : ℕ → Bool) (text : List ℕ) (found : Option ℕ) → Ends n test → IsFirstByte test text found → unwrap_or found (length text) ≡ body_len (read_as n text)
-body_found n test text None ends none = sym (end_is test text none) ∙ body_by n test ends text
-body_found n test text (Some k) ends first = sym (place_is test text k first.0 first.1) ∙ body_by n test ends text
+pub body_found : (n : Bool) (test : ℕ → Bool) (text : List ℕ) (found : Option ℕ) → Ends n test → IsFirstByte test text found
+    → (let len = body_len (read_as n text) in MatchOption found (len ≡ length text) (λ end. (len ≡ end) × (end < length text)))
+body_found n test text None ends none = sym (body_by n test ends text) ∙ end_is test text none
+body_found n test text (Some k) ends first =
+    (sym (body_by n test ends text) ∙ place_is test text k first.0 first.1, first.0.high)
+
+-- an end that is found in a front of the text is the text's
+near_end : (text : List ℕ) (k : ℕ) → body_len (take k text) < length (take k text) → body_len text ≡ body_len (take k text)
+near_end [] zero less = refl
+near_end [] (suc k) less = refl
+near_end (b ∷ text) zero less = absurd (omega (arith, less))
+near_end (b ∷ text) (suc k) less = elim (cases_Bool (b == lf)) [
+  | inl is_lf ↦ rw is_lf refl
+  | inr not_lf ↦ elim (cases_Bool (b == cr)) [
+    | inl is_cr ↦ rw (not_lf, is_cr) refl
+    | inr not_cr ↦ rw (not_lf, not_cr) (ap (λ k. suc k) (near_end text k (omega (arith, (rw (not_lf, not_cr) at less)))))
+  ]
+]
+
+pub near_body : (n : Bool) (text : List ℕ) (k end : ℕ) → body_len (read_as n (take k text)) ≡ end → end < length (take k text)
+    → body_len (read_as n text) ≡ end
+near_body n text k end is less =
+    let read = take-map (read_byte n) k text in
+    near_end (read_as n text) k (rw (read, is) (omega (arith, less, length-map (take k text) (read_byte n)))) ∙ ap body_len read ∙ is
 
 -- a body holds no NUL that is read as LF
 body_plain : (n : Bool) (text : List ℕ) → take (body_len (read_as n text)) (read_as n text) ≡ take (body_len (read_as n text)) text
@@ -163,15 +180,17 @@ long_read n text = simp length-map
 
 -- ---- the next line
 
-pub next_line : (n : Bool) (rest body after : List ℕ) (k m : ℕ) → 0 < length rest → k ≡ body_len (read_as n rest) → body ≡ take k rest → after ≡ drop k rest → m ≡ end_len (read_as n after)
-    → lines_of (read_as n rest) ≡ line_of body ∷ lines_of (read_as n (drop m after))
-next_line n rest body after k m some k_is body_is after_is m_is =
+pub next_line : (n : Bool) (rest body after next : List ℕ) (k : ℕ) → 0 < length rest → k ≡ body_len (read_as n rest)
+    → body ≡ take k rest → after ≡ drop k rest → next ≡ drop (end_len (read_as n after)) after
+    → lines_of (read_as n rest) ≡ line_of body ∷ lines_of (read_as n next)
+next_line n rest body after next k some k_is body_is after_is next_is =
     let text = read_as n rest in
     let first = lines_first text (omega (arith, some, long_read n rest)) in
     let body_same : take (body_len text) text ≡ body = body_plain n rest ∙ ap (λ i. take i rest) (sym k_is) ∙ sym body_is in
-    let after_same : drop (body_len text) text ≡ read_as n after = ap (λ i. drop i text) (sym k_is) ∙ drop_read n k rest ∙ ap (read_as n) (sym after_is) in
-    let rest_same : rest_of text ≡ read_as n (drop m after)
-    = ap (λ t. drop (end_len t) t) after_same ∙ ap (λ i. drop i (read_as n after)) (sym m_is) ∙ drop_read n m after in
+    let after_same : drop (body_len text) text ≡ read_as n after
+    = ap (λ i. drop i text) (sym k_is) ∙ drop_read n k rest ∙ ap (read_as n) (sym after_is) in
+    let rest_same : rest_of text ≡ read_as n next
+    = ap (λ t. drop (end_len t) t) after_same ∙ drop_read n (end_len (read_as n after)) after ∙ ap (read_as n) (sym next_is) in
     first ∙ ap (λ t. line_of t ∷ lines_of (rest_of text)) body_same ∙ ap (λ t. line_of body ∷ lines_of t) rest_same
 
 -- what the tests of the reader say

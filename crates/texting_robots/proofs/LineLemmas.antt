@@ -1,5 +1,5 @@
 -- The lines that the walk gives are those of the text, and hold ranges of it.
-use Rattle.std.proofs.Common.{◌≡◌, ℕ, inl, inr, List, [], ◌∷◌, ◌++◌, map, sym, refl, ap, ◌∙◌, append_assoc, append-nil, Option, Some, None, ◌==◌, subst}
+use Rattle.std.proofs.Common.{◌≡◌, ◌≢◌, ◌⊎◌, ℕ, false, inl, inr, is_some, bytes_eq, Bor, MatchOption, List, [], ◌∷◌, ◌++◌, map, sym, refl, ap, ◌∙◌, append_assoc, append-nil, Option, Some, None, ◌==◌, subst}
 use Rattle.std.specs.List.{AllZip}
 use Rattle.std.proofs.lemmas.Bool.{cases_Bool, cond-true, cond-false}
 use Rattle.texting_robots.specs.declared.parser.statement.Kind.{Kind}
@@ -7,15 +7,17 @@ use Rattle.texting_robots.specs.declared.parser.statement.Kind.TheVariants as ki
 use Rattle.texting_robots.specs.Cut.{Pair}
 use Rattle.texting_robots.specs.Computed.Cut.{cut}
 use Rattle.texting_robots.specs.Statement.{IsStatement, IsTailOf, colon}
-use Rattle.texting_robots.specs.Computed.Statement.{statement_of}
-use Rattle.texting_robots.specs.Line.{LineValue, Raw, AreLinesOf, HoldRangesOf, HoldsRangeOf, IsDelayOrRaw, IsLineOf, IsLineWith, IsRangeOf, without, without_front}
+use Rattle.texting_robots.specs.Computed.Statement.{parts_of, statement_of, value_of}
+use Rattle.std.specs.Str.{str_to_ascii_lowercase}
+use Rattle.texting_robots.specs.Group.{is_agent, is_agent_named}
+use Rattle.texting_robots.specs.Line.{Allow, AreLinesOf, CrawlDelay, Disallow, HoldRangesOf, HoldsRangeOf, IsDelayOrRaw, IsLineOf, IsLineWith, IsRangeOf, LineValue, Raw, Sitemap, UserAgent, delay_in, is_sitemap, without, without_front}
 use Rattle.texting_robots.specs.Computed.Line.{delay_or_raw, line_by, line_of, line_with, parsed}
 use Rattle.texting_robots.specs.Computed.Delay.{delay_of}
 use Rattle.texting_robots.specs.Delay.{IsDelay}
 use Rattle.texting_robots.specs.Laws.{EachTextHasItsLines, ParseTakesAll}
 use Rattle.texting_robots.proofs.DelayLemmas.{delay_of_is, is_delay_of}
 use Rattle.texting_robots.proofs.CutLemmas.{is_cut, only_cut}
-use Rattle.texting_robots.proofs.StatementLemmas.{statement_found, found_statement, unstated}
+use Rattle.texting_robots.proofs.StatementLemmas.{statement_found, found_statement, unstated, no_parts, has_parts}
 
 -- ---- the line of a body
 
@@ -75,6 +77,100 @@ each_text_has_its_lines text lines = (
   λ is. only_lines lines is.pairs is.each ∙ ap (λ pairs. map (λ pair. line_of pair.body) pairs) (only_cut (without_front text) is.pairs is.is_cut),
   λ same. subst (λ all. AreLinesOf all text) (sym same) (parsed_are_lines text),
 )
+
+-- ---- a line that is asked for one kind
+
+-- the line of a statement of another kind is no agent line and gives no delay
+only_agent : (k : Kind) (value body : List ℕ) → (k ≡ kind.UserAgent) ⊎ (is_agent (line_with k value body) ≡ false)
+only_agent kind.UserAgent value body = inl refl
+only_agent kind.Allow value body = inr refl
+only_agent kind.Disallow [] body = inr refl
+only_agent kind.Disallow (b ∷ value) body = inr refl
+only_agent kind.Sitemap value body = inr refl
+only_agent kind.CrawlDelay value body = inr (at (delay_of value))
+  where
+    at : (delay : Option ℕ) → is_agent (delay_or_raw delay body) ≡ false
+    at None = refl
+    at (Some delay) = refl
+
+only_delay : (k : Kind) (value body : List ℕ) → (k ≡ kind.CrawlDelay) ⊎ (delay_in (line_with k value body) ≡ None)
+only_delay kind.UserAgent value body = inr refl
+only_delay kind.Allow value body = inr refl
+only_delay kind.Disallow [] body = inr refl
+only_delay kind.Disallow (b ∷ value) body = inr refl
+only_delay kind.Sitemap value body = inr refl
+only_delay kind.CrawlDelay value body = inl refl
+
+module _ {X : Type 0} (kind : Kind) (look : LineValue → X) (x : X) (raw : (body : List ℕ) → look (Raw body) ≡ x)
+    (only : (k : Kind) (value body : List ℕ) → (k ≡ kind) ⊎ (look (line_with k value body) ≡ x)) where
+  other_line : (body : List ℕ) → ((tail : List ℕ) → parts_of body ≢ Some (kind, tail)) → look (line_of body) ≡ x
+  other_line body none = at (parts_of body) refl
+    where
+      at : (parts : Option (Kind × List ℕ)) → parts_of body ≡ parts → look (line_of body) ≡ x
+      at None is = ap look (line_raw body (no_parts body is)) ∙ raw body
+      at (Some (k, tail)) is = elim (only k (value_of tail) body) [
+        | inl same ↦ absurd (none tail (is ∙ ap (λ k. Some (k, tail)) same))
+        | inr other ↦ ap look (line_stated body k (value_of tail) (has_parts body k tail is)) ∙ other
+      ]
+
+agent_line : (body tail : List ℕ) → parts_of body ≡ Some (kind.UserAgent, tail) → line_of body ≡ UserAgent (value_of tail)
+agent_line body tail is = line_stated body kind.UserAgent (value_of tail) (has_parts body kind.UserAgent tail is)
+
+pub agent_told : (body : List ℕ) (found : Option (Bor (List ℕ)))
+    → MatchOption found ((tail : List ℕ) → parts_of body ≢ Some (kind.UserAgent, tail))
+        (λ tail. parts_of body ≡ Some (kind.UserAgent, tail.now))
+    → is_some found ≡ is_agent (line_of body)
+agent_told body None none = sym (other_line kind.UserAgent is_agent false (λ body. refl) only_agent body none)
+agent_told body (Some tail) is = sym (ap is_agent (agent_line body tail.now is))
+
+only_sitemap : (k : Kind) (value body : List ℕ) → (k ≡ kind.Sitemap) ⊎ (is_sitemap (line_with k value body) ≡ false)
+only_sitemap kind.UserAgent value body = inr refl
+only_sitemap kind.Allow value body = inr refl
+only_sitemap kind.Disallow [] body = inr refl
+only_sitemap kind.Disallow (b ∷ value) body = inr refl
+only_sitemap kind.Sitemap value body = inl refl
+only_sitemap kind.CrawlDelay value body = inr (at (delay_of value))
+  where
+    at : (delay : Option ℕ) → is_sitemap (delay_or_raw delay body) ≡ false
+    at None = refl
+    at (Some delay) = refl
+
+pub sitemap_told : (body : List ℕ) (found : Option (Bor (List ℕ)))
+    → MatchOption found ((tail : List ℕ) → parts_of body ≢ Some (kind.Sitemap, tail))
+        (λ tail. parts_of body ≡ Some (kind.Sitemap, tail.now))
+    → is_some found ≡ is_sitemap (line_of body)
+sitemap_told body None none = sym (other_line kind.Sitemap is_sitemap false (λ body. refl) only_sitemap body none)
+sitemap_told body (Some tail) is =
+    sym (ap is_sitemap (line_stated body kind.Sitemap (value_of tail.now) (has_parts body kind.Sitemap tail.now is)))
+
+pub named : (name body tail : List ℕ) → parts_of body ≡ Some (kind.UserAgent, tail)
+    → bytes_eq (str_to_ascii_lowercase (value_of tail)) name ≡ is_agent_named name (line_of body)
+named name body tail is = sym (ap (is_agent_named name) (agent_line body tail is))
+
+pub unnamed : (name body : List ℕ) → ((tail : List ℕ) → parts_of body ≢ Some (kind.UserAgent, tail))
+    → false ≡ is_agent_named name (line_of body)
+unnamed name body none = at (line_of body) (other_line kind.UserAgent is_agent false (λ body. refl) only_agent body none)
+  where
+    at : (line : LineValue) → is_agent line ≡ false → false ≡ is_agent_named name line
+    at (UserAgent value) is = cc
+    at (Allow value) is = refl
+    at (Disallow value) is = refl
+    at (Sitemap value) is = refl
+    at (CrawlDelay delay) is = refl
+    at (Raw body) is = refl
+
+pub delay_told : (body tail : List ℕ) (delay : Option ℕ) → parts_of body ≡ Some (kind.CrawlDelay, tail)
+    → IsDelay (value_of tail) delay → delay ≡ delay_in (line_of body)
+delay_told body tail delay is names =
+    let line = line_stated body kind.CrawlDelay (value_of tail) (has_parts body kind.CrawlDelay tail is) in
+    is_delay_of (value_of tail) delay names ∙ at (delay_of (value_of tail)) ∙ sym (ap delay_in line)
+  where
+    at : (delay : Option ℕ) → delay ≡ delay_in (delay_or_raw delay body)
+    at None = refl
+    at (Some delay) = refl
+
+pub no_delay : (body : List ℕ) → ((tail : List ℕ) → parts_of body ≢ Some (kind.CrawlDelay, tail)) → None ≡ delay_in (line_of body)
+no_delay body none = sym (other_line kind.CrawlDelay delay_in None (λ body. refl) only_delay body none)
 
 -- ---- ranges
 

@@ -4,18 +4,24 @@ use Rattle.std.specs.List.{All, Any, cons_option, filter_map, last_or, list_any}
 use Rattle.std.specs.Option.{option_to_list, option_or, IfSome, IsSomeAnd}
 use Rattle.std.specs.Result.{IsErrAnd}
 use Rattle.std.specs.Str.{IsUtf8, is_utf8}
-use Rattle.std.proofs.lemmas.Bool.{false_from_ne_true}
+use Rattle.std.proofs.lemmas.Bool.{false_from_ne_true, false≢true}
 use Rattle.std.proofs.lemmas.List.{append-nil, get_or-map, get_or_at, length-map}
 use Rattle.std.proofs.lemmas.List.Elements.{All-push}
 use Rattle.std.proofs.lemmas.Str.{IsUtf8-from_is_utf8, is_utf8-from_IsUtf8}
 use Rattle.texting_robots.specs.declared.error.Error.{Error}
 use Rattle.texting_robots.specs.declared.error.Error.TheVariants as mine
-use Rattle.texting_robots.specs.Line.{LineValue, delay_in}
+use Rattle.texting_robots.specs.Line.{LineValue, Sitemap, delay_in, is_sitemap}
 use Rattle.texting_robots.specs.Escape.{escaped}
-use Rattle.texting_robots.specs.Rules.{PlacedRule, Rule, before_agent, unplaced}
+use Rattle.texting_robots.specs.Rules.{PlacedRule, Rule, before_agent, sitemap_in, unplaced}
 use Rattle.texting_robots.specs.Error.{IsMemoryOr}
 use Rattle.texting_robots.proofs.FirstLemmas.{placed_of}
 use Rattle.texting_robots.specs.Group.{is_agent}
+
+-- ---- what lines give
+
+pub no_sitemap : (line : LineValue) → is_sitemap line ≡ false → sitemap_in line ≡ None
+no_sitemap (Sitemap value) isnt = absurd (false≢true (sym isnt))
+no_sitemap _ isnt = refl
 
 -- ---- values that are texts
 

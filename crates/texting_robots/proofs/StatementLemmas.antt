@@ -1,33 +1,23 @@
 -- A body is a statement of one kind with one value at most: the one that the walk gives.
-use Rattle.std.proofs.Common.{◌≡◌, ◌≢◌, ℕ, suc, ◌+◌, ◌<◌, true, false, ◌==◌, ◌||◌, inl, inr, List, [], ◌∷◌, ◌++◌, All, flat_map, length, take, drop, map, sym, refl, ap, ◌∙◌, append-nil, arith, if◌then◌else◌, Option, Some, None, length-append, subst, nat_lt}
+use Rattle.std.proofs.Common.{◌≡◌, ◌≢◌, ℕ, suc, ◌+◌, ◌<◌, true, false, ◌==◌, ◌||◌, inl, inr, List, [], ◌∷◌, ◌++◌, length, take, drop, map, sym, refl, ap, ◌∙◌, append-nil, arith, if◌then◌else◌, Option, Some, None, option_map, option_and_then, length-append, subst, nat_lt, Bor, MatchOption}
 use Rattle.std.specs.Bool.{Decides}
 use Rattle.std.specs.List.{AllByRecursion as Each, Contains}
 use Rattle.std.specs.Char.{to_ascii_lowercase}
 use Rattle.std.specs.Str.{bytes_eq}
-use Rattle.std.proofs.lemmas.Bool.{cases_Bool, cond-true, cond-false, eqb-true, eqb-false, ne_eqb, ltb-true, lt-ltb, false_from_ne_true, true≢false}
+use Rattle.std.proofs.lemmas.Bool.{cases_Bool, cond-true, cond-false, eqb-true, eqb-false, ne_eqb, ltb-true, lt-ltb, false_from_ne_true}
 use Rattle.std.proofs.lemmas.Bool.Decides.{Decides-or, Decides-eqb}
+use Rattle.std.proofs.lemmas.Option.{option_and_then_some, same_Some, some_pair_parts}
 use Rattle.std.proofs.lemmas.Slice.Eq.{bytes_eq-Decides}
 use Rattle.std.proofs.lemmas.List.{length-map, map-append, take-append-drop, take-map, drop_at}
-use Rattle.std.proofs.lemmas.List.Elements.{All-append, All-contains, All-contains_itself, All-from_recursion, All-head, All-map, All-nil, All-tail}
+use Rattle.std.proofs.lemmas.List.Elements.{All-contains, All-from_recursion, Contains-append_right}
 use Rattle.texting_robots.specs.declared.parser.statement.Kind.{Kind}
 use Rattle.texting_robots.specs.declared.parser.statement.Kind.TheVariants.{UserAgent, Allow, Disallow, Sitemap, CrawlDelay}
 use Rattle.texting_robots.specs.Statement.{spellings, space, tab, colon, hash, IsBlank, IsKey, IsColonAnd, IsBlanksAnd, IsTailOf, IsComment, IsStatement}
-use Rattle.texting_robots.specs.Computed.Statement.{skip_blanks, spelled_by, table, begins, key_in, after_blanks, after_separator, tail_of, region_of, trimmed, with_tail, with_key, statement_of}
+use Rattle.texting_robots.specs.Computed.Statement.{skip_blanks, kind_with, kind_by, begins, after_any, after_blanks, after_separator, tail_of, tail_as, parts_of, region_of, trimmed, value_of, statement_of}
 use Rattle.texting_robots.specs.Trim.{IsTrimOf}
-use Rattle.texting_robots.proofs.TrimLemmas.{trimmed_is_trim, one_trim, blank_before}
-
--- two finds that are equal are equal in their parts
-parts_same : (kind kind' : Kind) (xs ys : List ℕ) → ◌≡◌ {A = Option (Kind × List ℕ)} (Some (kind, xs)) (Some (kind', ys)) → (kind ≡ kind') × (xs ≡ ys)
-parts_same kind kind' xs ys e =
-    let both : ◌≡◌ {A = Kind × List ℕ} (kind, xs) (kind', ys) = cc in
-    (ap (λ x. x.0) both, ap (λ x. x.1) both)
+use Rattle.texting_robots.proofs.TrimLemmas.{trimmed_is_trim, one_trim, blank_skipped}
 
 -- ---- blanks
-
--- the text begins with no blank
-abbrev StartsPlain : List ℕ → Type 0
-StartsPlain [] = Unit {0}
-StartsPlain (byte ∷ text) = ¬ IsBlank byte
 
 blank_decides : (b : ℕ) → Decides (b == space || b == tab) (IsBlank b)
 blank_decides b = Decides-or (b == space) (b == tab) (Decides-eqb b space) (Decides-eqb b tab)
@@ -37,9 +27,13 @@ skip_front : (blanks left : List ℕ) → Each IsBlank blanks → skip_blanks (b
 skip_front [] left all = refl
 skip_front (b ∷ blanks) left all = cond-true _ _ _ ((blank_decides b).1 all.0) ∙ skip_front blanks left all.1
 
-skip_plain : (left : List ℕ) → StartsPlain left → skip_blanks left ≡ left
-skip_plain [] plain = refl
-skip_plain (b ∷ left) plain = cond-false _ _ _ (false_from_ne_true (b == space || b == tab) (λ is. plain ((blank_decides b).0 is)))
+-- and nothing is left to skip
+skip_again : (text : List ℕ) → skip_blanks (skip_blanks text) ≡ skip_blanks text
+skip_again [] = refl
+skip_again (b ∷ text) = elim (cases_Bool (b == space || b == tab)) [
+  | inl is ↦ rw is (skip_again text)
+  | inr isnt ↦ ap skip_blanks (cond-false _ _ _ isnt)
+]
 
 -- the text is blanks and what is left
 record Skipped (left text : List ℕ) : Type 0 where
@@ -50,171 +44,167 @@ record Skipped (left text : List ℕ) : Type 0 where
 skipped : (text : List ℕ) → Skipped (skip_blanks text) text
 skipped [] = record { blanks = []; all = tt; whole = refl }
 skipped (b ∷ text) = elim (cases_Bool (b == space || b == tab)) [
-  | inl is ↦ let s = skipped text in rw is (record { blanks = b ∷ s.blanks; all = ((blank_decides b).0 is, s.all); whole = ap (λ t. b ∷ t) s.whole })
+  | inl is ↦
+      let s = skipped text in
+      rw is (record { blanks = b ∷ s.blanks; all = ((blank_decides b).0 is, s.all); whole = ap (λ t. b ∷ t) s.whole })
   | inr isnt ↦ rw isnt (record { blanks = []; all = tt; whole = refl })
 ]
 
--- ---- what the walk's parts make
-
-pub no_key : (body : List ℕ) → key_in table (skip_blanks body) ≡ None → statement_of body ≡ None
-unfolding statement_of
-no_key body none = ap with_key none
-
-pub no_tail : (body : List ℕ) (kind : Kind) (rest : List ℕ) → key_in table (skip_blanks body) ≡ Some (kind, rest) → tail_of rest ≡ None → statement_of body ≡ None
-unfolding statement_of
-no_tail body kind rest key none = ap with_key key ∙ ap (with_tail kind) none
-
-pub has_tail : (body : List ℕ) (kind : Kind) (rest tail : List ℕ) → key_in table (skip_blanks body) ≡ Some (kind, rest) → tail_of rest ≡ Some tail → statement_of body ≡ Some (kind, trimmed (region_of tail))
-unfolding statement_of
-has_tail body kind rest tail key is = ap with_key key ∙ ap (with_tail kind) is
-
 -- ---- keys
 
--- `key_in`, with the letters of the text made small before it is compared
-abbrev read_in : List (Kind × List ℕ) → List ℕ → List ℕ → Option (Kind × List ℕ)
-read_in [] low text = None
-read_in (entry ∷ entries) low text = if bytes_eq (take (length entry.1) low) (map to_ascii_lowercase entry.1) then Some (entry.0, drop (length entry.1) text) else read_in entries low text
+-- a key begins with no blank
+plain_by : (kind : Kind) (text : List ℕ) → kind_by text ≡ Some kind → skip_blanks text ≡ text
+plain_by kind [] is = refl
+plain_by kind (b ∷ text) is =
+    cond-false _ _ _ (false_from_ne_true (b == space || b == tab) (λ blank. at b ((blank_decides b).0 blank) is))
+  where
+    at : (b : ℕ) → IsBlank b → ¬ (kind_with (to_ascii_lowercase b) ≡ Some kind)
+    at b (inl e) is = let none : None ≡ Some kind = rw e at is in cc
+    at b (inr e) is = let none : None ≡ Some kind = rw e at is in cc
 
--- `key_in` reads the text in small letters
-read_low : (entries : List (Kind × List ℕ)) (text : List ℕ) → key_in entries text ≡ read_in entries (map to_ascii_lowercase text) text
-read_low [] text = refl
-read_low (entry ∷ entries) text = rw (take-map to_ascii_lowercase (length entry.1) text, read_low entries text) refl
+-- `kind_by` and `after_any` of a text in small letters
+abbrev kind_low : List ℕ → Option Kind
+kind_low [] = None
+kind_low (b ∷ low) = kind_with b
 
--- begins with a byte that is no blank
-abbrev HeadPlain : List ℕ → Type 0
-HeadPlain [] = ⊥
-HeadPlain (b ∷ s) = (b == space || b == tab) ≡ false
+abbrev any_low : List (List ℕ) → List ℕ → List ℕ → Option (List ℕ)
+any_low [] low text = None
+any_low (s ∷ list) low text = if bytes_eq (take (length s) low) s then Some (drop (length s) text) else any_low list low text
 
--- the spelling is in small letters, begins with no blank, and is read as the kind's, whatever follows it
+by_low : (text : List ℕ) → kind_by text ≡ kind_low (map to_ascii_lowercase text)
+by_low [] = refl
+by_low (b ∷ text) = refl
+
+after_low : (list : List (List ℕ)) (text : List ℕ) → after_any list text ≡ any_low list (map to_ascii_lowercase text) text
+after_low [] text = refl
+after_low (s ∷ list) text = rw (take-map to_ascii_lowercase (length s) text, after_low list text) refl
+
+-- the spelling is read as the kind's, whatever follows it
 abbrev IsRead : Kind → List ℕ → Type 0
-IsRead kind s = (map to_ascii_lowercase s ≡ s) × HeadPlain s × ((more text : List ℕ) → read_in table (s ++ more) text ≡ Some (kind, drop (length s) text))
+IsRead kind s = ((more : List ℕ) → kind_low (s ++ more) ≡ Some kind)
+    × ((more text : List ℕ) → any_low (spellings kind) (s ++ more) text ≡ Some (drop (length s) text))
 
 each_read : (kind : Kind) → Each (IsRead kind) (spellings kind)
-each_read UserAgent = ((refl, refl, λ m t. refl), ((refl, refl, λ m t. refl), ((refl, refl, λ m t. refl), tt)))
-each_read Allow = ((refl, refl, λ m t. refl), tt)
+each_read UserAgent = ((λ m. refl, λ m t. refl), ((λ m. refl, λ m t. refl), ((λ m. refl, λ m t. refl), tt)))
+each_read Allow = ((λ m. refl, λ m t. refl), tt)
 each_read Disallow = (
-  (refl, refl, λ m t. refl),
-  ((refl, refl, λ m t. refl), ((refl, refl, λ m t. refl), ((refl, refl, λ m t. refl), ((refl, refl, λ m t. refl), ((refl, refl, λ m t. refl), tt))))),
+  (λ m. refl, λ m t. refl),
+  (
+    (λ m. refl, λ m t. refl),
+    (
+      (λ m. refl, λ m t. refl),
+      ((λ m. refl, λ m t. refl), ((λ m. refl, λ m t. refl), ((λ m. refl, λ m t. refl), tt))),
+    ),
+  ),
 )
-each_read Sitemap = ((refl, refl, λ m t. refl), ((refl, refl, λ m t. refl), ((refl, refl, λ m t. refl), tt)))
-each_read CrawlDelay = ((refl, refl, λ m t. refl), ((refl, refl, λ m t. refl), ((refl, refl, λ m t. refl), tt)))
+each_read Sitemap = ((λ m. refl, λ m t. refl), ((λ m. refl, λ m t. refl), ((λ m. refl, λ m t. refl), tt)))
+each_read CrawlDelay = ((λ m. refl, λ m t. refl), ((λ m. refl, λ m t. refl), ((λ m. refl, λ m t. refl), tt)))
 
--- each spelling of a kind is read as that kind
-is_read : (kind : Kind) (s : List ℕ) → Contains (spellings kind) s → IsRead kind s
-is_read kind s is = All-contains (IsRead kind) (spellings kind) s (All-from_recursion (IsRead kind) (spellings kind) (each_read kind)) is
-
--- a key begins with no blank
-key_plain : (key rest : List ℕ) → HeadPlain (map to_ascii_lowercase key) → StartsPlain (key ++ rest)
-key_plain [] rest plain = absurd plain
-key_plain (b ∷ key) rest plain = at b plain
-  where
-    at : (b : ℕ) → (to_ascii_lowercase b == space || to_ascii_lowercase b == tab) ≡ false → ¬ IsBlank b
-    at b plain (inl is) = true≢false (rw is at plain)
-    at b plain (inr is) = true≢false (rw is at plain)
-
-key_found : (kind : Kind) (key rest : List ℕ) → IsKey kind key → key_in table (key ++ rest) ≡ Some (kind, rest)
+key_found : (kind : Kind) (key rest : List ℕ) → IsKey kind key
+    → (kind_by (key ++ rest) ≡ Some kind) × (after_any (spellings kind) (key ++ rest) ≡ Some rest)
 key_found kind key rest is =
     let low = map to_ascii_lowercase key in
-    read_low table (key ++ rest)
-    ∙ ap (λ t. read_in table t (key ++ rest)) (map-append to_ascii_lowercase key rest)
-    ∙ (is_read kind low is).2 (map to_ascii_lowercase rest) (key ++ rest)
-    ∙ ap (λ t. Some (kind, t)) (drop_at key rest (length low) (sym (length-map key to_ascii_lowercase)))
+    let more = map to_ascii_lowercase rest in
+    let split = map-append to_ascii_lowercase key rest in
+    let reads = All-contains (IsRead kind) (spellings kind) low
+    (All-from_recursion (IsRead kind) (spellings kind) (each_read kind)) is in (
+      by_low (key ++ rest) ∙ ap kind_low split ∙ reads.0 more,
+      after_low (spellings kind) (key ++ rest) ∙ ap (λ t. any_low (spellings kind) t (key ++ rest)) split
+      ∙ reads.1 more (key ++ rest)
+      ∙ ap (λ t. Some t) (drop_at key rest (length low) (sym (length-map key to_ascii_lowercase))),
+    )
 
--- an entry of the table is a kind and a spelling of its key
-abbrev IsEntry : Kind × List ℕ → Type 0
-IsEntry entry = Contains (spellings entry.0) entry.1
-
-entries_of : (kinds : List Kind) → All IsEntry (flat_map spelled_by kinds)
-entries_of [] = All-nil IsEntry
-entries_of (kind ∷ kinds) = All-append IsEntry (spelled_by kind) (flat_map spelled_by kinds) (All-map IsEntry (λ s. (kind, s)) (spellings kind) (All-contains_itself (spellings kind))) (entries_of kinds)
-
-table_entries : All IsEntry table
-table_entries = entries_of (UserAgent ∷ Allow ∷ Disallow ∷ Sitemap ∷ CrawlDelay ∷ [])
-
--- the text is a key of the kind and the rest
-record KeyFound (text : List ℕ) (kind : Kind) (rest : List ℕ) : Type 0 where
+-- the text is a key and the rest
+record Keyed (list : List (List ℕ)) (text rest : List ℕ) : Type 0 where
   key : List ℕ
-  is_key : IsKey kind key
+  is_key : Contains list (map to_ascii_lowercase key)
   whole : text ≡ key ++ rest
 
-found_key : (entries : List (Kind × List ℕ)) (text : List ℕ) (kind : Kind) (rest : List ℕ) → All IsEntry entries → key_in entries text ≡ Some (kind, rest) → KeyFound text kind rest
-found_key [] text kind rest are is = cc
-found_key (entry ∷ entries) text kind rest are is = elim (cases_Bool (begins entry.1 text)) [
+found_key : (list : List (List ℕ)) (text rest : List ℕ) → after_any list text ≡ Some rest → Keyed list text rest
+found_key [] text rest is = let none : None ≡ Some rest = is in cc
+found_key (s ∷ list) text rest is = elim (cases_Bool (begins s text)) [
   | inl test ↦
-      let n = length entry.1 in
-      let same = parts_same entry.0 kind (drop n text) rest (sym (cond-true _ _ _ test) ∙ is) in
-      let here = All-head IsEntry entry entries are in
-      let reads : map to_ascii_lowercase (take n text) ≡ entry.1 = (bytes_eq-Decides _ _).0 test ∙ (is_read entry.0 entry.1 here).0 in
-      record { key = take n text; is_key = rw (← same.0, reads) here; whole = sym (take-append-drop n text) ∙ ap (λ t. take n text ++ t) same.1 }
-  | inr other ↦ found_key entries text kind rest (All-tail IsEntry entry entries are) (sym (cond-false _ _ _ other) ∙ is)
+      let n = length s in
+      let same : drop n text ≡ rest = same_Some _ _ (sym (cond-true _ _ _ test) ∙ is) in
+      record {
+        key = take n text;
+        is_key = (0, omega arith, sym ((bytes_eq-Decides _ _).0 test));
+        whole = sym (take-append-drop n text) ∙ ap (λ t. take n text ++ t) same;
+      }
+  | inr other ↦
+      let k = found_key list text rest (sym (cond-false _ _ _ other) ∙ is) in
+      record { key = k.key; is_key = Contains-append_right (s ∷ []) list _ k.is_key; whole = k.whole }
 ]
 
 -- ---- separators
 
--- a rest that is blanks, a colon and a tail, as it is skipped
+-- a rest that is blanks, a colon and a tail, as it is skipped, and the other way round
 colon_skipped : (tail rest : List ℕ) → IsColonAnd tail rest → skip_blanks rest ≡ colon ∷ tail
 colon_skipped tail rest (blanks, all, whole) = ap skip_blanks whole ∙ skip_front blanks (colon ∷ tail) all
 
--- what is skipped to a colon is blanks, a colon and a tail
 colon_there : (tail rest : List ℕ) → skip_blanks rest ≡ colon ∷ tail → IsColonAnd tail rest
 colon_there tail rest reads = let s = skipped rest in (s.blanks, s.all, s.whole ∙ ap (λ t. s.blanks ++ t) reads)
 
 -- what is left after blanks, where it begins with no colon
-left_is : (rest left : List ℕ) → length left < length rest → ((other : List ℕ) → left ≢ colon ∷ other) → after_separator rest left ≡ Some left
-left_is rest [] less none = cond-true _ _ _ (lt-ltb 0 (length rest) less)
-left_is rest (c ∷ left) less none = elim (cases_Bool (c == colon)) [
-  | inl is ↦ absurd (none left (ap (λ x. x ∷ left) (eqb-true c colon is)))
-  | inr isnt ↦ cond-false _ _ _ isnt ∙ cond-true _ _ _ (lt-ltb (length (c ∷ left)) (length rest) less)
-]
+left_is : (rest left : List ℕ) → ((other : List ℕ) → left ≢ colon ∷ other)
+    → after_separator rest left ≡ after_blanks rest left
+left_is rest [] none = refl
+left_is rest (c ∷ left) none =
+    cond-false _ _ _ (ne_eqb c colon (λ is. none left (ap (λ x. x ∷ left) is)))
 
--- the walk finds a tail: this one, but for blanks in front
-record Tailed (tail rest : List ℕ) : Type 0 where
-  found : List ℕ
-  blanks : List ℕ
-  is : tail_of rest ≡ Some found
-  all : Each IsBlank blanks
-  whole : tail ≡ blanks ++ found
-
-tail_found : (tail rest : List ℕ) → IsTailOf tail rest → Tailed tail rest
-tail_found tail rest (inl with_colon) = record { found = tail; blanks = []; is = ap (after_separator rest) (colon_skipped tail rest with_colon); all = tt; whole = refl }
+tail_found : (tail rest : List ℕ) → IsTailOf tail rest → tail_of rest ≡ Some (skip_blanks tail)
+tail_found tail rest (inl with_colon) = ap (after_separator rest) (colon_skipped tail rest with_colon)
 tail_found tail rest (inr (none, (b, blanks, all, whole))) =
     let s = skipped tail in
     let left = skip_blanks tail in
     let reads : skip_blanks rest ≡ left = ap skip_blanks whole ∙ skip_front (b ∷ blanks) tail all in
-    let less : length left < length rest = omega (arith, ap length whole, ap length s.whole, length-append blanks tail, length-append s.blanks left) in
-    record {
-      found = left;
-      blanks = s.blanks;
-      is = ap (after_separator rest) reads ∙ left_is rest left less (λ other is. none other (colon_there other rest (reads ∙ is)));
-      all = s.all;
-      whole = s.whole;
-    }
+    let less : length left < length rest
+    = omega (arith, ap length whole, ap length s.whole, length-append blanks tail, length-append s.blanks left) in
+    ap (after_separator rest) reads
+    ∙ left_is rest left (λ other is. none other (colon_there other rest (reads ∙ is)))
+    ∙ cond-true _ _ _ (lt-ltb (length left) (length rest) less)
 
--- what the walk takes for the tail after blanks is one
-blanks_tail : (rest left tail : List ℕ) → skip_blanks rest ≡ left → after_blanks rest left ≡ Some tail → ((other : List ℕ) → left ≢ colon ∷ other) → IsTailOf tail rest
-blanks_tail rest left tail reads is none = elim (cases_Bool (nat_lt (length left) (length rest))) [
-  | inr short ↦ let wrong : None ≡ Some tail = sym (cond-false _ _ _ short) ∙ is in cc
+-- the rest has a tail, and the walk found it, without the blanks at its front
+record Tailed (found rest : List ℕ) : Type 0 where
+  tail : List ℕ
+  is : IsTailOf tail rest
+  same : found ≡ skip_blanks tail
+
+blanks_found : (rest left found : List ℕ) → skip_blanks rest ≡ left → after_blanks rest left ≡ Some found
+    → ((other : List ℕ) → left ≢ colon ∷ other) → Tailed found rest
+blanks_found rest left found reads is none = elim (cases_Bool (nat_lt (length left) (length rest))) [
+  | inr short ↦ let wrong : None ≡ Some found = sym (cond-false _ _ _ short) ∙ is in cc
   | inl more ↦
-      let found : Some left ≡ Some tail = sym (cond-true _ _ _ more) ∙ is in
-      let same : left ≡ tail = cc in
+      let same : left ≡ found = same_Some _ _ (sym (cond-true _ _ _ more) ∙ is) in
       let s = skipped rest in
-      inr ((λ other colon_and. none other (sym reads ∙ colon_skipped other rest colon_and)), at s.blanks s.all (s.whole ∙ ap (λ t. s.blanks ++ t) (reads ∙ same)) (rw same at (ltb-true (length left) (length rest) more)))
+      let less = ltb-true (length left) (length rest) more in
+      record {
+        tail = left;
+        is = inr (
+          (λ other with_colon. none other (sym reads ∙ colon_skipped other rest with_colon)),
+          at s.blanks s.all (s.whole ∙ ap (λ t. s.blanks ++ t) reads) less,
+        );
+        same = sym same ∙ sym reads ∙ sym (skip_again rest) ∙ ap skip_blanks reads;
+      }
 ]
   where
-    at : (blanks : List ℕ) → Each IsBlank blanks → rest ≡ blanks ++ tail → length tail < length rest → IsBlanksAnd tail rest
+    at : (blanks : List ℕ) → Each IsBlank blanks → rest ≡ blanks ++ left → length left < length rest → IsBlanksAnd left rest
     at [] all whole less = absurd (omega (arith, less, ap length whole))
     at (b ∷ blanks) all whole less = (b, blanks, all, whole)
 
--- what the walk takes for the tail is one
-tail_is : (rest left tail : List ℕ) → skip_blanks rest ≡ left → after_separator rest left ≡ Some tail → IsTailOf tail rest
-tail_is rest [] tail reads is = blanks_tail rest [] tail reads is (λ other e. cc)
-tail_is rest (c ∷ left) tail reads is = elim (cases_Bool (c == colon)) [
-  | inl yes_colon ↦
-      let found : Some left ≡ Some tail = sym (cond-true _ _ _ yes_colon) ∙ is in
-      let head : c ≡ colon = eqb-true c colon yes_colon in
-      let same : c ∷ left ≡ colon ∷ tail = cc in
-      inl (colon_there tail rest (reads ∙ same))
-  | inr other_byte ↦ blanks_tail rest (c ∷ left) tail reads (sym (cond-false _ _ _ other_byte) ∙ is) (λ other e. eqb-false c colon other_byte (cc))
+found_tail : (rest left found : List ℕ) → skip_blanks rest ≡ left → after_separator rest left ≡ Some found → Tailed found rest
+found_tail rest [] found reads is = blanks_found rest [] found reads is (λ other e. cc)
+found_tail rest (c ∷ left) found reads is = elim (cases_Bool (c == colon)) [
+  | inl with_colon ↦
+      let head = ap (λ x. x ∷ left) (eqb-true c colon with_colon) in
+      record {
+        tail = left;
+        is = inl (colon_there left rest (reads ∙ head));
+        same = sym (same_Some _ _ (sym (cond-true _ _ _ with_colon) ∙ is));
+      }
+  | inr other_byte ↦
+      blanks_found rest (c ∷ left) found reads (sym (cond-false _ _ _ other_byte) ∙ is)
+      (λ other e. eqb-false c colon other_byte (cc))
 ]
 
 -- ---- regions
@@ -238,84 +228,136 @@ record Parted (region tail : List ℕ) : Type 0 where
 parted : (tail : List ℕ) → Parted (region_of tail) tail
 parted [] = record { comment = []; whole = refl; plain = tt; is = inl refl }
 parted (b ∷ tail) = elim (cases_Bool (b == hash)) [
-  | inl is ↦ subst (λ r. Parted r (b ∷ tail)) (sym (region_hash b tail is)) (record { comment = b ∷ tail; whole = refl; plain = tt; is = inr (tail, ap (λ x. x ∷ tail) (eqb-true b hash is)) })
+  | inl is ↦
+      let comment : IsComment (b ∷ tail) = inr (tail, ap (λ x. x ∷ tail) (eqb-true b hash is)) in
+      subst (λ r. Parted r (b ∷ tail)) (sym (region_hash b tail is))
+      (record { comment = b ∷ tail; whole = refl; plain = tt; is = comment })
   | inr isnt ↦
       let p = parted tail in
-      subst (λ r. Parted r (b ∷ tail)) (sym (region_other b tail isnt)) (record { comment = p.comment; whole = ap (λ t. b ∷ t) p.whole; plain = (eqb-false b hash isnt, p.plain); is = p.is })
+      let plain : Each (λ byte. byte ≢ hash) (b ∷ region_of tail) = (eqb-false b hash isnt, p.plain) in
+      subst (λ r. Parted r (b ∷ tail)) (sym (region_other b tail isnt))
+      (record { comment = p.comment; whole = ap (λ t. b ∷ t) p.whole; plain = plain; is = p.is })
 ]
 
--- bytes that are no hash go to the region
-region_front : (front tail : List ℕ) → Each (λ byte. byte ≢ hash) front → region_of (front ++ tail) ≡ front ++ region_of tail
-region_front [] tail plain = refl
-region_front (b ∷ front) tail plain = region_other b (front ++ tail) (ne_eqb b hash plain.0) ∙ ap (λ t. b ∷ t) (region_front front tail plain.1)
+region_is : (region comment : List ℕ) → Each (λ byte. byte ≢ hash) region → IsComment comment
+    → region_of (region ++ comment) ≡ region
+region_is [] comment plain (inl empty) = ap region_of empty
+region_is [] comment plain (inr (text, is)) = ap region_of is ∙ region_hash hash text refl
+region_is (b ∷ region) comment plain is =
+    region_other b (region ++ comment) (ne_eqb b hash plain.0) ∙ ap (λ t. b ∷ t) (region_is region comment plain.1 is)
 
-region_is : (region comment : List ℕ) → Each (λ byte. byte ≢ hash) region → IsComment comment → region_of (region ++ comment) ≡ region
-region_is region comment plain is = region_front region comment plain ∙ ap (λ t. region ++ t) (none comment is) ∙ append-nil region
-  where
-    none : (comment : List ℕ) → IsComment comment → region_of comment ≡ []
-    none comment (inl empty) = ap region_of empty
-    none comment (inr (text, is)) = ap region_of is ∙ region_hash hash text refl
-
-blanks_plain : (blanks : List ℕ) → Each IsBlank blanks → Each (λ byte. byte ≢ hash) blanks
-blanks_plain [] all = tt
-blanks_plain (b ∷ blanks) all = (plain b all.0, blanks_plain blanks all.1)
+-- blanks before the value change nothing
+value_skipped : (tail : List ℕ) → value_of (skip_blanks tail) ≡ value_of tail
+value_skipped [] = refl
+value_skipped (b ∷ tail) = elim (cases_Bool (b == space || b == tab)) [
+  | inr isnt ↦ ap value_of (cond-false _ _ _ isnt)
+  | inl is ↦
+      let blank = (blank_decides b).0 is in
+      ap value_of (cond-true _ _ _ is) ∙ value_skipped tail
+      ∙ sym (ap trimmed (region_other b tail (ne_eqb b hash (plain b blank))) ∙ blank_skipped b (region_of tail) blank)
+]
   where
     plain : (b : ℕ) → IsBlank b → b ≢ hash
     plain b (inl is) e = omega (arith, is, e)
     plain b (inr is) e = omega (arith, is, e)
 
--- blanks before the region change no trim
-blanks_before : (blanks region value : List ℕ) → Each IsBlank blanks → IsTrimOf value region → IsTrimOf value (blanks ++ region)
-blanks_before [] region value all t = t
-blanks_before (b ∷ blanks) region value all t = blank_before b (blanks ++ region) value all.0 (blanks_before blanks region value all.1 t)
-
 -- ---- the statement
 
 pub statement_found : (kind : Kind) (value body : List ℕ) → IsStatement kind value body → statement_of body ≡ Some (kind, value)
+unfolding statement_of
 statement_found kind value body s =
-    let plain = key_plain s.key s.rest (is_read kind (map to_ascii_lowercase s.key) s.is_key).1 in
-    let reads : skip_blanks body ≡ s.key ++ s.rest = ap skip_blanks s.whole ∙ skip_front s.margin (s.key ++ s.rest) s.margin_blank ∙ skip_plain (s.key ++ s.rest) plain in
-    let key : key_in table (skip_blanks body) ≡ Some (kind, s.rest) = ap (key_in table) reads ∙ key_found kind s.key s.rest s.is_key in
-    let t = tail_found s.tail s.rest s.separated in
-    let left = region_of t.found in
-    let region : s.region ≡ t.blanks ++ left = sym (region_is s.region s.comment s.no_hash s.is_comment) ∙ ap region_of (sym s.parted ∙ t.whole) ∙ region_front t.blanks t.found (blanks_plain t.blanks t.all) in
-    let trim : IsTrimOf (trimmed left) s.region = rw region (blanks_before t.blanks left (trimmed left) t.all (trimmed_is_trim left)) in
-    has_tail body kind s.rest t.found key t.is ∙ ap (λ v. Some (kind, v)) (one_trim s.region (trimmed left) value trim s.trimmed)
+    let text = s.key ++ s.rest in
+    let key = key_found kind s.key s.rest s.is_key in
+    let reads : skip_blanks body ≡ text
+    = ap skip_blanks s.whole ∙ skip_front s.margin text s.margin_blank ∙ plain_by kind text key.0 in
+    let parts : parts_of body ≡ Some (kind, skip_blanks s.tail)
+    = rw (reads, key.0, key.1, tail_found s.tail s.rest s.separated) refl in
+    let region : region_of s.tail ≡ s.region
+    = ap region_of s.parted ∙ region_is s.region s.comment s.no_hash s.is_comment in
+    let is : value_of (skip_blanks s.tail) ≡ value
+    = value_skipped s.tail ∙ ap trimmed region
+    ∙ one_trim s.region (trimmed s.region) value (trimmed_is_trim s.region) s.trimmed in
+    ap (λ o. option_map (λ p. (p.0, value_of p.1)) o) parts ∙ ap (λ v. Some (kind, v)) is
 
-at_tail : (kind kind' : Kind) (value body rest : List ℕ) (tail : Option (List ℕ)) → key_in table (skip_blanks body) ≡ Some (kind, rest) → tail_of rest ≡ tail → with_tail kind tail ≡ Some (kind', value) → IsStatement kind' value body
-at_tail kind kind' value body rest None key is found = cc
-at_tail kind kind' value body rest (Some tail) key is found =
-    let same = parts_same kind kind' (trimmed (region_of tail)) value found in
-    let s = skipped body in
-    let k = found_key table (skip_blanks body) kind rest table_entries key in
-    let p = parted tail in
-    record {
-      margin = s.blanks;
-      key = k.key;
-      rest = rest;
-      tail = tail;
-      region = region_of tail;
-      comment = p.comment;
-      whole = s.whole ∙ ap (λ t. s.blanks ++ t) k.whole;
-      margin_blank = s.all;
-      is_key = rw (← same.0) k.is_key;
-      separated = tail_is rest (skip_blanks rest) tail refl is;
-      parted = p.whole;
-      no_hash = p.plain;
-      is_comment = p.is;
-      trimmed = rw (← same.1) (trimmed_is_trim (region_of tail));
-    }
+-- a key of the kind and what follows it
+stated : (kind : Kind) (body found : List ℕ) → tail_as kind (skip_blanks body) ≡ Some found
+    → IsStatement kind (value_of found) body
+stated kind body found is =
+    option_and_then_some tail_of (after_any (spellings kind) (skip_blanks body)) found is (λ rest keyed tailed.
+      let s = skipped body in
+      let k = found_key (spellings kind) (skip_blanks body) rest keyed in
+      let t = found_tail rest (skip_blanks rest) found refl tailed in
+      let p = parted t.tail in
+      let same = ap value_of t.same ∙ value_skipped t.tail in
+      record {
+        margin = s.blanks;
+        key = k.key;
+        rest = rest;
+        tail = t.tail;
+        region = region_of t.tail;
+        comment = p.comment;
+        whole = s.whole ∙ ap (λ t. s.blanks ++ t) k.whole;
+        margin_blank = s.all;
+        is_key = k.is_key;
+        separated = t.is;
+        parted = p.whole;
+        no_hash = p.plain;
+        is_comment = p.is;
+        trimmed = subst (λ v. IsTrimOf v (region_of t.tail)) (sym same) (trimmed_is_trim (region_of t.tail));
+      })
+
+-- the parts of a body, as they are put together
+tail_from : (k kind : Kind) (o : Option (List ℕ)) (tail : List ℕ)
+    → ◌≡◌ {A = Option (Kind × List ℕ)} (option_map (λ t. (k, t)) o) (Some (kind, tail)) → (k ≡ kind) × (o ≡ Some tail)
+tail_from k kind None tail is = let none : ◌≡◌ {A = Option (Kind × List ℕ)} None (Some (kind, tail)) = is in cc
+tail_from k kind (Some t) tail is =
+    let same = some_pair_parts k kind t tail is in
+    (same.0, ap (λ t. Some t) same.1)
+
+parts_stated : (kind : Kind) (body tail : List ℕ) → parts_of body ≡ Some (kind, tail) → IsStatement kind (value_of tail) body
+parts_stated kind body tail is =
+    option_and_then_some (λ k. option_map (λ t. (k, t)) (tail_as k (skip_blanks body))) (kind_by (skip_blanks body)) (kind, tail) is (λ k by found.
+      let same = tail_from k kind (tail_as k (skip_blanks body)) tail found in
+      subst (λ k. IsStatement k (value_of tail) body) same.0 (stated k body tail same.1))
 
 pub found_statement : (kind : Kind) (value body : List ℕ) → statement_of body ≡ Some (kind, value) → IsStatement kind value body
 unfolding statement_of
-found_statement kind value body found = at (key_in table (skip_blanks body)) refl found
+found_statement kind value body found = at (parts_of body) refl found
   where
-    at : (key : Option (Kind × List ℕ)) → key_in table (skip_blanks body) ≡ key → with_key key ≡ Some (kind, value) → IsStatement kind value body
-    at None is found = cc
-    at (Some (k, rest)) is found = at_tail k kind value body rest (tail_of rest) is refl found
+    at : (parts : Option (Kind × List ℕ)) → parts_of body ≡ parts
+        → ◌≡◌ {A = Option (Kind × List ℕ)} (option_map (λ p. (p.0, value_of p.1)) parts) (Some (kind, value))
+        → IsStatement kind value body
+    at None is found = let none : ◌≡◌ {A = Option (Kind × List ℕ)} None (Some (kind, value)) = found in cc
+    at (Some (k, tail)) is found =
+        let same = some_pair_parts k kind (value_of tail) value found in
+        rw (← same.0, ← same.1) (parts_stated k body tail is)
 
-pub one_statement : (kind kind' : Kind) (value value' body : List ℕ) → IsStatement kind value body → IsStatement kind' value' body → (kind ≡ kind') × (value ≡ value')
-one_statement kind kind' value value' body s t = parts_same kind kind' value value' (sym (statement_found kind value body s) ∙ statement_found kind' value' body t)
+-- the walk's last step
+pub no_parts : (body : List ℕ) → parts_of body ≡ None → statement_of body ≡ None
+unfolding statement_of
+no_parts body none = ap (λ o. option_map (λ p. (p.0, value_of p.1)) o) none
+
+pub has_parts : (body : List ℕ) (kind : Kind) (tail : List ℕ) → parts_of body ≡ Some (kind, tail) → statement_of body ≡ Some (kind, value_of tail)
+unfolding statement_of
+has_parts body kind tail is = ap (λ o. option_map (λ p. (p.0, value_of p.1)) o) is
+
+-- a look at one kind
+pub this_kind : (body text : List ℕ) (kind : Kind) (found : Option (Bor (List ℕ))) → text ≡ skip_blanks body
+    → kind_by text ≡ Some kind
+    → MatchOption found (tail_as kind text ≡ None) (λ tail. tail_as kind text ≡ Some tail.now)
+    → MatchOption found ((tail : List ℕ) → parts_of body ≢ Some (kind, tail)) (λ tail. parts_of body ≡ Some (kind, tail.now))
+this_kind body text kind None whole by none = λ tail is.
+    let wrong : ◌≡◌ {A = Option (Kind × List ℕ)} None (Some (kind, tail)) = rw (← whole, by, none) at is in
+    cc
+this_kind body text kind (Some tail) whole by is = rw (← whole, by, is) refl
+
+pub one_statement : (kind kind' : Kind) (value value' body : List ℕ) → IsStatement kind value body
+    → IsStatement kind' value' body → (kind ≡ kind') × (value ≡ value')
+one_statement kind kind' value value' body s t =
+    some_pair_parts kind kind' value value'
+    (sym (statement_found kind value body s) ∙ statement_found kind' value' body t)
 
 pub unstated : (body : List ℕ) → statement_of body ≡ None → (kind : Kind) (value : List ℕ) → ¬ IsStatement kind value body
-unstated body none kind value is = let wrong : ◌≡◌ {A = Option (Kind × List ℕ)} None (Some (kind, value)) = sym none ∙ statement_found kind value body is in cc
+unstated body none kind value is =
+    let wrong : ◌≡◌ {A = Option (Kind × List ℕ)} None (Some (kind, value)) = sym none ∙ statement_found kind value body is in
+    cc

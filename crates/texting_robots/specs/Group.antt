@@ -4,7 +4,7 @@ use Rattle.std.specs.List.{list_any, filter_map, enumerate_from}
 use Rattle.std.specs.Option.{option_map_or}
 use Rattle.std.specs.Str.{str_to_ascii_lowercase}
 use Rattle.texting_robots.specs.declared.groups.Marked.{Marked}
-use Rattle.texting_robots.specs.Line.{Allow, CrawlDelay, Disallow, LineValue, UserAgent, by_value}
+use Rattle.texting_robots.specs.Line.{Allow, CrawlDelay, Disallow, LineValue, UserAgent}
 
 -- ---- what groups ask of a line
 
@@ -76,7 +76,7 @@ pub record Mark : Type 0 where
   pub line : LineValue
 
 abbrev pub mark_of : Marked → Mark
-mark_of marked = record { number = marked.number; captured = marked.is_captured; line = by_value marked.line }
+mark_of marked = record { number = marked.number; captured = marked.is_captured; line = marked.line }
 
 -- all lines, in order
 abbrev pub marks_of : List ℕ → List LineValue → List Mark

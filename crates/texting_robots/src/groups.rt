@@ -4,40 +4,11 @@ ghost use Rattle.std.specs.Iterator.{YieldsFirstBy, item_count};
 ghost use Rattle.std.specs.List.{list_any};
 ghost use Rattle.std.specs.Str.{str_to_ascii_lowercase};
 ghost use Rattle.texting_robots.specs.Computed.Group.{step};
-ghost use Rattle.texting_robots.specs.Group.{group_name, is_agent, is_agent_named, mark_of, marks_of};
-ghost use Rattle.texting_robots.specs.Line.{by_value, delay_in};
+ghost use Rattle.texting_robots.specs.Group.{group_name, is_agent, mark_of, marks_of};
 ghost use Rattle.texting_robots.specs.Rules.{delay_before_agents};
 
-use crate::parser::{Line, LineIter};
+use crate::parser::{Unread, UnreadLines};
 use std::marker::Model;
-
-/// Whether it is an agent line.
-fn is_agent(line: Line<'_>) -> bool
-    ensures { result ≡ is_agent (by_value line.entry) }
-{
-    matches!(line, Line::UserAgent(_))
-}
-
-/// Whether it is an agent line of this name, ASCII letters in any case.
-#[tactic(auto, using(crate::proofs::NameLemmas::tested_names))]
-fn is_agent_named(line: Line<'_>, name: &[u8]) -> bool
-    ensures { result ≡ is_agent_named (str_to_ascii_lowercase name.now) (by_value line.entry) }
-{
-    match line {
-        Line::UserAgent(value) => value.eq_ignore_ascii_case(name),
-        _ => false,
-    }
-}
-
-/// The delay that a line gives.
-fn delay_in(line: Line<'_>) -> Option<u64>
-    ensures { result ≡ delay_in (by_value line.entry) }
-{
-    match line {
-        Line::CrawlDelay(delay) => delay,
-        _ => None,
-    }
-}
 
 /// What the first pass over a file finds out for an agent.
 #[derive(Drop)]
@@ -52,7 +23,7 @@ pub(crate) struct Group<'a> {
 
 /// The first pass. It ends at the first line that names the agent.
 #[tactic(auto, using(crate::proofs::RulesLemmas::last_more))]
-pub(crate) fn group_for<'a>(agent: &'a [u8], lines: LineIter<'_>) -> Group<'a>
+pub(crate) fn group_for<'a>(agent: &'a [u8], lines: UnreadLines<'_>) -> Group<'a>
     ensures name { str_to_ascii_lowercase result.name.now ≡ group_name agent.now lines.entry }
     ensures has_agents { result.has_agents ≡ list_any is_agent lines.entry }
     ensures stray_delay { result.stray_delay ≡ delay_before_agents lines.entry }
@@ -60,16 +31,16 @@ pub(crate) fn group_for<'a>(agent: &'a [u8], lines: LineIter<'_>) -> Group<'a>
     let mut has_agents = false;
     let mut last = None;
     for line in lines {
-        if is_agent_named(line, agent) {
+        if line.is_agent_named(agent) {
             return Group {
                 name: agent,
                 has_agents: true,
                 stray_delay: last,
             };
         }
-        has_agents = has_agents || is_agent(line);
+        has_agents = has_agents || line.is_agent();
         if !has_agents {
-            last = delay_in(line).or(last);
+            last = line.delay().or(last);
         }
     }
     Group {
@@ -90,16 +61,14 @@ struct Walk {
 
 impl Walk {
     /// Goes on over a line.
-    fn step(&mut self, name: &[u8], line: Line<'_>)
-        ensures { self.new ≡ step (str_to_ascii_lowercase name.now) self.old (by_value line.entry) }
+    fn step(&mut self, name: &[u8], line: &Unread<'_>)
+        ensures { self.new ≡ step (str_to_ascii_lowercase name.now) self.old line.now }
     {
-        match line {
-            Line::UserAgent(_) => {
-                self.named = self.named || is_agent_named(line, name);
-                self.captured = self.named;
-            }
-            Line::Allow(_) | Line::Disallow(_) | Line::CrawlDelay(_) => self.named = false,
-            Line::Sitemap(_) | Line::Raw(_) => {}
+        if line.is_agent() {
+            self.named = self.named || line.is_agent_named(name);
+            self.captured = self.named;
+        } else if self.named && line.is_group() {
+            self.named = false;
         }
     }
 }
@@ -112,14 +81,14 @@ pub(crate) struct Marked<'a> {
     /// Whether it is captured, if it is a group line.
     pub(crate) is_captured: bool,
     /// The line itself.
-    pub(crate) line: Line<'a>,
+    pub(crate) line: Unread<'a>,
 }
 
 /// An iterator over the marked lines of a file, which takes no memory.
 #[derive(Drop)]
 pub(crate) struct MarkedLines<'a> {
     name: &'a [u8],
-    lines: LineIter<'a>,
+    lines: UnreadLines<'a>,
     place: usize,
     walk: Walk,
 }
@@ -138,7 +107,7 @@ impl<'a> Model for MarkedLines<'a> {
 }
 
 /// The lines of a file, marked for the group that the first pass found in it.
-pub(crate) fn marked_lines<'a>(group: &Group<'a>, lines: LineIter<'a>) -> MarkedLines<'a>
+pub(crate) fn marked_lines<'a>(group: &Group<'a>, lines: UnreadLines<'a>) -> MarkedLines<'a>
     requires agents { group.now.has_agents ≡ list_any is_agent lines }
     requires count { length lines < 2 ^ 64 }
     ensures { result ≡ marks_of (str_to_ascii_lowercase group.now.name.now) lines.entry }
@@ -163,13 +132,13 @@ impl<'a> Iterator for MarkedLines<'a> {
 
     fn next(&mut self) -> Option<Marked<'a>> {
         let line = self.lines.next()?;
+        let is_captured = self.walk.captured;
+        self.walk.step(self.name, &line);
         self.place += 1;
-        let marked = Marked {
+        Some(Marked {
             number: self.place,
-            is_captured: self.walk.captured,
+            is_captured,
             line,
-        };
-        self.walk.step(self.name, line);
-        Some(marked)
+        })
     }
 }

@@ -1,17 +1,19 @@
 //! The lines of a robots.txt file.
 ghost use Rattle.std.specs.Prelude.{◌≡◌, ◌≤◌, IfErr, IfOk, length, map};
-ghost use Rattle.std.specs.Iterator.{YieldsFirstBy, item_count};
+ghost use Rattle.std.specs.Str.{str_to_ascii_lowercase};
+ghost use Rattle.std.specs.Iterator.{YieldsFirst, YieldsFirstBy, item_count};
 ghost use Rattle.texting_robots.specs.Computed.Line.{file_lines, line_of, line_with, parsed};
-ghost use Rattle.texting_robots.specs.Line.{AreFileLinesOf, AreLinesOf, HoldRangesOf, by_value, without_front};
+ghost use Rattle.texting_robots.specs.Group.{is_agent, is_agent_named, is_group};
+ghost use Rattle.texting_robots.specs.Line.{AreFileLinesOf, AreLinesOf, HoldRangesOf, by_value, delay_in, is_sitemap, without_front};
 
 mod cut;
 mod delay;
 mod statement;
 
 use crate::error::Error;
-use cut::{body_len, end_len};
+use cut::{after_end, body_len};
 pub use delay::read_delay;
-use statement::{Kind, statement_of};
+use statement::{Kind, statement_of, tail_if, value_of};
 use std::alloc::{AllocError, Global};
 use std::marker::Model;
 
@@ -32,14 +34,79 @@ pub enum Line<'a> {
     Raw(&'a [u8]),
 }
 
-/// An iterator over the lines of a text, which takes no memory.
+/// A line that isn't read to its value: whoever looks for groups asks it, and nothing else is read.
 #[derive(Drop)]
-pub struct LineIter<'a> {
+pub(crate) struct Unread<'a> {
+    body: &'a [u8],
+}
+
+impl<'a> Model for Unread<'a> {
+    ghost use Rattle.texting_robots.specs.Line.{LineValue};
+    ghost use Rattle.texting_robots.specs.Computed.Line.{line_of};
+
+    ghost Value = { LineValue };
+
+    ghost view = { λ s. line_of s.body.now };
+}
+
+impl<'a> Unread<'a> {
+    /// The line, read.
+    pub(crate) fn read(&self) -> Line<'a>
+        ensures { by_value result ≡ self.now }
+    {
+        line_of(self.body)
+    }
+
+    /// Whether it is an agent line. No value is read.
+    pub(crate) fn is_agent(&self) -> bool
+        ensures { result ≡ is_agent self.now }
+    {
+        tail_if(Kind::UserAgent, self.body).is_some()
+    }
+
+    /// Whether it is an agent line of this name, ASCII letters in any case. Only an agent line's value is read.
+    pub(crate) fn is_agent_named(&self, name: &[u8]) -> bool
+        ensures { result ≡ is_agent_named (str_to_ascii_lowercase name.now) self.now }
+    {
+        match tail_if(Kind::UserAgent, self.body) {
+            Some(tail) => value_of(tail).eq_ignore_ascii_case(name),
+            None => false,
+        }
+    }
+
+    /// Whether it is an Allow, a Disallow or a delay.
+    pub(crate) fn is_group(&self) -> bool
+        ensures { result ≡ is_group self.now }
+    {
+        matches!(
+            self.read(),
+            Line::Allow(_) | Line::Disallow(_) | Line::CrawlDelay(_)
+        )
+    }
+
+    /// Whether it lists a sitemap. No value is read.
+    pub(crate) fn is_sitemap(&self) -> bool
+        ensures { result ≡ is_sitemap self.now }
+    {
+        tail_if(Kind::Sitemap, self.body).is_some()
+    }
+
+    /// The delay that it gives. Only a delay's value is read.
+    pub(crate) fn delay(&self) -> Option<u64>
+        ensures { result ≡ delay_in self.now }
+    {
+        read_delay(value_of(tail_if(Kind::CrawlDelay, self.body)?))
+    }
+}
+
+/// An iterator over the lines of a text, none of them read to its value.
+#[derive(Drop)]
+pub(crate) struct UnreadLines<'a> {
     rest: &'a [u8],
     nul_ends: bool,
 }
 
-impl<'a> Model for LineIter<'a> {
+impl<'a> Model for UnreadLines<'a> {
     ghost use Rattle.std.specs.Prelude.{List};
     ghost use Rattle.texting_robots.specs.Line.{LineValue};
     ghost use Rattle.texting_robots.specs.Computed.Line.{lines_of};
@@ -48,6 +115,51 @@ impl<'a> Model for LineIter<'a> {
     ghost Value = { List LineValue };
 
     ghost view = { λ s. lines_of (read_as s.nul_ends s.rest.now) };
+}
+
+impl<'a> Iterator for UnreadLines<'a> {
+    type Item = Unread<'a>;
+
+    ghost next_gives = { YieldsFirst (λ s. s) };
+
+    ghost remaining = { item_count (λ s. s) };
+
+    fn next(&mut self) -> Option<Unread<'a>> {
+        let rest = self.rest;
+        if rest.is_empty() {
+            return None;
+        }
+        let (body, after) = rest.split_at(body_len(rest, self.nul_ends));
+        self.rest = after_end(after, self.nul_ends);
+        Some(Unread { body })
+    }
+}
+
+/// An iterator over the lines of a text, which takes no memory.
+#[derive(Drop)]
+pub struct LineIter<'a> {
+    unread: UnreadLines<'a>,
+}
+
+impl<'a> Model for LineIter<'a> {
+    ghost use Rattle.std.specs.Prelude.{List};
+    ghost use Rattle.texting_robots.specs.Line.{LineValue};
+
+    ghost Value = { List LineValue };
+
+    ghost view = { λ s. s.unread };
+}
+
+impl<'a> Iterator for LineIter<'a> {
+    type Item = Line<'a>;
+
+    ghost next_gives = { YieldsFirstBy by_value (λ s. s) };
+
+    ghost remaining = { item_count (λ s. s) };
+
+    fn next(&mut self) -> Option<Line<'a>> {
+        Some(self.unread.next()?.read())
+    }
 }
 
 /// The text without EF where it begins with it, then without BB, then without BF, each where it then stands first.
@@ -68,8 +180,21 @@ pub fn lines<'a>(input: &'a [u8]) -> LineIter<'a>
     ensures ranges { HoldRangesOf result input.now }
 {
     LineIter {
+        unread: UnreadLines {
+            rest: without_front(input),
+            nul_ends: false,
+        },
+    }
+}
+
+/// The lines of a file, those of its text with each NUL read as LF, not read to their values.
+pub(crate) fn unread_file_lines<'a>(input: &'a [u8]) -> UnreadLines<'a>
+    ensures value { result ≡ file_lines input.now }
+    ensures count { length result ≤ length input.now }
+{
+    UnreadLines {
         rest: without_front(input),
-        nul_ends: false,
+        nul_ends: true,
     }
 }
 
@@ -81,8 +206,7 @@ pub fn file_lines<'a>(input: &'a [u8]) -> LineIter<'a>
     ensures count { length result ≤ length input.now }
 {
     LineIter {
-        rest: without_front(input),
-        nul_ends: true,
+        unread: unread_file_lines(input),
     }
 }
 
@@ -114,25 +238,6 @@ fn line_of<'a>(body: &'a [u8]) -> Line<'a>
     match statement_of(body) {
         Some((kind, value)) => line_with(kind, value, body),
         None => Line::Raw(body),
-    }
-}
-
-impl<'a> Iterator for LineIter<'a> {
-    type Item = Line<'a>;
-
-    ghost next_gives = { YieldsFirstBy by_value (λ s. s) };
-
-    ghost remaining = { item_count (λ s. s) };
-
-    fn next(&mut self) -> Option<Line<'a>> {
-        let rest = self.rest;
-        if rest.is_empty() {
-            return None;
-        }
-        let (body, after) = rest.split_at(body_len(rest, self.nul_ends));
-        let (_, next) = after.split_at(end_len(after, self.nul_ends));
-        self.rest = next;
-        Some(line_of(body))
     }
 }
 

@@ -76,7 +76,8 @@ impl Reading {
         }
     }
 
-    /// Adds what a line gives. It takes memory only for a rule or a sitemap.
+    /// Adds what a line gives. It takes memory only for a rule or a sitemap; of other lines no value is read.
+    #[tactic(auto, using(crate::proofs::RulesLemmas::no_sitemap))]
     pub(crate) fn take(&mut self, alloc: Global, marked: Marked<'_>) -> Result<(), Error>
         requires { AreEntries self.old.rules }
         ensures known { OnOk result (AreEntries self.new.rules) }
@@ -91,7 +92,10 @@ impl Reading {
         ensures unasked { rule_at (mark_of marked.entry) ≡ None
             → sitemap_at (mark_of marked.entry) ≡ None → IsOk result }
     {
-        match marked.line {
+        if !marked.is_captured && !marked.line.is_sitemap() {
+            return Ok(());
+        }
+        match marked.line.read() {
             Line::Sitemap(value) => Ok(push_text(alloc, &mut self.sitemaps, value)?),
             _ if !marked.is_captured => Ok(()),
             Line::Allow(value) => push_rule(&mut self.rules, value, true, marked.number),

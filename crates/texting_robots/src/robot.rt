@@ -14,7 +14,7 @@ pub use crate::decision::Decision;
 use crate::error::{Error, is_want_of_memory};
 use crate::escape::escaped;
 use crate::groups::{group_for, marked_lines};
-use crate::parser::file_lines;
+use crate::parser::unread_file_lines;
 use crate::reading::Reading;
 use crate::rules::Rules;
 use crate::view::View;
@@ -82,9 +82,9 @@ impl Robot {
         ensures refused { IfErr result (IsMemoryOr (IsRefused agent.now (file_lines txt.now))) }
         ensures without_memory { GivesNothing agent.now (file_lines txt.now) → IsOk result }
     {
-        let group = group_for(agent.as_bytes(), file_lines(txt));
+        let group = group_for(agent.as_bytes(), unread_file_lines(txt));
         let mut reading = Reading::new(alloc);
-        for marked in marked_lines(&group, file_lines(txt)) {
+        for marked in marked_lines(&group, unread_file_lines(txt)) {
             reading.take(alloc, marked)?;
         }
         Ok(Robot {

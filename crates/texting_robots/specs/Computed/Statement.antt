@@ -1,5 +1,5 @@
 -- The statement of a body, computed from its front.
-use Rattle.std.specs.Prelude.{ℕ, ◌==◌, ◌||◌, Bool, nat_lt, List, [], ◌∷◌, ◌++◌, map, length, take, drop, Option, Some, None, if◌then◌else◌}
+use Rattle.std.specs.Prelude.{ℕ, ◌==◌, ◌||◌, Bool, nat_lt, List, [], ◌∷◌, map, length, take, drop, Option, Some, None, option_map, option_and_then, if◌then◌else◌}
 use Rattle.std.specs.List.{before_first}
 use Rattle.std.specs.Char.{to_ascii_lowercase, is_whitespace}
 use Rattle.std.specs.Str.{bytes_eq}
@@ -13,30 +13,37 @@ abbrev pub skip_blanks : List ℕ → List ℕ
 skip_blanks [] = []
 skip_blanks (byte ∷ text) = if byte == space || byte == tab then skip_blanks text else byte ∷ text
 
-abbrev pub spelled_by : Kind → List (Kind × List ℕ)
-spelled_by kind = map (λ spelling. (kind, spelling)) (spellings kind)
+-- the kind whose keys begin with this small letter: 'u' is 117, 'a' 97, 'd' 100, 's' 115 and 'c' 99
+abbrev pub kind_with : ℕ → Option Kind
+kind_with letter =
+    if letter == 117 then Some UserAgent
+    else (if letter == 97 then Some Allow
+    else (if letter == 100 then Some Disallow
+    else (if letter == 115 then Some Sitemap
+    else (if letter == 99 then Some CrawlDelay else None))))
 
--- each spelling beside its kind
-abbrev pub table : List (Kind × List ℕ)
-table = spelled_by UserAgent ++ (spelled_by Allow ++ (spelled_by Disallow ++ (spelled_by Sitemap ++ spelled_by CrawlDelay)))
+-- the kind that a key at the front of the text has, if one stands there
+abbrev pub kind_by : List ℕ → Option Kind
+kind_by [] = None
+kind_by (byte ∷ text) = kind_with (to_ascii_lowercase byte)
 
--- the text begins with the spelling, in any letter case
+-- the text begins with the spelling, which is in small letters, in any letter case
 abbrev pub begins : List ℕ → List ℕ → Bool
-begins spelling text = bytes_eq (map to_ascii_lowercase (take (length spelling) text)) (map to_ascii_lowercase spelling)
+begins spelling text = bytes_eq (map to_ascii_lowercase (take (length spelling) text)) spelling
 
--- the first kind whose spelling the text begins with, and what follows that
-abbrev pub key_in : List (Kind × List ℕ) → List ℕ → Option (Kind × List ℕ)
-key_in [] text = None
-key_in (entry ∷ entries) text = if begins entry.1 text then Some (entry.0, drop (length entry.1) text) else key_in entries text
+-- what follows the first of these spellings that the text begins with
+abbrev pub after_any : List (List ℕ) → List ℕ → Option (List ℕ)
+after_any [] text = None
+after_any (spelling ∷ spellings) text = if begins spelling text then Some (drop (length spelling) text) else after_any spellings text
 
 abbrev pub after_blanks : List ℕ → List ℕ → Option (List ℕ)
 after_blanks rest after = if nat_lt (length after) (length rest) then Some after else None
 
 abbrev pub after_separator : List ℕ → List ℕ → Option (List ℕ)
 after_separator rest [] = after_blanks rest []
-after_separator rest (byte ∷ after) = if byte == colon then Some after else after_blanks rest (byte ∷ after)
+after_separator rest (byte ∷ after) = if byte == colon then Some (skip_blanks after) else after_blanks rest (byte ∷ after)
 
--- what follows the separator that the rest begins with
+-- what follows the separator that the rest begins with, and the blanks behind it
 abbrev pub tail_of : List ℕ → Option (List ℕ)
 tail_of rest = after_separator rest (skip_blanks rest)
 
@@ -47,14 +54,18 @@ region_of tail = before_first (λ byte. byte == hash) tail
 abbrev pub trimmed : List ℕ → List ℕ
 trimmed region = trim_end_by is_whitespace (trim_start_by is_whitespace region)
 
-abbrev pub with_tail : Kind → Option (List ℕ) → Option (Kind × List ℕ)
-with_tail kind None = None
-with_tail kind (Some tail) = Some (kind, trimmed (region_of tail))
+-- the value in a tail
+abbrev pub value_of : List ℕ → List ℕ
+value_of tail = trimmed (region_of tail)
 
-abbrev pub with_key : Option (Kind × List ℕ) → Option (Kind × List ℕ)
-with_key None = None
-with_key (Some key) = with_tail key.0 (tail_of key.1)
+-- the tail of a text that begins with a key of this kind and a separator
+abbrev pub tail_as : Kind → List ℕ → Option (List ℕ)
+tail_as kind text = option_and_then tail_of (after_any (spellings kind) text)
+
+-- the kind and the tail of a body, if it is a statement
+abbrev pub parts_of : List ℕ → Option (Kind × List ℕ)
+parts_of body = option_and_then (λ kind. option_map (λ tail. (kind, tail)) (tail_as kind (skip_blanks body))) (kind_by (skip_blanks body))
 
 -- the kind and the value of a body, if it is a statement
 unfoldable pub statement_of : List ℕ → Option (Kind × List ℕ)
-statement_of body = with_key (key_in table (skip_blanks body))
+statement_of body = option_map (λ parts. (parts.0, value_of parts.1)) (parts_of body)

@@ -1,8 +1,10 @@
 //! Which statement a body is.
-ghost use Rattle.std.specs.Prelude.{◌≡◌, ℕ, List, MatchOption, Some, None, map, true, false, drop, length};
+ghost use Rattle.std.specs.Prelude.{◌≡◌, ◌≢◌, ◌↔◌, ◌==◌, ℕ, List, IsTrue, MatchOption, Some, None, map, true, false, drop, length};
+ghost use Rattle.std.specs.List.{list_any};
+ghost use Rattle.std.specs.Str.{str_to_ascii_lowercase};
 ghost use Rattle.texting_robots.specs.declared.parser.statement.Kind.{Kind};
-ghost use Rattle.texting_robots.specs.Statement.{IsStatement};
-ghost use Rattle.texting_robots.specs.Computed.Statement.{skip_blanks, begins, key_in, table, tail_of, region_of, statement_of};
+ghost use Rattle.texting_robots.specs.Statement.{IsStatement, hash, spellings};
+ghost use Rattle.texting_robots.specs.Computed.Statement.{skip_blanks, kind_by, begins, after_any, tail_of, tail_as, parts_of, region_of, trimmed, value_of, statement_of};
 
 use bstr::ByteSlice;
 use memchr::memchr;
@@ -17,24 +19,25 @@ pub(crate) enum Kind {
     CrawlDelay,
 }
 
-const SPELLINGS: [(Kind, &str); 16] = [
-    (Kind::UserAgent, "user-agent"),
-    (Kind::UserAgent, "user agent"),
-    (Kind::UserAgent, "useragent"),
-    (Kind::Allow, "allow"),
-    (Kind::Disallow, "disallow"),
-    (Kind::Disallow, "dissallow"),
-    (Kind::Disallow, "dissalow"),
-    (Kind::Disallow, "disalow"),
-    (Kind::Disallow, "diasllow"),
-    (Kind::Disallow, "disallaw"),
-    (Kind::Sitemap, "sitemap"),
-    (Kind::Sitemap, "site-map"),
-    (Kind::Sitemap, "site map"),
-    (Kind::CrawlDelay, "crawl-delay"),
-    (Kind::CrawlDelay, "crawl delay"),
-    (Kind::CrawlDelay, "crawldelay"),
-];
+/// How a key of this kind is spelled. Letter case doesn't count; the first is the usual one, as it is mostly written.
+fn spellings(kind: Kind) -> &'static [&'static str]
+    ensures { map (λ spelling. str_to_ascii_lowercase spelling.now) result.now ≡ spellings kind }
+{
+    match kind {
+        Kind::UserAgent => &["User-agent", "user agent", "useragent"],
+        Kind::Allow => &["Allow"],
+        Kind::Disallow => &[
+            "Disallow",
+            "dissallow",
+            "dissalow",
+            "disalow",
+            "diasllow",
+            "disallaw",
+        ],
+        Kind::Sitemap => &["Sitemap", "site-map", "site map"],
+        Kind::CrawlDelay => &["Crawl-delay", "crawl delay", "crawldelay"],
+    }
+}
 
 /// The text without the spaces and tabs at its front.
 fn skip_blanks<'a>(text: &'a [u8]) -> &'a [u8]
@@ -47,55 +50,152 @@ fn skip_blanks<'a>(text: &'a [u8]) -> &'a [u8]
     rest
 }
 
+/// The kind that a key at the front of the text has, if one stands there. The first letter tells the kinds apart.
+fn kind_by(text: &[u8]) -> Option<Kind>
+    ensures { result ≡ kind_by text.now }
+{
+    match text.first()?.to_ascii_lowercase() {
+        b'u' => Some(Kind::UserAgent),
+        b'a' => Some(Kind::Allow),
+        b'd' => Some(Kind::Disallow),
+        b's' => Some(Kind::Sitemap),
+        b'c' => Some(Kind::CrawlDelay),
+        _ => None,
+    }
+}
+
+/// Whether the key is the spelling, in any letter case. One that is written alike is told sooner.
+fn is_spelled(key: &[u8], spelling: &[u8]) -> bool
+    ensures { IsTrue result ↔ (str_to_ascii_lowercase key.now ≡ str_to_ascii_lowercase spelling.now) }
+{
+    key == spelling || key.eq_ignore_ascii_case(spelling)
+}
+
 /// What follows the spelling, if the text begins with it in any letter case.
 fn after_spelling<'a>(spelling: &str, text: &'a [u8]) -> Option<&'a [u8]>
-    ensures { MatchOption result (begins spelling.now text.now ≡ false)
-        (λ rest. (begins spelling.now text.now ≡ true)
-        × (rest.now ≡ drop (length spelling.now) text.now)) }
+    ensures { let small = str_to_ascii_lowercase spelling.now in MatchOption result
+        (begins small text.now ≡ false)
+        (λ rest. (begins small text.now ≡ true) × (rest.now ≡ drop (length small) text.now)) }
 {
     let (key, rest) = text.split_at_checked(spelling.len())?;
-    if key.eq_ignore_ascii_case(spelling.as_bytes()) {
+    if is_spelled(key, spelling.as_bytes()) {
         Some(rest)
     } else {
         None
     }
 }
 
-/// The kind of the first entry whose spelling the text begins with, and what follows that.
-fn key_in<'a>(entries: &[(Kind, &str)], text: &'a [u8]) -> Option<(Kind, &'a [u8])>
-    ensures { let all = map (λ entry. (entry.0, entry.1.now)) entries.now
-        in MatchOption result (key_in all text.now ≡ None)
-        (λ key. key_in all text.now ≡ Some (key.0, key.1.now)) }
+/// What follows the first of the spellings that the text begins with.
+fn after_any<'a>(spellings: &[&str], text: &'a [u8]) -> Option<&'a [u8]>
+    ensures { let small = map (λ spelling. str_to_ascii_lowercase spelling.now) spellings.now
+        in MatchOption result (after_any small text.now ≡ None)
+        (λ rest. after_any small text.now ≡ Some rest.now) }
 {
-    for (kind, spelling) in entries {
+    for spelling in spellings {
         if let Some(rest) = after_spelling(spelling, text) {
-            return Some((*kind, rest));
+            return Some(rest);
         }
     }
     None
 }
 
-/// What follows the separator.
+/// What follows the separator and the blanks behind it.
 fn tail_of<'a>(rest: &'a [u8]) -> Option<&'a [u8]>
     ensures { MatchOption result (tail_of rest.now ≡ None) (λ tail. tail_of rest.now ≡ Some tail.now) }
 {
     let after = skip_blanks(rest);
     match after {
-        [b':', tail @ ..] => Some(tail),
+        [b':', tail @ ..] => Some(skip_blanks(tail)),
         _ if after.len() < rest.len() => Some(after),
         _ => None,
     }
 }
 
+/// What follows the separator, if the text begins with a key of this kind.
+fn tail_as<'a>(kind: Kind, text: &'a [u8]) -> Option<&'a [u8]>
+    ensures { MatchOption result (tail_as kind text.now ≡ None) (λ tail. tail_as kind text.now ≡ Some tail.now) }
+{
+    tail_of(after_any(spellings(kind), text)?)
+}
+
+/// The kind of a body that is a statement, and its tail: the value and the comment.
+fn parts_of<'a>(body: &'a [u8]) -> Option<(Kind, &'a [u8])>
+    ensures { MatchOption result (parts_of body.now ≡ None)
+        (λ parts. parts_of body.now ≡ Some (parts.0, parts.1.now)) }
+{
+    let text = skip_blanks(body);
+    let kind = kind_by(text)?;
+    Some((kind, tail_as(kind, text)?))
+}
+
+/// The tail of a body that is a statement of this kind, whose value isn't read yet. A body of another kind is passed over by its first letter.
+pub(crate) fn tail_if<'a>(kind: Kind, body: &'a [u8]) -> Option<&'a [u8]>
+    ensures { MatchOption result ((tail : List ℕ) → parts_of body.now ≢ Some (kind, tail))
+        (λ tail. parts_of body.now ≡ Some (kind, tail.now)) }
+{
+    let text = skip_blanks(body);
+    match kind_by(text) {
+        Some(found) if found == kind => tail_as(kind, text),
+        _ => None,
+    }
+}
+
+/// Whether a byte is a hash. It has no way out before the last byte, so a few bytes are compared at once.
+fn holds_hash_among(bytes: &[u8]) -> bool
+    ensures { result ≡ list_any (λ byte. byte == hash) bytes.now }
+{
+    let mut holds = false;
+    for byte in bytes {
+        holds |= *byte == b'#';
+    }
+    holds
+}
+
+/// Whether a hash stands in the text. A short text is looked at in two parts of one length, which may overlap.
+fn holds_hash(text: &[u8]) -> bool
+    ensures { result ≡ list_any (λ byte. byte == hash) text.now }
+{
+    match text.len() {
+        0..8 => holds_hash_among(text),
+        8..16 => holds_hash_among(&text[..8]) || holds_hash_among(&text[text.len() - 8..]),
+        16..=32 => holds_hash_among(&text[..16]) || holds_hash_among(&text[text.len() - 16..]),
+        _ => memchr(b'#', text).is_some(),
+    }
+}
+
 /// What stands before the comment.
-#[tactic(auto, using(crate::proofs::RegionLemmas::first_is, crate::proofs::RegionLemmas::none_is))]
+#[tactic(auto, using(
+    crate::proofs::RegionLemmas::first_is,
+    crate::proofs::RegionLemmas::none_is,
+    crate::proofs::RegionLemmas::plain_is
+))]
 fn region_of<'a>(tail: &'a [u8]) -> &'a [u8]
     ensures { result.now ≡ region_of tail.now }
 {
+    if !holds_hash(tail) {
+        return tail;
+    }
     match memchr(b'#', tail) {
         Some(at) => &tail[..at],
         None => tail,
     }
+}
+
+/// The text without white space at its ends. Where both ends are ASCII and visible, nothing is decoded.
+fn trimmed<'a>(text: &'a [u8]) -> &'a [u8]
+    ensures { result.now ≡ trimmed text.now }
+{
+    match (text.first(), text.last()) {
+        (Some(first), Some(last)) if first.is_ascii_graphic() && last.is_ascii_graphic() => text,
+        _ => text.trim(),
+    }
+}
+
+/// The value in a tail.
+pub(crate) fn value_of<'a>(tail: &'a [u8]) -> &'a [u8]
+    ensures { result.now ≡ value_of tail.now }
+{
+    trimmed(region_of(tail))
 }
 
 /// The kind and the value of a body that is a statement.
@@ -105,7 +205,6 @@ pub(crate) fn statement_of<'a>(body: &'a [u8]) -> Option<(Kind, &'a [u8])>
     ensures decides { MatchOption result ((kind : Kind) (value : List ℕ)
         → ¬ IsStatement kind value body.now) (λ found. IsStatement found.0 found.1.now body.now) }
 {
-    let (kind, rest) = key_in(&SPELLINGS, skip_blanks(body))?;
-    let tail = tail_of(rest)?;
-    Some((kind, region_of(tail).trim()))
+    let (kind, tail) = parts_of(body)?;
+    Some((kind, value_of(tail)))
 }

@@ -1,5 +1,4 @@
-use Rattle.std.proofs.Common.{true, rules}
-use Rattle.texting_robots.proofs.CountLemmas.{lines_within}
+use Rattle.std.proofs.Common.{rules}
 use Rattle.texting_robots.proofs.LineLemmas.{lines_are}
 use Rattle.texting_robots.proofs.parser.file_lines.Goals as goal
 
@@ -8,6 +7,3 @@ returns-clause-value c = search rules
 
 pub returns-clause-lines : goal.returns-clause-lines
 returns-clause-lines c = lines_are _ _ (returns-clause-value c)
-
-pub returns-clause-count : goal.returns-clause-count
-returns-clause-count c = rw c.without_front.ensures (lines_within true c.args.input.now)

@@ -31,10 +31,10 @@ loop-marked-init c =
     let lines = file_lines c.args.txt.now in
     let name = group_name c.args.agent.now lines in
     let group_is =
-    rw (c.file_lines.ensures.value, c.as_bytes.ensures.value) at c.group_for-group.ensures.name in
+    rw (c.unread_file_lines.ensures.value, c.as_bytes.ensures.value) at c.group_for-group.ensures.name in
     let marks : c.into_iter-marked-iterator.result ≡ marks_of name lines
     = c.into_iter-marked-iterator.ensures.into_iter_gives
-    ∙ (rw (group_is, c.file_lines-2.ensures.value) at c.marked_lines-marked-items.ensures) in
+    ∙ (rw (group_is, c.unread_file_lines-2.ensures.value) at c.marked_lines-marked-items.ensures) in
     let empty = c.new-reading.ensures in
     rw (empty.rules, empty.sitemaps, empty.delay, marks) (record {
       known = empty.known;
@@ -69,7 +69,7 @@ returns-clause-robot c =
     let rules = rw (end, append-nil) at so_far.rules in
     let sorted = subst (λ (all : List PlacedRule). IsPermutation all c.sorted.result) rules c.sorted.ensures in
     let first = rw end at so_far.delay in
-    let stray = rw c.file_lines.ensures.value at c.group_for-group.ensures.stray_delay in
+    let stray = rw c.unread_file_lines.ensures.value at c.group_for-group.ensures.stray_delay in
     let none = none_unplaced (λ (rule : Rule). IsOverlong rule.0) _ so_far.accepted in
     record {
       delay = c.or.ensures ∙ ap (λ last. option_or c.loop-marked.reading.delay last) stray
