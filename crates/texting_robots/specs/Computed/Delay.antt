@@ -1,5 +1,33 @@
 -- The delay of a text as a function, found part by part.
-use Rattle.std.specs.Prelude.{ℕ, ◌+◌, ◌-◌, ◌*◌, ◌/◌, ◌^◌, ◌<◌, ◌==◌, ◌&&◌, ◌||◌, nat_lt, min, Bool, true, false, List, [], ◌∷◌, ◌++◌, All, Option, Some, None, if◌then◌else◌, codes, drop, length}
+use Rattle.std.specs.Prelude.{
+  ℕ,
+  ◌+◌,
+  ◌-◌,
+  ◌*◌,
+  ◌/◌,
+  ◌^◌,
+  ◌<◌,
+  ◌==◌,
+  ◌&&◌,
+  ◌||◌,
+  nat_lt,
+  min,
+  Bool,
+  true,
+  false,
+  List,
+  [],
+  ◌∷◌,
+  ◌++◌,
+  All,
+  Option,
+  Some,
+  None,
+  if◌then◌else◌,
+  codes,
+  drop,
+  length,
+}
 use Rattle.std.specs.Char.{IsAsciiDigit, is_ascii_digit}
 use Rattle.std.specs.List.{list_all, prefix_len, take_while}
 use Rattle.std.specs.Option.{option_and_then, option_map}
@@ -8,7 +36,8 @@ use Rattle.std.specs.Str.Parse.{digits_value, starts_with_minus, without_leading
 use Rattle.texting_robots.specs.Delay.{Decimal, greatest_delay, negative_exponent, positive_exponent}
 
 abbrev pub is_infinite : List ℕ → Bool
-is_infinite text = str_eq_ignore_ascii_case text (codes "inf") || str_eq_ignore_ascii_case text (codes "infinity")
+is_infinite text = str_eq_ignore_ascii_case text (codes "inf") || str_eq_ignore_ascii_case text
+    (codes "infinity")
 
 -- the digits in front, and what follows
 abbrev pub digits_in_front : List ℕ → List ℕ
@@ -53,22 +82,30 @@ pub record HasDigits (n : Decimal) : Type 0 where
   pub exponent : All IsAsciiDigit (without_leading_sign n.exponent)
   pub short : length n.whole + length n.fraction < 2 ^ 63
 
+abbrev pub bounded : ℕ → ℕ
+bounded n = min n greatest_delay
+
+-- how many digits, counted from the first, are whole microseconds
+abbrev pub places : Decimal → ℕ
+places n = length n.whole + 6 + positive_exponent n - negative_exponent n
+
 -- a number of seconds in microseconds, rounded down
 abbrev pub rounded : Decimal → ℕ
 rounded n =
-    min (digits_value 10 (n.whole ++ n.fraction) * 10 ^ 6 * 10 ^ positive_exponent n / (10 ^ length n.fraction * 10 ^ negative_exponent n))
-    greatest_delay
+    let micros = digits_value 10 (n.whole ++ n.fraction) * 10 ^ 6 * 10 ^ positive_exponent n in
+    bounded (micros / (10 ^ length n.fraction * 10 ^ negative_exponent n))
 
 abbrev pub is_zero : Decimal → Bool
 is_zero n = list_all (λ digit. digit == byte "0") (n.whole ++ n.fraction)
 
-abbrev pub none_of : Decimal → Option ℕ
-none_of n = if is_zero n then Some 0 else None
+abbrev pub zero_of : Decimal → Option ℕ
+zero_of n = if is_zero n then Some 0 else None
 
 -- the delay of a text behind its sign, and whether the sign is a minus
 abbrev pub delay_behind : Bool → List ℕ → Option ℕ
-delay_behind true unsigned = option_and_then none_of (number_of unsigned)
-delay_behind false unsigned = if is_infinite unsigned then Some greatest_delay else option_map rounded (number_of unsigned)
+delay_behind true unsigned = option_and_then zero_of (number_of unsigned)
+delay_behind false unsigned =
+    if is_infinite unsigned then Some greatest_delay else option_map rounded (number_of unsigned)
 
 unfoldable pub delay_of : List ℕ → Option ℕ
 delay_of text = delay_behind (starts_with_minus text) (without_leading_sign text)

@@ -1,12 +1,12 @@
 //! How long a crawler waits between two requests.
-ghost use Rattle.std.specs.Prelude.{◌≡◌, ◌==◌, ◌+◌, ◌-◌, ◌≤◌, All, drop, length, min, take};
+ghost use Rattle.std.specs.Prelude.{◌≡◌, ◌==◌, ◌≤◌, All, length, take};
 ghost use Rattle.std.specs.Char.{IsAsciiDigit, is_ascii_digit};
 ghost use Rattle.std.specs.List.{list_all, prefix_len};
 ghost use Rattle.std.specs.Option.{option_copied};
 ghost use Rattle.std.specs.Str.{byte};
 ghost use Rattle.std.specs.Str.Parse.{digits_value_after, starts_with_minus, without_leading_sign};
-ghost use Rattle.texting_robots.specs.Delay.{IsDelay, greatest_delay, negative_exponent, positive_exponent};
-ghost use Rattle.texting_robots.specs.Computed.Delay.{behind_digits, behind_fraction, digits_in_front, exponent_of, fraction_in_front, is_infinite, is_numeral, is_zero, number_of, rounded};
+ghost use Rattle.texting_robots.specs.Delay.{IsDelay};
+ghost use Rattle.texting_robots.specs.Computed.Delay as steps;
 
 use std::marker::Model;
 
@@ -52,23 +52,21 @@ fn digits_len(text: &[u8]) -> usize
     ensures value { result ≡ prefix_len is_ascii_digit text.now }
     ensures within { result ≤ length text.now }
 {
-    text.iter()
-        .take_while(|byte| byte.is_ascii_digit())
-        .count()
+    text.iter().take_while(|byte| byte.is_ascii_digit()).count()
 }
 
 /// The digits in front, and what follows them.
 fn split_digits(text: &[u8]) -> (&[u8], &[u8])
-    ensures digits { result.0.now ≡ digits_in_front text.now }
-    ensures rest { result.1.now ≡ behind_digits text.now }
+    ensures digits { result.0.now ≡ steps.digits_in_front text.now }
+    ensures rest { result.1.now ≡ steps.behind_digits text.now }
 {
     text.split_at(digits_len(text))
 }
 
 /// The digits behind a point in front, and what follows them.
 fn split_fraction(text: &[u8]) -> (&[u8], &[u8])
-    ensures digits { result.0.now ≡ fraction_in_front text.now }
-    ensures rest { result.1.now ≡ behind_fraction text.now }
+    ensures digits { result.0.now ≡ steps.fraction_in_front text.now }
+    ensures rest { result.1.now ≡ steps.behind_fraction text.now }
 {
     match text {
         [b'.', rest @ ..] => split_digits(rest),
@@ -92,14 +90,14 @@ fn are_zeros(text: &[u8]) -> bool
 
 /// Whether the text is one digit or more, and nothing else.
 fn is_numeral(text: &[u8]) -> bool
-    ensures { result ≡ is_numeral text.now }
+    ensures { result ≡ steps.is_numeral text.now }
 {
     !text.is_empty() && are_digits(text)
 }
 
 /// The exponent of a number whose digits are read: a sign and digits, or nothing where it has none.
 fn read_exponent(text: &[u8]) -> Option<&[u8]>
-    ensures { option_copied result ≡ exponent_of text.now }
+    ensures { option_copied result ≡ steps.exponent_of text.now }
 {
     match text {
         [] => Some(text),
@@ -110,7 +108,7 @@ fn read_exponent(text: &[u8]) -> Option<&[u8]>
 
 /// The number that the text spells.
 fn read_number(text: &[u8]) -> Option<Number<'_>>
-    ensures { result ≡ number_of text.now }
+    ensures { result ≡ steps.number_of text.now }
 {
     let (whole, rest) = split_digits(text);
     let (fraction, rest) = split_fraction(rest);
@@ -136,7 +134,7 @@ fn first(digits: &[u8], count: usize) -> &[u8]
 #[tactic(auto, using(crate::proofs::DelayNumbers::digit_there, crate::proofs::DelayNumbers::one_more_digit, crate::proofs::DelayNumbers::all_digits_read))]
 fn append_digits(start: u64, digits: &[u8]) -> u64
     requires { All IsAsciiDigit digits.now }
-    ensures { result ≡ min (digits_value_after 10 start digits.now) greatest_delay }
+    ensures { result ≡ steps.bounded (digits_value_after 10 start digits.now) }
 {
     let mut number = start;
     for digit in digits {
@@ -150,14 +148,14 @@ fn append_digits(start: u64, digits: &[u8]) -> u64
 impl Number<'_> {
     /// Whether only zeros stand before the exponent.
     fn is_zero(&self) -> bool
-        ensures { result ≡ is_zero self.now }
+        ensures { result ≡ steps.is_zero self.now }
     {
         are_zeros(self.whole) && are_zeros(self.fraction)
     }
 
     /// How many digits, counted from the first, are whole microseconds.
     fn micros_digits(&self) -> usize
-        ensures { result ≡ min (length self.now.whole + 6 + positive_exponent self.now - negative_exponent self.now) greatest_delay }
+        ensures { result ≡ steps.bounded (steps.places self.now) }
     {
         let (minus, exponent) = split_sign(self.exponent);
         let exponent = append_digits(0, exponent) as usize;
@@ -171,7 +169,7 @@ impl Number<'_> {
 
     /// The number of microseconds, rounded down, at most `u64::MAX`.
     fn micros(&self) -> u64
-        ensures { result ≡ rounded self.now }
+        ensures { result ≡ steps.rounded self.now }
     {
         let whole = self.micros_digits();
         let fraction = whole.saturating_sub(self.whole.len());
@@ -184,7 +182,7 @@ impl Number<'_> {
 
 /// Whether the text is `inf` or `infinity`, in any letter case.
 fn is_infinite(text: &[u8]) -> bool
-    ensures { result ≡ is_infinite text.now }
+    ensures { result ≡ steps.is_infinite text.now }
 {
     text.eq_ignore_ascii_case(b"inf") || text.eq_ignore_ascii_case(b"infinity")
 }
