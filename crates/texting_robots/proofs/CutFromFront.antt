@@ -1,5 +1,8 @@
 -- The cut read from the front: the first line of a text, and the lines of the rest.
-use Rattle.std.proofs.Common.{◌≡◌, ◌≢◌, ℕ, suc, ◌+◌, ◌≤◌, ◌<◌, Bool, true, false, ◌==◌, ◌||◌, inl, inr, List, [], ◌∷◌, length, take, drop, map, get_or, sym, refl, ap, ◌∙◌, arith, cond, if◌then◌else◌, map-id, Option, Some, None}
+use Rattle.std.proofs.Common.{◌≡◌, ◌≢◌, ℕ, suc, ◌+◌, ◌≤◌, ◌<◌, Bool, true, false}
+use Rattle.std.proofs.Common.{◌==◌, ◌||◌, inl, inr, List, [], ◌∷◌, length, take, drop, map}
+use Rattle.std.proofs.Common.{get_or, sym, refl, ap, ◌∙◌, arith, cond, if◌then◌else◌, map-id}
+use Rattle.std.proofs.Common.{Option, Some, None}
 use Rattle.std.specs.List.{position_or_len}
 use Rattle.std.proofs.lemmas.Bool.{cases_Bool, cond-true, cond-false, eqb-true, ne_eqb}
 use Rattle.std.proofs.lemmas.Bool.Decides.{nat_tests}
@@ -10,61 +13,68 @@ use Rattle.std.specs.Option.{unwrap_or}
 use Rattle.memchr.specs.Find.{is_byte2, is_byte3, IsFirstByte}
 use Rattle.texting_robots.proofs.RegionLemmas.{place_is, end_is}
 use Rattle.texting_robots.specs.Cut.{Pair, cr, lf}
-use Rattle.texting_robots.specs.Computed.Cut.{cut, before_body, before_end, body_len, end_len, read_byte, read_as}
+use Rattle.texting_robots.specs.Computed.Cut.{cut, before_body, before_end, body_len, end_len, read_byte}
+use Rattle.texting_robots.specs.Computed.Cut.{read_as}
 use Rattle.texting_robots.specs.Line.{LineValue}
 use Rattle.texting_robots.specs.Computed.Line.{line_of, lines_of}
-use Rattle.texting_robots.proofs.CutLemmas.{cut_nil, cut_at_lf, cut_at_cr, cut_at_other, pair_of}
+use Rattle.texting_robots.proofs.CutLemmas.{at_other, byte_cases, cut_cons, cut_nil, pair_of}
 
 -- ---- the first pair
 
--- a CR before a line whose body isn't empty ends a line by itself
-alone : (c : ℕ) (ps : List Pair) → before_end (before_body c ps) ≡ pair_of [] (cr ∷ []) ∷ before_body c ps
-alone c [] = refl
-alone c (p ∷ ps) = refl
+abbrev behind_body : List ℕ → List ℕ
+behind_body text = drop (body_len text) text
 
--- after a CR: the end goes on, and the lines of the rest follow
-after_cr : (text : List ℕ) → (ending : List ℕ) × (before_end (cut text) ≡ pair_of [] ending ∷ cut (drop (end_len text) text))
-after_cr [] = (cr ∷ [], rw cut_nil refl)
-after_cr (c ∷ text) =
-    elim (cases_Bool (c == lf)) [
-      | inl is_lf ↦ (cr ∷ lf ∷ [], rw (cut_at_lf c text is_lf, is_lf) refl)
-      | inr not_lf ↦ elim (cases_Bool (c == cr)) [
-        | inl is_cr ↦ let next = after_cr text in (cr ∷ next.0, rw (cut_at_cr c text not_lf is_cr, next.1, not_lf, is_cr) refl)
-        | inr not_cr ↦ (cr ∷ [], rw (not_lf, not_cr, cut_at_other c text not_lf not_cr) (alone c (cut text)))
-      ]
-    ]
+abbrev behind_end : List ℕ → List ℕ
+behind_end text = drop (end_len text) text
 
 -- what follows the first body and its end
 abbrev rest_of : List ℕ → List ℕ
-rest_of text = let left = drop (body_len text) text in drop (end_len left) left
+rest_of text = behind_end (behind_body text)
 
--- the first pair of the text ends before this rest
-abbrev Starts : List ℕ → Type 0
-Starts text = (ending : List ℕ) × (cut text ≡ pair_of (take (body_len text) text) ending ∷ cut (rest_of text))
+abbrev first_of : List ℕ → Pair
+first_of text = pair_of (take (body_len text) text) (take (end_len (behind_body text)) (behind_body text))
 
--- the same, with one more byte of the first body
-abbrev StartsBehind : ℕ → List ℕ → Type 0
-StartsBehind b text = (ending : List ℕ) × (before_body b (cut text) ≡ pair_of (b ∷ take (body_len text) text) ending ∷ cut (rest_of text))
+abbrev FirstLine : List ℕ → Type 0
+FirstLine text = cut text ≡ first_of text ∷ cut (rest_of text)
 
--- the first pair, by the first byte
-starts : (b : ℕ) (text : List ℕ) → StartsBehind b text → Starts (b ∷ text)
-starts b text further =
-    elim (cases_Bool (b == lf)) [
-      | inl is_lf ↦ (lf ∷ [], rw (cut_at_lf b text is_lf, is_lf, is_lf) refl)
-      | inr not_lf ↦ elim (cases_Bool (b == cr)) [
-        | inl is_cr ↦ let next = after_cr text in (next.0, rw (cut_at_cr b text not_lf is_cr, next.1, not_lf, is_cr, not_lf, is_cr) refl)
-        | inr not_cr ↦ (further.0, rw (cut_at_other b text not_lf not_cr, not_lf, not_cr) further.1)
-      ]
+-- a CR before the first pair
+after_return : (c : ℕ) (text : List ℕ) → FirstLine (c ∷ text)
+    → before_end (first_of (c ∷ text) ∷ cut (rest_of (c ∷ text)))
+        ≡ first_of (cr ∷ c ∷ text) ∷ cut (rest_of (cr ∷ c ∷ text))
+after_return c text next = elim (byte_cases c) [
+  | inl feed ↦ rw feed refl
+  | inr (inl return) ↦ rw return refl
+  | inr (inr other) ↦ (let no_lf = ne_eqb c lf other.1 in
+      let no_cr = ne_eqb c cr other.0 in
+      let again = rw (no_lf, no_cr) at next in
+      rw (no_lf, no_cr) (ap (λ pairs. pair_of [] (cr ∷ []) ∷ pairs) (sym again)))
+]
+
+first_line : (b : ℕ) (text : List ℕ) → FirstLine (b ∷ text)
+first_line b [] = elim (byte_cases b) [
+  | inl feed ↦ rw feed (cut_cons lf [])
+  | inr (inl return) ↦ rw return
+      (cut_cons cr [] ∙ ap before_end cut_nil ∙ ap (λ l. pair_of [] (cr ∷ []) ∷ l) (sym cut_nil))
+  | inr (inr other) ↦ (let first = cut_cons b [] ∙ at_other b (cut []) other
+      ∙ ap (before_body b) cut_nil in
+      rw (ne_eqb b lf other.1, ne_eqb b cr other.0)
+          (first ∙ ap (λ l. pair_of (b ∷ []) [] ∷ l) (sym cut_nil)))
+]
+first_line b (c ∷ text) =
+    let next = first_line c text in
+    elim (byte_cases b) [
+      | inl feed ↦ rw feed (cut_cons lf (c ∷ text))
+      | inr (inl return) ↦ rw return
+          (cut_cons cr (c ∷ text) ∙ ap before_end next ∙ after_return c text next)
+      | inr (inr other) ↦ (let first = cut_cons b (c ∷ text) ∙ at_other b (cut (c ∷ text)) other
+          ∙ ap (before_body b) next in
+          rw (ne_eqb b lf other.1, ne_eqb b cr other.0) first)
     ]
 
--- the first pair of a text that isn't empty, and the pairs of the rest
-first_piece : (b : ℕ) (text : List ℕ) → Starts (b ∷ text)
-first_piece b [] = starts b [] ([], rw cut_nil refl)
-first_piece b (c ∷ text) = let next = first_piece c text in starts b (c ∷ text) (next.0, rw next.1 refl)
-
-lines_first : (text : List ℕ) → 0 < length text → lines_of text ≡ line_of (take (body_len text) text) ∷ lines_of (rest_of text)
+lines_first : (text : List ℕ) → 0 < length text
+    → lines_of text ≡ line_of (take (body_len text) text) ∷ lines_of (rest_of text)
 lines_first [] some = absurd (omega (arith, some))
-lines_first (b ∷ text) some = ap (λ ps. map (λ p. line_of p.body) ps) (first_piece b text).1
+lines_first (b ∷ text) some = ap (λ ps. map (λ p. line_of p.body) ps) (first_line b text)
 
 pub lines_nil : lines_of [] ≡ []
 lines_nil = ap (λ ps. map (λ p. line_of p.body) ps) cut_nil
@@ -75,8 +85,10 @@ drop_read : (n : Bool) (k : ℕ) (text : List ℕ) → drop k (read_as n text) �
 drop_read n k text = drop-map (read_byte n) k text
 
 -- the text from a place within it on, as it is read
-at_read : (n : Bool) (text : List ℕ) (i : ℕ) → i < length text → drop i (read_as n text) ≡ read_byte n (get_or text i 0) ∷ drop (i + 1) (read_as n text)
-at_read n text i within = drop_read n i text ∙ ap (read_as n) (drop_more text i 0 within) ∙ ap (λ t. read_byte n (get_or text i 0) ∷ t) (sym (drop_read n (i + 1) text))
+at_read : (n : Bool) (text : List ℕ) (i : ℕ) → i < length text
+    → drop i (read_as n text) ≡ read_byte n (get_or text i 0) ∷ drop (i + 1) (read_as n text)
+at_read n text i within = drop_read n i text ∙ ap (read_as n) (drop_more text i 0 within)
+    ∙ ap (λ t. read_byte n (get_or text i 0) ∷ t) (sym (drop_read n (i + 1) text))
 
 pub read_as_is : (text : List ℕ) → read_as false text ≡ text
 read_as_is text = map-id text
@@ -91,16 +103,23 @@ not_return false b isnt = isnt
 
 -- ---- the length of an end, as a loop finds it
 
-pub end_at_return : (n : Bool) (text : List ℕ) (i : ℕ) → i < length text → get_or text i 0 ≡ cr → end_len (drop i (read_as n text)) ≡ suc (end_len (drop (i + 1) (read_as n text)))
-end_at_return n text i within is = ap end_len (at_read n text i within ∙ ap (λ b. b ∷ drop (i + 1) (read_as n text)) (ap (read_byte n) is ∙ return_read n))
+pub end_at_return : (n : Bool) (text : List ℕ) (i : ℕ) → i < length text → get_or text i 0 ≡ cr
+    → end_len (drop i (read_as n text)) ≡ suc (end_len (drop (i + 1) (read_as n text)))
+end_at_return n text i within is =
+    ap end_len (at_read n text i within
+    ∙ ap (λ b. b ∷ drop (i + 1) (read_as n text)) (ap (read_byte n) is ∙ return_read n))
 
-pub end_at_feed : (n : Bool) (text : List ℕ) (i : ℕ) → i < length text → (read_byte n (get_or text i 0) == lf) ≡ true → end_len (drop i (read_as n text)) ≡ 1
+pub end_at_feed : (n : Bool) (text : List ℕ) (i : ℕ) → i < length text
+    → (read_byte n (get_or text i 0) == lf) ≡ true → end_len (drop i (read_as n text)) ≡ 1
 end_at_feed n text i within is = ap end_len (at_read n text i within) ∙ cond-true _ _ _ is
 
-pub end_at_other : (n : Bool) (text : List ℕ) (i : ℕ) → i < length text → get_or text i 0 ≢ cr → (read_byte n (get_or text i 0) == lf) ≡ false → end_len (drop i (read_as n text)) ≡ 0
-end_at_other n text i within not_cr not_lf = ap end_len (at_read n text i within) ∙ cond-false _ _ _ not_lf ∙ cond-false _ _ _ (not_return n (get_or text i 0) (ne_eqb (get_or text i 0) cr not_cr))
+pub end_at_other : (n : Bool) (text : List ℕ) (i : ℕ) → i < length text → get_or text i 0 ≢ cr
+    → (read_byte n (get_or text i 0) == lf) ≡ false → end_len (drop i (read_as n text)) ≡ 0
+end_at_other n text i within not_cr not_lf = ap end_len (at_read n text i within) ∙ cond-false _ _ _ not_lf
+    ∙ cond-false _ _ _ (not_return n (get_or text i 0) (ne_eqb (get_or text i 0) cr not_cr))
 
-pub end_at_end : (n : Bool) (text : List ℕ) (i : ℕ) → length text ≤ i → end_len (drop i (read_as n text)) ≡ 0
+pub end_at_end : (n : Bool) (text : List ℕ) (i : ℕ) → length text ≤ i
+    → end_len (drop i (read_as n text)) ≡ 0
 end_at_end n text i over = ap end_len (drop_read n i text ∙ ap (read_as n) (drop_all i text over))
 
 -- ---- the length of a body, as a search finds it
@@ -109,10 +128,15 @@ end_at_end n text i over = ap end_len (drop_read n i text ∙ ap (read_as n) (dr
 abbrev Ends : Bool → (ℕ → Bool) → Type 0
 Ends n test = (b : ℕ) → test b ≡ (read_byte n b == lf || read_byte n b == cr)
 
-body_by : (n : Bool) (test : ℕ → Bool) → Ends n test → (text : List ℕ) → position_or_len test text ≡ body_len (read_as n text)
-body_by n test ends text = sym (is_position_or_len (λ t. body_len (read_as n t)) test refl (λ b t. step (read_byte n b == lf) (read_byte n b == cr) (test b) (body_len (read_as n t)) (ends b)) text)
+body_by : (n : Bool) (test : ℕ → Bool) → Ends n test → (text : List ℕ)
+    → position_or_len test text ≡ body_len (read_as n text)
+body_by n test ends text =
+    sym (is_position_or_len (λ t. body_len (read_as n t)) test refl
+    (λ b t. step (read_byte n b == lf) (read_byte n b == cr) (test b) (body_len (read_as n t))
+        (ends b)) text)
   where
-    step : (x y z : Bool) (k : ℕ) → z ≡ (x || y) → (if x then 0 else (if y then 0 else suc k)) ≡ cond z 0 (1 + k)
+    step : (x y z : Bool) (k : ℕ) → z ≡ (x || y)
+        → (if x then 0 else (if y then 0 else suc k)) ≡ cond z 0 (1 + k)
     step true y z k e = rw e refl
     step false true z k e = rw e refl
     step false false z k e = rw e (omega arith)
@@ -121,7 +145,8 @@ pub ends_as_is : Ends false (is_byte2 cr lf)
 ends_as_is b = or_comm (b == cr) (b == lf)
 
 pub ends_with_nul : Ends true (is_byte3 cr lf 0)
-ends_with_nul b = elim (cases_Bool (b == 0)) [ inl nul ↦ rw nul (last (b == cr) (b == lf)) | inr other ↦ rw other (turned (b == cr) (b == lf)) ]
+ends_with_nul b = elim (cases_Bool (b == 0)) [ inl nul ↦ rw nul
+    (last (b == cr) (b == lf)) | inr other ↦ rw other (turned (b == cr) (b == lf)) ]
   where
     last : (x y : Bool) → (x || y || true) ≡ true
     last true y = refl
@@ -135,19 +160,24 @@ ends_with_nul b = elim (cases_Bool (b == 0)) [ inl nul ↦ rw nul (last (b == cr
     turned false false = refl
 
 -- what `memchr` finds
-pub body_found : (n : Bool) (test : ℕ → Bool) (text : List ℕ) (found : Option ℕ) → Ends n test → IsFirstByte test text found → unwrap_or found (length text) ≡ body_len (read_as n text)
+pub body_found : (n : Bool) (test : ℕ → Bool) (text : List ℕ) (found : Option ℕ) → Ends n test
+    → IsFirstByte test text found → unwrap_or found (length text) ≡ body_len (read_as n text)
 body_found n test text None ends none = sym (end_is test text none) ∙ body_by n test ends text
-body_found n test text (Some k) ends first = sym (place_is test text k first.0 first.1) ∙ body_by n test ends text
+body_found n test text (Some k) ends first = sym (place_is test text k first.0 first.1)
+    ∙ body_by n test ends text
 
 -- a body holds no NUL that is read as LF
-body_plain : (n : Bool) (text : List ℕ) → take (body_len (read_as n text)) (read_as n text) ≡ take (body_len (read_as n text)) text
+body_plain : (n : Bool) (text : List ℕ)
+    → take (body_len (read_as n text)) (read_as n text) ≡ take (body_len (read_as n text)) text
 body_plain n [] = refl
 body_plain n (b ∷ text) =
     elim (cases_Bool (read_byte n b == lf)) [
       | inl is_lf ↦ rw is_lf refl
       | inr not_lf ↦ elim (cases_Bool (read_byte n b == cr)) [
         | inl is_cr ↦ rw (not_lf, is_cr) refl
-        | inr not_cr ↦ rw (not_lf, not_cr) (ap (λ t. read_byte n b ∷ t) (body_plain n text) ∙ ap (λ x. x ∷ take (body_len (read_as n text)) text) (as_is n b not_lf))
+        | inr not_cr ↦ rw (not_lf, not_cr)
+            (ap (λ t. read_byte n b ∷ t) (body_plain n text)
+            ∙ ap (λ x. x ∷ take (body_len (read_as n text)) text) (as_is n b not_lf))
       ]
     ]
   where
@@ -163,16 +193,22 @@ long_read n text = simp length-map
 
 -- ---- the next line
 
-pub next_line : (n : Bool) (rest body after : List ℕ) (k m : ℕ) → 0 < length rest → k ≡ body_len (read_as n rest) → body ≡ take k rest → after ≡ drop k rest → m ≡ end_len (read_as n after)
+pub next_line : (n : Bool) (rest body after : List ℕ) (k m : ℕ) → 0 < length rest
+    → k ≡ body_len (read_as n rest) → body ≡ take k rest → after ≡ drop k rest
+    → m ≡ end_len (read_as n after)
     → lines_of (read_as n rest) ≡ line_of body ∷ lines_of (read_as n (drop m after))
 next_line n rest body after k m some k_is body_is after_is m_is =
     let text = read_as n rest in
     let first = lines_first text (omega (arith, some, long_read n rest)) in
-    let body_same : take (body_len text) text ≡ body = body_plain n rest ∙ ap (λ i. take i rest) (sym k_is) ∙ sym body_is in
-    let after_same : drop (body_len text) text ≡ read_as n after = ap (λ i. drop i text) (sym k_is) ∙ drop_read n k rest ∙ ap (read_as n) (sym after_is) in
+    let body_same : take (body_len text) text ≡ body = body_plain n rest
+        ∙ ap (λ i. take i rest) (sym k_is) ∙ sym body_is in
+    let after_same : drop (body_len text) text ≡ read_as n after = ap (λ i. drop i text) (sym k_is)
+        ∙ drop_read n k rest ∙ ap (read_as n) (sym after_is) in
     let rest_same : rest_of text ≡ read_as n (drop m after)
-    = ap (λ t. drop (end_len t) t) after_same ∙ ap (λ i. drop i (read_as n after)) (sym m_is) ∙ drop_read n m after in
-    first ∙ ap (λ t. line_of t ∷ lines_of (rest_of text)) body_same ∙ ap (λ t. line_of body ∷ lines_of t) rest_same
+    = ap (λ t. drop (end_len t) t) after_same ∙ ap (λ i. drop i (read_as n after)) (sym m_is)
+        ∙ drop_read n m after in
+    first ∙ ap (λ t. line_of t ∷ lines_of (rest_of text)) body_same
+        ∙ ap (λ t. line_of body ∷ lines_of t) rest_same
 
 -- what the tests of the reader say
 pub not_empty : (n : ℕ) (b : Bool) → b ≡ (n == 0) → b ≡ false → 0 < n
