@@ -9,61 +9,68 @@ use Rattle.std.proofs.Math.Bool.{or_comm}
 use Rattle.memchr.specs.Find.{is_byte2, is_byte3, IsFirstByte}
 use Rattle.texting_robots.proofs.RegionLemmas.{place_is, end_is}
 use Rattle.texting_robots.specs.Cut.{Pair, cr, lf}
-use Rattle.texting_robots.specs.Computed.Cut.{cut, before_body, before_end, body_len, end_len, read_byte, read_as}
+use Rattle.texting_robots.specs.Computed.Cut.{cut, before_body, before_end, body_len, end_len, read_byte}
+use Rattle.texting_robots.specs.Computed.Cut.{read_as}
 use Rattle.texting_robots.specs.Line.{LineValue}
 use Rattle.texting_robots.specs.Computed.Line.{line_of, lines_of}
-use Rattle.texting_robots.proofs.CutLemmas.{cut_nil, cut_at_lf, cut_at_cr, cut_at_other, pair_of}
+use Rattle.texting_robots.proofs.CutLemmas.{at_other, byte_cases, cut_cons, cut_nil, pair_of}
 
 -- ---- the first pair
 
--- a CR before a line whose body isn't empty ends a line by itself
-alone : (c : ℕ) (ps : List Pair) → before_end (before_body c ps) ≡ pair_of [] (cr ∷ []) ∷ before_body c ps
-alone c [] = refl
-alone c (p ∷ ps) = refl
+abbrev behind_body : List ℕ → List ℕ
+behind_body text = drop (body_len text) text
 
--- after a CR: the end goes on, and the lines of the rest follow
-after_cr : (text : List ℕ) → (ending : List ℕ) × (before_end (cut text) ≡ pair_of [] ending ∷ cut (drop (end_len text) text))
-after_cr [] = (cr ∷ [], rw cut_nil refl)
-after_cr (c ∷ text) =
-    elim (cases_Bool (c == lf)) [
-      | inl is_lf ↦ (cr ∷ lf ∷ [], rw (cut_at_lf c text is_lf, is_lf) refl)
-      | inr not_lf ↦ elim (cases_Bool (c == cr)) [
-        | inl is_cr ↦ let next = after_cr text in (cr ∷ next.0, rw (cut_at_cr c text not_lf is_cr, next.1, not_lf, is_cr) refl)
-        | inr not_cr ↦ (cr ∷ [], rw (not_lf, not_cr, cut_at_other c text not_lf not_cr) (alone c (cut text)))
-      ]
-    ]
+abbrev behind_end : List ℕ → List ℕ
+behind_end text = drop (end_len text) text
 
 -- what follows the first body and its end
 abbrev rest_of : List ℕ → List ℕ
-rest_of text = let left = drop (body_len text) text in drop (end_len left) left
+rest_of text = behind_end (behind_body text)
 
--- the first pair of the text ends before this rest
-abbrev Starts : List ℕ → Type 0
-Starts text = (ending : List ℕ) × (cut text ≡ pair_of (take (body_len text) text) ending ∷ cut (rest_of text))
+abbrev first_of : List ℕ → Pair
+first_of text = pair_of (take (body_len text) text) (take (end_len (behind_body text)) (behind_body text))
 
--- the same, with one more byte of the first body
-abbrev StartsBehind : ℕ → List ℕ → Type 0
-StartsBehind b text = (ending : List ℕ) × (before_body b (cut text) ≡ pair_of (b ∷ take (body_len text) text) ending ∷ cut (rest_of text))
+abbrev FirstLine : List ℕ → Type 0
+FirstLine text = cut text ≡ first_of text ∷ cut (rest_of text)
 
--- the first pair, by the first byte
-starts : (b : ℕ) (text : List ℕ) → StartsBehind b text → Starts (b ∷ text)
-starts b text further =
-    elim (cases_Bool (b == lf)) [
-      | inl is_lf ↦ (lf ∷ [], rw (cut_at_lf b text is_lf, is_lf, is_lf) refl)
-      | inr not_lf ↦ elim (cases_Bool (b == cr)) [
-        | inl is_cr ↦ let next = after_cr text in (next.0, rw (cut_at_cr b text not_lf is_cr, next.1, not_lf, is_cr, not_lf, is_cr) refl)
-        | inr not_cr ↦ (further.0, rw (cut_at_other b text not_lf not_cr, not_lf, not_cr) further.1)
-      ]
+-- a CR before the first pair
+after_return : (c : ℕ) (text : List ℕ) → FirstLine (c ∷ text)
+    → before_end (first_of (c ∷ text) ∷ cut (rest_of (c ∷ text)))
+        ≡ first_of (cr ∷ c ∷ text) ∷ cut (rest_of (cr ∷ c ∷ text))
+after_return c text next = elim (byte_cases c) [
+  | inl feed ↦ rw feed refl
+  | inr (inl return) ↦ rw return refl
+  | inr (inr other) ↦ (let no_lf = ne_eqb c lf other.1 in
+      let no_cr = ne_eqb c cr other.0 in
+      let again = rw (no_lf, no_cr) at next in
+      rw (no_lf, no_cr) (ap (λ pairs. pair_of [] (cr ∷ []) ∷ pairs) (sym again)))
+]
+
+first_line : (b : ℕ) (text : List ℕ) → FirstLine (b ∷ text)
+first_line b [] = elim (byte_cases b) [
+  | inl feed ↦ rw feed (cut_cons lf [])
+  | inr (inl return) ↦ rw return
+      (cut_cons cr [] ∙ ap before_end cut_nil ∙ ap (λ l. pair_of [] (cr ∷ []) ∷ l) (sym cut_nil))
+  | inr (inr other) ↦ (let first = cut_cons b [] ∙ at_other b (cut []) other
+      ∙ ap (before_body b) cut_nil in
+      rw (ne_eqb b lf other.1, ne_eqb b cr other.0)
+          (first ∙ ap (λ l. pair_of (b ∷ []) [] ∷ l) (sym cut_nil)))
+]
+first_line b (c ∷ text) =
+    let next = first_line c text in
+    elim (byte_cases b) [
+      | inl feed ↦ rw feed (cut_cons lf (c ∷ text))
+      | inr (inl return) ↦ rw return
+          (cut_cons cr (c ∷ text) ∙ ap before_end next ∙ after_return c text next)
+      | inr (inr other) ↦ (let first = cut_cons b (c ∷ text) ∙ at_other b (cut (c ∷ text)) other
+          ∙ ap (before_body b) next in
+          rw (ne_eqb b lf other.1, ne_eqb b cr other.0) first)
     ]
 
--- the first pair of a text that isn't empty, and the pairs of the rest
-first_piece : (b : ℕ) (text : List ℕ) → Starts (b ∷ text)
-first_piece b [] = starts b [] ([], rw cut_nil refl)
-first_piece b (c ∷ text) = let next = first_piece c text in starts b (c ∷ text) (next.0, rw next.1 refl)
-
-lines_first : (text : List ℕ) → 0 < length text → lines_of text ≡ line_of (take (body_len text) text) ∷ lines_of (rest_of text)
+lines_first : (text : List ℕ) → 0 < length text
+    → lines_of text ≡ line_of (take (body_len text) text) ∷ lines_of (rest_of text)
 lines_first [] some = absurd (omega (arith, some))
-lines_first (b ∷ text) some = ap (λ ps. map (λ p. line_of p.body) ps) (first_piece b text).1
+lines_first (b ∷ text) some = ap (λ ps. map (λ p. line_of p.body) ps) (first_line b text)
 
 pub lines_nil : lines_of [] ≡ []
 lines_nil = ap (λ ps. map (λ p. line_of p.body) ps) cut_nil
@@ -74,8 +81,10 @@ drop_read : (n : Bool) (k : ℕ) (text : List ℕ) → drop k (read_as n text) �
 drop_read n k text = drop-map (read_byte n) k text
 
 -- the text from a place within it on, as it is read
-at_read : (n : Bool) (text : List ℕ) (i : ℕ) → i < length text → drop i (read_as n text) ≡ read_byte n (get_or text i 0) ∷ drop (i + 1) (read_as n text)
-at_read n text i within = drop_read n i text ∙ ap (read_as n) (drop_more text i 0 within) ∙ ap (λ t. read_byte n (get_or text i 0) ∷ t) (sym (drop_read n (i + 1) text))
+at_read : (n : Bool) (text : List ℕ) (i : ℕ) → i < length text
+    → drop i (read_as n text) ≡ read_byte n (get_or text i 0) ∷ drop (i + 1) (read_as n text)
+at_read n text i within = drop_read n i text ∙ ap (read_as n) (drop_more text i 0 within)
+    ∙ ap (λ t. read_byte n (get_or text i 0) ∷ t) (sym (drop_read n (i + 1) text))
 
 pub read_as_is : (text : List ℕ) → read_as false text ≡ text
 read_as_is text = map-id text
@@ -105,10 +114,15 @@ no_end n b after not_cr not_lf = rw (not_lf, plain n) refl
 abbrev Ends : Bool → (ℕ → Bool) → Type 0
 Ends n test = (b : ℕ) → test b ≡ (read_byte n b == lf || read_byte n b == cr)
 
-body_by : (n : Bool) (test : ℕ → Bool) → Ends n test → (text : List ℕ) → position_or_len test text ≡ body_len (read_as n text)
-body_by n test ends text = sym (is_position_or_len (λ t. body_len (read_as n t)) test refl (λ b t. step (read_byte n b == lf) (read_byte n b == cr) (test b) (body_len (read_as n t)) (ends b)) text)
+body_by : (n : Bool) (test : ℕ → Bool) → Ends n test → (text : List ℕ)
+    → position_or_len test text ≡ body_len (read_as n text)
+body_by n test ends text =
+    sym (is_position_or_len (λ t. body_len (read_as n t)) test refl
+    (λ b t. step (read_byte n b == lf) (read_byte n b == cr) (test b) (body_len (read_as n t))
+        (ends b)) text)
   where
-    step : (x y z : Bool) (k : ℕ) → z ≡ (x || y) → (if x then 0 else (if y then 0 else suc k)) ≡ cond z 0 (1 + k)
+    step : (x y z : Bool) (k : ℕ) → z ≡ (x || y)
+        → (if x then 0 else (if y then 0 else suc k)) ≡ cond z 0 (1 + k)
     step true y z k e = rw e refl
     step false true z k e = rw e refl
     step false false z k e = rw e (omega arith)
@@ -117,7 +131,8 @@ pub ends_as_is : Ends false (is_byte2 cr lf)
 ends_as_is b = or_comm (b == cr) (b == lf)
 
 pub ends_with_nul : Ends true (is_byte3 cr lf 0)
-ends_with_nul b = elim (cases_Bool (b == 0)) [ inl nul ↦ rw nul (last (b == cr) (b == lf)) | inr other ↦ rw other (turned (b == cr) (b == lf)) ]
+ends_with_nul b = elim (cases_Bool (b == 0)) [ inl nul ↦ rw nul
+    (last (b == cr) (b == lf)) | inr other ↦ rw other (turned (b == cr) (b == lf)) ]
   where
     last : (x y : Bool) → (x || y || true) ≡ true
     last true y = refl
@@ -157,14 +172,17 @@ near_body n text k end is less =
     near_end (read_as n text) k (rw (read, is) (omega (arith, less, length-map (take k text) (read_byte n)))) ∙ ap body_len read ∙ is
 
 -- a body holds no NUL that is read as LF
-body_plain : (n : Bool) (text : List ℕ) → take (body_len (read_as n text)) (read_as n text) ≡ take (body_len (read_as n text)) text
+body_plain : (n : Bool) (text : List ℕ)
+    → take (body_len (read_as n text)) (read_as n text) ≡ take (body_len (read_as n text)) text
 body_plain n [] = refl
 body_plain n (b ∷ text) =
     elim (cases_Bool (read_byte n b == lf)) [
       | inl is_lf ↦ rw is_lf refl
       | inr not_lf ↦ elim (cases_Bool (read_byte n b == cr)) [
         | inl is_cr ↦ rw (not_lf, is_cr) refl
-        | inr not_cr ↦ rw (not_lf, not_cr) (ap (λ t. read_byte n b ∷ t) (body_plain n text) ∙ ap (λ x. x ∷ take (body_len (read_as n text)) text) (as_is n b not_lf))
+        | inr not_cr ↦ rw (not_lf, not_cr)
+            (ap (λ t. read_byte n b ∷ t) (body_plain n text)
+            ∙ ap (λ x. x ∷ take (body_len (read_as n text)) text) (as_is n b not_lf))
       ]
     ]
   where

@@ -1,160 +1,335 @@
--- The function gives the delay, and each delay of a text is the one that it gives.
-use Rattle.std.proofs.Common.{◌≡◌, ◌⊎◌, ⊎_elim, inl, inr, ℕ, ◌*◌, ◌/◌, ◌^◌, ◌<◌, ◌≤◌, Bool, true, false, cond, eqb, List, [], ◌∷◌, ◌++◌, All, Option, Some, None, length, map, refl, sym, ap, subst, ◌∙◌, arith, codes}
-use Rattle.std.specs.Prelude.{◌&&◌, ◌||◌}
-use Rattle.std.specs.Char.{to_ascii_lowercase}
-use Rattle.std.proofs.Math.Nat.{le-div_iff_mul-le, le-min, min-le_left, min-le_right, mul_assoc, mul-pos}
-use Rattle.std.proofs.lemmas.Bool.{cases_eq, cases_lt, eq-eqb, false≢true, ne_eqb}
-use Rattle.std.proofs.lemmas.Bool.Decides.{nat_tests}
-use Rattle.std.proofs.lemmas.List.Elements.{All-cons, All-head, All-nil, All-tail}
-use Rattle.texting_robots.specs.Delay.{Decimal, AtMost, IsDelay, IsDigit, IsExponent, IsInfinite, NamesDelay, NamesUnsignedDelay, Rounds, Spells, negative_exponent, greatest_delay, spelled, positive_exponent}
-use Rattle.texting_robots.specs.Computed.Delay.{are_same, are_zeros, behind_digits, behind_fraction, delay_of, digits_in_front, exponent_made, exponent_of, finite_delay, fraction_in_front, infinite_delay, is_digit, is_infinite, number_made, number_of, rounded}
-use Rattle.texting_robots.specs.Computed.DelayParts.{AreDigits, AreFraction, behind_sign, has_minus}
+-- The function gives the delay of a text, and each delay of a text is the one that it gives.
+use Rattle.std.proofs.Common.{◌≡◌, ◌⊎◌, inl, inr, ℕ, ◌+◌, ◌*◌, ◌/◌, ◌^◌}
+use Rattle.std.proofs.Common.{◌<◌, ◌≤◌, Bool, true, false, eqb, leb, ltb, List, [], ◌∷◌}
+use Rattle.std.proofs.Common.{◌++◌, All, Option, Some, None, codes, length, map, refl, sym, ap, subst}
+use Rattle.std.proofs.Common.{◌∙◌, arith}
+use Rattle.std.specs.Prelude.{◌==◌, ◌||◌, ◌&&◌, Decides, MatchBool, nat_lt, slice_index}
+use Rattle.std.specs.Char.{IsAsciiDigit, is_ascii_digit, to_ascii_lowercase}
+use Rattle.std.specs.Cmp.Lexicographic.{bytes_decides}
+use Rattle.std.specs.List.{list_all, prefix_len}
+use Rattle.std.specs.Option.{option_and_then, option_map}
+use Rattle.std.specs.Str.{byte, str_eq_ignore_ascii_case, str_to_ascii_lowercase}
+use Rattle.std.specs.Str.Parse.{digits_value, starts_with_minus, without_leading_sign}
+use Rattle.std.proofs.Math.Nat.{le-div_iff_mul-le, le-min, min-le_left, min-le_right}
+use Rattle.std.proofs.Math.Nat.{mul_assoc, mul-pos, one-le-pow}
+use Rattle.std.proofs.lemmas.Bool.{and_parts, and_right, cases_Bool, cases_lt, cond-false, cond-true}
+use Rattle.std.proofs.lemmas.Bool.{eqb-true}
+use Rattle.std.proofs.lemmas.Bool.{false_from_ne_true, le-leb, leb-true, lt-leb, lt-ltb, ltb-true}
+use Rattle.std.proofs.lemmas.Bool.{ne_eqb, or_cases}
+use Rattle.std.proofs.lemmas.Bool.Decides.{Decides-and, Decides-by_and, Decides-eqb, Decides-ltb, Decides-or}
+use Rattle.std.proofs.lemmas.List.{drop_at, length-append, take-append-drop, take_at}
+use Rattle.std.proofs.lemmas.List.Elements.{All-cons, All-head, All-nil, All-same, All-tail}
+use Rattle.std.proofs.lemmas.List.Sums.{take_while-cons}
+use Rattle.std.proofs.lemmas.Str.Ascii.{lowercase_is}
+use Rattle.texting_robots.specs.Delay.{AtMost, Decimal, IsDelay, IsInfinite, IsNumeral, IsPoint, IsTail}
+use Rattle.texting_robots.specs.Delay.{NamesZero, NamesSeconds, Rounds, Spells, greatest_delay}
+use Rattle.texting_robots.specs.Delay.{negative_exponent, positive_exponent}
+use Rattle.texting_robots.specs.Computed.Delay.{HasDigits, behind_digits, behind_fraction, delay_behind}
+use Rattle.texting_robots.specs.Computed.Delay.{delay_of, digits_in_front, exponent_of, fraction_in_front}
+use Rattle.texting_robots.specs.Computed.Delay.{is_infinite, is_numeral, is_zero, zero_of, number_of}
+use Rattle.texting_robots.specs.Computed.Delay.{number_with, rounded}
 use Rattle.texting_robots.specs.Laws.{EachTextHasOneDelay}
-use Rattle.texting_robots.proofs.DelayGrammar.{exponent_parts, exponent_there, infinite_no_number, named, names, names_same, number_parts, number_same, number_there}
-use Rattle.texting_robots.proofs.DelayNumbers.{pow_some}
 
--- what a test says
-abbrev Tells : Bool → Type 0 → Type 0
-Tells true P = P
-Tells false P = P → ⊥
+-- ---- what the tests say
 
-tells_digit : (b : ℕ) → Tells (is_digit b) (IsDigit b)
-tells_digit b =
-    ⊎_elim (λ (low : b < 48). let no : is_digit b ≡ false = grind (arith, nat_tests) in subst (λ t. Tells t (IsDigit b)) (sym no) (λ d. omega arith))
-    (λ low. ⊎_elim (λ (high : 57 < b). let no : is_digit b ≡ false = grind (arith, nat_tests) in subst (λ t. Tells t (IsDigit b)) (sym no) (λ d. omega arith))
-    (λ high. let yes : is_digit b ≡ true = grind (arith, nat_tests) in subst (λ t. Tells t (IsDigit b)) (sym yes) (low, high)) (cases_lt 57 b)) (cases_lt b 48)
+digit_decides : (b : ℕ) → Decides (is_ascii_digit b) (IsAsciiDigit b)
+digit_decides b = Decides-and (leb 48 b) (leb b 57) (leb-true 48 b, le-leb 48 b) (leb-true b 57, le-leb b 57)
 
-tells_eq : (a b : ℕ) → Tells (eqb a b) (a ≡ b)
-tells_eq a b = ⊎_elim (λ (e : a ≡ b). subst (λ t. Tells t (a ≡ b)) (sym (eq-eqb a b e)) e) (λ n. subst (λ t. Tells t (a ≡ b)) (sym (ne_eqb a b n)) n) (cases_eq a b)
+numeral_decides : (text : List ℕ) → Decides (is_numeral text) (IsNumeral text)
+numeral_decides text =
+    Decides-and (ltb 0 (length text)) (list_all is_ascii_digit text) (Decides-ltb 0 (length text))
+    (Decides-by_and is_ascii_digit IsAsciiDigit (list_all is_ascii_digit) digit_decides refl
+    (λ _ _. refl) text)
 
-tells_same : (xs ys : List ℕ) → Tells (are_same xs ys) (xs ≡ ys)
-tells_same [] [] = refl
-tells_same [] (y ∷ ys) = λ e. absurd cc
-tells_same (x ∷ xs) [] = λ e. absurd cc
-tells_same (x ∷ xs) (y ∷ ys) = by_tests (eqb x y) (are_same xs ys) (tells_eq x y) (tells_same xs ys)
+zero_decides : (n : Decimal)
+    → Decides (is_zero n) (All (λ digit. digit ≡ byte "0") (n.whole ++ n.fraction))
+zero_decides n =
+    let test : ℕ → Bool = λ digit. digit == byte "0" in
+    Decides-by_and test (λ digit. digit ≡ byte "0") (list_all test)
+    (λ digit. Decides-eqb digit (byte "0")) refl (λ _ _. refl) (n.whole ++ n.fraction)
+
+infinite_decides : (text : List ℕ) → Decides (is_infinite text) (IsInfinite text)
+infinite_decides text =
+    let lowered = str_to_ascii_lowercase text in
+    Decides-or (str_eq_ignore_ascii_case text (codes "inf"))
+    (str_eq_ignore_ascii_case text (codes "infinity"))
+    (bytes_decides lowered (codes "inf")) (bytes_decides lowered (codes "infinity"))
+
+-- ---- what a text spells is read
+
+abbrev Stops : List ℕ → Type 0
+Stops rest = is_ascii_digit (slice_index rest 0) ≡ false
+
+digits_front : (ds rest : List ℕ) → All IsAsciiDigit ds → Stops rest
+    → prefix_len is_ascii_digit (ds ++ rest) ≡ length ds
+digits_front [] [] digits stop = refl
+digits_front [] (b ∷ rest) digits stop = rw stop refl
+digits_front (d ∷ ds) rest digits stop =
+    let more = digits_front ds rest (All-tail IsAsciiDigit d ds digits) stop in
+    rw ((digit_decides d).1 (All-head IsAsciiDigit d ds digits)) (omega arith)
+
+digits_read : (ds rest : List ℕ) → All IsAsciiDigit ds → Stops rest
+    → (digits_in_front (ds ++ rest) ≡ ds) × (behind_digits (ds ++ rest) ≡ rest)
+digits_read ds rest digits stop =
+    let count = prefix_len is_ascii_digit (ds ++ rest) in
+    let size : length ds ≡ count = sym (digits_front ds rest digits stop) in
+    (take_at ds rest count size, drop_at ds rest count size)
+
+-- what stands behind digits is read as a fraction and a tail
+record IsRead (rest fraction tail : List ℕ) : Type 0 where
+  stop : Stops rest
+  digits : fraction_in_front rest ≡ fraction
+  behind : behind_fraction rest ≡ tail
+
+tail_read : (tail exponent : List ℕ) → IsTail tail exponent → IsRead tail [] tail
+    × (exponent_of tail ≡ Some exponent)
+tail_read tail exponent (inl (none, empty)) =
+    rw (none, empty) (record { stop = refl; digits = refl; behind = refl }, refl)
+tail_read tail exponent (inr (is, numeral)) =
+    let test = (numeral_decides (without_leading_sign exponent)).1 numeral in
+    elim is [
+      | inl e ↦ rw e (record { stop = refl; digits = refl; behind = refl }, cond-true _ _ _ test)
+      | inr e ↦ rw e (record { stop = refl; digits = refl; behind = refl }, cond-true _ _ _ test)
+    ]
+
+fraction_read : (point fraction tail : List ℕ) → IsPoint point fraction → All IsAsciiDigit fraction
+    → IsRead tail [] tail → IsRead (point ++ (fraction ++ tail)) fraction tail
+fraction_read point fraction tail (inl dot) digits is =
+    let found = digits_read fraction tail digits is.stop in
+    rw dot (record { stop = refl; digits = found.0; behind = found.1 })
+fraction_read point fraction tail (inr (none, empty)) digits is = rw (none, empty) is
+
+number_read : (text : List ℕ) (n : Decimal) → Spells text n → number_of text ≡ Some n
+number_read text n h =
+    let last = tail_read h.tail n.exponent h.is_tail in
+    let is = fraction_read h.point n.fraction h.tail h.is_point h.fraction last.0 in
+    let found = digits_read n.whole (h.point ++ (n.fraction ++ h.tail)) h.whole is.stop in
+    let some = lt-ltb 0 (length (n.whole ++ n.fraction)) h.some in
+    rw (h.is_text, found.0, found.1, is.digits, is.behind, last.1, some) refl
+
+-- ---- what is read is what the text spells
+
+digits_are : (text : List ℕ) → All IsAsciiDigit (digits_in_front text)
+digits_are [] = All-nil IsAsciiDigit
+digits_are (b ∷ text) =
+    let next = take_while-cons is_ascii_digit b text in
+    let more = digits_in_front text in
+    elim (cases_Bool (is_ascii_digit b)) [
+      | inl digit ↦ All-same IsAsciiDigit (digits_in_front (b ∷ text)) (b ∷ more)
+          (next ∙ cond-true _ _ _ digit)
+          (All-cons IsAsciiDigit b more ((digit_decides b).0 digit) (digits_are text))
+      | inr other ↦ All-same IsAsciiDigit (digits_in_front (b ∷ text)) []
+          (next ∙ cond-false _ _ _ other)
+          (All-nil IsAsciiDigit)
+    ]
+
+digits_whole : (text : List ℕ) → text ≡ digits_in_front text ++ behind_digits text
+digits_whole text = sym (take-append-drop (prefix_len is_ascii_digit text) text)
+
+record IsFound (rest fraction tail : List ℕ) : Type 0 where
+  point : List ℕ
+  is_point : IsPoint point fraction
+  is_rest : rest ≡ point ++ (fraction ++ tail)
+  digits : All IsAsciiDigit fraction
+
+no_fraction : (rest : List ℕ) → IsFound rest [] rest
+no_fraction rest = record {
+  point = [];
+  is_point = inr (refl, refl);
+  is_rest = refl;
+  digits =
+      All-nil IsAsciiDigit;
+}
+
+fraction_found : (rest : List ℕ) → IsFound rest (fraction_in_front rest) (behind_fraction rest)
+fraction_found [] = no_fraction []
+fraction_found (b ∷ rest) = elim (cases_Bool (b == byte ".")) [
+  | inl dot ↦ rw (dot, eqb-true b (byte ".") dot) (record {
+    point = codes ".";
+    is_point = inl refl;
+    is_rest = ap (λ t. byte "." ∷ t) (digits_whole rest);
+    digits = digits_are rest;
+  })
+  | inr other ↦ rw other (no_fraction (b ∷ rest))
+]
+
+exponent_found : (tail exponent : List ℕ) → exponent_of tail ≡ Some exponent → IsTail tail exponent
+exponent_found [] exponent e = inl (refl, cc)
+exponent_found (b ∷ tail) exponent e =
+    let small = b == byte "e" in
+    let capital = b == byte "E" in
+    let numeral = is_numeral (without_leading_sign tail) in
+    elim (cases_Bool ((small || capital) && numeral)) [
+      | inl passes ↦ (let same : Some tail ≡ Some exponent = sym (cond-true _ _ _ passes) ∙ e in
+          let is : tail ≡ exponent = cc in
+          let parts = and_parts (small || capital) numeral passes in
+          rw (← is) (inr (
+            elim (or_cases small capital parts.0) [
+              | inl letter ↦ inl (ap (λ l. l ∷ tail) (eqb-true b (byte "e") letter))
+              | inr letter ↦ inr (ap (λ l. l ∷ tail) (eqb-true b (byte "E") letter))
+            ],
+            (numeral_decides (without_leading_sign tail)).0 parts.1,
+          )))
+      | inr fails ↦ (let none : None ≡ Some exponent = sym (cond-false _ _ _ fails) ∙ e in absurd cc)
+    ]
+
+abbrev decimal : List ℕ → List ℕ → List ℕ → Decimal
+decimal whole fraction exponent = record { whole = whole; fraction = fraction; exponent = exponent }
+
+with_found : (whole fraction : List ℕ) (o : Option (List ℕ)) (n : Decimal)
+    → number_with whole fraction o ≡ Some n
+    → (0 < length (whole ++ fraction))
+    × ((e : List ℕ) × (o ≡ Some e) × (n ≡ decimal whole fraction e))
+with_found whole fraction o n is = elim (cases_Bool (nat_lt 0 (length (whole ++ fraction)))) [
+  | inl some ↦ (ltb-true 0 (length (whole ++ fraction)) some, made o (sym (cond-true _ _ _ some) ∙ is))
+  | inr none ↦ (let same : None ≡ Some n = sym (cond-false _ _ _ none) ∙ is in absurd cc)
+]
   where
-    by_tests : (s t : Bool) → Tells s (x ≡ y) → Tells t (xs ≡ ys) → Tells (s && t) (x ∷ xs ≡ y ∷ ys)
-    by_tests true true a b = cc
-    by_tests true false a b = λ e. let f : xs ≡ ys = cc in b f
-    by_tests false t a b = λ e. let f : x ≡ y = cc in a f
+    made : (o : Option (List ℕ)) → option_map (decimal whole fraction) o ≡ Some n
+        → (e : List ℕ) × (o ≡ Some e) × (n ≡ decimal whole fraction e)
+    made None is = absurd cc
+    made (Some e) is = (e, refl, cc)
 
-tells_zeros : (xs : List ℕ) → Tells (are_zeros xs) (All (λ d. d ≡ 48) xs)
-tells_zeros [] = All-nil (λ d. d ≡ 48)
-tells_zeros (x ∷ xs) = by_tests (eqb x 48) (are_zeros xs) (tells_eq x 48) (tells_zeros xs)
+number_found : (text : List ℕ) (n : Decimal) → number_of text ≡ Some n → Spells text n
+number_found text n e =
+    let whole = digits_in_front text in
+    let fraction = fraction_in_front (behind_digits text) in
+    let tail = behind_fraction (behind_digits text) in
+    let is = fraction_found (behind_digits text) in
+    let parts = with_found whole fraction (exponent_of tail) n e in
+    subst (Spells text) (sym parts.1.2) (record {
+      point = is.point;
+      tail = tail;
+      is_text = digits_whole text ∙ ap (λ t. whole ++ t) is.is_rest;
+      whole = digits_are text;
+      fraction = is.digits;
+      some = parts.0;
+      is_point = is.is_point;
+      is_tail = exponent_found tail parts.1.0 parts.1.1;
+    })
+
+-- a number that is read has its digits
+pub has_digits : (text : List ℕ) (n : Decimal) → number_of text ≡ Some n → length text < 2 ^ 63
+    → HasDigits n
+has_digits text n e short =
+    let h = number_found text n e in
+    let size = simp length-append at (ap length h.is_text) in
+    let exponent = digits h.tail n.exponent h.is_tail in
+    record { whole = h.whole; fraction = h.fraction; exponent = exponent; short = omega (arith, size) }
   where
-    by_tests : (s t : Bool) → Tells s (x ≡ 48) → Tells t (All (λ d. d ≡ 48) xs) → Tells (s && t) (All (λ d. d ≡ 48) (x ∷ xs))
-    by_tests true true a b = All-cons (λ d. d ≡ 48) x xs a b
-    by_tests true false a b = λ h. b (All-tail (λ d. d ≡ 48) x xs h)
-    by_tests false t a b = λ h. a (All-head (λ d. d ≡ 48) x xs h)
+    digits : (tail exponent : List ℕ) → IsTail tail exponent
+        → All IsAsciiDigit (without_leading_sign exponent)
+    digits tail exponent (inl (none, empty)) =
+        All-same IsAsciiDigit (without_leading_sign exponent) [] (ap without_leading_sign empty)
+        (All-nil IsAsciiDigit)
+    digits tail exponent (inr (is, numeral)) = numeral.1
 
-tells_infinite : (text : List ℕ) → Tells (is_infinite text) (IsInfinite text)
-tells_infinite text = by_tests (are_same lowered (codes "inf")) (are_same lowered (codes "infinity")) (tells_same lowered (codes "inf")) (tells_same lowered (codes "infinity"))
-  where
-    lowered : List ℕ
-    lowered = map to_ascii_lowercase text
-
-    by_tests : (s t : Bool) → Tells s (map to_ascii_lowercase text ≡ codes "inf") → Tells t (map to_ascii_lowercase text ≡ codes "infinity") → Tells (s || t) (IsInfinite text)
-    by_tests true t a b = inl a
-    by_tests false true a b = inr b
-    by_tests false false a b = λ is. ⊎_elim a b is
-
--- the parts
-digits_found : (text : List ℕ) → AreDigits text (digits_in_front text) (behind_digits text)
-digits_found [] = record { is_text = refl; are_digits = All-nil IsDigit; stop = λ d. omega arith }
-digits_found (b ∷ text) = by_test (is_digit b) (tells_digit b) (digits_found text)
-  where
-    by_test : (t : Bool) → Tells t (IsDigit b) → AreDigits text (digits_in_front text) (behind_digits text) → AreDigits (b ∷ text) (cond t (b ∷ digits_in_front text) []) (cond t (behind_digits text) (b ∷ text))
-    by_test true d more = record { is_text = ap (λ x. b ∷ x) more.is_text; are_digits = All-cons IsDigit b (digits_in_front text) d more.are_digits; stop = more.stop }
-    by_test false d more = record { is_text = refl; are_digits = All-nil IsDigit; stop = d }
-
-fraction_found : (text : List ℕ) → AreFraction text (fraction_in_front text) (behind_fraction text)
-fraction_found [] = inr ((λ e. omega arith), refl, refl)
-fraction_found (b ∷ text) = by_test (eqb b 46) (tells_eq b 46)
-  where
-    by_test : (t : Bool) → Tells t (b ≡ 46) → AreFraction (b ∷ text) (cond t (digits_in_front text) []) (cond t (behind_digits text) (b ∷ text))
-    by_test true e = inl (text, ap (λ x. x ∷ text) e, digits_found text)
-    by_test false e = inr (e, refl, refl)
-
-abbrev ExponentFound : List ℕ → Option (Bool × List ℕ) → Type 0
-ExponentFound text None = (minus : Bool) (ds : List ℕ) → IsExponent text minus ds → ⊥
-ExponentFound text (Some e) = IsExponent text e.0 e.1
-
-exponent_found : (text : List ℕ) → ExponentFound text (exponent_of text)
-exponent_found [] = inl (refl, refl, refl)
-exponent_found (letter ∷ rest) = by_tests (eqb letter 101) (eqb letter 69) (tells_eq letter 101) (tells_eq letter 69)
-  where
-    by_digits : ((letter ≡ 101) ⊎ (letter ≡ 69)) → (digits tail : List ℕ) → AreDigits (behind_sign rest) digits tail → ExponentFound (letter ∷ rest) (exponent_made (has_minus rest) digits tail)
-    by_digits is [] tail split = λ minus ds h. let parts = exponent_parts letter rest [] tail split minus ds h in parts.4 parts.2
-    by_digits is (d ∷ ds) [] split = exponent_there (letter ∷ rest) rest (d ∷ ds) letter refl is split (λ e. absurd cc)
-    by_digits is (d ∷ ds) (t ∷ ts) split = λ minus es h. let e : t ∷ ts ≡ [] = (exponent_parts letter rest (d ∷ ds) (t ∷ ts) split minus es h).3 in absurd cc
-
-    by_tests : (s t : Bool) → Tells s (letter ≡ 101) → Tells t (letter ≡ 69) → ExponentFound (letter ∷ rest) (cond (s || t) (exponent_made (has_minus rest) (digits_in_front (behind_sign rest)) (behind_digits (behind_sign rest))) None)
-    by_tests true t a b = by_digits (inl a) (digits_in_front (behind_sign rest)) (behind_digits (behind_sign rest)) (digits_found (behind_sign rest))
-    by_tests false true a b = by_digits (inr b) (digits_in_front (behind_sign rest)) (behind_digits (behind_sign rest)) (digits_found (behind_sign rest))
-    by_tests false false a b = λ minus ds h. ⊎_elim a b (exponent_parts letter rest (digits_in_front (behind_sign rest)) (behind_digits (behind_sign rest)) (digits_found (behind_sign rest)) minus ds h).0
-
-abbrev NumberFound : List ℕ → Option Decimal → Type 0
-NumberFound text None = (n : Decimal) → Spells text n → ⊥
-NumberFound text (Some n) = Spells text n
-
-number_found : (text : List ℕ) → NumberFound text (number_of text)
-number_found text =
-    by_parts (digits_in_front text) (behind_digits text) (fraction_in_front (behind_digits text)) (behind_fraction (behind_digits text)) (digits_found text) (fraction_found (behind_digits text)) (exponent_of (behind_fraction (behind_digits text))) (exponent_found (behind_fraction (behind_digits text)))
-  where
-    by_parts : (whole rest fraction tail : List ℕ) → AreDigits text whole rest → AreFraction rest fraction tail → (e : Option (Bool × List ℕ)) → ExponentFound tail e → NumberFound text (number_made whole fraction e)
-    by_parts whole rest fraction tail front middle None none = λ n h. none n.minus n.exponent (number_parts text whole rest fraction tail front middle n h).2
-    by_parts [] rest [] tail front middle (Some e) is = λ n h. let parts = number_parts text [] rest [] tail front middle n h in h.some (ap (λ x. x ++ n.fraction) parts.0 ∙ parts.1)
-    by_parts [] rest (y ∷ fraction) tail front middle (Some e) is = number_there text [] rest (y ∷ fraction) tail front middle e.0 e.1 (λ f. absurd cc) is
-    by_parts (x ∷ whole) rest fraction tail front middle (Some e) is = number_there text (x ∷ whole) rest fraction tail front middle e.0 e.1 (λ f. absurd cc) is
+-- ---- a number's microseconds
 
 rounded_rounds : (n : Decimal) → Rounds n (rounded n)
 rounded_rounds n =
     let f = 10 ^ length n.fraction in
     let g = 10 ^ negative_exponent n in
-    let top = spelled (n.whole ++ n.fraction) * 10 ^ 6 * 10 ^ positive_exponent n in
-    let some : 0 < f * g = mul-pos (pow_some (length n.fraction)) (pow_some (negative_exponent n)) in
-    let at : (d : ℕ) → d ≤ top / (f * g) → AtMost d n = λ d l. subst (λ x. x ≤ top) (sym (mul_assoc d f g)) ((le-div_iff_mul-le some).0 l) in
-    let back : (d : ℕ) → AtMost d n → d ≤ top / (f * g) = λ d a. (le-div_iff_mul-le some).1 (subst (λ x. x ≤ top) (mul_assoc d f g) a) in
+    let top = digits_value 10 (n.whole ++ n.fraction) * 10 ^ 6 * 10 ^ positive_exponent n in
+    let ten : (k : ℕ) → 0 < 10 ^ k = λ k. one-le-pow k 10 (omega arith) in
+    let some : 0 < f * g = mul-pos (ten (length n.fraction)) (ten (negative_exponent n)) in
+    let at : (d : ℕ) → d ≤ top / (f * g) → AtMost d n =
+    λ d l. rw (mul_assoc d f g) ((le-div_iff_mul-le some).0 l) in
+    let back : (d : ℕ) → AtMost d n → d ≤ top / (f * g) =
+    λ d a. (le-div_iff_mul-le some).1 (rw (mul_assoc d f g) at a) in
     record {
       bound = min-le_right (top / (f * g)) greatest_delay;
       at_most = at (rounded n) (min-le_left (top / (f * g)) greatest_delay);
       greatest = λ d bound a. le-min (back d a) bound;
     }
 
+rounds_same : (n : Decimal) (d e : ℕ) → Rounds n d → Rounds n e → d ≡ e
+rounds_same n d e a b = omega (arith, b.greatest d a.bound a.at_most, a.greatest e b.bound b.at_most)
+
+-- ---- the delay of a text
+
+-- an infinite text begins with a letter
+infinite_number : (text word : List ℕ) → map to_ascii_lowercase text ≡ byte "i" ∷ word
+    → number_of text ≡ None
+infinite_number [] word e = absurd cc
+infinite_number (b ∷ text) word e =
+    let i : to_ascii_lowercase b ≡ byte "i" = cc in
+    let letter : 64 < b = elim (cases_lt b 65) [
+      | inl low ↦ (let same : to_ascii_lowercase b ≡ b = (lowercase_is b).1 low in omega arith)
+      | inr high ↦ omega arith
+    ] in
+    let no_digit : is_ascii_digit b ≡ false = and_right (leb 48 b) (leb b 57) (lt-leb b 57 (omega arith)) in
+    let no_point : eqb b (byte ".") ≡ false = ne_eqb b (byte ".") (λ p. omega arith) in
+    rw (no_digit, no_point) refl
+
+named : (minus : Bool) (text : List ℕ) (delay : ℕ)
+    → MatchBool minus (NamesZero text delay) (NamesSeconds text delay)
+    → delay_behind minus text ≡ Some delay
+named true text delay (n, spells, zeros, none) =
+    ap (λ o. option_and_then zero_of o) (number_read text n spells)
+    ∙ cond-true _ _ _ ((zero_decides n).1 zeros)
+    ∙ ap Some (sym none)
+named false text delay (inl (infinite, greatest)) =
+    cond-true _ _ _ ((infinite_decides text).1 infinite) ∙ ap Some (sym greatest)
+named false text delay (inr (n, spells, rounds)) =
+    cond-false _ _ _ (false_from_ne_true (is_infinite text) (λ is. finite ((infinite_decides text).0 is)))
+    ∙ ap (λ o. option_map rounded o) (number_read text n spells)
+    ∙ ap Some (rounds_same n (rounded n) delay (rounded_rounds n) rounds)
+  where
+    finite : IsInfinite text → ⊥
+    finite (inl e) = let same = number_read text n spells in let none = infinite_number text (codes "nf") e in
+        cc
+    finite (inr e) = let same = number_read text n spells in let none =
+        infinite_number text (codes "nfinity") e in cc
+
+zero_found : (text : List ℕ) (delay : ℕ) (o : Option Decimal) → number_of text ≡ o
+    → option_and_then zero_of o ≡ Some delay → NamesZero text delay
+zero_found text delay None is e = absurd cc
+zero_found text delay (Some n) is e = elim (cases_Bool (is_zero n)) [
+  | inl zero ↦ (let same : Some 0 ≡ Some delay = sym (cond-true _ _ _ zero) ∙ e in
+      (n, number_found text n is, (zero_decides n).0 zero, cc))
+  | inr other ↦ (let same : None ≡ Some delay = sym (cond-false _ _ _ other) ∙ e in absurd cc)
+]
+
+seconds_found : (text : List ℕ) (delay : ℕ) (o : Option Decimal) → number_of text ≡ o
+    → option_map rounded o ≡ Some delay → (n : Decimal) × Spells text n × Rounds n delay
+seconds_found text delay None is e = absurd cc
+seconds_found text delay (Some n) is e =
+    let same : rounded n ≡ delay = cc in
+    (n, number_found text n is, subst (Rounds n) same (rounded_rounds n))
+
+found : (minus : Bool) (text : List ℕ) (delay : ℕ) → delay_behind minus text ≡ Some delay
+    → MatchBool minus (NamesZero text delay) (NamesSeconds text delay)
+found true text delay e = zero_found text delay (number_of text) refl e
+found false text delay e = elim (cases_Bool (is_infinite text)) [
+  | inl infinite ↦ (let same : Some greatest_delay ≡ Some delay = sym (cond-true _ _ _ infinite) ∙ e in
+      inl ((infinite_decides text).0 infinite, cc))
+  | inr finite ↦ inr (seconds_found text delay (number_of text) refl (sym (cond-false _ _ _ finite) ∙ e))
+]
+
 module _ (text : List ℕ) where
+  abbrev minus : Bool
+  minus = starts_with_minus text
+
   abbrev unsigned : List ℕ
-  unsigned = behind_sign text
+  unsigned = without_leading_sign text
 
-  named_here : (delay : ℕ) → NamesUnsignedDelay unsigned (has_minus text) delay → NamesDelay text delay
-  named_here delay h = names text (has_minus text) unsigned refl refl delay h
-
-  by_parts : (t m : Bool) (o : Option Decimal) → Tells t (IsInfinite unsigned) → has_minus text ≡ m → NumberFound unsigned o → IsDelay text (cond t (infinite_delay m) (finite_delay m o))
-  by_parts true true o is e found =
-      λ delay h. ⊎_elim (λ (p : IsInfinite unsigned × (has_minus text ≡ false) × (delay ≡ greatest_delay)). false≢true (sym p.1 ∙ e)) (λ p. infinite_no_number unsigned p.0 is p.1) (named text (has_minus text) unsigned refl refl delay h)
-  by_parts true false o is e found = named_here greatest_delay (inl (is, e, refl))
-  by_parts false m None is e found =
-      λ delay h. ⊎_elim (λ (p : IsInfinite unsigned × (has_minus text ≡ false) × (delay ≡ greatest_delay)). is p.0) (λ p. found p.0 p.1) (named text (has_minus text) unsigned refl refl delay h)
-  by_parts false false (Some n) is e found = named_here (rounded n) (inr (n, found, (λ t. absurd (false≢true (sym e ∙ t))), rounded_rounds n))
-  by_parts false true (Some n) is e found = by_zeros (are_zeros (n.whole ++ n.fraction)) (tells_zeros (n.whole ++ n.fraction))
-    where
-      by_zeros : (z : Bool) → Tells z (All (λ d. d ≡ 48) (n.whole ++ n.fraction)) → IsDelay text (cond z (Some (rounded n)) None)
-      by_zeros true zeros = named_here (rounded n) (inr (n, found, (λ t. zeros), rounded_rounds n))
-      by_zeros false zeros = λ delay h.
-          ⊎_elim (λ (p : IsInfinite unsigned × (has_minus text ≡ false) × (delay ≡ greatest_delay)). is p.0)
-          (λ p. zeros (subst (λ (k : Decimal). All (λ d. d ≡ 48) (k.whole ++ k.fraction)) (number_same unsigned p.0 n p.1 found) (p.2 e))) (named text (has_minus text) unsigned refl refl delay h)
+  pub is_delay : (delay : Option ℕ) → delay ≡ delay_behind minus unsigned → IsDelay text delay
+  is_delay None e = λ delay h. let same : None ≡ Some delay = e ∙ named minus unsigned delay h in cc
+  is_delay (Some delay) e = found minus unsigned delay (sym e)
 
   pub delay_of_is : IsDelay text (delay_of text)
   unfolding delay_of
-  delay_of_is = by_parts (is_infinite unsigned) (has_minus text) (number_of unsigned) (tells_infinite unsigned) refl (number_found unsigned)
-
-  delay_same : (a b : Option ℕ) → IsDelay text a → IsDelay text b → a ≡ b
-  delay_same None None h i = refl
-  delay_same None (Some d) h i = absurd (h d i)
-  delay_same (Some d) None h i = absurd (i d h)
-  delay_same (Some d) (Some e) h i = ap Some (names_same text d e h i)
+  delay_of_is = is_delay (delay_of text) refl
 
   pub is_delay_of : (delay : Option ℕ) → IsDelay text delay → delay ≡ delay_of text
-  is_delay_of delay h = delay_same delay (delay_of text) h delay_of_is
+  unfolding delay_of
+  is_delay_of (Some delay) h = sym (named minus unsigned delay h)
+  is_delay_of None h = none (delay_of text) refl
+    where
+      none : (o : Option ℕ) → delay_behind minus unsigned ≡ o → None ≡ o
+      none None e = refl
+      none (Some delay) e = absurd (h delay (found minus unsigned delay e))
 
 pub one_delay : EachTextHasOneDelay
 one_delay text delay = (is_delay_of text delay, λ same. subst (IsDelay text) (sym same) (delay_of_is text))

@@ -5,7 +5,6 @@ pub mod TrimLemmas
 pub mod KeyLemmas
 pub mod RegionLemmas
 pub mod StatementLemmas
-pub mod DelayGrammar
 pub mod DelayNumbers
 pub mod DelayLemmas
 pub mod LineLemmas

@@ -3,7 +3,6 @@
 pub mod Cut
 pub mod Statement
 pub mod Delay
-pub mod DelayParts
 pub mod Line
 pub mod Group
 pub mod Border

@@ -1,6 +1,7 @@
 -- How a text is cut into bodies and line ends.
-use Rattle.std.specs.Prelude.{◌≡◌, ◌≢◌, ◌⊎◌, ℕ, List, [], ◌∷◌, ◌++◌}
-use Rattle.std.specs.List.{flat_map, AllByRecursion as Each}
+use Rattle.std.specs.Prelude.{◌≡◌, ◌≢◌, ◌⊎◌, ℕ, List, [], ◌∷◌, ◌++◌, All}
+use Rattle.std.specs.Prelude.{replicate}
+use Rattle.std.specs.List.{flat_map}
 
 abbrev pub cr : ℕ
 cr = 13
@@ -17,36 +18,23 @@ pub record Pair : Type 0 where
 abbrev pub IsBodyByte : ℕ → Type 0
 IsBodyByte byte = (byte ≢ cr) × (byte ≢ lf)
 
--- CRs, and then at most one LF
+-- some CRs or none, and then at most one LF
 abbrev pub IsEnding : List ℕ → Type 0
-IsEnding bytes = (returns : List ℕ) × (feed : List ℕ) × (bytes ≡ returns ++ feed) × Each (λ byte. byte ≡ cr) returns × ((feed ≡ []) ⊎ (feed ≡ lf ∷ []))
-
--- P holds of each pair and the pairs after it
-abbrev pub EachWithLater : (Pair → List Pair → Type 0) → List Pair → Type 0
-EachWithLater P [] = Unit {0}
-EachWithLater P (pair ∷ later) = P pair later × EachWithLater P later
-
--- an empty end stands only in the last pair, after a body that isn't empty
-abbrev pub EndsOrIsLast : Pair → List Pair → Type 0
-EndsOrIsLast pair later = pair.ending ≡ [] → (later ≡ []) × (pair.body ≢ [])
-
--- the first of some pairs, if there is one, has a body that isn't empty
-abbrev pub BeginWithBody : List Pair → Type 0
-BeginWithBody [] = Unit {0}
-BeginWithBody (pair ∷ later) = pair.body ≢ []
-
--- a pair whose end holds no LF is the last one, or the next one's body isn't empty
-abbrev pub FeedsOrBodyFollows : Pair → List Pair → Type 0
-FeedsOrBodyFollows pair later = Each (λ byte. byte ≢ lf) pair.ending → BeginWithBody later
+IsEnding bytes = (k : ℕ) × ((bytes ≡ replicate k cr) ⊎ (bytes ≡ replicate k cr ++ lf ∷ []))
 
 -- the bytes of the pairs, in order
 abbrev pub joined : List Pair → List ℕ
 joined pairs = flat_map (λ pair. pair.body ++ pair.ending) pairs
 
--- the pairs are a cut of the text
+-- the pairs are a cut of the text:
+-- - their bytes are the text, no body holds CR or LF, and each end is one;
+-- - an empty end stands only in the last pair, after a body that isn't empty;
+-- - a pair whose end holds no LF is the last one, or the next pair's body isn't empty
 pub record IsCut (pairs : List Pair) (text : List ℕ) : Type 0 where
   pub whole : joined pairs ≡ text
-  pub bodies : Each (λ pair. Each IsBodyByte pair.body) pairs
-  pub endings : Each (λ pair. IsEnding pair.ending) pairs
-  pub empty_endings : EachWithLater EndsOrIsLast pairs
-  pub open_endings : EachWithLater FeedsOrBodyFollows pairs
+  pub bodies : All (λ pair. All IsBodyByte pair.body) pairs
+  pub endings : All (λ pair. IsEnding pair.ending) pairs
+  pub empty_ending : (front back : List Pair) (pair : Pair) → pairs ≡ front ++ pair ∷ back
+      → pair.ending ≡ [] → (back ≡ []) × (pair.body ≢ [])
+  pub open_ending : (front back : List Pair) (pair next : Pair) → pairs ≡ front ++ pair ∷ next ∷ back
+      → All (λ byte. byte ≢ lf) pair.ending → next.body ≢ []

@@ -1,5 +1,6 @@
 -- The cut, computed from the back of the text, and the parts of its first pair.
-use Rattle.std.specs.Prelude.{ℕ, suc, ◌==◌, List, [], ◌∷◌, if◌then◌else◌, map, Bool, true, false}
+use Rattle.std.specs.Prelude.{ℕ, suc, ◌==◌, List, [], ◌∷◌, if◌then◌else◌, map, Bool, true}
+use Rattle.std.specs.Prelude.{false}
 use Rattle.texting_robots.specs.Cut.{Pair, cr, lf}
 use Rattle.texting_robots.specs.Line.{nul_as_lf}
 
@@ -16,10 +17,16 @@ before_end (pair ∷ later) = elim pair.body [
   | _ ∷ _ ↦ record { body = []; ending = cr ∷ [] } ∷ pair ∷ later
 ]
 
+-- the pairs of a text with one more byte in front
+abbrev pub before_byte : ℕ → List Pair → List Pair
+before_byte byte pairs =
+    if byte == lf then record { body = []; ending = lf ∷ [] } ∷ pairs
+    else (if byte == cr then before_end pairs else before_body byte pairs)
+
 -- the pairs of a text
 unfoldable pub cut : List ℕ → List Pair
 cut [] = []
-cut (byte ∷ text) = if byte == lf then record { body = []; ending = lf ∷ [] } ∷ cut text else (if byte == cr then before_end (cut text) else before_body byte (cut text))
+cut (byte ∷ text) = before_byte byte (cut text)
 
 -- how many bytes stand before the first CR or LF
 abbrev pub body_len : List ℕ → ℕ

@@ -1,72 +1,85 @@
 -- The delay of a text as a function, found part by part.
-use Rattle.std.specs.Prelude.{ℕ, ◌*◌, ◌/◌, ◌^◌, ◌==◌, ◌&&◌, ◌||◌, nat_le, min, Bool, true, false, List, [], ◌∷◌, ◌++◌, Option, Some, None, if◌then◌else◌, codes, length, map}
-use Rattle.std.specs.Char.{to_ascii_lowercase}
-use Rattle.texting_robots.specs.Delay.{Decimal, negative_exponent, greatest_delay, spelled, positive_exponent}
-use Rattle.texting_robots.specs.Computed.DelayParts.{behind_sign, has_minus}
+use Rattle.std.specs.Prelude.{ℕ, ◌+◌, ◌-◌, ◌*◌, ◌/◌, ◌^◌, ◌<◌, ◌==◌, ◌&&◌}
+use Rattle.std.specs.Prelude.{◌||◌, nat_lt, min, Bool, true, false, List, [], ◌∷◌, ◌++◌, All}
+use Rattle.std.specs.Prelude.{Option, Some, None, if◌then◌else◌, codes, drop, length}
+use Rattle.std.specs.Char.{IsAsciiDigit, is_ascii_digit}
+use Rattle.std.specs.List.{list_all, prefix_len, take_while}
+use Rattle.std.specs.Option.{option_and_then, option_map}
+use Rattle.std.specs.Str.{byte, str_eq_ignore_ascii_case}
+use Rattle.std.specs.Str.Parse.{digits_value, starts_with_minus, without_leading_sign}
+use Rattle.texting_robots.specs.Delay.{Decimal, greatest_delay, negative_exponent, positive_exponent}
 
-abbrev pub is_digit : ℕ → Bool
-is_digit b = nat_le 48 b && nat_le b 57
+abbrev pub is_infinite : List ℕ → Bool
+is_infinite text = str_eq_ignore_ascii_case text (codes "inf") || str_eq_ignore_ascii_case text
+    (codes "infinity")
 
 -- the digits in front, and what follows
 abbrev pub digits_in_front : List ℕ → List ℕ
-digits_in_front [] = []
-digits_in_front (b ∷ text) = if is_digit b then b ∷ digits_in_front text else []
+digits_in_front text = take_while is_ascii_digit text
 
 abbrev pub behind_digits : List ℕ → List ℕ
-behind_digits [] = []
-behind_digits (b ∷ text) = if is_digit b then behind_digits text else b ∷ text
+behind_digits text = drop (prefix_len is_ascii_digit text) text
 
 -- the digits behind a point in front, and what follows
 abbrev pub fraction_in_front : List ℕ → List ℕ
 fraction_in_front [] = []
-fraction_in_front (b ∷ text) = if b == 46 then digits_in_front text else []
+fraction_in_front (b ∷ text) = if b == byte "." then digits_in_front text else []
 
 abbrev pub behind_fraction : List ℕ → List ℕ
 behind_fraction [] = []
-behind_fraction (b ∷ text) = if b == 46 then behind_digits text else b ∷ text
+behind_fraction (b ∷ text) = if b == byte "." then behind_digits text else b ∷ text
 
--- the exponent that the text is: whether it has a minus, and its digits
-abbrev pub exponent_made : Bool → List ℕ → List ℕ → Option (Bool × List ℕ)
-exponent_made minus (d ∷ ds) [] = Some (minus, d ∷ ds)
-exponent_made minus ds rest = None
+abbrev pub is_numeral : List ℕ → Bool
+is_numeral text = nat_lt 0 (length text) && list_all is_ascii_digit text
 
-abbrev pub exponent_of : List ℕ → Option (Bool × List ℕ)
-exponent_of [] = Some (false, [])
-exponent_of (letter ∷ text) = if (letter == 101) || (letter == 69) then exponent_made (has_minus text) (digits_in_front (behind_sign text)) (behind_digits (behind_sign text)) else None
+-- the exponent of a number whose digits are read
+abbrev pub exponent_of : List ℕ → Option (List ℕ)
+exponent_of [] = Some []
+exponent_of (b ∷ text) =
+    if ((b == byte "e") || (b == byte "E")) && is_numeral (without_leading_sign text) then Some text else None
 
 -- the number that the text spells
-abbrev pub number_made : List ℕ → List ℕ → Option (Bool × List ℕ) → Option Decimal
-number_made whole fraction None = None
-number_made [] [] (Some e) = None
-number_made whole fraction (Some e) = Some (record { whole = whole; fraction = fraction; minus = e.0; exponent = e.1 })
+abbrev pub number_with : List ℕ → List ℕ → Option (List ℕ) → Option Decimal
+number_with whole fraction exponent =
+    if nat_lt 0 (length (whole ++ fraction))
+    then option_map (λ e. record { whole = whole; fraction = fraction; exponent = e }) exponent else None
 
 abbrev pub number_of : List ℕ → Option Decimal
-number_of text = number_made (digits_in_front text) (fraction_in_front (behind_digits text)) (exponent_of (behind_fraction (behind_digits text)))
+number_of text =
+    let rest = behind_digits text in
+    number_with (digits_in_front text) (fraction_in_front rest) (exponent_of (behind_fraction rest))
 
-abbrev pub are_zeros : List ℕ → Bool
-are_zeros [] = true
-are_zeros (d ∷ ds) = (d == 48) && are_zeros ds
+-- the parts of a number that a text spells
+pub record HasDigits (n : Decimal) : Type 0 where
+  pub whole : All IsAsciiDigit n.whole
+  pub fraction : All IsAsciiDigit n.fraction
+  pub exponent : All IsAsciiDigit (without_leading_sign n.exponent)
+  pub short : length n.whole + length n.fraction < 2 ^ 63
 
-abbrev pub are_same : List ℕ → List ℕ → Bool
-are_same [] [] = true
-are_same (x ∷ xs) (y ∷ ys) = (x == y) && are_same xs ys
-are_same xs ys = false
+abbrev pub bounded : ℕ → ℕ
+bounded n = min n greatest_delay
 
-abbrev pub is_infinite : List ℕ → Bool
-is_infinite text = are_same (map to_ascii_lowercase text) (codes "inf") || are_same (map to_ascii_lowercase text) (codes "infinity")
+-- how many digits, counted from the first, are whole microseconds
+abbrev pub places : Decimal → ℕ
+places n = length n.whole + 6 + positive_exponent n - negative_exponent n
 
 -- a number of seconds in microseconds, rounded down
 abbrev pub rounded : Decimal → ℕ
-rounded n = min (spelled (n.whole ++ n.fraction) * 10 ^ 6 * 10 ^ positive_exponent n / (10 ^ length n.fraction * 10 ^ negative_exponent n)) greatest_delay
+rounded n =
+    let micros = digits_value 10 (n.whole ++ n.fraction) * 10 ^ 6 * 10 ^ positive_exponent n in
+    bounded (micros / (10 ^ length n.fraction * 10 ^ negative_exponent n))
 
-abbrev pub infinite_delay : Bool → Option ℕ
-infinite_delay true = None
-infinite_delay false = Some greatest_delay
+abbrev pub is_zero : Decimal → Bool
+is_zero n = list_all (λ digit. digit == byte "0") (n.whole ++ n.fraction)
 
-abbrev pub finite_delay : Bool → Option Decimal → Option ℕ
-finite_delay minus None = None
-finite_delay false (Some n) = Some (rounded n)
-finite_delay true (Some n) = if are_zeros (n.whole ++ n.fraction) then Some (rounded n) else None
+abbrev pub zero_of : Decimal → Option ℕ
+zero_of n = if is_zero n then Some 0 else None
+
+-- the delay of a text behind its sign, and whether the sign is a minus
+abbrev pub delay_behind : Bool → List ℕ → Option ℕ
+delay_behind true unsigned = option_and_then zero_of (number_of unsigned)
+delay_behind false unsigned =
+    if is_infinite unsigned then Some greatest_delay else option_map rounded (number_of unsigned)
 
 unfoldable pub delay_of : List ℕ → Option ℕ
-delay_of text = if is_infinite (behind_sign text) then infinite_delay (has_minus text) else finite_delay (has_minus text) (number_of (behind_sign text))
+delay_of text = delay_behind (starts_with_minus text) (without_leading_sign text)

@@ -1,27 +1,44 @@
 //! How long a crawler waits between two requests.
-ghost use Rattle.std.specs.Prelude.{◌≡◌, ◌≢◌, ℕ, ◌+◌, ◌-◌, ◌*◌, ◌^◌, ◌<◌, ◌≤◌, ◌++◌, ◌↔◌, [], All, IsTrue, MatchOption, MatchBool, cond, length, min};
-ghost use Rattle.texting_robots.specs.Delay.{Decimal, IsDigit, IsDelay, IsExponent, IsInfinite, Rounds, Spells, negative_exponent, spelled, positive_exponent};
-ghost use Rattle.texting_robots.specs.Computed.DelayParts.{AreDigits, AreFraction, IsDecimal, behind_sign, decimal_of, has_minus};
+ghost use Rattle.std.specs.Prelude.{◌≡◌, ◌==◌, ◌≤◌, All, length, take};
+ghost use Rattle.std.specs.Char.{IsAsciiDigit, is_ascii_digit};
+ghost use Rattle.std.specs.List.{list_all, prefix_len};
+ghost use Rattle.std.specs.Option.{option_copied};
+ghost use Rattle.std.specs.Str.{byte};
+ghost use Rattle.std.specs.Str.Parse.{digits_value_after, starts_with_minus, without_leading_sign};
+ghost use Rattle.texting_robots.specs.Delay.{IsDelay};
+ghost use Rattle.texting_robots.specs.Computed.Delay as steps;
 
-/// A number of seconds in decimal: its digits, and those of its exponent.
-#[derive(Clone, Copy)]
+use std::marker::Model;
+
+/// A number of seconds in decimal: its digits, and the text of its exponent.
+#[derive(Drop)]
 struct Number<'a> {
     whole: &'a [u8],
     fraction: &'a [u8],
-    minus: bool,
     exponent: &'a [u8],
+}
+
+impl<'a> Model for Number<'a> {
+    ghost use Rattle.texting_robots.specs.Computed.Delay.{HasDigits};
+    ghost use Rattle.texting_robots.specs.Delay.{Decimal};
+
+    ghost Value = { Decimal };
+
+    ghost view = { λ n. record { whole = n.whole.now; fraction = n.fraction.now; exponent = n.exponent.now } };
+
+    ghost invariant = { λ n. HasDigits (record { whole = n.whole.now; fraction = n.fraction.now; exponent = n.exponent.now }) };
 }
 
 /// The digits of a second's fraction that are whole microseconds.
 const MICROS_DIGITS: usize = 6;
 
-/// A number of more digits than these is above `u64::MAX`, unless it begins with zeros.
-const MAX_DIGITS: usize = 20;
+/// A number that more zeros than these end is above `u64::MAX`, unless it is 0.
+const ZEROS: [u8; 20] = [b'0'; 20];
 
 /// Whether a minus stands in front of the text, and the text behind its sign.
 fn split_sign(text: &[u8]) -> (bool, &[u8])
-    ensures minus { result.0 ≡ has_minus text.now }
-    ensures rest { result.1.now ≡ behind_sign text.now }
+    ensures minus { result.0 ≡ starts_with_minus text.now }
+    ensures rest { result.1.now ≡ without_leading_sign text.now }
 {
     match text {
         [b'-', rest @ ..] => (true, rest),
@@ -30,20 +47,26 @@ fn split_sign(text: &[u8]) -> (bool, &[u8])
     }
 }
 
+/// How many digits stand in front.
+fn digits_len(text: &[u8]) -> usize
+    ensures value { result ≡ prefix_len is_ascii_digit text.now }
+    ensures within { result ≤ length text.now }
+{
+    text.iter().take_while(|byte| byte.is_ascii_digit()).count()
+}
+
 /// The digits in front, and what follows them.
 fn split_digits(text: &[u8]) -> (&[u8], &[u8])
-    ensures { AreDigits text.now result.0.now result.1.now }
+    ensures digits { result.0.now ≡ steps.digits_in_front text.now }
+    ensures rest { result.1.now ≡ steps.behind_digits text.now }
 {
-    let end = text
-        .iter()
-        .position(|byte| !byte.is_ascii_digit())
-        .unwrap_or(text.len());
-    text.split_at(end)
+    text.split_at(digits_len(text))
 }
 
 /// The digits behind a point in front, and what follows them.
 fn split_fraction(text: &[u8]) -> (&[u8], &[u8])
-    ensures { AreFraction text.now result.0.now result.1.now }
+    ensures digits { result.0.now ≡ steps.fraction_in_front text.now }
+    ensures rest { result.1.now ≡ steps.behind_fraction text.now }
 {
     match text {
         [b'.', rest @ ..] => split_digits(rest),
@@ -51,49 +74,67 @@ fn split_fraction(text: &[u8]) -> (&[u8], &[u8])
     }
 }
 
-/// Whether the exponent that the text is has a minus, and its digits.
-fn read_exponent(text: &[u8]) -> Option<(bool, &[u8])>
-    ensures { MatchOption result ((minus : _) (digits : _) → IsExponent text.now minus digits → ⊥)
-        (λ e. IsExponent text.now e.0 e.1.now) }
+/// Whether there are only digits.
+fn are_digits(text: &[u8]) -> bool
+    ensures { result ≡ list_all is_ascii_digit text.now }
 {
-    let Some((letter, rest)) = text.split_first() else {
-        return Some((false, text));
-    };
-    if *letter != b'e' && *letter != b'E' {
-        return None;
-    }
-    let (minus, unsigned) = split_sign(rest);
-    let (digits, behind) = split_digits(unsigned);
-    if digits.is_empty() || !behind.is_empty() {
-        None
-    } else {
-        Some((minus, digits))
+    text.iter().all(|byte| byte.is_ascii_digit())
+}
+
+/// Whether there are only zeros.
+fn are_zeros(text: &[u8]) -> bool
+    ensures { result ≡ list_all (λ digit. digit == byte "0") text.now }
+{
+    text.iter().all(|digit| *digit == b'0')
+}
+
+/// Whether the text is one digit or more, and nothing else.
+fn is_numeral(text: &[u8]) -> bool
+    ensures { result ≡ steps.is_numeral text.now }
+{
+    !text.is_empty() && are_digits(text)
+}
+
+/// The exponent of a number whose digits are read: a sign and digits, or nothing where it has none.
+fn read_exponent(text: &[u8]) -> Option<&[u8]>
+    ensures { option_copied result ≡ steps.exponent_of text.now }
+{
+    match text {
+        [] => Some(text),
+        [b'e' | b'E', exponent @ ..] if is_numeral(split_sign(exponent).1) => Some(exponent),
+        _ => None,
     }
 }
 
 /// The number that the text spells.
 fn read_number(text: &[u8]) -> Option<Number<'_>>
-    ensures { MatchOption result ((n : Decimal) → Spells text.now n → ⊥)
-        (λ n. Spells text.now (decimal_of n)) }
+    ensures { result ≡ steps.number_of text.now }
 {
     let (whole, rest) = split_digits(text);
     let (fraction, rest) = split_fraction(rest);
     if whole.is_empty() && fraction.is_empty() {
         return None;
     }
-    let (minus, exponent) = read_exponent(rest)?;
+    let exponent = read_exponent(rest)?;
     Some(Number {
         whole,
         fraction,
-        minus,
         exponent,
     })
 }
 
-/// The number whose digits are those of `start` and these, at most `u64::MAX`.
+/// So many digits from the first, or all where there are no more.
+fn first(digits: &[u8], count: usize) -> &[u8]
+    ensures { result.now ≡ take count digits.now }
+{
+    digits.get(..count).unwrap_or(digits)
+}
+
+/// The number that these digits write when they follow those of `start`, at most `u64::MAX`.
+#[tactic(auto, using(crate::proofs::DelayNumbers::digit_there, crate::proofs::DelayNumbers::one_more_digit, crate::proofs::DelayNumbers::all_digits_read))]
 fn append_digits(start: u64, digits: &[u8]) -> u64
-    requires { All IsDigit digits.now }
-    ensures { result ≡ min (start * 10 ^ length digits.now + spelled digits.now) 18446744073709551615 }
+    requires { All IsAsciiDigit digits.now }
+    ensures { result ≡ steps.bounded (digits_value_after 10 start digits.now) }
 {
     let mut number = start;
     for digit in digits {
@@ -104,29 +145,22 @@ fn append_digits(start: u64, digits: &[u8]) -> u64
     number
 }
 
-/// Whether there are only zeros.
-fn are_zeros(digits: &[u8]) -> bool
-    ensures { IsTrue result ↔ All (λ d. d ≡ 48) digits.now }
-{
-    digits.iter().all(|digit| *digit == b'0')
-}
-
 impl Number<'_> {
     /// Whether only zeros stand before the exponent.
     fn is_zero(&self) -> bool
-        ensures { IsTrue result ↔ All (λ d. d ≡ 48) (self.now.whole.now ++ self.now.fraction.now) }
+        ensures { result ≡ steps.is_zero self.now }
     {
         are_zeros(self.whole) && are_zeros(self.fraction)
     }
 
     /// How many digits, counted from the first, are whole microseconds.
     fn micros_digits(&self) -> usize
-        requires { IsDecimal (decimal_of self.now) }
-        ensures { result ≡ min (length self.now.whole.now + 6 + positive_exponent (decimal_of self.now) - negative_exponent (decimal_of self.now)) 18446744073709551615 }
+        ensures { result ≡ steps.bounded (steps.places self.now) }
     {
-        let exponent = append_digits(0, self.exponent) as usize;
+        let (minus, exponent) = split_sign(self.exponent);
+        let exponent = append_digits(0, exponent) as usize;
         let digits = self.whole.len() + MICROS_DIGITS;
-        if self.minus {
+        if minus {
             digits.saturating_sub(exponent)
         } else {
             digits.saturating_add(exponent)
@@ -135,24 +169,20 @@ impl Number<'_> {
 
     /// The number of microseconds, rounded down, at most `u64::MAX`.
     fn micros(&self) -> u64
-        requires { IsDecimal (decimal_of self.now) }
-        ensures { Rounds (decimal_of self.now) result }
+        ensures { result ≡ steps.rounded self.now }
     {
-        let digits = self.micros_digits();
-        let whole = self.whole.len().min(digits);
-        let fraction = self.fraction.len().min(digits - whole);
-        let zeros = (digits - whole - fraction).min(MAX_DIGITS);
-        let micros = append_digits(
-            append_digits(0, &self.whole[..whole]),
-            &self.fraction[..fraction],
-        );
-        micros.saturating_mul(10u64.saturating_pow(zeros as u32))
+        let whole = self.micros_digits();
+        let fraction = whole.saturating_sub(self.whole.len());
+        let zeros = fraction.saturating_sub(self.fraction.len());
+        let micros = append_digits(0, first(self.whole, whole));
+        let micros = append_digits(micros, first(self.fraction, fraction));
+        append_digits(micros, first(&ZEROS, zeros))
     }
 }
 
 /// Whether the text is `inf` or `infinity`, in any letter case.
 fn is_infinite(text: &[u8]) -> bool
-    ensures { IsTrue result ↔ IsInfinite text.now }
+    ensures { result ≡ steps.is_infinite text.now }
 {
     text.eq_ignore_ascii_case(b"inf") || text.eq_ignore_ascii_case(b"infinity")
 }
@@ -161,16 +191,17 @@ fn is_infinite(text: &[u8]) -> bool
 ///
 /// The text isn't trimmed. It is a decimal number, with an exponent or without, or `inf` or `infinity`; `None` refuses all
 /// else, and what is below zero. It takes no memory, and its time grows in step with the text's length.
+#[tactic(auto, using(crate::proofs::DelayLemmas::is_delay))]
 pub fn read_delay(text: &[u8]) -> Option<u64>
     ensures { IsDelay text.now result }
 {
     let (minus, unsigned) = split_sign(text);
-    if is_infinite(unsigned) {
-        return if minus { None } else { Some(u64::MAX) };
+    if !minus && is_infinite(unsigned) {
+        return Some(u64::MAX);
     }
     let number = read_number(unsigned)?;
-    if minus && !number.is_zero() {
-        None
+    if minus {
+        number.is_zero().then_some(0)
     } else {
         Some(number.micros())
     }

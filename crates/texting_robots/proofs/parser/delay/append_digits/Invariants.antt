@@ -1,7 +1,12 @@
-use Rattle.std.proofs.Common.{◌≡◌, ◌+◌, ◌*◌, ◌^◌, min, take}
-use Rattle.texting_robots.specs.Delay.{spelled}
+use Rattle.std.proofs.Common.{◌≡◌, ◌≤◌, drop}
+use Rattle.std.specs.Str.Parse.{digits_value_after}
+use Rattle.texting_robots.specs.Delay.{greatest_delay}
+use Rattle.texting_robots.specs.Computed.Delay.{bounded}
 use Rattle.texting_robots.proofs.parser.delay.append_digits.Given as goal
 
--- the number so far
+-- the digits that are left, behind the number so far, write the result
 abbrev pub invariant-loop-digit : goal.invariant-loop-digit
-invariant-loop-digit l = l.number ≡ min (l.start * 10 ^ l.digit-index + spelled (take l.digit-index l.digits)) 18446744073709551615
+invariant-loop-digit l =
+    (bounded (digits_value_after 10 l.number (drop l.digit-index l.digits))
+    ≡ bounded (digits_value_after 10 l.start l.digits))
+    × (l.number ≤ greatest_delay)
