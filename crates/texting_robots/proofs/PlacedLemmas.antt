@@ -59,22 +59,23 @@ record Gives (number : ℕ) (line : LineValue) (found : PlacedRule) : Type 0 whe
   value : List ℕ
   is_line : line ≡ cond found.rule.1 (Allow value) (Disallow value)
   pattern : found.rule.0 ≡ escaped value
+  utf8 : is_utf8 value ≡ true
   is_number : found.line ≡ number
 
-value_gives : (number : ℕ) (value : List ℕ) (is_allow utf8 : Bool) (found : PlacedRule)
+value_gives : (number : ℕ) (value : List ℕ) (is_allow utf8 : Bool) (found : PlacedRule) → is_utf8 value ≡ utf8
     → placed number (cond utf8 (Some (escaped value, is_allow)) None) ≡ Some found
     → Gives number (cond is_allow (Allow value) (Disallow value)) found
-value_gives number value is_allow true found is =
+value_gives number value is_allow true found text is =
     let made : PlacedRule = record { rule = (escaped value, is_allow); line = number } in
     let same : made ≡ found = cc in
-    rw (sym same) (record { value = value; is_line = refl; pattern = refl; is_number = refl })
-value_gives number value is_allow false found is =
+    rw (sym same) (record { value = value; is_line = refl; pattern = refl; utf8 = text; is_number = refl })
+value_gives number value is_allow false found text is =
     absurd (let wrong : ◌≡◌ {A = Option PlacedRule} None (Some found) = is in cc)
 
 line_gives : (number : ℕ) (line : LineValue) (found : PlacedRule) → placed number (rule_in line) ≡ Some found
     → Gives number line found
-line_gives number (Allow value) found is = value_gives number value true (is_utf8 value) found is
-line_gives number (Disallow value) found is = value_gives number value false (is_utf8 value) found is
+line_gives number (Allow value) found is = value_gives number value true (is_utf8 value) found refl is
+line_gives number (Disallow value) found is = value_gives number value false (is_utf8 value) found refl is
 line_gives number (UserAgent value) found is = absurd (let k : ◌≡◌ {A = Option PlacedRule} None (Some found) = is in cc)
 line_gives number (Sitemap value) found is = absurd (let k : ◌≡◌ {A = Option PlacedRule} None (Some found) = is in cc)
 line_gives number (CrawlDelay delay) found is = absurd (let k : ◌≡◌ {A = Option PlacedRule} None (Some found) = is in cc)
@@ -100,9 +101,10 @@ rule_on_line agent lines found has =
       is_number = gives.is_number ∙ omega arith;
       captured = (is_captured_decides name lines at.place).0 (rw zero-add at captured);
       line = at.at ∙ ap (λ l. Some l) gives.is_line;
+      utf8 = gives.utf8;
       pattern = gives.pattern;
     }
 
 pub deciding_line_holds_its_rule : DecidingLineHoldsItsRule
 deciding_line_holds_its_rule agent lines text number (differs, found, decides, at) =
-    (found, decides, rw at at (rule_on_line agent lines found decides.is_longest.listed))
+    (found, decides, at, rw at at (rule_on_line agent lines found decides.is_longest.listed))

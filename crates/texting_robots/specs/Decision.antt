@@ -1,4 +1,4 @@
--- Which line decides, and how many rules are asked.
+-- Which line decides, and how many rules are as long as one.
 use Rattle.std.specs.Prelude.{◌≡◌, ◌≢◌, ◌⊎◌, ℕ, ◌≤◌, nat_le, true, List, Option, Some, None, Contains, codes, count_by, length}
 use Rattle.texting_robots.specs.Pattern.{Matches}
 use Rattle.texting_robots.specs.Rules.{PlacedRule}
@@ -18,7 +18,7 @@ pub record Decides (rules : List PlacedRule) (text : List ℕ) (placed : PlacedR
   pub first : (other : PlacedRule) → IsLongestMatch rules text other → other.rule.1 ≡ placed.rule.1
       → placed.line ≤ other.line
 
--- the line of the rule that decides; none decides of the robots file, and where none matches
+-- the line of the rule that decides, or `None` for the robots file and where no rule matches
 abbrev pub IsDecidingLine : List PlacedRule → List ℕ → Option ℕ → Type 0
 IsDecidingLine rules text None =
     (text ≡ robots_file) ⊎ ((placed : PlacedRule) → Contains rules placed → ¬ Matches placed.rule.0 text)

@@ -1,7 +1,7 @@
 -- Laws over the definitions.
 use Rattle.std.specs.Prelude.{◌≡◌, ◌≢◌, ◌+◌, ◌<◌, slice_get, ◌↔◌, ◌⊎◌, ℕ, Bool, true, false, not, ◌==◌, ◌&&◌, List, [], ◌∷◌, ◌++◌, Option, Some, IsTrue, IsPermutation, codes, filter, length, if◌then◌else◌}
 use Rattle.std.specs.declared.cmp.Ordering.TheVariants.{Less, Equal}
-use Rattle.std.specs.Str.{str_to_ascii_lowercase}
+use Rattle.std.specs.Str.{is_utf8, str_to_ascii_lowercase}
 use Rattle.texting_robots.specs.declared.parser.statement.Kind.{Kind}
 use Rattle.texting_robots.specs.Computed.Cut.{cut}
 use Rattle.texting_robots.specs.Computed.Delay.{delay_of}
@@ -17,7 +17,7 @@ use Rattle.texting_robots.specs.Pattern.{Matches, MatchesWith, collapsed}
 use Rattle.texting_robots.specs.Robot.{IsRobotOf, RobotValue}
 use Rattle.texting_robots.specs.Rules.{IsRefused, PlacedRule, Rule, delay_for, placed_rules, rules_for, sitemaps_in}
 use Rattle.texting_robots.specs.Statement.{IsStatement}
-use Rattle.texting_robots.specs.Verdict.{IsVerdict}
+use Rattle.texting_robots.specs.Verdict.{IsVerdict, robots_file}
 
 -- ---- lines
 
@@ -96,7 +96,7 @@ OneMoreAllow =
 
 -- the robots file is always allowed
 abbrev pub RobotsFileIsAllowed : Type 0
-RobotsFileIsAllowed = (rules : List Rule) → IsVerdict rules (codes "/robots.txt") true
+RobotsFileIsAllowed = (rules : List Rule) → IsVerdict rules (robots_file) true
 
 -- the robots of any two agents have the same sitemaps of one file
 abbrev pub SitemapsForAll : Type 0
@@ -118,10 +118,10 @@ CollapseKeepsMeaning = (anchors : Bool) (pattern text : List ℕ) → MatchesWit
 -- between a matching Disallow and a matching Allow the lengths before collapsing decide
 abbrev pub LengthIsNotCollapsed : Type 0
 LengthIsNotCollapsed =
-    (deny allow text : List ℕ) → text ≢ codes "/robots.txt" → Matches deny text → Matches allow text
+    (deny allow text : List ℕ) → text ≢ robots_file → Matches deny text → Matches allow text
     → IsVerdict ((deny, false) ∷ (allow, true) ∷ []) text false ↔ (length allow < length deny)
 
--- ---- the definitions are met once, and by what computes them
+-- ---- each definition is met once, or at most once, and what computes it agrees
 
 -- every text has a cut, and no other
 abbrev pub EachTextHasOneCut : Type 0
@@ -152,7 +152,7 @@ pub record ComparisonAgrees : Type 0 where
   pub less : (p q : List ℕ) → (pattern_cmp p q ≡ Less) ↔ IsBefore p q
   pub equal : (p q : List ℕ) → (pattern_cmp p q ≡ Equal) ↔ (p ≡ q)
 
--- of a text one line decides at most
+-- at most one line decides on a text
 abbrev pub OneLineDecides : Type 0
 OneLineDecides =
     (rules : List PlacedRule) (text : List ℕ) (line other : Option ℕ)
@@ -165,6 +165,7 @@ pub record HoldsRule (agent : List ℕ) (lines : List LineValue) (number : ℕ) 
   pub is_number : number ≡ place + 1
   pub captured : IsCaptured (group_name agent lines) lines place
   pub line : slice_get lines place ≡ Some (if rule.1 then Allow value else Disallow value)
+  pub utf8 : IsTrue (is_utf8 value)
   pub pattern : rule.0 ≡ escaped value
 
 -- the line that decides holds the rule that decides
@@ -172,4 +173,5 @@ abbrev pub DecidingLineHoldsItsRule : Type 0
 DecidingLineHoldsItsRule =
     (agent : List ℕ) (lines : List LineValue) (text : List ℕ) (number : ℕ)
     → IsDecidingLine (placed_rules agent lines) text (Some number)
-    → (placed : PlacedRule) × Decides (placed_rules agent lines) text placed × HoldsRule agent lines number placed.rule
+    → (placed : PlacedRule) × Decides (placed_rules agent lines) text placed × (placed.line ≡ number)
+    × HoldsRule agent lines number placed.rule

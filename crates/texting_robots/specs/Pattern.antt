@@ -11,19 +11,19 @@ dollar = 36
 abbrev pub longest_with_dollar : ℕ
 longest_with_dollar = 4096
 
--- what is left of t when some beginning is taken off: t itself, the empty text, and all between
+-- s is what is left of t when some beginning is taken off: t itself, the empty text, or any between
 abbrev pub IsSuffix : List ℕ → List ℕ → Type 0
 IsSuffix s t = (front : List ℕ) × (t ≡ front ++ s)
 
--- The sign b stands for a beginning of t, and s is what is left behind it: a star for any beginning, and any other byte for
--- itself. Where `anchors` is true, a dollar stands for nothing, at the text's end alone.
+-- The pattern's byte b takes a beginning off t and leaves s: a star takes any beginning; a dollar, where `anchors` is true,
+-- takes nothing and stands only where t is empty; any other byte takes itself.
 abbrev pub Takes : Bool → ℕ → List ℕ → List ℕ → Type 0
 Takes anchors b t s =
     MatchBool (b == star) (IsSuffix s t)
     (MatchBool (anchors && (b == dollar)) ((t ≡ []) × (s ≡ []))
     (t ≡ b ∷ s))
 
--- the pattern matches the text, or a beginning of it: its signs take what they stand for, one after the other
+-- the pattern matches the text, or a beginning of it: its bytes take what they stand for, one after the other
 unfoldable pub MatchesWith : Bool → List ℕ → List ℕ → Type 0
 MatchesWith anchors [] t = Unit {0}
 MatchesWith anchors (b ∷ q) t = (s : List ℕ) × Takes anchors b t s × MatchesWith anchors q s

@@ -5,6 +5,10 @@ use Rattle.texting_robots.specs.Line.{LineValue}
 use Rattle.texting_robots.specs.Rules.{IsRefused, PlacedRule, delay_for, placed_rules, rules_for, sitemaps_in, unplaced}
 use Rattle.texting_robots.specs.Verdict.{IsVerdict}
 
+-- how many bytes of a file count
+abbrev pub file_limit : ℕ
+file_limit = 512000
+
 -- the delay, the sitemaps, and the rules with their lines
 pub record RobotValue : Type 0 where
   pub delay : Option ℕ
@@ -12,7 +16,7 @@ pub record RobotValue : Type 0 where
   pub rules : List PlacedRule
 
 -- the robot is what the agent gets of a file with these lines, and no rule of it is overlong;
--- its rules are those of the file, each as often, so they give the same verdicts by the same lines
+-- its rules are the agent's in these lines, each as often, so they give the same verdicts by the same lines
 pub record IsRobotOf (agent : List ℕ) (lines : List LineValue) (robot : RobotValue) : Type 0 where
   pub delay : robot.delay ≡ delay_for agent lines
   pub sitemaps : robot.sitemaps ≡ sitemaps_in lines

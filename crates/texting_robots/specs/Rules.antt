@@ -21,7 +21,7 @@ pub record PlacedRule : Type 0 where
 abbrev pub unplaced : List PlacedRule → List Rule
 unplaced rules = map (λ (placed : PlacedRule). placed.rule) rules
 
--- the value, if it is a text
+-- the value, if it is UTF-8
 abbrev pub text_from : List ℕ → Option (List ℕ)
 text_from value = if is_utf8 value then Some value else None
 
@@ -70,7 +70,7 @@ sitemap_at mark = sitemap_in mark.line
 abbrev pub captured_delays : List ℕ → List LineValue → List ℕ
 captured_delays agent lines = from_captured delay_in (group_name agent lines) lines
 
--- the last delay before the first agent line, if there is such a line
+-- where there is an agent line, the last delay before the first one
 abbrev pub delay_before_agents : List LineValue → Option ℕ
 delay_before_agents lines =
     if list_any is_agent lines then last_or None (filter_map delay_in (before_agent lines)) else None

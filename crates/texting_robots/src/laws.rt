@@ -135,7 +135,7 @@ pub fn comparison_agrees()
     ensures { ComparisonAgrees }
 {}
 
-/// Of a text one line decides at most. Whoever reads the contract of `Robot::decision` relies on it.
+/// At most one line decides on a text. Whoever reads the contract of `Robot::decision` relies on it.
 pub fn one_line_decides()
     ensures { OneLineDecides }
 {}

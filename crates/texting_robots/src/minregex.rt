@@ -111,7 +111,7 @@ impl MinRegex {
     }
 
     /// Whether the pattern handed in matches the text, with `$` as an ordinary byte. The object plays no part. It takes no
-    /// memory: each piece between stars is found by `memchr::memmem`, in time that grows in step with the text's length.
+    /// memory.
     pub fn match_stars(&self, pattern: &[u8], text: &[u8]) -> bool
         ensures { IsTrue result ↔ MatchesStars pattern.now text.now }
     {

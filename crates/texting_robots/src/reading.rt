@@ -24,7 +24,7 @@ pub(crate) struct Reading {
     pub(crate) rules: Gathered,
 }
 
-/// Adds the rule that a value gives, if it is a text.
+/// Adds the rule that a value gives, if it is UTF-8.
 #[tactic(auto, using(crate::proofs::RulesLemmas::no_text))]
 fn push_rule(
     rules: &mut Gathered,
@@ -47,7 +47,7 @@ fn push_rule(
     }
 }
 
-/// Adds a value, if it is a text.
+/// Adds a value, if it is UTF-8.
 #[tactic(auto, using(crate::proofs::RulesLemmas::no_text))]
 fn push_text(alloc: Global, texts: &mut Vec<String>, value: &[u8]) -> Result<(), AllocError>
     ensures added { OnOk result (map string_bytes texts.new.items ≡ map string_bytes texts.old.items
@@ -76,7 +76,8 @@ impl Reading {
         }
     }
 
-    /// Adds what a line gives. It takes memory only for a rule or a sitemap; of other lines no value is read.
+    /// Adds what a line gives. It takes memory only for a rule or a sitemap; lines that are neither captured nor sitemaps aren't read to
+    /// their values.
     #[tactic(auto, using(crate::proofs::RulesLemmas::no_sitemap))]
     pub(crate) fn take(&mut self, alloc: Global, marked: Marked<'_>) -> Result<(), Error>
         requires { AreEntries self.old.rules }

@@ -5,7 +5,7 @@ ghost use Rattle.texting_robots.specs.Decision.{IsDecidingLine, as_long_as};
 ghost use Rattle.texting_robots.specs.Error.{IsMemoryOr};
 ghost use Rattle.texting_robots.specs.Pattern.{Matches};
 ghost use Rattle.texting_robots.specs.Prepared.{prepared, target_of};
-ghost use Rattle.texting_robots.specs.Robot.{IsRobotOf};
+ghost use Rattle.texting_robots.specs.Robot.{IsRobotOf, file_limit};
 ghost use Rattle.texting_robots.specs.Rules.{GivesNothing, IsRefused, PlacedRule, unplaced};
 ghost use Rattle.texting_robots.specs.Verdict.{IsVerdict};
 ghost use Rattle.texting_robots.specs.View.{LooksAtMost};
@@ -52,9 +52,9 @@ impl Robot {
     /// crawler's holds `$` and has more than 4,096 bytes escaped, each run of stars counted as one. Memory is taken only for
     /// rules and sitemaps.
     pub fn new(alloc: Global, agent: &str, txt: &[u8]) -> Result<Self, Error>
-        ensures robot { IfOk result (IsRobotOf agent.now (file_lines (take FILE_LIMIT txt.now))) }
-        ensures refused { IfErr result (IsMemoryOr (IsRefused agent.now (file_lines (take FILE_LIMIT txt.now)))) }
-        ensures without_memory { GivesNothing agent.now (file_lines (take FILE_LIMIT txt.now)) → IsOk result }
+        ensures robot { IfOk result (IsRobotOf agent.now (file_lines (take file_limit txt.now))) }
+        ensures refused { IfErr result (IsMemoryOr (IsRefused agent.now (file_lines (take file_limit txt.now)))) }
+        ensures without_memory { GivesNothing agent.now (file_lines (take file_limit txt.now)) → IsOk result }
     {
         Robot::with_limit(alloc, agent, txt, FILE_LIMIT)
     }

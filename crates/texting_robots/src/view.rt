@@ -1,5 +1,6 @@
 //! A text of which only counted looks are possible.
 ghost use Rattle.std.specs.Prelude.{◌≡◌, ℕ, ◌+◌, ◌<◌, ◌≤◌, ◌↔◌, IsTrue, length, slice_index, codes};
+ghost use Rattle.texting_robots.specs.Verdict.{robots_file};
 ghost use Rattle.texting_robots.specs.View.{seen_of};
 
 mod looks;
@@ -7,7 +8,7 @@ mod looks;
 use looks::Looks;
 use std::marker::Model;
 
-/// A lent text, and how many of its bytes were looked at.
+/// A lent text, and how many looks at its bytes were taken.
 #[derive(Drop)]
 pub struct View<'a> {
     text: &'a str,
@@ -60,12 +61,12 @@ impl<'a> View<'a> {
 
     /// Whether the text is `/robots.txt`. It is no look.
     pub fn is_robots_file(&self) -> bool
-        ensures { IsTrue result ↔ (self.now.text ≡ codes "/robots.txt") }
+        ensures { IsTrue result ↔ (self.now.text ≡ robots_file) }
     {
         self.text == "/robots.txt"
     }
 
-    /// How many looks there were, or the greatest number where there were more.
+    /// How many looks there were, or `u64::MAX` where there were more.
     pub fn seen(&self) -> u64
         ensures { result ≡ seen_of self.now.looks }
     {

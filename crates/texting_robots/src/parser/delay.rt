@@ -190,7 +190,7 @@ fn is_infinite(text: &[u8]) -> bool
 /// The delay that a text names in seconds, as whole microseconds rounded down, at most `u64::MAX`.
 ///
 /// The text isn't trimmed. It is a decimal number, with an exponent or without, or `inf` or `infinity`; `None` refuses all
-/// else, and what is below zero. It takes no memory, and its time grows in step with the text's length.
+/// else, and what is below zero. It takes no memory.
 #[tactic(auto, using(crate::proofs::DelayLemmas::is_delay))]
 pub fn read_delay(text: &[u8]) -> Option<u64>
     ensures { IsDelay text.now result }
