@@ -21,16 +21,17 @@ status_of HeaderNotUtf8 = 2
 status_of InvalidRule = 3
 status_of Memory = 4
 
--- the status that the process ends with, and what it says before on standard error
+-- the status that the process ends with
 abbrev pub status_after : Result (Unit {0}) Fault → ℕ
 status_after (Ok _) = 0
 status_after (Err fault) = status_of fault
 
+-- what it says before on standard error
 abbrev pub said_after : Result (Unit {0}) Fault → Option (List ℕ)
 said_after (Ok _) = None
 said_after (Err fault) = Some (text_of fault)
 
--- what an error of the library comes to; it never answers InvalidRobots
+-- what an error of the library comes to; the library never answers InvalidRobots
 abbrev pub fault_of : Error → Fault
 fault_of error.InvalidRobots = Memory
 fault_of error.InvalidRule = InvalidRule

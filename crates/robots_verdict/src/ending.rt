@@ -13,7 +13,7 @@ pub struct Ending {
     pub text: Option<&'static str>,
 }
 
-/// What the process ends with where this came of a run.
+/// What the process ends with after a run that answered this.
 pub fn ending_of(outcome: &Result<(), Fault>) -> Ending
     ensures status { result.status ≡ status_after outcome.now }
     ensures text { option_map (λ text. text.now) result.text ≡ said_after outcome.now }

@@ -15,7 +15,7 @@ pub enum Fault {
     HeaderNotUtf8,
     /// A rule of the crawler's holds `$` and is too long.
     InvalidRule,
-    /// Memory was refused.
+    /// Memory was refused, or a URL came to more bytes than `url` can count.
     Memory,
 }
 

@@ -2,7 +2,8 @@
 //! fetch.
 //!
 //! The input is a line with the crawler's name, a line for each URL, an empty line, and then the bytes of the file. The output
-//! is the delay in microseconds, the sitemaps, and for each URL `allow` or `deny`, a line each.
+//! is the delay in microseconds, the sitemaps, and for each URL `allow` or `deny` and the number of the line that decides, or
+//! `-` where none does, a line each.
 #![tactic(auto)]
 
 mod ending;

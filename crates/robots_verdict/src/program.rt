@@ -13,7 +13,8 @@ use std::io::{Read, Write};
 ///
 /// The clauses are about a reader and a writer that tell their bytes; of standard input and output nothing is claimed.
 ///
-/// `Fault::Read`, `Fault::Write` and `Fault::Memory` tell of a reader, a writer or memory that failed; no clause says when.
+/// `Fault::Read` tells of a read that failed or of reads that ran out, `Fault::Write` of a write or a flush that failed or a
+/// write that took nothing, and `Fault::Memory` of memory that was refused; no clause says when.
 pub fn run<R: Read, W: Write>(alloc: Global, reader: &mut R, writer: &mut W) -> Result<(), Fault>
     ensures ok { OnOk result (IfSome (R.remaining reader.old) (AppendsReport (W.contents writer.old) (W.contents writer.new))) }
     ensures no_empty_line { IsErrOf result Fault.NoEmptyLine
