@@ -113,15 +113,11 @@ module _ {X : Type 0} (kind : Kind) (look : LineValue → X) (x : X) (raw : (bod
         | inr other ↦ ap look (line_stated body k (value_of tail) (has_parts body k tail is)) ∙ other
       ]
 
-agent_line : (body tail : List ℕ) → parts_of body ≡ Some (kind.UserAgent, tail) → line_of body ≡ UserAgent (value_of tail)
+pub agent_line : (body tail : List ℕ) → parts_of body ≡ Some (kind.UserAgent, tail) → line_of body ≡ UserAgent (value_of tail)
 agent_line body tail is = line_stated body kind.UserAgent (value_of tail) (has_parts body kind.UserAgent tail is)
 
-pub agent_told : (body : List ℕ) (found : Option (Bor (List ℕ)))
-    → MatchOption found ((tail : List ℕ) → parts_of body ≢ Some (kind.UserAgent, tail))
-        (λ tail. parts_of body ≡ Some (kind.UserAgent, tail.now))
-    → is_some found ≡ is_agent (line_of body)
-agent_told body None none = sym (other_line kind.UserAgent is_agent false (λ body. refl) only_agent body none)
-agent_told body (Some tail) is = sym (ap is_agent (agent_line body tail.now is))
+pub no_agent : (body : List ℕ) → ((tail : List ℕ) → parts_of body ≢ Some (kind.UserAgent, tail)) → is_agent (line_of body) ≡ false
+no_agent body none = other_line kind.UserAgent is_agent false (λ body. refl) only_agent body none
 
 only_sitemap : (k : Kind) (value body : List ℕ) → (k ≡ kind.Sitemap) ⊎ (is_sitemap (line_with k value body) ≡ false)
 only_sitemap kind.UserAgent value body = inr refl
@@ -142,22 +138,6 @@ pub sitemap_told : (body : List ℕ) (found : Option (Bor (List ℕ)))
 sitemap_told body None none = sym (other_line kind.Sitemap is_sitemap false (λ body. refl) only_sitemap body none)
 sitemap_told body (Some tail) is =
     sym (ap is_sitemap (line_stated body kind.Sitemap (value_of tail.now) (has_parts body kind.Sitemap tail.now is)))
-
-pub named : (name body tail : List ℕ) → parts_of body ≡ Some (kind.UserAgent, tail)
-    → bytes_eq (str_to_ascii_lowercase (value_of tail)) name ≡ is_agent_named name (line_of body)
-named name body tail is = sym (ap (is_agent_named name) (agent_line body tail is))
-
-pub unnamed : (name body : List ℕ) → ((tail : List ℕ) → parts_of body ≢ Some (kind.UserAgent, tail))
-    → false ≡ is_agent_named name (line_of body)
-unnamed name body none = at (line_of body) (other_line kind.UserAgent is_agent false (λ body. refl) only_agent body none)
-  where
-    at : (line : LineValue) → is_agent line ≡ false → false ≡ is_agent_named name line
-    at (UserAgent value) is = cc
-    at (Allow value) is = refl
-    at (Disallow value) is = refl
-    at (Sitemap value) is = refl
-    at (CrawlDelay delay) is = refl
-    at (Raw body) is = refl
 
 pub delay_told : (body tail : List ℕ) (delay : Option ℕ) → parts_of body ≡ Some (kind.CrawlDelay, tail)
     → IsDelay (value_of tail) delay → delay ≡ delay_in (line_of body)

@@ -22,7 +22,7 @@ pub(crate) struct Group<'a> {
 }
 
 /// The first pass. It ends at the first line that names the agent.
-#[tactic(auto, using(crate::proofs::RulesLemmas::last_more))]
+#[tactic(auto, using(crate::proofs::RulesLemmas::last_more, crate::proofs::NameLemmas::tested_names))]
 pub(crate) fn group_for<'a>(agent: &'a [u8], lines: UnreadLines<'_>) -> Group<'a>
     ensures name { str_to_ascii_lowercase result.name.now ≡ group_name agent.now lines.entry }
     ensures has_agents { result.has_agents ≡ list_any is_agent lines.entry }
@@ -31,16 +31,17 @@ pub(crate) fn group_for<'a>(agent: &'a [u8], lines: UnreadLines<'_>) -> Group<'a
     let mut has_agents = false;
     let mut last = None;
     for line in lines {
-        if line.is_agent_named(agent) {
-            return Group {
-                name: agent,
-                has_agents: true,
-                stray_delay: last,
-            };
-        }
-        has_agents = has_agents || line.is_agent();
-        if !has_agents {
-            last = line.delay().or(last);
+        match line.agent() {
+            Some(name) if name.eq_ignore_ascii_case(agent) => {
+                return Group {
+                    name: agent,
+                    has_agents: true,
+                    stray_delay: last,
+                };
+            }
+            Some(_) => has_agents = true,
+            None if !has_agents => last = line.delay().or(last),
+            None => {}
         }
     }
     Group {
@@ -61,11 +62,12 @@ struct Walk {
 
 impl Walk {
     /// Goes on over a line.
+    #[tactic(auto, using(crate::proofs::NameLemmas::tested_names, crate::proofs::CapturedLemmas::only_agents))]
     fn step(&mut self, name: &[u8], line: &Unread<'_>)
         ensures { self.new ≡ step (str_to_ascii_lowercase name.now) self.old line.now }
     {
-        if line.is_agent() {
-            self.named = self.named || line.is_agent_named(name);
+        if let Some(value) = line.agent() {
+            self.named = self.named || value.eq_ignore_ascii_case(name);
             self.captured = self.named;
         } else if self.named && line.is_group() {
             self.named = false;

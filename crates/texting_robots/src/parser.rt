@@ -1,10 +1,9 @@
 //! The lines of a robots.txt file.
-ghost use Rattle.std.specs.Prelude.{◌≡◌, ◌≤◌, IfErr, IfOk, length, map};
-ghost use Rattle.std.specs.Str.{str_to_ascii_lowercase};
+ghost use Rattle.std.specs.Prelude.{◌≡◌, ◌≤◌, IfErr, IfOk, MatchOption, false, length, map};
 ghost use Rattle.std.specs.Iterator.{YieldsFirst, YieldsFirstBy, item_count};
 ghost use Rattle.texting_robots.specs.Computed.Line.{file_lines, line_of, line_with, parsed};
-ghost use Rattle.texting_robots.specs.Group.{is_agent, is_agent_named, is_group};
-ghost use Rattle.texting_robots.specs.Line.{AreFileLinesOf, AreLinesOf, HoldRangesOf, by_value, delay_in, is_sitemap, without_front};
+ghost use Rattle.texting_robots.specs.Group.{is_agent, is_group};
+ghost use Rattle.texting_robots.specs.Line.{AreFileLinesOf, AreLinesOf, HoldRangesOf, UserAgent, by_value, delay_in, is_sitemap, without_front};
 
 mod cut;
 mod delay;
@@ -57,21 +56,11 @@ impl<'a> Unread<'a> {
         line_of(self.body)
     }
 
-    /// Whether it is an agent line. No value is read.
-    pub(crate) fn is_agent(&self) -> bool
-        ensures { result ≡ is_agent self.now }
+    /// The crawler that it names, if it is an agent line. No other line's value is read.
+    pub(crate) fn agent(&self) -> Option<&'a [u8]>
+        ensures { MatchOption result (is_agent self.now ≡ false) (λ name. self.now ≡ UserAgent name.now) }
     {
-        tail_if(Kind::UserAgent, self.body).is_some()
-    }
-
-    /// Whether it is an agent line of this name, ASCII letters in any case. Only an agent line's value is read.
-    pub(crate) fn is_agent_named(&self, name: &[u8]) -> bool
-        ensures { result ≡ is_agent_named (str_to_ascii_lowercase name.now) self.now }
-    {
-        match tail_if(Kind::UserAgent, self.body) {
-            Some(tail) => value_of(tail).eq_ignore_ascii_case(name),
-            None => false,
-        }
+        Some(value_of(tail_if(Kind::UserAgent, self.body)?))
     }
 
     /// Whether it is an Allow, a Disallow or a delay.
