@@ -1,9 +1,9 @@
 -- Cutting a pattern from left to right, and what its pieces decide.
-use Rattle.std.proofs.Common.{◌≡◌, ◌≢◌, ◌↔◌, ◌==◌, ℕ, ◌+◌, ◌-◌, true}
-use Rattle.std.proofs.Common.{List, [], ◌∷◌, ◌++◌, All, length, take, drop, refl, sym, ap, subst, ◌∙◌}
+use Rattle.std.proofs.Common.{◌≡◌, ◌≢◌, ◌↔◌, ◌==◌, ℕ, ◌+◌, ◌-◌, ◌<◌, ◌≤◌, true}
+use Rattle.std.proofs.Common.{List, [], ◌∷◌, ◌++◌, All, get_or, length, take, drop, refl, sym, ap, subst, ◌∙◌}
 use Rattle.std.proofs.Common.{append_assoc, append-nil, take-append-drop, zero-add, length-append, arith}
 use Rattle.std.specs.List.{prefix_len}
-use Rattle.std.proofs.lemmas.List.{drop_at, take_at}
+use Rattle.std.proofs.lemmas.List.{drop_all, drop_at, drop_more, take_at}
 use Rattle.std.proofs.lemmas.List.Elements.{All-cons, All-nil}
 use Rattle.std.proofs.lemmas.List.Prefix.{end_rest, front_rest}
 use Rattle.memchr.specs.Find.{OccursAt}
@@ -30,20 +30,26 @@ module _ {p : List ℕ} {ends : Ends} {pieces : List Piece} {borders : List ℕ}
   abbrev first : List ℕ
   first = take ends.first_len p
 
-  -- where the first piece stands at the beginning, what is left decides
-  pub first_here : OccursAt t first 0 → Matches p t ↔ Matches are.rest (drop (length first) t)
-  first_here here =
-      let split = occurs_here t first 0 here ∙ ap (λ n. first ++ drop n t) (zero-add (length first)) in
+  -- where the text begins with the first piece, what is left decides
+  pub first_in_front : (behind : List ℕ) → t ≡ first ++ behind → Matches p t ↔ Matches are.rest behind
+  first_in_front behind split =
       let (to, from) = are.decides t in (
-        λ m. let (after, e, n) = to m in rw (front_rest t first after e) n,
-        λ n. from (drop (length first) t, split, n),
+        λ m. let (after, e, n) = to m in rw (sym (front_rest t first behind split) ∙ front_rest t first after e) n,
+        λ n. from (behind, split, n),
       )
 
   -- where it doesn't, nothing matches
+  pub first_absent : ((behind : List ℕ) → t ≢ first ++ behind) → ¬ Matches p t
+  first_absent absent m = let (after, e, n) = (are.decides t).0 m in absent after e
+
+  -- the same by places
+  pub first_here : OccursAt t first 0 → Matches p t ↔ Matches are.rest (drop (length first) t)
+  first_here here =
+      first_in_front (drop (length first) t)
+      (occurs_here t first 0 here ∙ ap (λ n. first ++ drop n t) (zero-add (length first)))
+
   pub first_missing : ¬ OccursAt t first 0 → ¬ Matches p t
-  first_missing missing m =
-      let (after, e, n) = (are.decides t).0 m in
-      missing (here_occurs t first after 0 (omega arith) e).0
+  first_missing missing = first_absent (λ after e. missing (here_occurs t first after 0 (omega arith) e).0)
 
 module _ {left piece rest : List ℕ} (is : IsLeft left piece rest) (t : List ℕ) where
   -- a piece that may stand anywhere is placed where it first stands
@@ -55,6 +61,20 @@ module _ {left piece rest : List ℕ} (is : IsLeft left piece rest) (t : List �
   -- where it stands nowhere, nothing matches
   pub left_missing : StandsNowhere piece t → ¬ Matches left t
   left_missing nowhere m = none_is_enough (Matches rest) piece t nowhere ((is.decides t).0 m)
+
+-- what the code reads past the pieces
+abbrev no_piece : Piece
+no_piece = record { span = record { start = 0; end = 0 }; table = 0 }
+
+module _ (p : List ℕ) (ending : Ending) (pieces : List Piece) (i : ℕ) (left : List ℕ)
+    (are : AreLeft p ending (drop i pieces) left) where
+  -- the piece at a place is the next
+  pub next_left : i < length pieces → AreLeft p ending (get_or pieces i no_piece ∷ drop (i + 1) pieces) left
+  next_left below = subst (λ (more : List Piece). AreLeft p ending more left) (drop_more pieces i no_piece below) are
+
+  -- past the last piece the ending is left
+  pub none_left : length pieces ≤ i → AreLeft p ending [] left
+  none_left past = subst (λ (more : List Piece). AreLeft p ending more left) (drop_all i pieces past) are
 
 -- ---- from a star on
 

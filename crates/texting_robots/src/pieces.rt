@@ -8,8 +8,11 @@ ghost use Rattle.texting_robots.specs.Computed.Stars.{IsBehindFirst, StandsNowhe
 ghost use Rattle.texting_robots.specs.Pattern.{IsOverlong, Matches, collapsed, star};
 ghost use Rattle.texting_robots.specs.View.{LooksAtMost};
 
+mod slices;
+
 use crate::view::View;
 use memchr::memchr2;
+pub(crate) use slices::behind_first;
 use std::alloc::AllocError;
 use std::marker::Model;
 

@@ -63,12 +63,7 @@ impl Robot {
     ///
     /// The limit counts the file's bytes as they came, those of a byte order mark too, and may cut a line anywhere: what
     /// stands before the cut is read as a line.
-    pub fn with_limit(
-        alloc: Global,
-        agent: &str,
-        txt: &[u8],
-        limit: usize,
-    ) -> Result<Self, Error>
+    pub fn with_limit(alloc: Global, agent: &str, txt: &[u8], limit: usize) -> Result<Self, Error>
         ensures robot { IfOk result (IsRobotOf agent.now (file_lines (take limit txt.now))) }
         ensures refused { IfErr result (IsMemoryOr (IsRefused agent.now (file_lines (take limit txt.now)))) }
         ensures without_memory { GivesNothing agent.now (file_lines (take limit txt.now)) → IsOk result }
@@ -124,7 +119,7 @@ impl Robot {
     pub fn allowed_prepared(&self, text: &str) -> bool
         ensures { IsVerdict (unplaced self.now.rules) text.now result }
     {
-        self.allowed_view(&mut View::new(text))
+        self.rules.allow(text.as_bytes())
     }
 
     /// Whether the crawler may fetch what a view's prepared text stands for. It takes no memory, and looks at bytes of the
@@ -177,7 +172,10 @@ mod tests {
     fn rules_show_as_patterns(rt: HostRuntime) -> Result<(), Fail> {
         let robot = Robot::new(rt.alloc(), "BobBot", b"Allow: /\nDisallow: /x***y/")?;
         let shown = format!(in rt.alloc(); "{:?}", robot.rules)?;
-        assert_eq!(rt; shown.as_str(), "[(\"/x***y/\", false, 2), (\"/\", true, 1)]");
+        assert_eq!(rt;
+            shown.as_str(),
+            "[(\"/x***y/\", false, 2), (\"/\", true, 1)]"
+        );
         Ok(())
     }
 }

@@ -19,8 +19,14 @@ pub record IsEntry (text : List ℕ) (pieces : List Piece) (borders : List ℕ) 
   pub is_cut : ArePieces (part_of text entry.pattern) entry.ends (part_of pieces entry.pieces)
       (part_of borders entry.borders)
 
+abbrev pub IsEntryOf : Gathered → Entry → Type 0
+IsEntryOf all entry = IsEntry (string_bytes all.text) all.pieces.items all.borders.items entry
+
 abbrev pub AreEntries : Gathered → Type 0
-AreEntries all = All (IsEntry (string_bytes all.text) all.pieces.items all.borders.items) all.entries.items
+AreEntries all = All (IsEntryOf all) all.entries.items
+
+abbrev pub pattern_of : Gathered → Entry → List ℕ
+pattern_of all entry = part_of (string_bytes all.text) entry.pattern
 
 -- the pattern, whether it allows, and its line
 abbrev pub placed_at : List ℕ → Entry → PlacedRule
@@ -69,7 +75,7 @@ no_entry =
 -- the rule at this place matches the text
 abbrev pub MatchesAt : Gathered → ℕ → List ℕ → Type 0
 MatchesAt all at text =
-    Matches (part_of (string_bytes all.text) (slice_index_or all.entries.items at no_entry).pattern) text
+    Matches (pattern_of all (slice_index_or all.entries.items at no_entry)) text
 
 abbrev pub NoneMatches : Gathered → List ℕ → Type 0
 NoneMatches all text = (k : ℕ) → k < length all.entries.items → ¬ MatchesAt all k text
