@@ -18,6 +18,7 @@ pub mod EscapeLemmas
 pub mod PatternLemmas
 pub mod StarLemmas
 pub mod PieceLemmas
+pub mod NeedLemmas
 pub mod PlacingLemmas
 pub mod BorderLemmas
 pub mod CollapseLemmas

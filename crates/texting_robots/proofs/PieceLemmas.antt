@@ -63,7 +63,7 @@ module _ {left piece rest : List ℕ} (is : IsLeft left piece rest) (t : List �
   left_missing nowhere m = none_is_enough (Matches rest) piece t nowhere ((is.decides t).0 m)
 
 -- what the code reads past the pieces
-abbrev no_piece : Piece
+abbrev pub no_piece : Piece
 no_piece = record { span = record { start = 0; end = 0 }; table = 0 }
 
 module _ (p : List ℕ) (ending : Ending) (pieces : List Piece) (i : ℕ) (left : List ℕ)

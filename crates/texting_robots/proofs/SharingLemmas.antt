@@ -1,11 +1,12 @@
 -- What stands in shared vectors stays there when more is added.
-use Rattle.std.proofs.Common.{◌≡◌, ℕ, ◌-◌, List, [], ◌∷◌, ◌++◌, All, length, drop, map, take, refl, sym, ap, ◌∙◌, arith}
+use Rattle.std.proofs.Common.{◌≡◌, ℕ, ◌-◌, List, [], ◌∷◌, ◌++◌, All, length, drop, map, slice_range, take, refl, sym, ap, ◌∙◌, arith}
 use Rattle.std.proofs.lemmas.List.{drop-append-le, drop_at, length-append, length-drop, map_push, take-append-le, take_all}
 use Rattle.std.proofs.lemmas.List.Elements.{All-head, All-push, All-tail, All-weaker}
 use Rattle.texting_robots.specs.declared.pieces.Piece.{Piece}
 use Rattle.texting_robots.specs.declared.pieces.Span.{Span}
 use Rattle.texting_robots.specs.declared.rules.Entry.{Entry}
 use Rattle.texting_robots.specs.Computed.Entries.{IsEntry, placed_at}
+use Rattle.texting_robots.specs.Computed.Needs.{AreNeeds}
 use Rattle.texting_robots.specs.Computed.Pieces.{ArePieces, IsSpan, part_of}
 
 -- the range of what was added
@@ -43,6 +44,12 @@ module _ {X : Type 0} (xs more : List X) (span : Span) where
       let end = h.end in
       record { ordered = omega arith; within = omega arith }
 
+-- what stands behind the old elements is what was added
+pub behind_old : {X : Type 0} (xs more : List X) (start : ℕ) → start ≡ length xs
+    → slice_range (xs ++ more) start (length (xs ++ more)) ≡ more
+behind_old xs more start is =
+    part_new xs more (record { start = start; end = length (xs ++ more) }) (record { start = is; end = refl })
+
 module _ (text more_text : List ℕ) (pieces more_pieces : List Piece) (borders more_borders : List ℕ) where
   abbrev IsOld : Entry → Type 0
   IsOld = IsEntry text pieces borders
@@ -60,12 +67,14 @@ module _ (text more_text : List ℕ) (pieces more_pieces : List Piece) (borders 
         searched = span_kept pieces more_pieces entry.pieces h.searched;
         tables = span_kept borders more_borders entry.borders h.tables;
         is_cut = rw (one, two, three) h.is_cut;
+        needed = rw one h.needed;
       }
 
   module _ (entry : Entry) (pattern : IsNew text (text ++ more_text) entry.pattern)
       (searched : IsNew pieces (pieces ++ more_pieces) entry.pieces)
       (tables : IsNew borders (borders ++ more_borders) entry.borders)
-      (is_cut : ArePieces more_text entry.ends more_pieces more_borders) where
+      (is_cut : ArePieces more_text entry.ends more_pieces more_borders)
+      (needed : AreNeeds more_text entry.needs) where
     entry_new : IsNow entry
     entry_new =
         let one = part_new text more_text entry.pattern pattern in
@@ -76,6 +85,7 @@ module _ (text more_text : List ℕ) (pieces more_pieces : List Piece) (borders 
           searched = span_new pieces more_pieces entry.pieces searched;
           tables = span_new borders more_borders entry.borders tables;
           is_cut = rw (one, two, three) is_cut;
+          needed = rw one needed;
         }
 
     pub entries_pushed : (entries : List Entry) → All IsOld entries → All IsNow (entries ++ entry ∷ [])

@@ -10,3 +10,4 @@ pub mod Border
 pub mod Stars
 pub mod Pieces
 pub mod Entries
+pub mod Needs

@@ -13,6 +13,7 @@ mod escape;
 mod groups;
 pub mod laws;
 pub mod minregex;
+mod needs;
 pub mod parser;
 mod pieces;
 mod reading;

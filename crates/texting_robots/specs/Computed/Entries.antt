@@ -7,17 +7,19 @@ use Rattle.texting_robots.specs.declared.pieces.Piece.{Piece}
 use Rattle.texting_robots.specs.declared.pieces.Ending.TheVariants.{Open}
 use Rattle.texting_robots.specs.declared.rules.Entry.{Entry}
 use Rattle.texting_robots.specs.declared.rules.Gathered.{Gathered}
+use Rattle.texting_robots.specs.Computed.Needs.{AreNeeds}
 use Rattle.texting_robots.specs.Computed.Pieces.{ArePieces, IsSpan, part_of}
 use Rattle.texting_robots.specs.Pattern.{Matches}
 use Rattle.texting_robots.specs.Rules.{PlacedRule}
 
--- the ranges hold a pattern, its pieces and their tables
+-- the ranges hold a pattern, its pieces and their tables, and what it matches meets the needs
 pub record IsEntry (text : List ℕ) (pieces : List Piece) (borders : List ℕ) (entry : Entry) : Type 0 where
   pub pattern : IsSpan text entry.pattern
   pub searched : IsSpan pieces entry.pieces
   pub tables : IsSpan borders entry.borders
   pub is_cut : ArePieces (part_of text entry.pattern) entry.ends (part_of pieces entry.pieces)
       (part_of borders entry.borders)
+  pub needed : AreNeeds (part_of text entry.pattern) entry.needs
 
 abbrev pub IsEntryOf : Gathered → Entry → Type 0
 IsEntryOf all entry = IsEntry (string_bytes all.text) all.pieces.items all.borders.items entry
@@ -64,6 +66,7 @@ abbrev pub no_entry : Entry
 no_entry =
     let none : Span = record { start = 0; end = 0 } in
     record {
+      needs = record { head = record { bytes = 0; mask = 0 }; pairs = record { bits = 0 } };
       pattern = none;
       pieces = none;
       borders = none;

@@ -1,10 +1,14 @@
 //! Matching on a slice: no look is counted, and no table is read.
 ghost use Rattle.std.specs.Prelude.{◌↔◌, IsTrue, MatchOption};
+ghost use Rattle.texting_robots.specs.Computed.Needs.{AreNeeds};
 ghost use Rattle.texting_robots.specs.Computed.Pieces.{EndsAs, IsEnding};
 ghost use Rattle.texting_robots.specs.Computed.Stars.{IsBehindFirst, StandsNowhere};
 ghost use Rattle.texting_robots.specs.Pattern.{Matches};
 
 use super::{Ending, Pattern};
+use crate::needs::Needs;
+use crate::needs::head::Head;
+use crate::needs::pairs::Pairs;
 use memchr::memmem;
 
 /// What follows the piece where it first stands in the text.
@@ -46,5 +50,17 @@ impl<'a> Pattern<'a> {
             rest = behind;
         }
         is_ended(rest, self.bytes, self.ends.ending)
+    }
+
+    /// What a text needs so that the pattern can match it.
+    pub(crate) fn needs(&self) -> Needs
+        ensures { AreNeeds self.now result }
+    {
+        let head = Head::of(&self.bytes[..self.ends.first_len]);
+        let mut pairs = Pairs::none();
+        for piece in self.pieces {
+            pairs = pairs.and(Pairs::of(&self.bytes[piece.span.start..piece.span.end]));
+        }
+        Needs { head, pairs }
     }
 }
