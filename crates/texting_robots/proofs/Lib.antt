@@ -15,6 +15,7 @@ pub mod CapturedLemmas
 pub mod RulesLemmas
 pub mod LawLemmas
 pub mod EscapeLemmas
+pub mod SlashLemmas
 pub mod PatternLemmas
 pub mod StarLemmas
 pub mod PieceLemmas

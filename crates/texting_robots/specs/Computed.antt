@@ -11,3 +11,4 @@ pub mod Stars
 pub mod Pieces
 pub mod Entries
 pub mod Needs
+pub mod Prepared
