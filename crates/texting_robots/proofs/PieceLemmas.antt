@@ -157,10 +157,8 @@ pub record IsCutUpto (pattern : List ℕ) (first_len : ℕ) (old_pieces pieces :
     (old_borders borders left : List ℕ) : Type 0 where
   pub left_in : IsSuffix left pattern
   pub at_mark : IsAtMark left
-  pub tables : List ℕ
-  pub put : borders ≡ old_borders ++ tables
   pub completes : (more : List Piece) (table : List ℕ) (ending : Ending)
-      → IsRest pattern (tables ++ table) left more ending
+      → IsRest pattern (borders ++ table) left more ending
       → AddsPieces pattern (record { first_len = first_len; ending = ending }) old_pieces (pieces ++ more)
       old_borders (borders ++ table)
 
@@ -174,8 +172,6 @@ cut_first p piece left pieces borders cut =
     record {
       left_in = (piece, e);
       at_mark = cut.at_mark;
-      tables = [];
-      put = sym (append-nil borders);
       completes = λ more table ending rest. record {
         pieces = more;
         tables = table;
@@ -202,8 +198,8 @@ module _ {p : List ℕ} {first_len : ℕ} {old_pieces pieces : List Piece} {old_
   done : (ending : Ending) → IsEnding p ending → ((t : List ℕ) → Matches left t ↔ EndsAs p ending t)
       → AddsWith ending
   done ending is_ending decides =
-      let none = All-nil (IsPiece p (upto.tables ++ [])) in
-      let rest : IsRest p (upto.tables ++ []) left [] ending =
+      let none = All-nil (IsPiece p (borders ++ [])) in
+      let rest : IsRest p (borders ++ []) left [] ending =
       record { known = none; is_ending = is_ending; in_order = decides } in
       rw (← append-nil pieces, ← append-nil borders) (upto.completes [] [] ending rest)
 
@@ -235,7 +231,7 @@ module _ {p : List ℕ} {first_len : ℕ} {old_pieces pieces : List Piece} {old_
     cut_last closes = done (Last span) is_span.0 (λ t. rw is_span.1 (star_is_last is closes t))
 
     -- the piece and its table were added
-    pub cut_more : (at : ℕ) (table : List ℕ) → at ≡ length upto.tables → ¬ Closes rest → IsTable piece table
+    pub cut_more : (at : ℕ) (table : List ℕ) → at ≡ length borders → ¬ Closes rest → IsTable piece table
         → IsCutUpto p first_len old_pieces (pieces ++ record { span = span; table = at } ∷ [])
         old_borders (borders ++ table) rest
     cut_more at table there other is_table =
@@ -244,12 +240,10 @@ module _ {p : List ℕ} {first_len : ℕ} {old_pieces pieces : List Piece} {old_
         record {
           left_in = suffix_trans (piece, is.cut.parts) next_in_p;
           at_mark = is.cut.at_mark;
-          tables = upto.tables ++ table;
-          put = ap (λ x. x ++ table) upto.put ∙ append_assoc old_borders upto.tables table;
           completes = λ more tables ending h.
-              let all = upto.tables ++ (table ++ tables) in
+              let all = borders ++ (table ++ tables) in
               let put : IsPiece p all added =
-              rw there (piece_put p upto.tables table tables span within (rw bytes is_table)) in
+              rw there (piece_put p borders table tables span within (rw bytes is_table)) in
               let known : All (IsPiece p all) more = rw append_assoc at h.known in
               let is_left : IsLeft left (part_of p span) rest = rw bytes (star_is_left is other) in
               let whole : IsRest p all left (added ∷ more) ending = record {

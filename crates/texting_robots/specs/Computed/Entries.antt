@@ -12,13 +12,11 @@ use Rattle.texting_robots.specs.Computed.Pieces.{ArePieces, IsSpan, part_of}
 use Rattle.texting_robots.specs.Pattern.{Matches}
 use Rattle.texting_robots.specs.Rules.{PlacedRule}
 
--- the ranges hold a pattern, its pieces and their tables, and what it matches meets the needs
+-- the ranges hold a pattern and its pieces, whose tables are among all, and what it matches meets the needs
 pub record IsEntry (text : List ℕ) (pieces : List Piece) (borders : List ℕ) (entry : Entry) : Type 0 where
   pub pattern : IsSpan text entry.pattern
   pub searched : IsSpan pieces entry.pieces
-  pub tables : IsSpan borders entry.borders
-  pub is_cut : ArePieces (part_of text entry.pattern) entry.ends (part_of pieces entry.pieces)
-      (part_of borders entry.borders)
+  pub is_cut : ArePieces (part_of text entry.pattern) entry.ends (part_of pieces entry.pieces) borders
   pub needed : AreNeeds (part_of text entry.pattern) entry.needs
 
 abbrev pub IsEntryOf : Gathered → Entry → Type 0
@@ -69,7 +67,6 @@ no_entry =
       needs = record { head = record { bytes = 0; mask = 0 }; pairs = record { bits = 0 } };
       pattern = none;
       pieces = none;
-      borders = none;
       ends = record { first_len = 0; ending = Open };
       is_allow = false;
       line = 0;

@@ -1,5 +1,5 @@
 //! The first bytes of a text, compared all at once.
-ghost use Rattle.std.specs.Prelude.{◌≡◌, ◌↔◌, IsTrue};
+ghost use Rattle.std.specs.Prelude.{◌≡◌, ◌↔◌, IsTrue, slice_index_or};
 ghost use Rattle.texting_robots.specs.Computed.Needs.{Fits, IsHeadOf, front_of, ones_below};
 
 /// The first bytes of a piece, up to eight, and ones where they stand.
@@ -36,9 +36,15 @@ pub(crate) fn front(text: &[u8]) -> u64
     if let Some(eight) = text.first_chunk::<8>() {
         return u64::from_le_bytes(*eight);
     }
-    let mut eight = [0; 8];
-    eight[..text.len()].copy_from_slice(text);
-    u64::from_le_bytes(eight)
+    let byte = |at| byte_or_zero(text, at);
+    u64::from_le_bytes([byte(0), byte(1), byte(2), byte(3), byte(4), byte(5), byte(6), 0])
+}
+
+/// The byte at a place of the text, or zero past its end.
+fn byte_or_zero(text: &[u8], at: usize) -> u8
+    ensures { result ≡ slice_index_or text.now at 0 }
+{
+    text.get(at).copied().unwrap_or(0)
 }
 
 /// Ones in the first bytes of eight.
