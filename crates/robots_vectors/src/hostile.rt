@@ -3,7 +3,6 @@ use crate::helpers::{BOB, check_prepared, check_url, forms_of, long_bytes, long_
 use crate::lines::check_lines;
 use std::process::Abort;
 use std::test::Fail;
-use texting_robots::Robot;
 use texting_robots::minregex::MinRegex;
 use texting_robots::parser::{Line, read_delay, robots_txt_parse};
 use texting_robots::view::View;

@@ -13,6 +13,8 @@ mod hostile;
 #[cfg(test)]
 mod lines;
 #[cfg(test)]
+mod parsed;
+#[cfg(test)]
 mod patterns;
 #[cfg(test)]
 mod printed;
