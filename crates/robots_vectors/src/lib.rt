@@ -19,6 +19,8 @@ mod limits;
 #[cfg(test)]
 mod lines;
 #[cfg(test)]
+mod parsed;
+#[cfg(test)]
 mod patterns;
 #[cfg(test)]
 mod printed;

@@ -14,9 +14,11 @@ pub mod CapturedLemmas
 pub mod RulesLemmas
 pub mod LawLemmas
 pub mod EscapeLemmas
+pub mod SlashLemmas
 pub mod PatternLemmas
 pub mod StarLemmas
 pub mod PieceLemmas
+pub mod NeedLemmas
 pub mod PlacingLemmas
 pub mod BorderLemmas
 pub mod CollapseLemmas

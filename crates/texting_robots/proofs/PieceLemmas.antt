@@ -1,9 +1,9 @@
 -- Cutting a pattern from left to right, and what its pieces decide.
-use Rattle.std.proofs.Common.{◌≡◌, ◌≢◌, ◌↔◌, ◌==◌, ℕ, ◌+◌, ◌-◌, true}
-use Rattle.std.proofs.Common.{List, [], ◌∷◌, ◌++◌, All, length, take, drop, refl, sym, ap, subst, ◌∙◌}
+use Rattle.std.proofs.Common.{◌≡◌, ◌≢◌, ◌↔◌, ◌==◌, ℕ, ◌+◌, ◌-◌, ◌<◌, ◌≤◌, true}
+use Rattle.std.proofs.Common.{List, [], ◌∷◌, ◌++◌, All, get_or, length, take, drop, refl, sym, ap, subst, ◌∙◌}
 use Rattle.std.proofs.Common.{append_assoc, append-nil, take-append-drop, zero-add, length-append, arith}
 use Rattle.std.specs.List.{prefix_len}
-use Rattle.std.proofs.lemmas.List.{drop_at, take_at}
+use Rattle.std.proofs.lemmas.List.{drop_all, drop_at, drop_more, take_at}
 use Rattle.std.proofs.lemmas.List.Elements.{All-cons, All-nil}
 use Rattle.std.proofs.lemmas.List.Prefix.{end_rest, front_rest}
 use Rattle.memchr.specs.Find.{OccursAt}
@@ -30,20 +30,26 @@ module _ {p : List ℕ} {ends : Ends} {pieces : List Piece} {borders : List ℕ}
   abbrev first : List ℕ
   first = take ends.first_len p
 
-  -- where the first piece stands at the beginning, what is left decides
-  pub first_here : OccursAt t first 0 → Matches p t ↔ Matches are.rest (drop (length first) t)
-  first_here here =
-      let split = occurs_here t first 0 here ∙ ap (λ n. first ++ drop n t) (zero-add (length first)) in
+  -- where the text begins with the first piece, what is left decides
+  pub first_in_front : (behind : List ℕ) → t ≡ first ++ behind → Matches p t ↔ Matches are.rest behind
+  first_in_front behind split =
       let (to, from) = are.decides t in (
-        λ m. let (after, e, n) = to m in rw (front_rest t first after e) n,
-        λ n. from (drop (length first) t, split, n),
+        λ m. let (after, e, n) = to m in rw (sym (front_rest t first behind split) ∙ front_rest t first after e) n,
+        λ n. from (behind, split, n),
       )
 
   -- where it doesn't, nothing matches
+  pub first_absent : ((behind : List ℕ) → t ≢ first ++ behind) → ¬ Matches p t
+  first_absent absent m = let (after, e, n) = (are.decides t).0 m in absent after e
+
+  -- the same by places
+  pub first_here : OccursAt t first 0 → Matches p t ↔ Matches are.rest (drop (length first) t)
+  first_here here =
+      first_in_front (drop (length first) t)
+      (occurs_here t first 0 here ∙ ap (λ n. first ++ drop n t) (zero-add (length first)))
+
   pub first_missing : ¬ OccursAt t first 0 → ¬ Matches p t
-  first_missing missing m =
-      let (after, e, n) = (are.decides t).0 m in
-      missing (here_occurs t first after 0 (omega arith) e).0
+  first_missing missing = first_absent (λ after e. missing (here_occurs t first after 0 (omega arith) e).0)
 
 module _ {left piece rest : List ℕ} (is : IsLeft left piece rest) (t : List ℕ) where
   -- a piece that may stand anywhere is placed where it first stands
@@ -55,6 +61,20 @@ module _ {left piece rest : List ℕ} (is : IsLeft left piece rest) (t : List �
   -- where it stands nowhere, nothing matches
   pub left_missing : StandsNowhere piece t → ¬ Matches left t
   left_missing nowhere m = none_is_enough (Matches rest) piece t nowhere ((is.decides t).0 m)
+
+-- what the code reads past the pieces
+abbrev pub no_piece : Piece
+no_piece = record { span = record { start = 0; end = 0 }; table = 0 }
+
+module _ (p : List ℕ) (ending : Ending) (pieces : List Piece) (i : ℕ) (left : List ℕ)
+    (are : AreLeft p ending (drop i pieces) left) where
+  -- the piece at a place is the next
+  pub next_left : i < length pieces → AreLeft p ending (get_or pieces i no_piece ∷ drop (i + 1) pieces) left
+  next_left below = subst (λ (more : List Piece). AreLeft p ending more left) (drop_more pieces i no_piece below) are
+
+  -- past the last piece the ending is left
+  pub none_left : length pieces ≤ i → AreLeft p ending [] left
+  none_left past = subst (λ (more : List Piece). AreLeft p ending more left) (drop_all i pieces past) are
 
 -- ---- from a star on
 
@@ -137,10 +157,8 @@ pub record IsCutUpto (pattern : List ℕ) (first_len : ℕ) (old_pieces pieces :
     (old_borders borders left : List ℕ) : Type 0 where
   pub left_in : IsSuffix left pattern
   pub at_mark : IsAtMark left
-  pub tables : List ℕ
-  pub put : borders ≡ old_borders ++ tables
   pub completes : (more : List Piece) (table : List ℕ) (ending : Ending)
-      → IsRest pattern (tables ++ table) left more ending
+      → IsRest pattern (borders ++ table) left more ending
       → AddsPieces pattern (record { first_len = first_len; ending = ending }) old_pieces (pieces ++ more)
       old_borders (borders ++ table)
 
@@ -154,8 +172,6 @@ cut_first p piece left pieces borders cut =
     record {
       left_in = (piece, e);
       at_mark = cut.at_mark;
-      tables = [];
-      put = sym (append-nil borders);
       completes = λ more table ending rest. record {
         pieces = more;
         tables = table;
@@ -182,8 +198,8 @@ module _ {p : List ℕ} {first_len : ℕ} {old_pieces pieces : List Piece} {old_
   done : (ending : Ending) → IsEnding p ending → ((t : List ℕ) → Matches left t ↔ EndsAs p ending t)
       → AddsWith ending
   done ending is_ending decides =
-      let none = All-nil (IsPiece p (upto.tables ++ [])) in
-      let rest : IsRest p (upto.tables ++ []) left [] ending =
+      let none = All-nil (IsPiece p (borders ++ [])) in
+      let rest : IsRest p (borders ++ []) left [] ending =
       record { known = none; is_ending = is_ending; in_order = decides } in
       rw (← append-nil pieces, ← append-nil borders) (upto.completes [] [] ending rest)
 
@@ -215,7 +231,7 @@ module _ {p : List ℕ} {first_len : ℕ} {old_pieces pieces : List Piece} {old_
     cut_last closes = done (Last span) is_span.0 (λ t. rw is_span.1 (star_is_last is closes t))
 
     -- the piece and its table were added
-    pub cut_more : (at : ℕ) (table : List ℕ) → at ≡ length upto.tables → ¬ Closes rest → IsTable piece table
+    pub cut_more : (at : ℕ) (table : List ℕ) → at ≡ length borders → ¬ Closes rest → IsTable piece table
         → IsCutUpto p first_len old_pieces (pieces ++ record { span = span; table = at } ∷ [])
         old_borders (borders ++ table) rest
     cut_more at table there other is_table =
@@ -224,12 +240,10 @@ module _ {p : List ℕ} {first_len : ℕ} {old_pieces pieces : List Piece} {old_
         record {
           left_in = suffix_trans (piece, is.cut.parts) next_in_p;
           at_mark = is.cut.at_mark;
-          tables = upto.tables ++ table;
-          put = ap (λ x. x ++ table) upto.put ∙ append_assoc old_borders upto.tables table;
           completes = λ more tables ending h.
-              let all = upto.tables ++ (table ++ tables) in
+              let all = borders ++ (table ++ tables) in
               let put : IsPiece p all added =
-              rw there (piece_put p upto.tables table tables span within (rw bytes is_table)) in
+              rw there (piece_put p borders table tables span within (rw bytes is_table)) in
               let known : All (IsPiece p all) more = rw append_assoc at h.known in
               let is_left : IsLeft left (part_of p span) rest = rw bytes (star_is_left is other) in
               let whole : IsRest p all left (added ∷ more) ending = record {

@@ -1,12 +1,14 @@
 -- What stands in shared vectors stays there when more is added.
-use Rattle.std.proofs.Common.{◌≡◌, ℕ, ◌-◌, List, [], ◌∷◌, ◌++◌, All, length, drop, map, take, refl, sym, ap, ◌∙◌, arith}
+use Rattle.std.proofs.Common.{◌≡◌, ℕ, ◌+◌, ◌-◌, List, [], ◌∷◌, ◌++◌, All, length, drop, map, slice_range, take, refl, sym, ap, ◌∙◌, arith}
 use Rattle.std.proofs.lemmas.List.{drop-append-le, drop_at, length-append, length-drop, map_push, take-append-le, take_all}
 use Rattle.std.proofs.lemmas.List.Elements.{All-head, All-push, All-tail, All-weaker}
+use Rattle.texting_robots.specs.declared.pieces.Ends.{Ends}
 use Rattle.texting_robots.specs.declared.pieces.Piece.{Piece}
 use Rattle.texting_robots.specs.declared.pieces.Span.{Span}
 use Rattle.texting_robots.specs.declared.rules.Entry.{Entry}
 use Rattle.texting_robots.specs.Computed.Entries.{IsEntry, placed_at}
-use Rattle.texting_robots.specs.Computed.Pieces.{ArePieces, IsSpan, part_of}
+use Rattle.texting_robots.specs.Computed.Needs.{AreNeeds}
+use Rattle.texting_robots.specs.Computed.Pieces.{ArePieces, IsPiece, IsSpan, part_of}
 
 -- the range of what was added
 pub record IsNew {X : Type 0} (old new : List X) (span : Span) : Type 0 where
@@ -43,6 +45,32 @@ module _ {X : Type 0} (xs more : List X) (span : Span) where
       let end = h.end in
       record { ordered = omega arith; within = omega arith }
 
+-- what stands behind the old elements is what was added
+pub behind_old : {X : Type 0} (xs more : List X) (start : ℕ) → start ≡ length xs
+    → slice_range (xs ++ more) start (length (xs ++ more)) ≡ more
+behind_old xs more start is =
+    part_new xs more (record { start = start; end = length (xs ++ more) }) (record { start = is; end = refl })
+
+module _ (p : List ℕ) (ends : Ends) (pieces : List Piece) (borders more : List ℕ) where
+  piece_kept : (piece : Piece) → IsPiece p borders piece → IsPiece p (borders ++ more) piece
+  piece_kept piece is =
+      let len = length (part_of p piece.span) in
+      let table : Span = record { start = piece.table; end = piece.table + len } in
+      let fits = is.fits in
+      let stays = part_kept borders more table (record { ordered = omega arith; within = fits }) in
+      let sizes = length-append borders more in
+      record { span = is.span; fits = omega arith; table = rw stays is.table }
+
+  tables_kept : ArePieces p ends pieces borders → ArePieces p ends pieces (borders ++ more)
+  tables_kept are = record {
+    first = are.first;
+    known = All-weaker (IsPiece p borders) (IsPiece p (borders ++ more)) piece_kept pieces are.known;
+    ending = are.ending;
+    rest = are.rest;
+    decides = are.decides;
+    left = are.left;
+  }
+
 module _ (text more_text : List ℕ) (pieces more_pieces : List Piece) (borders more_borders : List ℕ) where
   abbrev IsOld : Entry → Type 0
   IsOld = IsEntry text pieces borders
@@ -54,28 +82,26 @@ module _ (text more_text : List ℕ) (pieces more_pieces : List Piece) (borders 
   entry_kept entry h =
       let one = part_kept text more_text entry.pattern h.pattern in
       let two = part_kept pieces more_pieces entry.pieces h.searched in
-      let three = part_kept borders more_borders entry.borders h.tables in
       record {
         pattern = span_kept text more_text entry.pattern h.pattern;
         searched = span_kept pieces more_pieces entry.pieces h.searched;
-        tables = span_kept borders more_borders entry.borders h.tables;
-        is_cut = rw (one, two, three) h.is_cut;
+        is_cut = rw (one, two) (tables_kept _ _ _ borders more_borders h.is_cut);
+        needed = rw one h.needed;
       }
 
   module _ (entry : Entry) (pattern : IsNew text (text ++ more_text) entry.pattern)
       (searched : IsNew pieces (pieces ++ more_pieces) entry.pieces)
-      (tables : IsNew borders (borders ++ more_borders) entry.borders)
-      (is_cut : ArePieces more_text entry.ends more_pieces more_borders) where
+      (is_cut : ArePieces more_text entry.ends more_pieces (borders ++ more_borders))
+      (needed : AreNeeds more_text entry.needs) where
     entry_new : IsNow entry
     entry_new =
         let one = part_new text more_text entry.pattern pattern in
         let two = part_new pieces more_pieces entry.pieces searched in
-        let three = part_new borders more_borders entry.borders tables in
         record {
           pattern = span_new text more_text entry.pattern pattern;
           searched = span_new pieces more_pieces entry.pieces searched;
-          tables = span_new borders more_borders entry.borders tables;
-          is_cut = rw (one, two, three) is_cut;
+          is_cut = rw (one, two) is_cut;
+          needed = rw one needed;
         }
 
     pub entries_pushed : (entries : List Entry) → All IsOld entries → All IsNow (entries ++ entry ∷ [])

@@ -9,3 +9,5 @@ pub mod Border
 pub mod Stars
 pub mod Pieces
 pub mod Entries
+pub mod Needs
+pub mod Prepared

@@ -30,8 +30,11 @@ fn text_of(alloc: Global, scheme: &str, host: &str, port: Option<u16>) -> Result
     Ok(text)
 }
 
-/// The address for a URL that was parsed.
-fn address_of_url(alloc: Global, url: &Url) -> Result<String, ParseError>
+/// The address of the robots.txt file of the site that a parsed URL is on.
+///
+/// A URL that can't be a base is refused with `SetHostOnCannotBeABaseUrl`, and one that isn't `http` or `https`, or has no
+/// host, with `EmptyHost`. Want of memory is `OutOfMemory`.
+pub fn robots_url_of(alloc: Global, url: &Url) -> Result<String, ParseError>
     ensures { GivesBy string_bytes result (robots_address_of url.now) }
 {
     if url.cannot_be_a_base() {
@@ -55,5 +58,5 @@ pub fn get_robots_url(alloc: Global, url: &str) -> Result<String, ParseError>
     ensures { GivesBy string_bytes result (robots_address url.now) }
 {
     let url = Url::parse(alloc, url)?;
-    address_of_url(alloc, &url)
+    robots_url_of(alloc, &url)
 }

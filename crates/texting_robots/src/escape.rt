@@ -1,20 +1,23 @@
 //! The escape.
 ghost use Rattle.std.specs.Prelude.{◌≡◌, ◌++◌, OnOk, IfOk, string_bytes};
+ghost use Rattle.std.specs.Cow.{cow_str_bytes};
 ghost use Rattle.texting_robots.specs.Escape.{escaped};
 
 use percent_encoding::{AsciiSet, CONTROLS, ascii_set, utf8_percent_encode};
 use std::alloc::{AllocError, Global};
+use std::borrow::CowStr;
 
 /// The ASCII bytes that are escaped.
 const ESCAPED: AsciiSet = ascii_set!(CONTROLS.add(b' ').add(b'"').add(b'<').add(b'>').add(b'`'));
 
-/// The text with each byte of the set and each byte past ASCII escaped.
-pub(crate) fn escaped(alloc: Global, text: &str) -> Result<String, AllocError>
-    ensures { IfOk result (λ s. string_bytes s ≡ escaped text.now) }
+/// The text with each byte of the set and each byte past ASCII escaped. It is lent where there is none.
+pub(crate) fn escaped<'a>(
+    alloc: Global,
+    text: &'a str,
+) -> Result<CowStr<'a, Global>, AllocError>
+    ensures { IfOk result (λ s. cow_str_bytes s ≡ escaped text.now) }
 {
-    let mut out = String::new(alloc);
-    push_escaped(&mut out, text)?;
-    Ok(out)
+    utf8_percent_encode(text, ESCAPED).into_cow(alloc)
 }
 
 /// Adds the text with each byte of the set and each byte past ASCII escaped.

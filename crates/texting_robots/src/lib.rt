@@ -13,13 +13,15 @@ mod escape;
 mod groups;
 pub mod laws;
 pub mod minregex;
+mod needs;
 pub mod parser;
 mod pieces;
+mod prepared;
 mod reading;
 pub mod robot;
 mod rules;
 pub mod view;
 
-pub use address::get_robots_url;
+pub use address::{get_robots_url, robots_url_of};
 pub use error::Error;
 pub use robot::{Decision, Robot};

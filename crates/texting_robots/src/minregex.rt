@@ -12,9 +12,9 @@ ghost use Rattle.texting_robots.specs.Pattern.{IsOverlong, Matches, MatchesStars
 ghost use Rattle.texting_robots.specs.View.{LooksAtMost};
 
 use crate::error::Error;
-use crate::pieces::{Ends, Pattern, Piece, STAR, is_overlong, push_pieces};
+use crate::pieces::{Ends, Pattern, Piece, STAR, behind_first, is_overlong, push_pieces};
 use crate::view::View;
-use memchr::{memchr, memmem};
+use memchr::memchr;
 use std::alloc::{AllocError, Global};
 use std::cmp::Ordering;
 use std::fmt::{self, Debug, Formatter};
@@ -107,7 +107,7 @@ impl MinRegex {
     pub fn is_match(&self, text: &str) -> bool
         ensures { IsTrue result ↔ Matches self.now text.now }
     {
-        self.matches_view(&mut View::new(text))
+        self.as_pattern().matches_text(text.as_bytes())
     }
 
     /// Whether the pattern handed in matches the text, with `$` as an ordinary byte. The object plays no part. It takes no
@@ -224,14 +224,4 @@ fn cut_at_star(pattern: &[u8]) -> (&[u8], Option<&[u8]>)
         Some(at) => (&pattern[..at], Some(&pattern[at + 1..])),
         None => (pattern, None),
     }
-}
-
-/// What follows the piece where it first stands in the text.
-fn behind_first<'a>(text: &'a [u8], piece: &[u8]) -> Option<&'a [u8]>
-    ensures { MatchOption result (StandsNowhere piece.now text.now)
-        (λ rest. IsBehindFirst piece.now text.now rest.now) }
-{
-    let at = memmem::find(text, piece)?;
-    let (_, rest) = text.split_at(at + piece.len());
-    Some(rest)
 }

@@ -8,8 +8,11 @@ ghost use Rattle.texting_robots.specs.Computed.Stars.{IsBehindFirst, StandsNowhe
 ghost use Rattle.texting_robots.specs.Pattern.{IsOverlong, Matches, collapsed, star};
 ghost use Rattle.texting_robots.specs.View.{LooksAtMost};
 
+mod slices;
+
 use crate::view::View;
 use memchr::memchr2;
+pub(crate) use slices::behind_first;
 use std::alloc::AllocError;
 use std::marker::Model;
 
@@ -38,7 +41,7 @@ impl Span {
     }
 }
 
-/// A piece that may stand anywhere behind the one before, and where its table begins.
+/// A piece that may stand anywhere behind the one before, and where its table begins among the tables.
 #[derive(Clone, Copy, Debug)]
 pub(crate) struct Piece {
     span: Span,
@@ -288,7 +291,6 @@ pub(crate) fn push_pieces(
     ensures { IfOk result (λ ends. AddsPieces pattern.now ends pieces.old.items pieces.new.items
         borders.old.items borders.new.items) }
 {
-    let base = borders.len();
     let (piece, mut left) = cut_at_mark(pattern);
     let first_len = piece.len();
     while let Some(behind) = left.strip_prefix(b"*") {
@@ -302,7 +304,7 @@ pub(crate) fn push_pieces(
             let ending = Ending::Last(span);
             return Ok(Ends { first_len, ending });
         }
-        let table = borders.len() - base;
+        let table = borders.len();
         push_borders(borders, piece)?;
         pieces.push(Piece { span, table })?;
         left = rest;

@@ -11,14 +11,14 @@ ghost use Rattle.texting_robots.specs.Verdict.{IsVerdict};
 ghost use Rattle.texting_robots.specs.View.{LooksAtMost};
 
 pub use crate::decision::Decision;
-use crate::error::{Error, is_want_of_memory};
-use crate::escape::escaped;
+use crate::error::Error;
 use crate::groups::{group_for, marked_lines};
 use crate::parser::unread_file_lines;
+use crate::prepared::{Prepared, target};
 use crate::reading::Reading;
 use crate::rules::Rules;
 use crate::view::View;
-use std::alloc::{AllocError, Global};
+use std::alloc::Global;
 use std::marker::Model;
 use url::Url;
 
@@ -63,12 +63,7 @@ impl Robot {
     ///
     /// The limit counts the file's bytes as they came, those of a byte order mark too, and may cut a line anywhere: what
     /// stands before the cut is read as a line.
-    pub fn with_limit(
-        alloc: Global,
-        agent: &str,
-        txt: &[u8],
-        limit: usize,
-    ) -> Result<Self, Error>
+    pub fn with_limit(alloc: Global, agent: &str, txt: &[u8], limit: usize) -> Result<Self, Error>
         ensures robot { IfOk result (IsRobotOf agent.now (file_lines (take limit txt.now))) }
         ensures refused { IfErr result (IsMemoryOr (IsRefused agent.now (file_lines (take limit txt.now)))) }
         ensures without_memory { GivesNothing agent.now (file_lines (take limit txt.now)) → IsOk result }
@@ -101,30 +96,32 @@ impl Robot {
         ensures ok { IfOk result (λ text. string_bytes text ≡ prepared url.now) }
         ensures memory { IfErr result (λ e. e ≡ Error.Memory) }
     {
-        if url.is_empty() {
-            return Ok(String::from_str(alloc, "/")?);
-        }
-        match Url::parse(alloc, url) {
-            Ok(parsed) => Ok(target(alloc, &parsed)?),
-            Err(error) if is_want_of_memory(&error) => Err(Error::Memory),
-            Err(_) => Ok(escaped(alloc, url)?),
-        }
+        Ok(Prepared::new(alloc, url)?.into_string(alloc)?)
     }
 
-    /// Whether the crawler may fetch a URL, or a path by itself.
+    /// Whether the crawler may fetch a URL, or a path by itself. A path of which nothing is escaped takes no memory.
     pub fn allowed(&self, alloc: Global, url: &str) -> Result<bool, Error>
         ensures ok { IfOk result (λ answer. IsVerdict (unplaced self.now.rules) (prepared url.now) answer) }
         ensures memory { IfErr result (λ e. e ≡ Error.Memory) }
     {
-        let text = Robot::prepare_url(alloc, url)?;
-        Ok(self.allowed_prepared(text.as_str()))
+        match Prepared::new(alloc, url)? {
+            Prepared::Address(url) => Ok(self.allowed_url(&url)),
+            text => Ok(self.allowed_prepared(text.as_str())),
+        }
+    }
+
+    /// Whether the crawler may fetch a URL that is parsed already. It takes no memory.
+    pub fn allowed_url(&self, url: &Url) -> bool
+        ensures { IsVerdict (unplaced self.now.rules) (target_of url.now) result }
+    {
+        self.allowed_prepared(target(url))
     }
 
     /// Whether the crawler may fetch what a prepared text stands for. It takes no memory.
     pub fn allowed_prepared(&self, text: &str) -> bool
         ensures { IsVerdict (unplaced self.now.rules) text.now result }
     {
-        self.allowed_view(&mut View::new(text))
+        self.rules.allow(text.as_bytes())
     }
 
     /// Whether the crawler may fetch what a view's prepared text stands for. It takes no memory, and looks at bytes of the
@@ -152,22 +149,6 @@ impl Robot {
     }
 }
 
-/// The path of a URL, its query and its fragment.
-fn target(alloc: Global, url: &Url) -> Result<String, AllocError>
-    ensures { IfOk result (λ text. string_bytes text ≡ target_of url.now) }
-{
-    let mut text = String::from_str(alloc, url.path())?;
-    if let Some(query) = url.query() {
-        text.push('?')?;
-        text.push_str(query)?;
-    }
-    if let Some(fragment) = url.fragment() {
-        text.push('#')?;
-        text.push_str(fragment)?;
-    }
-    Ok(text)
-}
-
 #[cfg(test)]
 mod tests {
     use super::*;
@@ -177,7 +158,10 @@ mod tests {
     fn rules_show_as_patterns(rt: HostRuntime) -> Result<(), Fail> {
         let robot = Robot::new(rt.alloc(), "BobBot", b"Allow: /\nDisallow: /x***y/")?;
         let shown = format!(in rt.alloc(); "{:?}", robot.rules)?;
-        assert_eq!(rt; shown.as_str(), "[(\"/x***y/\", false, 2), (\"/\", true, 1)]");
+        assert_eq!(rt;
+            shown.as_str(),
+            "[(\"/x***y/\", false, 2), (\"/\", true, 1)]"
+        );
         Ok(())
     }
 }

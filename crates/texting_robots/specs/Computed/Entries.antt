@@ -7,20 +7,26 @@ use Rattle.texting_robots.specs.declared.pieces.Piece.{Piece}
 use Rattle.texting_robots.specs.declared.pieces.Ending.TheVariants.{Open}
 use Rattle.texting_robots.specs.declared.rules.Entry.{Entry}
 use Rattle.texting_robots.specs.declared.rules.Gathered.{Gathered}
+use Rattle.texting_robots.specs.Computed.Needs.{AreNeeds}
 use Rattle.texting_robots.specs.Computed.Pieces.{ArePieces, IsSpan, part_of}
 use Rattle.texting_robots.specs.Pattern.{Matches}
 use Rattle.texting_robots.specs.Rules.{PlacedRule}
 
--- the ranges hold a pattern, its pieces and their tables
+-- the ranges hold a pattern and its pieces, whose tables are among all, and what it matches meets the needs
 pub record IsEntry (text : List ℕ) (pieces : List Piece) (borders : List ℕ) (entry : Entry) : Type 0 where
   pub pattern : IsSpan text entry.pattern
   pub searched : IsSpan pieces entry.pieces
-  pub tables : IsSpan borders entry.borders
-  pub is_cut : ArePieces (part_of text entry.pattern) entry.ends (part_of pieces entry.pieces)
-      (part_of borders entry.borders)
+  pub is_cut : ArePieces (part_of text entry.pattern) entry.ends (part_of pieces entry.pieces) borders
+  pub needed : AreNeeds (part_of text entry.pattern) entry.needs
+
+abbrev pub IsEntryOf : Gathered → Entry → Type 0
+IsEntryOf all entry = IsEntry (string_bytes all.text) all.pieces.items all.borders.items entry
 
 abbrev pub AreEntries : Gathered → Type 0
-AreEntries all = All (IsEntry (string_bytes all.text) all.pieces.items all.borders.items) all.entries.items
+AreEntries all = All (IsEntryOf all) all.entries.items
+
+abbrev pub pattern_of : Gathered → Entry → List ℕ
+pattern_of all entry = part_of (string_bytes all.text) entry.pattern
 
 -- the pattern, whether it allows, and its line
 abbrev pub placed_at : List ℕ → Entry → PlacedRule
@@ -58,9 +64,9 @@ abbrev pub no_entry : Entry
 no_entry =
     let none : Span = record { start = 0; end = 0 } in
     record {
+      needs = record { head = record { bytes = 0; mask = 0 }; pairs = record { bits = 0 } };
       pattern = none;
       pieces = none;
-      borders = none;
       ends = record { first_len = 0; ending = Open };
       is_allow = false;
       line = 0;
@@ -69,7 +75,7 @@ no_entry =
 -- the rule at this place matches the text
 abbrev pub MatchesAt : Gathered → ℕ → List ℕ → Type 0
 MatchesAt all at text =
-    Matches (part_of (string_bytes all.text) (slice_index_or all.entries.items at no_entry).pattern) text
+    Matches (pattern_of all (slice_index_or all.entries.items at no_entry)) text
 
 abbrev pub NoneMatches : Gathered → List ℕ → Type 0
 NoneMatches all text = (k : ℕ) → k < length all.entries.items → ¬ MatchesAt all k text

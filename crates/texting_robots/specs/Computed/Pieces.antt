@@ -97,11 +97,11 @@ pub record ArePieces (pattern : List ℕ) (ends : Ends) (pieces : List Piece) (b
   pub decides : (text : List ℕ) → Matches pattern text ↔ InFront (take ends.first_len pattern) rest text
   pub left : AreLeft pattern ends.ending pieces rest
 
--- the pieces and their tables were added
+-- the pieces were added, and their tables behind the others
 pub record AddsPieces (pattern : List ℕ) (ends : Ends) (old_pieces new_pieces : List Piece)
     (old_borders new_borders : List ℕ) : Type 0 where
   pub pieces : List Piece
   pub tables : List ℕ
   pub put_pieces : new_pieces ≡ old_pieces ++ pieces
   pub put_tables : new_borders ≡ old_borders ++ tables
-  pub are_pieces : ArePieces pattern ends pieces tables
+  pub are_pieces : ArePieces pattern ends pieces new_borders

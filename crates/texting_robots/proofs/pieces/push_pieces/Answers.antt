@@ -9,7 +9,7 @@ use Rattle.texting_robots.proofs.PieceLemmas.{IsFromStar}
 use Rattle.texting_robots.proofs.pieces.push_pieces.Goals as goal
 
 pub loop-behind-init : goal.loop-behind-init
-loop-behind-init c = record { base = omega arith; cut = cut_first _ _ _ _ _ c.cut_at_mark.ensures }
+loop-behind-init c = cut_first _ _ _ _ _ c.cut_at_mark.ensures
 
 pub returns-then-closes : goal.returns-then-closes
 returns-then-closes c =
@@ -21,7 +21,7 @@ returns-then-closes c =
       skips = c.split_at.ensures.back ∙ ap (λ n. drop n behind.now) c.stars_len.ensures.value;
       cut = c.cut_at_mark-in-Some.ensures;
     } in
-    cut_last c.loop-behind.invariant.cut is (c.closes.ensures.0 c.if-closes.true)
+    cut_last c.loop-behind.invariant is (c.closes.ensures.0 c.if-closes.true)
 
 pub loop-behind-preserved : goal.loop-behind-preserved
 loop-behind-preserved c =
@@ -35,21 +35,19 @@ loop-behind-preserved c =
       cut = c.cut_at_mark-in-Some.ensures;
     } in
     let (table, put, is_table) = c.in_ok-push_borders.ensures in
-    let sizes = ap length i.cut.put in
-    let more = length-append c.args.borders.now.items i.cut.tables in
-    let at : c.len.result - c.len-base.result ≡ length i.cut.tables = omega arith in
-    let next = cut_more i.cut is _ table at (iff_false c.closes.ensures c.if-closes.false) is_table in
-    record { base = i.base; cut = rw (c.in_ok-push.ensures.items, put) next }
+    let at : c.len-table.result ≡ length c.loop-behind.borders.items = omega arith in
+    let next = cut_more i is _ table at (iff_false c.closes.ensures c.if-closes.false) is_table in
+    rw (c.in_ok-push.ensures.items, put) next
 
 pub returns-then-is_empty : goal.returns-then-is_empty
 returns-then-is_empty c =
     let left = c.loop-behind.left.now in
     let none : length left ≡ 0 = eqb-true (length left) 0 (sym c.if-is_empty.ensures) in
-    cut_open c.loop-behind.invariant.cut (sym (take_all 0 left (omega arith)))
+    cut_open c.loop-behind.invariant (sym (take_all 0 left (omega arith)))
 
 pub returns-then-closes-2 : goal.returns-then-closes-2
 returns-then-closes-2 c =
-    cut_closed c.loop-behind.invariant.cut (c.closes-else-is_empty.ensures.0 c.if-closes-2.true)
+    cut_closed c.loop-behind.invariant (c.closes-else-is_empty.ensures.0 c.if-closes-2.true)
 
 pub returns-else-closes-2 : goal.returns-else-closes-2
 returns-else-closes-2 c =
@@ -57,4 +55,4 @@ returns-else-closes-2 c =
     let some = λ (none : left ≡ []). false≢true (rw none at c.if-is_empty.ensures) in
     let no_star = strip_prefix_is Decides-eqb left (star ∷ []) None c.in_default.ensures.cases in
     let other = iff_false c.closes-else-is_empty.ensures c.if-closes-2.false in
-    cut_never c.loop-behind.invariant.cut some no_star other
+    cut_never c.loop-behind.invariant some no_star other

@@ -1,14 +1,7 @@
-use Rattle.std.proofs.Common.{List, drop, subst, ◌∙◌, arith}
+use Rattle.std.proofs.Common.{drop, ◌∙◌, arith}
 use Rattle.std.proofs.lemmas.Bool.{false≢true, iff_false}
-use Rattle.std.proofs.lemmas.List.{drop_all, drop_more}
-use Rattle.texting_robots.specs.declared.pieces.Piece.{Piece}
-use Rattle.texting_robots.specs.Computed.Pieces.{AreLeft}
-use Rattle.texting_robots.proofs.PieceLemmas.{first_here, first_missing, left_here, left_missing}
+use Rattle.texting_robots.proofs.PieceLemmas.{first_here, first_missing, left_here, left_missing, next_left, none_left}
 use Rattle.texting_robots.proofs.pieces.Pattern.matches.Goals as goal
-
--- what the code reads past the pieces
-abbrev zero_piece : Piece
-zero_piece = record { span = record { start = 0; end = 0 }; table = 0 }
 
 pub returns-then-not-stands_at-clause-answer : goal.returns-then-not-stands_at-clause-answer
 returns-then-not-stands_at-clause-answer c =
@@ -35,9 +28,8 @@ pub loop-piece-preserved : goal.loop-piece-preserved
 loop-piece-preserved c =
     let i = c.loop-piece.invariant in
     let inside = c.self.inside in
-    let next = drop_more inside.pieces.now c.loop-piece.piece-index zero_piece c.loop-piece-test.true in
-    let are_left = λ (pieces : List Piece). AreLeft inside.bytes.now inside.ends.ending pieces i.left in
-    let (rest, is, more) = subst are_left next i.pieces in
+    let (rest, is, more) = next_left inside.bytes.now inside.ends.ending inside.pieces.now c.loop-piece.piece-index
+    i.left i.pieces c.loop-piece-test.true in
     let (within, behind) = rw i.text at c.in-Some.ensures.some in
     let (to, from) = left_here is _ _ behind in
     let grows = c.find.ensures.looks in
@@ -56,9 +48,8 @@ pub returns-in-None-clause-answer : goal.returns-in-None-clause-answer
 returns-in-None-clause-answer c =
     let i = c.loop-piece.invariant in
     let inside = c.self.inside in
-    let next = drop_more inside.pieces.now c.loop-piece.piece-index zero_piece c.loop-piece-test.true in
-    let are_left = λ (pieces : List Piece). AreLeft inside.bytes.now inside.ends.ending pieces i.left in
-    let (rest, is, more) = subst are_left next i.pieces in
+    let (rest, is, more) = next_left inside.bytes.now inside.ends.ending inside.pieces.now c.loop-piece.piece-index
+    i.left i.pieces c.loop-piece-test.true in
     let nowhere = rw i.text at c.in-None.ensures.none in
     (λ e. absurd (false≢true e), λ m. absurd (left_missing is _ nowhere (i.decides.0 m)))
 
@@ -66,9 +57,8 @@ pub returns-clause-answer : goal.returns-clause-answer
 returns-clause-answer c =
     let i = c.loop-piece.invariant in
     let inside = c.self.inside in
-    let none = drop_all c.loop-piece.piece-index inside.pieces.now c.loop-piece-test.false in
-    let are_left = λ (pieces : List Piece). AreLeft inside.bytes.now inside.ends.ending pieces i.left in
-    let ends = subst are_left none i.pieces in
+    let ends = none_left inside.bytes.now inside.ends.ending inside.pieces.now c.loop-piece.piece-index
+    i.left i.pieces c.loop-piece-test.false in
     let (to, from) = ends (drop c.loop-piece.place c.args.view.now.text) in
     let answer = rw i.text at c.ends_as.ensures.answer in
     (λ e. i.decides.1 (from (answer.0 e)), λ m. answer.1 (to (i.decides.0 m)))

@@ -3,9 +3,12 @@ use Rattle.texting_robots.specs.Computed.Entries.{MatchesAt}
 use Rattle.texting_robots.proofs.rules.Gathered.first_match.Given as goal
 
 abbrev pub invariant-loop-at : goal.invariant-loop-at
-invariant-loop-at l = record {
-  text : l.view.text ≡ l.fn.view.text;
-  before : (k : ℕ) → k < l.at → MatchesAt l.self k l.fn.view.text → ⊥;
-  grows : l.fn.view.looks ≤ l.view.looks;
-  cost : l.view.looks ≤ l.fn.view.looks + 2 * length l.fn.view.text * l.at;
-}
+invariant-loop-at g l =
+    let old = g.A.Asked.seen l.fn.asked in
+    let now = g.A.Asked.seen l.asked in
+    record {
+      text : now.text ≡ old.text;
+      before : (k : ℕ) → k < l.at → MatchesAt l.self k old.text → ⊥;
+      grows : old.looks ≤ now.looks;
+      cost : now.looks ≤ old.looks + 2 * length old.text * l.at;
+    }

@@ -1,0 +1,132 @@
+-- What a pattern matches begins as its first piece, and has the pairs of neighbouring bytes of its searched pieces.
+use Rattle.std.proofs.Common.{◌≡◌, ℕ, ◌*◌, ◌^◌, ◌%◌, ◌<◌, ◌≤◌, List, [], ◌∷◌, ◌++◌, length, min, get_or, drop, take}
+use Rattle.std.proofs.Common.{sym, refl, ap, subst, ◌∙◌, arith}
+use Rattle.std.specs.Int.RustNames.{bit_and, bit_or}
+use Rattle.std.specs.Int.Bits.{or_self, or_zero_l}
+use Rattle.std.proofs.lemmas.Nat.{and_mask, or_comm}
+use Rattle.std.proofs.lemmas.Nat.Bits.{bit_at_or, same_from_bits}
+use Rattle.texting_robots.specs.declared.needs.Needs.{Needs}
+use Rattle.texting_robots.specs.declared.needs.head.Head.{Head}
+use Rattle.texting_robots.specs.declared.pieces.Ending.{Ending}
+use Rattle.texting_robots.specs.declared.pieces.Ends.{Ends}
+use Rattle.texting_robots.specs.declared.pieces.Piece.{Piece}
+use Rattle.texting_robots.specs.Computed.Needs.{AreNeeds, AreWithin, Fits, IsHeadOf}
+use Rattle.texting_robots.specs.Computed.Needs.{front_bit, front_of, ones_below, pair_bit, pair_set}
+use Rattle.texting_robots.specs.Computed.Pieces.{AreLeft, ArePieces, part_of}
+use Rattle.texting_robots.specs.Pattern.{Matches}
+
+-- ---- the beginning
+
+-- the piece's bytes are those of the text, as far as both go
+same_below : (piece rest : List ℕ) → front_of (piece ++ rest) % 2 ^ (8 * min (length piece) 8)
+    ≡ front_of piece % 2 ^ (8 * min (length piece) 8)
+same_below [] rest = omega arith
+same_below (a ∷ []) rest = omega arith
+same_below (a ∷ b ∷ []) rest = omega arith
+same_below (a ∷ b ∷ c ∷ []) rest = omega arith
+same_below (a ∷ b ∷ c ∷ d ∷ []) rest = omega arith
+same_below (a ∷ b ∷ c ∷ d ∷ e ∷ []) rest = omega arith
+same_below (a ∷ b ∷ c ∷ d ∷ e ∷ f ∷ []) rest = omega arith
+same_below (a ∷ b ∷ c ∷ d ∷ e ∷ f ∷ g ∷ []) rest = omega arith
+same_below (a ∷ b ∷ c ∷ d ∷ e ∷ f ∷ g ∷ h ∷ piece) rest = refl
+
+-- a text that begins with a piece fits the piece's head
+beginning_fits : (piece rest : List ℕ) (head : Head) → IsHeadOf piece head → Fits head (front_of (piece ++ rest))
+beginning_fits piece rest head is =
+    let size = 8 * min (length piece) 8 in
+    let masked : bit_and (front_of (piece ++ rest)) (ones_below (length piece))
+        ≡ bit_and (front_of piece) (ones_below (length piece)) =
+    and_mask (front_of (piece ++ rest)) size ∙ same_below piece rest ∙ sym (and_mask (front_of piece) size) in
+    ap (bit_and (front_of (piece ++ rest))) is.mask ∙ masked ∙ ap (bit_and (front_of piece)) (sym is.mask)
+    ∙ sym is.bytes
+
+-- ---- pairs of neighbouring bytes
+
+pub or_assoc : (a b c : ℕ) → bit_or (bit_or a b) c ≡ bit_or a (bit_or b c)
+or_assoc a b c =
+    same_from_bits _ _ (λ i.
+    let left = bit_at_or (bit_or a b) c i in
+    let right = bit_at_or a (bit_or b c) i in
+    omega (arith, left, bit_at_or a b i, right, bit_at_or b c i))
+
+within_later : (few more many : ℕ) → AreWithin few many → AreWithin few (bit_or more many)
+within_later few more many h =
+    sym (or_assoc few more many) ∙ ap (λ x. bit_or x many) (or_comm few more)
+    ∙ or_assoc more few many ∙ ap (bit_or more) h
+
+within_both : (one other many : ℕ) → AreWithin one many → AreWithin other many → AreWithin (bit_or one other) many
+within_both one other many h k = or_assoc one other many ∙ ap (bit_or one) k ∙ h
+
+within_through : (few some many : ℕ) → AreWithin few some → AreWithin some many → AreWithin few many
+within_through few some many h k =
+    ap (bit_or few) (sym k) ∙ sym (or_assoc few some many) ∙ ap (λ x. bit_or x many) h ∙ k
+
+-- the front of a text has no pairs but those of the whole
+front_within : (front rest : List ℕ) → AreWithin (pair_set front) (pair_set (front ++ rest))
+unfolding pair_set
+front_within [] rest = or_zero_l (pair_set rest)
+front_within (b ∷ []) rest = or_zero_l (pair_set (b ∷ rest))
+front_within (b ∷ c ∷ front) rest =
+    let bit = pair_bit b c in
+    let more = pair_set (c ∷ (front ++ rest)) in
+    let first = sym (or_assoc bit bit more) ∙ ap (λ x. bit_or x more) (or_self bit) in
+    within_both bit (pair_set (c ∷ front)) (bit_or bit more) first
+    (within_later (pair_set (c ∷ front)) bit more (front_within (c ∷ front) rest))
+
+-- and so has its end
+end_within : (front rest : List ℕ) → AreWithin (pair_set rest) (pair_set (front ++ rest))
+unfolding pair_set
+end_within [] rest = or_self (pair_set rest)
+end_within (b ∷ front) rest =
+    let more = front ++ rest in
+    within_later (pair_set rest) (front_bit b more) (pair_set more) (end_within front rest)
+
+-- the first pair moves from what is left to what is done
+pub pairs_step : (bits bit whole : ℕ) (rest : List ℕ) → 2 ≤ length rest
+    → bit ≡ pair_bit (get_or rest 0 0) (get_or rest 1 0) → bit_or bits (pair_set rest) ≡ whole
+    → bit_or (bit_or bits bit) (pair_set (drop 1 rest)) ≡ whole
+unfolding pair_set
+pairs_step bits bit whole [] long is h = absurd (omega arith)
+pairs_step bits bit whole (b ∷ []) long is h = absurd (omega arith)
+pairs_step bits bit whole (b ∷ c ∷ rest) long is h =
+    or_assoc bits bit (pair_set (c ∷ rest)) ∙ ap (λ x. bit_or bits (bit_or x (pair_set (c ∷ rest)))) is ∙ h
+
+pub no_pairs : (rest : List ℕ) → length rest < 2 → pair_set rest ≡ 0
+unfolding pair_set
+no_pairs [] short = refl
+no_pairs (b ∷ []) short = refl
+no_pairs (b ∷ c ∷ rest) short = absurd (omega arith)
+
+-- ---- over the pieces
+
+-- the pairs of all pieces together
+abbrev pub piece_pairs : List ℕ → List Piece → ℕ
+piece_pairs pattern [] = 0
+piece_pairs pattern (piece ∷ pieces) = bit_or (pair_set (part_of pattern piece.span)) (piece_pairs pattern pieces)
+
+-- what is left of a pattern matches only texts with the pairs of the pieces that are left
+left_within : (pattern : List ℕ) (ending : Ending) (pieces : List Piece) (left : List ℕ)
+    → AreLeft pattern ending pieces left → (t : List ℕ) → Matches left t
+    → AreWithin (piece_pairs pattern pieces) (pair_set t)
+left_within pattern ending [] left are t m = or_zero_l (pair_set t)
+left_within pattern ending (piece ∷ pieces) left (rest, is, more) t m =
+    let (after, (front, e), n) = (is.decides t).0 m in
+    let part = part_of pattern piece.span in
+    let pairs = piece_pairs pattern (piece ∷ pieces) in
+    let ending_pairs = within_through (piece_pairs pattern pieces) (pair_set after) (pair_set (part ++ after))
+    (left_within pattern ending pieces rest more after n) (end_within part after) in
+    let both = within_both (pair_set part) (piece_pairs pattern pieces) (pair_set (part ++ after))
+    (front_within part after) ending_pairs in
+    subst (λ x. AreWithin pairs (pair_set x)) (sym e)
+    (within_through pairs (pair_set (part ++ after)) _ both (end_within front (part ++ after)))
+
+-- what a pattern matches meets its needs
+pub are_needs : {pattern : List ℕ} {ends : Ends} {pieces : List Piece} {borders : List ℕ} (needs : Needs)
+    → ArePieces pattern ends pieces borders → IsHeadOf (take ends.first_len pattern) needs.head
+    → needs.pairs.bits ≡ piece_pairs pattern pieces → AreNeeds pattern needs
+are_needs {pattern} {ends} {pieces} needs are head pairs text m =
+    let first = take ends.first_len pattern in
+    let (rest, e, n) = (are.decides text).0 m in
+    let within = within_through (piece_pairs pattern pieces) (pair_set rest) (pair_set (first ++ rest))
+    (left_within pattern ends.ending pieces are.rest are.left rest n) (end_within first rest) in
+    rw (e, pairs) (record { head = beginning_fits first rest needs.head head; pairs = within })

@@ -1,0 +1,11 @@
+use Rattle.std.proofs.Common.{◌≡◌, length}
+use Rattle.std.specs.Int.RustNames.{bit_or}
+use Rattle.texting_robots.specs.Computed.Needs.{pair_set}
+use Rattle.texting_robots.proofs.needs.pairs.Pairs.of.Given as goal
+
+-- the bits so far, and those of what is left
+abbrev pub invariant-loop-rest : goal.invariant-loop-rest
+invariant-loop-rest l = bit_or l.bits (pair_set l.rest) ≡ pair_set l.fn.text
+
+abbrev pub decreases-loop-rest : goal.decreases-loop-rest
+decreases-loop-rest l = length l.rest

@@ -1,0 +1,66 @@
+use Rattle.std.proofs.Common.{true, List, inr, slice_index_or, string_bytes, sym, ap, subst}
+use Rattle.std.specs.List.{Contains}
+use Rattle.std.proofs.lemmas.Bool.{iff_false}
+use Rattle.std.proofs.lemmas.List.{get_or_read}
+use Rattle.texting_robots.specs.declared.rules.Entry.{Entry}
+use Rattle.texting_robots.specs.Computed.Entries.{no_entry, placed_at, rules_in}
+use Rattle.texting_robots.specs.Decision.{Decides}
+use Rattle.texting_robots.specs.Rules.{PlacedRule, unplaced}
+use Rattle.texting_robots.specs.Verdict.{IsVerdict}
+use Rattle.texting_robots.proofs.FirstLemmas.{at_most_more, first_decides, first_line, first_tried, none_denies, none_stands}
+use Rattle.texting_robots.proofs.rules.Rules.decide_by.Goals as goal
+
+pub returns-in-Some-clause-verdict : goal.returns-in-Some-clause-verdict
+returns-in-Some-clause-verdict g c =
+    let all = c.self.inside.gathered in
+    let text = (g.A.Asked.seen c.args.asked.now).text in
+    let found = c.in-Some.ensures.some in
+    let entry = c.index-entry.result.now in
+    let is = get_or_read all.entries.items c.in-Some.at entry found.0 c.index-entry.ensures no_entry in
+    subst (λ (rules : List PlacedRule). IsVerdict (unplaced rules) text entry.is_allow) c.self.view_is
+    (subst (λ (e : Entry). IsVerdict (unplaced (rules_in all)) text e.is_allow) (sym is)
+    (first_decides all c.self.invariant.0 c.self.invariant.1 text c.in-Some.at found
+    (iff_false c.is_robots_file.ensures c.if-is_robots_file.false)))
+
+pub returns-in-Some-clause-line : goal.returns-in-Some-clause-line
+returns-in-Some-clause-line g c =
+    let all = c.self.inside.gathered in
+    let text = (g.A.Asked.seen c.args.asked.now).text in
+    let found = c.in-Some.ensures.some in
+    let entry = c.index-entry.result.now in
+    let is = get_or_read all.entries.items c.in-Some.at entry found.0 c.index-entry.ensures no_entry in
+    let placed = placed_at (string_bytes all.text) (slice_index_or all.entries.items c.in-Some.at no_entry) in
+    let decides = first_line all c.self.invariant.0 c.self.invariant.1 text c.in-Some.at found in (
+      iff_false c.is_robots_file.ensures c.if-is_robots_file.false,
+      placed,
+      subst (λ (rules : List PlacedRule). Decides rules text placed) c.self.view_is decides,
+      ap (λ (e : Entry). e.line) (sym is),
+    )
+
+pub returns-in-Some-clause-tried : goal.returns-in-Some-clause-tried
+returns-in-Some-clause-tried g c = λ placed stands matches.
+    let all = c.self.inside.gathered in
+    let text = (g.A.Asked.seen c.args.asked.now).text in
+    let there = rw (← c.self.view_is) at stands in
+    let few = first_tried all c.self.invariant.0 c.self.invariant.1 text c.in-Some.at c.in-Some.ensures.some placed
+    there matches in
+    rw (← c.self.view_is) (at_most_more _ _ _ _ few c.in-Some.ensures.looks)
+
+pub returns-in-None-clause-verdict : goal.returns-in-None-clause-verdict
+returns-in-None-clause-verdict g c =
+    let all = c.self.inside.gathered in
+    let text = (g.A.Asked.seen c.args.asked.now).text in
+    subst (λ (rules : List PlacedRule). IsVerdict (unplaced rules) text true) c.self.view_is
+    (none_denies all c.self.invariant.0 text c.in-None.ensures.none)
+
+pub returns-in-None-clause-line : goal.returns-in-None-clause-line
+returns-in-None-clause-line g c =
+    let none = none_stands c.self.inside.gathered c.self.invariant.0 _ c.in-None.ensures.none in
+    inr (λ placed stands matches.
+    none placed (subst (λ (rules : List PlacedRule). Contains rules placed) (sym c.self.view_is) stands) matches)
+
+pub returns-in-None-clause-tried : goal.returns-in-None-clause-tried
+returns-in-None-clause-tried g c = λ placed stands matches.
+    let none = none_stands c.self.inside.gathered c.self.invariant.0 _ c.in-None.ensures.none in
+    let there = subst (λ (rules : List PlacedRule). Contains rules placed) (sym c.self.view_is) stands in
+    absurd (none placed there matches)

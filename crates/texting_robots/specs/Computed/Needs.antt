@@ -1,0 +1,61 @@
+-- What a text needs so that a pattern can match it.
+use Rattle.std.specs.Prelude.{◌≡◌, ℕ, ◌+◌, ◌*◌, ◌-◌, ◌%◌, ◌^◌, List, [], ◌∷◌, Option, IfSome, bit_and, bit_or, length, min}
+use Rattle.std.specs.Int.{w64, from_le_bytes}
+use Rattle.texting_robots.specs.declared.needs.Needs.{Needs}
+use Rattle.texting_robots.specs.declared.needs.head.Head.{Head}
+use Rattle.texting_robots.specs.declared.needs.pairs.Pairs.{Pairs}
+use Rattle.texting_robots.specs.Pattern.{Matches}
+
+-- ---- the beginning
+
+-- the first eight bytes, the first one lowest; behind a shorter text stand zeros
+abbrev pub front_of : List ℕ → ℕ
+front_of text = from_le_bytes w64 text
+
+-- ones in the first n bytes, up to eight
+abbrev pub ones_below : ℕ → ℕ
+ones_below n = 2 ^ (8 * min n 8) - 1
+
+-- the piece's first bytes, and ones where they stand
+pub record IsHeadOf (piece : List ℕ) (head : Head) : Type 0 where
+  pub mask : head.mask ≡ ones_below (length piece)
+  pub bytes : head.bytes ≡ bit_and (front_of piece) head.mask
+
+-- where the head has ones, the front is as its bytes
+abbrev pub Fits : Head → ℕ → Type 0
+Fits head front = bit_and front head.mask ≡ head.bytes
+
+-- ---- pairs of neighbouring bytes, as sets of 64 bits
+
+-- the bit of a pair
+abbrev pub pair_bit : ℕ → ℕ → ℕ
+pair_bit first second = 2 ^ ((29 * first + 7 * second) % 64)
+
+-- the bit of the byte and its neighbour, if there is one
+abbrev pub front_bit : ℕ → List ℕ → ℕ
+front_bit first [] = 0
+front_bit first (second ∷ rest) = pair_bit first second
+
+-- the bits of all pairs of neighbours
+unfoldable pub pair_set : List ℕ → ℕ
+pair_set [] = 0
+pair_set (first ∷ rest) = bit_or (front_bit first rest) (pair_set rest)
+
+-- each bit of the one is a bit of the other
+abbrev pub AreWithin : ℕ → ℕ → Type 0
+AreWithin few many = bit_or few many ≡ many
+
+-- the pairs are those of the text, where they are known
+abbrev pub ArePairsOf : List ℕ → Option Pairs → Type 0
+ArePairsOf text pairs = IfSome pairs (λ known. known.bits ≡ pair_set text)
+
+-- ---- both
+
+-- the text begins as it has to, and has the pairs
+pub record Meets (needs : Needs) (text : List ℕ) : Type 0 where
+  pub head : Fits needs.head (front_of text)
+  pub pairs : AreWithin needs.pairs.bits (pair_set text)
+
+-- what the pattern matches meets the needs
+abbrev pub AreNeeds : List ℕ → Needs → Type 0
+AreNeeds pattern needs = (text : List ℕ) → Matches pattern text → Meets needs text
