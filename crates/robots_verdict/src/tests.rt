@@ -412,7 +412,10 @@ fn small_inputs(rt: HostRuntime) -> Result<(), Fail> {
         let mut sink = Sink::new(rt.alloc(), WHOLE);
         assert_eq!(rt; run(rt.alloc(), &mut reader, &mut sink), Ok(()), "{text}");
         let written = sink.held.as_slice();
-        assert!(rt; written == by_rule.as_bytes() || written == by_none.as_bytes(), "{text}");
+        assert!(rt;
+            written == by_rule.as_bytes() || written == by_none.as_bytes(),
+            "{text}"
+        );
     }
     Ok(())
 }

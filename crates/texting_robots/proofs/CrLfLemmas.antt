@@ -1,5 +1,5 @@
 -- A CR LF and a LF end a line alike.
-use Rattle.std.proofs.Common.{◌≡◌, ℕ, false, ◌==◌, ◌&&◌, if◌then◌else◌, inl, inr, List}
+use Rattle.std.proofs.Common.{◌≡◌, ℕ, false, ◌==◌, ◌&&◌, inl, inr, List}
 use Rattle.std.proofs.Common.{[], ◌∷◌, map, sym, refl, ap, ◌∙◌}
 use Rattle.std.proofs.lemmas.Bool.{cases_Bool, cond-true, cond-false, and_parts, eqb-true}
 use Rattle.texting_robots.specs.Cut.{Pair, cr, lf}
@@ -51,8 +51,15 @@ same_bodies [] = refl
 same_bodies (b ∷ []) = refl
 same_bodies (b ∷ c ∷ text) = elim (cases_Bool (b == cr && c == lf)) [
   | inl pair ↦ (let both = and_parts (b == cr) (c == lf) pair in
-      rw (pair, eqb-true b cr both.0, eqb-true c lf both.1, cut_cons lf (feeds_alone text), cut_cons cr
-          (lf ∷ text), cut_cons lf text)
+      rw (
+        pair,
+        eqb-true b cr both.0,
+        eqb-true c lf both.1,
+        cut_cons lf (feeds_alone text),
+        cut_cons cr
+            (lf ∷ text),
+        cut_cons lf text,
+      )
       (ap (λ bodies. [] ∷ bodies) (same_bodies text)))
   | inr single ↦ rw (single, cut_cons b (feeds_alone (c ∷ text)), cut_cons b (c ∷ text))
       (byte_keeps b (cut (feeds_alone (c ∷ text))) (cut (c ∷ text)) (same_bodies (c ∷ text)))
@@ -76,9 +83,9 @@ without_alone byte (b ∷ []) no_lf no_cr =
 without_alone byte (b ∷ c ∷ text) no_lf no_cr = elim (cases_Bool (b == cr && c == lf)) [
   | inl pair ↦
       let b_is : (b == byte) ≡ false =
-          ap (λ x. x == byte) (eqb-true b cr (and_parts (b == cr) (c == lf) pair).0) ∙ no_cr in
+      ap (λ x. x == byte) (eqb-true b cr (and_parts (b == cr) (c == lf) pair).0) ∙ no_cr in
       ap (without byte) (cond-true _ _ _ pair) ∙ cond-false _ _ _ no_lf ∙ sym (cond-true _ _ _ pair)
-          ∙ ap feeds_alone (sym (cond-false _ _ _ b_is))
+      ∙ ap feeds_alone (sym (cond-false _ _ _ b_is))
   | inr single ↦ ap (without byte) (cond-false _ _ _ single) ∙ elim (cases_Bool (b == byte)) [
     | inl is ↦ cond-true _ _ _ is ∙ ap feeds_alone (sym (cond-true _ _ _ is))
     | inr isnt ↦ cond-false _ _ _ isnt ∙ sym (cond-false _ _ _ single)
@@ -98,6 +105,8 @@ same_parsed text = ap lines_of (front_alone text) ∙ same_lines (without_front 
 pub cr_lf_is_lf : CrLfIsLf
 cr_lf_is_lf text lines =
     let alone = each_text_has_its_lines (feeds_alone text) lines in
-    let whole = each_text_has_its_lines text lines in
-    (λ are. whole.1 (alone.0 are ∙ same_parsed text), λ are. alone.1
-        (whole.0 are ∙ sym (same_parsed text)))
+    let whole = each_text_has_its_lines text lines in (
+      λ are. whole.1 (alone.0 are ∙ same_parsed text),
+      λ are. alone.1
+          (whole.0 are ∙ sym (same_parsed text)),
+    )

@@ -1,9 +1,9 @@
 -- The cut read from the front: the first line of a text, and the lines of the rest.
-use Rattle.std.proofs.Common.{◌≡◌, ◌≢◌, ℕ, suc, ◌+◌, ◌≤◌, ◌<◌, Bool, true, false, ◌==◌, ◌||◌, inl, inr, List, [], ◌∷◌, length, take, drop, map, get_or, sym, refl, ap, ◌∙◌, arith, cond, if◌then◌else◌, map-id, Option, Some, None, MatchOption, zero}
+use Rattle.std.proofs.Common.{◌≡◌, ◌≢◌, ℕ, suc, ◌+◌, ◌<◌, Bool, true, false, ◌==◌, ◌||◌, inl, inr, List, [], ◌∷◌, length, take, drop, map, get_or, sym, refl, ap, ◌∙◌, arith, cond, if◌then◌else◌, map-id, Option, Some, None, MatchOption, zero}
 use Rattle.std.specs.List.{position_or_len}
 use Rattle.std.proofs.lemmas.Bool.{cases_Bool, cond-true, cond-false, eqb-true, ne_eqb}
 use Rattle.std.proofs.lemmas.Bool.Decides.{nat_tests}
-use Rattle.std.proofs.lemmas.List.{drop_more, drop_all, drop-map, take-map, length-map, nil_from_length}
+use Rattle.std.proofs.lemmas.List.{drop_more, drop-map, take-map, length-map, nil_from_length}
 use Rattle.std.proofs.lemmas.List.Recursion.{is_position_or_len}
 use Rattle.std.proofs.Math.Bool.{or_comm}
 use Rattle.memchr.specs.Find.{is_byte2, is_byte3, IsFirstByte}
@@ -36,7 +36,7 @@ FirstLine text = cut text ≡ first_of text ∷ cut (rest_of text)
 -- a CR before the first pair
 after_return : (c : ℕ) (text : List ℕ) → FirstLine (c ∷ text)
     → before_end (first_of (c ∷ text) ∷ cut (rest_of (c ∷ text)))
-        ≡ first_of (cr ∷ c ∷ text) ∷ cut (rest_of (cr ∷ c ∷ text))
+    ≡ first_of (cr ∷ c ∷ text) ∷ cut (rest_of (cr ∷ c ∷ text))
 after_return c text next = elim (byte_cases c) [
   | inl feed ↦ rw feed refl
   | inr (inl return) ↦ rw return refl
@@ -54,7 +54,7 @@ first_line b [] = elim (byte_cases b) [
   | inr (inr other) ↦ (let first = cut_cons b [] ∙ at_other b (cut []) other
       ∙ ap (before_body b) cut_nil in
       rw (ne_eqb b lf other.1, ne_eqb b cr other.0)
-          (first ∙ ap (λ l. pair_of (b ∷ []) [] ∷ l) (sym cut_nil)))
+      (first ∙ ap (λ l. pair_of (b ∷ []) [] ∷ l) (sym cut_nil)))
 ]
 first_line b (c ∷ text) =
     let next = first_line c text in
@@ -119,7 +119,7 @@ body_by : (n : Bool) (test : ℕ → Bool) → Ends n test → (text : List ℕ)
 body_by n test ends text =
     sym (is_position_or_len (λ t. body_len (read_as n t)) test refl
     (λ b t. step (read_byte n b == lf) (read_byte n b == cr) (test b) (body_len (read_as n t))
-        (ends b)) text)
+    (ends b)) text)
   where
     step : (x y z : Bool) (k : ℕ) → z ≡ (x || y)
         → (if x then 0 else (if y then 0 else suc k)) ≡ cond z 0 (1 + k)
@@ -131,8 +131,11 @@ pub ends_as_is : Ends false (is_byte2 cr lf)
 ends_as_is b = or_comm (b == cr) (b == lf)
 
 pub ends_with_nul : Ends true (is_byte3 cr lf 0)
-ends_with_nul b = elim (cases_Bool (b == 0)) [ inl nul ↦ rw nul
-    (last (b == cr) (b == lf)) | inr other ↦ rw other (turned (b == cr) (b == lf)) ]
+ends_with_nul b = elim (cases_Bool (b == 0)) [
+  | inl nul ↦ rw nul
+      (last (b == cr) (b == lf))
+  | inr other ↦ rw other (turned (b == cr) (b == lf))
+]
   where
     last : (x y : Bool) → (x || y || true) ≡ true
     last true y = refl

@@ -1,7 +1,7 @@
 -- Each text has one cut, the one that the walk gives.
 use Rattle.std.proofs.Common.{◌≡◌, ◌≢◌, ◌⊎◌, ℕ, zero, suc, inl, inr, List, [], ◌∷◌}
 use Rattle.std.proofs.Common.{◌++◌, All, replicate}
-use Rattle.std.proofs.Common.{sym, refl, ap, ◌∙◌, append-nil, subst, arith}
+use Rattle.std.proofs.Common.{sym, refl, ap, ◌∙◌, subst, arith}
 use Rattle.std.proofs.lemmas.Bool.{cases_eq, ne_eqb}
 use Rattle.std.proofs.lemmas.List.Elements.{All-cons, All-head, All-nil, All-replicate, All-tail}
 use Rattle.texting_robots.specs.Cut.{IsBodyByte, IsCut, IsEnding, Pair, cr, joined, lf}
@@ -55,7 +55,7 @@ put pair later text stands is = record {
   open_ending = λ front back p next e no_feed.
       at_split (λ q rest. NoFeed q.ending → BeginWithBody rest) pair later stands.follows
       (λ f b q split none n more is_b. is.open_ending f more q n
-          (split ∙ ap (λ t. f ++ q ∷ t) is_b) none)
+      (split ∙ ap (λ t. f ++ q ∷ t) is_b) none)
       front (next ∷ back) p e no_feed next back refl;
 }
 
@@ -83,8 +83,11 @@ rest_is_cut pair later text is = record {
 pub byte_cases : (b : ℕ) → (b ≡ lf) ⊎ ((b ≡ cr) ⊎ IsBodyByte b)
 byte_cases b = elim (cases_eq b lf) [
   | inl feed ↦ inl feed
-  | inr no_feed ↦ elim (cases_eq b cr) [ inl return ↦ inr (inl return) | inr other ↦ inr
-      (inr (other, no_feed)) ]
+  | inr no_feed ↦ elim (cases_eq b cr) [
+    | inl return ↦ inr (inl return)
+    | inr other ↦ inr
+        (inr (other, no_feed))
+  ]
 ]
 
 pub at_other : (b : ℕ) (pairs : List Pair) → IsBodyByte b → before_byte b pairs ≡ before_body b pairs
@@ -126,8 +129,8 @@ return_before (pair ∷ later) text is = at pair.body pair.ending is
         }) (rest_is_cut (pair_of [] ending) later text is))
     at (b ∷ body) ending is =
         end_before cr (pair_of (b ∷ body) ending ∷ later) text (1, inl refl)
-            (λ no_feed next more e none. let same : pair_of (b ∷ body) ending ≡ next = cc in
-            let here : b ∷ body ≡ [] = ap (λ (p : Pair). p.body) same ∙ none in cc) is
+        (λ no_feed next more e none. let same : pair_of (b ∷ body) ending ≡ next = cc in
+        let here : b ∷ body ≡ [] = ap (λ (p : Pair). p.body) same ∙ none in cc) is
 
 byte_before : (b : ℕ) (pairs : List Pair) (text : List ℕ) → IsBodyByte b → IsCut pairs text
     → IsCut (before_body b pairs) (b ∷ text)
@@ -226,12 +229,12 @@ pair_again pair later stands (zero, inl none) =
     rw (none, last.0) (last_body pair.body last.1 stands.body)
 pair_again pair later stands (suc k, inl e) =
     let begin = stands.follows (subst NoFeed (sym e)
-        (All-replicate (λ byte. byte ≢ lf) (suc k) cr (λ is. omega arith))) in
+    (All-replicate (λ byte. byte ≢ lf) (suc k) cr (λ is. omega arith))) in
     rw e (ap (before pair.body) (open_end k later begin)
-        ∙ body_end pair.body (replicate (suc k) cr) later stands.body)
+    ∙ body_end pair.body (replicate (suc k) cr) later stands.body)
 pair_again pair later stands (k, inr e) =
     rw e (ap (before pair.body) (feed_end k later)
-        ∙ body_end pair.body (replicate k cr ++ lf ∷ []) later stands.body)
+    ∙ body_end pair.body (replicate k cr ++ lf ∷ []) later stands.body)
 
 cut_joined : (pairs : List Pair) → IsCut pairs (joined pairs) → cut (joined pairs) ≡ pairs
 cut_joined [] is = cut_nil
@@ -239,7 +242,7 @@ cut_joined (pair ∷ later) is =
     let stands = first_stands pair later (joined (pair ∷ later)) is in
     cut-append (pair.body ++ pair.ending) (joined later)
     ∙ ap (before (pair.body ++ pair.ending))
-        (cut_joined later (rest_is_cut pair later (joined (pair ∷ later)) is))
+    (cut_joined later (rest_is_cut pair later (joined (pair ∷ later)) is))
     ∙ before-append pair.body pair.ending later ∙ pair_again pair later stands stands.ending
 
 pub only_cut : (text : List ℕ) (pairs : List Pair) → IsCut pairs text → pairs ≡ cut text

@@ -1,6 +1,6 @@
 -- The number that digits write: bounded, cut off and rounded.
 use Rattle.std.proofs.Common.{◌≡◌, inl, inr, ℕ, zero, suc, ◌+◌, ◌-◌, ◌*◌, ◌/◌}
-use Rattle.std.proofs.Common.{◌^◌, ◌<◌, ◌≤◌, min, ◌⊎◌, List, [], ◌∷◌, ◌++◌, All}
+use Rattle.std.proofs.Common.{◌^◌, ◌<◌, ◌≤◌, min, List, [], ◌∷◌, ◌++◌, All}
 use Rattle.std.proofs.Common.{length, get_or, take, drop, replicate, refl, sym, ap, ◌∙◌, append_assoc}
 use Rattle.std.proofs.Common.{add-one, arith, drop-cons}
 use Rattle.std.specs.Char.{IsAsciiDigit, digit_value}

@@ -1,6 +1,6 @@
 -- In sorted rules the first that matches decides.
 use Rattle.std.proofs.Common.{◌≡◌, ◌≢◌, inl, inr, ℕ, zero, suc, ◌-◌, ◌+◌, ◌*◌, ◌<◌, ◌≤◌, count_by, cond, leb}
-use Rattle.std.proofs.Common.{Bool, true, false, List, [], ◌∷◌, AllPairs, length, get_or, map, string_bytes, refl, sym}
+use Rattle.std.proofs.Common.{Bool, true, false, List, [], ◌∷◌, AllPairs, length, get_or, string_bytes, refl, sym}
 use Rattle.std.proofs.Common.{◌∙◌, ap, arith}
 use Rattle.std.specs.List.{Contains}
 use Rattle.std.proofs.Math.Nat.{mul-le-mul_left}
@@ -12,7 +12,7 @@ use Rattle.texting_robots.specs.declared.rules.Entry.{Entry}
 use Rattle.texting_robots.specs.declared.rules.Gathered.{Gathered}
 use Rattle.texting_robots.specs.Computed.Entries.{AreEntries, GoesBefore, IsFirstMatch, NoneMatches, no_entry, placed_at, rules_in}
 use Rattle.texting_robots.specs.Computed.Pieces.{IsSpan, part_of}
-use Rattle.texting_robots.specs.Decision.{Decides, IsDecidingLine, IsLongestMatch, as_long_as}
+use Rattle.texting_robots.specs.Decision.{Decides, IsLongestMatch, as_long_as}
 use Rattle.texting_robots.specs.Pattern.{Matches}
 use Rattle.texting_robots.specs.Rules.{PlacedRule, Rule, unplaced}
 use Rattle.texting_robots.specs.Verdict.{IsVerdict, robots_file}

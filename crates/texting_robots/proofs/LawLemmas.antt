@@ -2,20 +2,20 @@
 use Rattle.std.proofs.Common.{◌≡◌, ◌↔◌, inl, inr, ℕ, suc, ◌+◌, Bool, true, false, not, ◌||◌, List, [], ◌∷◌, ◌++◌}
 use Rattle.std.proofs.Common.{Option, None, slice_get, length, drop, filter, cond, codes, zero-add, add-zero, arith}
 use Rattle.std.proofs.Common.{sym, refl, ap, ◌∙◌, subst}
-use Rattle.std.specs.List.{Any, cons_option, filter_map, last_or, list_any}
+use Rattle.std.specs.List.{Any, cons_option, filter_map, list_any}
 use Rattle.std.specs.Option.{option_or}
 use Rattle.std.specs.Str.{str_to_ascii_lowercase}
 use Rattle.std.proofs.lemmas.Bool.{cases_Bool, false≢true, false_from_ne_true}
 use Rattle.texting_robots.specs.declared.groups.Walk.{Walk}
 use Rattle.texting_robots.specs.Line.{LineValue, UserAgent, Allow, Disallow, Sitemap, CrawlDelay, Raw}
 use Rattle.texting_robots.specs.Line.{delay_in, is_raw, is_sitemap}
-use Rattle.texting_robots.specs.Group.{IsCaptured, from_captured, group_name, is_agent, is_agent_named, is_group, marks_of}
+use Rattle.texting_robots.specs.Group.{from_captured, group_name, is_agent, is_agent_named, is_group, marks_of}
 use Rattle.texting_robots.specs.Rules.{Rule, before_agent, delay_before_agents, delay_for, rule_at, rule_in, rules_for}
 use Rattle.texting_robots.specs.Rules.{sitemap_in, sitemaps_in, unplaced}
 use Rattle.texting_robots.specs.Pattern.{IsOverlong}
 use Rattle.texting_robots.specs.Verdict.{IsVerdict}
 use Rattle.texting_robots.specs.Computed.Group.{start_of, step}
-use Rattle.texting_robots.specs.Laws.{AgentCase, IsSameKind, RawChangesNothing, Same, SameButSitemaps}
+use Rattle.texting_robots.specs.Laws.{AgentCase, IsSameKind, RawChangesNothing, SameButSitemaps}
 use Rattle.texting_robots.specs.Laws.{SitemapsChangeNothingElse, UncapturedReachesNothing}
 use Rattle.texting_robots.proofs.CapturedLemmas.{Stands, at_front, caught, caught_all, is_captured_decides, only_agents}
 use Rattle.texting_robots.proofs.CapturedLemmas.{rules_are, stands_first, stands_next}

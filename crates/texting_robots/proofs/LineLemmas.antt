@@ -1,5 +1,5 @@
 -- The lines that the walk gives are those of the text, and hold ranges of it.
-use Rattle.std.proofs.Common.{◌≡◌, ◌≢◌, ◌⊎◌, ℕ, false, inl, inr, is_some, bytes_eq, Bor, MatchOption, List, [], ◌∷◌, ◌++◌, map, sym, refl, ap, ◌∙◌, append_assoc, append-nil, Option, Some, None, ◌==◌, subst}
+use Rattle.std.proofs.Common.{◌≡◌, ◌≢◌, ◌⊎◌, ℕ, false, inl, inr, is_some, Bor, MatchOption, List, [], ◌∷◌, ◌++◌, map, sym, refl, ap, ◌∙◌, append_assoc, append-nil, Option, Some, None, ◌==◌, subst}
 use Rattle.std.specs.List.{AllZip}
 use Rattle.std.proofs.lemmas.Bool.{cases_Bool, cond-true, cond-false}
 use Rattle.texting_robots.specs.declared.parser.statement.Kind.{Kind}
@@ -8,9 +8,8 @@ use Rattle.texting_robots.specs.Cut.{Pair}
 use Rattle.texting_robots.specs.Computed.Cut.{cut}
 use Rattle.texting_robots.specs.Statement.{IsStatement, IsTailOf, colon}
 use Rattle.texting_robots.specs.Computed.Statement.{parts_of, statement_of, value_of}
-use Rattle.std.specs.Str.{str_to_ascii_lowercase}
-use Rattle.texting_robots.specs.Group.{is_agent, is_agent_named}
-use Rattle.texting_robots.specs.Line.{Allow, AreLinesOf, CrawlDelay, Disallow, HoldRangesOf, HoldsRangeOf, IsDelayOrRaw, IsLineOf, IsLineWith, IsRangeOf, LineValue, Raw, Sitemap, UserAgent, delay_in, is_sitemap, without, without_front}
+use Rattle.texting_robots.specs.Group.{is_agent}
+use Rattle.texting_robots.specs.Line.{AreLinesOf, HoldRangesOf, HoldsRangeOf, IsDelayOrRaw, IsLineOf, IsLineWith, IsRangeOf, LineValue, Raw, UserAgent, delay_in, is_sitemap, without, without_front}
 use Rattle.texting_robots.specs.Computed.Line.{delay_or_raw, line_by, line_of, line_with, parsed}
 use Rattle.texting_robots.specs.Computed.Delay.{delay_of}
 use Rattle.texting_robots.specs.Delay.{IsDelay}
@@ -133,7 +132,7 @@ only_sitemap kind.CrawlDelay value body = inr (at (delay_of value))
 
 pub sitemap_told : (body : List ℕ) (found : Option (Bor (List ℕ)))
     → MatchOption found ((tail : List ℕ) → parts_of body ≢ Some (kind.Sitemap, tail))
-        (λ tail. parts_of body ≡ Some (kind.Sitemap, tail.now))
+    (λ tail. parts_of body ≡ Some (kind.Sitemap, tail.now))
     → is_some found ≡ is_sitemap (line_of body)
 sitemap_told body None none = sym (other_line kind.Sitemap is_sitemap false (λ body. refl) only_sitemap body none)
 sitemap_told body (Some tail) is =

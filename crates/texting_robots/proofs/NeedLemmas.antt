@@ -35,7 +35,7 @@ beginning_fits : (piece rest : List ℕ) (head : Head) → IsHeadOf piece head �
 beginning_fits piece rest head is =
     let size = 8 * min (length piece) 8 in
     let masked : bit_and (front_of (piece ++ rest)) (ones_below (length piece))
-        ≡ bit_and (front_of piece) (ones_below (length piece)) =
+    ≡ bit_and (front_of piece) (ones_below (length piece)) =
     and_mask (front_of (piece ++ rest)) size ∙ same_below piece rest ∙ sym (and_mask (front_of piece) size) in
     ap (bit_and (front_of (piece ++ rest))) is.mask ∙ masked ∙ ap (bit_and (front_of piece)) (sym is.mask)
     ∙ sym is.bytes

@@ -3,13 +3,11 @@ use Rattle.std.proofs.Common.{◌≡◌, ℕ, zero, suc, ◌+◌, Bool, true, fa
 use Rattle.std.proofs.Common.{slice_get, refl, sym, ap, ◌∙◌, arith, zero-add}
 use Rattle.std.specs.List.{Contains, cons_option, enumerate_from, filter_map}
 use Rattle.std.specs.Str.{is_utf8}
-use Rattle.std.proofs.lemmas.Bool.{false≢true}
-use Rattle.texting_robots.specs.Decision.{IsDecidingLine}
 use Rattle.texting_robots.specs.Escape.{escaped}
 use Rattle.texting_robots.specs.Group.{Mark, group_name, is_captured, marks_of}
 use Rattle.texting_robots.specs.Laws.{DecidingLineHoldsItsRule, HoldsRule}
 use Rattle.texting_robots.specs.Line.{LineValue, UserAgent, Allow, Disallow, Sitemap, CrawlDelay, Raw}
-use Rattle.texting_robots.specs.Rules.{PlacedRule, Rule, placed, placed_rules, rule_at, rule_in}
+use Rattle.texting_robots.specs.Rules.{PlacedRule, placed, placed_rules, rule_at, rule_in}
 use Rattle.texting_robots.proofs.CapturedLemmas.{by_test, is_captured_decides}
 
 -- what is found in a list comes from one of its elements

@@ -1,5 +1,5 @@
 -- What the code's loops keep.
-use Rattle.std.proofs.Common.{◌≡◌, ℕ, Bool, true, false, cond, List, [], ◌∷◌, ◌++◌, Option, Some, None, length, slice_get, Result, Ok, Err, IfErr, append_assoc, length-append, subst, sym, refl, ap, ◌∙◌, arith}
+use Rattle.std.proofs.Common.{◌≡◌, ℕ, false, cond, List, [], ◌∷◌, ◌++◌, Option, Some, None, length, slice_get, Result, Ok, Err, IfErr, append_assoc, length-append, subst, sym, refl, ap, ◌∙◌, arith}
 use Rattle.std.specs.List.{All, Any, cons_option, filter_map, last_or, list_any}
 use Rattle.std.specs.Option.{option_to_list, option_or, IfSome, IsSomeAnd}
 use Rattle.std.specs.Result.{IsErrAnd}
@@ -11,7 +11,6 @@ use Rattle.std.proofs.lemmas.Str.{IsUtf8-from_is_utf8, is_utf8-from_IsUtf8}
 use Rattle.texting_robots.specs.declared.error.Error.{Error}
 use Rattle.texting_robots.specs.declared.error.Error.TheVariants as mine
 use Rattle.texting_robots.specs.Line.{LineValue, Sitemap, delay_in, is_sitemap}
-use Rattle.texting_robots.specs.Escape.{escaped}
 use Rattle.texting_robots.specs.Rules.{PlacedRule, Rule, before_agent, sitemap_in, unplaced}
 use Rattle.texting_robots.specs.Error.{IsMemoryOr}
 use Rattle.texting_robots.proofs.FirstLemmas.{placed_of}

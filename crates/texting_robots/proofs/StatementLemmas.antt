@@ -1,5 +1,5 @@
 -- A body is a statement of one kind with one value at most: the one that the walk gives.
-use Rattle.std.proofs.Common.{◌≡◌, ◌≢◌, ℕ, suc, ◌+◌, ◌<◌, true, false, ◌==◌, ◌||◌, inl, inr, List, [], ◌∷◌, ◌++◌, length, take, drop, map, sym, refl, ap, ◌∙◌, append-nil, arith, if◌then◌else◌, Option, Some, None, option_map, option_and_then, length-append, subst, nat_lt, Bor, MatchOption}
+use Rattle.std.proofs.Common.{◌≡◌, ◌≢◌, ℕ, suc, ◌+◌, ◌<◌, true, false, ◌==◌, ◌||◌, inl, inr, List, [], ◌∷◌, ◌++◌, length, take, drop, map, sym, refl, ap, ◌∙◌, arith, if◌then◌else◌, Option, Some, None, option_map, length-append, subst, nat_lt, Bor, MatchOption}
 use Rattle.std.specs.Bool.{Decides}
 use Rattle.std.specs.List.{AllByRecursion as Each, Contains}
 use Rattle.std.specs.Char.{to_ascii_lowercase}
@@ -110,8 +110,8 @@ key_found kind key rest is =
     (All-from_recursion (IsRead kind) (spellings kind) (each_read kind)) is in (
       by_low (key ++ rest) ∙ ap kind_low split ∙ reads.0 more,
       after_low (spellings kind) (key ++ rest) ∙ ap (λ t. any_low (spellings kind) t (key ++ rest)) split
-      ∙ reads.1 more (key ++ rest)
-      ∙ ap (λ t. Some t) (drop_at key rest (length low) (sym (length-map key to_ascii_lowercase))),
+          ∙ reads.1 more (key ++ rest)
+          ∙ ap (λ t. Some t) (drop_at key rest (length low) (sym (length-map key to_ascii_lowercase))),
     )
 
 -- the text is a key and the rest
@@ -284,27 +284,27 @@ stated : (kind : Kind) (body found : List ℕ) → tail_as kind (skip_blanks bod
     → IsStatement kind (value_of found) body
 stated kind body found is =
     option_and_then_some tail_of (after_any (spellings kind) (skip_blanks body)) found is (λ rest keyed tailed.
-      let s = skipped body in
-      let k = found_key (spellings kind) (skip_blanks body) rest keyed in
-      let t = found_tail rest (skip_blanks rest) found refl tailed in
-      let p = parted t.tail in
-      let same = ap value_of t.same ∙ value_skipped t.tail in
-      record {
-        margin = s.blanks;
-        key = k.key;
-        rest = rest;
-        tail = t.tail;
-        region = region_of t.tail;
-        comment = p.comment;
-        whole = s.whole ∙ ap (λ t. s.blanks ++ t) k.whole;
-        margin_blank = s.all;
-        is_key = k.is_key;
-        separated = t.is;
-        parted = p.whole;
-        no_hash = p.plain;
-        is_comment = p.is;
-        trimmed = subst (λ v. IsTrimOf v (region_of t.tail)) (sym same) (trimmed_is_trim (region_of t.tail));
-      })
+    let s = skipped body in
+    let k = found_key (spellings kind) (skip_blanks body) rest keyed in
+    let t = found_tail rest (skip_blanks rest) found refl tailed in
+    let p = parted t.tail in
+    let same = ap value_of t.same ∙ value_skipped t.tail in
+    record {
+      margin = s.blanks;
+      key = k.key;
+      rest = rest;
+      tail = t.tail;
+      region = region_of t.tail;
+      comment = p.comment;
+      whole = s.whole ∙ ap (λ t. s.blanks ++ t) k.whole;
+      margin_blank = s.all;
+      is_key = k.is_key;
+      separated = t.is;
+      parted = p.whole;
+      no_hash = p.plain;
+      is_comment = p.is;
+      trimmed = subst (λ v. IsTrimOf v (region_of t.tail)) (sym same) (trimmed_is_trim (region_of t.tail));
+    })
 
 -- the parts of a body, as they are put together
 tail_from : (k kind : Kind) (o : Option (List ℕ)) (tail : List ℕ)
@@ -317,8 +317,8 @@ tail_from k kind (Some t) tail is =
 parts_stated : (kind : Kind) (body tail : List ℕ) → parts_of body ≡ Some (kind, tail) → IsStatement kind (value_of tail) body
 parts_stated kind body tail is =
     option_and_then_some (λ k. option_map (λ t. (k, t)) (tail_as k (skip_blanks body))) (kind_by (skip_blanks body)) (kind, tail) is (λ k by found.
-      let same = tail_from k kind (tail_as k (skip_blanks body)) tail found in
-      subst (λ k. IsStatement k (value_of tail) body) same.0 (stated k body tail same.1))
+    let same = tail_from k kind (tail_as k (skip_blanks body)) tail found in
+    subst (λ k. IsStatement k (value_of tail) body) same.0 (stated k body tail same.1))
 
 pub found_statement : (kind : Kind) (value body : List ℕ) → statement_of body ≡ Some (kind, value) → IsStatement kind value body
 unfolding statement_of

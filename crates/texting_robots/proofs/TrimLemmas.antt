@@ -1,10 +1,10 @@
 -- What `trim` leaves is the trim of its text, and there is no other.
-use Rattle.std.proofs.Common.{◌≡◌, ℕ, zero, suc, ◌+◌, ◌≤◌, ◌<◌, ◌-◌, Bool, true, false, inl, inr, List, [], ◌∷◌, ◌++◌, length, take, drop, sym, refl, ap, ◌∙◌, append_assoc, append-nil, add_assoc, add-zero, zero-add, arith, IsTrue, Option, Some, None, length-append, subst, cond, slice_get, slice_index}
+use Rattle.std.proofs.Common.{◌≡◌, ℕ, zero, suc, ◌+◌, ◌≤◌, ◌<◌, ◌-◌, true, false, inl, inr, List, [], ◌∷◌, ◌++◌, length, take, drop, sym, refl, ap, ◌∙◌, append_assoc, append-nil, add_assoc, add-zero, zero-add, arith, IsTrue, Option, Some, None, length-append, subst, cond, slice_get, slice_index}
 use Rattle.std.proofs.Math.Seq.{drop-append-add}
 use Rattle.std.specs.List.{AllByRecursion as Each}
 use Rattle.std.specs.Char.{is_ascii_graphic, is_whitespace, encode_utf8}
 use Rattle.std.specs.Str.{encode_utf8_all}
-use Rattle.std.proofs.lemmas.Bool.{cases_Bool, cases_lt, cond-true, cond-false, false_from_ne_true, true≢false}
+use Rattle.std.proofs.lemmas.Bool.{cases_Bool, cases_lt, false_from_ne_true, true≢false}
 use Rattle.std.proofs.lemmas.Bool.Decides.{nat_tests}
 use Rattle.std.proofs.lemmas.List.{append_cancel_right, drop_at, get_or-append_right, length-drop, length-take-le, take-append-drop, take_at}
 use Rattle.std.proofs.lemmas.Option.{same_Some, slice_get-get_or}
@@ -122,7 +122,7 @@ from_start_space bytes first white =
     let skip = kept-skip is_whitespace (length bytes) (0, 0 + n, first.char) (spans_from (0 + n) (pieces first.later)) white in
     let spans = λ (k : ℕ). spans_from k (pieces first.later) in
     let at : kept_start is_whitespace (length bytes) (spans_from 0 (pieces bytes))
-        ≡ n + kept_start is_whitespace (length first.later) (spans 0)
+    ≡ n + kept_start is_whitespace (length first.later) (spans 0)
     = ap (kept_start is_whitespace (length bytes)) (first.spans 0) ∙ skip
     ∙ ap (λ k. kept_start is_whitespace (length bytes) (spans k)) (zero-add n ∙ sym (add-zero n))
     ∙ ap (λ k. kept_start is_whitespace k (spans (n + 0))) long
@@ -165,7 +165,7 @@ front_of (suc n) (b ∷ rest) le =
             first.piece ++ f.0,
             space_first bytes first f.0 white f.1,
             first.whole ∙ ap (λ t. first.piece ++ t) (f.2 ∙ ap (λ t. f.0 ++ t) (sym (from_start_space bytes first white)))
-            ∙ sym (append_assoc first.piece f.0 (from_start bytes)),
+                ∙ sym (append_assoc first.piece f.0 (from_start bytes)),
           )
     ]
 
@@ -362,10 +362,10 @@ none_graphic (c ∷ cs) k all within =
     let b = slice_index bytes k in
     elim (cases_lt k (length (encode_utf8 c))) [
       | inl here ↦ false_from_ne_true (is_ascii_graphic b) (λ is.
-            let low : b < 128 = grind (arith, nat_tests) in
-            let same : c ≡ b = inside_one c (encode_utf8_all cs) bytes k refl here low in
-            let white : is_whitespace b ≡ true = rw (← same) all.0 in
-            grind (arith, nat_tests))
+          let low : b < 128 = grind (arith, nat_tests) in
+          let same : c ≡ b = inside_one c (encode_utf8_all cs) bytes k refl here low in
+          let white : is_whitespace b ≡ true = rw (← same) all.0 in
+          grind (arith, nat_tests))
       | inr behind ↦
           let n = length (encode_utf8 c) in
           ap is_ascii_graphic (get_or-append_right (encode_utf8 c) (encode_utf8_all cs) n k 0 refl behind)

@@ -65,10 +65,16 @@ length_decides deny allow text other denies allows = (
     | inl same ↦ subst (λ (r : Rule). length allow < length r.0) (sym same) (longest allow (1, omega arith, refl) allows)
     | inr turned ↦ absurd (disallow_isnt p allow turned)
   ],
-  λ longer. (other, deny, (0, omega arith, refl), denies, λ q has matches. elim (of_two (deny, false) (allow, true) (q, true) has) [
-    | inl turned ↦ absurd (allow_isnt deny q turned)
-    | inr same ↦ subst (λ (r : Rule). length r.0 < length deny) same longer
-  ]),
+  λ longer. (
+    other,
+    deny,
+    (0, omega arith, refl),
+    denies,
+    λ q has matches. elim (of_two (deny, false) (allow, true) (q, true) has) [
+      | inl turned ↦ absurd (allow_isnt deny q turned)
+      | inr same ↦ subst (λ (r : Rule). length r.0 < length deny) same longer
+    ],
+  ),
 )
 
 -- ---- the line that decides

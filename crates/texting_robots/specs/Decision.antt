@@ -1,5 +1,5 @@
 -- Which line decides, and how many rules are as long as one.
-use Rattle.std.specs.Prelude.{◌≡◌, ◌≢◌, ◌⊎◌, ℕ, ◌≤◌, nat_le, true, List, Option, Some, None, Contains, codes, count_by, length}
+use Rattle.std.specs.Prelude.{◌≡◌, ◌≢◌, ◌⊎◌, ℕ, ◌≤◌, nat_le, true, List, Option, Some, None, Contains, count_by, length}
 use Rattle.texting_robots.specs.Pattern.{Matches}
 use Rattle.texting_robots.specs.Rules.{PlacedRule}
 use Rattle.texting_robots.specs.Verdict.{robots_file}

@@ -11,10 +11,7 @@ use std::borrow::CowStr;
 const ESCAPED: AsciiSet = ascii_set!(CONTROLS.add(b' ').add(b'"').add(b'<').add(b'>').add(b'`'));
 
 /// The text with each byte of the set and each byte past ASCII escaped. It is lent where there is none.
-pub(crate) fn escaped<'a>(
-    alloc: Global,
-    text: &'a str,
-) -> Result<CowStr<'a, Global>, AllocError>
+pub(crate) fn escaped<'a>(alloc: Global, text: &'a str) -> Result<CowStr<'a, Global>, AllocError>
     ensures { IfOk result (λ s. cow_str_bytes s ≡ escaped text.now) }
 {
     utf8_percent_encode(text, ESCAPED).into_cow(alloc)

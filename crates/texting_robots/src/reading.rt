@@ -26,12 +26,7 @@ pub(crate) struct Reading {
 
 /// Adds the rule that a value gives, if it is UTF-8.
 #[tactic(auto, using(crate::proofs::RulesLemmas::no_text))]
-fn push_rule(
-    rules: &mut Gathered,
-    value: &[u8],
-    is_allow: bool,
-    line: usize,
-) -> Result<(), Error>
+fn push_rule(rules: &mut Gathered, value: &[u8], is_allow: bool, line: usize) -> Result<(), Error>
     requires { AreEntries rules.old }
     ensures known { OnOk result (AreEntries rules.new) }
     ensures added { OnOk result (rules_in rules.new

@@ -37,7 +37,16 @@ pub(crate) fn front(text: &[u8]) -> u64
         return u64::from_le_bytes(*eight);
     }
     let byte = |at| byte_or_zero(text, at);
-    u64::from_le_bytes([byte(0), byte(1), byte(2), byte(3), byte(4), byte(5), byte(6), 0])
+    u64::from_le_bytes([
+        byte(0),
+        byte(1),
+        byte(2),
+        byte(3),
+        byte(4),
+        byte(5),
+        byte(6),
+        0,
+    ])
 }
 
 /// The byte at a place of the text, or zero past its end.

@@ -39,11 +39,7 @@ fn feeds(byte: u8, nul_ends: bool) -> bool
 }
 
 /// What follows the line end that the text begins with.
-#[tactic(auto, using(
-    crate::proofs::CutFromFront::past_return,
-    crate::proofs::CutFromFront::past_feed,
-    crate::proofs::CutFromFront::no_end
-))]
+#[tactic(auto, using(crate::proofs::CutFromFront::past_return, crate::proofs::CutFromFront::past_feed, crate::proofs::CutFromFront::no_end))]
 pub(crate) fn after_end<'a>(text: &'a [u8], nul_ends: bool) -> &'a [u8]
     ensures { result.now ≡ drop (end_len (read_as nul_ends text.now)) text.now }
 {

@@ -164,11 +164,7 @@ fn holds_hash(text: &[u8]) -> bool
 }
 
 /// What stands before the comment.
-#[tactic(auto, using(
-    crate::proofs::RegionLemmas::first_is,
-    crate::proofs::RegionLemmas::none_is,
-    crate::proofs::RegionLemmas::plain_is
-))]
+#[tactic(auto, using(crate::proofs::RegionLemmas::first_is, crate::proofs::RegionLemmas::none_is, crate::proofs::RegionLemmas::plain_is))]
 fn region_of<'a>(tail: &'a [u8]) -> &'a [u8]
     ensures { result.now ≡ region_of tail.now }
 {

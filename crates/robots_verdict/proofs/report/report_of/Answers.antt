@@ -14,7 +14,7 @@ returns-clause-ok c =
     ∙ ap (λ (t : List ℕ). t ++ ended (delay_line c.robot.inside.delay ∷ [])) c.new-text.ensures.bytes
     ∙ ap (λ delay. ended (delay_line delay ∷ [])) (ap (λ (r : RobotValue). r.delay) c.robot.view_is) in
     let listed : string_bytes c.push_sitemaps.new.text
-        ≡ string_bytes c.push_delay.new.text ++ ended (map sitemap_line robot.sitemaps) =
+    ≡ string_bytes c.push_delay.new.text ++ ended (map sitemap_line robot.sitemaps) =
     c.in_ok-push_sitemaps.ensures
     ∙ ap (λ (t : List (List ℕ)). string_bytes c.push_delay.new.text ++ ended (map sitemap_line t))
     (ap (map string_bytes) c.deref.ensures.value ∙ ap (λ (r : RobotValue). r.sitemaps) c.robot.view_is) in

@@ -1,5 +1,4 @@
-use Rattle.std.proofs.Common.{◌≡◌, ◌∙◌, ap, sym}
-use Rattle.texting_robots.specs.Group.{is_agent}
+use Rattle.std.proofs.Common.{◌∙◌, ap, sym}
 use Rattle.texting_robots.specs.Line.{UserAgent}
 use Rattle.texting_robots.proofs.LineLemmas.{agent_line, no_agent}
 use Rattle.texting_robots.proofs.parser.Unread.agent.Goals as goal

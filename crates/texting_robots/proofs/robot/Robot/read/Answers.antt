@@ -5,7 +5,7 @@ use Rattle.std.proofs.lemmas.Bool.{false≢true}
 use Rattle.texting_robots.specs.Computed.Line.{file_lines}
 use Rattle.texting_robots.specs.Group.{group_name, marks_of}
 use Rattle.texting_robots.specs.Pattern.{IsOverlong}
-use Rattle.texting_robots.specs.Rules.{PlacedRule, Rule, delay_at, delay_before_agents, rule_at, sitemap_at, unplaced}
+use Rattle.texting_robots.specs.Rules.{PlacedRule, Rule, delay_at, delay_before_agents, rule_at, sitemap_at}
 use Rattle.texting_robots.proofs.CapturedLemmas.{sitemaps_are}
 use Rattle.texting_robots.proofs.RulesLemmas.{all_added, any_unplaced, first_more, given_any, given_more, given_none}
 use Rattle.texting_robots.proofs.RulesLemmas.{no_rules, none_unplaced, option_or_none, passed_on, refused_wider}
