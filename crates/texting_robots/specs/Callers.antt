@@ -1,7 +1,6 @@
 -- The words that the contracts of public calls use, passed on from one place. Declares nothing.
 
--- the lines of a file, and the first bytes of it that `Robot::new` reads
-pub use Rattle.texting_robots.specs.declared.robot.TheConstants.{FILE_LIMIT}
+-- the lines of a file
 pub use Rattle.texting_robots.specs.Line.{LineValue, UserAgent, Allow, Disallow, Sitemap, CrawlDelay, Raw, by_value, value_in}
 pub use Rattle.texting_robots.specs.Line.{AreFileLinesOf, AreLinesOf, HoldRangesOf}
 pub use Rattle.texting_robots.specs.Computed.Line.{file_lines, parsed}

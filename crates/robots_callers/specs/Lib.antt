@@ -1,0 +1,4 @@
+pub mod Read
+pub mod Crawler
+pub mod LinkCheck
+pub mod Audit
