@@ -1,4 +1,3 @@
-pub mod Read
 pub mod Crawler
 pub mod LinkCheck
 pub mod Audit

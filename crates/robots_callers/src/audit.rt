@@ -67,7 +67,8 @@ mod tests {
 
     #[test]
     fn each_line_has_a_row(rt: HostRuntime) -> Result<(), Fail> {
-        let file = b"# hello\nUser-agent: *\nDisallow: /a # no\n\nNoindex: /x\nCrawl-delay: 1\nSitemap: s";
+        let file =
+            b"# hello\nUser-agent: *\nDisallow: /a # no\n\nNoindex: /x\nCrawl-delay: 1\nSitemap: s";
         let kinds = [
             Kind::Other,
             Kind::Agent,

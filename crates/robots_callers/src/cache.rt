@@ -1,9 +1,8 @@
 //! A cache of robots, by the addresses of their files.
 ghost use Rattle.std.specs.Prelude.{◌≡◌, ◌+◌, ◌-◌, ◌≤◌, ℕ, if◌then◌else◌, is_some, IfOk, IsSomeAnd, List, Ok, OnOk, Some, option_copied, string_bytes};
 ghost use Rattle.indexmap.specs.IndexMap.{get_by_text, index_map_len};
-ghost use Rattle.robots_callers.specs.Read.{lines_read};
 ghost use Rattle.robots_callers.specs.declared.cache.TheConstants.{MOST};
-ghost use Rattle.texting_robots.specs.Callers.{IsRobotOf, robots_address};
+ghost use Rattle.texting_robots.specs.Callers.{IsRobotOf, lines_read, robots_address};
 
 use indexmap::IndexMap;
 use std::alloc::Global;

@@ -1,8 +1,7 @@
 //! A polite crawler's plan for a site.
 ghost use Rattle.std.specs.Prelude.{◌≡◌, ◌+◌, IfErr, IfOk, IfSome, map, min, unwrap_or};
 ghost use Rattle.robots_callers.specs.Crawler.{AreAllowed};
-ghost use Rattle.robots_callers.specs.Read.{lines_read};
-ghost use Rattle.texting_robots.specs.Callers.{IsMemoryOr, IsRefused, delay_for, rules_for};
+ghost use Rattle.texting_robots.specs.Callers.{IsMemoryOr, IsRefused, delay_for, lines_read, rules_for};
 
 use std::alloc::Global;
 use texting_robots::{Error, Robot};

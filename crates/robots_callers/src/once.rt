@@ -1,7 +1,6 @@
 //! One question about one file.
 ghost use Rattle.std.specs.Prelude.{IfErr, IfOk};
-ghost use Rattle.robots_callers.specs.Read.{lines_read};
-ghost use Rattle.texting_robots.specs.Callers.{IsMemoryOr, IsRefused, IsVerdict, prepared, rules_for};
+ghost use Rattle.texting_robots.specs.Callers.{IsMemoryOr, IsRefused, IsVerdict, lines_read, prepared, rules_for};
 
 use std::alloc::Global;
 use texting_robots::{Error, Robot};

@@ -7,7 +7,8 @@ use texting_robots::{Error, Robot};
 
 #[test]
 fn a_line_has_the_bytes_that_it_holds(rt: HostRuntime) -> Result<(), Fail> {
-    let text = b"User-agent: A\nAllow: /b\nDisallow: /c\nDisallow:\nSitemap: d\nCrawl-delay: 1\nNoindex: /e";
+    let text =
+        b"User-agent: A\nAllow: /b\nDisallow: /c\nDisallow:\nSitemap: d\nCrawl-delay: 1\nNoindex: /e";
     let values: [Option<&[u8]>; 7] = [
         Some(b"A"),
         Some(b"/b"),

@@ -10,7 +10,7 @@ pub use Rattle.texting_robots.specs.Delay.{IsDelay}
 pub use Rattle.texting_robots.specs.Group.{IsCaptured, group_name}
 pub use Rattle.texting_robots.specs.Rules.{Rule, PlacedRule, unplaced, placed_rules, rules_for, delay_for, sitemaps_in}
 pub use Rattle.texting_robots.specs.Rules.{GivesNothing, IsRefused}
-pub use Rattle.texting_robots.specs.Robot.{RobotValue, IsRobotOf}
+pub use Rattle.texting_robots.specs.Robot.{RobotValue, IsRobotOf, lines_read}
 
 -- URLs, texts and patterns
 pub use Rattle.texting_robots.specs.Address.{robots_address}

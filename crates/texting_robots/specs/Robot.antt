@@ -1,5 +1,7 @@
 -- What contracts see of a robot.
-use Rattle.std.specs.Prelude.{◌≡◌, ◌↔◌, ℕ, Bool, List, Option, IsPermutation}
+use Rattle.std.specs.Prelude.{◌≡◌, ◌↔◌, ℕ, Bool, List, Option, IsPermutation, take}
+use Rattle.texting_robots.specs.Computed.Line.{file_lines}
+use Rattle.texting_robots.specs.declared.robot.TheConstants.{FILE_LIMIT}
 use Rattle.texting_robots.specs.Decision.{IsDecidingLine}
 use Rattle.texting_robots.specs.Line.{LineValue}
 use Rattle.texting_robots.specs.Rules.{IsRefused, PlacedRule, delay_for, placed_rules, rules_for, sitemaps_in, unplaced}
@@ -22,3 +24,7 @@ pub record IsRobotOf (agent : List ℕ) (lines : List LineValue) (robot : RobotV
   pub deciding : (text : List ℕ) (line : Option ℕ)
       → IsDecidingLine robot.rules text line ↔ IsDecidingLine (placed_rules agent lines) text line
   pub accepted : ¬ IsRefused agent lines
+
+-- the lines of as many bytes of a file as `Robot::new` reads
+abbrev pub lines_read : List ℕ → List LineValue
+lines_read file = file_lines (take FILE_LIMIT file)

@@ -2,8 +2,7 @@ use Rattle.std.proofs.Common.{◌≡◌, ◌+◌, ◌<◌, ℕ, Bool, Bor, List,
 use Rattle.std.proofs.Common.{map, refl, slice_index_or, subst, sym}
 use Rattle.std.proofs.lemmas.List.{append-nil, drop_all, drop_more, map-append}
 use Rattle.robots_callers.specs.Crawler.{AreAllowed}
-use Rattle.robots_callers.specs.Read.{lines_read}
-use Rattle.texting_robots.specs.Callers.{IsVerdict, Rule, prepared, rules_for}
+use Rattle.texting_robots.specs.Callers.{IsVerdict, Rule, prepared, lines_read, rules_for}
 use Rattle.robots_callers.proofs.crawler.plan_for.Goals.{then-branch+in_ok-push, else-branch}
 use Rattle.robots_callers.proofs.crawler.plan_for.Goals as goal
 
@@ -21,13 +20,13 @@ loop-url-preserved c = λ rest are.
     let allowed = c.in_ok-allowed.field-0 in
     let is = (c.in_ok-robot.ensures.robot.verdicts _ allowed).0 c.in_ok-allowed.ensures.ok in
     let all = c.loop-url.invariant _
-        (from_here rules c.args.urls.now c.loop-url.url-index _ allowed rest c.loop-url-test.true is are) in
+    (from_here rules c.args.urls.now c.loop-url.url-index _ allowed rest c.loop-url-test.true is are) in
     elim c.if-branch.branch [
-      then-branch+in_ok-push w ↦ rw (w.allowed-is, w.in_ok-push.ensures.items, map-append, append_assoc) (rw w.if-branch.true at all)
+      | then-branch+in_ok-push w ↦ rw (w.allowed-is, w.in_ok-push.ensures.items, map-append, append_assoc) (rw w.if-branch.true at all)
       | else-branch w ↦ rw w.allowed-is (rw w.if-branch.false at all)
     ]
 
 pub returns-clause-urls : goal.returns-clause-urls
 returns-clause-urls c =
     let none = drop_all c.loop-url.url-index c.args.urls.now c.loop-url-test.false in
-    (rw (none, append-nil) at c.loop-url.invariant []) refl
+    (rw (none, append-nil) at (c.loop-url.invariant [])) refl

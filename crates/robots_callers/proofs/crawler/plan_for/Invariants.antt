@@ -1,7 +1,6 @@
 use Rattle.std.proofs.Common.{ℕ, List, ◌++◌, drop, map}
 use Rattle.robots_callers.specs.Crawler.{AreAllowed}
-use Rattle.robots_callers.specs.Read.{lines_read}
-use Rattle.texting_robots.specs.Callers.{rules_for}
+use Rattle.texting_robots.specs.Callers.{lines_read, rules_for}
 use Rattle.robots_callers.proofs.crawler.plan_for.Given as goal
 
 -- whatever is kept of the URLs that are left, all that is kept is it, behind what was kept so far

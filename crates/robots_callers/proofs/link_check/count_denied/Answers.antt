@@ -29,16 +29,16 @@ loop-text-preserved c =
     let so_far = c.loop-text.invariant in
     let allowed = c.judged-allowed.result.0 in
     let here = share_here (λ text. 2 * length text.now * length c.args.robot.now.rules) texts at _ _
-        c.loop-text-test.true c.judged-allowed.ensures.looks in
+    c.loop-text-test.true c.judged-allowed.ensures.looks in
     let more : c.if-not-allowed.count ≡ c.loop-text.count + (if allowed then 0 else 1) =
     elim c.if-not-allowed.branch [
-      then-not-allowed w ↦ grind (arith, w.count-is, w.if-not-allowed)
+      | then-not-allowed w ↦ grind (arith, w.count-is, w.if-not-allowed)
       | else-not-allowed w ↦ grind (arith, w.count-is, w.if-not-allowed)
     ] in
     record {
       count = λ rest are.
           let all = so_far.count _
-              (from_here rules texts at _ allowed rest c.loop-text-test.true c.judged-allowed.ensures.verdict are) in
+          (from_here rules texts at _ allowed rest c.loop-text-test.true c.judged-allowed.ensures.verdict are) in
           subst (AreDenied rules (map (λ text. text.now) texts)) (grind (arith, more)) all;
       within = omega (arith, more, so_far.within);
       looks = omega (arith, so_far.looks, here, c.saturating_add-looks.ensures);
@@ -49,5 +49,5 @@ returns-clause-count c =
     let rules = unplaced c.args.robot.now.rules in
     let none = drop_all c.loop-text.text-index c.args.texts.now c.loop-text-test.false in
     let all : AreDenied rules (map (λ text. text.now) c.args.texts.now) (c.loop-text.count + 0) =
-    (rw none at c.loop-text.invariant.count 0) refl in
+    (rw none at (c.loop-text.invariant.count 0)) refl in
     subst (AreDenied rules (map (λ text. text.now) c.args.texts.now)) (omega arith) all
