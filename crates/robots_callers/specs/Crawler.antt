@@ -6,5 +6,5 @@ use Rattle.texting_robots.specs.Callers.{IsVerdict, Rule, prepared}
 abbrev pub AreAllowed : List Rule → List (List ℕ) → List (List ℕ) → Type 0
 AreAllowed rules [] kept = kept ≡ []
 AreAllowed rules (url ∷ urls) kept =
-    (allowed : Bool) × (rest : List (List ℕ)) × IsVerdict rules (prepared url) allowed × AreAllowed rules urls rest
-    × (kept ≡ (if allowed then url ∷ rest else rest))
+    (allowed : Bool) × (rest : List (List ℕ)) × IsVerdict rules (prepared url) allowed
+    × AreAllowed rules urls rest × (kept ≡ (if allowed then url ∷ rest else rest))

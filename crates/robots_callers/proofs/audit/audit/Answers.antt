@@ -5,5 +5,6 @@ use Rattle.robots_callers.proofs.audit.audit.Goals as goal
 pub loop-line-preserved : goal.loop-line-preserved
 loop-line-preserved c =
     let size : vec_len c.loop-line.rows ≡ length c.loop-line.rows.items = search rules in
-    rw (c.in_ok-push.ensures.items, map-append, length_push, append_assoc, c.len.ensures, size, c.kind_of.ensures)
+    let pushed = c.in_ok-push.ensures.items in
+    rw (pushed, map-append, length_push, append_assoc, c.len.ensures, size, c.kind_of.ensures)
     (rw c.in-Some.ensures.steps at c.loop-line.invariant)
