@@ -8,14 +8,14 @@ use Rattle.std.proofs.lemmas.List.Concat.{flat_map-append}
 use Rattle.texting_robots.specs.Decision.{IsDecidingLine}
 use Rattle.texting_robots.specs.Line.{LineValue}
 use Rattle.texting_robots.specs.Prepared.{prepared}
-use Rattle.texting_robots.specs.Robot.{IsRobotOf, RobotValue}
+use Rattle.texting_robots.specs.Robot.{IsRobotOf, RobotValue, lines_read}
 use Rattle.texting_robots.specs.Rules.{IsRefused, PlacedRule, Rule, delay_for, placed_rules, sitemaps_in, unplaced}
 use Rattle.texting_robots.specs.Verdict.{IsVerdict}
 use Rattle.texting_robots.proofs.VerdictLemmas.{one_line_decides}
 use Rattle.robots_verdict.specs.declared.fault.Fault.{Fault}
 use Rattle.robots_verdict.specs.declared.fault.Fault.TheVariants.{HeaderNotUtf8, InvalidRule, Memory, NoEmptyLine, Read, Write}
 use Rattle.robots_verdict.specs.Input.{AreUtf8, HoldNotUtf8, IsInput, ended, lf}
-use Rattle.robots_verdict.specs.Report.{AppendsBeginning, AppendsReport, AppendsReportBeginning, EachInputHasOneReport, HasFault, IsReport, IsReportText, IsVerdictLine, delay_line, lines_read, sitemap_line, verdict_line}
+use Rattle.robots_verdict.specs.Report.{AppendsBeginning, AppendsReport, AppendsReportBeginning, EachInputHasOneReport, HasFault, IsReport, IsReportText, IsVerdictLine, delay_line, sitemap_line, verdict_line}
 use Rattle.robots_verdict.specs.Steps.{AddsVerdicts}
 use Rattle.robots_verdict.proofs.InputLemmas.{not_both, one_split}
 

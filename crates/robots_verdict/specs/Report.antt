@@ -1,14 +1,12 @@
 -- What the program writes of what it reads.
-use Rattle.std.specs.Prelude.{◌≡◌, ℕ, Bool, true, false, List, ◌∷◌, ◌++◌, Option, Some, None, Result, Ok, Err, codes, decimal, map, take}
+use Rattle.std.specs.Prelude.{◌≡◌, ℕ, Bool, true, false, List, ◌∷◌, ◌++◌, Option, Some, None, Result, Ok, Err, codes, decimal, map}
 use Rattle.std.specs.List.{AllZip}
 use Rattle.std.specs.Io.KnownBytes.{Appends}
-use Rattle.texting_robots.specs.Computed.Line.{file_lines}
 use Rattle.texting_robots.specs.Decision.{IsDecidingLine}
-use Rattle.texting_robots.specs.Line.{LineValue}
 use Rattle.texting_robots.specs.Prepared.{prepared}
 use Rattle.texting_robots.specs.Rules.{IsRefused, PlacedRule, delay_for, placed_rules, sitemaps_in, unplaced}
 use Rattle.texting_robots.specs.Verdict.{IsVerdict}
-use Rattle.texting_robots.specs.Robot.{file_limit}
+use Rattle.texting_robots.specs.Robot.{lines_read}
 use Rattle.robots_verdict.specs.declared.fault.Fault.{Fault}
 use Rattle.robots_verdict.specs.declared.fault.Fault.TheVariants.{HeaderNotUtf8, InvalidRule, Memory, NoEmptyLine, Read, Write}
 use Rattle.robots_verdict.specs.Input.{AreUtf8, HoldNotUtf8, IsInput, ended}
@@ -41,10 +39,6 @@ pub record IsVerdictLine (rules : List PlacedRule) (url line : List ℕ) : Type 
   pub verdict : IsVerdict (unplaced rules) (prepared url) allowed
   pub deciding : IsDecidingLine rules (prepared url) number
   pub whole : line ≡ verdict_line allowed number url
-
--- the lines that are read of a file: those of its first 512,000 bytes
-abbrev pub lines_read : List ℕ → List LineValue
-lines_read file = file_lines (take file_limit file)
 
 -- the text is the agent's delay, the file's sitemaps and the verdict on each URL, a line each
 pub record IsReportText (agent : List ℕ) (urls : List (List ℕ)) (file text : List ℕ) : Type 0 where

@@ -16,4 +16,5 @@ pub mod Robot
 pub mod Prepared
 pub mod Address
 pub mod Laws
+pub mod Callers
 pub mod Computed

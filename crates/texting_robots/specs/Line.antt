@@ -110,6 +110,15 @@ abbrev pub is_raw : LineValue → Bool
 is_raw (Raw body) = true
 is_raw _ = false
 
+-- the bytes that the line holds, where it holds some
+abbrev pub value_in : LineValue → Option (List ℕ)
+value_in (UserAgent value) = Some value
+value_in (Allow value) = Some value
+value_in (Disallow value) = Some value
+value_in (Sitemap value) = Some value
+value_in (CrawlDelay delay) = None
+value_in (Raw body) = Some body
+
 -- the delay that the line gives
 abbrev pub delay_in : LineValue → Option ℕ
 delay_in (CrawlDelay delay) = delay

@@ -1,5 +1,6 @@
 -- What contracts see of a robot.
-use Rattle.std.specs.Prelude.{◌≡◌, ◌↔◌, ℕ, Bool, List, Option, IsPermutation}
+use Rattle.std.specs.Prelude.{◌≡◌, ◌↔◌, ℕ, Bool, List, Option, IsPermutation, take}
+use Rattle.texting_robots.specs.Computed.Line.{file_lines}
 use Rattle.texting_robots.specs.Decision.{IsDecidingLine}
 use Rattle.texting_robots.specs.Line.{LineValue}
 use Rattle.texting_robots.specs.Rules.{IsRefused, PlacedRule, delay_for, placed_rules, rules_for, sitemaps_in, unplaced}
@@ -8,6 +9,10 @@ use Rattle.texting_robots.specs.Verdict.{IsVerdict}
 -- how many bytes of a file count
 abbrev pub file_limit : ℕ
 file_limit = 512000
+
+-- the lines of the bytes that count
+abbrev pub lines_read : List ℕ → List LineValue
+lines_read file = file_lines (take file_limit file)
 
 -- the delay, the sitemaps, and the rules with their lines
 pub record RobotValue : Type 0 where

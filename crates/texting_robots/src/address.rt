@@ -52,8 +52,11 @@ pub fn robots_url_of(alloc: Global, url: &Url) -> Result<String, ParseError>
 
 /// The address of the robots.txt file of the site that a URL is on.
 ///
+/// # Errors
+///
 /// A text that `url` refuses is refused with `url`'s error, a URL that can't be a base with `SetHostOnCannotBeABaseUrl`, and
-/// one that isn't `http` or `https`, or has no host, with `EmptyHost`. Want of memory is `OutOfMemory` or `Overflow`.
+/// one that isn't `http` or `https`, or has no host, with `EmptyHost`. Where memory is refused it
+/// answers `OutOfMemory`, and where a URL comes to more bytes than `url` can count `Overflow`.
 pub fn get_robots_url(alloc: Global, url: &str) -> Result<String, ParseError>
     ensures { GivesBy string_bytes result (robots_address url.now) }
 {

@@ -4,6 +4,26 @@
 //!
 //! [`Robot`] is the way in: `Robot::new` reads a file for an agent, and `allowed` answers for a URL. [`get_robots_url`]
 //! says where the file of a site stands. [`parser`], [`minregex`] and [`view`] are the layers below.
+//!
+//! ```
+//! use std::alloc::Global;
+//! use texting_robots::{Error, Robot};
+//!
+//! /// Whether the crawler `FerrisBot` may fetch a page, and how many microseconds it waits before the next.
+//! fn may_fetch(alloc: Global, file: &[u8], page: &str) -> Result<Option<u64>, Error> {
+//!     let robot = Robot::new(alloc, "FerrisBot", file)?;
+//!     if robot.allowed(alloc, page)? {
+//!         // a file may ask for any delay, so it is capped at a minute
+//!         Ok(Some(robot.delay.unwrap_or(1_000_000).min(60_000_000)))
+//!     } else {
+//!         Ok(None)
+//!     }
+//! }
+//! ```
+//!
+//! A call that may have to take memory is handed an allocator and answers a `Result`. 'Want of memory' is an allocation
+//! failure: the allocator refused, and the call answers `Error::Memory` in place of ending the process. Its other errors
+//! stand under 'Errors' at each call.
 #![tactic(auto)]
 
 pub mod address;

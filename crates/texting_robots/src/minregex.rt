@@ -44,8 +44,12 @@ impl Model for MinRegex {
 }
 
 impl MinRegex {
-    /// Takes a pattern, which isn't escaped here. `Error::InvalidRule` says that it holds `$` and has more than 4,096
-    /// bytes, each run of stars counted as one.
+    /// Takes a pattern, which isn't escaped here.
+    ///
+    /// # Errors
+    ///
+    /// `Error::InvalidRule` where it holds `$` and has more than 4,096 bytes, each run of stars counted as one.
+    /// `Error::Memory` where memory is refused.
     pub fn new(alloc: Global, pattern: &str) -> Result<Self, Error>
         ensures ok { IfOk result (λ regex. regex ≡ pattern.now) }
         ensures accepted { OnOk result (¬ IsOverlong pattern.now) }
@@ -69,6 +73,10 @@ impl MinRegex {
     }
 
     /// An equal pattern.
+    ///
+    /// # Errors
+    ///
+    /// `Error::Memory` where memory is refused.
     pub fn clone(&self, alloc: Global) -> Result<Self, Error>
         ensures ok { IfOk result (λ regex. regex ≡ self.now) }
         ensures memory { IfErr result (λ e. e ≡ Error.Memory) }

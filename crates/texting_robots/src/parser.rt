@@ -1,9 +1,9 @@
 //! The lines of a robots.txt file.
-ghost use Rattle.std.specs.Prelude.{◌≡◌, ◌≤◌, IfErr, IfOk, MatchOption, false, length, map};
+ghost use Rattle.std.specs.Prelude.{◌≡◌, ◌≤◌, IfErr, IfOk, MatchOption, false, length, map, option_map};
 ghost use Rattle.std.specs.Iterator.{YieldsFirst, YieldsFirstBy, item_count};
 ghost use Rattle.texting_robots.specs.Computed.Line.{file_lines, line_of, line_with, parsed};
 ghost use Rattle.texting_robots.specs.Group.{is_agent, is_group};
-ghost use Rattle.texting_robots.specs.Line.{AreFileLinesOf, AreLinesOf, HoldRangesOf, UserAgent, by_value, delay_in, is_sitemap, without_front};
+ghost use Rattle.texting_robots.specs.Line.{AreFileLinesOf, AreLinesOf, HoldRangesOf, UserAgent, by_value, delay_in, is_sitemap, value_in, without_front};
 
 mod cut;
 mod delay;
@@ -31,6 +31,22 @@ pub enum Line<'a> {
     CrawlDelay(Option<u64>),
     /// All else: the whole line without its end.
     Raw(&'a [u8]),
+}
+
+impl<'a> Line<'a> {
+    /// The bytes that the line holds: its value, or the whole line where it is `Raw`. A delay has a number in place of bytes.
+    pub fn value(self) -> Option<&'a [u8]>
+        ensures { option_map (λ value. value.now) result ≡ value_in (by_value self.entry) }
+    {
+        match self {
+            Line::UserAgent(value)
+            | Line::Allow(value)
+            | Line::Disallow(value)
+            | Line::Sitemap(value)
+            | Line::Raw(value) => Some(value),
+            Line::CrawlDelay(_) => None,
+        }
+    }
 }
 
 /// A line that isn't read to its value: whoever looks for groups asks it, and nothing else is read.
@@ -241,7 +257,11 @@ fn collected<'a>(alloc: Global, lines: LineIter<'a>) -> Result<Vec<Line<'a>>, Al
     Ok(all)
 }
 
-/// All lines of a text. It reads every text to its end; only want of memory stops it.
+/// All lines of a text. It reads every text to its end.
+///
+/// # Errors
+///
+/// `Error::Memory` where memory is refused.
 #[tactic(auto, using(crate::proofs::LineLemmas::lines_are, crate::proofs::LineLemmas::lines_range))]
 pub fn robots_txt_parse<'a>(alloc: Global, input: &'a [u8]) -> Result<Vec<Line<'a>>, Error>
     ensures value { IfOk result (λ lines. map by_value lines.items ≡ parsed input.now) }

@@ -5,7 +5,7 @@ ghost use Rattle.texting_robots.specs.Decision.{IsDecidingLine, as_long_as};
 ghost use Rattle.texting_robots.specs.Error.{IsMemoryOr};
 ghost use Rattle.texting_robots.specs.Pattern.{Matches};
 ghost use Rattle.texting_robots.specs.Prepared.{prepared, target_of};
-ghost use Rattle.texting_robots.specs.Robot.{IsRobotOf, file_limit};
+ghost use Rattle.texting_robots.specs.Robot.{IsRobotOf, lines_read};
 ghost use Rattle.texting_robots.specs.Rules.{GivesNothing, IsRefused, PlacedRule, unplaced};
 ghost use Rattle.texting_robots.specs.Verdict.{IsVerdict};
 ghost use Rattle.texting_robots.specs.View.{LooksAtMost};
@@ -28,7 +28,8 @@ pub const FILE_LIMIT: usize = 512_000;
 /// What one crawler gets of a robots.txt file.
 #[derive(Debug, Drop)]
 pub struct Robot {
-    /// How many microseconds the crawler waits between two requests, where the file says so.
+    /// How many microseconds the crawler waits between two requests, where the file says so. It may be `u64::MAX`, as for
+    /// `Crawl-delay: inf`: a caller caps it before adding it to a time.
     pub delay: Option<u64>,
     /// The sitemaps that the file lists, for every crawler, in the file's order.
     pub sitemaps: Vec<String>,
@@ -48,13 +49,17 @@ impl Robot {
     /// Reads the first [`FILE_LIMIT`] bytes of the file `txt` for the crawler that calls itself `agent`.
     ///
     /// The agent is compared whole with the file's User-Agent lines, ASCII letters in any case; it isn't trimmed. Every
-    /// file can be read: lines that are no statement are passed over. `Error::InvalidRule` says that a rule of this
-    /// crawler's holds `$` and has more than 4,096 bytes escaped, each run of stars counted as one. Memory is taken only for
-    /// rules and sitemaps.
+    /// file can be read: lines that are no statement are passed over. Memory is taken only for rules and sitemaps.
+    ///
+    /// # Errors
+    ///
+    /// `Error::InvalidRule` where a rule of this crawler's holds `$` and has more than 4,096 bytes escaped, each run of stars
+    /// counted as one. There is no robot then: the caller treats the file as one that it can't use, as its own policy says.
+    /// `Error::Memory` where memory is refused.
     pub fn new(alloc: Global, agent: &str, txt: &[u8]) -> Result<Self, Error>
-        ensures robot { IfOk result (IsRobotOf agent.now (file_lines (take file_limit txt.now))) }
-        ensures refused { IfErr result (IsMemoryOr (IsRefused agent.now (file_lines (take file_limit txt.now)))) }
-        ensures without_memory { GivesNothing agent.now (file_lines (take file_limit txt.now)) → IsOk result }
+        ensures robot { IfOk result (IsRobotOf agent.now (lines_read txt.now)) }
+        ensures refused { IfErr result (IsMemoryOr (IsRefused agent.now (lines_read txt.now))) }
+        ensures without_memory { GivesNothing agent.now (lines_read txt.now) → IsOk result }
     {
         Robot::with_limit(alloc, agent, txt, FILE_LIMIT)
     }
@@ -63,6 +68,10 @@ impl Robot {
     ///
     /// The limit counts the file's bytes as they came, those of a byte order mark too, and may cut a line anywhere: what
     /// stands before the cut is read as a line.
+    ///
+    /// # Errors
+    ///
+    /// As [`Robot::new`].
     pub fn with_limit(alloc: Global, agent: &str, txt: &[u8], limit: usize) -> Result<Self, Error>
         ensures robot { IfOk result (IsRobotOf agent.now (file_lines (take limit txt.now))) }
         ensures refused { IfErr result (IsMemoryOr (IsRefused agent.now (file_lines (take limit txt.now)))) }
@@ -92,6 +101,10 @@ impl Robot {
     /// The text that rules are matched with: of a URL its path, query and fragment, as the crate `url` writes them.
     ///
     /// The empty text gives `/`. What is no URL, as a path by itself, is escaped as rules are.
+    ///
+    /// # Errors
+    ///
+    /// `Error::Memory` where memory is refused, or a URL comes to more bytes than `url` can count.
     pub fn prepare_url(alloc: Global, url: &str) -> Result<String, Error>
         ensures ok { IfOk result (λ text. string_bytes text ≡ prepared url.now) }
         ensures memory { IfErr result (λ e. e ≡ Error.Memory) }
@@ -100,6 +113,10 @@ impl Robot {
     }
 
     /// Whether the crawler may fetch a URL, or a path by itself. A path of which nothing is escaped takes no memory.
+    ///
+    /// # Errors
+    ///
+    /// As [`Robot::prepare_url`].
     pub fn allowed(&self, alloc: Global, url: &str) -> Result<bool, Error>
         ensures ok { IfOk result (λ answer. IsVerdict (unplaced self.now.rules) (prepared url.now) answer) }
         ensures memory { IfErr result (λ e. e ≡ Error.Memory) }

@@ -1,5 +1,5 @@
 //! A text of which only counted looks are possible.
-ghost use Rattle.std.specs.Prelude.{◌≡◌, ℕ, ◌+◌, ◌<◌, ◌≤◌, ◌↔◌, IsTrue, length, slice_index, codes};
+ghost use Rattle.std.specs.Prelude.{◌≡◌, ℕ, ◌+◌, ◌<◌, ◌≤◌, ◌↔◌, IsTrue, length, slice_index, []};
 ghost use Rattle.texting_robots.specs.Verdict.{robots_file};
 ghost use Rattle.texting_robots.specs.View.{seen_of};
 
@@ -45,6 +45,13 @@ impl<'a> View<'a> {
         ensures { result ≡ length self.now.text }
     {
         self.text.len()
+    }
+
+    /// Whether the text has no bytes. It is no look.
+    pub fn is_empty(&self) -> bool
+        ensures { IsTrue result ↔ (self.now.text ≡ []) }
+    {
+        self.text.is_empty()
     }
 
     /// Whether the byte at a place is this one. It is one look.

@@ -1,0 +1,10 @@
+-- Which URLs a crawler fetches.
+use Rattle.std.specs.Prelude.{◌≡◌, ℕ, Bool, List, [], ◌∷◌, if◌then◌else◌}
+use Rattle.texting_robots.specs.Callers.{IsVerdict, Rule, prepared}
+
+-- the URLs kept are those that the rules allow, each as often, in their order
+abbrev pub AreAllowed : List Rule → List (List ℕ) → List (List ℕ) → Type 0
+AreAllowed rules [] kept = kept ≡ []
+AreAllowed rules (url ∷ urls) kept =
+    (allowed : Bool) × (rest : List (List ℕ)) × IsVerdict rules (prepared url) allowed
+    × AreAllowed rules urls rest × (kept ≡ (if allowed then url ∷ rest else rest))

@@ -1,0 +1,3 @@
+pub mod Crawler
+pub mod LinkCheck
+pub mod Audit

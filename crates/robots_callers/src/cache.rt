@@ -1,0 +1,144 @@
+//! A cache of robots, by the addresses of their files.
+ghost use Rattle.std.specs.Prelude.{◌≡◌, ◌+◌, ◌-◌, ◌≤◌, ℕ, if◌then◌else◌, is_some, IfOk, IsSomeAnd, List, Ok, OnOk, Some, option_copied, string_bytes};
+ghost use Rattle.indexmap.specs.IndexMap.{get_by_text, index_map_len};
+ghost use Rattle.robots_callers.specs.declared.cache.TheConstants.{MOST};
+ghost use Rattle.texting_robots.specs.Callers.{IsRobotOf, lines_read, robots_address};
+
+use indexmap::IndexMap;
+use std::alloc::Global;
+use texting_robots::{Robot, get_robots_url};
+use thiserror::Error;
+use url::ParseError;
+
+/// How many robots are kept at most.
+pub const MOST: usize = 64;
+
+/// Why a robot isn't kept.
+#[derive(Debug, Drop, Error)]
+pub enum CacheError {
+    /// The URL has no robots.txt file.
+    #[error("No address of a robots.txt file: {0}")]
+    Url(#[from] ParseError),
+    /// The file gives no robot.
+    #[error("No robot: {0}")]
+    File(#[from] texting_robots::Error),
+    /// Memory was refused.
+    #[error("Out of memory")]
+    Memory,
+}
+
+/// Takes the oldest robot out, if there is one.
+fn forget_oldest(robots: &mut IndexMap<String, Robot>)
+    ensures { index_map_len robots.new ≡ index_map_len robots.old - 1 }
+{
+    robots.shift_remove_index(0);
+}
+
+/// Makes room for the robot of an address.
+fn make_room(robots: &mut IndexMap<String, Robot>, address: &str)
+    requires { index_map_len robots.old ≤ MOST }
+    ensures { index_map_len robots.new + (if is_some (get_by_text robots.new address.now) then 0 else 1) ≤ MOST }
+{
+    if robots.len() < MOST || robots.contains_key(address) {
+        return;
+    }
+    forget_oldest(robots);
+}
+
+/// Keeps a robot at an address, for which there is room.
+fn add(
+    robots: &mut IndexMap<String, Robot>,
+    address: String,
+    robot: Robot,
+) -> Result<(), CacheError>
+    requires { index_map_len robots.old + (if is_some (get_by_text robots.old (string_bytes address)) then 0 else 1) ≤ MOST }
+    ensures bounded { index_map_len robots.new ≤ MOST }
+    ensures kept { OnOk result (get_by_text robots.new (string_bytes address) ≡ Some robot) }
+{
+    match robots.insert(address, robot) {
+        Ok(_) => Ok(()),
+        Err(_) => Err(CacheError::Memory),
+    }
+}
+
+/// The robots of at most [`MOST`] sites for one crawler. Where one more comes, the oldest goes.
+#[derive(Drop)]
+pub struct Cache {
+    /// By the address of the file.
+    pub robots: IndexMap<String, Robot>,
+    ghost bounded: { index_map_len robots ≤ MOST },
+}
+
+impl Cache {
+    /// A cache with no robot.
+    pub fn new(alloc: Global) -> Self
+        ensures { index_map_len result.robots ≡ 0 }
+    {
+        Cache {
+            robots: IndexMap::new(alloc),
+        }
+    }
+
+    /// Keeps the robot of the site that a URL is on, which has this file.
+    pub fn put(
+        &mut self,
+        alloc: Global,
+        agent: &str,
+        url: &str,
+        file: &[u8],
+    ) -> Result<(), CacheError>
+        ensures kept { OnOk result ((address : List ℕ) × (robots_address url.now ≡ Ok address)
+            × IsSomeAnd (get_by_text self.new.robots address) (IsRobotOf agent.now (lines_read file.now))) }
+    {
+        let address = get_robots_url(alloc, url)?;
+        let robot = Robot::new(alloc, agent, file)?;
+        make_room(&mut self.robots, address.as_str());
+        add(&mut self.robots, address, robot)?;
+        Ok(())
+    }
+
+    /// The robot that is kept for the site that a URL is on.
+    pub fn find(&self, alloc: Global, url: &str) -> Result<Option<&Robot>, ParseError>
+        ensures { IfOk result (λ found. (address : List ℕ) × (robots_address url.now ≡ Ok address)
+            × (option_copied found ≡ get_by_text self.now.robots address)) }
+    {
+        let address = get_robots_url(alloc, url)?;
+        Ok(self.robots.get(address.as_str()))
+    }
+}
+
+#[cfg(test)]
+mod tests {
+    use super::*;
+    use std::test::Fail;
+
+    const FILE: &[u8] = b"User-agent: *\nDisallow: /a\n";
+
+    #[test]
+    fn a_site_has_one_robot(rt: HostRuntime) -> Result<(), Fail> {
+        let mut cache = Cache::new(rt.alloc());
+        cache.put(rt.alloc(), "Bot", "https://example.com/a/b", FILE)?;
+        assert!(rt; cache.find(rt.alloc(), "https://example.org/")?.is_none());
+        let Some(robot) = cache.find(rt.alloc(), "https://example.com/c?d")? else {
+            return Err(Fail::from("nothing is kept"));
+        };
+        assert!(rt; !robot.allowed(rt.alloc(), "https://example.com/a")?);
+        assert!(rt; robot.allowed(rt.alloc(), "https://example.com/b")?);
+        let refused = cache.put(rt.alloc(), "Bot", "mailto:a@example.com", b"");
+        assert!(rt; matches!(refused, Err(CacheError::Url(_))));
+        Ok(())
+    }
+
+    #[test]
+    fn the_oldest_robot_goes(rt: HostRuntime) -> Result<(), Fail> {
+        let mut cache = Cache::new(rt.alloc());
+        cache.put(rt.alloc(), "Bot", "https://example.com/", FILE)?;
+        for site in 0..MOST {
+            let url = format!(in rt.alloc(); "https://s{site}.example.com/")?;
+            cache.put(rt.alloc(), "Bot", &url, b"")?;
+        }
+        assert_eq!(rt; cache.robots.len(), MOST);
+        assert!(rt; cache.find(rt.alloc(), "https://example.com/")?.is_none());
+        Ok(())
+    }
+}

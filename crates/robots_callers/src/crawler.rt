@@ -1,0 +1,93 @@
+//! A polite crawler's plan for a site.
+ghost use Rattle.std.specs.Prelude.{◌≡◌, ◌+◌, IfErr, IfOk, IfSome, map, min, unwrap_or};
+ghost use Rattle.robots_callers.specs.Crawler.{AreAllowed};
+ghost use Rattle.texting_robots.specs.Callers.{IsMemoryOr, IsRefused, delay_for, lines_read, rules_for};
+
+use std::alloc::Global;
+use texting_robots::{Error, Robot};
+
+/// How long a crawler waits between two requests, in microseconds.
+#[derive(Clone, Copy, PartialEq, Eq, Debug)]
+pub struct Waits {
+    /// The wait where the file names none.
+    pub usual: u64,
+    /// The longest wait, whatever the file says: a file may ask for `u64::MAX` microseconds.
+    pub longest: u64,
+}
+
+/// What a crawler does at a site.
+#[derive(Debug, Drop)]
+pub struct Plan<'a> {
+    /// The URLs that it fetches, in the order in which they came.
+    pub urls: Vec<&'a str>,
+    /// How many microseconds it waits between two requests.
+    pub wait: u64,
+}
+
+/// What the crawler that calls itself `agent` does with these URLs of the site with this robots.txt file.
+pub fn plan_for<'a>(
+    alloc: Global,
+    agent: &str,
+    file: &[u8],
+    urls: &[&'a str],
+    waits: Waits,
+) -> Result<Plan<'a>, Error>
+    ensures urls { IfOk result (λ plan. AreAllowed (rules_for agent.now (lines_read file.now))
+        (map (λ url. url.now) urls.now) (map (λ url. url.now) plan.urls.items)) }
+    ensures wait { IfOk result (λ plan.
+        plan.wait ≡ min (unwrap_or (delay_for agent.now (lines_read file.now)) waits.usual) waits.longest) }
+    ensures refused { IfErr result (IsMemoryOr (IsRefused agent.now (lines_read file.now))) }
+{
+    let robot = Robot::new(alloc, agent, file)?;
+    let mut allowed = Vec::new(alloc);
+    for url in urls {
+        if robot.allowed(alloc, url)? {
+            allowed.push(*url)?;
+        }
+    }
+    Ok(Plan {
+        urls: allowed,
+        wait: robot.delay.unwrap_or(waits.usual).min(waits.longest),
+    })
+}
+
+#[cfg(test)]
+mod tests {
+    use super::*;
+    use std::test::Fail;
+
+    const FILE: &[u8] =
+        b"User-agent: Ferris\nDisallow: /private\nAllow: /private/open\nCrawl-delay: 2.5\n\nUser-agent: *\nDisallow: /\n";
+
+    const WAITS: Waits = Waits {
+        usual: 1_000_000,
+        longest: 60_000_000,
+    };
+
+    #[test]
+    fn allowed_urls_are_fetched(rt: HostRuntime) -> Result<(), Fail> {
+        let urls = [
+            "https://example.com/",
+            "https://example.com/private/a",
+            "/private/open?x=1",
+            "/b",
+        ];
+        let ferris = plan_for(rt.alloc(), "FERRIS", FILE, &urls, WAITS)?;
+        assert_eq!(rt; ferris.wait, 2_500_000);
+        assert_eq!(rt;
+            ferris.urls.as_slice(),
+            ["https://example.com/", "/private/open?x=1", "/b"].as_slice()
+        );
+        let other = plan_for(rt.alloc(), "Other", FILE, &urls, WAITS)?;
+        assert_eq!(rt; other.wait, 1_000_000);
+        assert!(rt; other.urls.is_empty());
+        Ok(())
+    }
+
+    #[test]
+    fn an_endless_delay_is_capped(rt: HostRuntime) -> Result<(), Fail> {
+        let plan = plan_for(rt.alloc(), "Ferris", b"Crawl-delay: inf", &[], WAITS)?;
+        assert_eq!(rt; plan.wait, 60_000_000);
+        Ok(())
+    }
+}

@@ -1,0 +1,31 @@
+//! One question about one file.
+ghost use Rattle.std.specs.Prelude.{IfErr, IfOk};
+ghost use Rattle.texting_robots.specs.Callers.{IsMemoryOr, IsRefused, IsVerdict, lines_read, prepared, rules_for};
+
+use std::alloc::Global;
+use texting_robots::{Error, Robot};
+
+/// Whether the crawler that calls itself `agent` may fetch a URL of the site with this robots.txt file.
+pub fn may_fetch(alloc: Global, agent: &str, file: &[u8], url: &str) -> Result<bool, Error>
+    ensures verdict { IfOk result (λ answer.
+        IsVerdict (rules_for agent.now (lines_read file.now)) (prepared url.now) answer) }
+    ensures refused { IfErr result (IsMemoryOr (IsRefused agent.now (lines_read file.now))) }
+{
+    let robot = Robot::new(alloc, agent, file)?;
+    robot.allowed(alloc, url)
+}
+
+#[cfg(test)]
+mod tests {
+    use super::*;
+    use std::test::Fail;
+
+    #[test]
+    fn a_rule_of_the_agents_group_decides(rt: HostRuntime) -> Result<(), Fail> {
+        let file = b"User-agent: FerrisBot\nDisallow: /a\n";
+        assert!(rt; !may_fetch(rt.alloc(), "ferrisbot", file, "https://example.com/a?b")?);
+        assert!(rt; may_fetch(rt.alloc(), "FerrisBot", file, "https://example.com/b")?);
+        assert!(rt; may_fetch(rt.alloc(), "OtherBot", file, "/a")?);
+        Ok(())
+    }
+}

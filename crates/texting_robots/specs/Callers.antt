@@ -1,0 +1,25 @@
+-- The words that the contracts of public calls use, passed on from one place. Declares nothing.
+
+-- the lines of a file
+pub use Rattle.texting_robots.specs.Line.{LineValue, UserAgent, Allow, Disallow, Sitemap, CrawlDelay, Raw, by_value, value_in}
+pub use Rattle.texting_robots.specs.Line.{AreFileLinesOf, AreLinesOf, HoldRangesOf}
+pub use Rattle.texting_robots.specs.Computed.Line.{file_lines, parsed}
+pub use Rattle.texting_robots.specs.Delay.{IsDelay}
+-- what an agent gets of them
+pub use Rattle.texting_robots.specs.Group.{IsCaptured, group_name}
+pub use Rattle.texting_robots.specs.Rules.{Rule, PlacedRule, unplaced, placed_rules, rules_for, delay_for, sitemaps_in}
+pub use Rattle.texting_robots.specs.Rules.{GivesNothing, IsRefused}
+pub use Rattle.texting_robots.specs.Robot.{RobotValue, IsRobotOf, file_limit, lines_read}
+-- URLs, texts and patterns
+pub use Rattle.texting_robots.specs.Address.{robots_address}
+pub use Rattle.texting_robots.specs.Prepared.{prepared}
+pub use Rattle.texting_robots.specs.Escape.{escaped}
+pub use Rattle.texting_robots.specs.Pattern.{Matches, MatchesStars, IsOverlong, collapsed}
+pub use Rattle.texting_robots.specs.Order.{IsBefore, pattern_cmp}
+-- verdicts
+pub use Rattle.texting_robots.specs.Verdict.{IsDenied, IsVerdict, robots_file}
+pub use Rattle.texting_robots.specs.Decision.{Decides, IsDecidingLine, IsLongestMatch, as_long_as}
+pub use Rattle.texting_robots.specs.View.{LooksAtMost, ViewValue, seen_of}
+-- errors
+pub use Rattle.url.specs.Parser.{GivesBy}
+pub use Rattle.texting_robots.specs.Error.{IsMemoryOr}
