@@ -11,8 +11,8 @@ pub use Rattle.texting_robots.specs.Rules.{Rule, PlacedRule, unplaced, placed_ru
 pub use Rattle.texting_robots.specs.Rules.{GivesNothing, IsRefused}
 pub use Rattle.texting_robots.specs.Robot.{RobotValue, IsRobotOf, file_limit, lines_read}
 -- URLs, texts and patterns
-pub use Rattle.texting_robots.specs.Address.{robots_address}
-pub use Rattle.texting_robots.specs.Prepared.{prepared}
+pub use Rattle.texting_robots.specs.Address.{robots_address, robots_address_of}
+pub use Rattle.texting_robots.specs.Prepared.{prepared, target_of}
 pub use Rattle.texting_robots.specs.Escape.{escaped}
 pub use Rattle.texting_robots.specs.Pattern.{Matches, MatchesStars, IsOverlong, collapsed}
 pub use Rattle.texting_robots.specs.Order.{IsBefore, pattern_cmp}
