@@ -11,19 +11,19 @@ use Rattle.texting_robots.proofs.LineLemmas.{each_text_has_its_lines}
 
 -- ---- the bodies of a text, from its back
 
-abbrev bodies_of : List Pair → List (List ℕ)
+abbrev pub bodies_of : List Pair → List (List ℕ)
 bodies_of pairs = map (λ pair. pair.body) pairs
 
-abbrev body_byte : ℕ → List (List ℕ) → List (List ℕ)
+abbrev pub body_byte : ℕ → List (List ℕ) → List (List ℕ)
 body_byte b [] = (b ∷ []) ∷ []
 body_byte b (body ∷ bodies) = (b ∷ body) ∷ bodies
 
-abbrev body_return : List (List ℕ) → List (List ℕ)
+abbrev pub body_return : List (List ℕ) → List (List ℕ)
 body_return [] = [] ∷ []
 body_return ([] ∷ bodies) = [] ∷ bodies
 body_return ((b ∷ body) ∷ bodies) = [] ∷ (b ∷ body) ∷ bodies
 
-abbrev body_step : ℕ → List (List ℕ) → List (List ℕ)
+abbrev pub body_step : ℕ → List (List ℕ) → List (List ℕ)
 body_step b bodies = if b == lf then [] ∷ bodies else (if b == cr then body_return bodies else body_byte b bodies)
 
 with_byte : (b : ℕ) (pairs : List Pair) → bodies_of (before_body b pairs) ≡ body_byte b (bodies_of pairs)
@@ -38,7 +38,7 @@ with_return (pair ∷ pairs) = at pair.body pair.ending pairs
     at [] ending pairs = refl
     at (b ∷ body) ending pairs = refl
 
-step : (b : ℕ) (text : List ℕ) → bodies_of (cut (b ∷ text)) ≡ body_step b (bodies_of (cut text))
+pub step : (b : ℕ) (text : List ℕ) → bodies_of (cut (b ∷ text)) ≡ body_step b (bodies_of (cut text))
 step b text = elim (cases_Bool (b == lf)) [
   | inl is_lf ↦ rw (cut_at_lf b text is_lf, is_lf) refl
   | inr not_lf ↦ elim (cases_Bool (b == cr)) [
@@ -60,7 +60,7 @@ same_bodies (b ∷ c ∷ text) = elim (cases_Bool (b == cr && c == lf)) [
   | inr single ↦ ap (λ t. bodies_of (cut t)) (cond-false _ _ _ single) ∙ step b (feeds_alone (c ∷ text)) ∙ ap (body_step b) (same_bodies (c ∷ text)) ∙ sym (step b (c ∷ text))
 ]
 
-lines_by_bodies : (pairs : List Pair) → map (λ pair. line_of pair.body) pairs ≡ map line_of (bodies_of pairs)
+pub lines_by_bodies : (pairs : List Pair) → map (λ pair. line_of pair.body) pairs ≡ map line_of (bodies_of pairs)
 lines_by_bodies [] = refl
 lines_by_bodies (pair ∷ pairs) = ap (λ t. line_of pair.body ∷ t) (lines_by_bodies pairs)
 

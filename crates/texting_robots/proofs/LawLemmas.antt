@@ -35,7 +35,7 @@ pub record IsNeutral (line : LineValue) : Type 0 where
   pub delay : delay_in line ≡ None
   pub step : (name : List ℕ) (walk : Walk) → step name walk line ≡ walk
 
-abbrev DropsNeutral : (LineValue → Bool) → Type 0
+abbrev pub DropsNeutral : (LineValue → Bool) → Type 0
 DropsNeutral keep = (line : LineValue) → keep line ≡ false → IsNeutral line
 
 cond_same : {X : Type 0} (b : Bool) (x : X) → cond b x x ≡ x
@@ -95,7 +95,7 @@ captured_kept given agent keep neutral drops lines =
     ∙ ap (λ w. caught (λ place line. given line) name w 0 (filter keep lines)) (start_kept keep neutral lines)
     ∙ sym (caught_all (λ place line. given line) name (filter keep lines))
 
-rules_kept : (agent : List ℕ) (keep : LineValue → Bool) → DropsNeutral keep → (lines : List LineValue) → rules_of agent lines ≡ rules_of agent (filter keep lines)
+pub rules_kept : (agent : List ℕ) (keep : LineValue → Bool) → DropsNeutral keep → (lines : List LineValue) → rules_of agent lines ≡ rules_of agent (filter keep lines)
 rules_kept agent keep neutral lines = captured_kept rule_in agent keep neutral (λ line dropped. (neutral line dropped).rule) lines
 
 delay_kept : (agent : List ℕ) (keep : LineValue → Bool) → DropsNeutral keep → (lines : List LineValue) → delay_for agent lines ≡ delay_for agent (filter keep lines)

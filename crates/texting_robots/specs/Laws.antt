@@ -1,6 +1,7 @@
 -- Laws over the definitions.
 use Rattle.std.specs.Prelude.{◌≡◌, ◌↔◌, ◌⊎◌, ℕ, Bool, true, false, not, ◌==◌, ◌&&◌, List, [], ◌∷◌, ◌++◌, Option, Some, IsTrue, IsPermutation, codes, filter, length, if◌then◌else◌}
 use Rattle.std.specs.declared.cmp.Ordering.TheVariants.{Less, Equal}
+use Rattle.std.specs.List.{AllZip}
 use Rattle.std.specs.Str.{str_to_ascii_lowercase}
 use Rattle.texting_robots.specs.declared.parser.statement.Kind.{Kind}
 use Rattle.texting_robots.specs.Computed.Cut.{cut}
@@ -14,7 +15,9 @@ use Rattle.texting_robots.specs.Line.{Allow, AreFileLinesOf, AreLinesOf, Disallo
 use Rattle.texting_robots.specs.Order.{IsBefore, pattern_cmp}
 use Rattle.texting_robots.specs.Pattern.{MatchesWith, collapsed}
 use Rattle.texting_robots.specs.Rules.{IsRefused, Rule, delay_for, rule_from, rules_of, share_of, sitemaps_of}
+use Rattle.texting_robots.specs.Rfc9309 as rfc
 use Rattle.texting_robots.specs.Statement.{IsStatement}
+use Rattle.texting_robots.specs.Trim.{IsTrimOf}
 use Rattle.texting_robots.specs.Verdict.{IsVerdict}
 
 -- ---- lines
@@ -145,3 +148,20 @@ EachFileHasItsLines = (text : List ℕ) (lines : List LineValue) → AreFileLine
 pub record ComparisonAgrees : Type 0 where
   pub less : (p q : List ℕ) → (pattern_cmp p q ≡ Less) ↔ IsBefore p q
   pub equal : (p q : List ℕ) → (pattern_cmp p q ≡ Equal) ↔ (p ≡ q)
+
+-- ---- the standard's syntax
+
+-- What a rule that a file spells becomes: its pattern, without the Unicode white space at its end, escaped. An
+-- empty Disallow is an Allow of `/`.
+abbrev pub IsReadAs : rfc.Member → Rule → Type 0
+IsReadAs (rfc.Allow pattern) rule = (value : List ℕ) × IsTrimOf value pattern × (rule ≡ (escaped value, true))
+IsReadAs (rfc.Disallow []) rule = rule ≡ (codes "/", true)
+IsReadAs (rfc.Disallow (b ∷ pattern)) rule =
+    (value : List ℕ) × IsTrimOf value (b ∷ pattern) × (rule ≡ (escaped value, false))
+IsReadAs (rfc.Delay number) rule = ⊥
+
+-- of a file of the standard's syntax an agent gets, in order and each as often, the rules that the file spells for it
+abbrev pub StandardFilesAreReadSo : Type 0
+StandardFilesAreReadSo =
+    (text : List ℕ) (groups : List rfc.Group) (agent : List ℕ) → rfc.IsFile groups text
+    → AllZip IsReadAs (rfc.rules_for agent (rfc.merged groups)) (rules_of agent (file_lines text))

@@ -13,5 +13,6 @@ pub mod View
 pub mod Robot
 pub mod Prepared
 pub mod Address
+pub mod Rfc9309
 pub mod Laws
 pub mod Computed
