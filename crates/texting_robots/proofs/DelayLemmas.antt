@@ -107,7 +107,7 @@ number_found text =
     by_parts [] rest (y ∷ fraction) tail front middle (Some e) is = number_there text [] rest (y ∷ fraction) tail front middle e.0 e.1 (λ f. absurd cc) is
     by_parts (x ∷ whole) rest fraction tail front middle (Some e) is = number_there text (x ∷ whole) rest fraction tail front middle e.0 e.1 (λ f. absurd cc) is
 
-rounded_rounds : (n : Decimal) → Rounds n (rounded n)
+pub rounded_rounds : (n : Decimal) → Rounds n (rounded n)
 rounded_rounds n =
     let f = 10 ^ length n.fraction in
     let g = 10 ^ negative_exponent n in

@@ -25,7 +25,7 @@ parts_same kind kind' xs ys e =
 -- ---- blanks
 
 -- the text begins with no blank
-abbrev StartsPlain : List ℕ → Type 0
+abbrev pub StartsPlain : List ℕ → Type 0
 StartsPlain [] = Unit {0}
 StartsPlain (byte ∷ text) = ¬ IsBlank byte
 
@@ -33,11 +33,11 @@ blank_decides : (b : ℕ) → Decides (b == space || b == tab) (IsBlank b)
 blank_decides b = Decides-or (b == space) (b == tab) (Decides-eqb b space) (Decides-eqb b tab)
 
 -- the blanks at the front are skipped, whatever follows them
-skip_front : (blanks left : List ℕ) → Each IsBlank blanks → skip_blanks (blanks ++ left) ≡ skip_blanks left
+pub skip_front : (blanks left : List ℕ) → Each IsBlank blanks → skip_blanks (blanks ++ left) ≡ skip_blanks left
 skip_front [] left all = refl
 skip_front (b ∷ blanks) left all = cond-true _ _ _ ((blank_decides b).1 all.0) ∙ skip_front blanks left all.1
 
-skip_plain : (left : List ℕ) → StartsPlain left → skip_blanks left ≡ left
+pub skip_plain : (left : List ℕ) → StartsPlain left → skip_blanks left ≡ left
 skip_plain [] plain = refl
 skip_plain (b ∷ left) plain = cond-false _ _ _ (false_from_ne_true (b == space || b == tab) (λ is. plain ((blank_decides b).0 is)))
 
@@ -265,7 +265,7 @@ blanks_plain (b ∷ blanks) all = (plain b all.0, blanks_plain blanks all.1)
     plain b (inr is) e = omega (arith, is, e)
 
 -- blanks before the region change no trim
-blanks_before : (blanks region value : List ℕ) → Each IsBlank blanks → IsTrimOf value region → IsTrimOf value (blanks ++ region)
+pub blanks_before : (blanks region value : List ℕ) → Each IsBlank blanks → IsTrimOf value region → IsTrimOf value (blanks ++ region)
 blanks_before [] region value all t = t
 blanks_before (b ∷ blanks) region value all t = blank_before b (blanks ++ region) value all.0 (blanks_before blanks region value all.1 t)
 

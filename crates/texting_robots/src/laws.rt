@@ -20,6 +20,7 @@ ghost use Rattle.texting_robots.specs.Laws.{
   RobotsFileIsAllowed,
   SitemapsChangeNothingElse,
   SitemapsForAll,
+  StandardFilesAreReadSo,
   UncapturedReachesNothing,
 };
 
@@ -131,4 +132,9 @@ pub fn captured_agrees()
 /// rely on it.
 pub fn comparison_agrees()
     ensures { ComparisonAgrees }
+{}
+
+/// A file of the standard's syntax is read as the groups and rules that it spells.
+pub fn standard_files_are_read_so()
+    ensures { StandardFilesAreReadSo }
 {}

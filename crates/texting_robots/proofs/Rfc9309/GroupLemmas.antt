@@ -1,14 +1,12 @@
 -- Lines that stand in groups, and the rules that an agent gets of them.
-use Rattle.std.proofs.Common.{◌≡◌, ◌≢◌, inl, inr, ℕ, suc, ◌+◌, Bool, true, false, ◌||◌, not, List, [], ◌∷◌, ◌++◌}
+use Rattle.std.proofs.Common.{◌≡◌, ◌≢◌, ℕ, ◌+◌, Bool, true, false, ◌||◌, List, [], ◌∷◌, ◌++◌}
 use Rattle.std.proofs.Common.{Option, Some, None, map, flat_map, filter, bytes_eq, cond, sym, refl, ap, ◌∙◌, subst}
-use Rattle.std.proofs.Common.{append_assoc, codes}
-use Rattle.std.specs.Char.{to_ascii_lowercase}
+use Rattle.std.proofs.Common.{append_assoc}
 use Rattle.std.specs.Str.{str_to_ascii_lowercase}
 use Rattle.std.specs.List.{AllZip, AllByRecursion as Each, list_any, filter_map, cons_option}
 use Rattle.std.proofs.lemmas.Bool.{false≢true}
-use Rattle.std.proofs.lemmas.Grind.{flat_map-append}
 use Rattle.std.proofs.lemmas.List.{map-append}
-use Rattle.std.proofs.lemmas.List.Elements.{filter-append, filter_map-append}
+use Rattle.std.proofs.lemmas.List.Elements.{filter-append}
 use Rattle.std.proofs.lemmas.List.Folds.{list_any-append}
 use Rattle.texting_robots.specs.declared.groups.Walk.{Walk}
 use Rattle.texting_robots.specs.Line.{LineValue, UserAgent, Allow, Disallow, Sitemap, CrawlDelay, Raw, is_group}
@@ -54,7 +52,7 @@ no_lines : (own : List LineValue) → AllZip IsLineFor [] own → own ≡ []
 no_lines [] all = refl
 no_lines (line ∷ own) all = absurd all
 
-front_some : {X : Type 0} (xs ys : List X) → xs ≢ [] → xs ++ ys ≢ []
+pub front_some : {X : Type 0} (xs ys : List X) → xs ≢ [] → xs ++ ys ≢ []
 front_some [] ys some e = some refl
 front_some (x ∷ xs) ys some e = cc
 
@@ -208,7 +206,7 @@ members_found name walk (member ∷ members) (line ∷ own) rest all =
 
 -- ---- the rules of groups
 
-AllZip-append : {A B : Type 0} (R : A → B → Type 0) (xs vs : List A) (ys ws : List B) → AllZip R xs ys → AllZip R vs ws
+pub AllZip-append : {A B : Type 0} (R : A → B → Type 0) (xs vs : List A) (ys ws : List B) → AllZip R xs ys → AllZip R vs ws
     → AllZip R (xs ++ vs) (ys ++ ws)
 AllZip-append R [] vs [] ws first second = second
 AllZip-append R [] vs (y ∷ ys) ws first second = absurd first

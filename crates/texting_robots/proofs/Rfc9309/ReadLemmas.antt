@@ -1,13 +1,13 @@
 -- The lines of a text that is made of lines, where those that play no part in groups are left out.
-use Rattle.std.proofs.Common.{◌≡◌, ◌≢◌, ◌⊎◌, inl, inr, ℕ, ◌<◌, ◌≤◌, Bool, true, false, ◌||◌, List, [], ◌∷◌, ◌++◌}
-use Rattle.std.proofs.Common.{map, filter, cond, sym, refl, ap, ◌∙◌, subst, append_assoc, append-nil, arith, eqb}
+use Rattle.std.proofs.Common.{◌≡◌, ◌≢◌, ◌⊎◌, inl, inr, ℕ, ◌<◌, ◌≤◌, Bool, false, ◌||◌, List, [], ◌∷◌, ◌++◌}
+use Rattle.std.proofs.Common.{map, filter, cond, sym, refl, ap, ◌∙◌, append_assoc, append-nil, arith, eqb}
 use Rattle.std.specs.List.{AllByRecursion as Each}
-use Rattle.std.proofs.lemmas.Bool.{cases_Bool, cond-true, cond-false, false≢true, ne_eqb}
+use Rattle.std.proofs.lemmas.Bool.{cases_Bool, cond-false, false≢true, ne_eqb}
 use Rattle.std.proofs.lemmas.List.{map-append}
 use Rattle.std.proofs.lemmas.List.Elements.{filter-append}
 use Rattle.texting_robots.specs.Cut.{cr, lf}
 use Rattle.texting_robots.specs.Line.{LineValue, UserAgent, Allow, Disallow, Sitemap, CrawlDelay, Raw, is_agent, is_group}
-use Rattle.texting_robots.specs.Line.{nul_as_lf, without, without_front}
+use Rattle.texting_robots.specs.Line.{nul_as_lf, without_front}
 use Rattle.texting_robots.specs.Rules.{rules_of}
 use Rattle.texting_robots.specs.Computed.Cut.{cut}
 use Rattle.texting_robots.specs.Computed.Line.{file_lines, line_of, lines_of}
@@ -16,12 +16,12 @@ use Rattle.texting_robots.proofs.CutLemmas.{cut_nil}
 use Rattle.texting_robots.proofs.CrLfLemmas.{bodies_of, body_byte, body_return, body_step, step, lines_by_bodies}
 use Rattle.texting_robots.proofs.LawLemmas.{DropsNeutral, rules_kept}
 use Rattle.texting_robots.proofs.LineLemmas.{line_raw}
-use Rattle.texting_robots.proofs.Rfc9309.CharLemmas.{each_append}
+use Rattle.texting_robots.proofs.Rfc9309.CharLemmas.{each_append, each_front}
 use Rattle.texting_robots.proofs.StatementLemmas.{no_key}
 
 -- ---- the lines that play a part in groups
 
-abbrev plays : LineValue → Bool
+abbrev pub plays : LineValue → Bool
 plays line = is_agent line || is_group line
 
 plays_neutral : DropsNeutral plays
@@ -100,10 +100,6 @@ pub record Reads (lines : List LineValue) (text : List ℕ) : Type 0 where
   pub heard : (rest : List ℕ) → heard (text ++ rest) ≡ lines ++ heard rest
   pub no_nul : Each (λ byte. byte ≢ 0) text
   pub low : BeginsLow text
-
-each_front : (P : ℕ → Type 0) (xs ys : List ℕ) → Each P (xs ++ ys) → Each P xs
-each_front P [] ys all = tt
-each_front P (x ∷ xs) ys all = (all.0, each_front P xs ys all.1)
 
 pub low_append : (xs ys : List ℕ) → BeginsLow xs → BeginsLow ys → BeginsLow (xs ++ ys)
 low_append [] ys low more = more
