@@ -1,6 +1,6 @@
 -- The characters of the standard's syntax are UTF-8, and none of their bytes is a control, a space or a hash.
-use Rattle.std.proofs.Common.{◌≡◌, ◌≢◌, inl, inr, ℕ, ◌<◌, ◌≤◌, true, List, [], ◌∷◌, ◌++◌, length, drop, flat_map}
-use Rattle.std.proofs.Common.{sym, ap, ◌∙◌, subst, append-nil, arith}
+use Rattle.std.proofs.Common.{◌≡◌, ◌≢◌, inl, inr, ℕ, ◌<◌, ◌≤◌, true, List, [], ◌∷◌, ◌++◌, length, drop}
+use Rattle.std.proofs.Common.{flat_map, sym, ap, ◌∙◌, subst, append-nil, arith}
 use Rattle.std.specs.List.{AllByRecursion as Each}
 use Rattle.std.specs.Char.{encode_utf8}
 use Rattle.std.specs.Str.{IsUtf8}
@@ -28,8 +28,10 @@ high byte low = (omega arith, λ e. omega arith)
 read_whole : (bytes : List ℕ) (c : ℕ) → decoded bytes ≡ good c (length bytes) → IsUtf8 bytes
 read_whole bytes c e =
     let s = SpellsChar-decoded bytes c (ap (λ p. p.char) e) in
-    let none : drop (decoded bytes).size bytes ≡ [] = drop_all (decoded bytes).size bytes (omega (arith, ap (λ p. p.size) e)) in
-    let same : bytes ≡ encode_utf8 c = s.bytes ∙ ap (λ t. encode_utf8 c ++ t) none ∙ append-nil (encode_utf8 c) in
+    let none : drop (decoded bytes).size bytes ≡ [] =
+        drop_all (decoded bytes).size bytes (omega (arith, ap (λ p. p.size) e)) in
+    let same : bytes ≡ encode_utf8 c =
+        s.bytes ∙ ap (λ t. encode_utf8 c ++ t) none ∙ append-nil (encode_utf8 c) in
     subst IsUtf8 (sym same) (IsUtf8-encode c s.scalar)
 
 tail_continues : (c : ℕ) → rfc.IsUtf8Tail c → continues c ≡ true
@@ -57,7 +59,9 @@ two (a ∷ b ∷ []) is =
     let after : second a b ≡ true = grind (arith, nat_tests) in
     record {
       bytes = (high a (omega arith), (high b (omega arith), tt));
-      utf8 = read_whole (a ∷ b ∷ []) (code_of_2 a b) (value-6 2 a b 0 0 (omega arith, omega arith, omega arith, after));
+      utf8 =
+          read_whole (a ∷ b ∷ []) (code_of_2 a b)
+          (value-6 2 a b 0 0 (omega arith, omega arith, omega arith, after));
     }
 
 of_three : (a b c : ℕ) → 0xE0 ≤ a → a < 0xF0 → second a b ≡ true → 0x80 ≤ b → rfc.IsUtf8Tail c
@@ -83,7 +87,8 @@ three (a ∷ b ∷ c ∷ []) (inr (inr (inl (is, is_b, is_c)))) =
 three (a ∷ b ∷ c ∷ []) (inr (inr (inr (is, is_b, is_c)))) =
     of_three a b c (omega arith) (omega arith) (grind (arith, nat_tests)) (omega arith) is_c
 
-of_four : (a b c d : ℕ) → 0xF0 ≤ a → a ≤ 0xF4 → second a b ≡ true → 0x80 ≤ b → rfc.IsUtf8Tail c → rfc.IsUtf8Tail d
+of_four : (a b c d : ℕ) → 0xF0 ≤ a → a ≤ 0xF4 → second a b ≡ true → 0x80 ≤ b → rfc.IsUtf8Tail c
+    → rfc.IsUtf8Tail d
     → IsCharText (a ∷ b ∷ c ∷ d ∷ [])
 of_four a b c d low below after is_b is_c is_d = record {
   bytes = (high a (omega arith), (high b is_b, (high c (omega arith), (high d (omega arith), tt))));
@@ -134,8 +139,10 @@ pub chars_text : (text : List ℕ) → rfc.IsMany rfc.IsUtf8CharNoctl text → I
 chars_text text is = subst IsCharText (sym is.whole) (chars_joined is.pieces is.each)
 
 -- a pattern that begins with a byte of ASCII
-pub pattern_text : (b : ℕ) (bytes : List ℕ) → b < 128 → IsCharByte b → rfc.IsPatternWith (b ∷ []) bytes → IsCharText bytes
+pub pattern_text : (b : ℕ) (bytes : List ℕ) → b < 128 → IsCharByte b → rfc.IsPatternWith (b ∷ []) bytes
+    → IsCharText bytes
 pattern_text b bytes low is pattern =
     let first : IsCharText (b ∷ []) =
         record { bytes = (is, tt); utf8 = read_whole (b ∷ []) b (value-1 1 b 0 0 0 (omega arith, low)) } in
-    subst IsCharText (sym pattern.whole) (text_append (b ∷ []) pattern.text first (chars_text pattern.text pattern.is_text))
+    subst IsCharText (sym pattern.whole)
+    (text_append (b ∷ []) pattern.text first (chars_text pattern.text pattern.is_text))

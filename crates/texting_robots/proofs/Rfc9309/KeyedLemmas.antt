@@ -1,6 +1,7 @@
 -- A line with a key, a colon and a value is a statement.
 use Rattle.std.proofs.Common.{◌≡◌, ◌≢◌, ◌⊎◌, inl, inr, ℕ, ◌<◌, List, [], ◌∷◌, ◌++◌, map, flat_map, codes}
-use Rattle.std.proofs.Common.{Bool, true, ◌&&◌, nat_lt, sym, refl, ap, ◌∙◌, subst, append_assoc, append-nil, arith}
+use Rattle.std.proofs.Common.{Bool, true, ◌&&◌, nat_lt, sym, refl, ap, ◌∙◌, subst, append_assoc, append-nil}
+use Rattle.std.proofs.Common.{arith}
 use Rattle.std.specs.List.{AllByRecursion as Each, Contains}
 use Rattle.std.specs.Char.{to_ascii_lowercase}
 use Rattle.std.proofs.lemmas.Bool.{and_parts, ltb-true}
@@ -73,7 +74,8 @@ visible_word (b ∷ word) e =
 visible_letter : (b : ℕ) → IsVisible (to_ascii_lowercase b) → IsVisible b
 visible_letter b is = (grind (arith, nat_tests), grind (arith, nat_tests))
 
-pub key_visible : (key word : List ℕ) → map to_ascii_lowercase key ≡ word → Each IsVisible word → Each IsVisible key
+pub key_visible : (key word : List ℕ) → map to_ascii_lowercase key ≡ word → Each IsVisible word
+    → Each IsVisible key
 key_visible [] word e all = tt
 key_visible (b ∷ key) [] e all = absurd cc
 key_visible (b ∷ key) (c ∷ word) e all =
@@ -83,14 +85,16 @@ key_visible (b ∷ key) (c ∷ word) e all =
 -- ---- the end of a line
 
 comment_piece : (bytes : List ℕ) → rfc.IsCommentPiece bytes → Each IsBare bytes
-comment_piece bytes (inl is) = each_weaker IsCharByte IsBare (λ b is. (char_value b is).0) bytes (char_text bytes is).bytes
+comment_piece bytes (inl is) =
+    each_weaker IsCharByte IsBare (λ b is. (char_value b is).0) bytes (char_text bytes is).bytes
 comment_piece bytes (inr (inl (b, is, whole))) = rw whole ((blank_value b is).0, tt)
 comment_piece bytes (inr (inr is)) = rw is (inr (omega arith), tt)
 
 comment_pieces : (pieces : List (List ℕ)) → Each rfc.IsCommentPiece pieces
     → Each IsBare (flat_map (λ (piece : List ℕ). piece) pieces)
 comment_pieces [] all = tt
-comment_pieces (piece ∷ pieces) all = each_append IsBare piece _ (comment_piece piece all.0) (comment_pieces pieces all.1)
+comment_pieces (piece ∷ pieces) all =
+    each_append IsBare piece _ (comment_piece piece all.0) (comment_pieces pieces all.1)
 
 pub comment_text : (text : List ℕ) → rfc.IsMany rfc.IsCommentPiece text → Each IsBare text
 comment_text text is = subst (Each IsBare) (sym is.whole) (comment_pieces is.pieces is.each)
@@ -105,7 +109,8 @@ comment_is comment (inr is) = inr (is.text, is.whole)
 
 pub end_bare : (eol : List ℕ) (is : rfc.IsEol eol) → Each IsBare (is.blanks ++ is.comment)
 end_bare eol is =
-    each_append IsBare is.blanks is.comment (blanks_bare is.blanks is.are_blanks) (comment_bare is.comment is.is_comment)
+    each_append IsBare is.blanks is.comment (blanks_bare is.blanks is.are_blanks)
+    (comment_bare is.comment is.is_comment)
 
 -- ---- the statement
 
@@ -121,10 +126,12 @@ pub record Keyed (word value text : List ℕ) : Type 0 where
   pub low : BeginsLow body
   pub gap_blank : Each IsBlank gap
   pub behind_blank : Each IsBlank behind
-  pub states : (kind : Kind) (read : List ℕ) → Contains (spellings kind) word → IsTrimOf read (gap ++ (value ++ behind))
+  pub states : (kind : Kind) (read : List ℕ) → Contains (spellings kind) word
+      → IsTrimOf read (gap ++ (value ++ behind))
       → IsStatement kind read body
 
-pub keyed : (word value text : List ℕ) → Each IsVisible word → Each IsValueByte value → rfc.IsKeyed word value text
+pub keyed : (word value text : List ℕ) → Each IsVisible word → Each IsValueByte value
+    → rfc.IsKeyed word value text
     → Keyed word value text
 keyed word value text visible plain line =
     let eol = line.is_eol in
@@ -138,17 +145,23 @@ keyed word value text visible plain line =
       nl = eol.nl;
       gap = line.gap;
       behind = behind;
-      whole = line.whole ∙ ap (λ e. line.margin ++ (line.key ++ (line.blanks ++ (codes ":" ++ (line.gap ++ (value ++ e)))))) eol.whole ∙ simp append_assoc;
+      whole =
+          line.whole
+          ∙ ap (λ e. line.margin ++ (line.key ++ (line.blanks ++ (codes ":" ++ (line.gap ++ (value ++ e))))))
+              eol.whole
+          ∙ simp append_assoc;
       is_nl = eol.is_nl;
       bare =
           each_append IsBare line.margin (line.key ++ rest) (blanks_bare line.margin line.margin_blank) (
           each_append IsBare line.key rest (each_weaker IsVisible IsBare visible_bare line.key key) (
           each_append IsBare line.blanks (codes ":" ++ tail) (blanks_bare line.blanks line.blanks_blank) (
-          inr (omega arith), each_append IsBare line.gap (value ++ (behind ++ eol.comment)) (blanks_bare line.gap line.gap_blank) (
+          inr (omega arith), each_append IsBare line.gap (value ++ (behind ++ eol.comment))
+          (blanks_bare line.gap line.gap_blank) (
           each_append IsBare value (behind ++ eol.comment) value_bare (end_bare line.eol eol)))));
       low = low_append line.margin (line.key ++ rest) (blanks_low line.margin line.margin_blank) (
           low_append line.key rest (visible_low line.key key) (
-          low_append line.blanks (codes ":" ++ tail) (blanks_low line.blanks line.blanks_blank) (omega arith)));
+          low_append line.blanks (codes ":" ++ tail) (blanks_low line.blanks line.blanks_blank)
+          (omega arith)));
       gap_blank = line.gap_blank;
       behind_blank = eol.are_blanks;
       states = λ kind read has trim. record {
@@ -172,15 +185,18 @@ keyed word value text visible plain line =
     }
 
 -- the line of such a statement
-pub keyed_line : (kind : Kind) (read body : List ℕ) → IsStatement kind read body → line_of body ≡ line_with kind read body
+pub keyed_line : (kind : Kind) (read body : List ℕ) → IsStatement kind read body
+    → line_of body ≡ line_with kind read body
 keyed_line kind read body is = line_stated body kind read (statement_found kind read body is)
 
 -- blanks around a value that begins with a visible byte change no trim
-pub between_blanks : (gap behind : List ℕ) (x : ℕ) (value read : List ℕ) → Each IsBlank gap → Each IsBlank behind → IsVisible x
+pub between_blanks : (gap behind : List ℕ) (x : ℕ) (value read : List ℕ) → Each IsBlank gap
+    → Each IsBlank behind → IsVisible x
     → IsTrimOf read (x ∷ value) → IsTrimOf read (gap ++ (x ∷ value ++ behind))
 between_blanks gap behind x value read before after visible t =
     blanks_before gap (x ∷ value ++ behind) read before (blanks_behind behind x value read after visible t)
 
 -- blanks alone leave nothing
 pub only_blanks : (blanks : List ℕ) → Each IsBlank blanks → IsTrimOf [] blanks
-only_blanks blanks all = subst (IsTrimOf []) (append-nil blanks) (blanks_before blanks [] [] all (visible_trim [] tt))
+only_blanks blanks all =
+    subst (IsTrimOf []) (append-nil blanks) (blanks_before blanks [] [] all (visible_trim [] tt))

@@ -1,195 +1,26 @@
--- The lines of product tokens, rules and delays.
-use Rattle.std.proofs.Common.{◌≡◌, ◌≢◌, inl, inr, ℕ, true, false, List, [], ◌∷◌, ◌++◌, filter, codes}
-use Rattle.std.proofs.Common.{All, Bool, Some, sym, refl, ◌∙◌, subst, append-nil, arith}
-use Rattle.std.specs.List.{AllByRecursion as Each, Contains}
-use Rattle.std.specs.Str.{IsUtf8}
-use Rattle.std.proofs.lemmas.Bool.{cond-true, false≢true}
+-- The lines of delays, of members and of sitemaps.
+use Rattle.std.proofs.Common.{◌≡◌, ◌≢◌, inl, inr, ℕ, false, List, [], ◌∷◌, ◌++◌, filter, codes, All, Some}
+use Rattle.std.proofs.Common.{sym, refl, ◌∙◌, subst, append-nil, arith}
+use Rattle.std.specs.List.{AllByRecursion as Each}
+use Rattle.std.proofs.lemmas.Bool.{false≢true}
 use Rattle.std.proofs.lemmas.List.Elements.{All-from_recursion, All-nil}
-use Rattle.std.proofs.lemmas.Str.{IsUtf8-nil, is_utf8-from_IsUtf8}
-use Rattle.texting_robots.specs.declared.parser.statement.Kind.{Kind}
 use Rattle.texting_robots.specs.declared.parser.statement.Kind.TheVariants as kind
 use Rattle.texting_robots.specs.Delay.{Decimal, IsDigit, NamesDelay, Spells}
-use Rattle.texting_robots.specs.Escape.{escaped}
-use Rattle.texting_robots.specs.Line.{LineValue, UserAgent, Allow, Disallow, CrawlDelay, slash}
-use Rattle.texting_robots.specs.Rules.{Rule, rule_from}
-use Rattle.texting_robots.specs.Statement.{IsBlank, spellings}
-use Rattle.texting_robots.specs.Trim.{IsTrimOf}
+use Rattle.texting_robots.specs.Line.{LineValue, CrawlDelay}
 use Rattle.texting_robots.specs.Computed.Delay.{delay_of, rounded}
-use Rattle.texting_robots.specs.Computed.Line.{delay_or_raw, line_with}
+use Rattle.texting_robots.specs.Computed.Line.{delay_or_raw}
 use Rattle.texting_robots.specs.Computed.Statement.{trimmed}
 use Rattle.texting_robots.specs.Rfc9309 as rfc
 use Rattle.texting_robots.proofs.DelayLemmas.{is_delay_of, rounded_rounds}
 use Rattle.texting_robots.proofs.TrimLemmas.{trimmed_is_trim}
-use Rattle.texting_robots.proofs.Rfc9309.CharLemmas.{IsCharText, char_text, chars_text, each_append, pattern_text}
-use Rattle.texting_robots.proofs.Rfc9309.GroupLemmas.{IsFront, IsLineFor, front_some}
-use Rattle.texting_robots.proofs.Rfc9309.KeyedLemmas.{IsValueByte, Keyed, between_blanks, blanks_value, chars_value}
-use Rattle.texting_robots.proofs.Rfc9309.KeyedLemmas.{each_weaker, keyed, keyed_line, only_blanks, visible_word}
-use Rattle.texting_robots.proofs.Rfc9309.ReadLemmas.{Reads, plays, reads_line}
-use Rattle.texting_robots.proofs.Rfc9309.ValueLemmas.{IsVisible, trim_some, trim_utf8, visible_trim}
-
--- the line of a keyed text, where its value is trimmed to this
-pub reads_keyed : (word value text : List ℕ) (k : Keyed word value text) (kind : Kind) (read : List ℕ)
-    → Contains (spellings kind) word → IsTrimOf read (k.gap ++ (value ++ k.behind))
-    → Reads (filter plays (line_with kind read k.body ∷ [])) text
-reads_keyed word value text k kind read has trim =
-    subst (Reads (filter plays (line_with kind read k.body ∷ []))) (sym k.whole)
-    (reads_line (line_with kind read k.body) k.body k.nl (keyed_line kind read k.body (k.states kind read has trim)) k.bare k.low k.is_nl)
-
--- a value of blanks is read as an empty one
-blank_trim : (gap value behind : List ℕ) → Each IsBlank gap → Each IsBlank value → Each IsBlank behind
-    → IsTrimOf [] (gap ++ (value ++ behind))
-blank_trim gap value behind before all after =
-    only_blanks (gap ++ (value ++ behind)) (
-      each_append IsBlank gap (value ++ behind) before (each_append IsBlank value behind all after))
-
--- ---- product tokens
-
--- visible, and no hash
-abbrev IsPlain : ℕ → Type 0
-IsPlain byte = IsVisible byte × (byte ≢ 35)
-
-plain_value : (b : ℕ) → IsPlain b → IsValueByte b
-plain_value b is = (inr (omega arith), is.1)
-
-identifier_plain : (b : ℕ) → rfc.IsIdentifierByte b → IsPlain b
-identifier_plain b (inl is) = ((omega arith, omega arith), λ e. omega arith)
-identifier_plain b (inr (inl is)) = ((omega arith, omega arith), λ e. omega arith)
-identifier_plain b (inr (inr (inl is))) = ((omega arith, omega arith), λ e. omega arith)
-identifier_plain b (inr (inr (inr is))) = ((omega arith, omega arith), λ e. omega arith)
-
-token_plain : (token : List ℕ) → rfc.IsProductToken token → Each IsPlain token
-token_plain [] is = tt
-token_plain (b ∷ token) (inl is) = each_weaker rfc.IsIdentifierByte IsPlain identifier_plain (b ∷ token) is
-token_plain (b ∷ token) (inr is) = subst (Each IsPlain) (sym is) (((omega arith, omega arith), λ e. omega arith), tt)
-
--- plain bytes between blanks are the value
-plain_trim : (gap behind bytes : List ℕ) → Each IsBlank gap → Each IsBlank behind → Each IsPlain bytes
-    → IsTrimOf bytes (gap ++ (bytes ++ behind))
-plain_trim gap behind [] before after plain = blank_trim gap [] behind before tt after
-plain_trim gap behind (b ∷ bytes) before after plain =
-    between_blanks gap behind b bytes (b ∷ bytes) before after plain.0.0
-    (visible_trim (b ∷ bytes) (each_weaker IsPlain IsVisible (λ b is. is.0) (b ∷ bytes) plain))
-
-pub token_line : (token text : List ℕ) → rfc.IsStartGroupLine token text → Reads (UserAgent token ∷ []) text
-token_line token text line =
-    let plain = token_plain token line.0 in
-    let value = each_weaker IsPlain IsValueByte plain_value token plain in
-    let k = keyed (codes "user-agent") token text (visible_word (codes "user-agent") refl) value line.1 in
-    reads_keyed (codes "user-agent") token text k kind.UserAgent token (0, omega arith, refl)
-    (plain_trim k.gap k.behind token k.gap_blank k.behind_blank plain)
-
--- ---- rules
-
--- the line of a member, and that a text is it
-pub record MemberRead (member : rfc.Member) (text : List ℕ) : Type 0 where
-  pub line : LineValue
-  pub is_line : IsLineFor member line
-  pub reads : Reads (line ∷ []) text
-
-given_rule : (value : List ℕ) (is_allow : Bool) → IsUtf8 value → rule_from value is_allow ≡ Some (escaped value, is_allow)
-given_rule value is_allow utf8 = cond-true _ _ _ (is_utf8-from_IsUtf8 value utf8)
-
--- a text of characters that begins with a visible one
-abbrev IsBegun : List ℕ → Type 0
-IsBegun [] = ⊥
-IsBegun (b ∷ rest) = IsVisible b × IsCharText (b ∷ rest)
-
-begun : (b : ℕ) (bytes : List ℕ) → IsPlain b → rfc.IsPatternWith (b ∷ []) bytes → IsBegun bytes
-begun b bytes plain pattern =
-    subst IsBegun (sym pattern.whole)
-    (plain.0, subst IsCharText pattern.whole (pattern_text b bytes (omega arith) (omega arith, plain.1) pattern))
-
-slash_plain : IsPlain 47
-slash_plain = ((omega arith, omega arith), λ e. omega arith)
-
-star_plain : IsPlain 42
-star_plain = ((omega arith, omega arith), λ e. omega arith)
-
-allow_begun : (pattern text : List ℕ) → IsBegun pattern → rfc.IsKeyed (codes "allow") pattern text
-    → MemberRead (rfc.Allow pattern) text
-allow_begun [] text is line = absurd is
-allow_begun (b ∷ rest) text (visible, chars) line =
-    let pattern : List ℕ = b ∷ rest in
-    let k = keyed (codes "allow") pattern text (visible_word (codes "allow") refl) (chars_value pattern chars.bytes) line in
-    let read = trimmed pattern in
-    let trim : IsTrimOf read pattern = trimmed_is_trim pattern in
-    let rule : Rule = (escaped read, true) in
-    record {
-      line = Allow read;
-      is_line = record { group = refl; gives = (rule, given_rule read true (trim_utf8 b rest read visible chars.utf8 trim), (read, trim, refl)) };
-      reads =
-          reads_keyed (codes "allow") pattern text k kind.Allow read (0, omega arith, refl)
-          (between_blanks k.gap k.behind b rest read k.gap_blank k.behind_blank visible trim);
-    }
-
-disallow_line : (read body : List ℕ) → read ≢ [] → line_with kind.Disallow read body ≡ Disallow read
-disallow_line [] body some = absurd (some refl)
-disallow_line (b ∷ read) body some = refl
-
-disallow_begun : (pattern text : List ℕ) → IsBegun pattern → rfc.IsKeyed (codes "disallow") pattern text
-    → MemberRead (rfc.Disallow pattern) text
-disallow_begun [] text is line = absurd is
-disallow_begun (b ∷ rest) text (visible, chars) line =
-    let pattern : List ℕ = b ∷ rest in
-    let k = keyed (codes "disallow") pattern text (visible_word (codes "disallow") refl) (chars_value pattern chars.bytes) line in
-    let read = trimmed pattern in
-    let trim : IsTrimOf read pattern = trimmed_is_trim pattern in
-    let rule : Rule = (escaped read, false) in
-    record {
-      line = Disallow read;
-      is_line = record { group = refl; gives = (rule, given_rule read false (trim_utf8 b rest read visible chars.utf8 trim), (read, trim, refl)) };
-      reads =
-          subst (λ l. Reads (filter plays (l ∷ [])) text) (disallow_line read k.body (trim_some b rest read visible trim))
-          (reads_keyed (codes "disallow") pattern text k kind.Disallow read (0, omega arith, refl)
-              (between_blanks k.gap k.behind b rest read k.gap_blank k.behind_blank visible trim));
-    }
-
-allow_empty : (value text : List ℕ) → Each IsBlank value → rfc.IsKeyed (codes "allow") value text
-    → MemberRead (rfc.Allow []) text
-allow_empty value text all line =
-    let k = keyed (codes "allow") value text (visible_word (codes "allow") refl) (blanks_value value all) line in
-    let rule : Rule = ([], true) in
-    record {
-      line = Allow [];
-      is_line = record { group = refl; gives = (rule, given_rule [] true IsUtf8-nil, ([], visible_trim [] tt, refl)) };
-      reads =
-          reads_keyed (codes "allow") value text k kind.Allow [] (0, omega arith, refl)
-          (blank_trim k.gap value k.behind k.gap_blank all k.behind_blank);
-    }
-
-disallow_empty : (value text : List ℕ) → Each IsBlank value → rfc.IsKeyed (codes "disallow") value text
-    → MemberRead (rfc.Disallow []) text
-disallow_empty value text all line =
-    let k = keyed (codes "disallow") value text (visible_word (codes "disallow") refl) (blanks_value value all) line in
-    let rule : Rule = (slash, true) in
-    let utf8 : IsUtf8 slash = (char_text slash (inl (inr (inr (omega arith, omega arith))))).utf8 in
-    record {
-      line = Allow slash;
-      is_line = record { group = refl; gives = (rule, given_rule slash true utf8, refl) };
-      reads =
-          reads_keyed (codes "disallow") value text k kind.Disallow [] (0, omega arith, refl)
-          (blank_trim k.gap value k.behind k.gap_blank all k.behind_blank);
-    }
-
-rule_line : (member : rfc.Member) (text : List ℕ) → rfc.IsRule member text → MemberRead member text
-rule_line (rfc.Delay number) text rule = absurd rule
-rule_line (rfc.Allow pattern) text rule = elim rule.is_pattern [
-  | inl path ↦
-      subst (λ p. MemberRead (rfc.Allow p) text) (sym path.1)
-      (allow_begun rule.value text (begun 47 rule.value slash_plain path.0) rule.is_line)
-  | inr none ↦ subst (λ p. MemberRead (rfc.Allow p) text) (sym none.1) (allow_empty rule.value text none.0 rule.is_line)
-]
-rule_line (rfc.Disallow pattern) text rule = elim rule.is_pattern [
-  | inl path ↦
-      subst (λ p. MemberRead (rfc.Disallow p) text) (sym path.1)
-      (disallow_begun rule.value text (begun 47 rule.value slash_plain path.0) rule.is_line)
-  | inr none ↦ subst (λ p. MemberRead (rfc.Disallow p) text) (sym none.1) (disallow_empty rule.value text none.0 rule.is_line)
-]
-
-star_line : (member : rfc.Member) (text : List ℕ) → rfc.IsStarRule member text → MemberRead member text
-star_line (rfc.Delay number) text rule = absurd rule
-star_line (rfc.Allow pattern) text rule = allow_begun pattern text (begun 42 pattern star_plain rule.0) rule.1
-star_line (rfc.Disallow pattern) text rule = disallow_begun pattern text (begun 42 pattern star_plain rule.0) rule.1
+use Rattle.texting_robots.proofs.Rfc9309.CharLemmas.{chars_text, each_append}
+use Rattle.texting_robots.proofs.Rfc9309.MergeLemmas.{front_some}
+use Rattle.texting_robots.proofs.Rfc9309.KeyedLemmas.{IsValueByte, chars_value, each_weaker, keyed}
+use Rattle.texting_robots.proofs.Rfc9309.KeyedLemmas.{visible_word}
+use Rattle.texting_robots.proofs.Rfc9309.ReadLemmas.{Reads, plays}
+use Rattle.texting_robots.proofs.Rfc9309.GroupLemmas.{IsFront}
+use Rattle.texting_robots.proofs.Rfc9309.RuleLemmas.{IsPlain, MemberRead, plain_trim, plain_value}
+use Rattle.texting_robots.proofs.Rfc9309.RuleLemmas.{reads_keyed, rule_line, star_line}
 
 -- ---- delays
 
@@ -205,7 +36,13 @@ names_delay number units fraction spells = record {
   unsigned = number;
   is_sign = inl (refl, refl);
   is_text = refl;
-  is_delay = inr (decimal_of units fraction, spells, (λ e. absurd (false≢true e)), rounded_rounds (decimal_of units fraction));
+  is_delay =
+      inr (
+        decimal_of units fraction,
+        spells,
+        (λ e. absurd (false≢true e)),
+        rounded_rounds (decimal_of units fraction),
+      );
 }
 
 record Numbered (number : List ℕ) : Type 0 where
@@ -216,10 +53,15 @@ record Numbered (number : List ℕ) : Type 0 where
 digit_plain : (b : ℕ) → rfc.IsDigitByte b → IsPlain b
 digit_plain b is = ((omega arith, omega arith), λ e. omega arith)
 
-all_digits : (digits : List ℕ) → rfc.IsDigits digits → (digits ≢ []) × All IsDigit digits × Each IsPlain digits
+all_digits : (digits : List ℕ) → rfc.IsDigits digits
+    → (digits ≢ []) × All IsDigit digits × Each IsPlain digits
 all_digits [] is = absurd is
 all_digits (d ∷ ds) is =
-    ((λ e. cc), All-from_recursion IsDigit (d ∷ ds) is, each_weaker rfc.IsDigitByte IsPlain digit_plain (d ∷ ds) is)
+    (
+      (λ e. cc),
+      All-from_recursion IsDigit (d ∷ ds) is,
+      each_weaker rfc.IsDigitByte IsPlain digit_plain (d ∷ ds) is,
+    )
 
 numbered : (number : List ℕ) → rfc.IsNumber number → Numbered number
 numbered number (inl is) =
@@ -235,7 +77,11 @@ numbered number (inl is) =
       is_text = sym (append-nil number);
     } in
     let delay = rounded (decimal_of number []) in
-    record { delay = delay; is = sym (is_delay_of number (Some delay) (names_delay number number [] spells)); plain = digits.2 }
+    record {
+      delay = delay;
+      is = sym (is_delay_of number (Some delay) (names_delay number number [] spells));
+      plain = digits.2;
+    }
 numbered number (inr is) =
     let units = all_digits is.units is.are_units in
     let fraction = all_digits is.fraction is.is_fraction in
@@ -256,7 +102,8 @@ numbered number (inr is) =
       is = sym (is_delay_of number (Some delay) (names_delay number is.units is.fraction spells));
       plain =
           subst (Each IsPlain) (sym is.whole)
-          (each_append IsPlain is.units (codes "." ++ is.fraction) units.2 (each_append IsPlain (codes ".") is.fraction point fraction.2));
+          (each_append IsPlain is.units (codes "." ++ is.fraction) units.2
+              (each_append IsPlain (codes ".") is.fraction point fraction.2));
     }
 
 delay_given : (number text : List ℕ) → Numbered number → rfc.IsKeyed (codes "crawl-delay") number text
@@ -278,7 +125,8 @@ delay_line (rfc.Allow pattern) text is = absurd is
 delay_line (rfc.Disallow pattern) text is = absurd is
 delay_line (rfc.Delay number) text is = delay_given number text (numbered number is.0) is.1
 
-pub member_line : (member : rfc.Member) (text : List ℕ) → rfc.IsMemberLine member text → MemberRead member text
+pub member_line : (member : rfc.Member) (text : List ℕ) → rfc.IsMemberLine member text
+    → MemberRead member text
 member_line member text (inl is) = rule_line member text is
 member_line member text (inr (inl is)) = star_line member text is
 member_line member text (inr (inr is)) = delay_line member text is
@@ -294,13 +142,19 @@ front_line (rfc.Allow pattern) text is = absurd is
 front_line (rfc.Disallow pattern) text is = absurd is
 front_line (rfc.Delay number) text is =
     let read = delay_line (rfc.Delay number) text is in
-    record { line = read.line; is_front = record { group = read.is_line.group; none = read.is_line.gives }; reads = read.reads }
+    record {
+      line = read.line;
+      is_front = record { group = read.is_line.group; none = read.is_line.gives };
+      reads = read.reads;
+    }
 
 -- ---- sitemaps
 
 pub sitemap_line : (text : List ℕ) → rfc.IsSitemapLine text → Reads [] text
 sitemap_line text is =
     let address = chars_value is.address (chars_text is.address is.is_address).bytes in
-    let k = keyed (codes "sitemap") is.address text (visible_word (codes "sitemap") refl) address is.is_line in
+    let k =
+        keyed (codes "sitemap") is.address text (visible_word (codes "sitemap") refl) address is.is_line in
     let region : List ℕ = k.gap ++ (is.address ++ k.behind) in
-    reads_keyed (codes "sitemap") is.address text k kind.Sitemap (trimmed region) (0, omega arith, refl) (trimmed_is_trim region)
+    reads_keyed (codes "sitemap") is.address text k kind.Sitemap (trimmed region)
+    (0, omega arith, refl) (trimmed_is_trim region)

@@ -1,24 +1,23 @@
 -- Empty lines, comments and records that aren't read.
-use Rattle.std.proofs.Common.{◌≡◌, ◌≢◌, ◌⊎◌, inl, inr, ℕ, ◌<◌, nat_le, Bool, true, ◌==◌, ◌&&◌, ◌||◌, List, [], ◌∷◌, ◌++◌}
-use Rattle.std.proofs.Common.{Option, Some, None, map, get_or, slice_index_or, codes, sym, refl, ap, ◌∙◌, subst}
-use Rattle.std.proofs.Common.{append_assoc, append-nil, arith}
+use Rattle.std.proofs.Common.{◌≡◌, ◌≢◌, inl, inr, ℕ, List, [], ◌∷◌, ◌++◌, Option, Some, None, map, get_or}
+use Rattle.std.proofs.Common.{sym, refl, ap, ◌∙◌, subst, append_assoc, arith}
 use Rattle.std.specs.List.{AllByRecursion as Each, Contains}
 use Rattle.std.specs.Char.{to_ascii_lowercase}
-use Rattle.std.proofs.lemmas.Bool.{and_parts, eqb-true, or_cases}
 use Rattle.std.proofs.lemmas.Bool.Decides.{nat_tests}
 use Rattle.std.proofs.lemmas.List.{map-append}
-use Rattle.std.proofs.lemmas.List.Elements.{All-contains, All-from_recursion}
 use Rattle.texting_robots.specs.declared.parser.statement.Kind.{Kind}
-use Rattle.texting_robots.specs.declared.parser.statement.Kind.TheVariants as kind
 use Rattle.texting_robots.specs.Line.{Raw}
-use Rattle.texting_robots.specs.Statement.{IsBlank, IsComment, IsStatement, IsTailOf, spellings}
+use Rattle.texting_robots.specs.Statement.{IsBlank, IsComment, IsStatement, IsTailOf}
 use Rattle.texting_robots.specs.Computed.Statement.{key_in, skip_blanks, statement_of, table}
 use Rattle.texting_robots.specs.Rfc9309 as rfc
 use Rattle.texting_robots.proofs.LineLemmas.{line_raw}
-use Rattle.texting_robots.proofs.StatementLemmas.{StartsPlain, found_statement, no_key, skip_front, skip_plain}
+use Rattle.texting_robots.proofs.StatementLemmas.{StartsPlain, found_statement, no_key, skip_front}
+use Rattle.texting_robots.proofs.StatementLemmas.{skip_plain}
 use Rattle.texting_robots.proofs.Rfc9309.CharLemmas.{each_append}
-use Rattle.texting_robots.proofs.Rfc9309.KeyedLemmas.{blanks_bare, blanks_low, comment_is, comment_text, each_weaker, end_bare}
+use Rattle.texting_robots.proofs.Rfc9309.KeyedLemmas.{blanks_bare, blanks_low, comment_is, comment_text}
+use Rattle.texting_robots.proofs.Rfc9309.KeyedLemmas.{each_weaker, end_bare}
 use Rattle.texting_robots.proofs.Rfc9309.ReadLemmas.{BeginsLow, IsBare, Reads, low_append, reads_line}
+use Rattle.texting_robots.proofs.Rfc9309.WordLemmas.{IsSpelled, Stops, identifier_bounds, same_word, spelled}
 
 -- ---- empty lines and comments
 
@@ -35,147 +34,27 @@ empty_line text eol =
     let body : List ℕ = eol.blanks ++ eol.comment in
     let comment = comment_is eol.comment eol.is_comment in
     let none : key_in table (skip_blanks body) ≡ None =
-        ap (key_in table) (skip_front eol.blanks eol.comment eol.are_blanks) ∙ comment_no_key eol.comment comment in
-    let low = low_append eol.blanks eol.comment (blanks_low eol.blanks eol.are_blanks) (comment_low eol.comment comment) in
+        ap (key_in table) (skip_front eol.blanks eol.comment eol.are_blanks)
+        ∙ comment_no_key eol.comment comment in
+    let low =
+        low_append eol.blanks eol.comment (blanks_low eol.blanks eol.are_blanks)
+        (comment_low eol.comment comment) in
     subst (Reads []) (sym (eol.whole ∙ sym (append_assoc eol.blanks eol.comment eol.nl)))
     (reads_line (Raw body) body eol.nl (line_raw body (no_key body none)) (end_bare text eol) low eol.is_nl)
-
--- ---- words of identifier bytes
-
--- the text begins with no identifier byte
-abbrev Stops : List ℕ → Type 0
-Stops [] = Unit {0}
-Stops (b ∷ text) = rfc.IsIdentifierByte b → ⊥
-
--- two texts that begin with words which end there begin with one word
-same_word : (word other rest more : List ℕ) → Each rfc.IsIdentifierByte word → Each rfc.IsIdentifierByte other → Stops rest
-    → Stops more → word ++ rest ≡ other ++ more → (word ≡ other) × (rest ≡ more)
-same_word [] [] rest more all also stops ends e = (refl, e)
-same_word (b ∷ word) (c ∷ other) rest more all also stops ends e =
-    let next = same_word word other rest more all.1 also.1 stops ends (cc) in
-    let first : b ≡ c = cc in
-    let words = next.0 in
-    (cc, next.1)
-same_word [] (c ∷ other) [] more all also stops ends e = cc
-same_word [] (c ∷ other) (d ∷ rest) more all also stops ends e =
-    let first : c ≡ d = cc in
-    absurd (stops (subst rfc.IsIdentifierByte first also.0))
-same_word (b ∷ word) [] rest [] all also stops ends e = cc
-same_word (b ∷ word) [] rest (d ∷ more) all also stops ends e =
-    let first : b ≡ d = cc in
-    absurd (ends (subst rfc.IsIdentifierByte first all.0))
-
-abbrev is_between : ℕ → ℕ → ℕ → Bool
-is_between lower upper b = nat_le lower b && nat_le b upper
-
-abbrev is_identifier_byte : ℕ → Bool
-is_identifier_byte b = b == 0x2D || (is_between 0x41 0x5A b || (b == 0x5F || is_between 0x61 0x7A b))
-
-abbrev all_identifier : List ℕ → Bool
-all_identifier [] = true
-all_identifier (b ∷ word) = is_identifier_byte b && all_identifier word
-
-between : (lower upper b : ℕ) → is_between lower upper b ≡ true → rfc.IsBetween lower upper b
-between lower upper b e =
-    let both = and_parts (nat_le lower b) (nat_le b upper) e in
-    let first : nat_le lower b ≡ true = both.0 in
-    let second : nat_le b upper ≡ true = both.1 in
-    (grind (arith, nat_tests), grind (arith, nat_tests))
-
-identifier_byte : (b : ℕ) → is_identifier_byte b ≡ true → rfc.IsIdentifierByte b
-identifier_byte b e = first (or_cases (b == 0x2D) (is_between 0x41 0x5A b || (b == 0x5F || is_between 0x61 0x7A b)) e)
-  where
-    third : ((b == 0x5F) ≡ true) ⊎ (is_between 0x61 0x7A b ≡ true) → rfc.IsIdentifierByte b
-    third (inl is) = inr (inr (inl (eqb-true b 0x5F is)))
-    third (inr is) = inr (inr (inr (between 0x61 0x7A b is)))
-
-    second : (is_between 0x41 0x5A b ≡ true) ⊎ ((b == 0x5F || is_between 0x61 0x7A b) ≡ true) → rfc.IsIdentifierByte b
-    second (inl is) = inr (inl (between 0x41 0x5A b is))
-    second (inr e) = third (or_cases (b == 0x5F) (is_between 0x61 0x7A b) e)
-
-    first : ((b == 0x2D) ≡ true) ⊎ ((is_between 0x41 0x5A b || (b == 0x5F || is_between 0x61 0x7A b)) ≡ true)
-        → rfc.IsIdentifierByte b
-    first (inl is) = inl (eqb-true b 0x2D is)
-    first (inr e) = second (or_cases (is_between 0x41 0x5A b) (b == 0x5F || is_between 0x61 0x7A b) e)
-
-identifier : (word : List ℕ) → all_identifier word ≡ true → Each rfc.IsIdentifierByte word
-identifier [] e = tt
-identifier (b ∷ word) e =
-    let both = and_parts (is_identifier_byte b) (all_identifier word) e in
-    (identifier_byte b both.0, identifier word both.1)
-
--- ---- the spellings of keys
-
--- a word, and nothing behind it, or a space and a letter
-record IsSpelled (spelling : List ℕ) : Type 0 where
-  word : List ℕ
-  behind : List ℕ
-  whole : spelling ≡ word ++ behind
-  some : word ≢ []
-  is_word : Each rfc.IsIdentifierByte word
-  is_behind : ((behind ≡ []) × Contains rfc.names_read word)
-      ⊎ ((b : ℕ) × (back : List ℕ) × (behind ≡ 32 ∷ b ∷ back) × rfc.IsIdentifierByte b)
-
-one_word : (b : ℕ) (word : List ℕ) (place : ℕ) → all_identifier (b ∷ word) ≡ true → place < 13
-    → slice_index_or rfc.names_read place (b ∷ word) ≡ b ∷ word → IsSpelled (b ∷ word)
-one_word b word place is within there = record {
-  word = b ∷ word;
-  behind = [];
-  whole = sym (append-nil (b ∷ word));
-  some = λ e. cc;
-  is_word = identifier (b ∷ word) is;
-  is_behind = inl (refl, (place, within, there));
-}
-
-two_words : (a : ℕ) (word : List ℕ) (b : ℕ) (back : List ℕ) → all_identifier (a ∷ word) ≡ true → is_identifier_byte b ≡ true
-    → IsSpelled (a ∷ word ++ 32 ∷ b ∷ back)
-two_words a word b back is next = record {
-  word = a ∷ word;
-  behind = 32 ∷ b ∷ back;
-  whole = refl;
-  some = λ e. cc;
-  is_word = identifier (a ∷ word) is;
-  is_behind = inr (b, back, refl, identifier_byte b next);
-}
-
-each_spelled : (kind : Kind) → Each IsSpelled (spellings kind)
-each_spelled kind.UserAgent = (
-  one_word 117 (codes "ser-agent") 0 refl (omega arith) refl,
-  (two_words 117 (codes "ser") 97 (codes "gent") refl refl, (one_word 117 (codes "seragent") 1 refl (omega arith) refl, tt)),
-)
-each_spelled kind.Allow = (one_word 97 (codes "llow") 2 refl (omega arith) refl, tt)
-each_spelled kind.Disallow = (
-  one_word 100 (codes "isallow") 3 refl (omega arith) refl,
-  (one_word 100 (codes "issallow") 4 refl (omega arith) refl,
-  (one_word 100 (codes "issalow") 5 refl (omega arith) refl,
-  (one_word 100 (codes "isalow") 6 refl (omega arith) refl,
-  (one_word 100 (codes "iasllow") 7 refl (omega arith) refl,
-  (one_word 100 (codes "isallaw") 8 refl (omega arith) refl, tt))))),
-)
-each_spelled kind.Sitemap = (
-  one_word 115 (codes "itemap") 9 refl (omega arith) refl,
-  (one_word 115 (codes "ite-map") 10 refl (omega arith) refl, (two_words 115 (codes "ite") 109 (codes "ap") refl refl, tt)),
-)
-each_spelled kind.CrawlDelay = (
-  one_word 99 (codes "rawl-delay") 11 refl (omega arith) refl,
-  (two_words 99 (codes "rawl") 100 (codes "elay") refl refl, (one_word 99 (codes "rawldelay") 12 refl (omega arith) refl, tt)),
-)
-
-spelled : (kind : Kind) (s : List ℕ) → Contains (spellings kind) s → IsSpelled s
-spelled kind s is = All-contains IsSpelled (spellings kind) s (All-from_recursion IsSpelled (spellings kind) (each_spelled kind)) is
 
 -- ---- a text in small letters
 
 abbrev low : List ℕ → List ℕ
 low text = map to_ascii_lowercase text
 
+low_blank : (b : ℕ) → IsBlank b → to_ascii_lowercase b ≡ b
+low_blank b (inl is) = ap to_ascii_lowercase is ∙ sym is
+low_blank b (inr is) = ap to_ascii_lowercase is ∙ sym is
+
 low_blanks : (blanks : List ℕ) → Each IsBlank blanks → low blanks ≡ blanks
 low_blanks [] all = refl
-low_blanks (b ∷ blanks) all = ap (λ c. c ∷ low blanks) (at b all.0) ∙ ap (λ t. b ∷ t) (low_blanks blanks all.1)
-  where
-    at : (b : ℕ) → IsBlank b → to_ascii_lowercase b ≡ b
-    at b (inl is) = ap to_ascii_lowercase is ∙ sym is
-    at b (inr is) = ap to_ascii_lowercase is ∙ sym is
+low_blanks (b ∷ blanks) all =
+    ap (λ c. c ∷ low blanks) (low_blank b all.0) ∙ ap (λ t. b ∷ t) (low_blanks blanks all.1)
 
 low_byte : (b : ℕ) → rfc.IsIdentifierByte b → rfc.IsIdentifierByte (to_ascii_lowercase b)
 low_byte b (inl is) = rw is (inl refl)
@@ -190,12 +69,6 @@ low_identifier (b ∷ word) all = (low_byte b all.0, low_identifier word all.1)
 low_some : (word : List ℕ) → word ≢ [] → low word ≢ []
 low_some [] some e = some refl
 low_some (b ∷ word) some e = cc
-
-identifier_bounds : (b : ℕ) → rfc.IsIdentifierByte b → (44 < b) × (b < 123) × (b ≢ 58)
-identifier_bounds b (inl is) = (omega arith, omega arith, λ e. omega arith)
-identifier_bounds b (inr (inl is)) = (omega arith, omega arith, λ e. omega arith)
-identifier_bounds b (inr (inr (inl is))) = (omega arith, omega arith, λ e. omega arith)
-identifier_bounds b (inr (inr (inr is))) = (omega arith, omega arith, λ e. omega arith)
 
 blank_no_identifier : (b : ℕ) → IsBlank b → rfc.IsIdentifierByte b → ⊥
 blank_no_identifier b (inl is) letter = let bounds = identifier_bounds b letter in omega arith
@@ -223,11 +96,8 @@ tail_stops : (tail rest : List ℕ) → IsTailOf tail rest → Stops (low rest)
 tail_stops tail rest (inl (blanks, all, whole)) =
     subst Stops (sym (ap low whole ∙ low_colon blanks tail all)) (colon_stops blanks (low tail) all)
 tail_stops tail rest (inr (none, (b, blanks, all, whole))) =
-    subst Stops (sym (ap low whole)) (λ letter. blank_no_identifier b all.0 (subst rfc.IsIdentifierByte (at b all.0) letter))
-  where
-    at : (b : ℕ) → IsBlank b → to_ascii_lowercase b ≡ b
-    at b (inl is) = ap to_ascii_lowercase is ∙ sym is
-    at b (inr is) = ap to_ascii_lowercase is ∙ sym is
+    subst Stops (sym (ap low whole))
+    (λ letter. blank_no_identifier b all.0 (subst rfc.IsIdentifierByte (low_blank b all.0) letter))
 
 -- blanks and a colon are no space and a letter
 no_letter : (blanks text more : List ℕ) (b : ℕ) → Each IsBlank blanks → rfc.IsIdentifierByte b
@@ -235,9 +105,11 @@ no_letter : (blanks text more : List ℕ) (b : ℕ) → Each IsBlank blanks → 
 no_letter [] text more b all letter e =
     let wrong : ◌≡◌ {A = ℕ} 58 32 = ap (λ (l : List ℕ). get_or l 0 0) e in
     omega (arith, wrong)
-no_letter (c ∷ []) text more b all letter e = (identifier_bounds b letter).2 (sym (ap (λ (l : List ℕ). get_or l 1 0) e))
+no_letter (c ∷ []) text more b all letter e =
+    (identifier_bounds b letter).2 (sym (ap (λ (l : List ℕ). get_or l 1 0) e))
 no_letter (c ∷ d ∷ blanks) text more b all letter e =
-    blank_no_identifier d all.1.0 (subst rfc.IsIdentifierByte (sym (ap (λ (l : List ℕ). get_or l 1 0) e)) letter)
+    blank_no_identifier d all.1.0
+    (subst rfc.IsIdentifierByte (sym (ap (λ (l : List ℕ). get_or l 1 0) e)) letter)
 
 -- ---- other records
 
@@ -261,9 +133,11 @@ module _ (text : List ℕ) (o : rfc.IsOtherLine text) where
         map-append to_ascii_lowercase o.margin (o.name ++ behind_name)
         ∙ ap (λ t. t ++ low (o.name ++ behind_name)) (low_blanks o.margin o.margin_blank)
         ∙ ap (λ t. o.margin ++ t) (
-          map-append to_ascii_lowercase o.name behind_name ∙ ap (λ t. low o.name ++ t) (low_colon o.blanks o.value o.blanks_blank)))
+          map-append to_ascii_lowercase o.name behind_name
+          ∙ ap (λ t. low o.name ++ t) (low_colon o.blanks o.value o.blanks_blank)))
       ∙ skip_front o.margin (low o.name ++ rest) o.margin_blank
-      ∙ skip_plain (low o.name ++ rest) (word_plain (low o.name) rest (low_some o.name name.0) (low_identifier o.name name.1))
+      ∙ skip_plain (low o.name ++ rest)
+          (word_plain (low o.name) rest (low_some o.name name.0) (low_identifier o.name name.1))
 
   -- the key of a statement in small letters, and what follows
   low_key : (kind : Kind) (value : List ℕ) (s : IsStatement kind value body) (key : IsSpelled (low s.key))
@@ -286,15 +160,20 @@ module _ (text : List ℕ) (o : rfc.IsOtherLine text) where
       let letters = low_identifier o.name (named o.name o.is_name).1 in
       let rest : List ℕ = o.blanks ++ 58 ∷ low o.value in
       let stops = colon_stops o.blanks (low o.value) o.blanks_blank in
-      let same : low o.name ++ rest ≡ key.word ++ (key.behind ++ low s.rest) = sym low_name ∙ low_key kind value s key in
+      let same : low o.name ++ rest ≡ key.word ++ (key.behind ++ low s.rest) =
+          sym low_name ∙ low_key kind value s key in
       elim key.is_behind [
         | inl none ↦
-            let e : low o.name ++ rest ≡ key.word ++ low s.rest = same ∙ ap (λ t. key.word ++ (t ++ low s.rest)) none.0 in
-            let words = same_word (low o.name) key.word rest (low s.rest) letters key.is_word stops (tail_stops s.tail s.rest s.separated) e in
+            let e : low o.name ++ rest ≡ key.word ++ low s.rest =
+                same ∙ ap (λ t. key.word ++ (t ++ low s.rest)) none.0 in
+            let words =
+                same_word (low o.name) key.word rest (low s.rest) letters key.is_word stops
+                (tail_stops s.tail s.rest s.separated) e in
             o.is_other (subst (Contains rfc.names_read) (sym words.0) none.1)
         | inr (b, back, is, letter) ↦
             let more : List ℕ = 32 ∷ b ∷ (back ++ low s.rest) in
-            let e : low o.name ++ rest ≡ key.word ++ more = same ∙ ap (λ t. key.word ++ (t ++ low s.rest)) is in
+            let e : low o.name ++ rest ≡ key.word ++ more =
+                same ∙ ap (λ t. key.word ++ (t ++ low s.rest)) is in
             let space : Stops more = blank_no_identifier 32 (inl refl) in
             let words = same_word (low o.name) key.word rest more letters key.is_word stops space e in
             no_letter o.blanks (low o.value) (back ++ low s.rest) b o.blanks_blank letter words.1
@@ -306,17 +185,20 @@ module _ (text : List ℕ) (o : rfc.IsOtherLine text) where
 
   name_bare : Each IsBare o.name
   name_bare =
-      each_weaker rfc.IsIdentifierByte IsBare (λ b is. let bounds = identifier_bounds b is in inr (omega arith)) o.name
+      each_weaker rfc.IsIdentifierByte IsBare
+      (λ b is. let bounds = identifier_bounds b is in inr (omega arith)) o.name
       (named o.name o.is_name).1
 
   body_bare : Each IsBare body
   body_bare =
       each_append IsBare o.margin (o.name ++ behind_name) (blanks_bare o.margin o.margin_blank) (
       each_append IsBare o.name behind_name name_bare (
-      each_append IsBare o.blanks (58 ∷ o.value) (blanks_bare o.blanks o.blanks_blank) (inr (omega arith), comment_text o.value o.is_value)))
+      each_append IsBare o.blanks (58 ∷ o.value) (blanks_bare o.blanks o.blanks_blank)
+      (inr (omega arith), comment_text o.value o.is_value)))
 
   body_low : BeginsLow body
-  body_low = low_append o.margin (o.name ++ behind_name) (blanks_low o.margin o.margin_blank) (at o.name o.is_name)
+  body_low =
+      low_append o.margin (o.name ++ behind_name) (blanks_low o.margin o.margin_blank) (at o.name o.is_name)
     where
       at : (name : List ℕ) → rfc.IsIdentifier name → BeginsLow (name ++ behind_name)
       at [] is = absurd is
@@ -325,4 +207,5 @@ module _ (text : List ℕ) (o : rfc.IsOtherLine text) where
   pub other_line : Reads [] text
   other_line =
       subst (Reads []) (sym (o.whole ∙ simp append_assoc))
-      (reads_line (Raw body) body o.nl (line_raw body (no_statement (statement_of body) refl)) body_bare body_low o.is_nl)
+      (reads_line (Raw body) body o.nl (line_raw body (no_statement (statement_of body) refl)) body_bare
+          body_low o.is_nl)

@@ -6,14 +6,15 @@ use Rattle.std.proofs.lemmas.Bool.{cases_Bool, cond-false, false≢true, ne_eqb}
 use Rattle.std.proofs.lemmas.List.{map-append}
 use Rattle.std.proofs.lemmas.List.Elements.{filter-append}
 use Rattle.texting_robots.specs.Cut.{cr, lf}
-use Rattle.texting_robots.specs.Line.{LineValue, UserAgent, Allow, Disallow, Sitemap, CrawlDelay, Raw, is_agent, is_group}
-use Rattle.texting_robots.specs.Line.{nul_as_lf, without_front}
+use Rattle.texting_robots.specs.Line.{LineValue, UserAgent, Allow, Disallow, Sitemap, CrawlDelay, Raw}
+use Rattle.texting_robots.specs.Line.{is_agent, is_group, nul_as_lf, without_front}
 use Rattle.texting_robots.specs.Rules.{rules_of}
 use Rattle.texting_robots.specs.Computed.Cut.{cut}
 use Rattle.texting_robots.specs.Computed.Line.{file_lines, line_of, lines_of}
 use Rattle.texting_robots.specs.Rfc9309.{IsLastNl, IsMark, IsNl}
 use Rattle.texting_robots.proofs.CutLemmas.{cut_nil}
-use Rattle.texting_robots.proofs.CrLfLemmas.{bodies_of, body_byte, body_return, body_step, step, lines_by_bodies}
+use Rattle.texting_robots.proofs.CrLfLemmas.{bodies_of, body_byte, body_return, body_step, step}
+use Rattle.texting_robots.proofs.CrLfLemmas.{lines_by_bodies}
 use Rattle.texting_robots.proofs.LawLemmas.{DropsNeutral, rules_kept}
 use Rattle.texting_robots.proofs.LineLemmas.{line_raw}
 use Rattle.texting_robots.proofs.Rfc9309.CharLemmas.{each_append, each_front}
@@ -28,9 +29,11 @@ plays_neutral : DropsNeutral plays
 plays_neutral (UserAgent value) h = absurd (false≢true (sym h))
 plays_neutral (Allow value) h = absurd (false≢true (sym h))
 plays_neutral (Disallow value) h = absurd (false≢true (sym h))
-plays_neutral (Sitemap value) h = record { agent = refl; names = λ name. refl; rule = refl; delay = refl; step = λ name walk. refl }
+plays_neutral (Sitemap value) h =
+    record { agent = refl; names = λ name. refl; rule = refl; delay = refl; step = λ name walk. refl }
 plays_neutral (CrawlDelay delay) h = absurd (false≢true (sym h))
-plays_neutral (Raw body) h = record { agent = refl; names = λ name. refl; rule = refl; delay = refl; step = λ name walk. refl }
+plays_neutral (Raw body) h =
+    record { agent = refl; names = λ name. refl; rule = refl; delay = refl; step = λ name walk. refl }
 
 -- those of bodies
 abbrev heard_in : List (List ℕ) → List LineValue
@@ -59,9 +62,11 @@ return_first ((b ∷ body) ∷ bodies) = record { more = (b ∷ body) ∷ bodies
 
 end_first : (nl rest : List ℕ) → IsNl nl → BeginEmpty (bodies_of (cut (nl ++ rest))) (heard rest)
 end_first nl rest (inl is) = rw (is, step cr rest) (return_first (bodies_of (cut rest)))
-end_first nl rest (inr (inl is)) = rw (is, step lf rest) (record { more = bodies_of (cut rest); whole = refl; same = refl })
+end_first nl rest (inr (inl is)) =
+    rw (is, step lf rest) (record { more = bodies_of (cut rest); whole = refl; same = refl })
 end_first nl rest (inr (inr is)) =
-    rw (is, step cr (lf ∷ rest), step lf rest) (record { more = bodies_of (cut rest); whole = refl; same = refl })
+    rw (is, step cr (lf ∷ rest), step lf rest)
+    (record { more = bodies_of (cut rest); whole = refl; same = refl })
 
 -- a tab, or no control
 abbrev pub IsBare : ℕ → Type 0
@@ -77,7 +82,9 @@ body_first [] text more bare first = first
 body_first (b ∷ body) text more bare first =
     step b (body ++ text)
     ∙ ap (body_step b) (body_first body text more bare.1 first)
-    ∙ rw (bare_other b lf bare.0 (omega arith) (omega arith), bare_other b cr bare.0 (omega arith) (omega arith)) refl
+    ∙ rw (
+          bare_other b lf bare.0 (omega arith) (omega arith),
+          bare_other b cr bare.0 (omega arith) (omega arith)) refl
 
 line_heard : (body nl rest : List ℕ) → Each IsBare body → IsNl nl
     → heard ((body ++ nl) ++ rest) ≡ filter plays (line_of body ∷ []) ++ heard rest
@@ -139,7 +146,8 @@ end_low nl (inr (inl is)) = rw is (omega arith)
 end_low nl (inr (inr is)) = rw is (omega arith)
 
 -- a body that is read as this line, and its end
-pub reads_line : (line : LineValue) (body nl : List ℕ) → line_of body ≡ line → Each IsBare body → BeginsLow body → IsNl nl
+pub reads_line : (line : LineValue) (body nl : List ℕ) → line_of body ≡ line → Each IsBare body
+    → BeginsLow body → IsNl nl
     → Reads (filter plays (line ∷ [])) (body ++ nl)
 reads_line line body nl same bare low is = record {
   heard = λ rest. line_heard body nl rest bare is ∙ ap (λ l. filter plays (l ∷ []) ++ heard rest) same;
@@ -153,12 +161,14 @@ reads_line line body nl same bare low is = record {
 abbrev OneMayFollow : List (List ℕ) → List (List ℕ) → Type 0
 OneMayFollow bodies others = (others ≡ bodies) ⊎ (others ≡ bodies ++ [] ∷ [])
 
-return_follows : (bodies : List (List ℕ)) → OneMayFollow (body_return bodies) (body_return (bodies ++ [] ∷ []))
+return_follows : (bodies : List (List ℕ))
+    → OneMayFollow (body_return bodies) (body_return (bodies ++ [] ∷ []))
 return_follows [] = inl refl
 return_follows ([] ∷ bodies) = inr refl
 return_follows ((b ∷ body) ∷ bodies) = inr refl
 
-byte_follows : (b : ℕ) (bodies : List (List ℕ)) → OneMayFollow (body_byte b bodies) (body_byte b (bodies ++ [] ∷ []))
+byte_follows : (b : ℕ) (bodies : List (List ℕ))
+    → OneMayFollow (body_byte b bodies) (body_byte b (bodies ++ [] ∷ []))
 byte_follows b [] = inl refl
 byte_follows b (body ∷ bodies) = inr refl
 
@@ -173,7 +183,8 @@ step_follows b bodies others (inr more) = rw more (elim (cases_Bool (eqb b lf)) 
   ]
 ])
 
-end_follows : (text nl : List ℕ) → IsNl nl → OneMayFollow (bodies_of (cut text)) (bodies_of (cut (text ++ nl)))
+end_follows : (text nl : List ℕ) → IsNl nl
+    → OneMayFollow (bodies_of (cut text)) (bodies_of (cut (text ++ nl)))
 end_follows [] nl (inl is) = rw (is, step cr [], cut_nil) (inr refl)
 end_follows [] nl (inr (inl is)) = rw (is, step lf [], cut_nil) (inr refl)
 end_follows [] nl (inr (inr is)) = rw (is, step cr (lf ∷ []), step lf [], cut_nil) (inr refl)
@@ -203,12 +214,14 @@ last_unheard text nl (inr is) = end_unheard text nl is
 nothing_replaced : (text : List ℕ) → Each (λ byte. byte ≢ 0) text → map nul_as_lf text ≡ text
 nothing_replaced [] all = refl
 nothing_replaced (b ∷ text) all =
-    ap (λ c. c ∷ map nul_as_lf text) (cond-false _ _ _ (ne_eqb b 0 all.0)) ∙ ap (λ t. b ∷ t) (nothing_replaced text all.1)
+    ap (λ c. c ∷ map nul_as_lf text) (cond-false _ _ _ (ne_eqb b 0 all.0))
+    ∙ ap (λ t. b ∷ t) (nothing_replaced text all.1)
 
 low_front : (text : List ℕ) → BeginsLow text → without_front text ≡ text
 low_front [] low = refl
 low_front (b ∷ text) low =
-    rw (ne_eqb b 0xEF (λ e. omega arith), ne_eqb b 0xBB (λ e. omega arith), ne_eqb b 0xBF (λ e. omega arith)) refl
+    rw (ne_eqb b 0xEF (λ e. omega arith), ne_eqb b 0xBB (λ e. omega arith), ne_eqb b 0xBF (λ e. omega arith))
+    refl
 
 behind_mark : (mark text : List ℕ) → IsMark mark → Each (λ byte. byte ≢ 0) text → BeginsLow text
     → without_front (map nul_as_lf (mark ++ text)) ≡ text
@@ -231,6 +244,7 @@ file_rules agent lines mark text nl is_mark is_nl reads =
         ∙ ap (λ ps. lines ++ filter plays (map line_of (bodies_of ps))) cut_nil
         ∙ append-nil lines in
     rules_kept agent plays plays_neutral (file_lines (mark ++ text))
-    ∙ ap (λ t. rules_of agent (filter plays (lines_of t))) (behind_mark mark text is_mark no_nul (low_of_front text nl reads.low))
+    ∙ ap (λ t. rules_of agent (filter plays (lines_of t)))
+        (behind_mark mark text is_mark no_nul (low_of_front text nl reads.low))
     ∙ ap (λ ls. rules_of agent (filter plays ls)) (lines_by_bodies (cut text))
     ∙ ap (rules_of agent) all
