@@ -19,6 +19,8 @@ mod printed;
 #[cfg(test)]
 mod refusals;
 #[cfg(test)]
+mod standard;
+#[cfg(test)]
 mod urls;
 #[cfg(test)]
 mod verdicts;
