@@ -141,7 +141,7 @@ IsIdentifier (byte ∷ bytes) = Each IsIdentifierByte (byte ∷ bytes)
 abbrev pub IsProductToken : List ℕ → Type 0
 IsProductToken bytes = IsIdentifier bytes ⊎ (bytes ≡ codes "*")
 
--- a literal, which has no letter, and *UTF8-char-noctl
+-- literal *UTF8-char-noctl, where the literal has no letter
 pub record IsPatternWith (literal bytes : List ℕ) : Type 0 where
   pub text : List ℕ
   pub is_text : IsMany IsUtf8CharNoctl text
