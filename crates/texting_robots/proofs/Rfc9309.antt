@@ -2,13 +2,17 @@
 pub mod MergeLemmas
 pub mod WalkLemmas
 pub mod GroupLemmas
+pub mod Told
 pub mod CharLemmas
 pub mod ReadLemmas
+pub mod EndLemmas
 pub mod ValueLemmas
 pub mod KeyedLemmas
 pub mod RuleLemmas
 pub mod MemberLemmas
 pub mod WordLemmas
 pub mod OtherLemmas
+pub mod ToldLemmas
 pub mod FileLemmas
+pub mod StandardLemmas
 pub mod Sample

@@ -249,7 +249,7 @@ region_front : (front tail : List ℕ) → Each (λ byte. byte ≢ hash) front �
 region_front [] tail plain = refl
 region_front (b ∷ front) tail plain = region_other b (front ++ tail) (ne_eqb b hash plain.0) ∙ ap (λ t. b ∷ t) (region_front front tail plain.1)
 
-region_is : (region comment : List ℕ) → Each (λ byte. byte ≢ hash) region → IsComment comment → region_of (region ++ comment) ≡ region
+pub region_is : (region comment : List ℕ) → Each (λ byte. byte ≢ hash) region → IsComment comment → region_of (region ++ comment) ≡ region
 region_is region comment plain is = region_front region comment plain ∙ ap (λ t. region ++ t) (none comment is) ∙ append-nil region
   where
     none : (comment : List ℕ) → IsComment comment → region_of comment ≡ []

@@ -165,3 +165,9 @@ abbrev pub StandardFilesAreReadSo : Type 0
 StandardFilesAreReadSo =
     (text : List ℕ) (groups : List rfc.Group) (agent : List ℕ) → rfc.IsFile groups text
     → AllZip IsReadAs (rfc.rules_for agent (rfc.merged groups)) (rules_of agent (file_lines text))
+
+-- however a file is taken apart, it spells the same groups once they are merged
+abbrev pub StandardFilesSpellOnce : Type 0
+StandardFilesSpellOnce =
+    (text : List ℕ) (groups others : List rfc.Group) → rfc.IsFile groups text → rfc.IsFile others text
+    → rfc.merged groups ≡ rfc.merged others

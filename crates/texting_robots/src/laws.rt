@@ -21,6 +21,7 @@ ghost use Rattle.texting_robots.specs.Laws.{
   SitemapsChangeNothingElse,
   SitemapsForAll,
   StandardFilesAreReadSo,
+  StandardFilesSpellOnce,
   UncapturedReachesNothing,
 };
 
@@ -136,5 +137,6 @@ pub fn comparison_agrees()
 
 /// A file of the standard's syntax is read as the groups and rules that it spells.
 pub fn standard_files_are_read_so()
-    ensures { StandardFilesAreReadSo }
+    ensures read { StandardFilesAreReadSo }
+    ensures once { StandardFilesSpellOnce }
 {}

@@ -159,15 +159,13 @@ front_passed : (name : List ℕ) (walk : Walk) (front lines : List LineValue) �
 front_passed name walk [] lines all closed = record { next = walk; closed = closed; same = refl }
 front_passed name walk (line ∷ front) lines all closed =
     let p = front_passed name (group_step walk) front lines all.1 refl in
+    let rest = found name (step name walk line) (front ++ lines) in
     record {
       next = p.next;
       closed = p.closed;
       same =
-          ap
-              (λ o. cons_option (cond walk.captured o None) (found name (step name walk line) (front ++ lines)))
-              all.0.none
-          ∙ ap (λ o. cons_option o (found name (step name walk line) (front ++ lines)))
-              (nothing walk.captured)
+          ap (λ o. cons_option (cond walk.captured o None) rest) all.0.none
+          ∙ ap (λ o. cons_option o rest) (nothing walk.captured)
           ∙ ap (λ w. found name w (front ++ lines)) (group_steps name walk line all.0.group)
           ∙ p.same;
     }

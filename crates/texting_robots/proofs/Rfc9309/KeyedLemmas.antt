@@ -1,13 +1,13 @@
 -- A line with a key, a colon and a value is a statement.
 use Rattle.std.proofs.Common.{◌≡◌, ◌≢◌, ◌⊎◌, inl, inr, ℕ, ◌<◌, List, [], ◌∷◌, ◌++◌, map, flat_map, codes}
 use Rattle.std.proofs.Common.{Bool, true, ◌&&◌, nat_lt, sym, refl, ap, ◌∙◌, subst, append_assoc, append-nil}
-use Rattle.std.proofs.Common.{arith}
+use Rattle.std.proofs.Common.{arith, filter, not, ◌==◌}
 use Rattle.std.specs.List.{AllByRecursion as Each, Contains}
 use Rattle.std.specs.Char.{to_ascii_lowercase}
-use Rattle.std.proofs.lemmas.Bool.{and_parts, ltb-true}
+use Rattle.std.proofs.lemmas.Bool.{and_parts, eqb-false, ltb-true, not-true}
 use Rattle.std.proofs.lemmas.Bool.Decides.{nat_tests}
 use Rattle.texting_robots.specs.declared.parser.statement.Kind.{Kind}
-use Rattle.texting_robots.specs.Statement.{IsBlank, IsComment, IsStatement, hash, spellings}
+use Rattle.texting_robots.specs.Statement.{IsBlank, IsComment, IsStatement, colon, hash, spellings}
 use Rattle.texting_robots.specs.Trim.{IsTrimOf}
 use Rattle.texting_robots.specs.Computed.Line.{line_of, line_with}
 use Rattle.texting_robots.specs.Rfc9309 as rfc
@@ -16,6 +16,7 @@ use Rattle.texting_robots.proofs.StatementLemmas.{blanks_before, statement_found
 use Rattle.texting_robots.proofs.Rfc9309.CharLemmas.{IsCharByte, char_text, each_append}
 use Rattle.texting_robots.proofs.Rfc9309.ReadLemmas.{BeginsLow, IsBare, low_append}
 use Rattle.texting_robots.proofs.Rfc9309.ValueLemmas.{IsVisible, blanks_behind, visible_trim}
+use Rattle.texting_robots.proofs.Rfc9309.Told.{between_gone, no_blank, written, written_is}
 
 -- ---- bytes
 
@@ -58,29 +59,43 @@ pub visible_low : (bytes : List ℕ) → Each IsVisible bytes → BeginsLow byte
 visible_low [] all = tt
 visible_low (b ∷ bytes) all = omega arith
 
--- a word that is made of visible bytes, as is computed
-abbrev all_visible : List ℕ → Bool
-all_visible [] = true
-all_visible (b ∷ word) = (nat_lt 32 b && nat_lt b 127) && all_visible word
+-- a byte of a key: visible, and no colon
+abbrev pub IsKeyByte : ℕ → Type 0
+IsKeyByte byte = IsVisible byte × (byte ≢ colon)
 
-pub visible_word : (word : List ℕ) → all_visible word ≡ true → Each IsVisible word
-visible_word [] e = tt
-visible_word (b ∷ word) e =
-    let both = and_parts (nat_lt 32 b && nat_lt b 127) (all_visible word) e in
-    let here = and_parts (nat_lt 32 b) (nat_lt b 127) both.0 in
-    ((ltb-true 32 b here.0, ltb-true b 127 here.1), visible_word word both.1)
+abbrev is_key_byte : ℕ → Bool
+is_key_byte b = (nat_lt 32 b && nat_lt b 127) && not (b == colon)
+
+abbrev all_key_bytes : List ℕ → Bool
+all_key_bytes [] = true
+all_key_bytes (b ∷ word) = is_key_byte b && all_key_bytes word
+
+-- a word that is made of such bytes, as is computed
+pub key_word : (word : List ℕ) → all_key_bytes word ≡ true → Each IsKeyByte word
+key_word [] e = tt
+key_word (b ∷ word) e =
+    let both = and_parts (is_key_byte b) (all_key_bytes word) e in
+    let here = and_parts (nat_lt 32 b && nat_lt b 127) (not (b == colon)) both.0 in
+    let within = and_parts (nat_lt 32 b) (nat_lt b 127) here.0 in
+    let no_colon = eqb-false b colon (not-true (b == colon) here.1) in
+    (((ltb-true 32 b within.0, ltb-true b 127 within.1), no_colon), key_word word both.1)
 
 -- a key in small letters and in any
-visible_letter : (b : ℕ) → IsVisible (to_ascii_lowercase b) → IsVisible b
-visible_letter b is = (grind (arith, nat_tests), grind (arith, nat_tests))
+key_letter : (b : ℕ) → IsKeyByte (to_ascii_lowercase b) → IsKeyByte b
+key_letter b is =
+    ((grind (arith, nat_tests), grind (arith, nat_tests)), λ e. is.1 (ap to_ascii_lowercase e))
 
-pub key_visible : (key word : List ℕ) → map to_ascii_lowercase key ≡ word → Each IsVisible word
-    → Each IsVisible key
-key_visible [] word e all = tt
-key_visible (b ∷ key) [] e all = absurd cc
-key_visible (b ∷ key) (c ∷ word) e all =
+pub key_letters : (key word : List ℕ) → map to_ascii_lowercase key ≡ word → Each IsKeyByte word
+    → Each IsKeyByte key
+key_letters [] word e all = tt
+key_letters (b ∷ key) [] e all = absurd cc
+key_letters (b ∷ key) (c ∷ word) e all =
     let same : to_ascii_lowercase b ≡ c = cc in
-    (visible_letter b (subst IsVisible (sym same) all.0), key_visible key word (cc) all.1)
+    (key_letter b (subst IsKeyByte (sym same) all.0), key_letters key word (cc) all.1)
+
+blank_no_colon : (b : ℕ) → IsBlank b → b ≢ colon
+blank_no_colon b (inl is) e = omega arith
+blank_no_colon b (inr is) e = omega arith
 
 -- ---- the end of a line
 
@@ -129,19 +144,35 @@ pub record Keyed (word value text : List ℕ) : Type 0 where
   pub states : (kind : Kind) (read : List ℕ) → Contains (spellings kind) word
       → IsTrimOf read (gap ++ (value ++ behind))
       → IsStatement kind read body
+  pub written : written body ≡ filter no_blank value
 
-pub keyed : (word value text : List ℕ) → Each IsVisible word → Each IsValueByte value
+pub keyed : (word value text : List ℕ) → Each IsKeyByte word → Each IsValueByte value
     → rfc.IsKeyed word value text
     → Keyed word value text
-keyed word value text visible plain line =
+keyed word value text letters plain line =
     let eol = line.is_eol in
     let behind = eol.blanks in
     let tail : List ℕ = line.gap ++ (value ++ (behind ++ eol.comment)) in
     let rest : List ℕ = line.blanks ++ (codes ":" ++ tail) in
-    let key = key_visible line.key word line.is_key visible in
+    let region : List ℕ = line.gap ++ (value ++ behind) in
+    let front : List ℕ = line.margin ++ (line.key ++ line.blanks) in
+    let body : List ℕ = line.margin ++ (line.key ++ rest) in
+    let key_bytes = key_letters line.key word line.is_key letters in
+    let key = each_weaker IsKeyByte IsVisible (λ b is. is.0) line.key key_bytes in
+    let no_colon : Each (λ b. b ≢ colon) front =
+        each_append (λ b. b ≢ colon) line.margin (line.key ++ line.blanks)
+            (each_weaker IsBlank (λ b. b ≢ colon) blank_no_colon line.margin line.margin_blank)
+            (each_append (λ b. b ≢ colon) line.key line.blanks
+                (each_weaker IsKeyByte (λ b. b ≢ colon) (λ b is. is.1) line.key key_bytes)
+                (each_weaker IsBlank (λ b. b ≢ colon) blank_no_colon line.blanks line.blanks_blank)) in
+    let no_hash : Each (λ b. b ≢ hash) region =
+        each_weaker IsValueByte (λ b. b ≢ hash) (λ b is. is.1) region (
+          each_append IsValueByte line.gap (value ++ behind) (blanks_value line.gap line.gap_blank) (
+          each_append IsValueByte value behind plain (blanks_value behind eol.are_blanks))) in
+    let parted : body ≡ front ++ colon ∷ (region ++ eol.comment) = simp append_assoc in
     let value_bare = each_weaker IsValueByte IsBare (λ b is. is.0) value plain in
     record {
-      body = line.margin ++ (line.key ++ rest);
+      body = body;
       nl = eol.nl;
       gap = line.gap;
       behind = behind;
@@ -169,19 +200,21 @@ keyed word value text visible plain line =
         key = line.key;
         rest = rest;
         tail = tail;
-        region = line.gap ++ (value ++ behind);
+        region = region;
         comment = eol.comment;
         whole = refl;
         margin_blank = line.margin_blank;
         is_key = subst (Contains (spellings kind)) (sym line.is_key) has;
         separated = inl (line.blanks, line.blanks_blank, refl);
         parted = simp append_assoc;
-        no_hash = each_weaker IsValueByte (λ b. b ≢ hash) (λ b is. is.1) (line.gap ++ (value ++ behind)) (
-          each_append IsValueByte line.gap (value ++ behind) (blanks_value line.gap line.gap_blank) (
-          each_append IsValueByte value behind plain (blanks_value behind eol.are_blanks)));
+        no_hash = no_hash;
         is_comment = comment_is eol.comment eol.is_comment;
         trimmed = trim;
       };
+      written =
+          ap written parted
+          ∙ written_is front region eol.comment no_colon no_hash (comment_is eol.comment eol.is_comment)
+          ∙ between_gone line.gap value behind line.gap_blank eol.are_blanks;
     }
 
 -- the line of such a statement

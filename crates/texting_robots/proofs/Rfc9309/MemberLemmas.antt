@@ -6,7 +6,7 @@ use Rattle.std.proofs.lemmas.Bool.{false≢true}
 use Rattle.std.proofs.lemmas.List.Elements.{All-from_recursion, All-nil}
 use Rattle.texting_robots.specs.declared.parser.statement.Kind.TheVariants as kind
 use Rattle.texting_robots.specs.Delay.{Decimal, IsDigit, NamesDelay, Spells}
-use Rattle.texting_robots.specs.Line.{LineValue, CrawlDelay}
+use Rattle.texting_robots.specs.Line.{CrawlDelay}
 use Rattle.texting_robots.specs.Computed.Delay.{delay_of, rounded}
 use Rattle.texting_robots.specs.Computed.Line.{delay_or_raw}
 use Rattle.texting_robots.specs.Computed.Statement.{trimmed}
@@ -15,12 +15,12 @@ use Rattle.texting_robots.proofs.DelayLemmas.{is_delay_of, rounded_rounds}
 use Rattle.texting_robots.proofs.TrimLemmas.{trimmed_is_trim}
 use Rattle.texting_robots.proofs.Rfc9309.CharLemmas.{chars_text, each_append}
 use Rattle.texting_robots.proofs.Rfc9309.MergeLemmas.{front_some}
-use Rattle.texting_robots.proofs.Rfc9309.KeyedLemmas.{IsValueByte, chars_value, each_weaker, keyed}
-use Rattle.texting_robots.proofs.Rfc9309.KeyedLemmas.{visible_word}
-use Rattle.texting_robots.proofs.Rfc9309.ReadLemmas.{Reads, plays}
+use Rattle.texting_robots.proofs.Rfc9309.KeyedLemmas.{IsValueByte, chars_value, each_weaker, keyed, key_word}
+use Rattle.texting_robots.proofs.Rfc9309.ReadLemmas.{Reads}
 use Rattle.texting_robots.proofs.Rfc9309.GroupLemmas.{IsFront}
-use Rattle.texting_robots.proofs.Rfc9309.RuleLemmas.{IsPlain, MemberRead, plain_trim, plain_value}
+use Rattle.texting_robots.proofs.Rfc9309.RuleLemmas.{IsPlain, MemberRead, plain_kept, plain_trim, plain_value}
 use Rattle.texting_robots.proofs.Rfc9309.RuleLemmas.{reads_keyed, rule_line, star_line}
+use Rattle.texting_robots.proofs.Rfc9309.Told.{Told, matters, no_blank}
 
 -- ---- delays
 
@@ -110,14 +110,16 @@ delay_given : (number text : List ℕ) → Numbered number → rfc.IsKeyed (code
     → MemberRead (rfc.Delay number) text
 delay_given number text n line =
     let value = each_weaker IsPlain IsValueByte plain_value number n.plain in
-    let k = keyed (codes "crawl-delay") number text (visible_word (codes "crawl-delay") refl) value line in
+    let k = keyed (codes "crawl-delay") number text (key_word (codes "crawl-delay") refl) value line in
+    let bare : List ℕ = filter no_blank number in
     record {
-      line = CrawlDelay (Some n.delay);
-      is_line = record { group = refl; gives = refl };
+      told = (CrawlDelay (Some n.delay), number);
+      is_told = record { line = record { group = refl; gives = refl }; spelled = refl };
       reads =
-          subst (λ d. Reads (filter plays (delay_or_raw d k.body ∷ [])) text) n.is
-          (reads_keyed (codes "crawl-delay") number text k kind.CrawlDelay number (0, omega arith, refl)
-              (plain_trim k.gap k.behind number k.gap_blank k.behind_blank n.plain));
+          subst (λ value. Reads ((CrawlDelay (Some n.delay), value) ∷ []) text) (plain_kept number n.plain)
+          (subst (λ d. Reads (filter matters ((delay_or_raw d k.body, bare) ∷ [])) text) n.is
+              (reads_keyed (codes "crawl-delay") number text k kind.CrawlDelay number (0, omega arith, refl)
+                  (plain_trim k.gap k.behind number k.gap_blank k.behind_blank n.plain)));
     }
 
 pub delay_line : (member : rfc.Member) (text : List ℕ) → rfc.IsDelayLine member text → MemberRead member text
@@ -133,9 +135,9 @@ member_line member text (inr (inr is)) = delay_line member text is
 
 -- a delay line in front of the groups
 pub record FrontRead (text : List ℕ) : Type 0 where
-  pub line : LineValue
-  pub is_front : IsFront line
-  pub reads : Reads (line ∷ []) text
+  pub told : Told
+  pub is_front : IsFront told.0
+  pub reads : Reads (told ∷ []) text
 
 pub front_line : (member : rfc.Member) (text : List ℕ) → rfc.IsDelayLine member text → FrontRead text
 front_line (rfc.Allow pattern) text is = absurd is
@@ -143,8 +145,8 @@ front_line (rfc.Disallow pattern) text is = absurd is
 front_line (rfc.Delay number) text is =
     let read = delay_line (rfc.Delay number) text is in
     record {
-      line = read.line;
-      is_front = record { group = read.is_line.group; none = read.is_line.gives };
+      told = read.told;
+      is_front = record { group = read.is_told.line.group; none = read.is_told.line.gives };
       reads = read.reads;
     }
 
@@ -154,7 +156,7 @@ pub sitemap_line : (text : List ℕ) → rfc.IsSitemapLine text → Reads [] tex
 sitemap_line text is =
     let address = chars_value is.address (chars_text is.address is.is_address).bytes in
     let k =
-        keyed (codes "sitemap") is.address text (visible_word (codes "sitemap") refl) address is.is_line in
+        keyed (codes "sitemap") is.address text (key_word (codes "sitemap") refl) address is.is_line in
     let region : List ℕ = k.gap ++ (is.address ++ k.behind) in
     reads_keyed (codes "sitemap") is.address text k kind.Sitemap (trimmed region)
     (0, omega arith, refl) (trimmed_is_trim region)

@@ -18,6 +18,7 @@ use Rattle.texting_robots.proofs.Rfc9309.KeyedLemmas.{blanks_bare, blanks_low, c
 use Rattle.texting_robots.proofs.Rfc9309.KeyedLemmas.{each_weaker, end_bare}
 use Rattle.texting_robots.proofs.Rfc9309.ReadLemmas.{BeginsLow, IsBare, Reads, low_append, reads_line}
 use Rattle.texting_robots.proofs.Rfc9309.WordLemmas.{IsSpelled, Stops, identifier_bounds, same_word, spelled}
+use Rattle.texting_robots.proofs.Rfc9309.Told.{written}
 
 -- ---- empty lines and comments
 
@@ -40,7 +41,9 @@ empty_line text eol =
         low_append eol.blanks eol.comment (blanks_low eol.blanks eol.are_blanks)
         (comment_low eol.comment comment) in
     subst (Reads []) (sym (eol.whole ∙ sym (append_assoc eol.blanks eol.comment eol.nl)))
-    (reads_line (Raw body) body eol.nl (line_raw body (no_key body none)) (end_bare text eol) low eol.is_nl)
+    (reads_line (Raw body, written body) body eol.nl
+        (ap (λ line. (line, written body)) (line_raw body (no_key body none)))
+        (end_bare text eol) low eol.is_nl)
 
 -- ---- a text in small letters
 
@@ -207,5 +210,6 @@ module _ (text : List ℕ) (o : rfc.IsOtherLine text) where
   pub other_line : Reads [] text
   other_line =
       subst (Reads []) (sym (o.whole ∙ simp append_assoc))
-      (reads_line (Raw body) body o.nl (line_raw body (no_statement (statement_of body) refl)) body_bare
-          body_low o.is_nl)
+      (reads_line (Raw body, written body) body o.nl
+          (ap (λ line. (line, written body)) (line_raw body (no_statement (statement_of body) refl)))
+          body_bare body_low o.is_nl)

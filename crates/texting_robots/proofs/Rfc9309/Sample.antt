@@ -1,5 +1,5 @@
--- A file of the standard's syntax, to see that the relations can be met: `User-agent:a` and `disallow:/x`, each
--- with a LF behind it.
+-- A file of the standard's syntax, to see that the relations can be met: `User-agent:a` and `disallow:/x`,
+-- each with a LF behind it.
 use Rattle.std.proofs.Common.{◌≡◌, ℕ, List, [], ◌∷◌, ◌++◌, codes, inl, inr, refl, arith}
 use Rattle.texting_robots.specs.Rfc9309.{Disallow, Group, IsEol, IsFile, IsGroup, IsPattern, IsRule}
 use Rattle.texting_robots.specs.Rfc9309.{IsStartGroupLine, IsUtf8CharNoctl, merged, rules_for}
