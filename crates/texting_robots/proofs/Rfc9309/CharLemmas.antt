@@ -87,14 +87,14 @@ three (a ∷ b ∷ c ∷ []) (inr (inr (inl (is, is_b, is_c)))) =
 three (a ∷ b ∷ c ∷ []) (inr (inr (inr (is, is_b, is_c)))) =
     of_three a b c (omega arith) (omega arith) (grind (arith, nat_tests)) (omega arith) is_c
 
-of_four : (a b c d : ℕ) → 0xF0 ≤ a → a ≤ 0xF4 → second a b ≡ true → 0x80 ≤ b → rfc.IsUtf8Tail c
-    → rfc.IsUtf8Tail d
-    → IsCharText (a ∷ b ∷ c ∷ d ∷ [])
-of_four a b c d low below after is_b is_c is_d = record {
+of_four : (a b c d : ℕ) → rfc.IsBetween 0xF0 0xF4 a → second a b ≡ true → 0x80 ≤ b
+    → rfc.IsUtf8Tail c × rfc.IsUtf8Tail d → IsCharText (a ∷ b ∷ c ∷ d ∷ [])
+of_four a b c d within after is_b (is_c, is_d) = record {
   bytes = (high a (omega arith), (high b is_b, (high c (omega arith), (high d (omega arith), tt))));
   utf8 =
       read_whole (a ∷ b ∷ c ∷ d ∷ []) (code_of_4 a b c d)
-      (value-12 4 a b c d (omega arith, low, below, after, tail_continues c is_c, tail_continues d is_d));
+      (value-12 4 a b c d
+          (omega arith, within.0, within.1, after, tail_continues c is_c, tail_continues d is_d));
 }
 
 four : (bytes : List ℕ) → rfc.IsUtf8Four bytes → IsCharText bytes
@@ -104,11 +104,11 @@ four (a ∷ b ∷ []) is = absurd is
 four (a ∷ b ∷ c ∷ []) is = absurd is
 four (a ∷ b ∷ c ∷ d ∷ e ∷ rest) is = absurd is
 four (a ∷ b ∷ c ∷ d ∷ []) (inl (is, is_b, is_c, is_d)) =
-    of_four a b c d (omega arith) (omega arith) (grind (arith, nat_tests)) (omega arith) is_c is_d
+    of_four a b c d (omega arith, omega arith) (grind (arith, nat_tests)) (omega arith) (is_c, is_d)
 four (a ∷ b ∷ c ∷ d ∷ []) (inr (inl (is, is_b, is_c, is_d))) =
-    of_four a b c d (omega arith) (omega arith) (grind (arith, nat_tests)) (omega arith) is_c is_d
+    of_four a b c d (omega arith, omega arith) (grind (arith, nat_tests)) (omega arith) (is_c, is_d)
 four (a ∷ b ∷ c ∷ d ∷ []) (inr (inr (is, is_b, is_c, is_d))) =
-    of_four a b c d (omega arith) (omega arith) (grind (arith, nat_tests)) (omega arith) is_c is_d
+    of_four a b c d (omega arith, omega arith) (grind (arith, nat_tests)) (omega arith) (is_c, is_d)
 
 pub char_text : (bytes : List ℕ) → rfc.IsUtf8CharNoctl bytes → IsCharText bytes
 char_text bytes (inl is) = one bytes is

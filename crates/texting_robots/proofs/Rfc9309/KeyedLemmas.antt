@@ -223,10 +223,10 @@ pub keyed_line : (kind : Kind) (read body : List ℕ) → IsStatement kind read 
 keyed_line kind read body is = line_stated body kind read (statement_found kind read body is)
 
 -- blanks around a value that begins with a visible byte change no trim
-pub between_blanks : (gap behind : List ℕ) (x : ℕ) (value read : List ℕ) → Each IsBlank gap
-    → Each IsBlank behind → IsVisible x
-    → IsTrimOf read (x ∷ value) → IsTrimOf read (gap ++ (x ∷ value ++ behind))
-between_blanks gap behind x value read before after visible t =
+pub between_blanks : (gap behind : List ℕ) (x : ℕ) (value read : List ℕ)
+    → Each IsBlank gap × Each IsBlank behind → IsVisible x → IsTrimOf read (x ∷ value)
+    → IsTrimOf read (gap ++ (x ∷ value ++ behind))
+between_blanks gap behind x value read (before, after) visible t =
     blanks_before gap (x ∷ value ++ behind) read before (blanks_behind behind x value read after visible t)
 
 -- blanks alone leave nothing

@@ -170,15 +170,15 @@ module _ (text : List ℕ) (o : rfc.IsOtherLine text) where
             let e : low o.name ++ rest ≡ key.word ++ low s.rest =
                 same ∙ ap (λ t. key.word ++ (t ++ low s.rest)) none.0 in
             let words =
-                same_word (low o.name) key.word rest (low s.rest) letters key.is_word stops
-                (tail_stops s.tail s.rest s.separated) e in
+                same_word (low o.name) key.word rest (low s.rest) (letters, stops)
+                (key.is_word, tail_stops s.tail s.rest s.separated) e in
             o.is_other (subst (Contains rfc.names_read) (sym words.0) none.1)
         | inr (b, back, is, letter) ↦
             let more : List ℕ = 32 ∷ b ∷ (back ++ low s.rest) in
             let e : low o.name ++ rest ≡ key.word ++ more =
                 same ∙ ap (λ t. key.word ++ (t ++ low s.rest)) is in
             let space : Stops more = blank_no_identifier 32 (inl refl) in
-            let words = same_word (low o.name) key.word rest more letters key.is_word stops space e in
+            let words = same_word (low o.name) key.word rest more (letters, stops) (key.is_word, space) e in
             no_letter o.blanks (low o.value) (back ++ low s.rest) b o.blanks_blank letter words.1
       ]
 

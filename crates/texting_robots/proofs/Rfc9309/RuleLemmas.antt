@@ -71,7 +71,7 @@ pub plain_trim : (gap behind bytes : List ℕ) → Each IsBlank gap → Each IsB
     → IsTrimOf bytes (gap ++ (bytes ++ behind))
 plain_trim gap behind [] before after plain = blank_trim gap [] behind before tt after
 plain_trim gap behind (b ∷ bytes) before after plain =
-    between_blanks gap behind b bytes (b ∷ bytes) before after plain.0.0
+    between_blanks gap behind b bytes (b ∷ bytes) (before, after) plain.0.0
     (visible_trim (b ∷ bytes) (each_weaker IsPlain IsVisible (λ b is. is.0) (b ∷ bytes) plain))
 
 -- plain bytes are written as they stand
@@ -143,7 +143,7 @@ allow_begun (b ∷ rest) text (visible, chars) line =
       reads =
           subst (λ value. Reads ((Allow read, value) ∷ []) text) (chars_kept pattern chars.bytes)
           (reads_keyed (codes "allow") pattern text k kind.Allow read (0, omega arith, refl)
-              (between_blanks k.gap k.behind b rest read k.gap_blank k.behind_blank visible trim));
+              (between_blanks k.gap k.behind b rest read (k.gap_blank, k.behind_blank) visible trim));
     }
 
 disallow_line : (read body : List ℕ) → read ≢ [] → line_with kind.Disallow read body ≡ Disallow read
@@ -173,7 +173,7 @@ disallow_begun (b ∷ rest) text (visible, chars) line =
           (subst (λ l. Reads (filter matters ((l, filter no_blank pattern) ∷ [])) text)
               (disallow_line read k.body (trim_some b rest read visible trim))
               (reads_keyed (codes "disallow") pattern text k kind.Disallow read (0, omega arith, refl)
-                  (between_blanks k.gap k.behind b rest read k.gap_blank k.behind_blank visible trim)));
+                  (between_blanks k.gap k.behind b rest read (k.gap_blank, k.behind_blank) visible trim)));
     }
 
 allow_empty : (value text : List ℕ) → Each IsBlank value → rfc.IsKeyed (codes "allow") value text

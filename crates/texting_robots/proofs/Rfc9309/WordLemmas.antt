@@ -17,24 +17,27 @@ abbrev pub Stops : List ℕ → Type 0
 Stops [] = Unit {0}
 Stops (b ∷ text) = rfc.IsIdentifierByte b → ⊥
 
--- two texts that begin with words which end there begin with one word
-pub same_word : (word other rest more : List ℕ) → Each rfc.IsIdentifierByte word
-    → Each rfc.IsIdentifierByte other → Stops rest
-    → Stops more → word ++ rest ≡ other ++ more → (word ≡ other) × (rest ≡ more)
-same_word [] [] rest more all also stops ends e = (refl, e)
-same_word (b ∷ word) (c ∷ other) rest more all also stops ends e =
-    let next = same_word word other rest more all.1 also.1 stops ends (cc) in
+-- a word of identifier bytes, which ends before the rest
+abbrev pub IsWordBefore : List ℕ → List ℕ → Type 0
+IsWordBefore word rest = Each rfc.IsIdentifierByte word × Stops rest
+
+-- two texts that are one begin with one word
+pub same_word : (word other rest more : List ℕ) → IsWordBefore word rest → IsWordBefore other more
+    → word ++ rest ≡ other ++ more → (word ≡ other) × (rest ≡ more)
+same_word [] [] rest more is also e = (refl, e)
+same_word (b ∷ word) (c ∷ other) rest more is also e =
+    let next = same_word word other rest more (is.0.1, is.1) (also.0.1, also.1) (cc) in
     let first : b ≡ c = cc in
     let words = next.0 in
     (cc, next.1)
-same_word [] (c ∷ other) [] more all also stops ends e = cc
-same_word [] (c ∷ other) (d ∷ rest) more all also stops ends e =
+same_word [] (c ∷ other) [] more is also e = cc
+same_word [] (c ∷ other) (d ∷ rest) more is also e =
     let first : c ≡ d = cc in
-    absurd (stops (subst rfc.IsIdentifierByte first also.0))
-same_word (b ∷ word) [] rest [] all also stops ends e = cc
-same_word (b ∷ word) [] rest (d ∷ more) all also stops ends e =
+    absurd (is.1 (subst rfc.IsIdentifierByte first also.0.0))
+same_word (b ∷ word) [] rest [] is also e = cc
+same_word (b ∷ word) [] rest (d ∷ more) is also e =
     let first : b ≡ d = cc in
-    absurd (ends (subst rfc.IsIdentifierByte first all.0))
+    absurd (also.1 (subst rfc.IsIdentifierByte first is.0.0))
 
 pub identifier_bounds : (b : ℕ) → rfc.IsIdentifierByte b → (44 < b) × (b < 123) × (b ≢ 58)
 identifier_bounds b (inl is) = (omega arith, omega arith, λ e. omega arith)
