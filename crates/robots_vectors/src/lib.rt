@@ -29,6 +29,8 @@ mod printed;
 #[cfg(test)]
 mod refusals;
 #[cfg(test)]
+mod standard;
+#[cfg(test)]
 mod sweep;
 #[cfg(test)]
 mod urls;

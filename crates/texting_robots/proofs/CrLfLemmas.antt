@@ -12,7 +12,7 @@ use Rattle.texting_robots.proofs.LineLemmas.{each_text_has_its_lines}
 
 -- ---- the bodies of a text, from its back
 
-abbrev bodies_of : List Pair → List (List ℕ)
+abbrev pub bodies_of : List Pair → List (List ℕ)
 bodies_of pairs = map (λ pair. pair.body) pairs
 
 -- where two cuts have the same bodies, so have the cuts with one more byte in front
@@ -65,7 +65,7 @@ same_bodies (b ∷ c ∷ text) = elim (cases_Bool (b == cr && c == lf)) [
       (byte_keeps b (cut (feeds_alone (c ∷ text))) (cut (c ∷ text)) (same_bodies (c ∷ text)))
 ]
 
-lines_by_bodies : (pairs : List Pair)
+pub lines_by_bodies : (pairs : List Pair)
     → map (λ pair. line_of pair.body) pairs ≡ map line_of (bodies_of pairs)
 lines_by_bodies [] = refl
 lines_by_bodies (pair ∷ pairs) = ap (λ t. line_of pair.body ∷ t) (lines_by_bodies pairs)

@@ -226,7 +226,7 @@ has_digits text n e short =
 
 -- ---- a number's microseconds
 
-rounded_rounds : (n : Decimal) → Rounds n (rounded n)
+pub rounded_rounds : (n : Decimal) → Rounds n (rounded n)
 rounded_rounds n =
     let f = 10 ^ length n.fraction in
     let g = 10 ^ negative_exponent n in

@@ -22,9 +22,9 @@ use Rattle.texting_robots.proofs.CapturedLemmas.{rules_are, stands_first, stands
 
 -- ---- lines that play no part, and lines that differ in their value alone
 
-record IsNeutral (line : LineValue) : Type 0 where
-  agent : is_agent line ≡ false
-  group : is_group line ≡ false
+pub record IsNeutral (line : LineValue) : Type 0 where
+  pub agent : is_agent line ≡ false
+  pub group : is_group line ≡ false
 
 no_rule : (line : LineValue) → is_group line ≡ false → rule_in line ≡ None
 no_rule (UserAgent value) isnt = refl
@@ -184,10 +184,14 @@ both_ways : (agent : List ℕ) (lines between others : List LineValue) → SameB
 both_ways agent lines between others one two =
     same_from agent lines agent others (one.rules ∙ two.rules) (one.delay ∙ two.delay)
 
+pub same_filtered : (keep : LineValue → Bool) → ((line : LineValue) → keep line ≡ false → IsNeutral line)
+    → (agent : List ℕ) (lines : List LineValue) → SameButSitemaps agent lines agent (filter keep lines)
+same_filtered keep neutral agent lines = same_like agent lines (filter keep lines) (kept_like keep neutral _ _ lines)
+
 same_kept : (keep : LineValue → Bool) → ((line : LineValue) → keep line ≡ false → IsNeutral line) → (agent : List ℕ)
     (lines others : List LineValue) → filter keep lines ≡ filter keep others → SameButSitemaps agent lines agent others
 same_kept keep neutral agent lines others same =
-    let left = λ (ls : List LineValue). same_like agent ls (filter keep ls) (kept_like keep neutral _ _ ls) in
+    let left = same_filtered keep neutral agent in
     both_ways agent lines (filter keep lines) others (left lines)
     (rw same (turned_around agent others (filter keep others) (left others)))
 

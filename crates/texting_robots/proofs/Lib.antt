@@ -13,6 +13,7 @@ pub mod NameLemmas
 pub mod CapturedLemmas
 pub mod RulesLemmas
 pub mod LawLemmas
+pub mod Rfc9309
 pub mod EscapeLemmas
 pub mod SlashLemmas
 pub mod PatternLemmas

@@ -19,11 +19,11 @@ use Rattle.texting_robots.proofs.TrimLemmas.{trimmed_is_trim, one_trim, blank_sk
 
 -- ---- blanks
 
-blank_decides : (b : ℕ) → Decides (b == space || b == tab) (IsBlank b)
+pub blank_decides : (b : ℕ) → Decides (b == space || b == tab) (IsBlank b)
 blank_decides b = Decides-or (b == space) (b == tab) (Decides-eqb b space) (Decides-eqb b tab)
 
 -- the blanks at the front are skipped, whatever follows them
-skip_front : (blanks left : List ℕ) → Each IsBlank blanks → skip_blanks (blanks ++ left) ≡ skip_blanks left
+pub skip_front : (blanks left : List ℕ) → Each IsBlank blanks → skip_blanks (blanks ++ left) ≡ skip_blanks left
 skip_front [] left all = refl
 skip_front (b ∷ blanks) left all = cond-true _ _ _ ((blank_decides b).1 all.0) ∙ skip_front blanks left all.1
 
@@ -239,7 +239,7 @@ parted (b ∷ tail) = elim (cases_Bool (b == hash)) [
       (record { comment = p.comment; whole = ap (λ t. b ∷ t) p.whole; plain = plain; is = p.is })
 ]
 
-region_is : (region comment : List ℕ) → Each (λ byte. byte ≢ hash) region → IsComment comment
+pub region_is : (region comment : List ℕ) → Each (λ byte. byte ≢ hash) region → IsComment comment
     → region_of (region ++ comment) ≡ region
 region_is [] comment plain (inl empty) = ap region_of empty
 region_is [] comment plain (inr (text, is)) = ap region_of is ∙ region_hash hash text refl

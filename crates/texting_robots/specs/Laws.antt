@@ -1,6 +1,7 @@
 -- Laws over the definitions.
-use Rattle.std.specs.Prelude.{◌≡◌, ◌≢◌, ◌+◌, ◌<◌, slice_get, ◌↔◌, ◌⊎◌, ℕ, Bool, true, false, not, ◌==◌, ◌&&◌, List, [], ◌∷◌, ◌++◌, Option, Some, IsTrue, IsPermutation, filter, length, if◌then◌else◌}
+use Rattle.std.specs.Prelude.{◌≡◌, ◌≢◌, ◌+◌, ◌<◌, slice_get, ◌↔◌, ◌⊎◌, ℕ, Bool, true, false, not, ◌==◌, ◌&&◌, List, [], ◌∷◌, ◌++◌, Option, Some, IsTrue, IsPermutation, codes, filter, length, if◌then◌else◌}
 use Rattle.std.specs.declared.cmp.Ordering.TheVariants.{Less, Equal}
+use Rattle.std.specs.List.{AllZip}
 use Rattle.std.specs.Str.{is_utf8, str_to_ascii_lowercase}
 use Rattle.texting_robots.specs.declared.parser.statement.Kind.{Kind}
 use Rattle.texting_robots.specs.Computed.Cut.{cut}
@@ -15,8 +16,10 @@ use Rattle.texting_robots.specs.Line.{Allow, AreFileLinesOf, AreLinesOf, Disallo
 use Rattle.texting_robots.specs.Order.{IsBefore, pattern_cmp}
 use Rattle.texting_robots.specs.Pattern.{Matches, MatchesWith, collapsed}
 use Rattle.texting_robots.specs.Robot.{IsRobotOf, RobotValue}
+use Rattle.texting_robots.specs.Rfc9309 as rfc
 use Rattle.texting_robots.specs.Rules.{IsRefused, PlacedRule, Rule, delay_for, placed_rules, rules_for, sitemaps_in}
 use Rattle.texting_robots.specs.Statement.{IsStatement}
+use Rattle.texting_robots.specs.Trim.{IsTrimOf}
 use Rattle.texting_robots.specs.Verdict.{IsVerdict, robots_file}
 
 -- ---- lines
@@ -175,3 +178,26 @@ DecidingLineHoldsItsRule =
     → IsDecidingLine (placed_rules agent lines) text (Some number)
     → (placed : PlacedRule) × Decides (placed_rules agent lines) text placed × (placed.line ≡ number)
     × HoldsRule agent lines number placed.rule
+
+-- ---- the standard's syntax
+
+-- What a rule that a file spells becomes: its pattern, without the Unicode white space at its end, escaped. An
+-- empty Disallow is an Allow of `/`.
+abbrev pub IsReadAs : rfc.Member → Rule → Type 0
+IsReadAs (rfc.Allow pattern) rule = (value : List ℕ) × IsTrimOf value pattern × (rule ≡ (escaped value, true))
+IsReadAs (rfc.Disallow []) rule = rule ≡ (codes "/", true)
+IsReadAs (rfc.Disallow (b ∷ pattern)) rule =
+    (value : List ℕ) × IsTrimOf value (b ∷ pattern) × (rule ≡ (escaped value, false))
+IsReadAs (rfc.Delay number) rule = ⊥
+
+-- of a file of the standard's syntax an agent gets, in order and each as often, the rules that the file spells for it
+abbrev pub StandardFilesAreReadSo : Type 0
+StandardFilesAreReadSo =
+    (text : List ℕ) (groups : List rfc.Group) (agent : List ℕ) → rfc.IsFile groups text
+    → AllZip IsReadAs (rfc.rules_for agent (rfc.merged groups)) (rules_for agent (file_lines text))
+
+-- however a file is taken apart, it spells the same groups once they are merged
+abbrev pub StandardFilesSpellOnce : Type 0
+StandardFilesSpellOnce =
+    (text : List ℕ) (groups others : List rfc.Group) → rfc.IsFile groups text → rfc.IsFile others text
+    → rfc.merged groups ≡ rfc.merged others

@@ -15,6 +15,7 @@ pub mod View
 pub mod Robot
 pub mod Prepared
 pub mod Address
+pub mod Rfc9309
 pub mod Laws
 pub mod Callers
 pub mod Computed

@@ -22,6 +22,8 @@ ghost use Rattle.texting_robots.specs.Laws.{
   RobotsFileIsAllowed,
   SitemapsChangeNothingElse,
   SitemapsForAll,
+  StandardFilesAreReadSo,
+  StandardFilesSpellOnce,
   UncapturedReachesNothing,
 };
 
@@ -144,4 +146,10 @@ pub fn one_line_decides()
 /// Whoever shows a site owner why a URL is allowed or not relies on it.
 pub fn deciding_line_holds_its_rule()
     ensures { DecidingLineHoldsItsRule }
+{}
+
+/// A file of the standard's syntax is read as the groups and rules that it spells.
+pub fn standard_files_are_read_so()
+    ensures read { StandardFilesAreReadSo }
+    ensures once { StandardFilesSpellOnce }
 {}

@@ -10,9 +10,9 @@ use Rattle.robots_callers.proofs.crawler.plan_for.Goals as goal
 from_here : (rules : List Rule) (urls : List (Bor (List ℕ))) (at : ℕ) (url : Bor (List ℕ))
     (allowed : Bool) (rest : List (List ℕ)) → at < length urls
     → IsVerdict rules (prepared (slice_index_or urls at url).now) allowed
-      × AreAllowed rules (map (λ url. url.now) (drop (at + 1) urls)) rest
+    × AreAllowed rules (map (λ url. url.now) (drop (at + 1) urls)) rest
     → AreAllowed rules (map (λ url. url.now) (drop at urls))
-      (if allowed then (slice_index_or urls at url).now ∷ rest else rest)
+    (if allowed then (slice_index_or urls at url).now ∷ rest else rest)
 from_here rules urls at url allowed rest below (is, are) =
     rw (drop_more urls at url below) (allowed, rest, is, are, refl)
 
@@ -25,7 +25,7 @@ loop-url-preserved c = λ rest are.
     (from_here rules c.args.urls.now c.loop-url.url-index _ allowed rest c.loop-url-test.true (is, are)) in
     elim c.if-branch.branch [
       | then-branch+in_ok-push w ↦
-        rw (w.allowed-is, w.in_ok-push.ensures.items, map-append, append_assoc) (rw w.if-branch.true at all)
+          rw (w.allowed-is, w.in_ok-push.ensures.items, map-append, append_assoc) (rw w.if-branch.true at all)
       | else-branch w ↦ rw w.allowed-is (rw w.if-branch.false at all)
     ]
 

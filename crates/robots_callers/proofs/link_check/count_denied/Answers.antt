@@ -11,7 +11,7 @@ use Rattle.robots_callers.proofs.link_check.count_denied.Goals as goal
 from_here : (rules : List Rule) (texts : List (Bor (List ℕ))) (at : ℕ) (text : Bor (List ℕ))
     (allowed : Bool) (rest : ℕ) → at < length texts
     → IsVerdict rules (slice_index_or texts at text).now allowed
-      × AreDenied rules (map (λ text. text.now) (drop (at + 1) texts)) rest
+    × AreDenied rules (map (λ text. text.now) (drop (at + 1) texts)) rest
     → AreDenied rules (map (λ text. text.now) (drop at texts)) (if allowed then rest else rest + 1)
 from_here rules texts at text allowed rest below (is, are) =
     rw (drop_more texts at text below) (allowed, rest, is, are, refl)

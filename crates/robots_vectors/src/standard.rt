@@ -1,0 +1,285 @@
+//! What RFC 9309 answers: its two examples, and what its sections on groups, matching and other records say; and where
+//! this library departs from it on purpose, each departure with a smallest file.
+use crate::helpers::{FileRow, check_file, check_file_at, robot_of};
+use std::test::Fail;
+
+/// The example of section 5.1.
+const SIMPLE: &[u8] =
+    b"User-Agent: *\nDisallow: *.gif$\nDisallow: /example/\nAllow: /publications/\n\n\
+    User-Agent: foobot\nDisallow:/\nAllow:/example/page.html\nAllow:/example/allowed.gif\n\n\
+    User-Agent: barbot\nUser-Agent: bazbot\nDisallow: /example/page.html\n\nUser-Agent: quxbot\n";
+
+/// The example of section 5.2.
+const LONGEST: &[u8] =
+    b"User-Agent: foobot\nAllow: /example/page/\nDisallow: /example/page/disallowed.gif\n";
+
+const EXAMPLES: &[FileRow] = &[
+    FileRow {
+        name: "simple_for_any_other",
+        agent: "otherbot",
+        file: SIMPLE,
+        verdicts: &[
+            ("/publications/", true),
+            ("/publications/page.html", true),
+            ("/example/", false),
+            ("/example/page.html", false),
+            ("/picture.gif", false),
+            ("/pictures/picture.gif", false),
+        ],
+    },
+    FileRow {
+        name: "simple_for_foobot",
+        agent: "foobot",
+        file: SIMPLE,
+        verdicts: &[
+            ("/example/page.html", true),
+            ("/example/allowed.gif", true),
+            ("/", false),
+            ("/example/", false),
+            ("/example/other.gif", false),
+            ("/publications/", false),
+        ],
+    },
+    FileRow {
+        name: "simple_for_barbot",
+        agent: "barbot",
+        file: SIMPLE,
+        verdicts: &[
+            ("/example/page.html", false),
+            ("/example/page.html?a", false),
+            ("/", true),
+            ("/example/", true),
+            ("/picture.gif", true),
+        ],
+    },
+    FileRow {
+        name: "simple_for_bazbot",
+        agent: "bazbot",
+        file: SIMPLE,
+        verdicts: &[
+            ("/example/page.html", false),
+            ("/example/page.html?a", false),
+            ("/", true),
+            ("/example/", true),
+            ("/picture.gif", true),
+        ],
+    },
+    FileRow {
+        name: "simple_for_quxbot",
+        agent: "quxbot",
+        file: SIMPLE,
+        verdicts: &[
+            ("/", true),
+            ("/example/page.html", true),
+            ("/picture.gif", true),
+        ],
+    },
+    FileRow {
+        name: "longest_match",
+        agent: "foobot",
+        file: LONGEST,
+        verdicts: &[
+            ("/example/page/disallowed.gif", false),
+            ("/example/page/", true),
+            ("/example/page/other.gif", true),
+        ],
+    },
+];
+
+const SECTIONS: &[FileRow] = &[
+    FileRow {
+        name: "groups_of_one_name_are_one",
+        agent: "ExampleBot",
+        file: b"user-agent: ExampleBot\ndisallow: /foo\ndisallow: /bar\n\n\
+            user-agent: ExampleBot\ndisallow: /baz\n",
+        verdicts: &[
+            ("/foo", false),
+            ("/bar", false),
+            ("/baz", false),
+            ("/", true),
+        ],
+    },
+    FileRow {
+        name: "a_name_in_any_case",
+        agent: "EXAMPLEBOT",
+        file: b"user-agent: ExampleBot\ndisallow: /foo\n",
+        verdicts: &[("/foo", false), ("/", true)],
+    },
+    FileRow {
+        name: "star_groups_are_one_where_no_name_fits",
+        agent: "ExampleBot",
+        file: b"user-agent: *\ndisallow: /foo\n\nuser-agent: *\ndisallow: /bar\n\n\
+            user-agent: OtherBot\ndisallow: /\n",
+        verdicts: &[("/foo", false), ("/bar", false), ("/", true)],
+    },
+    FileRow {
+        name: "no_group_fits",
+        agent: "ExampleBot",
+        file: b"user-agent: OtherBot\ndisallow: /\n",
+        verdicts: &[("/", true), ("/foo", true)],
+    },
+    FileRow {
+        name: "a_rule_before_the_first_group",
+        agent: "ExampleBot",
+        file: b"disallow: /foo\nuser-agent: ExampleBot\ndisallow: /bar\n",
+        verdicts: &[("/foo", true), ("/bar", false)],
+    },
+    FileRow {
+        name: "matching_minds_the_case",
+        agent: "ExampleBot",
+        file: b"user-agent: *\ndisallow: /foo\n",
+        verdicts: &[("/foo", false), ("/FOO", true)],
+    },
+    FileRow {
+        name: "allow_wins_where_both_are_the_same",
+        agent: "ExampleBot",
+        file: b"user-agent: *\ndisallow: /foo\nallow: /foo\n",
+        verdicts: &[("/foo", true)],
+    },
+    FileRow {
+        name: "octets_beyond_ascii",
+        agent: "ExampleBot",
+        file: b"user-agent: *\ndisallow: /foo/bar/\xE3\x83\x84\n",
+        verdicts: &[("/foo/bar/%E3%83%84", false), ("/foo/bar/ツ", false)],
+    },
+    FileRow {
+        name: "comments",
+        agent: "ExampleBot",
+        file: b"# on its own line\nuser-agent: * # behind a name\ndisallow: /foo # behind a pattern\n",
+        verdicts: &[("/foo", false), ("/bar", true)],
+    },
+    FileRow {
+        name: "special_characters",
+        agent: "ExampleBot",
+        file: b"user-agent: *\ndisallow: /this/path/exactly$\ndisallow: /that/*/exactly\n",
+        verdicts: &[
+            ("/this/path/exactly", false),
+            ("/this/path/exactly/", true),
+            ("/that/other/path/exactly", false),
+            ("/that/exactly", true),
+        ],
+    },
+    FileRow {
+        name: "a_sitemap_ends_no_group",
+        agent: "ExampleBot",
+        file: b"user-agent: ExampleBot\nsitemap: https://example.com/s.xml\nuser-agent: OtherBot\n\
+            unknown: record\ndisallow: /foo\nsitemap: https://example.com/t.xml\ndisallow: /bar\n",
+        verdicts: &[("/foo", false), ("/bar", false), ("/", true)],
+    },
+];
+
+/// Texts that the standard would have judged otherwise.
+const DEPARTURES: &[FileRow] = &[
+    FileRow {
+        name: "a_delay_ends_a_run_of_agents",
+        agent: "a",
+        file: b"user-agent:a\ncrawl-delay:1\nuser-agent:b\ndisallow:/\n",
+        verdicts: &[("/", true)],
+    },
+    FileRow {
+        name: "an_empty_disallow_is_an_allow",
+        agent: "a",
+        file: b"user-agent:a\ndisallow:\ndisallow:/\n",
+        verdicts: &[("/", true)],
+    },
+    FileRow {
+        name: "white_space_behind_a_pattern_goes",
+        agent: "a",
+        file: b"user-agent:a\ndisallow:/\xC2\x85\n",
+        verdicts: &[("/x", false)],
+    },
+    FileRow {
+        name: "a_delete_is_escaped",
+        agent: "a",
+        file: b"user-agent:a\ndisallow:/\x7F\n",
+        verdicts: &[("/%7F", false)],
+    },
+    FileRow {
+        name: "the_agent_is_compared_whole",
+        agent: "a/1",
+        file: b"user-agent:a\ndisallow:/\n",
+        verdicts: &[("/", true)],
+    },
+    FileRow {
+        name: "without_agents_rules_are_for_all",
+        agent: "a",
+        file: b"disallow:/\n",
+        verdicts: &[("/", false)],
+    },
+    FileRow {
+        name: "a_dollar_inside",
+        agent: "a",
+        file: b"user-agent:a\ndisallow:/a$b\n",
+        verdicts: &[("/a$b", true), ("/a", true)],
+    },
+];
+
+/// The same of whole URLs.
+const DEPARTURES_OF_URLS: &[FileRow] = &[
+    FileRow {
+        name: "percent_escapes_stay",
+        agent: "a",
+        file: b"user-agent:a\ndisallow:/%62\ndisallow:/%7Ec\ndisallow:/%C3%B6\n",
+        verdicts: &[("/b", true), ("/~c", true), ("/%c3%b6", true)],
+    },
+    FileRow {
+        name: "an_escaped_star_or_dollar",
+        agent: "a",
+        file: b"user-agent:a\ndisallow:/a%2Ab\ndisallow:/c%24\n",
+        verdicts: &[
+            ("/a*b", true),
+            ("/a%2Ab", false),
+            ("/c$", true),
+            ("/c%24", false),
+        ],
+    },
+    FileRow {
+        name: "a_brace_is_escaped_in_a_url_alone",
+        agent: "a",
+        file: b"user-agent:a\ndisallow:/{\n",
+        verdicts: &[("/{", true)],
+    },
+    FileRow {
+        name: "the_fragment_is_matched",
+        agent: "a",
+        file: b"user-agent:a\ndisallow:/$\n",
+        verdicts: &[("/", false), ("/#b", true)],
+    },
+];
+
+#[test]
+fn standard_examples(rt: HostRuntime) -> Result<(), Fail> {
+    for row in EXAMPLES {
+        check_file(&rt, row);
+        check_file_at(&rt, row, "https://example.com");
+    }
+    Ok(())
+}
+
+#[test]
+fn standard_sections(rt: HostRuntime) -> Result<(), Fail> {
+    for row in SECTIONS {
+        check_file(&rt, row);
+        check_file_at(&rt, row, "https://example.com");
+    }
+    Ok(())
+}
+
+#[test]
+fn standard_sitemaps(rt: HostRuntime) -> Result<(), Fail> {
+    let file = b"user-agent: a\nsitemap: https://example.com/s.xml\nuser-agent: b\ndisallow: /\n";
+    let robot = robot_of(&rt, "sitemaps", "c", file);
+    assert!(rt; robot.sitemaps.len() == 1, "{:?}", robot.sitemaps);
+    Ok(())
+}
+
+#[test]
+fn standard_departures(rt: HostRuntime) -> Result<(), Fail> {
+    for row in DEPARTURES {
+        check_file(&rt, row);
+    }
+    for row in DEPARTURES_OF_URLS {
+        check_file_at(&rt, row, "https://example.com");
+    }
+    Ok(())
+}

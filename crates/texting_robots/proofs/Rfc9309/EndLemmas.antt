@@ -1,0 +1,142 @@
+-- A file: its last line may lack its end, and a byte order mark may stand in front.
+use Rattle.std.proofs.Common.{◌≡◌, ◌≢◌, ◌⊎◌, inl, inr, ℕ, false, List, [], ◌∷◌, ◌++◌, map, filter}
+use Rattle.std.proofs.Common.{sym, refl, ap, ◌∙◌, append-nil, arith, eqb}
+use Rattle.std.specs.List.{AllByRecursion as Each}
+use Rattle.std.proofs.lemmas.Bool.{cases_Bool, cond-false, false≢true, ne_eqb}
+use Rattle.std.proofs.lemmas.List.{map-append}
+use Rattle.std.proofs.lemmas.List.Elements.{filter-append}
+use Rattle.texting_robots.specs.Cut.{cr, lf}
+use Rattle.texting_robots.specs.Line.{LineValue, UserAgent, Allow, Disallow, Sitemap, CrawlDelay, Raw}
+use Rattle.texting_robots.specs.Line.{nul_as_lf, without_front}
+use Rattle.texting_robots.specs.Rules.{rules_for}
+use Rattle.texting_robots.specs.Computed.Cut.{cut}
+use Rattle.texting_robots.specs.Computed.Line.{file_lines, line_of}
+use Rattle.texting_robots.specs.Rfc9309.{IsLastNl, IsMark, IsNl}
+use Rattle.texting_robots.proofs.CutLemmas.{cut_nil}
+use Rattle.texting_robots.proofs.CrLfLemmas.{bodies_of, lines_by_bodies}
+use Rattle.texting_robots.proofs.LawLemmas.{IsNeutral, same_filtered}
+use Rattle.texting_robots.proofs.Rfc9309.BodyLemmas.{body_byte, body_return, body_step, step}
+use Rattle.texting_robots.proofs.Rfc9309.CharLemmas.{each_front}
+use Rattle.texting_robots.proofs.Rfc9309.Told.{Told, matters, plays, told_of}
+use Rattle.texting_robots.proofs.Rfc9309.ReadLemmas.{BeginsLow, Reads, empty_unheard, heard, heard_in}
+
+-- ---- lines that may be left out
+
+plays_neutral : (line : LineValue) → plays line ≡ false → IsNeutral line
+plays_neutral (UserAgent value) h = absurd (false≢true (sym h))
+plays_neutral (Allow value) h = absurd (false≢true (sym h))
+plays_neutral (Disallow value) h = absurd (false≢true (sym h))
+plays_neutral (Sitemap value) h = record { agent = refl; group = refl }
+plays_neutral (CrawlDelay delay) h = absurd (false≢true (sym h))
+plays_neutral (Raw body) h = record { agent = refl; group = refl }
+
+-- ---- a last line without its end
+
+-- a last empty body is there or not
+abbrev OneMayFollow : List (List ℕ) → List (List ℕ) → Type 0
+OneMayFollow bodies others = (others ≡ bodies) ⊎ (others ≡ bodies ++ [] ∷ [])
+
+return_follows : (bodies : List (List ℕ))
+    → OneMayFollow (body_return bodies) (body_return (bodies ++ [] ∷ []))
+return_follows [] = inl refl
+return_follows ([] ∷ bodies) = inr refl
+return_follows ((b ∷ body) ∷ bodies) = inr refl
+
+byte_follows : (b : ℕ) (bodies : List (List ℕ))
+    → OneMayFollow (body_byte b bodies) (body_byte b (bodies ++ [] ∷ []))
+byte_follows b [] = inl refl
+byte_follows b (body ∷ bodies) = inr refl
+
+step_follows : (b : ℕ) (bodies others : List (List ℕ)) → OneMayFollow bodies others
+    → OneMayFollow (body_step b bodies) (body_step b others)
+step_follows b bodies others (inl same) = inl (ap (body_step b) same)
+step_follows b bodies others (inr more) = rw more (elim (cases_Bool (eqb b lf)) [
+  | inl is_lf ↦ rw is_lf (inr refl)
+  | inr not_lf ↦ elim (cases_Bool (eqb b cr)) [
+    | inl is_cr ↦ rw (not_lf, is_cr) (return_follows bodies)
+    | inr not_cr ↦ rw (not_lf, not_cr) (byte_follows b bodies)
+  ]
+])
+
+end_follows : (text nl : List ℕ) → IsNl nl
+    → OneMayFollow (bodies_of (cut text)) (bodies_of (cut (text ++ nl)))
+end_follows [] nl (inl is) = rw (is, step cr [], cut_nil) (inr refl)
+end_follows [] nl (inr (inl is)) = rw (is, step lf [], cut_nil) (inr refl)
+end_follows [] nl (inr (inr is)) = rw (is, step cr (lf ∷ []), step lf [], cut_nil) (inr refl)
+end_follows (b ∷ text) nl is =
+    rw (step b (text ++ nl), step b text)
+    (step_follows b (bodies_of (cut text)) (bodies_of (cut (text ++ nl))) (end_follows text nl is))
+
+end_unheard : (text nl : List ℕ) → IsNl nl → heard (text ++ nl) ≡ heard text
+end_unheard text nl is = elim (end_follows text nl is) [
+  | inl same ↦ ap heard_in same
+  | inr more ↦ ap heard_in more ∙ last (bodies_of (cut text))
+]
+  where
+    last : (bodies : List (List ℕ)) → heard_in (bodies ++ [] ∷ []) ≡ heard_in bodies
+    last bodies =
+        ap (filter matters) (map-append told_of bodies ([] ∷ []))
+        ∙ filter-append matters (map told_of bodies) (told_of [] ∷ [])
+        ∙ ap (λ ls. heard_in bodies ++ ls) (empty_unheard [])
+        ∙ append-nil (heard_in bodies)
+
+last_unheard : (text nl : List ℕ) → IsLastNl nl → heard (text ++ nl) ≡ heard text
+last_unheard text nl (inl none) = ap (λ n. heard (text ++ n)) none ∙ ap heard (append-nil text)
+last_unheard text nl (inr is) = end_unheard text nl is
+
+-- ---- a file
+
+nothing_replaced : (text : List ℕ) → Each (λ byte. byte ≢ 0) text → map nul_as_lf text ≡ text
+nothing_replaced [] all = refl
+nothing_replaced (b ∷ text) all =
+    ap (λ c. c ∷ map nul_as_lf text) (cond-false _ _ _ (ne_eqb b 0 all.0))
+    ∙ ap (λ t. b ∷ t) (nothing_replaced text all.1)
+
+low_front : (text : List ℕ) → BeginsLow text → without_front text ≡ text
+low_front [] low = refl
+low_front (b ∷ text) low =
+    rw (ne_eqb b 0xEF (λ e. omega arith), ne_eqb b 0xBB (λ e. omega arith), ne_eqb b 0xBF (λ e. omega arith))
+    refl
+
+behind_mark : (mark text : List ℕ) → IsMark mark → Each (λ byte. byte ≢ 0) text → BeginsLow text
+    → without_front (map nul_as_lf (mark ++ text)) ≡ text
+behind_mark mark text (inl none) all low = rw (none, nothing_replaced text all) (low_front text low)
+behind_mark mark text (inr is) all low = rw (is, nothing_replaced text all) refl
+
+low_of_front : (text more : List ℕ) → BeginsLow (text ++ more) → BeginsLow text
+low_of_front [] more low = tt
+low_of_front (b ∷ text) more low = low
+
+-- what a file tells, its front taken off
+pub file_heard : (tolds : List Told) (mark text nl : List ℕ) → IsMark mark → IsLastNl nl
+    → Reads tolds (text ++ nl) → heard (without_front (map nul_as_lf (mark ++ text))) ≡ tolds
+file_heard tolds mark text nl is_mark is_nl reads =
+    let no_nul = each_front (λ byte. byte ≢ 0) text nl reads.no_nul in
+    ap heard (behind_mark mark text is_mark no_nul (low_of_front text nl reads.low))
+    ∙ sym (last_unheard text nl is_nl)
+    ∙ sym (ap heard (append-nil (text ++ nl)))
+    ∙ reads.heard []
+    ∙ ap (λ ps. tolds ++ heard_in (bodies_of ps)) cut_nil
+    ∙ append-nil tolds
+
+-- the lines that are told
+abbrev pub lines_in : List Told → List LineValue
+lines_in tolds = map (λ told. told.0) tolds
+
+heard_lines : (bodies : List (List ℕ)) → filter plays (map line_of bodies) ≡ lines_in (heard_in bodies)
+heard_lines [] = refl
+heard_lines (body ∷ bodies) = elim (cases_Bool (plays (line_of body))) [
+  | inl yes_plays ↦ rw yes_plays (ap (λ ls. line_of body ∷ ls) (heard_lines bodies))
+  | inr unheard ↦ rw unheard (heard_lines bodies)
+]
+
+-- the rules of a file are those of the lines that are told
+pub file_rules : (agent : List ℕ) (tolds : List Told) (mark text nl : List ℕ) → IsMark mark → IsLastNl nl
+    → Reads tolds (text ++ nl)
+    → rules_for agent (file_lines (mark ++ text)) ≡ rules_for agent (lines_in tolds)
+file_rules agent tolds mark text nl is_mark is_nl reads =
+    let front = without_front (map nul_as_lf (mark ++ text)) in
+    (same_filtered plays plays_neutral agent (file_lines (mark ++ text))).rules
+    ∙ ap (λ ls. rules_for agent (filter plays ls)) (lines_by_bodies (cut front))
+    ∙ ap (rules_for agent) (heard_lines (bodies_of (cut front)))
+    ∙ ap (λ ts. rules_for agent (lines_in ts)) (file_heard tolds mark text nl is_mark is_nl reads)

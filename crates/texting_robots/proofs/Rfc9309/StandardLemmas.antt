@@ -1,0 +1,29 @@
+-- The law: a file of the standard's syntax is read as the groups and rules that it spells, in one way.
+use Rattle.std.proofs.Common.{sym, ap, ◌∙◌, subst}
+use Rattle.std.specs.List.{AllZip}
+use Rattle.std.proofs.lemmas.List.{map-append}
+use Rattle.texting_robots.specs.Rules.{rules_for}
+use Rattle.texting_robots.specs.Laws.{IsReadAs, StandardFilesAreReadSo, StandardFilesSpellOnce}
+use Rattle.texting_robots.specs.Rfc9309 as rfc
+use Rattle.texting_robots.proofs.Rfc9309.EndLemmas.{lines_in}
+use Rattle.texting_robots.proofs.Rfc9309.FileLemmas.{file_read}
+use Rattle.texting_robots.proofs.Rfc9309.GroupLemmas.{rules_spelled}
+use Rattle.texting_robots.proofs.Rfc9309.Told.{Told}
+use Rattle.texting_robots.proofs.Rfc9309.ToldLemmas.{front_lines, group_lines, told_groups, told_once}
+
+pub standard_files_are_read_so : StandardFilesAreReadSo
+standard_files_are_read_so text groups agent file =
+    let read = file_read text groups file in
+    let both = map-append (λ (told : Told). told.0) read.front read.behind in
+    subst (AllZip IsReadAs (rfc.rules_for agent (rfc.merged groups)))
+    (sym (read.rules agent ∙ ap (rules_for agent) both))
+    (rules_spelled agent groups (lines_in read.front) (lines_in read.behind)
+    (front_lines read.front read.are_front) (group_lines groups read.behind read.are_groups))
+
+pub standard_files_spell_once : StandardFilesSpellOnce
+standard_files_spell_once text groups others file other =
+    let read = file_read text groups file in
+    let again = file_read text others other in
+    sym (told_once groups read.front read.behind read.are_front read.are_groups)
+    ∙ ap told_groups (sym read.heard ∙ again.heard)
+    ∙ told_once others again.front again.behind again.are_front again.are_groups

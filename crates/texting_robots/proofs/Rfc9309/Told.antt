@@ -1,0 +1,100 @@
+-- What a body tells: the line that it is read as, and the value as it is written.
+use Rattle.std.proofs.Common.{◌≡◌, ◌≢◌, ℕ, ◌<◌, Bool, false, true, not, ◌==◌, ◌||◌, if◌then◌else◌, List, []}
+use Rattle.std.proofs.Common.{◌∷◌, ◌++◌, filter, refl, ap, ◌∙◌, append-nil, inl, inr, arith}
+use Rattle.std.specs.List.{AllByRecursion as Each}
+use Rattle.std.proofs.lemmas.Bool.{cond-false, cond-true, ne_eqb}
+use Rattle.std.proofs.lemmas.List.Elements.{filter-append}
+use Rattle.texting_robots.specs.Group.{is_agent, is_group}
+use Rattle.texting_robots.specs.Line.{LineValue, UserAgent, Allow, Disallow}
+use Rattle.texting_robots.specs.Statement.{IsBlank, IsComment, colon, hash, space, tab}
+use Rattle.texting_robots.specs.Computed.Line.{line_of}
+use Rattle.texting_robots.specs.Computed.Statement.{region_of}
+use Rattle.texting_robots.specs.Rfc9309 as rfc
+use Rattle.texting_robots.proofs.StatementLemmas.{region_is}
+use Rattle.texting_robots.proofs.Rfc9309.MergeLemmas.{IsLineFor}
+
+-- ---- the value as it is written
+
+abbrev pub no_blank : ℕ → Bool
+no_blank b = not (b == space || b == tab)
+
+abbrev behind_colon : List ℕ → List ℕ
+behind_colon [] = []
+behind_colon (b ∷ text) = if b == colon then text else behind_colon text
+
+-- what stands between the first colon and the first hash behind it, without blanks
+unfoldable pub written : List ℕ → List ℕ
+written body = filter no_blank (region_of (behind_colon body))
+
+behind_front : (front tail : List ℕ) → Each (λ b. b ≢ colon) front
+    → behind_colon (front ++ colon ∷ tail) ≡ tail
+behind_front [] tail all = refl
+behind_front (b ∷ front) tail all = cond-false _ _ _ (ne_eqb b colon all.0) ∙ behind_front front tail all.1
+
+pub written_is : (front region comment : List ℕ) → Each (λ b. b ≢ colon) front → Each (λ b. b ≢ hash) region
+    → IsComment comment → written (front ++ colon ∷ (region ++ comment)) ≡ filter no_blank region
+unfolding written
+written_is front region comment no_colon no_hash is =
+    ap (λ t. filter no_blank (region_of t)) (behind_front front (region ++ comment) no_colon)
+    ∙ ap (filter no_blank) (region_is region comment no_hash is)
+
+pub blanks_gone : (blanks : List ℕ) → Each IsBlank blanks → filter no_blank blanks ≡ []
+blanks_gone [] all = refl
+blanks_gone (b ∷ blanks) all = cond-false _ _ _ (at b all.0) ∙ blanks_gone blanks all.1
+  where
+    at : (b : ℕ) → IsBlank b → no_blank b ≡ false
+    at b (inl is) = ap no_blank is
+    at b (inr is) = ap no_blank is
+
+pub text_kept : (text : List ℕ) → Each (λ b. 32 < b) text → filter no_blank text ≡ text
+text_kept [] all = refl
+text_kept (b ∷ text) all = cond-true _ _ _ (at b all.0) ∙ ap (λ t. b ∷ t) (text_kept text all.1)
+  where
+    at : (b : ℕ) → 32 < b → no_blank b ≡ true
+    at b above = rw (ne_eqb b space (λ e. omega arith), ne_eqb b tab (λ e. omega arith)) refl
+
+-- blanks around a value go
+pub between_gone : (gap value behind : List ℕ) → Each IsBlank gap → Each IsBlank behind
+    → filter no_blank (gap ++ (value ++ behind)) ≡ filter no_blank value
+between_gone gap value behind before after =
+    filter-append no_blank gap (value ++ behind)
+    ∙ ap (λ t. t ++ filter no_blank (value ++ behind)) (blanks_gone gap before)
+    ∙ filter-append no_blank value behind
+    ∙ ap (λ t. filter no_blank value ++ t) (blanks_gone behind after)
+    ∙ append-nil (filter no_blank value)
+
+-- ---- what is told
+
+abbrev pub Told : Type 0
+Told = LineValue × List ℕ
+
+abbrev pub told_of : List ℕ → Told
+told_of body = (line_of body, written body)
+
+-- the line plays a part in groups
+abbrev pub plays : LineValue → Bool
+plays line = is_agent line || is_group line
+
+abbrev pub matters : Told → Bool
+matters told = plays told.0
+
+-- what a product token tells
+abbrev pub token_told : List ℕ → Told
+token_told token = (UserAgent token, token)
+
+-- the member of an Allow: with nothing written, and yet a value, it was an empty Disallow
+abbrev pub allowed_in : List ℕ → List ℕ → rfc.Member
+allowed_in (b ∷ pattern) value = rfc.Allow (b ∷ pattern)
+allowed_in [] [] = rfc.Allow []
+allowed_in [] (b ∷ value) = rfc.Disallow []
+
+-- the member that is told
+abbrev pub member_in : LineValue → List ℕ → rfc.Member
+member_in (Allow value) pattern = allowed_in pattern value
+member_in (Disallow value) pattern = rfc.Disallow pattern
+member_in _ number = rfc.Delay number
+
+-- this member is told
+pub record IsToldFor (member : rfc.Member) (told : Told) : Type 0 where
+  pub line : IsLineFor member told.0
+  pub spelled : member_in told.0 told.1 ≡ member

@@ -1,0 +1,157 @@
+-- What is told of groups: their lines, and the groups themselves once merged.
+use Rattle.std.proofs.Common.{◌≡◌, ◌≢◌, ℕ, true, List, [], ◌∷◌, ◌++◌, map, refl, ap, ◌∙◌, append-nil}
+use Rattle.std.specs.List.{AllZip, AllByRecursion as Each}
+use Rattle.std.proofs.lemmas.Bool.{false≢true}
+use Rattle.std.proofs.lemmas.List.{map-append}
+use Rattle.texting_robots.specs.Line.{LineValue, UserAgent, Allow, Disallow, Sitemap, CrawlDelay, Raw}
+use Rattle.texting_robots.specs.Group.{is_group}
+use Rattle.texting_robots.specs.Rfc9309 as rfc
+use Rattle.texting_robots.proofs.Rfc9309.EndLemmas.{lines_in}
+use Rattle.texting_robots.proofs.Rfc9309.GroupLemmas.{IsFront}
+use Rattle.texting_robots.proofs.Rfc9309.MergeLemmas.{AreGroupLines, IsLineFor}
+use Rattle.texting_robots.proofs.Rfc9309.Told.{IsToldFor, Told, member_in, token_told}
+
+-- what a group's tokens and members tell, and then such
+pub record AreToldThen (group : rfc.Group) (Later : List Told → Type 0) (tolds : List Told) : Type 0 where
+  pub own : List Told
+  pub rest : List Told
+  pub whole : tolds ≡ map token_told group.tokens ++ (own ++ rest)
+  pub some : group.tokens ≢ []
+  pub members : AllZip IsToldFor group.members own
+  pub later : Later rest
+
+-- what groups tell
+abbrev pub AreGroups : List rfc.Group → List Told → Type 0
+AreGroups [] tolds = tolds ≡ []
+AreGroups (group ∷ later) tolds = AreToldThen group (AreGroups later) tolds
+
+-- what a delay in front of the groups tells
+abbrev pub IsFrontTold : Told → Type 0
+IsFrontTold told = IsFront told.0
+
+-- ---- the lines
+
+token_lines : (tokens : List (List ℕ)) → lines_in (map token_told tokens) ≡ map UserAgent tokens
+token_lines [] = refl
+token_lines (token ∷ tokens) = ap (λ ls. UserAgent token ∷ ls) (token_lines tokens)
+
+member_lines : (members : List rfc.Member) (own : List Told) → AllZip IsToldFor members own
+    → AllZip IsLineFor members (lines_in own)
+member_lines [] [] all = tt
+member_lines [] (told ∷ own) all = absurd all
+member_lines (member ∷ members) [] all = absurd all
+member_lines (member ∷ members) (told ∷ own) all = (all.0.line, member_lines members own all.1)
+
+-- the lines that groups tell are theirs
+pub group_lines : (groups : List rfc.Group) (tolds : List Told) → AreGroups groups tolds
+    → AreGroupLines groups (lines_in tolds)
+group_lines [] tolds are = ap lines_in are
+group_lines (group ∷ later) tolds are =
+    let line : Told → LineValue = λ (told : Told). told.0 in
+    record {
+      own = lines_in are.own;
+      rest = lines_in are.rest;
+      whole =
+          ap lines_in are.whole
+          ∙ map-append line (map token_told group.tokens) (are.own ++ are.rest)
+          ∙ ap (λ ls. ls ++ lines_in (are.own ++ are.rest)) (token_lines group.tokens)
+          ∙ ap (λ ls. map UserAgent group.tokens ++ ls) (map-append line are.own are.rest);
+      some = are.some;
+      members = member_lines group.members are.own are.members;
+      later = group_lines later are.rest are.later;
+    }
+
+pub front_lines : (front : List Told) → Each IsFrontTold front → Each IsFront (lines_in front)
+front_lines [] all = tt
+front_lines (told ∷ front) all = (all.0, front_lines front all.1)
+
+-- ---- the groups
+
+-- members that stand before any token, and the merged groups behind them
+record Parts : Type 0 where
+  loose : List rfc.Member
+  groups : List rfc.Group
+
+abbrev parts_of : List rfc.Member → List rfc.Group → Parts
+parts_of loose groups = record { loose = loose; groups = groups }
+
+abbrev with_told : LineValue → List ℕ → Parts → Parts
+with_told (UserAgent value) token parts = parts_of [] (rfc.put_before (token ∷ []) parts.loose parts.groups)
+with_told line text parts = parts_of (member_in line text ∷ parts.loose) parts.groups
+
+-- the parts that are told
+abbrev parts_in : List Told → Parts
+parts_in [] = parts_of [] []
+parts_in (told ∷ tolds) = with_told told.0 told.1 (parts_in tolds)
+
+with_member : (line : LineValue) (text : List ℕ) (parts : Parts) → is_group line ≡ true
+    → with_told line text parts ≡ parts_of (member_in line text ∷ parts.loose) parts.groups
+with_member (UserAgent value) text parts is = absurd (false≢true is)
+with_member (Allow value) text parts is = refl
+with_member (Disallow value) text parts is = refl
+with_member (Sitemap value) text parts is = refl
+with_member (CrawlDelay delay) text parts is = refl
+with_member (Raw body) text parts is = refl
+
+members_parts : (members : List rfc.Member) (own rest : List Told) → AllZip IsToldFor members own
+    → parts_in (own ++ rest) ≡ parts_of (members ++ (parts_in rest).loose) (parts_in rest).groups
+members_parts [] [] rest all = refl
+members_parts [] (told ∷ own) rest all = absurd all
+members_parts (member ∷ members) [] rest all = absurd all
+members_parts (member ∷ members) (told ∷ own) rest all =
+    with_member told.0 told.1 (parts_in (own ++ rest)) all.0.line.group
+    ∙ ap (λ m. parts_of (m ∷ (parts_in (own ++ rest)).loose) (parts_in (own ++ rest)).groups) all.0.spelled
+    ∙ ap (λ (p : Parts). parts_of (member ∷ p.loose) p.groups) (members_parts members own rest all.1)
+
+-- tokens put before a group one by one, or at once
+put_twice : (token : List ℕ) (tokens : List (List ℕ)) (members : List rfc.Member) (later : List rfc.Group)
+    → rfc.put_before (token ∷ []) [] (rfc.put_before tokens members later)
+    ≡ rfc.put_before (token ∷ tokens) members later
+put_twice token tokens [] [] = refl
+put_twice token tokens [] (next ∷ later) = refl
+put_twice token tokens (member ∷ members) later = refl
+
+tokens_parts : (token : List ℕ) (tokens : List (List ℕ)) (rest : List Told)
+    → parts_in (map token_told (token ∷ tokens) ++ rest)
+    ≡ parts_of [] (rfc.put_before (token ∷ tokens) (parts_in rest).loose (parts_in rest).groups)
+tokens_parts token [] rest = refl
+tokens_parts token (next ∷ tokens) rest =
+    ap (with_told (UserAgent token) token) (tokens_parts next tokens rest)
+    ∙ ap (parts_of []) (put_twice token (next ∷ tokens) (parts_in rest).loose (parts_in rest).groups)
+
+-- what groups tell are the merged groups
+groups_parts : (groups : List rfc.Group) (tolds : List Told) → AreGroups groups tolds
+    → parts_in tolds ≡ parts_of [] (rfc.merged groups)
+groups_parts [] tolds are = ap parts_in are
+groups_parts (group ∷ later) tolds are =
+    let behind : parts_in (are.own ++ are.rest) ≡ parts_of group.members (rfc.merged later) =
+    members_parts group.members are.own are.rest are.members
+    ∙ ap (λ (p : Parts). parts_of (group.members ++ p.loose) p.groups)
+    (groups_parts later are.rest are.later)
+    ∙ ap (λ m. parts_of m (rfc.merged later)) (append-nil group.members) in
+    ap parts_in are.whole ∙ at group.tokens are.some behind
+  where
+    at : (tokens : List (List ℕ)) → tokens ≢ []
+        → parts_in (are.own ++ are.rest) ≡ parts_of group.members (rfc.merged later)
+        → parts_in (map token_told tokens ++ (are.own ++ are.rest))
+        ≡ parts_of [] (rfc.put_before tokens group.members (rfc.merged later))
+    at [] some behind = absurd (some refl)
+    at (token ∷ tokens) some behind =
+        tokens_parts token tokens (are.own ++ are.rest)
+        ∙ ap (λ (p : Parts). parts_of [] (rfc.put_before (token ∷ tokens) p.loose p.groups)) behind
+
+front_parts : (front rest : List Told) → Each IsFrontTold front
+    → (parts_in (front ++ rest)).groups ≡ (parts_in rest).groups
+front_parts [] rest all = refl
+front_parts (told ∷ front) rest all =
+    ap (λ (p : Parts). p.groups) (with_member told.0 told.1 (parts_in (front ++ rest)) all.0.group)
+    ∙ front_parts front rest all.1
+
+-- what a file tells determines its merged groups
+abbrev pub told_groups : List Told → List rfc.Group
+told_groups tolds = (parts_in tolds).groups
+
+pub told_once : (groups : List rfc.Group) (front behind : List Told) → Each IsFrontTold front
+    → AreGroups groups behind → told_groups (front ++ behind) ≡ rfc.merged groups
+told_once groups front behind all are =
+    front_parts front behind all ∙ ap (λ (p : Parts). p.groups) (groups_parts groups behind are)
