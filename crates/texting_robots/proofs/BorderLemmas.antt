@@ -8,7 +8,7 @@ use Rattle.std.proofs.lemmas.Bool.{cases_eq, cases_lt}
 use Rattle.std.proofs.lemmas.Grind.{get_or_default_zero}
 use Rattle.std.proofs.lemmas.List.{get_or_append_left, get_or_push, get_or-append-add, length_push}
 use Rattle.memchr.specs.Find.{FindsNeedle, Nowhere, OccursAt}
-use Rattle.texting_robots.specs.Computed.Border.{Agrees, AreBorders, IsLongestBorder}
+use Rattle.texting_robots.specs.Steps.Border.{Agrees, AreBorders, IsLongestBorder}
 
 -- From low on, the place `matched` bytes back is the first that is still open: there the piece agrees with the text
 -- up to `place`, and at each place before it disagrees with the text before `end`.

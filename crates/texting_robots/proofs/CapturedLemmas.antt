@@ -9,7 +9,7 @@ use Rattle.texting_robots.specs.declared.groups.Walk.{Walk}
 use Rattle.texting_robots.specs.Line.{LineValue, UserAgent}
 use Rattle.texting_robots.specs.Group.{IsCaptured, Mark, NoAgent, from_captured, group_name, in_captured, is_agent, is_captured, is_group, marks_of, is_agent_named, passes_at, some_below}
 use Rattle.texting_robots.specs.Rules.{PlacedRule, Rule, placed, rule_at, rule_in, rules_for, sitemap_at, sitemap_in, sitemaps_in, unplaced}
-use Rattle.texting_robots.specs.Computed.Group.{start_of, step, marks_from}
+use Rattle.texting_robots.specs.Steps.Group.{start_of, step, marks_from}
 
 -- ---- tests of places: of agent lines, group lines and agent lines of the name
 

@@ -2,8 +2,8 @@
 use Rattle.std.proofs.Common.{ℕ, ◌+◌, ◌≤◌, ◌==◌, Bool, true, false, List, [], ◌∷◌, arith, if◌then◌else◌, length}
 use Rattle.std.proofs.lemmas.List.{length-map}
 use Rattle.texting_robots.specs.Cut.{Pair, cr, lf}
-use Rattle.texting_robots.specs.Computed.Cut.{before_body, before_end, cut, read_as, read_byte}
-use Rattle.texting_robots.specs.Computed.Line.{line_of, lines_of}
+use Rattle.texting_robots.specs.Steps.Cut.{before_body, before_end, cut, read_as, read_byte}
+use Rattle.texting_robots.specs.Steps.Line.{line_of, lines_of}
 use Rattle.texting_robots.specs.Line.{without, without_front}
 use Rattle.texting_robots.proofs.CutLemmas.{pair_of}
 

@@ -3,9 +3,10 @@ use Rattle.std.proofs.Common.{◌≡◌, ℕ, false, ◌==◌, ◌&&◌, inl, in
 use Rattle.std.proofs.Common.{[], ◌∷◌, map, sym, refl, ap, ◌∙◌}
 use Rattle.std.proofs.lemmas.Bool.{cases_Bool, cond-true, cond-false, and_parts, eqb-true}
 use Rattle.texting_robots.specs.Cut.{Pair, cr, lf}
-use Rattle.texting_robots.specs.Computed.Cut.{before_body, before_byte, before_end, cut}
+use Rattle.texting_robots.specs.Steps.Cut.{before_body, before_byte, before_end, cut}
 use Rattle.texting_robots.specs.Line.{without, without_front}
-use Rattle.texting_robots.specs.Computed.Line.{line_of, lines_of, parsed}
+use Rattle.texting_robots.specs.Parsed.{parsed}
+use Rattle.texting_robots.specs.Steps.Line.{line_of, lines_of}
 use Rattle.texting_robots.specs.Laws.{feeds_alone, CrLfIsLf}
 use Rattle.texting_robots.proofs.CutLemmas.{at_other, byte_cases, cut_cons, pair_of}
 use Rattle.texting_robots.proofs.LineLemmas.{each_text_has_its_lines}

@@ -9,10 +9,10 @@ use Rattle.std.proofs.Math.Bool.{or_comm}
 use Rattle.memchr.specs.Find.{is_byte2, is_byte3, IsFirstByte}
 use Rattle.texting_robots.proofs.RegionLemmas.{place_is, end_is}
 use Rattle.texting_robots.specs.Cut.{Pair, cr, lf}
-use Rattle.texting_robots.specs.Computed.Cut.{cut, before_body, before_end, body_len, end_len, read_byte}
-use Rattle.texting_robots.specs.Computed.Cut.{read_as}
+use Rattle.texting_robots.specs.Steps.Cut.{cut, before_body, before_end, body_len, end_len, read_byte}
+use Rattle.texting_robots.specs.Steps.Cut.{read_as}
 use Rattle.texting_robots.specs.Line.{LineValue}
-use Rattle.texting_robots.specs.Computed.Line.{line_of, lines_of}
+use Rattle.texting_robots.specs.Steps.Line.{line_of, lines_of}
 use Rattle.texting_robots.proofs.CutLemmas.{at_other, byte_cases, cut_cons, cut_nil, pair_of}
 
 -- ---- the first pair

@@ -6,7 +6,7 @@ use Rattle.std.proofs.lemmas.Bool.{cases_eq, ne_eqb}
 use Rattle.std.proofs.lemmas.List.Elements.{All-cons, All-head, All-nil, All-replicate, All-tail}
 use Rattle.texting_robots.specs.Cut.{IsBodyByte, IsCut, IsEnding, Pair, cr, joined, lf}
 use Rattle.texting_robots.specs.Laws.{EachTextHasOneCut}
-use Rattle.texting_robots.specs.Computed.Cut.{before_body, before_byte, before_end, cut}
+use Rattle.texting_robots.specs.Steps.Cut.{before_body, before_byte, before_end, cut}
 
 abbrev pub pair_of : List ℕ → List ℕ → Pair
 pair_of body ending = record { body = body; ending = ending }

@@ -24,10 +24,10 @@ use Rattle.std.proofs.lemmas.Str.Ascii.{lowercase_is}
 use Rattle.texting_robots.specs.Delay.{AtMost, Decimal, IsDelay, IsInfinite, IsNumeral, IsPoint, IsTail}
 use Rattle.texting_robots.specs.Delay.{NamesZero, NamesSeconds, Rounds, Spells, greatest_delay}
 use Rattle.texting_robots.specs.Delay.{negative_exponent, positive_exponent}
-use Rattle.texting_robots.specs.Computed.Delay.{HasDigits, behind_digits, behind_fraction, delay_behind}
-use Rattle.texting_robots.specs.Computed.Delay.{delay_of, digits_in_front, exponent_of, fraction_in_front}
-use Rattle.texting_robots.specs.Computed.Delay.{is_infinite, is_numeral, is_zero, zero_of, number_of}
-use Rattle.texting_robots.specs.Computed.Delay.{number_with, rounded}
+use Rattle.texting_robots.specs.Steps.Delay.{HasDigits, behind_digits, behind_fraction, delay_behind}
+use Rattle.texting_robots.specs.Steps.Delay.{delay_of, digits_in_front, exponent_of, fraction_in_front}
+use Rattle.texting_robots.specs.Steps.Delay.{is_infinite, is_numeral, is_zero, zero_of, number_of}
+use Rattle.texting_robots.specs.Steps.Delay.{number_with, rounded}
 use Rattle.texting_robots.specs.Laws.{EachTextHasOneDelay}
 
 -- ---- what the tests say

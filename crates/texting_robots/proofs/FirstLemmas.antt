@@ -10,8 +10,8 @@ use Rattle.std.proofs.lemmas.List.Sums.{sum_by-cons}
 use Rattle.texting_robots.specs.declared.pieces.Span.{Span}
 use Rattle.texting_robots.specs.declared.rules.Entry.{Entry}
 use Rattle.texting_robots.specs.declared.rules.Gathered.{Gathered}
-use Rattle.texting_robots.specs.Computed.Entries.{AreEntries, GoesBefore, IsFirstMatch, NoneMatches, no_entry, placed_at, rules_in}
-use Rattle.texting_robots.specs.Computed.Pieces.{IsSpan, part_of}
+use Rattle.texting_robots.specs.Steps.Entries.{AreEntries, GoesBefore, IsFirstMatch, NoneMatches, no_entry, placed_at, rules_in}
+use Rattle.texting_robots.specs.Steps.Pieces.{IsSpan, part_of}
 use Rattle.texting_robots.specs.Decision.{Decides, IsLongestMatch, as_long_as}
 use Rattle.texting_robots.specs.Pattern.{Matches}
 use Rattle.texting_robots.specs.Rules.{PlacedRule, Rule, unplaced}

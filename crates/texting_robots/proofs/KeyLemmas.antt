@@ -4,7 +4,7 @@ use Rattle.std.specs.Char.{to_ascii_lowercase}
 use Rattle.std.proofs.lemmas.Bool.{false_from_ne_true}
 use Rattle.std.proofs.lemmas.Slice.Eq.{bytes_eq-Decides}
 use Rattle.std.proofs.lemmas.List.{length-map}
-use Rattle.texting_robots.specs.Computed.Statement.{begins}
+use Rattle.texting_robots.specs.Steps.Statement.{begins}
 
 module _ (spelling text key : List ℕ) (front : key ≡ take (length spelling) text) where
   here : map to_ascii_lowercase (take (length (map to_ascii_lowercase spelling)) text) ≡ map to_ascii_lowercase key

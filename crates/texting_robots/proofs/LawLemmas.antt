@@ -14,7 +14,7 @@ use Rattle.texting_robots.specs.Rules.{Rule, before_agent, delay_before_agents, 
 use Rattle.texting_robots.specs.Rules.{sitemap_in, sitemaps_in, unplaced}
 use Rattle.texting_robots.specs.Pattern.{IsOverlong}
 use Rattle.texting_robots.specs.Verdict.{IsVerdict}
-use Rattle.texting_robots.specs.Computed.Group.{start_of, step}
+use Rattle.texting_robots.specs.Steps.Group.{start_of, step}
 use Rattle.texting_robots.specs.Laws.{AgentCase, IsSameKind, RawChangesNothing, SameButSitemaps}
 use Rattle.texting_robots.specs.Laws.{SitemapsChangeNothingElse, UncapturedReachesNothing}
 use Rattle.texting_robots.proofs.CapturedLemmas.{Stands, at_front, caught, caught_all, is_captured_decides, only_agents}

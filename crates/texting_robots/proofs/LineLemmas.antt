@@ -5,13 +5,14 @@ use Rattle.std.proofs.lemmas.Bool.{cases_Bool, cond-true, cond-false}
 use Rattle.texting_robots.specs.declared.parser.statement.Kind.{Kind}
 use Rattle.texting_robots.specs.declared.parser.statement.Kind.TheVariants as kind
 use Rattle.texting_robots.specs.Cut.{Pair}
-use Rattle.texting_robots.specs.Computed.Cut.{cut}
+use Rattle.texting_robots.specs.Steps.Cut.{cut}
 use Rattle.texting_robots.specs.Statement.{IsStatement, IsTailOf, colon}
-use Rattle.texting_robots.specs.Computed.Statement.{parts_of, statement_of, value_of}
+use Rattle.texting_robots.specs.Steps.Statement.{parts_of, statement_of, value_of}
 use Rattle.texting_robots.specs.Group.{is_agent}
 use Rattle.texting_robots.specs.Line.{AreLinesOf, HoldRangesOf, HoldsRangeOf, IsDelayOrRaw, IsLineOf, IsLineWith, IsRangeOf, LineValue, Raw, UserAgent, delay_in, is_sitemap, without, without_front}
-use Rattle.texting_robots.specs.Computed.Line.{delay_or_raw, line_by, line_of, line_with, parsed}
-use Rattle.texting_robots.specs.Computed.Delay.{delay_of}
+use Rattle.texting_robots.specs.Parsed.{parsed}
+use Rattle.texting_robots.specs.Steps.Line.{delay_or_raw, line_by, line_of, line_with}
+use Rattle.texting_robots.specs.Steps.Delay.{delay_of}
 use Rattle.texting_robots.specs.Delay.{IsDelay}
 use Rattle.texting_robots.specs.Laws.{EachTextHasItsLines, ParseTakesAll}
 use Rattle.texting_robots.proofs.DelayLemmas.{delay_of_is, is_delay_of}

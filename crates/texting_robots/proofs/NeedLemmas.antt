@@ -10,9 +10,9 @@ use Rattle.texting_robots.specs.declared.needs.head.Head.{Head}
 use Rattle.texting_robots.specs.declared.pieces.Ending.{Ending}
 use Rattle.texting_robots.specs.declared.pieces.Ends.{Ends}
 use Rattle.texting_robots.specs.declared.pieces.Piece.{Piece}
-use Rattle.texting_robots.specs.Computed.Needs.{AreNeeds, AreWithin, Fits, IsHeadOf}
-use Rattle.texting_robots.specs.Computed.Needs.{front_bit, front_of, ones_below, pair_bit, pair_set}
-use Rattle.texting_robots.specs.Computed.Pieces.{AreLeft, ArePieces, part_of}
+use Rattle.texting_robots.specs.Steps.Needs.{AreNeeds, AreWithin, Fits, IsHeadOf}
+use Rattle.texting_robots.specs.Steps.Needs.{front_bit, front_of, ones_below, pair_bit, pair_set}
+use Rattle.texting_robots.specs.Steps.Pieces.{AreLeft, ArePieces, part_of}
 use Rattle.texting_robots.specs.Pattern.{Matches}
 
 -- ---- the beginning

@@ -5,7 +5,7 @@ use Rattle.std.specs.List.{list_all, prefix_len}
 use Rattle.std.proofs.lemmas.Bool.{cases_Bool, eqb-true, ne_eqb, or_cases, or_parts, false≢true}
 use Rattle.std.proofs.lemmas.List.Elements.{All-head, All-tail, All-weaker}
 use Rattle.texting_robots.specs.Pattern.{begins_with_star, dollar, IsSuffix, Matches, MatchesWith, star}
-use Rattle.texting_robots.specs.Computed.Pieces.{behind_stars, is_mark, IsAtMark, Closes, Grows}
+use Rattle.texting_robots.specs.Steps.Pieces.{behind_stars, is_mark, IsAtMark, Closes, Grows}
 
 -- a byte that stands for itself
 abbrev pub IsPlain : Bool → ℕ → Type 0

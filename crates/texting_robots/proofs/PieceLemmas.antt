@@ -12,11 +12,11 @@ use Rattle.texting_robots.specs.declared.pieces.Ending.{Ending}
 use Rattle.texting_robots.specs.declared.pieces.Ending.TheVariants.{Open, Closed, Last, Never}
 use Rattle.texting_robots.specs.declared.pieces.Piece.{Piece}
 use Rattle.texting_robots.specs.declared.pieces.Span.{Span}
-use Rattle.texting_robots.specs.Computed.Border.{IsTable}
-use Rattle.texting_robots.specs.Computed.Pieces.{AddsPieces, AreLeft, ArePieces, behind_stars, part_of}
-use Rattle.texting_robots.specs.Computed.Pieces.{Closes, EndsAs, IsAtMark, IsCutAtMark, IsEnding, IsLeft}
-use Rattle.texting_robots.specs.Computed.Pieces.{IsPiece, IsSpan, Somewhere}
-use Rattle.texting_robots.specs.Computed.Stars.{IsBehindFirst, StandsNowhere}
+use Rattle.texting_robots.specs.Steps.Border.{IsTable}
+use Rattle.texting_robots.specs.Steps.Pieces.{AddsPieces, AreLeft, ArePieces, behind_stars, part_of}
+use Rattle.texting_robots.specs.Steps.Pieces.{Closes, EndsAs, IsAtMark, IsCutAtMark, IsEnding, IsLeft}
+use Rattle.texting_robots.specs.Steps.Pieces.{IsPiece, IsSpan, Somewhere}
+use Rattle.texting_robots.specs.Steps.Stars.{IsBehindFirst, StandsNowhere}
 use Rattle.texting_robots.specs.Pattern.{IsSuffix, Matches, star}
 use Rattle.texting_robots.proofs.PatternLemmas.{closes_decides, end_matches, grows_at_mark, in_front}
 use Rattle.texting_robots.proofs.PatternLemmas.{mark_matches_none, plain_marks, somewhere, star_stars}

@@ -7,7 +7,7 @@ use Rattle.std.proofs.lemmas.List.{drop_all}
 use Rattle.std.proofs.lemmas.List.Prefix.{at_from_reads, at_reads, front_rest}
 use Rattle.memchr.specs.Find.{FindsNeedle, OccursAt}
 use Rattle.texting_robots.specs.Pattern.{IsSuffix}
-use Rattle.texting_robots.specs.Computed.Stars.{IsBehindFirst, StandsNowhere}
+use Rattle.texting_robots.specs.Steps.Stars.{IsBehindFirst, StandsNowhere}
 
 module _ (R : List ℕ → Type 0) (piece t : List ℕ) where
   -- where R holds of a text if it holds of an end of it, the first place of the piece is enough

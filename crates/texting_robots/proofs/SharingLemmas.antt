@@ -6,9 +6,9 @@ use Rattle.texting_robots.specs.declared.pieces.Ends.{Ends}
 use Rattle.texting_robots.specs.declared.pieces.Piece.{Piece}
 use Rattle.texting_robots.specs.declared.pieces.Span.{Span}
 use Rattle.texting_robots.specs.declared.rules.Entry.{Entry}
-use Rattle.texting_robots.specs.Computed.Entries.{IsEntry, placed_at}
-use Rattle.texting_robots.specs.Computed.Needs.{AreNeeds}
-use Rattle.texting_robots.specs.Computed.Pieces.{ArePieces, IsPiece, IsSpan, part_of}
+use Rattle.texting_robots.specs.Steps.Entries.{IsEntry, placed_at}
+use Rattle.texting_robots.specs.Steps.Needs.{AreNeeds}
+use Rattle.texting_robots.specs.Steps.Pieces.{ArePieces, IsPiece, IsSpan, part_of}
 
 -- the range of what was added
 pub record IsNew {X : Type 0} (old new : List X) (span : Span) : Type 0 where

@@ -2,7 +2,7 @@
 use Rattle.std.proofs.Common.{◌≡◌, ◌↔◌, ℕ, false, Option, Some, None, List, ◌∷◌, ◌++◌}
 use Rattle.std.specs.Borrow.{Bor}
 use Rattle.texting_robots.specs.Pattern.{IsSuffix, MatchesStars, star}
-use Rattle.texting_robots.specs.Computed.Stars.{from_star, IsBehindFirst, IsCutAtStar, StandsNowhere}
+use Rattle.texting_robots.specs.Steps.Stars.{from_star, IsBehindFirst, IsCutAtStar, StandsNowhere}
 use Rattle.texting_robots.proofs.PatternLemmas.{end_matches, in_front, plain_stars, somewhere, star_grows}
 use Rattle.texting_robots.proofs.PlacingLemmas.{first_is_enough, none_is_enough}
 

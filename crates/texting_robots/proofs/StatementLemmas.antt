@@ -13,7 +13,7 @@ use Rattle.std.proofs.lemmas.List.Elements.{All-contains, All-from_recursion, Co
 use Rattle.texting_robots.specs.declared.parser.statement.Kind.{Kind}
 use Rattle.texting_robots.specs.declared.parser.statement.Kind.TheVariants.{UserAgent, Allow, Disallow, Sitemap, CrawlDelay}
 use Rattle.texting_robots.specs.Statement.{spellings, space, tab, colon, hash, IsBlank, IsKey, IsColonAnd, IsBlanksAnd, IsTailOf, IsComment, IsStatement}
-use Rattle.texting_robots.specs.Computed.Statement.{skip_blanks, kind_with, kind_by, begins, after_any, after_blanks, after_separator, tail_of, tail_as, parts_of, region_of, trimmed, value_of, statement_of}
+use Rattle.texting_robots.specs.Steps.Statement.{skip_blanks, kind_with, kind_by, begins, after_any, after_blanks, after_separator, tail_of, tail_as, parts_of, region_of, trimmed, value_of, statement_of}
 use Rattle.texting_robots.specs.Trim.{IsTrimOf}
 use Rattle.texting_robots.proofs.TrimLemmas.{trimmed_is_trim, one_trim, blank_skipped}
 

@@ -18,7 +18,7 @@ use Rattle.bstr.proofs.lemmas.TrimLemmas.{kept-skip, kept-stop, kept-nil, kept_e
 use lib.Utf8.{low_scalar}
 use Rattle.texting_robots.specs.Trim.{IsSpaces, IsTrimOf}
 use Rattle.texting_robots.specs.Statement.{IsBlank}
-use Rattle.texting_robots.specs.Computed.Statement.{trimmed}
+use Rattle.texting_robots.specs.Steps.Statement.{trimmed}
 
 -- ---- spaces
 

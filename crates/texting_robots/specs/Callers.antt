@@ -3,7 +3,7 @@
 -- the lines of a file
 pub use Rattle.texting_robots.specs.Line.{LineValue, UserAgent, Allow, Disallow, Sitemap, CrawlDelay, Raw, by_value, value_in}
 pub use Rattle.texting_robots.specs.Line.{AreFileLinesOf, AreLinesOf, HoldRangesOf}
-pub use Rattle.texting_robots.specs.Computed.Line.{file_lines, parsed}
+pub use Rattle.texting_robots.specs.Parsed.{file_lines, parsed}
 pub use Rattle.texting_robots.specs.Delay.{IsDelay}
 -- what an agent gets of them
 pub use Rattle.texting_robots.specs.Group.{IsCaptured, group_name}

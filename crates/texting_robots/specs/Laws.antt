@@ -4,9 +4,9 @@ use Rattle.std.specs.declared.cmp.Ordering.TheVariants.{Less, Equal}
 use Rattle.std.specs.List.{AllZip}
 use Rattle.std.specs.Str.{is_utf8, str_to_ascii_lowercase}
 use Rattle.texting_robots.specs.declared.parser.statement.Kind.{Kind}
-use Rattle.texting_robots.specs.Computed.Cut.{cut}
-use Rattle.texting_robots.specs.Computed.Delay.{delay_of}
-use Rattle.texting_robots.specs.Computed.Line.{file_lines, parsed}
+use Rattle.texting_robots.specs.Steps.Cut.{cut}
+use Rattle.texting_robots.specs.Steps.Delay.{delay_of}
+use Rattle.texting_robots.specs.Parsed.{file_lines, parsed}
 use Rattle.texting_robots.specs.Cut.{IsCut, Pair, cr, lf}
 use Rattle.texting_robots.specs.Decision.{Decides, IsDecidingLine}
 use Rattle.texting_robots.specs.Delay.{IsDelay}

@@ -4,6 +4,7 @@ pub mod Trim
 pub mod Statement
 pub mod Delay
 pub mod Line
+pub mod Parsed
 pub mod Group
 pub mod Escape
 pub mod Pattern
@@ -18,4 +19,4 @@ pub mod Address
 pub mod Rfc9309
 pub mod Laws
 pub mod Callers
-pub mod Computed
+pub mod Steps

@@ -3,7 +3,7 @@ ghost use Rattle.std.specs.Prelude.{◌≡◌, ◌<◌, ◌^◌, length};
 ghost use Rattle.std.specs.Iterator.{YieldsFirstBy, item_count};
 ghost use Rattle.std.specs.List.{list_any};
 ghost use Rattle.std.specs.Str.{str_to_ascii_lowercase};
-ghost use Rattle.texting_robots.specs.Computed.Group.{step};
+ghost use Rattle.texting_robots.specs.Steps.Group.{step};
 ghost use Rattle.texting_robots.specs.Group.{group_name, is_agent, mark_of, marks_of};
 ghost use Rattle.texting_robots.specs.Rules.{delay_before_agents};
 
@@ -99,7 +99,7 @@ impl<'a> Model for MarkedLines<'a> {
     ghost use Rattle.std.specs.Prelude.{List, length, ◌+◌, ◌<◌, ◌^◌};
     ghost use Rattle.std.specs.Str.{str_to_ascii_lowercase};
     ghost use Rattle.texting_robots.specs.Group.{Mark};
-    ghost use Rattle.texting_robots.specs.Computed.Group.{marks_from};
+    ghost use Rattle.texting_robots.specs.Steps.Group.{marks_from};
 
     ghost Value = { List Mark };
 

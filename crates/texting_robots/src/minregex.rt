@@ -5,7 +5,7 @@ ghost use Rattle.std.specs.Cmp.Lexicographic.{pointwise};
 ghost use Rattle.std.specs.Cmp.Rules.{comparing};
 ghost use Rattle.std.specs.Ordering.{as_partial_cmp, on};
 ghost use Rattle.std.proofs.Common.{rules};
-ghost use Rattle.texting_robots.specs.Computed.Stars.{IsBehindFirst, IsCutAtStar, StandsNowhere};
+ghost use Rattle.texting_robots.specs.Steps.Stars.{IsBehindFirst, IsCutAtStar, StandsNowhere};
 ghost use Rattle.texting_robots.specs.Error.{IsMemoryOr};
 ghost use Rattle.texting_robots.specs.Order.{IsBefore, pattern_cmp};
 ghost use Rattle.texting_robots.specs.Pattern.{IsOverlong, Matches, MatchesStars, collapsed};
@@ -32,7 +32,7 @@ pub struct MinRegex {
 
 impl Model for MinRegex {
     ghost use Rattle.std.specs.Prelude.{◌≡◌, ℕ, List, string_bytes};
-    ghost use Rattle.texting_robots.specs.Computed.Pieces.{ArePieces};
+    ghost use Rattle.texting_robots.specs.Steps.Pieces.{ArePieces};
     ghost use Rattle.texting_robots.specs.Pattern.{collapsed};
 
     ghost Value = { List ℕ };

@@ -1,7 +1,8 @@
 //! The lines of a robots.txt file.
 ghost use Rattle.std.specs.Prelude.{◌≡◌, ◌≤◌, IfErr, IfOk, MatchOption, false, length, map, option_map};
 ghost use Rattle.std.specs.Iterator.{YieldsFirst, YieldsFirstBy, item_count};
-ghost use Rattle.texting_robots.specs.Computed.Line.{file_lines, line_of, line_with, parsed};
+ghost use Rattle.texting_robots.specs.Parsed.{file_lines, parsed};
+ghost use Rattle.texting_robots.specs.Steps.Line.{line_of, line_with};
 ghost use Rattle.texting_robots.specs.Group.{is_agent, is_group};
 ghost use Rattle.texting_robots.specs.Line.{AreFileLinesOf, AreLinesOf, HoldRangesOf, UserAgent, by_value, delay_in, is_sitemap, value_in, without_front};
 
@@ -57,7 +58,7 @@ pub(crate) struct Unread<'a> {
 
 impl<'a> Model for Unread<'a> {
     ghost use Rattle.texting_robots.specs.Line.{LineValue};
-    ghost use Rattle.texting_robots.specs.Computed.Line.{line_of};
+    ghost use Rattle.texting_robots.specs.Steps.Line.{line_of};
 
     ghost Value = { LineValue };
 
@@ -114,8 +115,8 @@ pub(crate) struct UnreadLines<'a> {
 impl<'a> Model for UnreadLines<'a> {
     ghost use Rattle.std.specs.Prelude.{List};
     ghost use Rattle.texting_robots.specs.Line.{LineValue};
-    ghost use Rattle.texting_robots.specs.Computed.Line.{lines_of};
-    ghost use Rattle.texting_robots.specs.Computed.Cut.{read_as};
+    ghost use Rattle.texting_robots.specs.Steps.Line.{lines_of};
+    ghost use Rattle.texting_robots.specs.Steps.Cut.{read_as};
 
     ghost Value = { List LineValue };
 

@@ -2,9 +2,9 @@
 ghost use Rattle.std.specs.Prelude.{◌≡◌, ℕ, ◌+◌, ◌-◌, ◌*◌, ◌≤◌, ◌↔◌, ◌++◌, ◌==◌, IsTrue, IfOk, IfNone, IfSome, unwrap_or, length, drop};
 ghost use Rattle.std.specs.List.{list_all, prefix_len};
 ghost use Rattle.memchr.specs.Find.{OccursAt};
-ghost use Rattle.texting_robots.specs.Computed.Border.{IsTable};
-ghost use Rattle.texting_robots.specs.Computed.Pieces.{AddsPieces, ArePieces, Closes, EndsAs, IsCutAtMark, IsEnding, is_mark};
-ghost use Rattle.texting_robots.specs.Computed.Stars.{IsBehindFirst, StandsNowhere};
+ghost use Rattle.texting_robots.specs.Steps.Border.{IsTable};
+ghost use Rattle.texting_robots.specs.Steps.Pieces.{AddsPieces, ArePieces, Closes, EndsAs, IsCutAtMark, IsEnding, is_mark};
+ghost use Rattle.texting_robots.specs.Steps.Stars.{IsBehindFirst, StandsNowhere};
 ghost use Rattle.texting_robots.specs.Pattern.{IsOverlong, Matches, collapsed, star};
 ghost use Rattle.texting_robots.specs.View.{LooksAtMost};
 
@@ -79,7 +79,7 @@ pub(crate) struct Pattern<'a> {
 
 impl<'a> Model for Pattern<'a> {
     ghost use Rattle.std.specs.Prelude.{ℕ, List};
-    ghost use Rattle.texting_robots.specs.Computed.Pieces.{ArePieces};
+    ghost use Rattle.texting_robots.specs.Steps.Pieces.{ArePieces};
 
     ghost Value = { List ℕ };
 

@@ -1,6 +1,6 @@
 //! The text that rules are matched with.
 ghost use Rattle.std.specs.Prelude.{◌≡◌, IfErr, IfOk, string_bytes};
-ghost use Rattle.texting_robots.specs.Computed.Prepared.{text_of};
+ghost use Rattle.texting_robots.specs.Steps.Prepared.{text_of};
 ghost use Rattle.texting_robots.specs.Prepared.{prepared, target_of};
 
 use crate::error::{Error, is_want_of_memory};

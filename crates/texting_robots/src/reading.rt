@@ -1,7 +1,7 @@
 //! The second pass over a file: what its marked lines give.
 ghost use Rattle.std.specs.Prelude.{◌≡◌, ◌++◌, [], IfErr, IsOk, None, OnOk, map, string_bytes};
 ghost use Rattle.std.specs.Option.{IfSome, IsSomeAnd, option_or, option_to_list};
-ghost use Rattle.texting_robots.specs.Computed.Entries.{AreEntries, rules_in};
+ghost use Rattle.texting_robots.specs.Steps.Entries.{AreEntries, rules_in};
 ghost use Rattle.texting_robots.specs.Error.{IsMemoryOr};
 ghost use Rattle.texting_robots.specs.Group.{mark_of};
 ghost use Rattle.texting_robots.specs.Pattern.{IsOverlong};

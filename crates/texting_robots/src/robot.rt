@@ -1,6 +1,6 @@
 //! What one crawler gets of a robots.txt file.
 ghost use Rattle.std.specs.Prelude.{◌≡◌, ◌*◌, Contains, IfErr, IfOk, IsOk, length, string_bytes, take};
-ghost use Rattle.texting_robots.specs.Computed.Line.{file_lines};
+ghost use Rattle.texting_robots.specs.Parsed.{file_lines};
 ghost use Rattle.texting_robots.specs.Decision.{IsDecidingLine, as_long_as};
 ghost use Rattle.texting_robots.specs.Error.{IsMemoryOr};
 ghost use Rattle.texting_robots.specs.Pattern.{Matches};

@@ -9,8 +9,8 @@ use Rattle.std.proofs.lemmas.Bool.Decides.{nat_tests}
 use Rattle.texting_robots.specs.declared.parser.statement.Kind.{Kind}
 use Rattle.texting_robots.specs.Statement.{IsBlank, IsComment, IsStatement, colon, hash, spellings}
 use Rattle.texting_robots.specs.Trim.{IsTrimOf}
-use Rattle.texting_robots.specs.Computed.Line.{line_of, line_with}
-use Rattle.texting_robots.specs.Computed.Statement.{trimmed}
+use Rattle.texting_robots.specs.Steps.Line.{line_of, line_with}
+use Rattle.texting_robots.specs.Steps.Statement.{trimmed}
 use Rattle.texting_robots.specs.Rfc9309 as rfc
 use Rattle.texting_robots.proofs.LineLemmas.{line_stated}
 use Rattle.texting_robots.proofs.StatementLemmas.{statement_found}

@@ -10,9 +10,9 @@ use Rattle.std.proofs.lemmas.Str.Parse.{without_leading_plus_none}
 use Rattle.texting_robots.specs.declared.parser.statement.Kind.TheVariants as kind
 use Rattle.texting_robots.specs.Delay.{Decimal, NamesDelay, Spells}
 use Rattle.texting_robots.specs.Line.{CrawlDelay}
-use Rattle.texting_robots.specs.Computed.Delay.{delay_of, rounded}
-use Rattle.texting_robots.specs.Computed.Line.{delay_or_raw}
-use Rattle.texting_robots.specs.Computed.Statement.{trimmed}
+use Rattle.texting_robots.specs.Steps.Delay.{delay_of, rounded}
+use Rattle.texting_robots.specs.Steps.Line.{delay_or_raw}
+use Rattle.texting_robots.specs.Steps.Statement.{trimmed}
 use Rattle.texting_robots.specs.Rfc9309 as rfc
 use Rattle.texting_robots.proofs.DelayLemmas.{is_delay_of, rounded_rounds}
 use Rattle.texting_robots.proofs.TrimLemmas.{trimmed_is_trim}

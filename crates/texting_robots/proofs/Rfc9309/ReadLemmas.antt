@@ -5,7 +5,7 @@ use Rattle.std.specs.List.{AllByRecursion as Each}
 use Rattle.std.proofs.lemmas.Bool.{ne_eqb}
 use Rattle.std.proofs.lemmas.List.Elements.{filter-append}
 use Rattle.texting_robots.specs.Cut.{cr, lf}
-use Rattle.texting_robots.specs.Computed.Cut.{cut}
+use Rattle.texting_robots.specs.Steps.Cut.{cut}
 use Rattle.texting_robots.specs.Rfc9309.{IsNl}
 use Rattle.texting_robots.proofs.CrLfLemmas.{bodies_of}
 use Rattle.texting_robots.proofs.LineLemmas.{line_raw}

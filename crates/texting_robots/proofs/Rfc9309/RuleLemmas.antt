@@ -12,8 +12,8 @@ use Rattle.texting_robots.specs.Line.{UserAgent, Allow, Disallow, slash}
 use Rattle.texting_robots.specs.Rules.{Rule, rule_with}
 use Rattle.texting_robots.specs.Statement.{IsBlank, spellings}
 use Rattle.texting_robots.specs.Trim.{IsTrimOf}
-use Rattle.texting_robots.specs.Computed.Line.{line_with}
-use Rattle.texting_robots.specs.Computed.Statement.{trimmed}
+use Rattle.texting_robots.specs.Steps.Line.{line_with}
+use Rattle.texting_robots.specs.Steps.Statement.{trimmed}
 use Rattle.texting_robots.specs.Rfc9309 as rfc
 use Rattle.texting_robots.proofs.TrimLemmas.{trimmed_is_trim}
 use Rattle.texting_robots.proofs.Rfc9309.CharLemmas.{IsCharByte, IsCharText, char_text, each_append}

@@ -9,7 +9,7 @@ use Rattle.texting_robots.specs.declared.groups.Walk.{Walk}
 use Rattle.texting_robots.specs.Line.{LineValue, UserAgent, Allow, Disallow, Sitemap, CrawlDelay, Raw}
 use Rattle.texting_robots.specs.Group.{is_group}
 use Rattle.texting_robots.specs.Rules.{Rule, rule_in}
-use Rattle.texting_robots.specs.Computed.Group.{step}
+use Rattle.texting_robots.specs.Steps.Group.{step}
 use Rattle.texting_robots.specs.Rfc9309.{Member}
 use Rattle.texting_robots.proofs.CapturedLemmas.{caught}
 use Rattle.texting_robots.proofs.Rfc9309.MergeLemmas.{IsLineFor}

@@ -1,6 +1,6 @@
 //! The first bytes of a text, compared all at once.
 ghost use Rattle.std.specs.Prelude.{◌≡◌, ◌↔◌, IsTrue, slice_index_or};
-ghost use Rattle.texting_robots.specs.Computed.Needs.{Fits, IsHeadOf, front_of, ones_below};
+ghost use Rattle.texting_robots.specs.Steps.Needs.{Fits, IsHeadOf, front_of, ones_below};
 
 /// The first bytes of a piece, up to eight, and ones where they stand.
 #[derive(Clone, Copy, Debug)]

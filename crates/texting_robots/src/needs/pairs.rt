@@ -1,6 +1,6 @@
 //! The pairs of neighbouring bytes of a text, as a small set.
 ghost use Rattle.std.specs.Prelude.{◌≡◌, ◌↔◌, IsTrue, bit_or};
-ghost use Rattle.texting_robots.specs.Computed.Needs.{AreWithin, pair_bit, pair_set};
+ghost use Rattle.texting_robots.specs.Steps.Needs.{AreWithin, pair_bit, pair_set};
 
 /// A set of pairs of bytes. Each pair has one of 64 bits, and some share one.
 #[derive(Clone, Copy, Debug)]

@@ -1,7 +1,7 @@
 //! Where a line ends.
 ghost use Rattle.std.specs.Prelude.{◌≡◌, ◌<◌, ◌≤◌, ◌==◌, MatchOption, drop, length};
 ghost use Rattle.texting_robots.specs.Cut.{lf};
-ghost use Rattle.texting_robots.specs.Computed.Cut.{body_len, end_len, read_as, read_byte};
+ghost use Rattle.texting_robots.specs.Steps.Cut.{body_len, end_len, read_as, read_byte};
 
 use memchr::{memchr2, memchr3};
 

@@ -6,7 +6,7 @@ ghost use Rattle.std.specs.Option.{option_copied};
 ghost use Rattle.std.specs.Str.{byte};
 ghost use Rattle.std.specs.Str.Parse.{digits_value_after, starts_with_minus, without_leading_sign};
 ghost use Rattle.texting_robots.specs.Delay.{IsDelay};
-ghost use Rattle.texting_robots.specs.Computed.Delay as steps;
+ghost use Rattle.texting_robots.specs.Steps.Delay as steps;
 
 use std::marker::Model;
 
@@ -19,7 +19,7 @@ struct Number<'a> {
 }
 
 impl<'a> Model for Number<'a> {
-    ghost use Rattle.texting_robots.specs.Computed.Delay.{HasDigits};
+    ghost use Rattle.texting_robots.specs.Steps.Delay.{HasDigits};
     ghost use Rattle.texting_robots.specs.Delay.{Decimal};
 
     ghost Value = { Decimal };

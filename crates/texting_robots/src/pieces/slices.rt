@@ -1,8 +1,8 @@
 //! Matching on a slice: no look is counted, and no table is read.
 ghost use Rattle.std.specs.Prelude.{◌↔◌, IsTrue, MatchOption};
-ghost use Rattle.texting_robots.specs.Computed.Needs.{AreNeeds};
-ghost use Rattle.texting_robots.specs.Computed.Pieces.{EndsAs, IsEnding};
-ghost use Rattle.texting_robots.specs.Computed.Stars.{IsBehindFirst, StandsNowhere};
+ghost use Rattle.texting_robots.specs.Steps.Needs.{AreNeeds};
+ghost use Rattle.texting_robots.specs.Steps.Pieces.{EndsAs, IsEnding};
+ghost use Rattle.texting_robots.specs.Steps.Stars.{IsBehindFirst, StandsNowhere};
 ghost use Rattle.texting_robots.specs.Pattern.{Matches};
 
 use super::{Ending, Pattern};

@@ -1,7 +1,7 @@
 //! Texts that rules are asked about, with their looks counted or not.
 ghost use Rattle.std.specs.Prelude.{◌≡◌, ◌*◌, ◌↔◌, IsTrue, codes, length};
-ghost use Rattle.texting_robots.specs.Computed.Entries.{IsEntryOf, pattern_of};
-ghost use Rattle.texting_robots.specs.Computed.Needs.{Meets, pair_set};
+ghost use Rattle.texting_robots.specs.Steps.Entries.{IsEntryOf, pattern_of};
+ghost use Rattle.texting_robots.specs.Steps.Needs.{Meets, pair_set};
 ghost use Rattle.texting_robots.specs.Pattern.{Matches};
 ghost use Rattle.texting_robots.specs.View.{LooksAtMost, ViewValue};
 
@@ -53,7 +53,7 @@ pub(super) struct Uncounted<'a> {
 
 impl<'a> Model for Uncounted<'a> {
     ghost use Rattle.std.specs.Prelude.{◌≡◌, ℕ, List};
-    ghost use Rattle.texting_robots.specs.Computed.Needs.{ArePairsOf, front_of};
+    ghost use Rattle.texting_robots.specs.Steps.Needs.{ArePairsOf, front_of};
 
     ghost Value = { List ℕ };
 

@@ -2,7 +2,7 @@ use Rattle.std.proofs.Common.{◌-◌, length, sym, ap, subst, eq-eqb, arith, le
 use Rattle.std.proofs.lemmas.Bool.{eqb-true, leb-true}
 use Rattle.std.proofs.lemmas.List.{drop_all}
 use Rattle.memchr.specs.Find.{OccursAt}
-use Rattle.texting_robots.specs.Computed.Pieces.{part_of}
+use Rattle.texting_robots.specs.Steps.Pieces.{part_of}
 use Rattle.texting_robots.proofs.PlacingLemmas.{ends_short, ends_with}
 use Rattle.texting_robots.proofs.pieces.ends_as.Goals as goal
 

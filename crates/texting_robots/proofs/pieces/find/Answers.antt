@@ -1,6 +1,6 @@
 use Rattle.std.proofs.Common.{◌≡◌, ◌+◌, ◌-◌, drop, length, subst, ◌∙◌, arith}
 use Rattle.std.proofs.lemmas.Bool.{iff_false}
-use Rattle.texting_robots.specs.Computed.Stars.{IsBehindFirst}
+use Rattle.texting_robots.specs.Steps.Stars.{IsBehindFirst}
 use Rattle.texting_robots.proofs.BorderLemmas.{open_back, open_found, open_more, open_next, open_none}
 use Rattle.texting_robots.proofs.PlacingLemmas.{behind_found, found_nowhere}
 use Rattle.texting_robots.proofs.pieces.find.Goals as goal

@@ -1,5 +1,5 @@
 use Rattle.std.proofs.Common.{◌↔◌, length}
-use Rattle.texting_robots.specs.Computed.Stars.{from_star}
+use Rattle.texting_robots.specs.Steps.Stars.{from_star}
 use Rattle.texting_robots.specs.Pattern.{MatchesStars}
 use Rattle.texting_robots.proofs.minregex.MinRegex.match_stars.Given as goal
 

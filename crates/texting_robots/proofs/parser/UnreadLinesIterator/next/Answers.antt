@@ -1,6 +1,6 @@
 use Rattle.std.proofs.Common.{◌∙◌, sym, ap}
-use Rattle.texting_robots.specs.Computed.Cut.{read_as}
-use Rattle.texting_robots.specs.Computed.Line.{lines_of}
+use Rattle.texting_robots.specs.Steps.Cut.{read_as}
+use Rattle.texting_robots.specs.Steps.Line.{lines_of}
 use Rattle.texting_robots.proofs.CutFromFront.{lines_nil, next_line, not_empty, nothing_is, shorter}
 use Rattle.texting_robots.proofs.parser.UnreadLinesIterator.next.Goals as goal
 

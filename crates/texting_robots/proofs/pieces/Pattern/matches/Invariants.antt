@@ -1,5 +1,5 @@
 use Rattle.std.proofs.Common.{◌≡◌, ◌↔◌, List, ℕ, ◌+◌, ◌*◌, ◌≤◌, length, drop}
-use Rattle.texting_robots.specs.Computed.Pieces.{AreLeft}
+use Rattle.texting_robots.specs.Steps.Pieces.{AreLeft}
 use Rattle.texting_robots.specs.Pattern.{Matches}
 use Rattle.texting_robots.proofs.pieces.Pattern.matches.Given as goal
 

@@ -1,7 +1,7 @@
 use Rattle.std.proofs.Common.{length, take, ◌-◌}
 use Rattle.std.proofs.lemmas.Bool.Decides.{Decides-eqb}
 use Rattle.std.proofs.lemmas.Slice.Eq.{ends_is}
-use Rattle.texting_robots.specs.Computed.Pieces.{part_of}
+use Rattle.texting_robots.specs.Steps.Pieces.{part_of}
 use Rattle.texting_robots.proofs.pieces.slices.is_ended.Goals as goal
 
 pub returns-in-Last : goal.returns-in-Last

@@ -2,7 +2,7 @@ use Rattle.std.proofs.Common.{◌≡◌, List, IsPermutation, ap, arith, refl, s
 use Rattle.std.specs.Option.{option_or}
 use Rattle.std.proofs.lemmas.List.{append-nil}
 use Rattle.std.proofs.lemmas.Bool.{false≢true}
-use Rattle.texting_robots.specs.Computed.Line.{file_lines}
+use Rattle.texting_robots.specs.Parsed.{file_lines}
 use Rattle.texting_robots.specs.Group.{group_name, marks_of}
 use Rattle.texting_robots.specs.Pattern.{IsOverlong}
 use Rattle.texting_robots.specs.Rules.{PlacedRule, Rule, delay_at, delay_before_agents, rule_at, sitemap_at}

@@ -1,8 +1,8 @@
 use Rattle.std.proofs.Common.{◌≡◌, ◌++◌, map, slice_get, string_bytes}
 use Rattle.std.specs.List.{All, filter_map}
 use Rattle.std.specs.Option.{option_or}
-use Rattle.texting_robots.specs.Computed.Entries.{AreEntries, rules_in}
-use Rattle.texting_robots.specs.Computed.Line.{file_lines}
+use Rattle.texting_robots.specs.Steps.Entries.{AreEntries, rules_in}
+use Rattle.texting_robots.specs.Parsed.{file_lines}
 use Rattle.texting_robots.specs.Pattern.{IsOverlong}
 use Rattle.texting_robots.specs.Rules.{PlacedRule, captured_delays, delay_at, placed_rules, rule_at, sitemap_at, sitemaps_in}
 use Rattle.texting_robots.proofs.robot.Robot.read.Given as goal

@@ -1,6 +1,6 @@
 use Rattle.std.proofs.Common.{◌≡◌, ℕ, List, IfErr, ap, subst, take, ◌∙◌}
 use Rattle.std.proofs.lemmas.List.{take_min}
-use Rattle.texting_robots.specs.Computed.Line.{file_lines}
+use Rattle.texting_robots.specs.Parsed.{file_lines}
 use Rattle.texting_robots.specs.Error.{IsMemoryOr}
 use Rattle.texting_robots.specs.Rules.{IsRefused}
 use Rattle.texting_robots.proofs.robot.Robot.with_limit.Goals as goal

@@ -1,5 +1,5 @@
 use Rattle.std.proofs.Common.{◌≡◌, ℕ, ◌+◌, ◌*◌, ◌<◌, ◌≤◌, length}
-use Rattle.texting_robots.specs.Computed.Entries.{MatchesAt}
+use Rattle.texting_robots.specs.Steps.Entries.{MatchesAt}
 use Rattle.texting_robots.proofs.rules.Gathered.first_match.Given as goal
 
 abbrev pub invariant-loop-at : goal.invariant-loop-at

@@ -1,6 +1,6 @@
 use Rattle.std.proofs.Common.{◌≡◌, ℕ, List, length, slice_range, string_bytes, ap, subst, ◌∙◌, arith}
-use Rattle.texting_robots.specs.Computed.Needs.{AreNeeds}
-use Rattle.texting_robots.specs.Computed.Pieces.{ArePieces}
+use Rattle.texting_robots.specs.Steps.Needs.{AreNeeds}
+use Rattle.texting_robots.specs.Steps.Pieces.{ArePieces}
 use Rattle.texting_robots.specs.Escape.{escaped}
 use Rattle.texting_robots.proofs.SharingLemmas.{behind_old, entries_pushed, rules_pushed}
 use Rattle.texting_robots.proofs.rules.Gathered.push.Goals as goal

@@ -3,7 +3,7 @@ use Rattle.std.specs.List.{Contains}
 use Rattle.std.proofs.lemmas.Bool.{iff_false}
 use Rattle.std.proofs.lemmas.List.{get_or_read}
 use Rattle.texting_robots.specs.declared.rules.Entry.{Entry}
-use Rattle.texting_robots.specs.Computed.Entries.{no_entry, placed_at, rules_in}
+use Rattle.texting_robots.specs.Steps.Entries.{no_entry, placed_at, rules_in}
 use Rattle.texting_robots.specs.Decision.{Decides}
 use Rattle.texting_robots.specs.Rules.{PlacedRule, unplaced}
 use Rattle.texting_robots.specs.Verdict.{IsVerdict}

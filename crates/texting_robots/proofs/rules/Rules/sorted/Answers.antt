@@ -1,6 +1,6 @@
 use Rattle.std.proofs.Common.{string_bytes}
 use Rattle.std.proofs.lemmas.List.Sorted.{All-permutation, IsPermutation-map}
-use Rattle.texting_robots.specs.Computed.Entries.{IsEntry, placed_at}
+use Rattle.texting_robots.specs.Steps.Entries.{IsEntry, placed_at}
 use Rattle.texting_robots.proofs.rules.Rules.sorted.Goals as goal
 
 pub invariant_of-result : goal.invariant_of-result

@@ -1,6 +1,6 @@
 use Rattle.std.proofs.Common.{◌≡◌, length}
 use Rattle.std.specs.Int.RustNames.{bit_or}
-use Rattle.texting_robots.specs.Computed.Needs.{pair_set}
+use Rattle.texting_robots.specs.Steps.Needs.{pair_set}
 use Rattle.texting_robots.proofs.needs.pairs.Pairs.of.Given as goal
 
 -- the bits so far, and those of what is left

@@ -1,11 +1,11 @@
 -- The lines of a text, computed.
 use Rattle.std.specs.Prelude.{ℕ, List, [], ◌∷◌, map, Option, Some, None}
 use Rattle.texting_robots.specs.declared.parser.statement.Kind.{Kind}
-use Rattle.texting_robots.specs.Computed.Cut.{cut}
-use Rattle.texting_robots.specs.Computed.Delay.{delay_of}
-use Rattle.texting_robots.specs.Computed.Statement.{statement_of}
+use Rattle.texting_robots.specs.Steps.Cut.{cut}
+use Rattle.texting_robots.specs.Steps.Delay.{delay_of}
+use Rattle.texting_robots.specs.Steps.Statement.{statement_of}
 use Rattle.texting_robots.specs.declared.parser.statement.Kind.TheVariants as kind
-use Rattle.texting_robots.specs.Line.{LineValue, UserAgent, Allow, Disallow, Sitemap, CrawlDelay, Raw, nul_as_lf, slash, without_front}
+use Rattle.texting_robots.specs.Line.{LineValue, UserAgent, Allow, Disallow, Sitemap, CrawlDelay, Raw, slash}
 
 -- the line with this delay, or the whole body where there is none
 abbrev pub delay_or_raw : Option ℕ → List ℕ → LineValue
@@ -32,11 +32,3 @@ line_of body = line_by (statement_of body) body
 -- the lines of the bodies of a text
 abbrev pub lines_of : List ℕ → List LineValue
 lines_of text = map (λ pair. line_of pair.body) (cut text)
-
--- the lines of a text
-abbrev pub parsed : List ℕ → List LineValue
-parsed text = lines_of (without_front text)
-
--- the lines of a file: those of its text with each NUL read as LF
-abbrev pub file_lines : List ℕ → List LineValue
-file_lines text = parsed (map nul_as_lf text)

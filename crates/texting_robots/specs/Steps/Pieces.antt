@@ -7,7 +7,7 @@ use Rattle.texting_robots.specs.declared.pieces.Piece.{Piece}
 use Rattle.texting_robots.specs.declared.pieces.Ending.{Ending}
 use Rattle.texting_robots.specs.declared.pieces.Ending.TheVariants.{Open, Closed, Last, Never}
 use Rattle.texting_robots.specs.declared.pieces.Ends.{Ends}
-use Rattle.texting_robots.specs.Computed.Border.{IsTable}
+use Rattle.texting_robots.specs.Steps.Border.{IsTable}
 use Rattle.texting_robots.specs.Pattern.{dollar, IsSuffix, Matches, star}
 
 -- a star or a dollar

@@ -7,8 +7,8 @@ use Rattle.texting_robots.specs.declared.pieces.Piece.{Piece}
 use Rattle.texting_robots.specs.declared.pieces.Ending.TheVariants.{Open}
 use Rattle.texting_robots.specs.declared.rules.Entry.{Entry}
 use Rattle.texting_robots.specs.declared.rules.Gathered.{Gathered}
-use Rattle.texting_robots.specs.Computed.Needs.{AreNeeds}
-use Rattle.texting_robots.specs.Computed.Pieces.{ArePieces, IsSpan, part_of}
+use Rattle.texting_robots.specs.Steps.Needs.{AreNeeds}
+use Rattle.texting_robots.specs.Steps.Pieces.{ArePieces, IsSpan, part_of}
 use Rattle.texting_robots.specs.Pattern.{Matches}
 use Rattle.texting_robots.specs.Rules.{PlacedRule}
 

@@ -1,0 +1,13 @@
+-- The lines of a text and of a file as lists. The clauses of public calls cite them beside the definitions, which say
+-- the same: the laws `each_text_has_its_lines` and `each_file_has_its_lines` tie the one to the other.
+use Rattle.std.specs.Prelude.{ℕ, List, map}
+use Rattle.texting_robots.specs.Line.{LineValue, nul_as_lf, without_front}
+use Rattle.texting_robots.specs.Steps.Line.{lines_of}
+
+-- the lines of a text
+abbrev pub parsed : List ℕ → List LineValue
+parsed text = lines_of (without_front text)
+
+-- the lines of a file: those of its text with each NUL read as LF
+abbrev pub file_lines : List ℕ → List LineValue
+file_lines text = parsed (map nul_as_lf text)

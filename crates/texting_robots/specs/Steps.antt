@@ -1,0 +1,13 @@
+-- The definitions again, as functions that take the steps of the code. Contracts of private functions cite them, and of
+-- the definitions `Parsed` alone; each is tied to its definition by a theorem, so nobody has to believe them.
+pub mod Cut
+pub mod Statement
+pub mod Delay
+pub mod Line
+pub mod Group
+pub mod Border
+pub mod Stars
+pub mod Pieces
+pub mod Entries
+pub mod Needs
+pub mod Prepared
