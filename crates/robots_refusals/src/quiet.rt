@@ -1,4 +1,4 @@
-//! Calls that take no memory. Each is asked of a robot and two patterns that were made before it.
+//! Calls that take no memory. Each is asked of a robot, two patterns and a URL that were made before it.
 use crate::calls::{Asked, PAGE, PAGE_LINES, make_asked};
 use std::alloc::Global;
 use std::cmp::Ordering;
@@ -10,6 +10,8 @@ use texting_robots::{Decision, Error, Robot};
 /// The names of the calls, in the order in which they are made.
 pub(crate) const NAMES: &[&str] = &[
     "Robot::allowed_prepared without memory",
+    "Robot::allowed_url without memory",
+    "Robot::allowed of a plain path without memory",
     "Robot::allowed_view without memory",
     "Robot::decision without memory",
     "MinRegex::is_match without memory",
@@ -32,6 +34,8 @@ pub(crate) fn answer(alloc: Global, name: &str) -> Result<bool, Error> {
     let asked = make_asked(alloc)?;
     match name {
         "Robot::allowed_prepared without memory" => Ok(asks_prepared(&asked.robot)),
+        "Robot::allowed_url without memory" => Ok(!asked.robot.allowed_url(&asked.url)),
+        "Robot::allowed of a plain path without memory" => asks_paths(alloc, &asked.robot),
         "Robot::allowed_view without memory" => Ok(asks_view(&asked.robot)),
         "Robot::decision without memory" => Ok(asks_decision(&asked.robot)),
         "MinRegex::is_match without memory" => Ok(asks_match(&asked.pattern)),
@@ -53,6 +57,11 @@ fn asks_prepared(robot: &Robot) -> bool {
         && robot.allowed_prepared("/robots.txt")
         && !robot.allowed_prepared("/rust")
         && !robot.allowed_prepared("/forest/tree/snake.py")
+}
+
+/// Asks for paths of which nothing is escaped.
+fn asks_paths(alloc: Global, robot: &Robot) -> Result<bool, Error> {
+    Ok(robot.allowed(alloc, "/ocean/reef.html")? && !robot.allowed(alloc, "/rust")?)
 }
 
 fn asks_view(robot: &Robot) -> bool {
@@ -99,6 +108,7 @@ fn looks() -> bool {
         && view.same(1, b'a')
         && !view.same(0, b'a')
         && view.seen() == 2
+        && !view.is_empty()
         && !view.is_robots_file()
 }
 

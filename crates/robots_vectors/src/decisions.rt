@@ -4,15 +4,15 @@ use crate::helpers::{BOB, Decisions, check_decisions, forms_of, robot_of};
 use std::test::Fail;
 
 /// A file, and what decides for an agent. Its lines are counted from 1, empty ones too.
-struct DecisionRow {
+struct DecisionCase {
     name: &'static str,
     agent: &'static str,
     file: &'static [u8],
     decisions: Decisions,
 }
 
-const FILES: &[DecisionRow] = &[
-    DecisionRow {
+const FILES: &[DecisionCase] = &[
+    DecisionCase {
         name: "crawler_example",
         agent: "FerrisCrawler",
         file: CRAWLER_EXAMPLE,
@@ -24,13 +24,13 @@ const FILES: &[DecisionRow] = &[
             ("/forest/tree/snake.py", false, Some(4)),
         ],
     },
-    DecisionRow {
+    DecisionCase {
         name: "only_line",
         agent: BOB,
         file: b"Disallow: /a",
         decisions: &[("/a", false, Some(1))],
     },
-    DecisionRow {
+    DecisionCase {
         name: "group_at_both_ends",
         agent: "FooBot",
         file: MERGED_GROUPS,
@@ -40,55 +40,55 @@ const FILES: &[DecisionRow] = &[
             ("/y/c", false, Some(3)),
         ],
     },
-    DecisionRow {
+    DecisionCase {
         name: "group_in_the_middle",
         agent: "BarBot",
         file: MERGED_GROUPS,
         decisions: &[("/w/a", true, Some(10))],
     },
-    DecisionRow {
+    DecisionCase {
         name: "run_of_two_agents",
         agent: "BazBot",
         file: MERGED_GROUPS,
         decisions: &[("/z/d", true, Some(14)), ("/foo/bar/", false, Some(15))],
     },
-    DecisionRow {
+    DecisionCase {
         name: "tie_goes_to_allow",
         agent: BOB,
         file: b"Disallow: /*b\nAllow: /ab\nDisallow: b*c",
         decisions: &[("/ab", true, Some(2)), ("*abc", true, None)],
     },
-    DecisionRow {
+    DecisionCase {
         name: "length_before_collapsing",
         agent: BOB,
         file: b"Disallow: /***b\nAllow: /aab",
         decisions: &[("/aab", false, Some(1))],
     },
-    DecisionRow {
+    DecisionCase {
         name: "empty_rules",
         agent: BOB,
         file: b"Disallow:\nAllow:",
         decisions: &[("/x", true, Some(1)), ("x", true, Some(2))],
     },
-    DecisionRow {
+    DecisionCase {
         name: "first_of_two_as_long",
         agent: BOB,
         file: b"Disallow: /*\nDisallow: /a",
         decisions: &[("/a", false, Some(1)), ("/b", false, Some(1))],
     },
-    DecisionRow {
+    DecisionCase {
         name: "first_that_matches",
         agent: BOB,
         file: b"Disallow: /a\nDisallow: /*",
         decisions: &[("/a", false, Some(1)), ("/b", false, Some(2))],
     },
-    DecisionRow {
+    DecisionCase {
         name: "robots_file_has_no_line",
         agent: BOB,
         file: b"Disallow: /",
         decisions: &[("/robots.txt", true, None)],
     },
-    DecisionRow {
+    DecisionCase {
         name: "nul_ends_a_line",
         agent: BOB,
         file: b"\0Disallow: /",
@@ -98,10 +98,10 @@ const FILES: &[DecisionRow] = &[
 
 #[test]
 fn decisions_name_their_line(rt: HostRuntime) -> Result<(), Fail> {
-    for row in FILES {
-        for file in &forms_of(rt.alloc(), row.file)? {
-            let robot = robot_of(&rt, row.name, row.agent, file);
-            check_decisions(&rt, row.name, &robot, row.decisions);
+    for case in FILES {
+        for file in &forms_of(rt.alloc(), case.file)? {
+            let robot = robot_of(&rt, case.name, case.agent, file);
+            check_decisions(&rt, case.name, &robot, case.decisions);
         }
     }
     Ok(())

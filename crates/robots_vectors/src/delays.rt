@@ -8,7 +8,7 @@ use std::test::Fail;
 use texting_robots::parser::read_delay;
 
 /// A file, and the delay that each of some agents gets of it.
-struct DelayRow {
+struct DelayCase {
     name: &'static str,
     file: &'static [u8],
     delays: &'static [(&'static str, Option<u64>)],
@@ -44,28 +44,28 @@ const NO_DELAYS: &[&str] = &[
     "", ".", "nan", "1e", " 5", "-inf", "-1e-99", "+", "e5", ".e5", "1_0", "infin", "-nan", "-.5",
 ];
 
-const DELAYS: &[DelayRow] = &[
-    DelayRow {
+const DELAYS: &[DelayCase] = &[
+    DelayCase {
         name: "crawler_example",
         file: CRAWLER_EXAMPLE,
         delays: &[("FerrisCrawler", Some(10_000_000))],
     },
-    DelayRow {
+    DelayCase {
         name: "fallback_delay",
         file: b"Crawl-Delay: 1\nCrawl-Delay: 2\nUser-Agent: *\nDisallow: /x",
         delays: &[(BOB, Some(2_000_000))],
     },
-    DelayRow {
+    DelayCase {
         name: "refused_delay_keeps_the_run",
         file: b"User-Agent: D\nCrawl-Delay: -1.25\nUser-Agent: E\nCrawl-Delay: 8",
         delays: &[("D", Some(8_000_000))],
     },
-    DelayRow {
+    DelayCase {
         name: "first_captured",
         file: b"Crawl-Delay: 5\nCrawl-Delay: 6",
         delays: &[(BOB, Some(5_000_000))],
     },
-    DelayRow {
+    DelayCase {
         name: "agent_names",
         file: b"User-Agent: a\nCrawl-Delay: 3\nUser-Agent: *\nCrawl-Delay: 4",
         delays: &[
@@ -75,17 +75,17 @@ const DELAYS: &[DelayRow] = &[
             ("", Some(4_000_000)),
         ],
     },
-    DelayRow {
+    DelayCase {
         name: "own_delay_and_fallback",
         file: b"Crawl-Delay: 42\nUser-Agent: *\nDisallow: /blah\nUser-Agent: SpecialFriend\nAllow: /\nCrawl-Delay: 1",
         delays: &[(BOB, Some(42_000_000)), ("SpecialFriend", Some(1_000_000))],
     },
-    DelayRow {
+    DelayCase {
         name: "nul_as_lf",
         file: NUL_AS_LF,
         delays: &[(BOB, Some(42_000_000))],
     },
-    DelayRow {
+    DelayCase {
         name: "shared_group",
         file: b"User-Agent: A\nCrawl-Delay: 42\n# A B\nUser-Agent: B\nUser-Agent: C\nCrawl-Delay: 420\n\
             User-Agent: *\nCRAWL-Delay : 3600\nUser-Agent: Zero\nCrawl-Delay: 0",
@@ -96,17 +96,17 @@ const DELAYS: &[DelayRow] = &[
             ("Zero", Some(0)),
         ],
     },
-    DelayRow {
+    DelayCase {
         name: "broken_text",
         file: b"User-Agent: A\nCrawl-Delay:4.2\nUser-Agent: C\nCrawl-Delay: A\xC2\xC3\xB1B",
         delays: &[("A", Some(4_200_000)), ("C", None)],
     },
-    DelayRow {
+    DelayCase {
         name: "greatest",
         file: b"Crawl-Delay: 115792089237316195423570985008687907853269984665640564039457584007913129639936",
         delays: &[(BOB, Some(u64::MAX))],
     },
-    DelayRow {
+    DelayCase {
         name: "spellings",
         file: b"user-agent: FooBot\ncrawl-delay: 42\nuser agent: BobBot\ncrawl delay: 420\n\
             useragent: EveBot\ncrawldelay: 360",
@@ -116,37 +116,37 @@ const DELAYS: &[DelayRow] = &[
             ("EveBot", Some(360_000_000)),
         ],
     },
-    DelayRow {
+    DelayCase {
         name: "broken_values",
         file: BROKEN_VALUES,
         delays: &[("A", None)],
     },
-    DelayRow {
+    DelayCase {
         name: "many_line_ends",
         file: MANY_LINE_ENDS,
         delays: &[(BOB, Some(4_000_000))],
     },
-    DelayRow {
+    DelayCase {
         name: "no_agent_lines",
         file: NO_AGENT_LINES,
         delays: &[(BOB, Some(5_200_000))],
     },
-    DelayRow {
+    DelayCase {
         name: "news_site",
         file: NEWS_SITE,
         delays: &[(BOB, Some(30_000_000))],
     },
-    DelayRow {
+    DelayCase {
         name: "empty_file",
         file: b"",
         delays: &[(BOB, None)],
     },
 ];
 
-/// Each agent of the row gets its delay of a form of the file.
-fn check_delays(rt: &(impl Abort + AllocGlobal), row: &DelayRow, file: &[u8]) {
-    let name = row.name;
-    for (agent, want) in row.delays {
+/// Each agent of the case gets its delay of a form of the file.
+fn check_delays(rt: &(impl Abort + AllocGlobal), case: &DelayCase, file: &[u8]) {
+    let name = case.name;
+    for (agent, want) in case.delays {
         let delay = robot_of(rt, name, agent, file).delay;
         assert!(rt; delay == *want, "{name}: {agent}: {delay:?}");
     }
@@ -167,9 +167,9 @@ fn texts_are_read_as_microseconds(rt: HostRuntime) -> Result<(), Fail> {
 
 #[test]
 fn each_agent_gets_its_delay(rt: HostRuntime) -> Result<(), Fail> {
-    for row in DELAYS {
-        for file in &forms_of(rt.alloc(), row.file)? {
-            check_delays(&rt, row, file);
+    for case in DELAYS {
+        for file in &forms_of(rt.alloc(), case.file)? {
+            check_delays(&rt, case, file);
         }
     }
     Ok(())

@@ -1,11 +1,11 @@
 //! Which groups of a file an agent gets, and the sitemaps that every agent gets.
 use crate::files::{BROKEN_VALUES, CRAWLER_EXAMPLE, MANY_LINE_ENDS, MERGED_GROUPS, NUL_AS_LF};
-use crate::helpers::{BOB, FileRow, check_file, check_file_at, check_nothing, forms_of, robot_of};
+use crate::helpers::{BOB, FileCase, check_file, check_file_at, check_nothing, forms_of, robot_of};
 use std::process::Abort;
 use std::test::Fail;
 
 /// A file and its sitemaps, for an agent.
-struct SitemapRow {
+struct SitemapCase {
     name: &'static str,
     agent: &'static str,
     file: &'static [u8],
@@ -16,8 +16,8 @@ const OLD_BOTS: &[u8] =
     b"User-agent: unhipbot\nDisallow: /\n\nUser-agent: webcrawler\nUser-agent: excite\nDisallow:\n\n\
     User-agent: *\nDisallow: /org/plans.html\nAllow: /org/\nAllow: /serv\nAllow: /~mak\nDisallow: /";
 
-const GROUPS: &[FileRow] = &[
-    FileRow {
+const GROUPS: &[FileCase] = &[
+    FileCase {
         name: "crawler_example",
         agent: "FerrisCrawler",
         file: CRAWLER_EXAMPLE,
@@ -29,31 +29,31 @@ const GROUPS: &[FileRow] = &[
             ("/forest/tree/snake.py", false),
         ],
     },
-    FileRow {
+    FileCase {
         name: "separators",
         agent: "FooBot",
         file: b"user-agent: FooBot\ndisallow:/a\ndissallow/b\ndisallow    /c",
         verdicts: &[("/a", false), ("/b", true), ("/c", false)],
     },
-    FileRow {
+    FileCase {
         name: "empty_agent",
         agent: "",
         file: b"User-Agent:\nDisallow: /",
         verdicts: &[("/x", false)],
     },
-    FileRow {
+    FileCase {
         name: "agent_beyond_ascii",
         agent: "Ä",
         file: b"User-Agent: \xC3\x84\nDisallow: /",
         verdicts: &[("/x", false)],
     },
-    FileRow {
+    FileCase {
         name: "no_lowering_beyond_ascii",
         agent: "ä",
         file: b"User-Agent: \xC3\x84\nDisallow: /",
         verdicts: &[("/x", true)],
     },
-    FileRow {
+    FileCase {
         name: "agent_of_other_case",
         agent: "Agent",
         file: b"User-Agent: agent\nDisallow: /path;params?query",
@@ -62,37 +62,37 @@ const GROUPS: &[FileRow] = &[
             false,
         )],
     },
-    FileRow {
+    FileCase {
         name: "nul_as_lf",
         agent: BOB,
         file: NUL_AS_LF,
         verdicts: &[("/family", true), ("/family/photos", false)],
     },
-    FileRow {
+    FileCase {
         name: "cr_nul",
         agent: BOB,
         file: b"Disallow: /a\r\0Disallow: /b",
         verdicts: &[("/a", false), ("/b", false), ("/c", true)],
     },
-    FileRow {
+    FileCase {
         name: "broken_values",
         agent: "A",
         file: BROKEN_VALUES,
         verdicts: &[("/bob/", false)],
     },
-    FileRow {
+    FileCase {
         name: "many_line_ends",
         agent: BOB,
         file: MANY_LINE_ENDS,
         verdicts: &[("/en", true), ("/fi", false)],
     },
-    FileRow {
+    FileCase {
         name: "many_line_ends_of_all",
         agent: "Z",
         file: MANY_LINE_ENDS,
         verdicts: &[("/en", false)],
     },
-    FileRow {
+    FileCase {
         name: "old_bots_of_all",
         agent: "anything",
         file: OLD_BOTS,
@@ -105,7 +105,7 @@ const GROUPS: &[FileRow] = &[
             ("/~mak/mak.html", true),
         ],
     },
-    FileRow {
+    FileCase {
         name: "old_bots_refused",
         agent: "unhipbot",
         file: OLD_BOTS,
@@ -118,7 +118,7 @@ const GROUPS: &[FileRow] = &[
             ("/~mak/mak.html", false),
         ],
     },
-    FileRow {
+    FileCase {
         name: "old_bots_free",
         agent: "excite",
         file: OLD_BOTS,
@@ -133,8 +133,8 @@ const GROUPS: &[FileRow] = &[
     },
 ];
 
-const MERGED: &[FileRow] = &[
-    FileRow {
+const MERGED: &[FileCase] = &[
+    FileCase {
         name: "merged_groups",
         agent: "FooBot",
         file: MERGED_GROUPS,
@@ -145,7 +145,7 @@ const MERGED: &[FileRow] = &[
             ("/foo/bar/", false),
         ],
     },
-    FileRow {
+    FileCase {
         name: "group_in_the_middle",
         agent: "BarBot",
         file: MERGED_GROUPS,
@@ -156,7 +156,7 @@ const MERGED: &[FileRow] = &[
             ("/foo/bar/", false),
         ],
     },
-    FileRow {
+    FileCase {
         name: "run_of_two_agents",
         agent: "BazBot",
         file: MERGED_GROUPS,
@@ -164,26 +164,26 @@ const MERGED: &[FileRow] = &[
     },
 ];
 
-const SITEMAPS: &[SitemapRow] = &[
-    SitemapRow {
+const SITEMAPS: &[SitemapCase] = &[
+    SitemapCase {
         name: "crawler_example",
         agent: "FerrisCrawler",
         file: CRAWLER_EXAMPLE,
         sitemaps: &["https://www.example.com/site.xml"],
     },
-    SitemapRow {
+    SitemapCase {
         name: "spellings",
         agent: BOB,
         file: b"site-map: /a\nsitemap: /b\nsite map: /\xE3\x83\x86",
         sitemaps: &["/a", "/b", "/テ"],
     },
-    SitemapRow {
+    SitemapCase {
         name: "broken_values",
         agent: "A",
         file: BROKEN_VALUES,
         sitemaps: &[],
     },
-    SitemapRow {
+    SitemapCase {
         name: "empty_file",
         agent: BOB,
         file: b"",
@@ -191,23 +191,23 @@ const SITEMAPS: &[SitemapRow] = &[
     },
 ];
 
-/// The row's agent gets these sitemaps of a form of the file.
-fn check_sitemaps(rt: &(impl Abort + AllocGlobal), row: &SitemapRow, file: &[u8]) {
-    let name = row.name;
-    let sitemaps = robot_of(rt, name, row.agent, file).sitemaps;
+/// The case's agent gets these sitemaps of a form of the file.
+fn check_sitemaps(rt: &(impl Abort + AllocGlobal), case: &SitemapCase, file: &[u8]) {
+    let name = case.name;
+    let sitemaps = robot_of(rt, name, case.agent, file).sitemaps;
     assert!(rt;
-        sitemaps.len() == row.sitemaps.len(),
+        sitemaps.len() == case.sitemaps.len(),
         "{name}: {sitemaps:?}"
     );
-    for (sitemap, want) in sitemaps.iter().zip(row.sitemaps) {
+    for (sitemap, want) in sitemaps.iter().zip(case.sitemaps) {
         assert!(rt; sitemap.as_str() == *want, "{name}: {sitemap:?}");
     }
 }
 
 #[test]
 fn agents_get_the_rules_of_their_groups(rt: HostRuntime) -> Result<(), Fail> {
-    for row in GROUPS {
-        check_file(&rt, row);
+    for case in GROUPS {
+        check_file(&rt, case);
     }
     Ok(())
 }
@@ -222,18 +222,18 @@ fn a_group_without_lines_gives_nothing(rt: HostRuntime) -> Result<(), Fail> {
 
 #[test]
 fn groups_of_one_agent_are_merged(rt: HostRuntime) -> Result<(), Fail> {
-    for row in MERGED {
-        check_file(&rt, row);
-        check_file_at(&rt, row, "http://foo.bar");
+    for case in MERGED {
+        check_file(&rt, case);
+        check_file_at(&rt, case, "http://foo.bar");
     }
     Ok(())
 }
 
 #[test]
 fn every_agent_gets_the_sitemaps(rt: HostRuntime) -> Result<(), Fail> {
-    for row in SITEMAPS {
-        for file in &forms_of(rt.alloc(), row.file)? {
-            check_sitemaps(&rt, row, file);
+    for case in SITEMAPS {
+        for file in &forms_of(rt.alloc(), case.file)? {
+            check_sitemaps(&rt, case, file);
         }
     }
     Ok(())

@@ -4,7 +4,7 @@ use std::process::Abort;
 use texting_robots::view::View;
 use texting_robots::{Decision, Robot};
 
-/// The agent of the rows that name none.
+/// The agent of the cases that name none.
 pub const BOB: &str = "BobBot";
 
 /// A file by its parts, each with how often it stands.
@@ -20,7 +20,7 @@ pub type Verdicts = &'static [(&'static str, bool)];
 pub type Decisions = &'static [(&'static str, bool, Option<usize>)];
 
 /// What an agent gets of a file.
-pub struct FileRow {
+pub struct FileCase {
     pub name: &'static str,
     pub agent: &'static str,
     pub file: &'static [u8],
@@ -120,17 +120,17 @@ fn check_verdicts(
     }
 }
 
-/// Reads the forms of the row's file, and asks with the host before each text.
-pub fn check_file_at(rt: &(impl Abort + AllocGlobal), row: &FileRow, host: &str) {
-    for file in &forms_of(rt.alloc(), row.file).expect(rt, row.name) {
-        let robot = robot_of(rt, row.name, row.agent, file);
-        check_verdicts(rt, row.name, &robot, host, row.verdicts);
+/// Reads the forms of the case's file, and asks with the host before each text.
+pub fn check_file_at(rt: &(impl Abort + AllocGlobal), case: &FileCase, host: &str) {
+    for file in &forms_of(rt.alloc(), case.file).expect(rt, case.name) {
+        let robot = robot_of(rt, case.name, case.agent, file);
+        check_verdicts(rt, case.name, &robot, host, case.verdicts);
     }
 }
 
 /// The same with the texts as they stand.
-pub fn check_file(rt: &(impl Abort + AllocGlobal), row: &FileRow) {
-    check_file_at(rt, row, "");
+pub fn check_file(rt: &(impl Abort + AllocGlobal), case: &FileCase) {
+    check_file_at(rt, case, "");
 }
 
 /// Asks the robot for each URL, and for the line that decides on its prepared text.

@@ -12,14 +12,14 @@ use texting_robots::view::View;
 use texting_robots::{Robot, get_robots_url};
 
 /// A file and texts, and whether each may be fetched.
-struct LongRow {
+struct LongCase {
     name: &'static str,
     file: FileParts,
     texts: &'static [(TextParts, bool)],
 }
 
 /// A file and a text, whether it may be fetched, and how many looks at most say so.
-struct LookRow {
+struct LookCase {
     name: &'static str,
     file: FileParts,
     text: TextParts,
@@ -42,13 +42,13 @@ const ONE_LINE: &[(&str, FileParts, Line<'static>)] = &[
     ),
 ];
 
-const LONG: &[LongRow] = &[
-    LongRow {
+const LONG: &[LongCase] = &[
+    LongCase {
         name: "many_stars",
         file: &[(b"Disallow: ", 1), (b"*", 400_000), (b"\nAllow: /x", 1)],
         texts: &[(&[("/x", 1)], false), (&[("/robots.txt", 1)], true)],
     },
-    LongRow {
+    LongCase {
         name: "long_rule",
         file: &[(b"Disallow: /", 1), (b"A", 1_000_000)],
         texts: &[
@@ -60,29 +60,29 @@ const LONG: &[LongRow] = &[
     },
 ];
 
-const LOOKS: &[LookRow] = &[
-    LookRow {
+const LOOKS: &[LookCase] = &[
+    LookCase {
         name: "look_count",
         file: &[(b"Disallow: /*aaaab", 1)],
         text: &[("/", 1), ("a", 1000)],
         allowed: true,
         most: 2_002,
     },
-    LookRow {
+    LookCase {
         name: "long_piece",
         file: &[(b"Disallow: /*", 1), (b"a", 2000), (b"b", 1)],
         text: &[("/", 1), ("a", 100_000)],
         allowed: true,
         most: 200_002,
     },
-    LookRow {
+    LookCase {
         name: "many_rules",
         file: &[(b"Disallow: /*aaaab\n", 1000)],
         text: &[("/", 1), ("a", 1000)],
         allowed: true,
         most: 2_002_000,
     },
-    LookRow {
+    LookCase {
         name: "shorter_rules_are_passed_over",
         file: &[(b"Allow: /*b\n", 1000), (b"Disallow: /aaaa", 1)],
         text: &[("/", 1), ("a", 1004)],
@@ -114,30 +114,30 @@ const DELAYS: &[(&str, TextParts, u64)] = &[
     ("long_exponent_of_zero", &[("0e", 1), ("9", 1_000_000)], 0),
 ];
 
-/// Asks the robot of a form of the row's file for each of its texts.
-fn check_long(rt: &(impl Abort + AllocGlobal), row: &LongRow, file: &[u8]) {
-    let name = row.name;
+/// Asks the robot of a form of the case's file for each of its texts.
+fn check_long(rt: &(impl Abort + AllocGlobal), case: &LongCase, file: &[u8]) {
+    let name = case.name;
     let robot = robot_of(rt, name, BOB, file);
-    for (parts, want) in row.texts {
+    for (parts, want) in case.texts {
         let text = long_text(rt.alloc(), parts).expect(rt, name);
         check_url(rt, name, &robot, text.as_str(), *want);
     }
 }
 
-/// Asks the robot of a form of the row's file by views, and counts the looks.
-fn check_looks(rt: &(impl Abort + AllocGlobal), row: &LookRow, file: &[u8]) {
-    let name = row.name;
-    let text = long_text(rt.alloc(), row.text).expect(rt, name);
+/// Asks the robot of a form of the case's file by views, and counts the looks.
+fn check_looks(rt: &(impl Abort + AllocGlobal), case: &LookCase, file: &[u8]) {
+    let name = case.name;
+    let text = long_text(rt.alloc(), case.text).expect(rt, name);
     let robot = robot_of(rt, name, BOB, file);
-    check_prepared(rt, name, &robot, text.as_str(), row.allowed);
+    check_prepared(rt, name, &robot, text.as_str(), case.allowed);
     let mut view = View::new(text.as_str());
     robot.allowed_view(&mut view);
     let seen = view.seen();
-    assert!(rt; seen <= row.most, "{name}: {seen} looks");
+    assert!(rt; seen <= case.most, "{name}: {seen} looks");
     let mut view = View::new(text.as_str());
     robot.decision(&mut view);
     let seen = view.seen();
-    assert!(rt; seen <= row.most, "{name}: {seen} looks, with its line");
+    assert!(rt; seen <= case.most, "{name}: {seen} looks, with its line");
 }
 
 #[test]
@@ -153,10 +153,10 @@ fn long_texts_have_their_lines(rt: HostRuntime) -> Result<(), Fail> {
 
 #[test]
 fn long_files_are_read(rt: HostRuntime) -> Result<(), Fail> {
-    for row in LONG {
-        let file = long_bytes(rt.alloc(), row.file)?;
+    for case in LONG {
+        let file = long_bytes(rt.alloc(), case.file)?;
         for file in &forms_of(rt.alloc(), &file)? {
-            check_long(&rt, row, file);
+            check_long(&rt, case, file);
         }
     }
     Ok(())
@@ -187,12 +187,12 @@ fn long_urls(rt: HostRuntime) -> Result<(), Fail> {
     assert!(rt; prepared.as_str() == path.as_str());
     let address = get_robots_url(rt.alloc(), url.as_str())?;
     assert!(rt; address.as_str() == "https://www.example.com/robots.txt");
-    let rows: [(&[u8], bool); 3] = [
+    let cases: [(&[u8], bool); 3] = [
         (b"Disallow: /*a$", false),
         (b"Disallow: /*a$\nAllow: /aaaaaa", true),
         (b"Disallow: /*ab", true),
     ];
-    for (file, want) in rows {
+    for (file, want) in cases {
         let robot = robot_of(&rt, "long_url", BOB, file);
         let answer = robot.allowed(rt.alloc(), url.as_str())?;
         assert!(rt; answer == want, "{robot:?}");
@@ -202,10 +202,10 @@ fn long_urls(rt: HostRuntime) -> Result<(), Fail> {
 
 #[test]
 fn looks_are_bounded(rt: HostRuntime) -> Result<(), Fail> {
-    for row in LOOKS {
-        let file = long_bytes(rt.alloc(), row.file)?;
+    for case in LOOKS {
+        let file = long_bytes(rt.alloc(), case.file)?;
         for file in &forms_of(rt.alloc(), &file)? {
-            check_looks(&rt, row, file);
+            check_looks(&rt, case, file);
         }
     }
     Ok(())

@@ -1,5 +1,5 @@
-//! Rows on the public calls of the library `texting_robots`: worked examples, and those of its forerunner's tests. Each row
-//! is data, with a name that a failure tells. This crate has tests alone.
+//! Test cases on the public calls of the library `texting_robots`: worked examples, and those of its forerunner's tests. Each
+//! case is data, with a name that a failure tells. This crate has tests alone.
 #![tactic(auto)]
 
 #[cfg(test)]
@@ -8,6 +8,8 @@ mod calls;
 mod decisions;
 #[cfg(test)]
 mod delays;
+#[cfg(test)]
+mod example;
 #[cfg(test)]
 mod files;
 #[cfg(test)]

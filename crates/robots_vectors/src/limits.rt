@@ -8,21 +8,21 @@ use texting_robots::robot::FILE_LIMIT;
 use texting_robots::{Error, Robot};
 
 /// A file, how many bytes of it are read, and what decides then.
-struct LimitRow {
+struct LimitCase {
     name: &'static str,
     file: FileParts,
     limit: usize,
     decisions: Decisions,
 }
 
-const CUT: &[LimitRow] = &[
-    LimitRow {
+const CUT: &[LimitCase] = &[
+    LimitCase {
         name: "in_the_value",
         file: &[(b"Disallow: /abc", 1)],
         limit: 13,
         decisions: &[("/abx", false, Some(1)), ("/a", true, None)],
     },
-    LimitRow {
+    LimitCase {
         name: "before_the_value",
         file: &[(b"Disallow: /abc", 1)],
         limit: 10,
@@ -35,25 +35,25 @@ const CUT: &[LimitRow] = &[
             ("https://example.com/a?b#c", true, Some(1)),
         ],
     },
-    LimitRow {
+    LimitCase {
         name: "nowhere",
         file: &[(b"Disallow: /abc", 1)],
         limit: usize::MAX,
         decisions: &[("/abx", true, None), ("/abc", false, Some(1))],
     },
-    LimitRow {
+    LimitCase {
         name: "behind_a_line_with_a_mark",
         file: &[(b"\xEF\xBB\xBFDisallow: /a", 1)],
         limit: 15,
         decisions: &[("/a", false, Some(1)), ("/x", true, None)],
     },
-    LimitRow {
+    LimitCase {
         name: "in_a_line_with_a_mark",
         file: &[(b"\xEF\xBB\xBFDisallow: /a", 1)],
         limit: 14,
         decisions: &[("/x", false, Some(1))],
     },
-    LimitRow {
+    LimitCase {
         name: "behind_the_limit_of_new",
         file: RULE_BEHIND,
         limit: 600_000,
@@ -87,10 +87,10 @@ fn limited(rt: &(impl Abort + AllocGlobal), name: &str, file: &[u8], limit: usiz
 
 #[test]
 fn lines_are_cut_at_the_limit(rt: HostRuntime) -> Result<(), Fail> {
-    for row in CUT {
-        let file = long_bytes(rt.alloc(), row.file)?;
-        let robot = limited(&rt, row.name, &file, row.limit);
-        check_decisions(&rt, row.name, &robot, row.decisions);
+    for case in CUT {
+        let file = long_bytes(rt.alloc(), case.file)?;
+        let robot = limited(&rt, case.name, &file, case.limit);
+        check_decisions(&rt, case.name, &robot, case.decisions);
     }
     Ok(())
 }

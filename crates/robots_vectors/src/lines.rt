@@ -6,7 +6,7 @@ use std::test::Fail;
 use texting_robots::parser::{Line, LineIter, file_lines, lines, robots_txt_parse};
 
 /// A text and its lines.
-struct LinesRow {
+struct LinesCase {
     name: &'static str,
     text: &'static [u8],
     lines: &'static [Line<'static>],
@@ -25,8 +25,8 @@ const MARKED: &[Line<'static>] = &[Line::UserAgent(b"foo"), Line::Allow(b"/AnyVa
 
 const CR_NUL: &[u8] = b"Disallow: /a\r\0Allow: /b";
 
-const TEXTS: &[LinesRow] = &[
-    LinesRow {
+const TEXTS: &[LinesCase] = &[
+    LinesCase {
         name: "slow_delay",
         text: b"User-Agent: SmerBot\nDisallow: /path\nAllow:    /path/exception   # ONLY THIS IS ALLOWED\n\
             Crawl-delay : 60 # Very slow delay\n\nsitemap: https://example.com/sitemap.xml",
@@ -39,7 +39,7 @@ const TEXTS: &[LinesRow] = &[
             Line::Sitemap(b"https://example.com/sitemap.xml"),
         ],
     },
-    LinesRow {
+    LinesCase {
         name: "line_ends",
         text: b"a\r\r\nb\n\nc",
         lines: &[
@@ -49,32 +49,32 @@ const TEXTS: &[LinesRow] = &[
             Line::Raw(b"c"),
         ],
     },
-    LinesRow {
+    LinesCase {
         name: "lf_before_cr",
         text: b"\n\r",
         lines: &[Line::Raw(b""), Line::Raw(b"")],
     },
-    LinesRow {
+    LinesCase {
         name: "one_ended_line",
         text: b"a\n",
         lines: &[Line::Raw(b"a")],
     },
-    LinesRow {
+    LinesCase {
         name: "empty_file",
         text: b"",
         lines: &[],
     },
-    LinesRow {
+    LinesCase {
         name: "partial_front",
         text: b"\xBBAllow: /",
         lines: &[Line::Allow(b"/")],
     },
-    LinesRow {
+    LinesCase {
         name: "broken_front",
         text: b"\xEF\x11\xBFUser-Agent: foo",
         lines: &[Line::Raw(b"\x11\xBFUser-Agent: foo")],
     },
-    LinesRow {
+    LinesCase {
         name: "mark_in_the_middle",
         text: b"User-Agent: foo\n\xEF\xBB\xBFAllow: /AnyValue",
         lines: &[
@@ -82,117 +82,117 @@ const TEXTS: &[LinesRow] = &[
             Line::Raw(b"\xEF\xBB\xBFAllow: /AnyValue"),
         ],
     },
-    LinesRow {
+    LinesCase {
         name: "cr_nul",
         text: CR_NUL,
         lines: &[Line::Disallow(b"/a"), Line::Raw(b"\0Allow: /b")],
     },
-    LinesRow {
+    LinesCase {
         name: "tabs_and_capitals",
         text: b"DISALLAW\t:\t/a\t# x",
         lines: &[Line::Disallow(b"/a")],
     },
-    LinesRow {
+    LinesCase {
         name: "no_break_space_behind",
         text: b"Allow: /a\xC2\xA0",
         lines: &[Line::Allow(b"/a")],
     },
-    LinesRow {
+    LinesCase {
         name: "key_of_two_words_alone",
         text: b"Site map",
         lines: &[Line::Raw(b"Site map")],
     },
-    LinesRow {
+    LinesCase {
         name: "key_alone",
         text: b"Disallow",
         lines: &[Line::Raw(b"Disallow")],
     },
-    LinesRow {
+    LinesCase {
         name: "blank_and_comment",
         text: b"Disallow #/x",
         lines: &[Line::Allow(b"/")],
     },
-    LinesRow {
+    LinesCase {
         name: "comment_at_key",
         text: b"Disallow#x",
         lines: &[Line::Raw(b"Disallow#x")],
     },
-    LinesRow {
+    LinesCase {
         name: "second_colon",
         text: b"Disallow:/a:b",
         lines: &[Line::Disallow(b"/a:b")],
     },
-    LinesRow {
+    LinesCase {
         name: "empty_agent",
         text: b"user-agent:",
         lines: &[Line::UserAgent(b"")],
     },
-    LinesRow {
+    LinesCase {
         name: "agent_without_colon",
         text: b"user-agent FooBot",
         lines: &[Line::UserAgent(b"FooBot")],
     },
-    LinesRow {
+    LinesCase {
         name: "delay_with_fraction",
         text: b"    crawl-delay  : 3.14",
         lines: &[Line::CrawlDelay(Some(3_140_000))],
     },
-    LinesRow {
+    LinesCase {
         name: "delay_whole",
         text: b"    crawl-delay  : 60",
         lines: &[Line::CrawlDelay(Some(60_000_000))],
     },
-    LinesRow {
+    LinesCase {
         name: "delay_zero",
         text: b"    crawl-delay  : 0.0",
         lines: &[Line::CrawlDelay(Some(0))],
     },
-    LinesRow {
+    LinesCase {
         name: "delay_below_zero",
         text: b"    crawl-delay  : -1.618",
         lines: &[Line::Raw(b"    crawl-delay  : -1.618")],
     },
-    LinesRow {
+    LinesCase {
         name: "refused_delay",
         text: b"Crawl-delay: wait # x",
         lines: &[Line::Raw(b"Crawl-delay: wait # x")],
     },
-    LinesRow {
+    LinesCase {
         name: "empty_sitemap",
         text: b"Sitemap:",
         lines: &[Line::Sitemap(b"")],
     },
-    LinesRow {
+    LinesCase {
         name: "six_lines",
         text: b"User-Agent: foo\nAllow: /some/path\nUser-Agent: bar\n\n\nDisallow: /",
         lines: SIX,
     },
-    LinesRow {
+    LinesCase {
         name: "six_lines_and_a_last_lf",
         text: b"User-Agent: foo\nAllow: /some/path\nUser-Agent: bar\n\n\nDisallow: /\n",
         lines: SIX,
     },
-    LinesRow {
+    LinesCase {
         name: "six_lines_with_cr",
         text: b"User-Agent: foo\r\nAllow: /some/path\r\nUser-Agent: bar\r\n\r\n\r\nDisallow: /",
         lines: SIX,
     },
-    LinesRow {
+    LinesCase {
         name: "six_lines_with_cr_and_a_last_one",
         text: b"User-Agent: foo\r\nAllow: /some/path\r\nUser-Agent: bar\r\n\r\n\r\nDisallow: /\r\n",
         lines: SIX,
     },
-    LinesRow {
+    LinesCase {
         name: "whole_mark",
         text: b"\xEF\xBB\xBFUser-Agent: foo\nAllow: /AnyValue",
         lines: MARKED,
     },
-    LinesRow {
+    LinesCase {
         name: "two_bytes_of_a_mark",
         text: b"\xEF\xBBUser-Agent: foo\nAllow: /AnyValue",
         lines: MARKED,
     },
-    LinesRow {
+    LinesCase {
         name: "one_byte_of_a_mark",
         text: b"\xEFUser-Agent: foo\nAllow: /AnyValue",
         lines: MARKED,
@@ -200,18 +200,18 @@ const TEXTS: &[LinesRow] = &[
 ];
 
 // texts with NUL, which ends a line of a file
-const NUL_TEXTS: &[LinesRow] = &[
-    LinesRow {
+const NUL_TEXTS: &[LinesCase] = &[
+    LinesCase {
         name: "cr_nul",
         text: CR_NUL,
         lines: &[Line::Disallow(b"/a"), Line::Allow(b"/b")],
     },
-    LinesRow {
+    LinesCase {
         name: "nul_first",
         text: b"\0Disallow: /",
         lines: &[Line::Raw(b""), Line::Disallow(b"/")],
     },
-    LinesRow {
+    LinesCase {
         name: "nul_among_line_ends",
         text: NUL_AS_LF,
         lines: &[
@@ -268,23 +268,23 @@ pub fn check_lines(rt: &(impl Abort + AllocGlobal), name: &str, text: &[u8], wan
     }
 }
 
-/// The lines of a form of the row's text, where only raw lines differ.
-fn check_form(rt: &(impl Abort + AllocGlobal), row: &LinesRow, text: &[u8]) {
-    let name = row.name;
+/// The lines of a form of the case's text, where only raw lines differ.
+fn check_form(rt: &(impl Abort + AllocGlobal), case: &LinesCase, text: &[u8]) {
+    let name = case.name;
     let parsed = robots_txt_parse(rt.alloc(), text).expect(rt, name);
-    let indented = text.len() > row.text.len();
+    let indented = text.len() > case.text.len();
     assert!(rt;
-        are_lines(&parsed, row.lines, indented),
+        are_lines(&parsed, case.lines, indented),
         "{name}: {parsed:?}"
     );
 }
 
 #[test]
 fn texts_have_their_lines(rt: HostRuntime) -> Result<(), Fail> {
-    for row in TEXTS {
-        check_lines(&rt, row.name, row.text, row.lines);
-        for text in &forms_of(rt.alloc(), row.text)? {
-            check_form(&rt, row, text);
+    for case in TEXTS {
+        check_lines(&rt, case.name, case.text, case.lines);
+        for text in &forms_of(rt.alloc(), case.text)? {
+            check_form(&rt, case, text);
         }
     }
     Ok(())
@@ -292,8 +292,8 @@ fn texts_have_their_lines(rt: HostRuntime) -> Result<(), Fail> {
 
 #[test]
 fn nul_ends_a_line_of_a_file(rt: HostRuntime) -> Result<(), Fail> {
-    for row in NUL_TEXTS {
-        check_each(&rt, row.name, file_lines(row.text), row.lines);
+    for case in NUL_TEXTS {
+        check_each(&rt, case.name, file_lines(case.text), case.lines);
     }
     Ok(())
 }

@@ -6,81 +6,81 @@ use texting_robots::minregex::MinRegex;
 use texting_robots::{Error, Robot};
 
 /// A file, and whether the agent's robot is refused for an overlong rule.
-struct RefusalRow {
+struct RefusalCase {
     name: &'static str,
     agent: &'static str,
     file: FileParts,
     refused: bool,
 }
 
-const FILES: &[RefusalRow] = &[
-    RefusalRow {
+const FILES: &[RefusalCase] = &[
+    RefusalCase {
         name: "longest",
         agent: BOB,
         file: &[(b"Disallow: /", 1), (b"a", 4094), (b"$", 1)],
         refused: false,
     },
-    RefusalRow {
+    RefusalCase {
         name: "one_byte_more",
         agent: BOB,
         file: &[(b"Disallow: /", 1), (b"a", 4095), (b"$", 1)],
         refused: true,
     },
-    RefusalRow {
+    RefusalCase {
         name: "two_stars_as_one",
         agent: BOB,
         file: &[(b"Disallow: /", 1), (b"a", 4093), (b"**$", 1)],
         refused: false,
     },
-    RefusalRow {
+    RefusalCase {
         name: "escaped",
         agent: BOB,
         file: &[(b"Disallow: /", 1), (b"\xC3\xA9", 682), (b"$", 1)],
         refused: false,
     },
-    RefusalRow {
+    RefusalCase {
         name: "escaped_one_more",
         agent: BOB,
         file: &[(b"Disallow: /", 1), (b"\xC3\xA9", 683), (b"$", 1)],
         refused: true,
     },
-    RefusalRow {
+    RefusalCase {
         name: "of_another_agent",
         agent: BOB,
         file: &[(b"User-Agent: x\nDisallow: /", 1), (b"a", 4095), (b"$", 1)],
         refused: false,
     },
-    RefusalRow {
+    RefusalCase {
         name: "broken_text",
         agent: BOB,
         file: &[(b"Disallow: /", 1), (b"a", 4095), (b"\xFF$", 1)],
         refused: false,
     },
-    RefusalRow {
+    RefusalCase {
         name: "without_dollar",
         agent: BOB,
         file: &[(b"Disallow: /", 1), (b"a", 4095)],
         refused: false,
     },
-    RefusalRow {
+    RefusalCase {
         name: "allow",
         agent: BOB,
         file: &[(b"Allow: /", 1), (b"a", 4095), (b"$", 1)],
         refused: true,
     },
-    RefusalRow {
+    RefusalCase {
         name: "allow_of_another_agent",
         agent: BOB,
         file: &[(b"User-Agent: x\nAllow: /", 1), (b"a", 4095), (b"$", 1)],
         refused: false,
     },
-    RefusalRow {
+    RefusalCase {
         name: "allow_of_broken_text",
         agent: BOB,
         file: &[(b"Allow: /", 1), (b"a", 4095), (b"\xFF$", 1)],
         refused: false,
     },
-    RefusalRow {
+    RefusalCase {
         name: "many_stars",
         agent: BOB,
         file: &[
@@ -92,7 +92,7 @@ const FILES: &[RefusalRow] = &[
         ],
         refused: true,
     },
-    RefusalRow {
+    RefusalCase {
         name: "many_stars_apart",
         agent: BOB,
         file: &[
@@ -117,12 +117,12 @@ fn is_refused(rt: &(impl Abort + AllocGlobal), name: &str, agent: &str, file: &[
 
 #[test]
 fn robots_are_refused_for_overlong_rules(rt: HostRuntime) -> Result<(), Fail> {
-    for row in FILES {
-        let name = row.name;
-        let file = long_bytes(rt.alloc(), row.file)?;
+    for case in FILES {
+        let name = case.name;
+        let file = long_bytes(rt.alloc(), case.file)?;
         for file in &forms_of(rt.alloc(), &file)? {
             assert!(rt;
-                is_refused(&rt, name, row.agent, file) == row.refused,
+                is_refused(&rt, name, case.agent, file) == case.refused,
                 "{name}"
             );
         }

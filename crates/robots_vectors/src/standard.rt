@@ -1,6 +1,6 @@
 //! What RFC 9309 answers: its two examples, and what its sections on groups, matching and other records say; and where
 //! this library departs from it on purpose, each departure with a smallest file.
-use crate::helpers::{FileRow, check_file, check_file_at, robot_of};
+use crate::helpers::{FileCase, check_file, check_file_at, robot_of};
 use std::test::Fail;
 
 /// The example of section 5.1.
@@ -13,8 +13,8 @@ const SIMPLE: &[u8] =
 const LONGEST: &[u8] =
     b"User-Agent: foobot\nAllow: /example/page/\nDisallow: /example/page/disallowed.gif\n";
 
-const EXAMPLES: &[FileRow] = &[
-    FileRow {
+const EXAMPLES: &[FileCase] = &[
+    FileCase {
         name: "simple_for_any_other",
         agent: "otherbot",
         file: SIMPLE,
@@ -27,7 +27,7 @@ const EXAMPLES: &[FileRow] = &[
             ("/pictures/picture.gif", false),
         ],
     },
-    FileRow {
+    FileCase {
         name: "simple_for_foobot",
         agent: "foobot",
         file: SIMPLE,
@@ -40,7 +40,7 @@ const EXAMPLES: &[FileRow] = &[
             ("/publications/", false),
         ],
     },
-    FileRow {
+    FileCase {
         name: "simple_for_barbot",
         agent: "barbot",
         file: SIMPLE,
@@ -52,7 +52,7 @@ const EXAMPLES: &[FileRow] = &[
             ("/picture.gif", true),
         ],
     },
-    FileRow {
+    FileCase {
         name: "simple_for_bazbot",
         agent: "bazbot",
         file: SIMPLE,
@@ -64,7 +64,7 @@ const EXAMPLES: &[FileRow] = &[
             ("/picture.gif", true),
         ],
     },
-    FileRow {
+    FileCase {
         name: "simple_for_quxbot",
         agent: "quxbot",
         file: SIMPLE,
@@ -74,7 +74,7 @@ const EXAMPLES: &[FileRow] = &[
             ("/picture.gif", true),
         ],
     },
-    FileRow {
+    FileCase {
         name: "longest_match",
         agent: "foobot",
         file: LONGEST,
@@ -86,8 +86,8 @@ const EXAMPLES: &[FileRow] = &[
     },
 ];
 
-const SECTIONS: &[FileRow] = &[
-    FileRow {
+const SECTIONS: &[FileCase] = &[
+    FileCase {
         name: "groups_of_one_name_are_one",
         agent: "ExampleBot",
         file: b"user-agent: ExampleBot\ndisallow: /foo\ndisallow: /bar\n\n\
@@ -99,56 +99,56 @@ const SECTIONS: &[FileRow] = &[
             ("/", true),
         ],
     },
-    FileRow {
+    FileCase {
         name: "a_name_in_any_case",
         agent: "EXAMPLEBOT",
         file: b"user-agent: ExampleBot\ndisallow: /foo\n",
         verdicts: &[("/foo", false), ("/", true)],
     },
-    FileRow {
+    FileCase {
         name: "star_groups_are_one_where_no_name_fits",
         agent: "ExampleBot",
         file: b"user-agent: *\ndisallow: /foo\n\nuser-agent: *\ndisallow: /bar\n\n\
             user-agent: OtherBot\ndisallow: /\n",
         verdicts: &[("/foo", false), ("/bar", false), ("/", true)],
     },
-    FileRow {
+    FileCase {
         name: "no_group_fits",
         agent: "ExampleBot",
         file: b"user-agent: OtherBot\ndisallow: /\n",
         verdicts: &[("/", true), ("/foo", true)],
     },
-    FileRow {
+    FileCase {
         name: "a_rule_before_the_first_group",
         agent: "ExampleBot",
         file: b"disallow: /foo\nuser-agent: ExampleBot\ndisallow: /bar\n",
         verdicts: &[("/foo", true), ("/bar", false)],
     },
-    FileRow {
+    FileCase {
         name: "matching_minds_the_case",
         agent: "ExampleBot",
         file: b"user-agent: *\ndisallow: /foo\n",
         verdicts: &[("/foo", false), ("/FOO", true)],
     },
-    FileRow {
+    FileCase {
         name: "allow_wins_where_both_are_the_same",
         agent: "ExampleBot",
         file: b"user-agent: *\ndisallow: /foo\nallow: /foo\n",
         verdicts: &[("/foo", true)],
     },
-    FileRow {
+    FileCase {
         name: "octets_beyond_ascii",
         agent: "ExampleBot",
         file: b"user-agent: *\ndisallow: /foo/bar/\xE3\x83\x84\n",
         verdicts: &[("/foo/bar/%E3%83%84", false), ("/foo/bar/ツ", false)],
     },
-    FileRow {
+    FileCase {
         name: "comments",
         agent: "ExampleBot",
         file: b"# on its own line\nuser-agent: * # behind a name\ndisallow: /foo # behind a pattern\n",
         verdicts: &[("/foo", false), ("/bar", true)],
     },
-    FileRow {
+    FileCase {
         name: "special_characters",
         agent: "ExampleBot",
         file: b"user-agent: *\ndisallow: /this/path/exactly$\ndisallow: /that/*/exactly\n",
@@ -159,7 +159,7 @@ const SECTIONS: &[FileRow] = &[
             ("/that/exactly", true),
         ],
     },
-    FileRow {
+    FileCase {
         name: "a_sitemap_ends_no_group",
         agent: "ExampleBot",
         file: b"user-agent: ExampleBot\nsitemap: https://example.com/s.xml\nuser-agent: OtherBot\n\
@@ -169,44 +169,44 @@ const SECTIONS: &[FileRow] = &[
 ];
 
 /// Texts that the standard would have judged otherwise.
-const DEPARTURES: &[FileRow] = &[
-    FileRow {
+const DEPARTURES: &[FileCase] = &[
+    FileCase {
         name: "a_delay_ends_a_run_of_agents",
         agent: "a",
         file: b"user-agent:a\ncrawl-delay:1\nuser-agent:b\ndisallow:/\n",
         verdicts: &[("/", true)],
     },
-    FileRow {
+    FileCase {
         name: "an_empty_disallow_is_an_allow",
         agent: "a",
         file: b"user-agent:a\ndisallow:\ndisallow:/\n",
         verdicts: &[("/", true)],
     },
-    FileRow {
+    FileCase {
         name: "white_space_behind_a_pattern_goes",
         agent: "a",
         file: b"user-agent:a\ndisallow:/\xC2\x85\n",
         verdicts: &[("/x", false)],
     },
-    FileRow {
+    FileCase {
         name: "a_delete_is_escaped",
         agent: "a",
         file: b"user-agent:a\ndisallow:/\x7F\n",
         verdicts: &[("/%7F", false)],
     },
-    FileRow {
+    FileCase {
         name: "the_agent_is_compared_whole",
         agent: "a/1",
         file: b"user-agent:a\ndisallow:/\n",
         verdicts: &[("/", true)],
     },
-    FileRow {
+    FileCase {
         name: "without_agents_rules_are_for_all",
         agent: "a",
         file: b"disallow:/\n",
         verdicts: &[("/", false)],
     },
-    FileRow {
+    FileCase {
         name: "a_dollar_inside",
         agent: "a",
         file: b"user-agent:a\ndisallow:/a$b\n",
@@ -215,14 +215,14 @@ const DEPARTURES: &[FileRow] = &[
 ];
 
 /// The same of whole URLs.
-const DEPARTURES_OF_URLS: &[FileRow] = &[
-    FileRow {
+const DEPARTURES_OF_URLS: &[FileCase] = &[
+    FileCase {
         name: "percent_escapes_stay",
         agent: "a",
         file: b"user-agent:a\ndisallow:/%62\ndisallow:/%7Ec\ndisallow:/%C3%B6\n",
         verdicts: &[("/b", true), ("/~c", true), ("/%c3%b6", true)],
     },
-    FileRow {
+    FileCase {
         name: "an_escaped_star_or_dollar",
         agent: "a",
         file: b"user-agent:a\ndisallow:/a%2Ab\ndisallow:/c%24\n",
@@ -233,13 +233,13 @@ const DEPARTURES_OF_URLS: &[FileRow] = &[
             ("/c%24", false),
         ],
     },
-    FileRow {
+    FileCase {
         name: "a_brace_is_escaped_in_a_url_alone",
         agent: "a",
         file: b"user-agent:a\ndisallow:/{\n",
         verdicts: &[("/{", true)],
     },
-    FileRow {
+    FileCase {
         name: "the_fragment_is_matched",
         agent: "a",
         file: b"user-agent:a\ndisallow:/$\n",
@@ -249,18 +249,18 @@ const DEPARTURES_OF_URLS: &[FileRow] = &[
 
 #[test]
 fn standard_examples(rt: HostRuntime) -> Result<(), Fail> {
-    for row in EXAMPLES {
-        check_file(&rt, row);
-        check_file_at(&rt, row, "https://example.com");
+    for case in EXAMPLES {
+        check_file(&rt, case);
+        check_file_at(&rt, case, "https://example.com");
     }
     Ok(())
 }
 
 #[test]
 fn standard_sections(rt: HostRuntime) -> Result<(), Fail> {
-    for row in SECTIONS {
-        check_file(&rt, row);
-        check_file_at(&rt, row, "https://example.com");
+    for case in SECTIONS {
+        check_file(&rt, case);
+        check_file_at(&rt, case, "https://example.com");
     }
     Ok(())
 }
@@ -275,11 +275,11 @@ fn standard_sitemaps(rt: HostRuntime) -> Result<(), Fail> {
 
 #[test]
 fn standard_departures(rt: HostRuntime) -> Result<(), Fail> {
-    for row in DEPARTURES {
-        check_file(&rt, row);
+    for case in DEPARTURES {
+        check_file(&rt, case);
     }
-    for row in DEPARTURES_OF_URLS {
-        check_file_at(&rt, row, "https://example.com");
+    for case in DEPARTURES_OF_URLS {
+        check_file_at(&rt, case, "https://example.com");
     }
     Ok(())
 }

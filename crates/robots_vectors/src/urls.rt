@@ -15,6 +15,11 @@ const PREPARED: &[(&str, &str, &str)] = &[
         "/a/b?c=d&e=f#fragment",
     ),
     ("marks", "/a b\"<>`", "/a%20b%22%3C%3E%60"),
+    ("caret_by_itself", "/^", "/^"),
+    ("caret_in_a_url", "https://h/^", "/%5E"),
+    ("label_that_is_no_punycode", "https://xn--a/b", "/b"),
+    ("drive_letter_that_comes_second", "file:///a/C:/..", "/a/"),
+    ("space_before_a_fragment", "data:a #", "a%20#"),
     (
         "url_in_the_query",
         "http://www.example.com/a/b?c=http://d.e/",
@@ -58,6 +63,16 @@ const ADDRESSES: &[(&str, &str, &str)] = &[
         "port_of_the_secure_scheme",
         "https://h:443/",
         "https://h/robots.txt",
+    ),
+    (
+        "label_that_is_no_punycode",
+        "https://xn--a/",
+        "https://xn--a/robots.txt",
+    ),
+    (
+        "capital_sharp_s",
+        "https://\u{1E9E}/",
+        "https://xn--zca/robots.txt",
     ),
 ];
 
@@ -140,6 +155,18 @@ const NO_URLS: &[(&str, &str, &str, ParseError)] = &[
         "http://1.2.3.4.5/a b#c",
         "http://1.2.3.4.5/a%20b#c",
         ParseError::InvalidIpv4Address,
+    ),
+    (
+        "joiner_between_latin_letters",
+        "https://a\u{200D}b/",
+        "https://a%E2%80%8Db/",
+        ParseError::IdnaError,
+    ),
+    (
+        "space_in_the_host",
+        "https://a b/",
+        "https://a%20b/",
+        ParseError::IdnaError,
     ),
 ];
 

@@ -1,66 +1,66 @@
 //! Which texts a robot may fetch by its rules.
 use crate::files::{NEWS_SITE, NO_AGENT_LINES};
 use crate::helpers::{
-    ALL_ALLOWED, BOB, FileRow, check_file, check_file_at, check_prepared, robot_of,
+    ALL_ALLOWED, BOB, FileCase, check_file, check_file_at, check_prepared, robot_of,
 };
 use std::test::Fail;
 
-const RULES: &[FileRow] = &[
-    FileRow {
+const RULES: &[FileCase] = &[
+    FileCase {
         name: "allow_first",
         agent: BOB,
         file: b"Allow: /a\nDisallow: /a",
         verdicts: &[("/ab", true)],
     },
-    FileRow {
+    FileCase {
         name: "disallow_first",
         agent: BOB,
         file: b"Disallow: /a\nAllow: /a",
         verdicts: &[("/ab", true)],
     },
-    FileRow {
+    FileCase {
         name: "star_behind_dollar",
         agent: BOB,
         file: b"Disallow: /a$*",
         verdicts: &[("/a", false), ("/ab", true)],
     },
-    FileRow {
+    FileCase {
         name: "dollar_inside",
         agent: BOB,
         file: b"Disallow: /a$b",
         verdicts: &[("/a", true), ("/a$b", true)],
     },
-    FileRow {
+    FileCase {
         name: "leftmost_and_end",
         agent: BOB,
         file: b"Disallow: /*aab\nDisallow: /a*b$",
         verdicts: &[("/aaabc", false), ("/abab", false), ("/abba", true)],
     },
-    FileRow {
+    FileCase {
         name: "no_overlap",
         agent: BOB,
         file: b"Disallow: /a*a$",
         verdicts: &[("/a", true), ("/aa", false)],
     },
-    FileRow {
+    FileCase {
         name: "tie_and_anchor",
         agent: BOB,
         file: b"Disallow: /*b\nAllow: /ab\nDisallow: b*c",
         verdicts: &[("/ab", true), ("*abc", true)],
     },
-    FileRow {
+    FileCase {
         name: "tie_behind_a_shorter_rule",
         agent: BOB,
         file: b"Disallow: /ab\nAllow: /*b\nAllow: /",
         verdicts: &[("/ab", true)],
     },
-    FileRow {
+    FileCase {
         name: "length_before_collapsing",
         agent: BOB,
         file: b"Disallow: /***b\nAllow: /aab",
         verdicts: &[("/aab", false)],
     },
-    FileRow {
+    FileCase {
         name: "robots_file",
         agent: BOB,
         file: b"Disallow: /",
@@ -70,13 +70,13 @@ const RULES: &[FileRow] = &[
             ("https://example.com/robots.txt#a", false),
         ],
     },
-    FileRow {
+    FileCase {
         name: "braces",
         agent: BOB,
         file: b"Disallow: /{x} y",
         verdicts: &[("/{x} y", false)],
     },
-    FileRow {
+    FileCase {
         name: "escaped_rules",
         agent: BOB,
         file: b"Disallow: /a b",
@@ -86,31 +86,31 @@ const RULES: &[FileRow] = &[
             ("/a%20b", false),
         ],
     },
-    FileRow {
+    FileCase {
         name: "empty_rules",
         agent: BOB,
         file: b"Disallow:\nAllow:",
         verdicts: ALL_ALLOWED,
     },
-    FileRow {
+    FileCase {
         name: "empty_allow",
         agent: BOB,
         file: b"Disallow: /\nAllow:",
         verdicts: &[("/x", false)],
     },
-    FileRow {
+    FileCase {
         name: "lone_dollar",
         agent: BOB,
         file: b"Disallow: $",
         verdicts: &[("", true)],
     },
-    FileRow {
+    FileCase {
         name: "empty_file",
         agent: BOB,
         file: b"",
         verdicts: ALL_ALLOWED,
     },
-    FileRow {
+    FileCase {
         name: "fragment_stays",
         agent: BOB,
         file: b"Disallow: /a$",
@@ -119,7 +119,7 @@ const RULES: &[FileRow] = &[
             ("https://example.com/a#b", true),
         ],
     },
-    FileRow {
+    FileCase {
         name: "star_for_all",
         agent: BOB,
         file: b"Disallow: *",
@@ -132,7 +132,7 @@ const RULES: &[FileRow] = &[
             ("/robots.txt", true),
         ],
     },
-    FileRow {
+    FileCase {
         name: "stars_and_ends",
         agent: BOB,
         file: b"Allow: *\nDisallow: *y\nDisallow: */a/*.html",
@@ -143,7 +143,7 @@ const RULES: &[FileRow] = &[
             ("/gray", false),
         ],
     },
-    FileRow {
+    FileCase {
         name: "page_and_pages",
         agent: BOB,
         file: b"allow: /x/page.\ndisallow: /*.html",
@@ -152,7 +152,7 @@ const RULES: &[FileRow] = &[
             ("http://foo.bar/x/y.html", false),
         ],
     },
-    FileRow {
+    FileCase {
         name: "beyond_ascii",
         agent: BOB,
         file: b"Disallow: /\nAllow: /foo/bar/\xE3\x83\x84",
@@ -164,8 +164,8 @@ const RULES: &[FileRow] = &[
     },
 ];
 
-const SITES: &[FileRow] = &[
-    FileRow {
+const SITES: &[FileCase] = &[
+    FileCase {
         name: "exception",
         agent: BOB,
         file: NO_AGENT_LINES,
@@ -174,7 +174,7 @@ const SITES: &[FileRow] = &[
             ("https://example.com/path/exception", true),
         ],
     },
-    FileRow {
+    FileCase {
         name: "cats_allowed",
         agent: BOB,
         file: b"Disallow: /\nAllow: ****/cats\nAllow: */kangaroos",
@@ -184,7 +184,7 @@ const SITES: &[FileRow] = &[
             ("/kangaroosandkoalas/x", true),
         ],
     },
-    FileRow {
+    FileCase {
         name: "cats_refused",
         agent: BOB,
         file: b"Allow: /\nDisallow: ****/cats\nDisallow: */kangaroos",
@@ -194,25 +194,25 @@ const SITES: &[FileRow] = &[
             ("/kangaroosandkoalas/x", false),
         ],
     },
-    FileRow {
+    FileCase {
         name: "no_full_regex",
         agent: BOB,
         file: b"User-Agent: *\nDisallow: /\nAllow: /(Cat|Dog).html",
         verdicts: &[("/(Cat|Dog).html", true), ("/Cat.html", false)],
     },
-    FileRow {
+    FileCase {
         name: "about_page",
         agent: BOB,
         file: b"Disallow: /\nDisallow: /*/about\nAllow: /about$",
         verdicts: &[("https://quora.com/about", true), ("/about/", false)],
     },
-    FileRow {
+    FileCase {
         name: "question_mark",
         agent: BOB,
         file: b"Disallow: /*?****donotindex=1*",
         verdicts: &[("/f?xyz=42", true), ("/f?xyz=42&donotindex=1", false)],
     },
-    FileRow {
+    FileCase {
         name: "news_site",
         agent: BOB,
         file: NEWS_SITE,
@@ -223,8 +223,8 @@ const SITES: &[FileRow] = &[
     },
 ];
 
-const HOSTED: &[FileRow] = &[
-    FileRow {
+const HOSTED: &[FileCase] = &[
+    FileCase {
         name: "fish",
         agent: BOB,
         file: b"Disallow: /\nAllow: /fish*",
@@ -236,7 +236,7 @@ const HOSTED: &[FileRow] = &[
             ("/?id=fish", false),
         ],
     },
-    FileRow {
+    FileCase {
         name: "php_at_the_end",
         agent: BOB,
         file: b"Disallow: /\nAllow: /*.php$",
@@ -246,19 +246,19 @@ const HOSTED: &[FileRow] = &[
             ("/filename.php5", false),
         ],
     },
-    FileRow {
+    FileCase {
         name: "php_anywhere",
         agent: BOB,
         file: b"Disallow: /\nAllow: /*.php",
         verdicts: &[("/index?f=filename.php/", true), ("/windows.PHP", false)],
     },
-    FileRow {
+    FileCase {
         name: "escapes_stay",
         agent: BOB,
         file: b"Disallow: /\nAllow: /foo/%62%61%7A",
         verdicts: &[("/foo/%62%61%7A", true), ("/foo/baz", false)],
     },
-    FileRow {
+    FileCase {
         name: "comment_in_a_rule",
         agent: BOB,
         file: b"Disallow: /foo/quz#qux\nAllow: /",
@@ -268,24 +268,24 @@ const HOSTED: &[FileRow] = &[
 
 #[test]
 fn the_longest_matching_rule_decides(rt: HostRuntime) -> Result<(), Fail> {
-    for row in RULES {
-        check_file(&rt, row);
+    for case in RULES {
+        check_file(&rt, case);
     }
     Ok(())
 }
 
 #[test]
 fn rules_of_sites_decide(rt: HostRuntime) -> Result<(), Fail> {
-    for row in SITES {
-        check_file(&rt, row);
+    for case in SITES {
+        check_file(&rt, case);
     }
     Ok(())
 }
 
 #[test]
 fn rules_decide_on_urls_with_a_host(rt: HostRuntime) -> Result<(), Fail> {
-    for row in HOSTED {
-        check_file_at(&rt, row, "http://foo.bar");
+    for case in HOSTED {
+        check_file_at(&rt, case, "http://foo.bar");
     }
     Ok(())
 }

@@ -1,0 +1,55 @@
+//! The README's example: what a crawler asks before it fetches a page.
+use std::alloc::Global;
+use std::test::Fail;
+use texting_robots::{Error, Robot, get_robots_url};
+use url::ParseError;
+
+/// What a crawler does about a page.
+#[derive(PartialEq, Eq, Debug, Drop)]
+enum Plan {
+    /// Fetch it, after this many microseconds.
+    Fetch(u64),
+    /// Leave it: the file denies it.
+    Leave,
+    /// The file can't be used: a rule for this crawler is too long.
+    Unusable,
+}
+
+/// Where the robots.txt file of a page's site stands, if the page's address is one of a site.
+fn file_address(alloc: Global, page: &str) -> Result<Option<String>, Error> {
+    match get_robots_url(alloc, page) {
+        Ok(address) => Ok(Some(address)),
+        Err(ParseError::OutOfMemory | ParseError::Overflow) => Err(Error::Memory),
+        Err(_) => Ok(None),
+    }
+}
+
+/// What the crawler `FerrisBot` does about a page of the site with this file.
+fn plan(alloc: Global, file: &[u8], page: &str) -> Result<Plan, Error> {
+    let robot = match Robot::new(alloc, "FerrisBot", file) {
+        Ok(robot) => robot,
+        Err(Error::Memory) => return Err(Error::Memory),
+        Err(_) => return Ok(Plan::Unusable),
+    };
+    if !robot.allowed(alloc, page)? {
+        return Ok(Plan::Leave);
+    }
+    // a file may ask for any delay, so it is capped at a minute; where it names none, a second will do
+    let delay = robot.delay.unwrap_or(1_000_000).min(60_000_000);
+    Ok(Plan::Fetch(delay))
+}
+
+#[test]
+fn a_crawler_plans_its_visit(rt: HostRuntime) -> Result<(), Fail> {
+    let alloc = rt.alloc();
+    let page = "https://example.com/ocean/reef.html";
+    let address = file_address(alloc, page)?;
+    assert!(rt; address.is_some_and(|text| text.as_str() == "https://example.com/robots.txt"));
+    assert!(rt; file_address(alloc, "mailto:ferris@example.com")?.is_none());
+    let file = b"User-agent: FerrisBot\nDisallow: /forest\nCrawl-delay: 2.5\n";
+    assert!(rt; plan(alloc, file, page)? == Plan::Fetch(2_500_000));
+    assert!(rt; plan(alloc, file, "https://example.com/forest/tree")? == Plan::Leave);
+    assert!(rt; plan(alloc, b"Crawl-delay: inf", page)? == Plan::Fetch(60_000_000));
+    assert!(rt; plan(alloc, b"", page)? == Plan::Fetch(1_000_000));
+    Ok(())
+}
