@@ -1,5 +1,6 @@
 -- The bodies of a text, byte by byte from its back.
-use Rattle.std.proofs.Common.{◌≡◌, ℕ, inl, inr, ◌==◌, if◌then◌else◌, List, [], ◌∷◌, refl, ap, ◌∙◌}
+use Rattle.std.proofs.Common.{◌≡◌, ℕ, inl, inr, ◌==◌, if◌then◌else◌}
+use Rattle.std.proofs.Common.{List, [], ◌∷◌, refl, ap, ◌∙◌}
 use Rattle.std.proofs.lemmas.Bool.{ne_eqb}
 use Rattle.texting_robots.specs.Cut.{Pair, cr, lf}
 use Rattle.texting_robots.specs.Steps.Cut.{before_body, before_byte, before_end, cut}
@@ -20,7 +21,8 @@ abbrev pub body_step : ℕ → List (List ℕ) → List (List ℕ)
 body_step b bodies =
     if b == lf then [] ∷ bodies else (if b == cr then body_return bodies else body_byte b bodies)
 
-with_byte : (b : ℕ) (pairs : List Pair) → bodies_of (before_body b pairs) ≡ body_byte b (bodies_of pairs)
+with_byte : (b : ℕ) (pairs : List Pair)
+    → bodies_of (before_body b pairs) ≡ body_byte b (bodies_of pairs)
 with_byte b [] = refl
 with_byte b (pair ∷ pairs) = refl
 
@@ -33,7 +35,8 @@ with_return (pair ∷ pairs) = at pair.body pair.ending
     at [] ending = refl
     at (b ∷ body) ending = refl
 
-with_step : (b : ℕ) (pairs : List Pair) → bodies_of (before_byte b pairs) ≡ body_step b (bodies_of pairs)
+with_step : (b : ℕ) (pairs : List Pair)
+    → bodies_of (before_byte b pairs) ≡ body_step b (bodies_of pairs)
 with_step b pairs = elim (byte_cases b) [
   | inl feed ↦ rw feed refl
   | inr (inl return) ↦ rw return (with_return pairs)

@@ -1,5 +1,6 @@
 -- The characters of the standard's syntax are UTF-8, and none of their bytes is a control, a space or a hash.
-use Rattle.std.proofs.Common.{◌≡◌, ◌≢◌, inl, inr, ℕ, ◌<◌, ◌≤◌, true, List, [], ◌∷◌, ◌++◌, length, drop}
+use Rattle.std.proofs.Common.{◌≡◌, ◌≢◌, inl, inr, ℕ, ◌<◌, ◌≤◌}
+use Rattle.std.proofs.Common.{true, List, [], ◌∷◌, ◌++◌, length, drop}
 use Rattle.std.proofs.Common.{flat_map, sym, ap, ◌∙◌, subst, append-nil, arith}
 use Rattle.std.specs.List.{AllByRecursion as Each}
 use Rattle.std.specs.Char.{encode_utf8}
@@ -64,7 +65,8 @@ two (a ∷ b ∷ []) is =
           (value-6 2 a b 0 0 (omega arith, omega arith, omega arith, after));
     }
 
-of_three : (a b c : ℕ) → 0xE0 ≤ a → a < 0xF0 → second a b ≡ true → 0x80 ≤ b → rfc.IsUtf8Tail c
+of_three : (a b c : ℕ) → 0xE0 ≤ a → a < 0xF0 → second a b ≡ true
+    → 0x80 ≤ b → rfc.IsUtf8Tail c
     → IsCharText (a ∷ b ∷ c ∷ [])
 of_three a b c low below after is_b is_c = record {
   bytes = (high a (omega arith), (high b is_b, (high c (omega arith), tt)));
@@ -116,7 +118,8 @@ char_text bytes (inr (inl is)) = two bytes is
 char_text bytes (inr (inr (inl is))) = three bytes is
 char_text bytes (inr (inr (inr is))) = four bytes is
 
-pub each_append : {X : Type 0} (P : X → Type 0) (xs ys : List X) → Each P xs → Each P ys → Each P (xs ++ ys)
+pub each_append : {X : Type 0} (P : X → Type 0) (xs ys : List X) → Each P xs
+    → Each P ys → Each P (xs ++ ys)
 each_append P [] ys all more = more
 each_append P (x ∷ xs) ys all more = (all.0, each_append P xs ys all.1 more)
 
@@ -124,7 +127,8 @@ pub each_front : {X : Type 0} (P : X → Type 0) (xs ys : List X) → Each P (xs
 each_front P [] ys all = tt
 each_front P (x ∷ xs) ys all = (all.0, each_front P xs ys all.1)
 
-pub text_append : (text later : List ℕ) → IsCharText text → IsCharText later → IsCharText (text ++ later)
+pub text_append : (text later : List ℕ) → IsCharText text → IsCharText later
+    → IsCharText (text ++ later)
 text_append text later is also = record {
   bytes = each_append IsCharByte text later is.bytes also.bytes;
   utf8 = IsUtf8-append text later is.utf8 also.utf8;
@@ -139,7 +143,8 @@ pub chars_text : (text : List ℕ) → rfc.IsMany rfc.IsUtf8CharNoctl text → I
 chars_text text is = subst IsCharText (sym is.whole) (chars_joined is.pieces is.each)
 
 -- a pattern that begins with a byte of ASCII
-pub pattern_text : (b : ℕ) (bytes : List ℕ) → b < 128 → IsCharByte b → rfc.IsPatternWith (b ∷ []) bytes
+pub pattern_text : (b : ℕ) (bytes : List ℕ) → b < 128 → IsCharByte b
+    → rfc.IsPatternWith (b ∷ []) bytes
     → IsCharText bytes
 pattern_text b bytes low is pattern =
     let first : IsCharText (b ∷ []) =

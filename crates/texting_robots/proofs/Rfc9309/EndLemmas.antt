@@ -1,6 +1,6 @@
 -- A file: its last line may lack its end, and a byte order mark may stand in front.
-use Rattle.std.proofs.Common.{◌≡◌, ◌≢◌, ◌⊎◌, inl, inr, ℕ, false, List, [], ◌∷◌, ◌++◌, map, filter}
-use Rattle.std.proofs.Common.{sym, refl, ap, ◌∙◌, append-nil, arith, eqb}
+use Rattle.std.proofs.Common.{◌≡◌, ◌≢◌, ◌⊎◌, inl, inr, ℕ, false, List, [], ◌∷◌}
+use Rattle.std.proofs.Common.{◌++◌, map, filter, sym, refl, ap, ◌∙◌, append-nil, arith, eqb}
 use Rattle.std.specs.List.{AllByRecursion as Each}
 use Rattle.std.proofs.lemmas.Bool.{cases_Bool, cond-false, false≢true, ne_eqb}
 use Rattle.std.proofs.lemmas.List.{map-append}
@@ -96,7 +96,11 @@ nothing_replaced (b ∷ text) all =
 low_front : (text : List ℕ) → BeginsLow text → without_front text ≡ text
 low_front [] low = refl
 low_front (b ∷ text) low =
-    rw (ne_eqb b 0xEF (λ e. omega arith), ne_eqb b 0xBB (λ e. omega arith), ne_eqb b 0xBF (λ e. omega arith))
+    rw (
+      ne_eqb b 0xEF (λ e. omega arith),
+      ne_eqb b 0xBB (λ e. omega arith),
+      ne_eqb b 0xBF (λ e. omega arith),
+    )
     refl
 
 behind_mark : (mark text : List ℕ) → IsMark mark → Each (λ byte. byte ≢ 0) text → BeginsLow text
@@ -132,7 +136,8 @@ heard_lines (body ∷ bodies) = elim (cases_Bool (plays (line_of body))) [
 ]
 
 -- the rules of a file are those of the lines that are told
-pub file_rules : (agent : List ℕ) (tolds : List Told) (mark text nl : List ℕ) → IsMark mark → IsLastNl nl
+pub file_rules : (agent : List ℕ) (tolds : List Told) (mark text nl : List ℕ)
+    → IsMark mark → IsLastNl nl
     → Reads tolds (text ++ nl)
     → rules_for agent (file_lines (mark ++ text)) ≡ rules_for agent (lines_in tolds)
 file_rules agent tolds mark text nl is_mark is_nl reads =

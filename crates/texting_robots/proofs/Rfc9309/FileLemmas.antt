@@ -1,6 +1,6 @@
 -- A file of the standard's syntax is made of the lines of its groups.
-use Rattle.std.proofs.Common.{◌≡◌, inl, inr, ℕ, List, [], ◌∷◌, ◌++◌, map, flat_map, sym, refl, ap, ◌∙◌, subst}
-use Rattle.std.proofs.Common.{append_assoc, append-nil}
+use Rattle.std.proofs.Common.{◌≡◌, inl, inr, ℕ, List, [], ◌∷◌, ◌++◌, map}
+use Rattle.std.proofs.Common.{flat_map, sym, refl, ap, ◌∙◌, subst, append_assoc, append-nil}
 use Rattle.std.specs.List.{AllZip, AllByRecursion as Each}
 use Rattle.std.proofs.lemmas.List.{map-append}
 use Rattle.texting_robots.specs.Line.{nul_as_lf, without_front}
@@ -70,7 +70,8 @@ one_or_skipped P Belong join one items text (inr (is, none)) =
     subst (λ i. ReadBy Belong i text) (sym none)
     (record { tolds = []; belong = join.none; reads = skipped_line text is })
 
-repeated : {X : Type 0} (P : X → List ℕ → Type 0) (Belong : List X → List Told → Type 0) → IsJoin Belong
+repeated : {X : Type 0} (P : X → List ℕ → Type 0) (Belong : List X → List Told → Type 0)
+    → IsJoin Belong
     → ((item : X) (text : List ℕ) → P item text → ReadBy Belong (item ∷ []) text)
     → (items : List X) (text : List ℕ) → rfc.Repeats (rfc.IsOneOrSkipped P) items text
     → ReadBy Belong items text
@@ -191,7 +192,8 @@ pub record FileRead (groups : List rfc.Group) (text : List ℕ) : Type 0 where
       → rules_for agent (file_lines text) ≡ rules_for agent (lines_in (front ++ behind))
   pub heard : heard (without_front (map nul_as_lf text)) ≡ front ++ behind
 
-pub file_read : (text : List ℕ) (groups : List rfc.Group) → rfc.IsFile groups text → FileRead groups text
+pub file_read : (text : List ℕ) (groups : List rfc.Group) → rfc.IsFile groups text
+    → FileRead groups text
 file_read text groups file =
     let robots = file.is_robotstxt in
     let front = front_pieces robots.is_front.pieces robots.is_front.each in

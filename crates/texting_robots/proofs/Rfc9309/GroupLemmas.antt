@@ -1,5 +1,6 @@
 -- Of lines in groups an agent gets the rules that the groups spell for it.
-use Rattle.std.proofs.Common.{◌≡◌, ◌≢◌, ℕ, Bool, true, false, ◌||◌, List, [], ◌∷◌, ◌++◌, Option, None, map}
+use Rattle.std.proofs.Common.{◌≡◌, ◌≢◌, ℕ, Bool, true, false, ◌||◌}
+use Rattle.std.proofs.Common.{List, [], ◌∷◌, ◌++◌, Option, None, map}
 use Rattle.std.proofs.Common.{flat_map, filter, cond, sym, refl, ap, ◌∙◌, subst}
 use Rattle.std.specs.Str.{str_to_ascii_lowercase}
 use Rattle.std.specs.List.{AllZip, AllByRecursion as Each, list_any, filter_map, cons_option}
@@ -23,13 +24,15 @@ use Rattle.texting_robots.proofs.Rfc9309.WalkLemmas.{run, run_found}
 
 -- ---- the rules of groups
 
-pub AllZip-append : {A B : Type 0} (R : A → B → Type 0) (xs vs : List A) (ys ws : List B) → AllZip R xs ys
+pub AllZip-append : {A B : Type 0} (R : A → B → Type 0) (xs vs : List A) (ys ws : List B)
+    → AllZip R xs ys
     → AllZip R vs ws
     → AllZip R (xs ++ vs) (ys ++ ws)
 AllZip-append R [] vs [] ws first second = second
 AllZip-append R [] vs (y ∷ ys) ws first second = absurd first
 AllZip-append R (x ∷ xs) vs [] ws first second = absurd first
-AllZip-append R (x ∷ xs) vs (y ∷ ys) ws first second = (first.0, AllZip-append R xs vs ys ws first.1 second)
+AllZip-append R (x ∷ xs) vs (y ∷ ys) ws first second =
+    (first.0, AllZip-append R xs vs ys ws first.1 second)
 
 member_read : (member : Member) (o : Option Rule) (is : Bool) (members : List Member) (rules : List Rule)
     → GivesRuleOf member o is → AllZip IsReadAs members rules
@@ -109,7 +112,8 @@ any_tokens : (name : List ℕ) (tokens : List (List ℕ))
 any_tokens name [] = refl
 any_tokens name (token ∷ tokens) = ap (λ b. is_named name token || b) (any_tokens name tokens)
 
-none_named : (name : List ℕ) (line : LineValue) → is_group line ≡ true → is_agent_named name line ≡ false
+none_named : (name : List ℕ) (line : LineValue) → is_group line ≡ true
+    → is_agent_named name line ≡ false
 none_named name (UserAgent value) is = absurd (false≢true is)
 none_named name (Allow value) is = refl
 none_named name (Disallow value) is = refl
@@ -117,7 +121,8 @@ none_named name (Sitemap value) is = refl
 none_named name (CrawlDelay delay) is = refl
 none_named name (Raw body) is = refl
 
-none_member : (name : List ℕ) (members : List Member) (own : List LineValue) → AllZip IsLineFor members own
+none_member : (name : List ℕ) (members : List Member) (own : List LineValue)
+    → AllZip IsLineFor members own
     → list_any (is_agent_named name) own ≡ false
 none_member name members [] all = refl
 none_member name [] (line ∷ own) all = absurd all
@@ -187,7 +192,8 @@ named_groups agent groups lines true named has = rw (named, has) refl
 named_groups agent groups lines false named has = rw (named, has) refl
 
 -- of the lines of groups, behind lines that give nothing, an agent gets the rules that they spell for it
-pub rules_spelled : (agent : List ℕ) (groups : List Group) (front lines : List LineValue) → Each IsFront front
+pub rules_spelled : (agent : List ℕ) (groups : List Group) (front lines : List LineValue)
+    → Each IsFront front
     → AreGroupLines groups lines
     → AllZip IsReadAs (rfc.rules_for agent (merged groups)) (rules_for agent (front ++ lines))
 rules_spelled agent groups front lines all are =
@@ -196,7 +202,8 @@ rules_spelled agent groups front lines all are =
     let name = group_name agent (front ++ lines) in
     let start = start_of (front ++ lines) in
     let p = front_passed name start front lines all refl in
-    let named : list_any (is_agent_named low) (front ++ lines) ≡ list_any (has_token agent) (merged groups) =
+    let named : list_any (is_agent_named low) (front ++ lines)
+    ≡ list_any (has_token agent) (merged groups) =
     list_any-append (is_agent_named low) front lines
     ∙ ap (λ b. b || list_any (is_agent_named low) lines) (none_front low front all)
     ∙ any_named low (merged groups) lines whole in

@@ -1,7 +1,7 @@
 -- A line with a key, a colon and a value is a statement.
-use Rattle.std.proofs.Common.{◌≡◌, ◌≢◌, ◌⊎◌, inl, inr, ℕ, ◌<◌, List, [], ◌∷◌, ◌++◌, map, flat_map, codes}
-use Rattle.std.proofs.Common.{Bool, true, ◌&&◌, nat_lt, sym, refl, ap, ◌∙◌, subst, append_assoc, append-nil}
-use Rattle.std.proofs.Common.{arith, filter, not, ◌==◌}
+use Rattle.std.proofs.Common.{◌≡◌, ◌≢◌, ◌⊎◌, inl, inr, ℕ, ◌<◌, List, [], ◌∷◌}
+use Rattle.std.proofs.Common.{◌++◌, map, flat_map, codes, Bool, true, ◌&&◌, nat_lt, sym, refl, ap}
+use Rattle.std.proofs.Common.{◌∙◌, subst, append_assoc, append-nil, arith, filter, not, ◌==◌}
 use Rattle.std.specs.List.{AllByRecursion as Each, Contains}
 use Rattle.std.specs.Char.{to_ascii_lowercase}
 use Rattle.std.proofs.lemmas.Bool.{and_parts, eqb-false, ltb-true, not-true}
@@ -22,7 +22,8 @@ use Rattle.texting_robots.proofs.Rfc9309.Told.{between_gone, no_blank, written, 
 
 -- ---- bytes
 
-pub each_weaker : (P Q : ℕ → Type 0) → ((b : ℕ) → P b → Q b) → (bytes : List ℕ) → Each P bytes → Each Q bytes
+pub each_weaker : (P Q : ℕ → Type 0) → ((b : ℕ) → P b → Q b) → (bytes : List ℕ)
+    → Each P bytes → Each Q bytes
 each_weaker P Q weaker [] all = tt
 each_weaker P Q weaker (b ∷ bytes) all = (weaker b all.0, each_weaker P Q weaker bytes all.1)
 
@@ -180,7 +181,8 @@ keyed word value text letters plain line =
       behind = behind;
       whole =
           line.whole
-          ∙ ap (λ e. line.margin ++ (line.key ++ (line.blanks ++ (codes ":" ++ (line.gap ++ (value ++ e))))))
+          ∙ ap
+          (λ e. line.margin ++ (line.key ++ (line.blanks ++ (codes ":" ++ (line.gap ++ (value ++ e))))))
           eol.whole
           ∙ simp append_assoc;
       is_nl = eol.is_nl;

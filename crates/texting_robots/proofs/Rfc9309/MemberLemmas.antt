@@ -1,6 +1,6 @@
 -- The lines of delays, of members and of sitemaps.
-use Rattle.std.proofs.Common.{◌≡◌, inl, inr, ℕ, false, List, [], ◌∷◌, ◌++◌, filter, codes, All, Some}
-use Rattle.std.proofs.Common.{sym, refl, subst, append-nil, arith}
+use Rattle.std.proofs.Common.{◌≡◌, inl, inr, ℕ, false, List, [], ◌∷◌, ◌++◌}
+use Rattle.std.proofs.Common.{filter, codes, All, Some, sym, refl, subst, append-nil, arith}
 use Rattle.std.specs.List.{AllByRecursion as Each}
 use Rattle.std.specs.Char.{IsAsciiDigit}
 use Rattle.std.specs.Str.Parse.{starts_with_minus, without_leading_plus}
@@ -47,11 +47,13 @@ unsigned d rest is =
     (ne_eqb d 45 (λ e. omega arith), without_leading_plus_none (d ∷ rest) (λ e. omega (arith, is.0)))
 
 numbered_by : (d : ℕ) (rest units fraction : List ℕ) → rfc.IsDigitByte d
-    → Spells (d ∷ rest) (decimal_of units fraction) → Each IsPlain (d ∷ rest) → Numbered (d ∷ rest)
+    → Spells (d ∷ rest) (decimal_of units fraction) → Each IsPlain (d ∷ rest)
+    → Numbered (d ∷ rest)
 numbered_by d rest units fraction digit spells plain =
     let n = decimal_of units fraction in
     let sign = unsigned d rest digit in
-    let names : NamesDelay (d ∷ rest) (rounded n) = rw (sign.0, sign.1) (inr (n, spells, rounded_rounds n)) in
+    let names : NamesDelay (d ∷ rest) (rounded n) =
+    rw (sign.0, sign.1) (inr (n, spells, rounded_rounds n)) in
     record {
       delay = rounded n;
       is = sym (is_delay_of (d ∷ rest) (Some (rounded n)) names);
@@ -119,7 +121,8 @@ delay_given number text n line =
           (plain_trim k.gap k.behind number k.gap_blank k.behind_blank n.plain)));
     }
 
-pub delay_line : (member : rfc.Member) (text : List ℕ) → rfc.IsDelayLine member text → MemberRead member text
+pub delay_line : (member : rfc.Member) (text : List ℕ) → rfc.IsDelayLine member text
+    → MemberRead member text
 delay_line (rfc.Allow pattern) text is = absurd is
 delay_line (rfc.Disallow pattern) text is = absurd is
 delay_line (rfc.Delay number) text is = delay_given number text (numbered number is.0) is.1

@@ -1,6 +1,6 @@
 -- The lines of groups are those of the merged groups.
-use Rattle.std.proofs.Common.{◌≡◌, ◌≢◌, ℕ, Bool, true, false, List, [], ◌∷◌, ◌++◌, Option, Some, None, map}
-use Rattle.std.proofs.Common.{refl, ap, ◌∙◌, append_assoc}
+use Rattle.std.proofs.Common.{◌≡◌, ◌≢◌, ℕ, Bool, true, false, List, [], ◌∷◌}
+use Rattle.std.proofs.Common.{◌++◌, Option, Some, None, map, refl, ap, ◌∙◌, append_assoc}
 use Rattle.std.specs.List.{AllZip}
 use Rattle.std.proofs.lemmas.List.{map-append}
 use Rattle.texting_robots.specs.Group.{is_group}
@@ -49,7 +49,8 @@ pub front_some : {X : Type 0} (xs ys : List X) → xs ≢ [] → xs ++ ys ≢ []
 front_some [] ys some e = some refl
 front_some (x ∷ xs) ys some e = cc
 
-lines_before : (tokens : List (List ℕ)) (members : List Member) (later : List Group) (lines : List LineValue)
+lines_before : (tokens : List (List ℕ)) (members : List Member)
+    (later : List Group) (lines : List LineValue)
     → AreLinesThen (group_of tokens members) (AreGroupLines later) lines
     → AreGroupLines (put_before tokens members later) lines
 lines_before tokens [] [] lines is = is

@@ -1,6 +1,7 @@
 -- Empty lines, comments and records that aren't read.
-use Rattle.std.proofs.Common.{◌≡◌, ◌≢◌, inl, inr, ℕ, List, [], ◌∷◌, ◌++◌, Option, Some, None, map, get_or}
-use Rattle.std.proofs.Common.{sym, refl, ap, ◌∙◌, ◌==◌, ◌||◌, subst, append_assoc, arith}
+use Rattle.std.proofs.Common.{◌≡◌, ◌≢◌, inl, inr, ℕ, List, [], ◌∷◌}
+use Rattle.std.proofs.Common.{◌++◌, Option, Some, None, map, get_or, sym, refl, ap}
+use Rattle.std.proofs.Common.{◌∙◌, ◌==◌, ◌||◌, subst, append_assoc, arith}
 use Rattle.std.specs.List.{AllByRecursion as Each, Contains}
 use Rattle.std.specs.Char.{to_ascii_lowercase}
 use Rattle.std.proofs.lemmas.Bool.{cond-false, false_from_ne_true}
@@ -93,7 +94,8 @@ colon_no_identifier : rfc.IsIdentifierByte 58 → ⊥
 colon_no_identifier letter = (identifier_bounds 58 letter).2 refl
 
 -- a word begins with no blank
-word_plain : (word rest : List ℕ) → word ≢ [] → Each rfc.IsIdentifierByte word → StartsPlain (word ++ rest)
+word_plain : (word rest : List ℕ) → word ≢ [] → Each rfc.IsIdentifierByte word
+    → StartsPlain (word ++ rest)
 word_plain [] rest some all = absurd (some refl)
 word_plain (b ∷ word) rest some all = λ blank. blank_no_identifier b blank all.0
 
@@ -102,9 +104,11 @@ colon_stops : (blanks text : List ℕ) → Each IsBlank blanks → Stops (blanks
 colon_stops [] text all = colon_no_identifier
 colon_stops (b ∷ blanks) text all = blank_no_identifier b all.0
 
-low_colon : (blanks text : List ℕ) → Each IsBlank blanks → low (blanks ++ 58 ∷ text) ≡ blanks ++ 58 ∷ low text
+low_colon : (blanks text : List ℕ) → Each IsBlank blanks
+    → low (blanks ++ 58 ∷ text) ≡ blanks ++ 58 ∷ low text
 low_colon blanks text all =
-    map-append to_ascii_lowercase blanks (58 ∷ text) ∙ ap (λ t. t ++ 58 ∷ low text) (low_blanks blanks all)
+    map-append to_ascii_lowercase blanks (58 ∷ text) ∙ ap (λ t. t ++ 58 ∷ low text)
+    (low_blanks blanks all)
 
 -- what stands behind a key stops it
 tail_stops : (tail rest : List ℕ) → IsTailOf tail rest → Stops (low rest)
@@ -194,7 +198,8 @@ module _ (text : List ℕ) (o : rfc.IsOtherLine text) where
             no_letter o.blanks (low o.value) (back ++ low s.rest) b o.blanks_blank letter words.1
       ]
 
-  no_statement : (found : Option (Kind × List ℕ)) → statement_of body ≡ found → statement_of body ≡ None
+  no_statement : (found : Option (Kind × List ℕ)) → statement_of body ≡ found
+      → statement_of body ≡ None
   no_statement None e = e
   no_statement (Some (kind, value)) e = absurd (unstated kind value (found_statement kind value body e))
 

@@ -1,5 +1,6 @@
 -- What the lines of a text tell, where it is made of lines; those that play no part in groups are left out.
-use Rattle.std.proofs.Common.{◌≡◌, ◌≢◌, ◌⊎◌, inl, inr, ℕ, ◌<◌, ◌≤◌, false, List, [], ◌∷◌, ◌++◌, map, filter}
+use Rattle.std.proofs.Common.{◌≡◌, ◌≢◌, ◌⊎◌, inl, inr, ℕ, ◌<◌}
+use Rattle.std.proofs.Common.{◌≤◌, false, List, [], ◌∷◌, ◌++◌, map, filter}
 use Rattle.std.proofs.Common.{cond, sym, refl, ap, ◌∙◌, append_assoc, arith, eqb}
 use Rattle.std.specs.List.{AllByRecursion as Each}
 use Rattle.std.proofs.lemmas.Bool.{ne_eqb}
@@ -58,7 +59,8 @@ bare_other : (byte other : ℕ) → IsBare byte → other < 32 → 9 < other →
 bare_other byte other (inl is) low high = ne_eqb byte other (λ e. omega arith)
 bare_other byte other (inr is) low high = ne_eqb byte other (λ e. omega arith)
 
-body_first : (body text : List ℕ) (more : List (List ℕ)) → Each IsBare body → bodies_of (cut text) ≡ [] ∷ more
+body_first : (body text : List ℕ) (more : List (List ℕ)) → Each IsBare body
+    → bodies_of (cut text) ≡ [] ∷ more
     → bodies_of (cut (body ++ text)) ≡ body ∷ more
 body_first [] text more bare first = first
 body_first (b ∷ body) text more bare first =
@@ -129,7 +131,8 @@ end_low nl (inr (inl is)) = rw is (omega arith)
 end_low nl (inr (inr is)) = rw is (omega arith)
 
 -- a body that tells this, and its end
-pub reads_line : (told : Told) (body nl : List ℕ) → told_of body ≡ told → Each IsBare body → BeginsLow body
+pub reads_line : (told : Told) (body nl : List ℕ) → told_of body ≡ told
+    → Each IsBare body → BeginsLow body
     → IsNl nl → Reads (filter matters (told ∷ [])) (body ++ nl)
 reads_line told body nl same bare low is = record {
   heard = λ rest.

@@ -1,6 +1,6 @@
 -- The lines of product tokens and of rules.
-use Rattle.std.proofs.Common.{◌≡◌, ◌≢◌, inl, inr, ℕ, true, false, List, [], ◌∷◌, ◌++◌, filter, codes, Bool}
-use Rattle.std.proofs.Common.{Some, sym, refl, subst, arith, ◌<◌, ap, ◌∙◌}
+use Rattle.std.proofs.Common.{◌≡◌, ◌≢◌, inl, inr, ℕ, true, false, List, [], ◌∷◌, ◌++◌}
+use Rattle.std.proofs.Common.{filter, codes, Bool, Some, sym, refl, subst, arith, ◌<◌, ap, ◌∙◌}
 use Rattle.std.specs.List.{AllByRecursion as Each, Contains}
 use Rattle.std.specs.Str.{IsUtf8}
 use Rattle.std.proofs.lemmas.Bool.{cond-true}
@@ -62,12 +62,14 @@ identifier_plain b (inr (inr (inr is))) = ((omega arith, omega arith), λ e. ome
 
 token_plain : (token : List ℕ) → rfc.IsProductToken token → Each IsPlain token
 token_plain [] is = tt
-token_plain (b ∷ token) (inl is) = each_weaker rfc.IsIdentifierByte IsPlain identifier_plain (b ∷ token) is
+token_plain (b ∷ token) (inl is) =
+    each_weaker rfc.IsIdentifierByte IsPlain identifier_plain (b ∷ token) is
 token_plain (b ∷ token) (inr is) =
     subst (Each IsPlain) (sym is) (((omega arith, omega arith), λ e. omega arith), tt)
 
 -- plain bytes between blanks are the value
-pub plain_trim : (gap behind bytes : List ℕ) → Each IsBlank gap → Each IsBlank behind → Each IsPlain bytes
+pub plain_trim : (gap behind bytes : List ℕ) → Each IsBlank gap → Each IsBlank behind
+    → Each IsPlain bytes
     → IsTrimOf bytes (gap ++ (bytes ++ behind))
 plain_trim gap behind [] before after plain = blank_trim gap [] behind before tt after
 plain_trim gap behind (b ∷ bytes) before after plain =
@@ -233,7 +235,8 @@ rule_line (rfc.Disallow pattern) text rule = elim rule.is_pattern [
       (disallow_empty rule.value text none.0 rule.is_line)
 ]
 
-pub star_line : (member : rfc.Member) (text : List ℕ) → rfc.IsStarRule member text → MemberRead member text
+pub star_line : (member : rfc.Member) (text : List ℕ) → rfc.IsStarRule member text
+    → MemberRead member text
 star_line (rfc.Delay number) text rule = absurd rule
 star_line (rfc.Allow pattern) text rule = allow_begun pattern text (begun 42 pattern star_plain rule.0) rule.1
 star_line (rfc.Disallow pattern) text rule =

@@ -1,6 +1,7 @@
 -- What a body tells: the line that it is read as, and the value as it is written.
-use Rattle.std.proofs.Common.{◌≡◌, ◌≢◌, ℕ, ◌<◌, Bool, false, true, not, ◌==◌, ◌||◌, if◌then◌else◌, List, []}
-use Rattle.std.proofs.Common.{◌∷◌, ◌++◌, filter, refl, ap, ◌∙◌, append-nil, inl, inr, arith}
+use Rattle.std.proofs.Common.{◌≡◌, ◌≢◌, ℕ, ◌<◌, Bool, false, true, not}
+use Rattle.std.proofs.Common.{◌==◌, ◌||◌, if◌then◌else◌, List, [], ◌∷◌}
+use Rattle.std.proofs.Common.{◌++◌, filter, refl, ap, ◌∙◌, append-nil, inl, inr, arith}
 use Rattle.std.specs.List.{AllByRecursion as Each}
 use Rattle.std.proofs.lemmas.Bool.{cond-false, cond-true, ne_eqb}
 use Rattle.std.proofs.lemmas.List.Elements.{filter-append}
@@ -29,9 +30,11 @@ written body = filter no_blank (region_of (behind_colon body))
 behind_front : (front tail : List ℕ) → Each (λ b. b ≢ colon) front
     → behind_colon (front ++ colon ∷ tail) ≡ tail
 behind_front [] tail all = refl
-behind_front (b ∷ front) tail all = cond-false _ _ _ (ne_eqb b colon all.0) ∙ behind_front front tail all.1
+behind_front (b ∷ front) tail all = cond-false _ _ _ (ne_eqb b colon all.0)
+    ∙ behind_front front tail all.1
 
-pub written_is : (front region comment : List ℕ) → Each (λ b. b ≢ colon) front → Each (λ b. b ≢ hash) region
+pub written_is : (front region comment : List ℕ) → Each (λ b. b ≢ colon) front
+    → Each (λ b. b ≢ hash) region
     → IsComment comment → written (front ++ colon ∷ (region ++ comment)) ≡ filter no_blank region
 unfolding written
 written_is front region comment no_colon no_hash is =

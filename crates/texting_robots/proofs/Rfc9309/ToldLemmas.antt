@@ -1,5 +1,6 @@
 -- What is told of groups: their lines, and the groups themselves once merged.
-use Rattle.std.proofs.Common.{◌≡◌, ◌≢◌, ℕ, true, List, [], ◌∷◌, ◌++◌, map, refl, ap, ◌∙◌, append-nil}
+use Rattle.std.proofs.Common.{◌≡◌, ◌≢◌, ℕ, true, List, [], ◌∷◌}
+use Rattle.std.proofs.Common.{◌++◌, map, refl, ap, ◌∙◌, append-nil}
 use Rattle.std.specs.List.{AllZip, AllByRecursion as Each}
 use Rattle.std.proofs.lemmas.Bool.{false≢true}
 use Rattle.std.proofs.lemmas.List.{map-append}
@@ -100,7 +101,8 @@ members_parts [] (told ∷ own) rest all = absurd all
 members_parts (member ∷ members) [] rest all = absurd all
 members_parts (member ∷ members) (told ∷ own) rest all =
     with_member told.0 told.1 (parts_in (own ++ rest)) all.0.line.group
-    ∙ ap (λ m. parts_of (m ∷ (parts_in (own ++ rest)).loose) (parts_in (own ++ rest)).groups) all.0.spelled
+    ∙ ap (λ m. parts_of (m ∷ (parts_in (own ++ rest)).loose) (parts_in (own ++ rest)).groups)
+    all.0.spelled
     ∙ ap (λ (p : Parts). parts_of (member ∷ p.loose) p.groups) (members_parts members own rest all.1)
 
 -- tokens put before a group one by one, or at once

@@ -1,7 +1,7 @@
 -- What is left of a value between blanks.
-use Rattle.std.proofs.Common.{◌≡◌, ◌≢◌, inl, inr, ℕ, ◌+◌, ◌<◌, ◌≤◌, true, false, List, [], ◌∷◌, ◌++◌, length}
-use Rattle.std.proofs.Common.{take, get_or, IsTrue, sym, refl, ap, ◌∙◌, subst, append_assoc, append-nil}
-use Rattle.std.proofs.Common.{length-append, arith}
+use Rattle.std.proofs.Common.{◌≡◌, ◌≢◌, inl, inr, ℕ, ◌+◌, ◌<◌, ◌≤◌, true}
+use Rattle.std.proofs.Common.{false, List, [], ◌∷◌, ◌++◌, length, take, get_or, IsTrue, sym}
+use Rattle.std.proofs.Common.{refl, ap, ◌∙◌, subst, append_assoc, append-nil, length-append, arith}
 use Rattle.std.specs.List.{AllByRecursion as Each}
 use Rattle.std.specs.Char.{is_whitespace, encode_utf8}
 use Rattle.std.specs.Str.{IsUtf8, encode_utf8_all}
@@ -27,7 +27,8 @@ not_white : (b : ℕ) → IsVisible b → is_whitespace b ≡ false
 not_white b is = grind (arith, nat_tests)
 
 -- no spaces begin with such a byte
-spaces_begin : (s rest text : List ℕ) (b : ℕ) → IsVisible b → IsSpaces s → b ∷ text ≡ s ++ rest → s ≡ []
+spaces_begin : (s rest text : List ℕ) (b : ℕ) → IsVisible b → IsSpaces s → b ∷ text ≡ s ++ rest
+    → s ≡ []
 spaces_begin s rest text b visible ([], all, is) e = is
 spaces_begin s rest text b visible (c ∷ cs, all, is) e =
     let whole : b ∷ text ≡ encode_utf8 c ++ (encode_utf8_all cs ++ rest) =
@@ -69,14 +70,17 @@ space_behind s b blank (chars, all, is) =
       chars ++ b ∷ [],
       each_append IsWhite chars (b ∷ []) all (code.0, tt),
       ap (λ t. t ++ b ∷ []) is
-          ∙ ap (λ t. encode_utf8_all chars ++ t) (sym (append-nil (encode_utf8 b) ∙ encode_ascii b code.1))
+          ∙ ap (λ t. encode_utf8_all chars ++ t)
+          (sym (append-nil (encode_utf8 b) ∙ encode_ascii b code.1))
           ∙ sym (encodes-append chars (b ∷ [])),
     )
 
 -- a code that ends in a byte of ASCII is that byte
-code_of_byte : (char b : ℕ) (front : List ℕ) → b < 128 → encode_utf8 char ≡ front ++ b ∷ [] → front ≡ []
+code_of_byte : (char b : ℕ) (front : List ℕ) → b < 128 → encode_utf8 char ≡ front ++ b ∷ []
+    → front ≡ []
 code_of_byte char b front low e =
-    let long : length (encode_utf8 char) ≡ length front + 1 = ap length e ∙ length-append front (b ∷ []) in
+    let long : length (encode_utf8 char) ≡ length front + 1 =
+    ap length e ∙ length-append front (b ∷ []) in
     let there : get_or (encode_utf8 char) (length front) 0 ≡ b =
     ap (λ t. get_or t (length front) 0) e ∙ get_or_at front b [] 0 (length front) refl in
     let is : char ≡ b =
@@ -99,7 +103,8 @@ last_space s b low (c ∷ cs, all, is) =
     at p.front p.last p.whole
     (pushed (encode_utf8 p.last) (omega (arith, length-encode p.last, (len_utf8_bounds p.last).0)))
   where
-    at : (front : List ℕ) (char : ℕ) → c ∷ cs ≡ front ++ char ∷ [] → Pushed (encode_utf8 char) → IsSpaces s
+    at : (front : List ℕ) (char : ℕ) → c ∷ cs ≡ front ++ char ∷ [] → Pushed (encode_utf8 char)
+        → IsSpaces s
     at front char e code =
         let whole : encode_utf8_all (c ∷ cs) ≡ encode_utf8_all front ++ (code.front ++ code.last ∷ []) =
         ap encode_utf8_all e
@@ -116,7 +121,8 @@ last_space s b low (c ∷ cs, all, is) =
 -- ---- trims
 
 -- a blank behind a region that begins with a visible byte changes no trim
-blank_behind : (b x : ℕ) (region value : List ℕ) → IsBlank b → IsVisible x → IsTrimOf value (x ∷ region)
+blank_behind : (b x : ℕ) (region value : List ℕ) → IsBlank b → IsVisible x
+    → IsTrimOf value (x ∷ region)
     → IsTrimOf value (x ∷ (region ++ b ∷ []))
 blank_behind b x region value blank visible t = record {
   front = t.front;
@@ -145,7 +151,8 @@ blank_behind b x region value blank visible t = record {
         ap length p.whole ∙ length-append p.front (p.last ∷ []) in
         omega (arith, below, long, length-append t.back (b ∷ []))
 
-pub blanks_behind : (blanks : List ℕ) (x : ℕ) (region value : List ℕ) → Each IsBlank blanks → IsVisible x
+pub blanks_behind : (blanks : List ℕ) (x : ℕ) (region value : List ℕ) → Each IsBlank blanks
+    → IsVisible x
     → IsTrimOf value (x ∷ region) → IsTrimOf value (x ∷ (region ++ blanks))
 blanks_behind [] x region value all visible t =
     subst (λ r. IsTrimOf value (x ∷ r)) (sym (append-nil region)) t
@@ -164,15 +171,18 @@ visible_trim bytes visible = record {
   front_longest = λ s rest e is. omega (arith, ap length (at bytes s rest visible is e));
   back_spaces = ([], tt, refl);
   back_longest =
-      λ rest s e is. omega (arith, ap length (behind rest bytes s visible is (sym (append-nil bytes) ∙ e)));
+      λ rest s e is.
+      omega (arith, ap length (behind rest bytes s visible is (sym (append-nil bytes) ∙ e)));
 }
   where
-    at : (bytes s rest : List ℕ) → Each IsVisible bytes → IsSpaces s → bytes ≡ s ++ rest → s ≡ []
+    at : (bytes s rest : List ℕ) → Each IsVisible bytes → IsSpaces s → bytes ≡ s ++ rest
+        → s ≡ []
     at [] [] rest all is e = refl
     at [] (c ∷ s) rest all is e = cc
     at (b ∷ bytes) s rest all is e = spaces_begin s rest bytes b all.0 is e
 
-    behind : (rest bytes s : List ℕ) → Each IsVisible bytes → IsSpaces s → bytes ≡ rest ++ s → s ≡ []
+    behind : (rest bytes s : List ℕ) → Each IsVisible bytes → IsSpaces s → bytes ≡ rest ++ s
+        → s ≡ []
     behind [] bytes s all is e = at bytes s [] all is (e ∙ sym (append-nil s))
     behind (c ∷ rest) [] s all is e = cc
     behind (c ∷ rest) (b ∷ bytes) s all is e =
@@ -190,7 +200,8 @@ trim_utf8 x region value visible utf8 t =
     (IsCharBoundary-at_seam (x ∷ region) value t.back whole (spaces_utf8 t.back t.back_spaces)))
 
 -- and holds some byte
-pub trim_some : (x : ℕ) (region value : List ℕ) → IsVisible x → IsTrimOf value (x ∷ region) → value ≢ []
+pub trim_some : (x : ℕ) (region value : List ℕ) → IsVisible x → IsTrimOf value (x ∷ region)
+    → value ≢ []
 trim_some x region value visible t e =
     let front : t.front ≡ [] =
     spaces_begin t.front (value ++ t.back) region x visible t.front_spaces t.whole in

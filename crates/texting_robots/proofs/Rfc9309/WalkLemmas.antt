@@ -1,5 +1,6 @@
 -- The walk along the lines of a group.
-use Rattle.std.proofs.Common.{◌≡◌, ◌≢◌, ℕ, ◌+◌, Bool, true, false, ◌||◌, List, [], ◌∷◌, ◌++◌, Option, Some}
+use Rattle.std.proofs.Common.{◌≡◌, ◌≢◌, ℕ, ◌+◌, Bool, true, false}
+use Rattle.std.proofs.Common.{◌||◌, List, [], ◌∷◌, ◌++◌, Option, Some}
 use Rattle.std.proofs.Common.{None, map, bytes_eq, cond, refl, ap, ◌∙◌}
 use Rattle.std.specs.Str.{str_to_ascii_lowercase}
 use Rattle.std.specs.List.{AllZip, list_any, filter_map, cons_option}
@@ -59,7 +60,8 @@ within_run name captured (token ∷ tokens) lines =
     (or_swapped (is_named name token) captured (list_any (is_named name) tokens))
 
 -- a run of agent lines
-pub run_found : (name : List ℕ) (walk : Walk) (tokens : List (List ℕ)) (lines : List LineValue) → tokens ≢ []
+pub run_found : (name : List ℕ) (walk : Walk) (tokens : List (List ℕ)) (lines : List LineValue)
+    → tokens ≢ []
     → walk.named ≡ false
     → found name walk (map UserAgent tokens ++ lines)
     ≡ found name (run (list_any (is_named name) tokens)) lines

@@ -1,6 +1,7 @@
 -- Words of identifier bytes, and the spellings of keys.
-use Rattle.std.proofs.Common.{◌≡◌, ◌≢◌, ◌⊎◌, inl, inr, ℕ, ◌<◌, nat_le, Bool, true, ◌==◌, ◌&&◌, ◌||◌, List, []}
-use Rattle.std.proofs.Common.{◌∷◌, ◌++◌, slice_index_or, codes, sym, refl, subst, append-nil, arith}
+use Rattle.std.proofs.Common.{◌≡◌, ◌≢◌, ◌⊎◌, inl, inr, ℕ, ◌<◌, nat_le}
+use Rattle.std.proofs.Common.{Bool, true, ◌==◌, ◌&&◌, ◌||◌, List, [], ◌∷◌}
+use Rattle.std.proofs.Common.{◌++◌, slice_index_or, codes, sym, refl, subst, append-nil, arith}
 use Rattle.std.specs.List.{AllByRecursion as Each, Contains}
 use Rattle.std.proofs.lemmas.Bool.{and_parts, eqb-true, or_cases}
 use Rattle.std.proofs.lemmas.Bool.Decides.{nat_tests}
@@ -77,7 +78,8 @@ identifier_byte b e =
     second (inl is) = inr (inl (between 0x41 0x5A b is))
     second (inr e) = third (or_cases (b == 0x5F) (is_between 0x61 0x7A b) e)
 
-    first : ((b == 0x2D) ≡ true) ⊎ ((is_between 0x41 0x5A b || (b == 0x5F || is_between 0x61 0x7A b)) ≡ true)
+    first : ((b == 0x2D) ≡ true)
+        ⊎ ((is_between 0x41 0x5A b || (b == 0x5F || is_between 0x61 0x7A b)) ≡ true)
         → rfc.IsIdentifierByte b
     first (inl is) = inl (eqb-true b 0x2D is)
     first (inr e) = second (or_cases (is_between 0x41 0x5A b) (b == 0x5F || is_between 0x61 0x7A b) e)
