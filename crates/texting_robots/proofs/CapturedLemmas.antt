@@ -1,14 +1,22 @@
 -- The walk along the lines says what the definition by places says.
-use Rattle.std.proofs.Common.{◌≡◌, ◌≤◌, ◌⊎◌, inl, inr, ℕ, zero, suc, ◌+◌, ◌<◌, nat_lt, Bool, true, false, not, ◌&&◌, ◌||◌, List, [], ◌∷◌, Option, Some, None, slice_get, drop, cond, add-one, map, ap, sym, refl, ◌∙◌, arith}
+use Rattle.std.proofs.Common.{◌≡◌, ◌≤◌, ◌⊎◌, inl, inr, ℕ, zero, suc}
+use Rattle.std.proofs.Common.{◌+◌, ◌<◌, nat_lt, Bool, true, false, not, ◌&&◌}
+use Rattle.std.proofs.Common.{◌||◌, List, [], ◌∷◌, Option, Some, None, slice_get}
+use Rattle.std.proofs.Common.{drop, cond, add-one, map, ap, sym, refl, ◌∙◌, arith}
 use Rattle.std.specs.Bool.{Decides}
 use Rattle.std.proofs.Math.Bool.{and-true, and-false, or-false}
 use Rattle.std.specs.List.{list_any, cons_option, filter_map, enumerate_from}
-use Rattle.std.proofs.lemmas.Bool.Decides.{Decides-below_or, Decides-and, Decides-or, Decides-not, Decides-ltb, Decides-like}
-use Rattle.std.proofs.lemmas.Bool.{cases_Bool, or_cases, or_left, or_right, and_left, and_right, le-ltb, lt-ltb, false≢true}
+use Rattle.std.proofs.lemmas.Bool.Decides.{Decides-below_or, Decides-and, Decides-or}
+use Rattle.std.proofs.lemmas.Bool.Decides.{Decides-not, Decides-ltb, Decides-like}
+use Rattle.std.proofs.lemmas.Bool.{cases_Bool, or_cases, or_left, or_right, and_left}
+use Rattle.std.proofs.lemmas.Bool.{and_right, le-ltb, lt-ltb, false≢true}
 use Rattle.texting_robots.specs.declared.groups.Walk.{Walk}
 use Rattle.texting_robots.specs.Line.{LineValue, UserAgent}
-use Rattle.texting_robots.specs.Group.{IsCaptured, Mark, NoAgent, from_captured, group_name, in_captured, is_agent, is_captured, is_group, marks_of, is_agent_named, passes_at, some_below}
-use Rattle.texting_robots.specs.Rules.{PlacedRule, Rule, placed, rule_at, rule_in, rules_for, sitemap_at, sitemap_in, sitemaps_in, unplaced}
+use Rattle.texting_robots.specs.Group.{IsCaptured, Mark, NoAgent, from_captured, group_name}
+use Rattle.texting_robots.specs.Group.{in_captured, is_agent, is_captured, is_group}
+use Rattle.texting_robots.specs.Group.{marks_of, is_agent_named, passes_at, some_below}
+use Rattle.texting_robots.specs.Rules.{PlacedRule, Rule, placed, rule_at, rule_in, rules_for}
+use Rattle.texting_robots.specs.Rules.{sitemap_at, sitemap_in, sitemaps_in, unplaced}
 use Rattle.texting_robots.specs.Steps.Group.{start_of, step, marks_from}
 
 -- ---- tests of places: of agent lines, group lines and agent lines of the name
@@ -53,7 +61,8 @@ some_passes test (line ∷ lines) =
     found later (inr some) = let (k, passes) = later some in (suc k, passes)
 
     at : (SomePasses test lines → list_any test lines ≡ true)
-        → (k : ℕ) → passes_at test (line ∷ lines) k ≡ true → list_any test (line ∷ lines) ≡ true
+        → (k : ℕ) → passes_at test (line ∷ lines) k ≡ true
+        → list_any test (line ∷ lines) ≡ true
     at later zero passes = or_left _ _ passes
     at later (suc k) passes = or_right _ _ (later (k, passes))
 
@@ -92,16 +101,19 @@ is_captured_decides name lines i =
     (j, below, is_named, λ (k, l, jk, kl, li, g, agent). apart (l, li, (agent, (k, kl, (jk, g))))))
     (λ (j, below, is_named, apart).
     (j, below, (is_named, λ (l, li, (agent, (k, kl, (jk, g)))). apart (k, l, jk, kl, li, g, agent))))
-    (named_decides (passes_at is_agent lines) (passes_at is_group lines) (passes_at (is_agent_named name) lines) i))
+    (named_decides (passes_at is_agent lines) (passes_at is_group lines)
+    (passes_at (is_agent_named name) lines) i))
 
 -- ---- one place further
 
-below_same : (f g : ℕ → Bool) (n : ℕ) → ((j : ℕ) → j < n → f j ≡ g j) → some_below f n ≡ some_below g n
+below_same : (f g : ℕ → Bool) (n : ℕ) → ((j : ℕ) → j < n → f j ≡ g j)
+    → some_below f n ≡ some_below g n
 below_same f g zero same = refl
 below_same f g (suc n) same =
     rw (same n (omega arith)) (ap (λ b. g n || b) (below_same f g n (λ j less. same j (omega arith))))
 
-none_below : (f : ℕ → Bool) (n : ℕ) → ((j : ℕ) → j < n → f j ≡ false) → some_below f n ≡ false
+none_below : (f : ℕ → Bool) (n : ℕ) → ((j : ℕ) → j < n → f j ≡ false)
+    → some_below f n ≡ false
 none_below f zero none = refl
 none_below f (suc n) none = rw (none n (omega arith)) (none_below f n (λ j less. none j (omega arith)))
 
@@ -124,7 +136,8 @@ absorbed A G j (suc i) = at (nat_lt j i && G i) (A i) (crossed G j i) (broken A 
     at false true false b same = same
     at false false c b same = same
 
-broken_next : (A G : ℕ → Bool) (j i : ℕ) → broken A G j (suc i) ≡ cond (A i) (crossed G j i) (broken A G j i)
+broken_next : (A G : ℕ → Bool) (j i : ℕ)
+    → broken A G j (suc i) ≡ cond (A i) (crossed G j i) (broken A G j i)
 broken_next A G j i = at (A i)
   where
     at : (a : Bool) → ((a && crossed G j i) || broken A G j i) ≡ cond a (crossed G j i) (broken A G j i)
@@ -132,7 +145,8 @@ broken_next A G j i = at (A i)
     at false = refl
 
 -- the last place, or an earlier one
-here_or_before : (N : ℕ → Bool) (f g : ℕ → Bool) (i : ℕ) → f i ≡ false → ((j : ℕ) → j < i → f j ≡ g j)
+here_or_before : (N : ℕ → Bool) (f g : ℕ → Bool) (i : ℕ) → f i ≡ false
+    → ((j : ℕ) → j < i → f j ≡ g j)
     → some_below (λ j. N j && not (f j)) (suc i) ≡ (N i || some_below (λ j. N j && not (g j)) i)
 here_or_before N f g i none same =
     rw (none, and-true)
@@ -179,23 +193,28 @@ pub stands_first : (name : List ℕ) (lines : List LineValue) → Stands name li
 stands_first name lines = record { captured = or-false _; named = refl }
 
 -- the tests at the place are those of its line
-named_on : (name : List ℕ) (lines : List LineValue) (i : ℕ) (line : LineValue) → slice_get lines i ≡ Some line
+named_on : (name : List ℕ) (lines : List LineValue) (i : ℕ) (line : LineValue)
+    → slice_get lines i ≡ Some line
     → is_captured name lines (i + 1) ≡ (not (list_any is_agent lines)
     || (is_agent_named name line || cond (is_agent line) (open_in name lines i) (named_in name lines i)))
 named_on name lines i line at =
     ap (is_captured name lines) (add-one i)
     ∙ ap (λ b. not (list_any is_agent lines) || b)
-    (named_next (passes_at is_agent lines) (passes_at is_group lines) (passes_at (is_agent_named name) lines) i)
+    (named_next (passes_at is_agent lines) (passes_at is_group lines)
+    (passes_at (is_agent_named name) lines) i)
     ∙ rw at refl
 
-open_on : (name : List ℕ) (lines : List LineValue) (i : ℕ) (line : LineValue) → slice_get lines i ≡ Some line
-    → open_in name lines (i + 1) ≡ (is_agent_named name line || (not (is_group line) && open_in name lines i))
+open_on : (name : List ℕ) (lines : List LineValue) (i : ℕ) (line : LineValue)
+    → slice_get lines i ≡ Some line
+    → open_in name lines (i + 1)
+    ≡ (is_agent_named name line || (not (is_group line) && open_in name lines i))
 open_on name lines i line at =
     ap (open_in name lines) (add-one i)
     ∙ open_next (passes_at is_group lines) (passes_at (is_agent_named name) lines) i
     ∙ rw at refl
 
-pub only_agents : (name : List ℕ) (line : LineValue) → is_agent line ≡ false → is_agent_named name line ≡ false
+pub only_agents : (name : List ℕ) (line : LineValue) → is_agent line ≡ false
+    → is_agent_named name line ≡ false
 only_agents name (UserAgent value) isnt = absurd (false≢true (sym isnt))
 only_agents name _ isnt = refl
 
@@ -207,11 +226,13 @@ stands_next name lines i walk line at stands = record {
     | inl is ↦ rw (is, (some_passes is_agent lines).1 (i, rw (at, is) refl), stands.named) refl
     | inr isnt ↦ rw (isnt, only_agents name line isnt) stands.captured
   ];
-  named = open_on name lines i line at ∙ ap (λ b. is_agent_named name line || (not (is_group line) && b)) stands.named;
+  named = open_on name lines i line at ∙ ap (λ b. is_agent_named name line || (not (is_group line) && b))
+      stands.named;
 }
 
 pub at_front : (lines : List LineValue) (place : ℕ) (line : LineValue) (rest : List LineValue)
-    → drop place lines ≡ line ∷ rest → (slice_get lines place ≡ Some line) × (drop (place + 1) lines ≡ rest)
+    → drop place lines ≡ line ∷ rest → (slice_get lines place ≡ Some line)
+    × (drop (place + 1) lines ≡ rest)
 at_front [] zero line rest h = absurd (let k : [] ≡ line ∷ rest = h in cc)
 at_front [] (suc n) line rest h = absurd (let k : [] ≡ line ∷ rest = h in cc)
 at_front (x ∷ lines) zero line rest h =
@@ -240,12 +261,14 @@ marks_are_walked name lines = marks_are name lines (start_of lines) 0 lines (sta
 -- ---- what lines give
 
 -- the rules without their lines are what the captured lines give
-unplaced_next : (number : ℕ) (found : Option Rule) (rest : List PlacedRule) (rules : List Rule) → unplaced rest ≡ rules
+unplaced_next : (number : ℕ) (found : Option Rule) (rest : List PlacedRule) (rules : List Rule)
+    → unplaced rest ≡ rules
     → unplaced (cons_option (placed number found) rest) ≡ cons_option found rules
 unplaced_next number None rest rules same = same
 unplaced_next number (Some rule) rest rules same = ap (λ (all : List Rule). rule ∷ all) same
 
-unplaced_found : (marks : List Mark) → unplaced (filter_map rule_at marks) ≡ filter_map (in_captured rule_in) marks
+unplaced_found : (marks : List Mark) → unplaced (filter_map rule_at marks) ≡ filter_map
+    (in_captured rule_in) marks
 unplaced_found [] = refl
 unplaced_found (mark ∷ marks) =
     unplaced_next mark.number (in_captured rule_in mark) (filter_map rule_at marks) _ (unplaced_found marks)
@@ -266,7 +289,8 @@ pub sitemaps_are : (name : List ℕ) (lines : List LineValue)
 sitemaps_are name lines = sitemaps_from (is_captured name lines) 0 lines
 
 -- what the walk finds in the lines that are left
-abbrev pub caught : {X : Type 0} → (LineValue → Option X) → List ℕ → Walk → ℕ → List LineValue → List X
+abbrev pub caught : {X : Type 0} → (LineValue → Option X) → List ℕ → Walk → ℕ
+    → List LineValue → List X
 caught given name walk place lines = filter_map (in_captured given) (marks_from name walk place lines)
 
 -- the walk from the start finds what the captured lines give

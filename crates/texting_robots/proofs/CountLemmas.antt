@@ -1,5 +1,6 @@
 -- A text has no more lines than bytes.
-use Rattle.std.proofs.Common.{ℕ, ◌+◌, ◌≤◌, ◌==◌, Bool, true, false, List, [], ◌∷◌, arith, if◌then◌else◌, length}
+use Rattle.std.proofs.Common.{ℕ, ◌+◌, ◌≤◌, ◌==◌, Bool, true, false}
+use Rattle.std.proofs.Common.{List, [], ◌∷◌, arith, if◌then◌else◌, length}
 use Rattle.std.proofs.lemmas.List.{length-map}
 use Rattle.texting_robots.specs.Cut.{Pair, cr, lf}
 use Rattle.texting_robots.specs.Steps.Cut.{before_body, before_end, cut, read_as, read_byte}

@@ -7,7 +7,8 @@ use Rattle.std.proofs.lemmas.List.{length-map}
 use Rattle.texting_robots.specs.Steps.Statement.{begins}
 
 module _ (spelling text key : List ℕ) (front : key ≡ take (length spelling) text) where
-  here : map to_ascii_lowercase (take (length (map to_ascii_lowercase spelling)) text) ≡ map to_ascii_lowercase key
+  here : map to_ascii_lowercase (take (length (map to_ascii_lowercase spelling)) text)
+      ≡ map to_ascii_lowercase key
   here = ap (λ n. map to_ascii_lowercase (take n text)) (length-map spelling to_ascii_lowercase)
       ∙ ap (map to_ascii_lowercase) (sym front)
 

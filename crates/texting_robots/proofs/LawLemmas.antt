@@ -1,7 +1,7 @@
 -- What a change of the lines leaves as it was.
-use Rattle.std.proofs.Common.{◌≡◌, ◌↔◌, inl, inr, ℕ, suc, ◌+◌, Bool, true, false, not, ◌||◌, List, [], ◌∷◌, ◌++◌}
-use Rattle.std.proofs.Common.{Option, None, slice_get, length, drop, filter, cond, codes, zero-add, add-zero, arith}
-use Rattle.std.proofs.Common.{sym, refl, ap, ◌∙◌, subst}
+use Rattle.std.proofs.Common.{◌≡◌, ◌↔◌, inl, inr, ℕ, suc, ◌+◌, Bool, true, false, not}
+use Rattle.std.proofs.Common.{◌||◌, List, [], ◌∷◌, ◌++◌, Option, None, slice_get, length, drop}
+use Rattle.std.proofs.Common.{filter, cond, codes, zero-add, add-zero, arith, sym, refl, ap, ◌∙◌, subst}
 use Rattle.std.specs.List.{Any, cons_option, filter_map, list_any}
 use Rattle.std.specs.Option.{option_or}
 use Rattle.std.specs.Str.{str_to_ascii_lowercase}
@@ -9,16 +9,17 @@ use Rattle.std.proofs.lemmas.Bool.{cases_Bool, false≢true, false_from_ne_true}
 use Rattle.texting_robots.specs.declared.groups.Walk.{Walk}
 use Rattle.texting_robots.specs.Line.{LineValue, UserAgent, Allow, Disallow, Sitemap, CrawlDelay, Raw}
 use Rattle.texting_robots.specs.Line.{delay_in, is_raw, is_sitemap}
-use Rattle.texting_robots.specs.Group.{from_captured, group_name, is_agent, is_agent_named, is_group, marks_of}
-use Rattle.texting_robots.specs.Rules.{Rule, before_agent, delay_before_agents, delay_for, rule_at, rule_in, rules_for}
-use Rattle.texting_robots.specs.Rules.{sitemap_in, sitemaps_in, unplaced}
+use Rattle.texting_robots.specs.Group.{from_captured, group_name, is_agent}
+use Rattle.texting_robots.specs.Group.{is_agent_named, is_group, marks_of}
+use Rattle.texting_robots.specs.Rules.{Rule, before_agent, delay_before_agents, delay_for, rule_at}
+use Rattle.texting_robots.specs.Rules.{rule_in, rules_for, sitemap_in, sitemaps_in, unplaced}
 use Rattle.texting_robots.specs.Pattern.{IsOverlong}
 use Rattle.texting_robots.specs.Verdict.{IsVerdict}
 use Rattle.texting_robots.specs.Steps.Group.{start_of, step}
 use Rattle.texting_robots.specs.Laws.{AgentCase, IsSameKind, RawChangesNothing, SameButSitemaps}
 use Rattle.texting_robots.specs.Laws.{SitemapsChangeNothingElse, UncapturedReachesNothing}
-use Rattle.texting_robots.proofs.CapturedLemmas.{Stands, at_front, caught, caught_all, is_captured_decides, only_agents}
-use Rattle.texting_robots.proofs.CapturedLemmas.{rules_are, stands_first, stands_next}
+use Rattle.texting_robots.proofs.CapturedLemmas.{Stands, at_front, caught, caught_all, is_captured_decides}
+use Rattle.texting_robots.proofs.CapturedLemmas.{only_agents, rules_are, stands_first, stands_next}
 
 -- ---- lines that play no part, and lines that differ in their value alone
 
@@ -38,7 +39,8 @@ no_delay : (line : LineValue) → is_group line ≡ false → delay_in line ≡ 
 no_delay (CrawlDelay delay) isnt = absurd (false≢true (sym isnt))
 no_delay _ isnt = refl
 
-neutral_step : (name : List ℕ) (walk : Walk) (line : LineValue) → IsNeutral line → step name walk line ≡ walk
+neutral_step : (name : List ℕ) (walk : Walk) (line : LineValue) → IsNeutral line
+    → step name walk line ≡ walk
 neutral_step name walk line is = rw (is.agent, is.group, only_agents name line is.agent) refl
 
 record IsAlike (line other : LineValue) : Type 0 where
@@ -52,13 +54,15 @@ alike_step : (name : List ℕ) (walk : Walk) (line other : LineValue) → IsAlik
     → step name walk line ≡ step name walk other
 alike_step name walk line other is = rw (is.agent, is.named name, is.group) refl
 
--- from a walk on, the lines give the same as the others: lines that play no part are left out, and one that isn't
--- captured may have another value
+-- from a walk on, the lines give the same as the others: lines that play no part are left out, and one that
+-- isn't captured may have another value
 data IsLike : List ℕ → Walk → List LineValue → List LineValue → Type 0 where
   none : {name : List ℕ} {walk : Walk} → IsLike name walk [] []
   both : {name : List ℕ} {walk : Walk} {lines others : List LineValue} (line : LineValue)
-      → IsLike name (step name walk line) lines others → IsLike name walk (line ∷ lines) (line ∷ others)
-  left_out : {name : List ℕ} {walk : Walk} {lines others : List LineValue} (line : LineValue) → IsNeutral line
+      → IsLike name (step name walk line) lines others
+      → IsLike name walk (line ∷ lines) (line ∷ others)
+  left_out : {name : List ℕ} {walk : Walk} {lines others : List LineValue} (line : LineValue)
+      → IsNeutral line
       → IsLike name walk lines others → IsLike name walk (line ∷ lines) others
   turned : {name : List ℕ} {walk : Walk} {lines others : List LineValue} (line other : LineValue)
       → IsAlike line other → walk.captured ≡ false → IsLike name (step name walk line) lines others
@@ -74,7 +78,8 @@ cond_same : {X : Type 0} (b : Bool) (x : X) → cond b x x ≡ x
 cond_same true x = refl
 cond_same false x = refl
 
-uncaught : {X : Type 0} (captured : Bool) (a b : Option X) (xs ys : List X) → captured ≡ false → xs ≡ ys
+uncaught : {X : Type 0} (captured : Bool) (a b : Option X) (xs ys : List X)
+    → captured ≡ false → xs ≡ ys
     → cons_option (cond captured a None) xs ≡ cons_option (cond captured b None) ys
 uncaught captured a b xs ys free same = rw free same
 
@@ -84,25 +89,31 @@ any_like : {name : List ℕ} {walk : Walk} {lines others : List LineValue} (test
     → IsLike name walk lines others → list_any test lines ≡ list_any test others
 any_like test drops same none = refl
 any_like test drops same (both line like) = ap (λ b. test line || b) (any_like test drops same like)
-any_like test drops same (left_out line neutral like) = rw (drops line neutral) (any_like test drops same like)
+any_like test drops same (left_out line neutral like) =
+    rw (drops line neutral) (any_like test drops same like)
 any_like test drops same (turned line other alike captured like) =
     rw (same line other alike) (ap (λ b. test other || b) (any_like test drops same like))
 
-caught_like : {X : Type 0} {name : List ℕ} {walk : Walk} {lines others : List LineValue} (given : LineValue → Option X)
-    → ((line : LineValue) → IsNeutral line → given line ≡ None) → (p q : ℕ) → IsLike name walk lines others
+caught_like : {X : Type 0} {name : List ℕ} {walk : Walk} {lines others : List LineValue}
+    (given : LineValue → Option X)
+    → ((line : LineValue) → IsNeutral line → given line ≡ None) → (p q : ℕ)
+    → IsLike name walk lines others
     → caught given name walk p lines ≡ caught given name walk q others
 caught_like given drops p q none = refl
 caught_like {walk = walk} given drops p q (both line like) =
-    ap (λ found. cons_option (cond walk.captured (given line) None) found) (caught_like given drops (p + 1) (q + 1) like)
+    ap (λ found. cons_option (cond walk.captured (given line) None) found)
+    (caught_like given drops (p + 1) (q + 1) like)
 caught_like {X = X} {name = name} {walk = walk} given drops p q (left_out line neutral like) =
     rw (drops line neutral, cond_same {X = Option X} walk.captured None, neutral_step name walk line neutral)
     (caught_like given drops (p + 1) q like)
-caught_like {name = name} {walk = walk} {others = _ ∷ others} given drops p q (turned line other alike free like) =
+caught_like {name = name} {walk = walk} {others = _ ∷ others} given drops p q
+    (turned line other alike free like) =
     let later = λ (w : Walk). caught given name w (q + 1) others in
     uncaught walk.captured (given line) (given other) _ _ free
     (caught_like given drops (p + 1) (q + 1) like ∙ ap later (alike_step name walk line other alike))
 
-before_like : {name : List ℕ} {walk : Walk} {lines others : List LineValue} → IsLike name walk lines others
+before_like : {name : List ℕ} {walk : Walk} {lines others : List LineValue}
+    → IsLike name walk lines others
     → filter_map delay_in (before_agent lines) ≡ filter_map delay_in (before_agent others)
 before_like none = refl
 before_like (both line like) = elim (cases_Bool (is_agent line)) [
@@ -112,7 +123,8 @@ before_like (both line like) = elim (cases_Bool (is_agent line)) [
 before_like (left_out line neutral like) = rw (neutral.agent, no_delay line neutral.group) (before_like like)
 before_like (turned line other alike captured like) = elim (cases_Bool (is_agent other)) [
   | inl agent ↦ rw (alike.agent, agent) refl
-  | inr isnt ↦ rw (alike.agent, isnt, alike.delay) (ap (λ found. cons_option (delay_in other) found) (before_like like))
+  | inr isnt ↦ rw (alike.agent, isnt, alike.delay)
+      (ap (λ found. cons_option (delay_in other) found) (before_like like))
 ]
 
 along : {X : Type 0} (P : X → Type 0) (x y : X) → x ≡ y → P x ↔ P y
@@ -128,18 +140,22 @@ same_from agent lines other others rules delay = record {
   refusal = along (λ (r : List Rule). Any (λ (rule : Rule). IsOverlong rule.0) r) _ _ rules;
 }
 
-module _ (agent : List ℕ) (lines others : List LineValue) (like : IsLike (group_name agent lines) (start_of lines) lines others) where
+module _ (agent : List ℕ) (lines others : List LineValue)
+    (like : IsLike (group_name agent lines) (start_of lines) lines others) where
   agents_like : list_any is_agent lines ≡ list_any is_agent others
   agents_like = any_like is_agent (λ line is. is.agent) (λ line other is. is.agent) like
 
   name_like : group_name agent lines ≡ group_name agent others
   name_like =
       let low = str_to_ascii_lowercase agent in
-      ap (λ b. cond b low (codes "*")) (any_like (is_agent_named low) (λ line is. only_agents low line is.agent)
+      ap (λ b. cond b low (codes "*"))
+      (any_like (is_agent_named low) (λ line is. only_agents low line is.agent)
       (λ line other is. is.named low) like)
 
-  captured_like : {X : Type 0} (given : LineValue → Option X) → ((line : LineValue) → IsNeutral line → given line ≡ None)
-      → from_captured given (group_name agent lines) lines ≡ from_captured given (group_name agent others) others
+  captured_like : {X : Type 0} (given : LineValue → Option X)
+      → ((line : LineValue) → IsNeutral line → given line ≡ None)
+      → from_captured given (group_name agent lines) lines ≡ from_captured given
+      (group_name agent others) others
   captured_like given drops =
       let name = group_name agent lines in
       let start : start_of lines ≡ start_of others =
@@ -159,7 +175,8 @@ module _ (agent : List ℕ) (lines others : List LineValue) (like : IsLike (grou
 -- ---- lines that are left out
 
 kept_like : (keep : LineValue → Bool) → ((line : LineValue) → keep line ≡ false → IsNeutral line)
-    → (name : List ℕ) (walk : Walk) (lines : List LineValue) → IsLike name walk lines (filter keep lines)
+    → (name : List ℕ) (walk : Walk) (lines : List LineValue)
+    → IsLike name walk lines (filter keep lines)
 kept_like keep neutral name walk [] = none
 kept_like keep neutral name walk (line ∷ lines) = elim (cases_Bool (keep line)) [
   | inl keeps ↦ rw keeps (both line (kept_like keep neutral name (step name walk line) lines))
@@ -175,21 +192,27 @@ found_kept given keep drops (line ∷ lines) = elim (cases_Bool (keep line)) [
   | inr dropped ↦ rw (dropped, drops line dropped) (found_kept given keep drops lines)
 ]
 
-turned_around : (agent : List ℕ) (lines others : List LineValue) → SameButSitemaps agent lines agent others
+turned_around : (agent : List ℕ) (lines others : List LineValue)
+    → SameButSitemaps agent lines agent others
     → SameButSitemaps agent others agent lines
 turned_around agent lines others same = same_from agent others agent lines (sym same.rules) (sym same.delay)
 
-both_ways : (agent : List ℕ) (lines between others : List LineValue) → SameButSitemaps agent lines agent between
+both_ways : (agent : List ℕ) (lines between others : List LineValue)
+    → SameButSitemaps agent lines agent between
     → SameButSitemaps agent between agent others → SameButSitemaps agent lines agent others
 both_ways agent lines between others one two =
     same_from agent lines agent others (one.rules ∙ two.rules) (one.delay ∙ two.delay)
 
-pub same_filtered : (keep : LineValue → Bool) → ((line : LineValue) → keep line ≡ false → IsNeutral line)
+pub same_filtered : (keep : LineValue → Bool)
+    → ((line : LineValue) → keep line ≡ false → IsNeutral line)
     → (agent : List ℕ) (lines : List LineValue) → SameButSitemaps agent lines agent (filter keep lines)
-same_filtered keep neutral agent lines = same_like agent lines (filter keep lines) (kept_like keep neutral _ _ lines)
+same_filtered keep neutral agent lines =
+    same_like agent lines (filter keep lines) (kept_like keep neutral _ _ lines)
 
-same_kept : (keep : LineValue → Bool) → ((line : LineValue) → keep line ≡ false → IsNeutral line) → (agent : List ℕ)
-    (lines others : List LineValue) → filter keep lines ≡ filter keep others → SameButSitemaps agent lines agent others
+same_kept : (keep : LineValue → Bool) → ((line : LineValue) → keep line ≡ false → IsNeutral line)
+    → (agent : List ℕ)
+    (lines others : List LineValue) → filter keep lines ≡ filter keep others
+    → SameButSitemaps agent lines agent others
 same_kept keep neutral agent lines others same =
     let left = same_filtered keep neutral agent in
     both_ways agent lines (filter keep lines) others (left lines)
@@ -246,7 +269,8 @@ abbrev walked : List ℕ → Walk → List LineValue → Walk
 walked name walk [] = walk
 walked name walk (line ∷ lines) = walked name (step name walk line) lines
 
-stands_walked : (name : List ℕ) (all : List LineValue) (walk : Walk) (place : ℕ) (front back : List LineValue)
+stands_walked : (name : List ℕ) (all : List LineValue) (walk : Walk) (place : ℕ)
+    (front back : List LineValue)
     → Stands name all place walk → drop place all ≡ front ++ back
     → Stands name all (place + length front) (walked name walk front)
 stands_walked name all walk place [] back stands left = rw (add-zero place) stands
@@ -256,9 +280,12 @@ stands_walked name all walk place (line ∷ front) back stands left =
     let sum : place + suc (length front) ≡ (place + 1) + length front = omega arith in
     rw sum (stands_walked name all (step name walk line) (place + 1) front back here next)
 
-turned_like : (name : List ℕ) (walk : Walk) (front back : List LineValue) (line other : LineValue) → IsAlike line other
-    → (walked name walk front).captured ≡ false → IsLike name walk (front ++ line ∷ back) (front ++ other ∷ back)
-turned_like name walk [] back line other alike free = turned line other alike free (itself name (step name walk line) back)
+turned_like : (name : List ℕ) (walk : Walk) (front back : List LineValue) (line other : LineValue)
+    → IsAlike line other
+    → (walked name walk front).captured ≡ false
+    → IsLike name walk (front ++ line ∷ back) (front ++ other ∷ back)
+turned_like name walk [] back line other alike free =
+    turned line other alike free (itself name (step name walk line) back)
 turned_like name walk (first ∷ front) back line other alike free =
     both first (turned_like name (step name walk first) front back line other alike free)
 
@@ -282,9 +309,13 @@ uncaptured_reaches_nothing agent front back line other kind uncaptured =
     let lines : List LineValue = front ++ line ∷ back in
     let name = group_name agent lines in
     let alike = same_kind line other kind in
-    let stands = stands_walked name lines (start_of lines) 0 front (line ∷ back) (stands_first name lines) refl in
-    let here : Stands name lines (length front) (walked name (start_of lines) front) = rw (zero-add (length front)) at stands in
-    let free = false_from_ne_true _ (λ h. uncaptured ((is_captured_decides _ _ _).0 (here.captured ∙ h))) in (
-      same_like agent lines (front ++ other ∷ back) (turned_like name (start_of lines) front back line other alike free),
+    let stands = stands_walked name lines (start_of lines) 0 front (line ∷ back)
+    (stands_first name lines) refl in
+    let here : Stands name lines (length front) (walked name (start_of lines) front) =
+    rw (zero-add (length front)) at stands in
+    let free =
+    false_from_ne_true _ (λ h. uncaptured ((is_captured_decides _ _ _).0 (here.captured ∙ h))) in (
+      same_like agent lines (front ++ other ∷ back)
+          (turned_like name (start_of lines) front back line other alike free),
       found_alike front back line other alike,
     )

@@ -1,5 +1,7 @@
 -- What the order of patterns says in words.
-use Rattle.std.proofs.Common.{◌≡◌, ◌↔◌, ◌⊎◌, ℕ, ◌<◌, true, false, ◌==◌, nat_lt, inl, inr, List, [], ◌∷◌, ◌++◌, length, Less, Equal, Greater, sym, refl, ap, ◌∙◌, arith}
+use Rattle.std.proofs.Common.{◌≡◌, ◌↔◌, ◌⊎◌, ℕ, ◌<◌, true, false}
+use Rattle.std.proofs.Common.{◌==◌, nat_lt, inl, inr, List, [], ◌∷◌, ◌++◌}
+use Rattle.std.proofs.Common.{length, Less, Equal, Greater, sym, refl, ap, ◌∙◌, arith}
 use Rattle.std.specs.Ordering.{nat_cmp}
 use Rattle.std.specs.Cmp.Lexicographic.{slice_cmp}
 use Rattle.std.proofs.lemmas.Bool.{cases_order, lt-ltb}
@@ -15,10 +17,12 @@ pub below : (x y : ℕ) → x < y → nat_cmp x y ≡ Less
 below x y h = rw (lt-ltb x y h) refl
 
 pub alike : (x : ℕ) → nat_cmp x x ≡ Equal
-alike x = let lt : nat_lt x x ≡ false = grind (arith, nat_tests) in let eq : (x == x) ≡ true = grind (arith, nat_tests) in rw (lt, eq) refl
+alike x = let lt : nat_lt x x ≡ false = grind (arith, nat_tests) in
+    let eq : (x == x) ≡ true = grind (arith, nat_tests) in rw (lt, eq) refl
 
 above : (x y : ℕ) → y < x → nat_cmp x y ≡ Greater
-above x y h = let lt : nat_lt x y ≡ false = grind (arith, nat_tests) in let eq : (x == y) ≡ false = grind (arith, nat_tests) in rw (lt, eq) refl
+above x y h = let lt : nat_lt x y ≡ false = grind (arith, nat_tests) in
+    let eq : (x == y) ≡ false = grind (arith, nat_tests) in rw (lt, eq) refl
 
 smaller : (p q : List ℕ) → length p ≡ length q → slice_cmp nat_cmp p q ≡ Less → IsSmaller p q
 smaller [] [] n h = absurd (let k : Equal ≡ Less = h in cc)
@@ -37,7 +41,8 @@ smaller (x ∷ p) (y ∷ q) n h =
             right_rest = later.right_rest;
             less = later.less;
             is_left = ap (λ t. x ∷ t) later.is_left;
-            is_right = ap (λ t. y ∷ t) later.is_right ∙ ap (λ z. z ∷ (later.same ++ later.greater ∷ later.right_rest)) (sym same);
+            is_right = ap (λ t. y ∷ t) later.is_right
+                ∙ ap (λ z. z ∷ (later.same ++ later.greater ∷ later.right_rest)) (sym same);
           }
       | inr (inl less) ↦ record {
         same = [];
@@ -52,7 +57,8 @@ smaller (x ∷ p) (y ∷ q) n h =
       | inr (inr more) ↦ absurd (let k : Greater ≡ Less = rw (above x y more) at h in cc)
     ]
 
-larger : (front : List ℕ) (a b : ℕ) (more rest : List ℕ) → a < b → slice_cmp nat_cmp (front ++ a ∷ more) (front ++ b ∷ rest) ≡ Less
+larger : (front : List ℕ) (a b : ℕ) (more rest : List ℕ) → a < b
+    → slice_cmp nat_cmp (front ++ a ∷ more) (front ++ b ∷ rest) ≡ Less
 larger [] a b more rest h = rw (below a b h) refl
 larger (x ∷ front) a b more rest h = rw (alike x) (larger front a b more rest h)
 
@@ -61,7 +67,8 @@ less_is_before p q = (
   λ h. elim (cases_order (length q) (length p)) [
     | inl same ↦ inr (sym same, smaller p q (sym same) (rw (same, alike (length p)) at h))
     | inr (inl longer) ↦ inl longer
-    | inr (inr shorter) ↦ absurd (let k : Greater ≡ Less = rw (above (length q) (length p) shorter) at h in cc)
+    | inr (inr shorter) ↦ absurd
+        (let k : Greater ≡ Less = rw (above (length q) (length p) shorter) at h in cc)
   ],
   λ before. elim before [
     | inl longer ↦ rw (below (length q) (length p) longer) refl
@@ -77,7 +84,8 @@ equal_bytes [] (y ∷ q) h = absurd (let k : Less ≡ Equal = h in cc)
 equal_bytes (x ∷ p) [] h = absurd (let k : Greater ≡ Equal = h in cc)
 equal_bytes (x ∷ p) (y ∷ q) h =
     elim (cases_order x y) [
-      | inl same ↦ let k : slice_cmp nat_cmp p q ≡ Equal = rw (same, alike y) at h in rw (same, equal_bytes p q k) refl
+      | inl same ↦ let k : slice_cmp nat_cmp p q ≡ Equal = rw (same, alike y) at h in
+          rw (same, equal_bytes p q k) refl
       | inr (inl less) ↦ absurd (let k : Less ≡ Equal = rw (below x y less) at h in cc)
       | inr (inr more) ↦ absurd (let k : Greater ≡ Equal = rw (above x y more) at h in cc)
     ]
@@ -90,19 +98,23 @@ pub equal_is_same : (p q : List ℕ) → (pattern_cmp p q ≡ Equal) ↔ (p ≡ 
 equal_is_same p q = (
   λ h. elim (cases_order (length q) (length p)) [
     | inl same ↦ equal_bytes p q (rw (same, alike (length p)) at h)
-    | inr (inl longer) ↦ absurd (let k : Less ≡ Equal = rw (below (length q) (length p) longer) at h in cc)
-    | inr (inr shorter) ↦ absurd (let k : Greater ≡ Equal = rw (above (length q) (length p) shorter) at h in cc)
+    | inr (inl longer) ↦ absurd (let k : Less ≡ Equal = rw (below (length q) (length p) longer) at h in
+        cc)
+    | inr (inr shorter) ↦ absurd
+        (let k : Greater ≡ Equal = rw (above (length q) (length p) shorter) at h in cc)
   ],
   λ same. rw (same, alike (length q)) (same_bytes q),
 )
 
 pattern_total : IsTotalOrder pattern_cmp
-pattern_total = then_total (back_total (on_total (λ (p : List ℕ). length p) nat_cmp_total)) nat_list_cmp_total
+pattern_total =
+    then_total (back_total (on_total (λ (p : List ℕ). length p) nat_cmp_total)) nat_list_cmp_total
 
 greater_turned : (p q : List ℕ) → pattern_cmp p q ≡ Greater → pattern_cmp q p ≡ Less
 greater_turned p q h = pattern_total.antisymm q p ∙ ap ordering_reverse h
 
-three : (p q : List ℕ) (o : Ordering) → pattern_cmp p q ≡ o → (p ≡ q) ⊎ (IsBefore p q ⊎ IsBefore q p)
+three : (p q : List ℕ) (o : Ordering) → pattern_cmp p q ≡ o → (p ≡ q)
+    ⊎ (IsBefore p q ⊎ IsBefore q p)
 three p q Less is = inr (inl ((less_is_before p q).0 is))
 three p q Equal is = inl ((equal_is_same p q).0 is)
 three p q Greater is = inr (inr ((less_is_before q p).0 (greater_turned p q is)))
@@ -110,7 +122,12 @@ three p q Greater is = inr (inr ((less_is_before q p).0 (greater_turned p q is))
 pub order_agrees : OrderAgrees
 order_agrees = record {
   one = λ p q. three p q (pattern_cmp p q) refl;
-  not_both = λ p q before after. let first = (less_is_before p q).1 before in let second = (less_is_before q p).1 after in let k : Less ≡ Greater = sym first ∙ pattern_total.antisymm p q ∙ ap ordering_reverse second in cc;
-  not_equal = λ p before. let first = (less_is_before p p).1 before in let k : Less ≡ Equal = sym first ∙ (equal_is_same p p).1 refl in cc;
-  transitive = λ p q r first second. (less_is_before p r).0 (pattern_total.trans p q r ((less_is_before p q).1 first) ((less_is_before q r).1 second));
+  not_both = λ p q before after. let first = (less_is_before p q).1 before in
+      let second = (less_is_before q p).1 after in
+      let k : Less ≡ Greater = sym first ∙ pattern_total.antisymm p q ∙ ap ordering_reverse second in
+      cc;
+  not_equal = λ p before. let first = (less_is_before p p).1 before in
+      let k : Less ≡ Equal = sym first ∙ (equal_is_same p p).1 refl in cc;
+  transitive = λ p q r first second. (less_is_before p r).0
+      (pattern_total.trans p q r ((less_is_before p q).1 first) ((less_is_before q r).1 second));
 }

@@ -1,6 +1,7 @@
 -- What a pattern matches, piece by piece.
-use Rattle.std.proofs.Common.{◌≡◌, ◌≢◌, ◌↔◌, ℕ, suc, ◌+◌, ◌==◌, ◌&&◌, Bool, true, false, inl, inr}
-use Rattle.std.proofs.Common.{List, [], ◌∷◌, ◌++◌, All, drop, refl, sym, ap, subst, ◌∙◌, append_assoc, arith}
+use Rattle.std.proofs.Common.{◌≡◌, ◌≢◌, ◌↔◌, ℕ, suc, ◌+◌, ◌==◌}
+use Rattle.std.proofs.Common.{◌&&◌, Bool, true, false, inl, inr, List, [], ◌∷◌, ◌++◌}
+use Rattle.std.proofs.Common.{All, drop, refl, sym, ap, subst, ◌∙◌, append_assoc, arith}
 use Rattle.std.specs.List.{list_all, prefix_len}
 use Rattle.std.proofs.lemmas.Bool.{cases_Bool, eqb-true, ne_eqb, or_cases, or_parts, false≢true}
 use Rattle.std.proofs.lemmas.List.Elements.{All-head, All-tail, All-weaker}
@@ -17,7 +18,8 @@ plain_stars = All-weaker (λ b. b ≢ star) (IsPlain false) (λ b other. (ne_eqb
 
 pub plain_marks : (piece : List ℕ) → All (λ b. is_mark b ≡ false) piece → All (IsPlain true) piece
 plain_marks =
-    All-weaker (λ b. is_mark b ≡ false) (IsPlain true) (λ b other. or_parts (b == star) (b == dollar) other)
+    All-weaker (λ b. is_mark b ≡ false) (IsPlain true)
+    (λ b other. or_parts (b == star) (b == dollar) other)
 
 -- an end of an end
 pub suffix_trans : {a b c : List ℕ} → IsSuffix a b → IsSuffix b c → IsSuffix a c
@@ -70,10 +72,12 @@ module _ (anchors : Bool) where
         let is = eqb-true b star first in
         let n = prefix_len (λ b. b == star) q in
         let one_more : 1 + n ≡ suc n = omega arith in
-        let skips : behind_stars (b ∷ q) ≡ behind_stars q = rw first (ap (λ n. drop n (b ∷ q)) one_more) in
+        let skips : behind_stars (b ∷ q) ≡ behind_stars q =
+        rw first (ap (λ n. drop n (b ∷ q)) one_more) in
         let (drops, adds) = star_star (b ∷ q) t first in
         let (to, from) = star_stars q t in
-        subst (λ x. MatchesWith anchors (star ∷ x) t ↔ MatchesWith anchors (star ∷ b ∷ q) t) (sym skips) (
+        subst (λ x. MatchesWith anchors (star ∷ x) t ↔ MatchesWith anchors (star ∷ b ∷ q) t)
+        (sym skips) (
           λ m. adds (subst (λ x. MatchesWith anchors (x ∷ q) t) (sym is) (to m)),
           λ m. from (subst (λ x. MatchesWith anchors (x ∷ q) t) is (drops m)),
         )
@@ -89,7 +93,8 @@ module _ (anchors : Bool) where
     | inl star ↦ rw star (λ (s, i, m). (s, i, (same s).0 m), λ (s, i, m). (s, i, (same s).1 m))
     | inr other ↦ elim (cases_Bool (anchors && (b == dollar))) [
       | inl end ↦ rw (other, end) (λ (s, e, m). (s, e, (same s).0 m), λ (s, e, m). (s, e, (same s).1 m))
-      | inr plain ↦ rw (other, plain) (λ (s, e, m). (s, e, (same s).0 m), λ (s, e, m). (s, e, (same s).1 m))
+      | inr plain ↦ rw (other, plain)
+          (λ (s, e, m). (s, e, (same s).0 m), λ (s, e, m). (s, e, (same s).1 m))
     ]
   ]
 
@@ -114,7 +119,8 @@ only_marks_match (b ∷ q) =
         λ (s, (front, e), m). match (rw (none_left front s e) at m),
       )
       | inr other ↦ elim (cases_Bool (b == dollar)) [
-        | inl end ↦ rw (other, end) (λ m. ([], (refl, refl), marks m), λ (s, (e, gone), m). match (rw gone at m))
+        | inl end ↦ rw (other, end)
+            (λ m. ([], (refl, refl), marks m), λ (s, (e, gone), m). match (rw gone at m))
         | inr plain ↦ rw (other, plain) (λ e. absurd (false≢true e), λ (s, e, m). cc)
       ]
     ]
@@ -141,7 +147,8 @@ grows_at_mark (b ∷ q) at_mark other = elim (or_cases (b == star) (b == dollar)
 ]
 
 -- any other pattern that begins with a mark matches nothing
-pub mark_matches_none : (q t : List ℕ) → IsAtMark q → q ≢ [] → ((rest : List ℕ) → q ≢ star ∷ rest)
+pub mark_matches_none : (q t : List ℕ) → IsAtMark q → q ≢ []
+    → ((rest : List ℕ) → q ≢ star ∷ rest)
     → ¬ Closes q → ¬ Matches q t
 mark_matches_none [] t at_mark some no_star other = absurd (some refl)
 mark_matches_none (b ∷ q) t at_mark some no_star other = elim (or_cases (b == star) (b == dollar) at_mark) [

@@ -1,5 +1,6 @@
 -- The line that decides holds the rule that decides.
-use Rattle.std.proofs.Common.{◌≡◌, ℕ, zero, suc, ◌+◌, Bool, true, false, cond, List, [], ◌∷◌, Option, Some, None, map}
+use Rattle.std.proofs.Common.{◌≡◌, ℕ, zero, suc, ◌+◌, Bool, true, false}
+use Rattle.std.proofs.Common.{cond, List, [], ◌∷◌, Option, Some, None, map}
 use Rattle.std.proofs.Common.{slice_get, refl, sym, ap, ◌∙◌, arith, zero-add}
 use Rattle.std.specs.List.{Contains, cons_option, enumerate_from, filter_map}
 use Rattle.std.specs.Str.{is_utf8}
@@ -18,7 +19,8 @@ from_later : {X Y : Type 0} (f : X → Option Y) (first : X) (xs : List X) (y : 
     → ComesFrom f (first ∷ xs) y
 from_later f first xs y (x, (k, below, here), is) = (x, (suc k, omega arith, here), is)
 
-from_first : {X Y : Type 0} (f : X → Option Y) (first : X) (xs : List X) (y : Y) (o : Option Y) → f first ≡ o
+from_first : {X Y : Type 0} (f : X → Option Y) (first : X) (xs : List X) (y : Y) (o : Option Y)
+    → f first ≡ o
     → (Contains (filter_map f xs) y → ComesFrom f xs y) → Contains (cons_option o (filter_map f xs)) y
     → ComesFrom f (first ∷ xs) y
 from_first f first xs y None is later has = from_later f first xs y (later has)
@@ -27,7 +29,8 @@ from_first f first xs y (Some z) is later (zero, below, here) =
 from_first f first xs y (Some z) is later (suc k, below, here) =
     from_later f first xs y (later (k, omega arith, here))
 
-found_in : {X Y : Type 0} (f : X → Option Y) (xs : List X) (y : Y) → Contains (filter_map f xs) y → ComesFrom f xs y
+found_in : {X Y : Type 0} (f : X → Option Y) (xs : List X) (y : Y) → Contains (filter_map f xs) y
+    → ComesFrom f xs y
 found_in f [] y (k, below, at) = absurd (omega arith)
 found_in f (x ∷ xs) y has = from_first f x xs y (f x) refl (found_in f xs y) has
 
@@ -42,7 +45,12 @@ mark_at : (test : ℕ → Bool) (start : ℕ) (lines : List LineValue) (mark : M
     → Contains (map (by_test test) (enumerate_from start lines)) mark → IsMarkAt test start lines mark
 mark_at test start [] mark (k, below, at) = absurd (omega arith)
 mark_at test start (line ∷ lines) mark (zero, below, at) =
-    record { place = 0; line = line; at = refl; is = sym at ∙ ap (λ n. by_test test (n, line)) (omega arith) }
+    record {
+      place = 0;
+      line = line;
+      at = refl;
+      is = sym at ∙ ap (λ n. by_test test (n, line)) (omega arith);
+    }
 mark_at test start (line ∷ lines) mark (suc k, below, at) =
     let later = mark_at test (start + 1) lines mark (k, omega arith, at) in
     record {
@@ -60,7 +68,8 @@ record Gives (number : ℕ) (line : LineValue) (found : PlacedRule) : Type 0 whe
   utf8 : is_utf8 value ≡ true
   is_number : found.line ≡ number
 
-value_gives : (number : ℕ) (value : List ℕ) (is_allow utf8 : Bool) (found : PlacedRule) → is_utf8 value ≡ utf8
+value_gives : (number : ℕ) (value : List ℕ) (is_allow utf8 : Bool) (found : PlacedRule)
+    → is_utf8 value ≡ utf8
     → placed number (cond utf8 (Some (escaped value, is_allow)) None) ≡ Some found
     → Gives number (cond is_allow (Allow value) (Disallow value)) found
 value_gives number value is_allow true found text is =
@@ -70,17 +79,23 @@ value_gives number value is_allow true found text is =
 value_gives number value is_allow false found text is =
     absurd (let wrong : ◌≡◌ {A = Option PlacedRule} None (Some found) = is in cc)
 
-line_gives : (number : ℕ) (line : LineValue) (found : PlacedRule) → placed number (rule_in line) ≡ Some found
+line_gives : (number : ℕ) (line : LineValue) (found : PlacedRule)
+    → placed number (rule_in line) ≡ Some found
     → Gives number line found
 line_gives number (Allow value) found is = value_gives number value true (is_utf8 value) found refl is
 line_gives number (Disallow value) found is = value_gives number value false (is_utf8 value) found refl is
-line_gives number (UserAgent value) found is = absurd (let k : ◌≡◌ {A = Option PlacedRule} None (Some found) = is in cc)
-line_gives number (Sitemap value) found is = absurd (let k : ◌≡◌ {A = Option PlacedRule} None (Some found) = is in cc)
-line_gives number (CrawlDelay delay) found is = absurd (let k : ◌≡◌ {A = Option PlacedRule} None (Some found) = is in cc)
-line_gives number (Raw body) found is = absurd (let k : ◌≡◌ {A = Option PlacedRule} None (Some found) = is in cc)
+line_gives number (UserAgent value) found is =
+    absurd (let k : ◌≡◌ {A = Option PlacedRule} None (Some found) = is in cc)
+line_gives number (Sitemap value) found is =
+    absurd (let k : ◌≡◌ {A = Option PlacedRule} None (Some found) = is in cc)
+line_gives number (CrawlDelay delay) found is =
+    absurd (let k : ◌≡◌ {A = Option PlacedRule} None (Some found) = is in cc)
+line_gives number (Raw body) found is =
+    absurd (let k : ◌≡◌ {A = Option PlacedRule} None (Some found) = is in cc)
 
 captured_gives : (captured : Bool) (number : ℕ) (line : LineValue) (found : PlacedRule)
-    → placed number (cond captured (rule_in line) None) ≡ Some found → (captured ≡ true) × Gives number line found
+    → placed number (cond captured (rule_in line) None) ≡ Some found → (captured ≡ true)
+    × Gives number line found
 captured_gives true number line found is = (refl, line_gives number line found is)
 captured_gives false number line found is =
     absurd (let wrong : ◌≡◌ {A = Option PlacedRule} None (Some found) = is in cc)

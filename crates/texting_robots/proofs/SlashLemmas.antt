@@ -1,12 +1,13 @@
 -- A text with a slash in front is no absolute URL, so it is prepared by escaping it.
-use Rattle.std.proofs.Common.{◌≡◌, ℕ, ◌+◌, ◌-◌, ◌≤◌, None, Err, List, [], ◌∷◌, ◌++◌, length, take, suc}
-use Rattle.std.proofs.Common.{ap, arith}
+use Rattle.std.proofs.Common.{◌≡◌, ℕ, ◌+◌, ◌-◌, ◌≤◌, None, Err}
+use Rattle.std.proofs.Common.{List, [], ◌∷◌, ◌++◌, length, take, suc, ap, arith}
 use Rattle.std.specs.List.{prefix_len, suffix_len}
 use Rattle.std.specs.Prelude.{reverse, slice_index}
 use Rattle.std.proofs.lemmas.Bool.{cond_both}
 use Rattle.std.proofs.lemmas.List.{length-reverse, reverse-append}
 use Rattle.url.specs.declared.error.ParseError.TheVariants.{RelativeUrlWithoutBase}
-use Rattle.url.specs.Input.{is_c0_control_or_space, trim_c0_control_and_space, strip_tabs_and_new_lines, split_once}
+use Rattle.url.specs.Input.{is_c0_control_or_space, trim_c0_control_and_space}
+use Rattle.url.specs.Input.{strip_tabs_and_new_lines, split_once}
 use Rattle.url.specs.Scheme.{scheme_len}
 use Rattle.url.specs.Parts.{Parts}
 use Rattle.url.specs.Parser.{Parsed, parse_by_scheme, split_scheme, parse_url}
@@ -23,7 +24,8 @@ trimmed_front text = prefix_len is_c0_control_or_space text
 stops : (xs : List ℕ) → trimmed_front (xs ++ slash ∷ []) ≤ length xs
 stops [] = omega arith
 stops (x ∷ xs) =
-    cond_both (is_c0_control_or_space x) (1 + trimmed_front (xs ++ slash ∷ [])) 0 (λ n. n ≤ length (x ∷ xs))
+    cond_both (is_c0_control_or_space x) (1 + trimmed_front (xs ++ slash ∷ [])) 0
+    (λ n. n ≤ length (x ∷ xs))
     (λ _. omega (arith, stops xs)) (λ _. omega arith)
 
 -- the trim leaves the slash
@@ -32,7 +34,8 @@ trimmed : (rest : List ℕ) → trim_c0_control_and_space (slash ∷ rest)
 unfolding trim_c0_control_and_space
 trimmed rest =
     let taken = suffix_len is_c0_control_or_space (slash ∷ rest) in
-    let turned : taken ≡ trimmed_front (reverse rest ++ slash ∷ []) = ap trimmed_front (reverse-append (slash ∷ []) rest) in
+    let turned : taken ≡ trimmed_front (reverse rest ++ slash ∷ []) =
+    ap trimmed_front (reverse-append (slash ∷ []) rest) in
     let few : taken ≤ length rest = omega (arith, turned, stops (reverse rest), length-reverse rest) in
     let more : length (slash ∷ rest) - taken ≡ suc (length rest - taken) = omega (arith, few) in
     ap (λ n. take n (slash ∷ rest)) more
@@ -45,7 +48,8 @@ parsed_from text =
     parse_by_scheme (split_scheme question.0) None question.0 question.1 hash.1
 
 no_url : (rest : List ℕ) → parse_url None (slash ∷ rest) ≡ Err RelativeUrlWithoutBase
-unfolding parse_url strip_tabs_and_new_lines split_once split_scheme scheme_len trim_c0_control_and_space parsed_from
+unfolding parse_url strip_tabs_and_new_lines split_once split_scheme scheme_len trim_c0_control_and_space
+    parsed_from
 no_url rest = ap parsed_from (trimmed rest)
 
 pub slash_prepared : (text : List ℕ) → slice_index text 0 ≡ slash → prepared text ≡ escaped text

@@ -1,19 +1,27 @@
 -- A body is a statement of one kind with one value at most: the one that the walk gives.
-use Rattle.std.proofs.Common.{◌≡◌, ◌≢◌, ℕ, suc, ◌+◌, ◌<◌, true, false, ◌==◌, ◌||◌, inl, inr, List, [], ◌∷◌, ◌++◌, length, take, drop, map, sym, refl, ap, ◌∙◌, arith, if◌then◌else◌, Option, Some, None, option_map, length-append, subst, nat_lt, Bor, MatchOption}
+use Rattle.std.proofs.Common.{◌≡◌, ◌≢◌, ℕ, suc, ◌+◌, ◌<◌, true, false, ◌==◌}
+use Rattle.std.proofs.Common.{◌||◌, inl, inr, List, [], ◌∷◌, ◌++◌, length, take, drop}
+use Rattle.std.proofs.Common.{map, sym, refl, ap, ◌∙◌, arith, if◌then◌else◌, Option, Some}
+use Rattle.std.proofs.Common.{None, option_map, length-append, subst, nat_lt, Bor, MatchOption}
 use Rattle.std.specs.Bool.{Decides}
 use Rattle.std.specs.List.{AllByRecursion as Each, Contains}
 use Rattle.std.specs.Char.{to_ascii_lowercase}
 use Rattle.std.specs.Str.{bytes_eq}
-use Rattle.std.proofs.lemmas.Bool.{cases_Bool, cond-true, cond-false, eqb-true, eqb-false, ne_eqb, ltb-true, lt-ltb, false_from_ne_true}
+use Rattle.std.proofs.lemmas.Bool.{cases_Bool, cond-true, cond-false, eqb-true, eqb-false}
+use Rattle.std.proofs.lemmas.Bool.{ne_eqb, ltb-true, lt-ltb, false_from_ne_true}
 use Rattle.std.proofs.lemmas.Bool.Decides.{Decides-or, Decides-eqb}
 use Rattle.std.proofs.lemmas.Option.{option_and_then_some, same_Some, some_pair_parts}
 use Rattle.std.proofs.lemmas.Slice.Eq.{bytes_eq-Decides}
 use Rattle.std.proofs.lemmas.List.{length-map, map-append, take-append-drop, take-map, drop_at}
 use Rattle.std.proofs.lemmas.List.Elements.{All-contains, All-from_recursion, Contains-append_right}
 use Rattle.texting_robots.specs.declared.parser.statement.Kind.{Kind}
-use Rattle.texting_robots.specs.declared.parser.statement.Kind.TheVariants.{UserAgent, Allow, Disallow, Sitemap, CrawlDelay}
-use Rattle.texting_robots.specs.Statement.{spellings, space, tab, colon, hash, IsBlank, IsKey, IsColonAnd, IsBlanksAnd, IsTailOf, IsComment, IsStatement}
-use Rattle.texting_robots.specs.Steps.Statement.{skip_blanks, kind_with, kind_by, begins, after_any, after_blanks, after_separator, tail_of, tail_as, parts_of, region_of, trimmed, value_of, statement_of}
+use Rattle.texting_robots.specs.declared.parser.statement.Kind.TheVariants.{UserAgent, Allow, Disallow}
+use Rattle.texting_robots.specs.declared.parser.statement.Kind.TheVariants.{Sitemap, CrawlDelay}
+use Rattle.texting_robots.specs.Statement.{spellings, space, tab, colon, hash, IsBlank, IsKey}
+use Rattle.texting_robots.specs.Statement.{IsColonAnd, IsBlanksAnd, IsTailOf, IsComment, IsStatement}
+use Rattle.texting_robots.specs.Steps.Statement.{skip_blanks, kind_with, kind_by, begins, after_any}
+use Rattle.texting_robots.specs.Steps.Statement.{after_blanks, after_separator, tail_of, tail_as}
+use Rattle.texting_robots.specs.Steps.Statement.{parts_of, region_of, trimmed, value_of, statement_of}
 use Rattle.texting_robots.specs.Trim.{IsTrimOf}
 use Rattle.texting_robots.proofs.TrimLemmas.{trimmed_is_trim, one_trim, blank_skipped}
 
@@ -23,9 +31,11 @@ pub blank_decides : (b : ℕ) → Decides (b == space || b == tab) (IsBlank b)
 blank_decides b = Decides-or (b == space) (b == tab) (Decides-eqb b space) (Decides-eqb b tab)
 
 -- the blanks at the front are skipped, whatever follows them
-pub skip_front : (blanks left : List ℕ) → Each IsBlank blanks → skip_blanks (blanks ++ left) ≡ skip_blanks left
+pub skip_front : (blanks left : List ℕ) → Each IsBlank blanks
+    → skip_blanks (blanks ++ left) ≡ skip_blanks left
 skip_front [] left all = refl
-skip_front (b ∷ blanks) left all = cond-true _ _ _ ((blank_decides b).1 all.0) ∙ skip_front blanks left all.1
+skip_front (b ∷ blanks) left all = cond-true _ _ _ ((blank_decides b).1 all.0)
+    ∙ skip_front blanks left all.1
 
 -- and nothing is left to skip
 skip_again : (text : List ℕ) → skip_blanks (skip_blanks text) ≡ skip_blanks text
@@ -46,7 +56,12 @@ skipped [] = record { blanks = []; all = tt; whole = refl }
 skipped (b ∷ text) = elim (cases_Bool (b == space || b == tab)) [
   | inl is ↦
       let s = skipped text in
-      rw is (record { blanks = b ∷ s.blanks; all = ((blank_decides b).0 is, s.all); whole = ap (λ t. b ∷ t) s.whole })
+      rw is
+      (record {
+        blanks = b ∷ s.blanks;
+        all = ((blank_decides b).0 is, s.all);
+        whole = ap (λ t. b ∷ t) s.whole;
+      })
   | inr isnt ↦ rw isnt (record { blanks = []; all = tt; whole = refl })
 ]
 
@@ -56,7 +71,8 @@ skipped (b ∷ text) = elim (cases_Bool (b == space || b == tab)) [
 plain_by : (kind : Kind) (text : List ℕ) → kind_by text ≡ Some kind → skip_blanks text ≡ text
 plain_by kind [] is = refl
 plain_by kind (b ∷ text) is =
-    cond-false _ _ _ (false_from_ne_true (b == space || b == tab) (λ blank. at b ((blank_decides b).0 blank) is))
+    cond-false _ _ _
+    (false_from_ne_true (b == space || b == tab) (λ blank. at b ((blank_decides b).0 blank) is))
   where
     at : (b : ℕ) → IsBlank b → ¬ (kind_with (to_ascii_lowercase b) ≡ Some kind)
     at b (inl e) is = let none : None ≡ Some kind = rw e at is in cc
@@ -69,13 +85,15 @@ kind_low (b ∷ low) = kind_with b
 
 abbrev any_low : List (List ℕ) → List ℕ → List ℕ → Option (List ℕ)
 any_low [] low text = None
-any_low (s ∷ list) low text = if bytes_eq (take (length s) low) s then Some (drop (length s) text) else any_low list low text
+any_low (s ∷ list) low text =
+    if bytes_eq (take (length s) low) s then Some (drop (length s) text) else any_low list low text
 
 by_low : (text : List ℕ) → kind_by text ≡ kind_low (map to_ascii_lowercase text)
 by_low [] = refl
 by_low (b ∷ text) = refl
 
-after_low : (list : List (List ℕ)) (text : List ℕ) → after_any list text ≡ any_low list (map to_ascii_lowercase text) text
+after_low : (list : List (List ℕ)) (text : List ℕ)
+    → after_any list text ≡ any_low list (map to_ascii_lowercase text) text
 after_low [] text = refl
 after_low (s ∷ list) text = rw (take-map to_ascii_lowercase (length s) text, after_low list text) refl
 
@@ -85,7 +103,8 @@ IsRead kind s = ((more : List ℕ) → kind_low (s ++ more) ≡ Some kind)
     × ((more text : List ℕ) → any_low (spellings kind) (s ++ more) text ≡ Some (drop (length s) text))
 
 each_read : (kind : Kind) → Each (IsRead kind) (spellings kind)
-each_read UserAgent = ((λ m. refl, λ m t. refl), ((λ m. refl, λ m t. refl), ((λ m. refl, λ m t. refl), tt)))
+each_read UserAgent =
+    ((λ m. refl, λ m t. refl), ((λ m. refl, λ m t. refl), ((λ m. refl, λ m t. refl), tt)))
 each_read Allow = ((λ m. refl, λ m t. refl), tt)
 each_read Disallow = (
   (λ m. refl, λ m t. refl),
@@ -97,8 +116,10 @@ each_read Disallow = (
     ),
   ),
 )
-each_read Sitemap = ((λ m. refl, λ m t. refl), ((λ m. refl, λ m t. refl), ((λ m. refl, λ m t. refl), tt)))
-each_read CrawlDelay = ((λ m. refl, λ m t. refl), ((λ m. refl, λ m t. refl), ((λ m. refl, λ m t. refl), tt)))
+each_read Sitemap =
+    ((λ m. refl, λ m t. refl), ((λ m. refl, λ m t. refl), ((λ m. refl, λ m t. refl), tt)))
+each_read CrawlDelay =
+    ((λ m. refl, λ m t. refl), ((λ m. refl, λ m t. refl), ((λ m. refl, λ m t. refl), tt)))
 
 key_found : (kind : Kind) (key rest : List ℕ) → IsKey kind key
     → (kind_by (key ++ rest) ≡ Some kind) × (after_any (spellings kind) (key ++ rest) ≡ Some rest)
@@ -120,7 +141,8 @@ record Keyed (list : List (List ℕ)) (text rest : List ℕ) : Type 0 where
   is_key : Contains list (map to_ascii_lowercase key)
   whole : text ≡ key ++ rest
 
-found_key : (list : List (List ℕ)) (text rest : List ℕ) → after_any list text ≡ Some rest → Keyed list text rest
+found_key : (list : List (List ℕ)) (text rest : List ℕ) → after_any list text ≡ Some rest
+    → Keyed list text rest
 found_key [] text rest is = let none : None ≡ Some rest = is in cc
 found_key (s ∷ list) text rest is = elim (cases_Bool (begins s text)) [
   | inl test ↦
@@ -143,7 +165,8 @@ colon_skipped : (tail rest : List ℕ) → IsColonAnd tail rest → skip_blanks 
 colon_skipped tail rest (blanks, all, whole) = ap skip_blanks whole ∙ skip_front blanks (colon ∷ tail) all
 
 colon_there : (tail rest : List ℕ) → skip_blanks rest ≡ colon ∷ tail → IsColonAnd tail rest
-colon_there tail rest reads = let s = skipped rest in (s.blanks, s.all, s.whole ∙ ap (λ t. s.blanks ++ t) reads)
+colon_there tail rest reads = let s = skipped rest in
+    (s.blanks, s.all, s.whole ∙ ap (λ t. s.blanks ++ t) reads)
 
 -- what is left after blanks, where it begins with no colon
 left_is : (rest left : List ℕ) → ((other : List ℕ) → left ≢ colon ∷ other)
@@ -159,7 +182,14 @@ tail_found tail rest (inr (none, (b, blanks, all, whole))) =
     let left = skip_blanks tail in
     let reads : skip_blanks rest ≡ left = ap skip_blanks whole ∙ skip_front (b ∷ blanks) tail all in
     let less : length left < length rest
-    = omega (arith, ap length whole, ap length s.whole, length-append blanks tail, length-append s.blanks left) in
+    =
+    omega (
+      arith,
+      ap length whole,
+      ap length s.whole,
+      length-append blanks tail,
+      length-append s.blanks left,
+    ) in
     ap (after_separator rest) reads
     ∙ left_is rest left (λ other is. none other (colon_there other rest (reads ∙ is)))
     ∙ cond-true _ _ _ (lt-ltb (length left) (length rest) less)
@@ -170,7 +200,8 @@ record Tailed (found rest : List ℕ) : Type 0 where
   is : IsTailOf tail rest
   same : found ≡ skip_blanks tail
 
-blanks_found : (rest left found : List ℕ) → skip_blanks rest ≡ left → after_blanks rest left ≡ Some found
+blanks_found : (rest left found : List ℕ) → skip_blanks rest ≡ left
+    → after_blanks rest left ≡ Some found
     → ((other : List ℕ) → left ≢ colon ∷ other) → Tailed found rest
 blanks_found rest left found reads is none = elim (cases_Bool (nat_lt (length left) (length rest))) [
   | inr short ↦ let wrong : None ≡ Some found = sym (cond-false _ _ _ short) ∙ is in cc
@@ -188,11 +219,13 @@ blanks_found rest left found reads is none = elim (cases_Bool (nat_lt (length le
       }
 ]
   where
-    at : (blanks : List ℕ) → Each IsBlank blanks → rest ≡ blanks ++ left → length left < length rest → IsBlanksAnd left rest
+    at : (blanks : List ℕ) → Each IsBlank blanks → rest ≡ blanks ++ left → length left < length rest
+        → IsBlanksAnd left rest
     at [] all whole less = absurd (omega (arith, less, ap length whole))
     at (b ∷ blanks) all whole less = (b, blanks, all, whole)
 
-found_tail : (rest left found : List ℕ) → skip_blanks rest ≡ left → after_separator rest left ≡ Some found → Tailed found rest
+found_tail : (rest left found : List ℕ) → skip_blanks rest ≡ left
+    → after_separator rest left ≡ Some found → Tailed found rest
 found_tail rest [] found reads is = blanks_found rest [] found reads is (λ other e. cc)
 found_tail rest (c ∷ left) found reads is = elim (cases_Bool (c == colon)) [
   | inl with_colon ↦
@@ -212,7 +245,8 @@ found_tail rest (c ∷ left) found reads is = elim (cases_Bool (c == colon)) [
 region_hash : (b : ℕ) (tail : List ℕ) → (b == hash) ≡ true → region_of (b ∷ tail) ≡ []
 region_hash b tail is = rw is refl
 
-region_other : (b : ℕ) (tail : List ℕ) → (b == hash) ≡ false → region_of (b ∷ tail) ≡ b ∷ region_of tail
+region_other : (b : ℕ) (tail : List ℕ) → (b == hash) ≡ false
+    → region_of (b ∷ tail) ≡ b ∷ region_of tail
 region_other b tail isnt = rw (isnt, one_more) refl
   where
     one_more : {n : ℕ} → 1 + n ≡ suc n
@@ -244,7 +278,8 @@ pub region_is : (region comment : List ℕ) → Each (λ byte. byte ≢ hash) re
 region_is [] comment plain (inl empty) = ap region_of empty
 region_is [] comment plain (inr (text, is)) = ap region_of is ∙ region_hash hash text refl
 region_is (b ∷ region) comment plain is =
-    region_other b (region ++ comment) (ne_eqb b hash plain.0) ∙ ap (λ t. b ∷ t) (region_is region comment plain.1 is)
+    region_other b (region ++ comment) (ne_eqb b hash plain.0)
+    ∙ ap (λ t. b ∷ t) (region_is region comment plain.1 is)
 
 -- blanks before the value change nothing
 value_skipped : (tail : List ℕ) → value_of (skip_blanks tail) ≡ value_of tail
@@ -254,7 +289,8 @@ value_skipped (b ∷ tail) = elim (cases_Bool (b == space || b == tab)) [
   | inl is ↦
       let blank = (blank_decides b).0 is in
       ap value_of (cond-true _ _ _ is) ∙ value_skipped tail
-      ∙ sym (ap trimmed (region_other b tail (ne_eqb b hash (plain b blank))) ∙ blank_skipped b (region_of tail) blank)
+      ∙ sym (ap trimmed (region_other b tail (ne_eqb b hash (plain b blank)))
+      ∙ blank_skipped b (region_of tail) blank)
 ]
   where
     plain : (b : ℕ) → IsBlank b → b ≢ hash
@@ -263,7 +299,8 @@ value_skipped (b ∷ tail) = elim (cases_Bool (b == space || b == tab)) [
 
 -- ---- the statement
 
-pub statement_found : (kind : Kind) (value body : List ℕ) → IsStatement kind value body → statement_of body ≡ Some (kind, value)
+pub statement_found : (kind : Kind) (value body : List ℕ) → IsStatement kind value body
+    → statement_of body ≡ Some (kind, value)
 unfolding statement_of
 statement_found kind value body s =
     let text = s.key ++ s.rest in
@@ -283,7 +320,8 @@ statement_found kind value body s =
 stated : (kind : Kind) (body found : List ℕ) → tail_as kind (skip_blanks body) ≡ Some found
     → IsStatement kind (value_of found) body
 stated kind body found is =
-    option_and_then_some tail_of (after_any (spellings kind) (skip_blanks body)) found is (λ rest keyed tailed.
+    option_and_then_some tail_of (after_any (spellings kind) (skip_blanks body)) found is
+    (λ rest keyed tailed.
     let s = skipped body in
     let k = found_key (spellings kind) (skip_blanks body) rest keyed in
     let t = found_tail rest (skip_blanks rest) found refl tailed in
@@ -308,26 +346,33 @@ stated kind body found is =
 
 -- the parts of a body, as they are put together
 tail_from : (k kind : Kind) (o : Option (List ℕ)) (tail : List ℕ)
-    → ◌≡◌ {A = Option (Kind × List ℕ)} (option_map (λ t. (k, t)) o) (Some (kind, tail)) → (k ≡ kind) × (o ≡ Some tail)
-tail_from k kind None tail is = let none : ◌≡◌ {A = Option (Kind × List ℕ)} None (Some (kind, tail)) = is in cc
+    → ◌≡◌ {A = Option (Kind × List ℕ)} (option_map (λ t. (k, t)) o) (Some (kind, tail))
+    → (k ≡ kind) × (o ≡ Some tail)
+tail_from k kind None tail is =
+    let none : ◌≡◌ {A = Option (Kind × List ℕ)} None (Some (kind, tail)) = is in cc
 tail_from k kind (Some t) tail is =
     let same = some_pair_parts k kind t tail is in
     (same.0, ap (λ t. Some t) same.1)
 
-parts_stated : (kind : Kind) (body tail : List ℕ) → parts_of body ≡ Some (kind, tail) → IsStatement kind (value_of tail) body
+parts_stated : (kind : Kind) (body tail : List ℕ) → parts_of body ≡ Some (kind, tail)
+    → IsStatement kind (value_of tail) body
 parts_stated kind body tail is =
-    option_and_then_some (λ k. option_map (λ t. (k, t)) (tail_as k (skip_blanks body))) (kind_by (skip_blanks body)) (kind, tail) is (λ k by found.
+    option_and_then_some (λ k. option_map (λ t. (k, t)) (tail_as k (skip_blanks body)))
+    (kind_by (skip_blanks body)) (kind, tail) is (λ k by found.
     let same = tail_from k kind (tail_as k (skip_blanks body)) tail found in
     subst (λ k. IsStatement k (value_of tail) body) same.0 (stated k body tail same.1))
 
-pub found_statement : (kind : Kind) (value body : List ℕ) → statement_of body ≡ Some (kind, value) → IsStatement kind value body
+pub found_statement : (kind : Kind) (value body : List ℕ) → statement_of body ≡ Some (kind, value)
+    → IsStatement kind value body
 unfolding statement_of
 found_statement kind value body found = at (parts_of body) refl found
   where
     at : (parts : Option (Kind × List ℕ)) → parts_of body ≡ parts
-        → ◌≡◌ {A = Option (Kind × List ℕ)} (option_map (λ p. (p.0, value_of p.1)) parts) (Some (kind, value))
+        → ◌≡◌ {A = Option (Kind × List ℕ)} (option_map (λ p. (p.0, value_of p.1)) parts)
+        (Some (kind, value))
         → IsStatement kind value body
-    at None is found = let none : ◌≡◌ {A = Option (Kind × List ℕ)} None (Some (kind, value)) = found in cc
+    at None is found = let none : ◌≡◌ {A = Option (Kind × List ℕ)} None (Some (kind, value)) =
+        found in cc
     at (Some (k, tail)) is found =
         let same = some_pair_parts k kind (value_of tail) value found in
         rw (← same.0, ← same.1) (parts_stated k body tail is)
@@ -337,17 +382,21 @@ pub no_parts : (body : List ℕ) → parts_of body ≡ None → statement_of bod
 unfolding statement_of
 no_parts body none = ap (λ o. option_map (λ p. (p.0, value_of p.1)) o) none
 
-pub has_parts : (body : List ℕ) (kind : Kind) (tail : List ℕ) → parts_of body ≡ Some (kind, tail) → statement_of body ≡ Some (kind, value_of tail)
+pub has_parts : (body : List ℕ) (kind : Kind) (tail : List ℕ) → parts_of body ≡ Some (kind, tail)
+    → statement_of body ≡ Some (kind, value_of tail)
 unfolding statement_of
 has_parts body kind tail is = ap (λ o. option_map (λ p. (p.0, value_of p.1)) o) is
 
 -- a look at one kind
-pub this_kind : (body text : List ℕ) (kind : Kind) (found : Option (Bor (List ℕ))) → text ≡ skip_blanks body
+pub this_kind : (body text : List ℕ) (kind : Kind) (found : Option (Bor (List ℕ)))
+    → text ≡ skip_blanks body
     → kind_by text ≡ Some kind
     → MatchOption found (tail_as kind text ≡ None) (λ tail. tail_as kind text ≡ Some tail.now)
-    → MatchOption found ((tail : List ℕ) → parts_of body ≢ Some (kind, tail)) (λ tail. parts_of body ≡ Some (kind, tail.now))
+    → MatchOption found ((tail : List ℕ) → parts_of body ≢ Some (kind, tail))
+    (λ tail. parts_of body ≡ Some (kind, tail.now))
 this_kind body text kind None whole by none = λ tail is.
-    let wrong : ◌≡◌ {A = Option (Kind × List ℕ)} None (Some (kind, tail)) = rw (← whole, by, none) at is in
+    let wrong : ◌≡◌ {A = Option (Kind × List ℕ)} None (Some (kind, tail)) =
+    rw (← whole, by, none) at is in
     cc
 this_kind body text kind (Some tail) whole by is = rw (← whole, by, is) refl
 
@@ -357,7 +406,9 @@ one_statement kind kind' value value' body s t =
     some_pair_parts kind kind' value value'
     (sym (statement_found kind value body s) ∙ statement_found kind' value' body t)
 
-pub unstated : (body : List ℕ) → statement_of body ≡ None → (kind : Kind) (value : List ℕ) → ¬ IsStatement kind value body
+pub unstated : (body : List ℕ) → statement_of body ≡ None → (kind : Kind) (value : List ℕ)
+    → ¬ IsStatement kind value body
 unstated body none kind value is =
-    let wrong : ◌≡◌ {A = Option (Kind × List ℕ)} None (Some (kind, value)) = sym none ∙ statement_found kind value body is in
+    let wrong : ◌≡◌ {A = Option (Kind × List ℕ)} None (Some (kind, value)) =
+    sym none ∙ statement_found kind value body is in
     cc

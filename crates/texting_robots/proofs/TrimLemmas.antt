@@ -1,17 +1,22 @@
 -- What `trim` leaves is the trim of its text, and there is no other.
-use Rattle.std.proofs.Common.{◌≡◌, ℕ, zero, suc, ◌+◌, ◌≤◌, ◌<◌, ◌-◌, true, false, inl, inr, List, [], ◌∷◌, ◌++◌, length, take, drop, sym, refl, ap, ◌∙◌, append_assoc, append-nil, add_assoc, add-zero, zero-add, arith, IsTrue, Option, Some, None, length-append, subst, cond, slice_get, slice_index}
+use Rattle.std.proofs.Common.{◌≡◌, ℕ, zero, suc, ◌+◌, ◌≤◌, ◌<◌, ◌-◌, true, false}
+use Rattle.std.proofs.Common.{inl, inr, List, [], ◌∷◌, ◌++◌, length, take, drop, sym, refl, ap}
+use Rattle.std.proofs.Common.{◌∙◌, append_assoc, append-nil, add_assoc, add-zero, zero-add, arith}
+use Rattle.std.proofs.Common.{IsTrue, Option, Some, None, length-append, subst, cond, slice_get, slice_index}
 use Rattle.std.proofs.Math.Seq.{drop-append-add}
 use Rattle.std.specs.List.{AllByRecursion as Each}
 use Rattle.std.specs.Char.{is_ascii_graphic, is_whitespace, encode_utf8}
 use Rattle.std.specs.Str.{encode_utf8_all}
 use Rattle.std.proofs.lemmas.Bool.{cases_Bool, cases_lt, false_from_ne_true, true≢false}
 use Rattle.std.proofs.lemmas.Bool.Decides.{nat_tests}
-use Rattle.std.proofs.lemmas.List.{append_cancel_right, drop_at, get_or-append_right, length-drop, length-take-le, take-append-drop, take_at}
+use Rattle.std.proofs.lemmas.List.{append_cancel_right, drop_at, get_or-append_right}
+use Rattle.std.proofs.lemmas.List.{length-drop, length-take-le, take-append-drop, take_at}
 use Rattle.std.proofs.lemmas.Option.{same_Some, slice_get-get_or}
 use Rattle.std.proofs.lemmas.Str.{inside_one}
 use Rattle.bstr.specs.Utf8.{Decoded, decoded, good, or_replacement, bad, pieces, spans_from, continues}
 use Rattle.bstr.specs.Trim.{kept_start, kept_end, trim_start_by, trim_end_by}
-use Rattle.bstr.proofs.lemmas.PieceLemmas.{piece-bounds, spans-first, spans-nil, pieces-append, continuation-alone, StartsClean}
+use Rattle.bstr.proofs.lemmas.PieceLemmas.{piece-bounds, spans-first, spans-nil}
+use Rattle.bstr.proofs.lemmas.PieceLemmas.{pieces-append, continuation-alone, StartsClean}
 use Rattle.bstr.proofs.lemmas.EncodeLemmas.{decoded-encode}
 use Rattle.bstr.proofs.lemmas.SoundLemmas.{SpellsChar-decoded}
 use Rattle.bstr.proofs.lemmas.TrimLemmas.{kept-skip, kept-stop, kept-nil, kept_end-nil}
@@ -28,18 +33,22 @@ AllWhite chars = Each (λ char. IsTrue (is_whitespace char)) chars
 no_spaces : IsSpaces []
 no_spaces = ([], tt, refl)
 
-more_spaces : (c : ℕ) (bytes : List ℕ) → is_whitespace c ≡ true → IsSpaces bytes → IsSpaces (encode_utf8 c ++ bytes)
+more_spaces : (c : ℕ) (bytes : List ℕ) → is_whitespace c ≡ true → IsSpaces bytes
+    → IsSpaces (encode_utf8 c ++ bytes)
 more_spaces c bytes white is = (c ∷ is.0, (white, is.1), ap (λ t. encode_utf8 c ++ t) is.2)
 
 -- bytes that begin with a space, as they are decoded
-starts_white : (c : ℕ) (bytes rest : List ℕ) → is_whitespace c ≡ true → bytes ≡ encode_utf8 c ++ rest
+starts_white : (c : ℕ) (bytes rest : List ℕ) → is_whitespace c ≡ true
+    → bytes ≡ encode_utf8 c ++ rest
     → decoded bytes ≡ good c (length (encode_utf8 c))
 starts_white c bytes rest white e = rw e (decoded-encode c rest (low_scalar c (grind (arith, nat_tests))))
 
 -- a space has bytes
-some_bytes : (c : ℕ) (bytes rest : List ℕ) → is_whitespace c ≡ true → bytes ≡ encode_utf8 c ++ rest → 0 < length bytes
+some_bytes : (c : ℕ) (bytes rest : List ℕ) → is_whitespace c ≡ true
+    → bytes ≡ encode_utf8 c ++ rest → 0 < length bytes
 some_bytes c (b ∷ bytes) rest white e = omega arith
-some_bytes c [] rest white e = let clash : None ≡ Some c = ap (λ p. p.char) (starts_white c [] rest white e) in cc
+some_bytes c [] rest white e = let clash : None ≡ Some c =
+    ap (λ p. p.char) (starts_white c [] rest white e) in cc
 
 -- ---- the first piece that is decoded
 
@@ -60,7 +69,8 @@ step : (bytes : List ℕ) → 0 < length bytes → Step bytes
 step bytes some =
     let first = decoded bytes in
     let bounds = piece-bounds bytes some in
-    let long : length (take first.size bytes) ≡ first.size = length-take-le first.size bytes (omega arith) in
+    let long : length (take first.size bytes) ≡ first.size =
+    length-take-le first.size bytes (omega arith) in
     record {
       piece = take first.size bytes;
       later = drop first.size bytes;
@@ -86,7 +96,8 @@ step bytes some =
     spelled (Some c) e white =
         let rest = drop (decoded bytes).size bytes in
         append_cancel_right _ _ rest (take-append-drop (decoded bytes).size bytes
-        ∙ (SpellsChar-decoded bytes c e).bytes ∙ ap (λ k. encode_utf8 (or_replacement k) ++ rest) (sym e))
+        ∙ (SpellsChar-decoded bytes c e).bytes
+        ∙ ap (λ k. encode_utf8 (or_replacement k) ++ rest) (sym e))
 
 space_first : (bytes : List ℕ) (first : Step bytes) (more : List ℕ) → is_whitespace first.char ≡ true
     → IsSpaces more → IsSpaces (first.piece ++ more)
@@ -97,7 +108,8 @@ space_first bytes first more white is =
 
 -- the same spans, further on
 shifted : (k n off : ℕ) (ps : List Decoded)
-    → kept_start is_whitespace (k + n) (spans_from (k + off) ps) ≡ k + kept_start is_whitespace n (spans_from off ps)
+    → kept_start is_whitespace (k + n) (spans_from (k + off) ps)
+    ≡ k + kept_start is_whitespace n (spans_from off ps)
 unfolding kept_start spans_from
 shifted k n off [] = refl
 shifted k n off (p ∷ ps) = elim (cases_Bool (is_whitespace (or_replacement p.char))) [
@@ -109,17 +121,22 @@ abbrev from_start : List ℕ → List ℕ
 from_start bytes = trim_start_by is_whitespace bytes
 
 shorter : (bytes : List ℕ) → length (from_start bytes) ≤ length bytes
-shorter bytes = omega (arith, length-drop (kept_start is_whitespace (length bytes) (spans_from 0 (pieces bytes))) bytes)
+shorter bytes =
+    omega (arith, length-drop (kept_start is_whitespace (length bytes) (spans_from 0 (pieces bytes))) bytes)
 
 from_start_nil : from_start [] ≡ []
-from_start_nil = ap (λ k. drop k []) (ap (kept_start is_whitespace 0) (spans-nil [] 0 refl) ∙ kept-nil is_whitespace 0)
+from_start_nil =
+    ap (λ k. drop k []) (ap (kept_start is_whitespace 0) (spans-nil [] 0 refl) ∙ kept-nil is_whitespace 0)
 
 -- a space at the front goes
-from_start_space : (bytes : List ℕ) (first : Step bytes) → is_whitespace first.char ≡ true → from_start bytes ≡ from_start first.later
+from_start_space : (bytes : List ℕ) (first : Step bytes) → is_whitespace first.char ≡ true
+    → from_start bytes ≡ from_start first.later
 from_start_space bytes first white =
     let n = length first.piece in
-    let long : length bytes ≡ n + length first.later = ap length first.whole ∙ length-append first.piece first.later in
-    let skip = kept-skip is_whitespace (length bytes) (0, 0 + n, first.char) (spans_from (0 + n) (pieces first.later)) white in
+    let long : length bytes ≡ n + length first.later =
+    ap length first.whole ∙ length-append first.piece first.later in
+    let skip = kept-skip is_whitespace (length bytes) (0, 0 + n, first.char)
+    (spans_from (0 + n) (pieces first.later)) white in
     let spans = λ (k : ℕ). spans_from k (pieces first.later) in
     let at : kept_start is_whitespace (length bytes) (spans_from 0 (pieces bytes))
     ≡ n + kept_start is_whitespace (length first.later) (spans 0)
@@ -130,27 +147,32 @@ from_start_space bytes first white =
     ap (λ k. drop k bytes) at ∙ ap (drop _) first.whole ∙ drop-append-add first.piece first.later _
 
 -- and what is no space stays
-from_start_other : (bytes : List ℕ) (first : Step bytes) → is_whitespace first.char ≡ false → from_start bytes ≡ bytes
+from_start_other : (bytes : List ℕ) (first : Step bytes) → is_whitespace first.char ≡ false
+    → from_start bytes ≡ bytes
 from_start_other bytes first other =
     let n = length first.piece in
     ap (λ k. drop k bytes) (ap (kept_start is_whitespace (length bytes)) (first.spans 0)
-    ∙ kept-stop is_whitespace (length bytes) (0, 0 + n, first.char) (spans_from (0 + n) (pieces first.later)) other)
+    ∙ kept-stop is_whitespace (length bytes) (0, 0 + n, first.char)
+    (spans_from (0 + n) (pieces first.later)) other)
 
-space_skipped : (c : ℕ) (rest : List ℕ) → is_whitespace c ≡ true → from_start (encode_utf8 c ++ rest) ≡ from_start rest
+space_skipped : (c : ℕ) (rest : List ℕ) → is_whitespace c ≡ true
+    → from_start (encode_utf8 c ++ rest) ≡ from_start rest
 space_skipped c rest white =
     let bytes = encode_utf8 c ++ rest in
     let first = step bytes (some_bytes c bytes rest white refl) in
     let read = first.reads c rest white refl in
     from_start_space bytes first (ap is_whitespace read.0 ∙ white) ∙ ap from_start read.2
 
-spaces_skipped : (chars rest : List ℕ) → AllWhite chars → from_start (encode_utf8_all chars ++ rest) ≡ from_start rest
+spaces_skipped : (chars rest : List ℕ) → AllWhite chars
+    → from_start (encode_utf8_all chars ++ rest) ≡ from_start rest
 spaces_skipped [] rest all = refl
 spaces_skipped (c ∷ cs) rest all =
     ap from_start (append_assoc (encode_utf8 c) (encode_utf8_all cs) rest)
     ∙ space_skipped c (encode_utf8_all cs ++ rest) all.0 ∙ spaces_skipped cs rest all.1
 
 -- what goes is spaces
-front_of : (n : ℕ) (bytes : List ℕ) → length bytes ≤ n → (front : List ℕ) × IsSpaces front × (bytes ≡ front ++ from_start bytes)
+front_of : (n : ℕ) (bytes : List ℕ) → length bytes ≤ n → (front : List ℕ) × IsSpaces front
+    × (bytes ≡ front ++ from_start bytes)
 front_of n [] le = ([], no_spaces, sym from_start_nil)
 front_of zero (b ∷ bytes) le = absurd (omega arith)
 front_of (suc n) (b ∷ rest) le =
@@ -160,11 +182,14 @@ front_of (suc n) (b ∷ rest) le =
     elim (cases_Bool (is_whitespace first.char)) [
       | inr other ↦ ([], no_spaces, sym (from_start_other bytes first other))
       | inl white ↦
-          let less : length first.later ≤ n = omega (arith, ap length first.whole, length-append first.piece first.later) in
+          let less : length first.later ≤ n =
+          omega (arith, ap length first.whole, length-append first.piece first.later) in
           let f = front_of n first.later less in (
             first.piece ++ f.0,
             space_first bytes first f.0 white f.1,
-            first.whole ∙ ap (λ t. first.piece ++ t) (f.2 ∙ ap (λ t. f.0 ++ t) (sym (from_start_space bytes first white)))
+            first.whole
+                ∙ ap (λ t. first.piece ++ t)
+                (f.2 ∙ ap (λ t. f.0 ++ t) (sym (from_start_space bytes first white)))
                 ∙ sym (append_assoc first.piece f.0 (from_start bytes)),
           )
     ]
@@ -176,10 +201,12 @@ abbrev end_at : ℕ → ℕ → List ℕ → ℕ
 end_at end off bytes = kept_end is_whitespace end (spans_from off (pieces bytes))
 
 end_at_nil : (end off : ℕ) → end_at end off [] ≡ end
-end_at_nil end off = ap (kept_end is_whitespace end) (spans-nil [] off refl) ∙ kept_end-nil is_whitespace end
+end_at_nil end off = ap (kept_end is_whitespace end) (spans-nil [] off refl)
+    ∙ kept_end-nil is_whitespace end
 
 end_at_step : (bytes : List ℕ) (first : Step bytes) (end off : ℕ)
-    → let next = off + length first.piece in end_at end off bytes ≡ end_at (cond (is_whitespace first.char) end next) next first.later
+    → let next = off + length first.piece in
+    end_at end off bytes ≡ end_at (cond (is_whitespace first.char) end next) next first.later
 unfolding kept_end
 end_at_step bytes first end off = ap (kept_end is_whitespace end) (first.spans off)
 
@@ -188,7 +215,8 @@ abbrev place_of : ℕ → ℕ → List ℕ → ℕ
 place_of end off [] = end
 place_of end off (b ∷ value) = off + length (b ∷ value)
 
-some_place : (end off : ℕ) (value : List ℕ) → 0 < length value → place_of end off value ≡ off + length value
+some_place : (end off : ℕ) (value : List ℕ) → 0 < length value
+    → place_of end off value ≡ off + length value
 some_place end off [] some = absurd (omega (arith, some))
 some_place end off (b ∷ value) some = refl
 
@@ -198,15 +226,18 @@ Ended end off bytes = (value : List ℕ) × (back : List ℕ) × (bytes ≡ valu
     × (end_at end off bytes ≡ place_of end off value) × IsSpaces back
 
 -- a piece before a value
-ended_behind : (bytes : List ℕ) (first : Step bytes) (end off : ℕ) (value back : List ℕ) → first.later ≡ value ++ back
-    → end_at end off bytes ≡ off + length first.piece + length value → IsSpaces back → Ended end off bytes
+ended_behind : (bytes : List ℕ) (first : Step bytes) (end off : ℕ) (value back : List ℕ)
+    → first.later ≡ value ++ back
+    → end_at end off bytes ≡ off + length first.piece + length value → IsSpaces back
+    → Ended end off bytes
 ended_behind bytes first end off value back whole place spaces =
     let some = first.some in
     let long = length-append first.piece value in (
       first.piece ++ value,
       back,
       first.whole ∙ ap (λ t. first.piece ++ t) whole ∙ sym (append_assoc first.piece value back),
-      place ∙ (omega (arith, long)) ∙ sym (some_place end off (first.piece ++ value) (omega (arith, long, some))),
+      place ∙ (omega (arith, long))
+          ∙ sym (some_place end off (first.piece ++ value) (omega (arith, long, some))),
       spaces,
     )
 
@@ -220,7 +251,8 @@ ended_white bytes first end off white ([], back, whole, place, spaces) = (
   space_first bytes first back white spaces,
 )
 ended_white bytes first end off white (v ∷ value, back, whole, place, spaces) =
-    ended_behind bytes first end off (v ∷ value) back whole (end_at_step bytes first end off ∙ (rw white place)) spaces
+    ended_behind bytes first end off (v ∷ value) back whole
+    (end_at_step bytes first end off ∙ (rw white place)) spaces
 
 ended_other : (bytes : List ℕ) (first : Step bytes) (end off : ℕ) → is_whitespace first.char ≡ false
     → (let next = off + length first.piece in Ended next next first.later) → Ended end off bytes
@@ -240,7 +272,8 @@ ended (suc n) end off (b ∷ rest) le =
     let first = step bytes (omega arith) in
     let some = first.some in
     let next = off + length first.piece in
-    let less : length first.later ≤ n = omega (arith, ap length first.whole, length-append first.piece first.later) in
+    let less : length first.later ≤ n =
+    omega (arith, ap length first.whole, length-append first.piece first.later) in
     elim (cases_Bool (is_whitespace first.char)) [
       | inl white ↦ ended_white bytes first end off white (ended n end next first.later less)
       | inr other ↦ ended_other bytes first end off other (ended n next next first.later less)
@@ -248,7 +281,8 @@ ended (suc n) end off (b ∷ rest) le =
 
 -- the bytes are a value and spaces, and the value is what stands before the last end
 abbrev Valued : List ℕ → Type 0
-Valued bytes = (value : List ℕ) × (back : List ℕ) × (bytes ≡ value ++ back) × (end_at 0 0 bytes ≡ length value) × IsSpaces back
+Valued bytes = (value : List ℕ) × (back : List ℕ) × (bytes ≡ value ++ back)
+    × (end_at 0 0 bytes ≡ length value) × IsSpaces back
 
 valued : (bytes : List ℕ) → Valued bytes
 valued bytes = at (ended (length bytes) 0 0 bytes (omega arith))
@@ -261,24 +295,28 @@ valued bytes = at (ended (length bytes) 0 0 bytes (omega arith))
     at (value, back, whole, place, spaces) = (value, back, whole, place ∙ long value, spaces)
 
 -- spaces move no end
-end_at_spaces : (chars : List ℕ) (end off : ℕ) → AllWhite chars → end_at end off (encode_utf8_all chars) ≡ end
+end_at_spaces : (chars : List ℕ) (end off : ℕ) → AllWhite chars
+    → end_at end off (encode_utf8_all chars) ≡ end
 end_at_spaces [] end off all = end_at_nil end off
 end_at_spaces (c ∷ cs) end off all =
     let bytes = encode_utf8_all (c ∷ cs) in
     let first = step bytes (some_bytes c bytes (encode_utf8_all cs) all.0 refl) in
     let next = off + length first.piece in
     let read = first.reads c (encode_utf8_all cs) all.0 refl in
-    end_at_step bytes first end off ∙ ap (λ white. end_at (cond white end next) next first.later) (ap is_whitespace read.0 ∙ all.0)
+    end_at_step bytes first end off ∙ ap (λ white. end_at (cond white end next) next first.later)
+    (ap is_whitespace read.0 ∙ all.0)
     ∙ ap (end_at end next) read.2 ∙ end_at_spaces cs end next all.1
 
 -- pieces that move no end leave it where those before them put it
 kept_end_before : (ps qs : List Decoded) (end off : ℕ)
     → ((e o : ℕ) → kept_end is_whitespace e (spans_from o qs) ≡ e)
-    → kept_end is_whitespace end (spans_from off (ps ++ qs)) ≡ kept_end is_whitespace end (spans_from off ps)
+    → kept_end is_whitespace end (spans_from off (ps ++ qs))
+    ≡ kept_end is_whitespace end (spans_from off ps)
 unfolding kept_end spans_from
 kept_end_before [] qs end off none = none end off
 kept_end_before (p ∷ ps) qs end off none =
-    kept_end_before ps qs (cond (is_whitespace (or_replacement p.char)) end (off + p.size)) (off + p.size) none
+    kept_end_before ps qs (cond (is_whitespace (or_replacement p.char)) end (off + p.size))
+    (off + p.size) none
 
 -- spaces begin with no byte that continues a character
 clean_spaces : (chars : List ℕ) → AllWhite chars → StartsClean (encode_utf8_all chars)
@@ -288,7 +326,8 @@ clean_spaces (c ∷ cs) all some = at (encode_utf8_all (c ∷ cs)) refl some
     at : (bytes : List ℕ) → bytes ≡ encode_utf8 c ++ encode_utf8_all cs → StartsClean bytes
     at bytes e some = false_from_ne_true (continues (slice_index bytes 0)) (λ on.
         let b = slice_index bytes in
-        let alone : decoded bytes ≡ bad 1 = continuation-alone (length bytes) (b 0) (b 1) (b 2) (b 3) some on in
+        let alone : decoded bytes ≡ bad 1 =
+        continuation-alone (length bytes) (b 0) (b 1) (b 2) (b 3) some on in
         let clash : None ≡ Some c
         = ap (λ p. p.char) (sym alone ∙ starts_white c bytes (encode_utf8_all cs) all.0 e) in
         cc)
@@ -300,7 +339,8 @@ ends_before rest spaces is =
     = pieces-append (length rest) rest spaces (omega arith) (rw is.2 (clean_spaces is.0 is.1)) in
     let same : end_at 0 0 (rest ++ spaces) ≡ end_at 0 0 rest
     = ap (λ ps. kept_end is_whitespace 0 (spans_from 0 ps)) split
-    ∙ kept_end_before (pieces rest) (pieces spaces) 0 0 (λ e o. ap (end_at e o) is.2 ∙ end_at_spaces is.0 e o is.1) in
+    ∙ kept_end_before (pieces rest) (pieces spaces) 0 0
+    (λ e o. ap (end_at e o) is.2 ∙ end_at_spaces is.0 e o is.1) in
     let (value, back, whole, place, all) = valued rest in
     omega (arith, same, place, ap length whole, length-append value back)
 
@@ -312,7 +352,8 @@ trimmed_is_trim region =
     let rest = from_start region in
     let (value, back, whole, place, spaces) = valued rest in
     let value_is : trimmed region ≡ value
-    = ap (λ k. take k rest) place ∙ ap (take (length value)) whole ∙ take_at value back (length value) refl in
+    = ap (λ k. take k rest) place ∙ ap (take (length value)) whole
+    ∙ take_at value back (length value) refl in
     rw value_is (record {
       front = f.0;
       back = back;
@@ -321,7 +362,15 @@ trimmed_is_trim region =
       front_longest = λ s r e is.
           let same : rest ≡ from_start r
           = ap from_start (e ∙ ap (λ t. t ++ r) is.2) ∙ spaces_skipped is.0 r is.1 in
-          omega (arith, shorter r, ap length same, ap length f.2, length-append f.0 rest, ap length e, length-append s r);
+          omega (
+            arith,
+            shorter r,
+            ap length same,
+            ap length f.2,
+            length-append f.0 rest,
+            ap length e,
+            length-append s r,
+          );
       back_spaces = spaces;
       back_longest = λ r s e is.
           let same : end_at 0 0 (r ++ s) ≡ length value = ap (end_at 0 0) (sym (whole ∙ e)) ∙ place in
@@ -335,11 +384,14 @@ split_same a b c d e long = (
   sym (drop_at a b (length a) refl) ∙ ap (drop (length a)) e ∙ drop_at c d (length a) (sym long),
 )
 
-pub one_trim : (region value value' : List ℕ) → IsTrimOf value region → IsTrimOf value' region → value ≡ value'
+pub one_trim : (region value value' : List ℕ) → IsTrimOf value region → IsTrimOf value' region
+    → value ≡ value'
 one_trim region value value' t u =
     let below = u.front_longest t.front (value ++ t.back) t.whole t.front_spaces in
     let above = t.front_longest u.front (value' ++ u.back) u.whole u.front_spaces in
-    let left = (split_same t.front (value ++ t.back) u.front (value' ++ u.back) (sym t.whole ∙ u.whole) (omega arith)).1 in
+    let left =
+    (split_same t.front (value ++ t.back) u.front (value' ++ u.back) (sym t.whole ∙ u.whole)
+    (omega arith)).1 in
     let within = u.back_longest value t.back (sym left) t.back_spaces in
     let over = t.back_longest value' u.back left u.back_spaces in
     (split_same value t.back value' u.back left
@@ -369,11 +421,13 @@ none_graphic (c ∷ cs) k all within =
       | inr behind ↦
           let n = length (encode_utf8 c) in
           ap is_ascii_graphic (get_or-append_right (encode_utf8 c) (encode_utf8_all cs) n k 0 refl behind)
-          ∙ none_graphic cs (k - n) all.1 (omega (arith, within, length-append (encode_utf8 c) (encode_utf8_all cs)))
+          ∙ none_graphic cs (k - n) all.1
+          (omega (arith, within, length-append (encode_utf8 c) (encode_utf8_all cs)))
     ]
 
 -- no byte at the place is of spaces, which end the text or begin it
-no_front : (front rest : List ℕ) → IsSpaces front → is_ascii_graphic (slice_index (front ++ rest) 0) ≡ true → front ≡ []
+no_front : (front rest : List ℕ) → IsSpaces front
+    → is_ascii_graphic (slice_index (front ++ rest) 0) ≡ true → front ≡ []
 no_front [] rest is graphic = refl
 no_front (b ∷ front) rest (chars, all, is) graphic =
     let none = none_graphic chars 0 all (rw (← is) (omega arith)) in
@@ -386,12 +440,14 @@ no_back front (b ∷ back) (chars, all, is) graphic =
     let long = length-append front (b ∷ back) in
     let k = length (front ++ (b ∷ back)) - 1 - length front in
     let none = none_graphic chars k all (rw (← is) (omega (arith, long))) in
-    let same = get_or-append_right front (b ∷ back) (length front) (length (front ++ (b ∷ back)) - 1) 0 refl (omega (arith, long)) in
+    let same = get_or-append_right front (b ∷ back) (length front) (length (front ++ (b ∷ back)) - 1) 0
+    refl (omega (arith, long)) in
     absurd (true≢false (sym graphic ∙ ap is_ascii_graphic same ∙ (rw (← is) at none)))
 
 -- a text whose ends are visible is its own trim
 pub graphic_ends : (text : List ℕ) (first last : ℕ) → Some first ≡ slice_get text 0
-    → Some last ≡ slice_get text (length text - 1) → is_ascii_graphic first ≡ true → is_ascii_graphic last ≡ true
+    → Some last ≡ slice_get text (length text - 1) → is_ascii_graphic first ≡ true
+    → is_ascii_graphic last ≡ true
     → trimmed text ≡ text
 graphic_ends [] first last here there first_is last_is = cc
 graphic_ends (b ∷ rest) first last here there first_is last_is =
@@ -403,7 +459,9 @@ graphic_ends (b ∷ rest) first last here there first_is last_is =
     = same_Some _ _ (there ∙ slice_get-get_or text (length text - 1) 0 (omega arith)) in
     let begins : is_ascii_graphic (slice_index text 0) ≡ true = rw first_same at first_is in
     let ends : is_ascii_graphic (slice_index text (length text - 1)) ≡ true = rw last_same at last_is in
-    let front = no_front t.front (value ++ t.back) t.front_spaces (subst (λ x. is_ascii_graphic (slice_index x 0) ≡ true) t.whole begins) in
+    let front = no_front t.front (value ++ t.back) t.front_spaces
+    (subst (λ x. is_ascii_graphic (slice_index x 0) ≡ true) t.whole begins) in
     let whole : text ≡ value ++ t.back = t.whole ∙ ap (λ f. f ++ (value ++ t.back)) front in
-    let back = no_back value t.back t.back_spaces (subst (λ x. is_ascii_graphic (slice_index x (length x - 1)) ≡ true) whole ends) in
+    let back = no_back value t.back t.back_spaces
+    (subst (λ x. is_ascii_graphic (slice_index x (length x - 1)) ≡ true) whole ends) in
     sym (whole ∙ ap (λ b. value ++ b) back ∙ append-nil value)

@@ -1,33 +1,49 @@
 -- The verdict knows members only.
-use Rattle.std.proofs.Common.{◌≡◌, ◌<◌, ◌⊎◌, zero, suc, length, subst, refl, inl, inr, ℕ, Bool, true, false, List, [], ◌∷◌, ◌++◌, ◌↔◌, Option, Some, None, ap, sym, IsPermutation, arith}
+use Rattle.std.proofs.Common.{◌≡◌, ◌<◌, ◌⊎◌, zero, suc, length, subst, refl}
+use Rattle.std.proofs.Common.{inl, inr, ℕ, Bool, true, false, List, [], ◌∷◌, ◌++◌}
+use Rattle.std.proofs.Common.{◌↔◌, Option, Some, None, ap, sym, IsPermutation, arith}
 use Rattle.std.specs.List.{Contains}
 use Rattle.std.proofs.lemmas.Bool.{false≢true}
-use Rattle.std.proofs.lemmas.List.Elements.{Contains-append_left, Contains-append_right, Contains-append_cases, Contains-push_cases}
+use Rattle.std.proofs.lemmas.List.Elements.{Contains-append_left, Contains-append_right}
+use Rattle.std.proofs.lemmas.List.Elements.{Contains-append_cases, Contains-push_cases}
 use Rattle.std.proofs.lemmas.List.Sorted.{Contains-permutation, IsPermutation-map, IsPermutation-sym}
 use Rattle.texting_robots.specs.Decision.{IsDecidingLine, IsLongestMatch}
 use Rattle.texting_robots.specs.Rules.{PlacedRule, Rule, unplaced}
 use Rattle.texting_robots.specs.Verdict.{IsDenied, IsVerdict}
-use Rattle.texting_robots.specs.Laws.{OrderChangesNothing, OneMoreDisallow, OneMoreAllow, LengthIsNotCollapsed, OneLineDecides}
+use Rattle.texting_robots.specs.Laws.{OrderChangesNothing, OneMoreDisallow, OneMoreAllow}
+use Rattle.texting_robots.specs.Laws.{LengthIsNotCollapsed, OneLineDecides}
 
-denied_permuted : (rules others : List Rule) (text : List ℕ) → IsPermutation rules others → IsDenied rules text → IsDenied others text
-denied_permuted rules others text same (other, p, has, matches, longest) =
-    (other, p, Contains-permutation rules others (p, false) same has, matches, λ q stands. longest q (Contains-permutation others rules (q, true) (IsPermutation-sym rules others same) stands))
+denied_permuted : (rules others : List Rule) (text : List ℕ) → IsPermutation rules others
+    → IsDenied rules text → IsDenied others text
+denied_permuted rules others text same (other, p, has, matches, longest) = (
+  other,
+  p,
+  Contains-permutation rules others (p, false) same has,
+  matches,
+  λ q stands.
+      longest q (Contains-permutation others rules (q, true) (IsPermutation-sym rules others same) stands),
+)
 
-verdict_permuted : (rules others : List Rule) (text : List ℕ) (answer : Bool) → IsPermutation rules others → IsVerdict rules text answer → IsVerdict others text answer
-verdict_permuted rules others text true same holds = λ denied. holds (denied_permuted others rules text (IsPermutation-sym rules others same) denied)
+verdict_permuted : (rules others : List Rule) (text : List ℕ) (answer : Bool) → IsPermutation rules others
+    → IsVerdict rules text answer → IsVerdict others text answer
+verdict_permuted rules others text true same holds =
+    λ denied. holds (denied_permuted others rules text (IsPermutation-sym rules others same) denied)
 verdict_permuted rules others text false same holds = denied_permuted rules others text same holds
 
 pub order_changes_nothing : OrderChangesNothing
 order_changes_nothing = verdict_permuted
 
-contains_more : (front back : List Rule) (added rule : Rule) → Contains (front ++ back) rule → Contains (front ++ added ∷ back) rule
+contains_more : (front back : List Rule) (added rule : Rule) → Contains (front ++ back) rule
+    → Contains (front ++ added ∷ back) rule
 contains_more front back added rule has =
     elim (Contains-append_cases front back rule has) [
       | inl first ↦ Contains-append_left front (added ∷ back) rule first
-      | inr last ↦ Contains-append_right front (added ∷ back) rule (Contains-append_right (added ∷ []) back rule last)
+      | inr last ↦ Contains-append_right front (added ∷ back) rule
+          (Contains-append_right (added ∷ []) back rule last)
     ]
 
-contains_less : (front back : List Rule) (added rule : Rule) → (added ≡ rule → ⊥) → Contains (front ++ added ∷ back) rule → Contains (front ++ back) rule
+contains_less : (front back : List Rule) (added rule : Rule) → (added ≡ rule → ⊥)
+    → Contains (front ++ added ∷ back) rule → Contains (front ++ back) rule
 contains_less front back added rule differs has =
     elim (Contains-append_cases front (added ∷ back) rule has) [
       | inl first ↦ Contains-append_left front back rule first
@@ -47,14 +63,27 @@ disallow_isnt : (p q : List ℕ) → ◌≡◌ {A = Rule} (q, true) (p, false) �
 disallow_isnt p q same = false≢true (sym (ap (λ (r : Rule). r.1) same))
 
 pub one_more_disallow : OneMoreDisallow
-one_more_disallow front back pattern text (other, p, has, matches, longest) =
-    (other, p, contains_more front back (pattern, false) (p, false) has, matches, λ q stands. longest q (contains_less front back (pattern, false) (q, true) (allow_isnt pattern q) stands))
+one_more_disallow front back pattern text (other, p, has, matches, longest) = (
+  other,
+  p,
+  contains_more front back (pattern, false) (p, false) has,
+  matches,
+  λ q stands.
+      longest q (contains_less front back (pattern, false) (q, true) (allow_isnt pattern q) stands),
+)
 
 pub one_more_allow : OneMoreAllow
 one_more_allow front back pattern text allowed (other, p, has, matches, longest) =
-    allowed (other, p, contains_less front back (pattern, true) (p, false) (disallow_isnt p pattern) has, matches, λ q stands. longest q (contains_more front back (pattern, true) (q, true) stands))
+    allowed (
+      other,
+      p,
+      contains_less front back (pattern, true) (p, false) (disallow_isnt p pattern) has,
+      matches,
+      λ q stands. longest q (contains_more front back (pattern, true) (q, true) stands),
+    )
 
-of_two : (a b x : Rule) → Contains (a ∷ b ∷ []) x → ◌≡◌ {A = Rule} a x ⊎ ◌≡◌ {A = Rule} b x
+of_two : (a b x : Rule) → Contains (a ∷ b ∷ []) x → ◌≡◌ {A = Rule} a x
+    ⊎ ◌≡◌ {A = Rule} b x
 of_two a b x (zero, below, at) = inl at
 of_two a b x (suc zero, below, at) = inr at
 of_two a b x (suc (suc k), below, at) = absurd (omega arith)
@@ -62,7 +91,8 @@ of_two a b x (suc (suc k), below, at) = absurd (omega arith)
 pub length_decides : LengthIsNotCollapsed
 length_decides deny allow text other denies allows = (
   λ (differs, p, has, matches, longest). elim (of_two (deny, false) (allow, true) (p, false) has) [
-    | inl same ↦ subst (λ (r : Rule). length allow < length r.0) (sym same) (longest allow (1, omega arith, refl) allows)
+    | inl same ↦ subst (λ (r : Rule). length allow < length r.0) (sym same)
+        (longest allow (1, omega arith, refl) allows)
     | inr turned ↦ absurd (disallow_isnt p allow turned)
   ],
   λ longer. (
@@ -79,7 +109,8 @@ length_decides deny allow text other denies allows = (
 
 -- ---- the line that decides
 
-longest_permuted : (rules others : List PlacedRule) (text : List ℕ) (placed : PlacedRule) → IsPermutation rules others
+longest_permuted : (rules others : List PlacedRule) (text : List ℕ) (placed : PlacedRule)
+    → IsPermutation rules others
     → IsLongestMatch rules text placed → IsLongestMatch others text placed
 longest_permuted rules others text placed same is = record {
   listed = Contains-permutation rules others placed same is.listed;
@@ -88,7 +119,8 @@ longest_permuted rules others text placed same is = record {
       is.longest other (Contains-permutation others rules other (IsPermutation-sym rules others same) listed);
 }
 
-pub deciding_permuted : (rules others : List PlacedRule) (text : List ℕ) (line : Option ℕ) → IsPermutation rules others
+pub deciding_permuted : (rules others : List PlacedRule) (text : List ℕ) (line : Option ℕ)
+    → IsPermutation rules others
     → IsDecidingLine rules text line → IsDecidingLine others text line
 deciding_permuted rules others text None same is = elim is [
   | inl file ↦ inl file
@@ -96,7 +128,8 @@ deciding_permuted rules others text None same is = elim is [
       none placed (Contains-permutation others rules placed (IsPermutation-sym rules others same) listed))
 ]
 deciding_permuted rules others text (Some line) same (differs, placed, decides, at) =
-    let back = λ (other : PlacedRule). longest_permuted others rules text other (IsPermutation-sym rules others same) in (
+    let back = λ (other : PlacedRule). longest_permuted others rules text other
+    (IsPermutation-sym rules others same) in (
       differs,
       placed,
       record {
@@ -108,7 +141,8 @@ deciding_permuted rules others text (Some line) same (differs, placed, decides, 
     )
 
 -- a robot with the rules of a file, in any order, gives the verdicts of the file, by the same lines
-pub same_verdicts : (rules others : List PlacedRule) → IsPermutation rules others → (text : List ℕ) (answer : Bool)
+pub same_verdicts : (rules others : List PlacedRule) → IsPermutation rules others
+    → (text : List ℕ) (answer : Bool)
     → IsVerdict (unplaced others) text answer ↔ IsVerdict (unplaced rules) text answer
 same_verdicts rules others same text answer =
     let alike = IsPermutation-map (λ (placed : PlacedRule). placed.rule) rules others same in (
@@ -116,7 +150,8 @@ same_verdicts rules others same text answer =
       order_changes_nothing _ _ text answer alike,
     )
 
-pub same_lines : (rules others : List PlacedRule) → IsPermutation rules others → (text : List ℕ) (line : Option ℕ)
+pub same_lines : (rules others : List PlacedRule) → IsPermutation rules others
+    → (text : List ℕ) (line : Option ℕ)
     → IsDecidingLine others text line ↔ IsDecidingLine rules text line
 same_lines rules others same text line = (
   deciding_permuted others rules text line (IsPermutation-sym rules others same),
@@ -142,7 +177,8 @@ one_line_decides rules text None None one two = refl
 one_line_decides rules text None (Some line) one two = absurd (none_decides rules text line one two)
 one_line_decides rules text (Some line) None one two = absurd (none_decides rules text line two one)
 one_line_decides rules text (Some line) (Some other) (_, a, first, at) (_, b, second, there) =
-    let kinds = same_bool a.rule.1 b.rule.1 (second.allows a first.is_longest) (first.allows b second.is_longest) in
+    let kinds = same_bool a.rule.1 b.rule.1 (second.allows a first.is_longest)
+    (first.allows b second.is_longest) in
     let less = first.first b second.is_longest (sym kinds) in
     let more = second.first a first.is_longest kinds in
     let same : line ≡ other = omega arith in

@@ -16,7 +16,8 @@ loop-before-preserved-in_ok-push c =
     let cases = c.starts_with.ensures.cases in
     let next = starts_char star after c.starts_with.result cases (omega arith) (omega arith) in
     let other = iff_false next c.if-not-starts_with.true in
-    let stays = star_stays (string_bytes c.loop-before.text) c.in-Some.before.now after rest split plain other in
+    let stays =
+    star_stays (string_bytes c.loop-before.text) c.in-Some.before.now after rest split plain other in
     let bytes = c.in_ok-push_str.ensures.bytes in
     record {
       text = rw (c.in_ok-push.ensures.bytes, encode_ascii star (omega arith), bytes) (stays ∙ i.text);

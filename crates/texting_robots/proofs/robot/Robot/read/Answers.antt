@@ -7,8 +7,9 @@ use Rattle.texting_robots.specs.Group.{group_name, marks_of}
 use Rattle.texting_robots.specs.Pattern.{IsOverlong}
 use Rattle.texting_robots.specs.Rules.{PlacedRule, Rule, delay_at, delay_before_agents, rule_at, sitemap_at}
 use Rattle.texting_robots.proofs.CapturedLemmas.{sitemaps_are}
-use Rattle.texting_robots.proofs.RulesLemmas.{all_added, any_unplaced, first_more, given_any, given_more, given_none}
-use Rattle.texting_robots.proofs.RulesLemmas.{no_rules, none_unplaced, option_or_none, passed_on, refused_wider}
+use Rattle.texting_robots.proofs.RulesLemmas.{all_added, any_unplaced, first_more, given_any}
+use Rattle.texting_robots.proofs.RulesLemmas.{given_more, given_none, no_rules, none_unplaced}
+use Rattle.texting_robots.proofs.RulesLemmas.{option_or_none, passed_on, refused_wider}
 use Rattle.texting_robots.proofs.VerdictLemmas.{same_lines, same_verdicts}
 use Rattle.texting_robots.proofs.robot.Robot.read.Goals as goal
 
@@ -67,7 +68,8 @@ returns-clause-robot c =
     let (end, gone) = c.in-None.ensures.steps in
     let so_far = c.loop-marked.invariant in
     let rules = rw (end, append-nil) at so_far.rules in
-    let sorted = subst (λ (all : List PlacedRule). IsPermutation all c.sorted.result) rules c.sorted.ensures in
+    let sorted =
+    subst (λ (all : List PlacedRule). IsPermutation all c.sorted.result) rules c.sorted.ensures in
     let first = rw end at so_far.delay in
     let stray = rw c.unread_file_lines.ensures.value at c.group_for-group.ensures.stray_delay in
     let none = none_unplaced (λ (rule : Rule). IsOverlong rule.0) _ so_far.accepted in

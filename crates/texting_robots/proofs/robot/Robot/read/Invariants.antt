@@ -4,7 +4,8 @@ use Rattle.std.specs.Option.{option_or}
 use Rattle.texting_robots.specs.Steps.Entries.{AreEntries, rules_in}
 use Rattle.texting_robots.specs.Parsed.{file_lines}
 use Rattle.texting_robots.specs.Pattern.{IsOverlong}
-use Rattle.texting_robots.specs.Rules.{PlacedRule, captured_delays, delay_at, placed_rules, rule_at, sitemap_at, sitemaps_in}
+use Rattle.texting_robots.specs.Rules.{PlacedRule, captured_delays, delay_at}
+use Rattle.texting_robots.specs.Rules.{placed_rules, rule_at, sitemap_at, sitemaps_in}
 use Rattle.texting_robots.proofs.robot.Robot.read.Given as goal
 
 -- what was read, and what the lines that are left give, is what the file gives
@@ -15,7 +16,8 @@ invariant-loop-marked l =
     record {
       known : AreEntries l.reading.rules;
       rules : rules_in l.reading.rules ++ filter_map rule_at left ≡ placed_rules l.agent lines;
-      sitemaps : map string_bytes l.reading.sitemaps.items ++ filter_map sitemap_at left ≡ sitemaps_in lines;
+      sitemaps : map string_bytes l.reading.sitemaps.items ++ filter_map sitemap_at left
+          ≡ sitemaps_in lines;
       delay : option_or l.reading.delay (slice_get (filter_map delay_at left) 0)
           ≡ slice_get (captured_delays l.agent lines) 0;
       accepted : All (λ (placed : PlacedRule). IsOverlong placed.rule.0 → ⊥) (rules_in l.reading.rules);
