@@ -1,5 +1,8 @@
 -- The cut read from the front: the first line of a text, and the lines of the rest.
-use Rattle.std.proofs.Common.{◌≡◌, ◌≢◌, ℕ, suc, ◌+◌, ◌<◌, Bool, true, false, ◌==◌, ◌||◌, inl, inr, List, [], ◌∷◌, length, take, drop, map, get_or, sym, refl, ap, ◌∙◌, arith, cond, if◌then◌else◌, map-id, Option, Some, None, MatchOption, zero}
+use Rattle.std.proofs.Common.{◌≡◌, ◌≢◌, ℕ, suc, ◌+◌, ◌<◌, Bool, true}
+use Rattle.std.proofs.Common.{false, ◌==◌, ◌||◌, inl, inr, List, [], ◌∷◌, length}
+use Rattle.std.proofs.Common.{take, drop, map, get_or, sym, refl, ap, ◌∙◌, arith, cond}
+use Rattle.std.proofs.Common.{if◌then◌else◌, map-id, Option, Some, None, MatchOption, zero}
 use Rattle.std.specs.List.{position_or_len}
 use Rattle.std.proofs.lemmas.Bool.{cases_Bool, cond-true, cond-false, eqb-true, ne_eqb}
 use Rattle.std.proofs.lemmas.Bool.Decides.{nat_tests}
@@ -149,14 +152,17 @@ ends_with_nul b = elim (cases_Bool (b == 0)) [
     turned false false = refl
 
 -- what `memchr` finds
-pub body_found : (n : Bool) (test : ℕ → Bool) (text : List ℕ) (found : Option ℕ) → Ends n test → IsFirstByte test text found
-    → (let len = body_len (read_as n text) in MatchOption found (len ≡ length text) (λ end. (len ≡ end) × (end < length text)))
+pub body_found : (n : Bool) (test : ℕ → Bool) (text : List ℕ) (found : Option ℕ) → Ends n test
+    → IsFirstByte test text found
+    → (let len = body_len (read_as n text) in
+    MatchOption found (len ≡ length text) (λ end. (len ≡ end) × (end < length text)))
 body_found n test text None ends none = sym (body_by n test ends text) ∙ end_is test text none
 body_found n test text (Some k) ends first =
     (sym (body_by n test ends text) ∙ place_is test text k first.0 first.1, first.0.high)
 
 -- an end that is found in a front of the text is the text's
-near_end : (text : List ℕ) (k : ℕ) → body_len (take k text) < length (take k text) → body_len text ≡ body_len (take k text)
+near_end : (text : List ℕ) (k : ℕ) → body_len (take k text) < length (take k text)
+    → body_len text ≡ body_len (take k text)
 near_end [] zero less = refl
 near_end [] (suc k) less = refl
 near_end (b ∷ text) zero less = absurd (omega (arith, less))
@@ -164,15 +170,18 @@ near_end (b ∷ text) (suc k) less = elim (cases_Bool (b == lf)) [
   | inl is_lf ↦ rw is_lf refl
   | inr not_lf ↦ elim (cases_Bool (b == cr)) [
     | inl is_cr ↦ rw (not_lf, is_cr) refl
-    | inr not_cr ↦ rw (not_lf, not_cr) (ap (λ k. suc k) (near_end text k (omega (arith, (rw (not_lf, not_cr) at less)))))
+    | inr not_cr ↦ rw (not_lf, not_cr)
+        (ap (λ k. suc k) (near_end text k (omega (arith, (rw (not_lf, not_cr) at less)))))
   ]
 ]
 
-pub near_body : (n : Bool) (text : List ℕ) (k end : ℕ) → body_len (read_as n (take k text)) ≡ end → end < length (take k text)
+pub near_body : (n : Bool) (text : List ℕ) (k end : ℕ) → body_len (read_as n (take k text)) ≡ end
+    → end < length (take k text)
     → body_len (read_as n text) ≡ end
 near_body n text k end is less =
     let read = take-map (read_byte n) k text in
-    near_end (read_as n text) k (rw (read, is) (omega (arith, less, length-map (take k text) (read_byte n)))) ∙ ap body_len read ∙ is
+    near_end (read_as n text) k (rw (read, is) (omega (arith, less, length-map (take k text) (read_byte n))))
+    ∙ ap body_len read ∙ is
 
 -- a body holds no NUL that is read as LF
 body_plain : (n : Bool) (text : List ℕ)
@@ -201,18 +210,22 @@ long_read n text = simp length-map
 
 -- ---- the next line
 
-pub next_line : (n : Bool) (rest body after next : List ℕ) (k : ℕ) → 0 < length rest → k ≡ body_len (read_as n rest)
+pub next_line : (n : Bool) (rest body after next : List ℕ) (k : ℕ) → 0 < length rest
+    → k ≡ body_len (read_as n rest)
     → body ≡ take k rest → after ≡ drop k rest → next ≡ drop (end_len (read_as n after)) after
     → lines_of (read_as n rest) ≡ line_of body ∷ lines_of (read_as n next)
 next_line n rest body after next k some k_is body_is after_is next_is =
     let text = read_as n rest in
     let first = lines_first text (omega (arith, some, long_read n rest)) in
-    let body_same : take (body_len text) text ≡ body = body_plain n rest ∙ ap (λ i. take i rest) (sym k_is) ∙ sym body_is in
+    let body_same : take (body_len text) text ≡ body =
+    body_plain n rest ∙ ap (λ i. take i rest) (sym k_is) ∙ sym body_is in
     let after_same : drop (body_len text) text ≡ read_as n after
     = ap (λ i. drop i text) (sym k_is) ∙ drop_read n k rest ∙ ap (read_as n) (sym after_is) in
     let rest_same : rest_of text ≡ read_as n next
-    = ap (λ t. drop (end_len t) t) after_same ∙ drop_read n (end_len (read_as n after)) after ∙ ap (read_as n) (sym next_is) in
-    first ∙ ap (λ t. line_of t ∷ lines_of (rest_of text)) body_same ∙ ap (λ t. line_of body ∷ lines_of t) rest_same
+    = ap (λ t. drop (end_len t) t) after_same ∙ drop_read n (end_len (read_as n after)) after
+    ∙ ap (read_as n) (sym next_is) in
+    first ∙ ap (λ t. line_of t ∷ lines_of (rest_of text)) body_same
+    ∙ ap (λ t. line_of body ∷ lines_of t) rest_same
 
 -- what the tests of the reader say
 pub not_empty : (n : ℕ) (b : Bool) → b ≡ (n == 0) → b ≡ false → 0 < n

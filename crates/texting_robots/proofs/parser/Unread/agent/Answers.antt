@@ -9,4 +9,5 @@ returns-in_err-tail_if c =
 
 pub returns : goal.returns
 returns c =
-    sym c.self.view_is ∙ agent_line _ _ c.in_ok-tail_if.ensures ∙ ap (λ name. UserAgent name) (sym c.value_of.ensures)
+    sym c.self.view_is ∙ agent_line _ _ c.in_ok-tail_if.ensures
+    ∙ ap (λ name. UserAgent name) (sym c.value_of.ensures)

@@ -7,14 +7,16 @@ use Rattle.texting_robots.proofs.parser.UnreadLinesIterator.next.Goals as goal
 pub returns-then-is_empty-clause-steps : goal.returns-then-is_empty-clause-steps
 returns-then-is_empty-clause-steps c =
     let none = sym c.self.view_is
-    ∙ ap (λ text. lines_of (read_as c.self.inside.nul_ends text)) (nothing_is _ _ c.is_empty.ensures c.if-is_empty.true)
+    ∙ ap (λ text. lines_of (read_as c.self.inside.nul_ends text))
+    (nothing_is _ _ c.is_empty.ensures c.if-is_empty.true)
     ∙ lines_nil in
     (none, none)
 
 pub returns-clause-steps : goal.returns-clause-steps
 returns-clause-steps c =
     rw (← c.self.view_is)
-    (next_line c.self.inside.nul_ends _ _ _ _ _ (not_empty _ _ c.is_empty.ensures c.if-is_empty.false) c.body_len.ensures.value
+    (next_line c.self.inside.nul_ends _ _ _ _ _ (not_empty _ _ c.is_empty.ensures c.if-is_empty.false)
+    c.body_len.ensures.value
     c.split_at.ensures.front c.split_at.ensures.back c.after_end-self-inside.ensures)
 
 pub returns-clause-goes : goal.returns-clause-goes

@@ -17,4 +17,6 @@ pub returns-else-is_spelled : goal.returns-else-is_spelled
 returns-else-is_spelled c =
     let parts = c.in_ok-key.ensures.cases in
     let letters = ap (map to_ascii_lowercase) c.as_bytes.ensures.value in
-    spelled_other _ _ _ parts.1 (λ same. true≢false (sym (c.is_spelled.ensures.1 (same ∙ sym letters)) ∙ c.if-is_spelled.false))
+    spelled_other _ _ _ parts.1
+    (λ same. true≢false
+    (sym (c.is_spelled.ensures.1 (same ∙ sym letters)) ∙ c.if-is_spelled.false))

@@ -9,5 +9,6 @@ returns-in_err-kind c =
 
 pub returns : goal.returns
 returns c =
-    let found = has_parts _ _ _ c.in_ok-kind.ensures ∙ ap (λ value. Some (c.in_ok-kind.kind, value)) (sym c.value_of.ensures) in
+    let found = has_parts _ _ _ c.in_ok-kind.ensures ∙ ap (λ value. Some (c.in_ok-kind.kind, value))
+    (sym c.value_of.ensures) in
     record { value = found; decides = found_statement _ _ _ found }
