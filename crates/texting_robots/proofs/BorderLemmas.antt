@@ -2,16 +2,17 @@
 -- `place` is the next place of the text to look at, and `matched` bytes before it agree with the piece.
 -- That the leftmost place of a piece loses no match is `first_is_enough` of PlacingLemmas; how many looks a
 -- search takes is in the invariant of `find`.
-use Rattle.std.proofs.Common.{◌≡◌, ◌≢◌, ◌↔◌, ⊎_elim, ℕ, ◌+◌, ◌-◌, ◌<◌, ◌≤◌, Some, None, List, [], ◌∷◌, ◌++◌}
-use Rattle.std.proofs.Common.{length, get_or, sym, ap, subst, subst₂, ◌∙◌, arith, append_assoc}
+use Rattle.std.proofs.Common.{◌≡◌, ◌≢◌, ◌↔◌, ⊎_elim, ℕ, ◌+◌, ◌-◌}
+use Rattle.std.proofs.Common.{◌<◌, ◌≤◌, Some, None, List, [], ◌∷◌, ◌++◌, length}
+use Rattle.std.proofs.Common.{get_or, sym, ap, subst, subst₂, ◌∙◌, arith, append_assoc}
 use Rattle.std.proofs.lemmas.Bool.{cases_eq, cases_lt}
 use Rattle.std.proofs.lemmas.Grind.{get_or_default_zero}
 use Rattle.std.proofs.lemmas.List.{get_or_append_left, get_or_push, get_or-append-add, length_push}
 use Rattle.memchr.specs.Find.{FindsNeedle, Nowhere, OccursAt}
 use Rattle.texting_robots.specs.Steps.Border.{Agrees, AreBorders, IsLongestBorder}
 
--- From low on, the place `matched` bytes back is the first that is still open: there the piece agrees with the text
--- up to `place`, and at each place before it disagrees with the text before `end`.
+-- From low on, the place `matched` bytes back is the first that is still open: there the piece agrees with
+-- the text up to `place`, and at each place before it disagrees with the text before `end`.
 pub record IsFirstOpen (text piece : List ℕ) (low end place matched : ℕ) : Type 0 where
   pub behind : low + matched ≤ place
   pub agrees : Agrees text piece (place - matched) place
@@ -22,7 +23,8 @@ byte_at text = ap (λ place. get_or text place 0)
 
 -- Where len bytes of the piece are read, it agrees farther on just as it agrees with itself.
 module _ (text piece : List ℕ) (at far there len end : ℕ) where
-  agrees_farther : there ≡ at + far → end ≡ at + len → len ≤ length piece → Agrees text piece at end
+  agrees_farther : there ≡ at + far → end ≡ at + len → len ≤ length piece
+      → Agrees text piece at end
       → Agrees text piece there end ↔ Agrees piece piece far len
   agrees_farther ahead last fits here = (
     λ agrees k l m.
@@ -117,10 +119,12 @@ module _ {text piece : List ℕ} where
     open_none some last at from upto occurs =
         let fits = occurs.fits in
         let behind = first.behind in
-        ⊎_elim (λ before. open_before at from before occurs) (λ l. omega arith) (cases_lt at (place - matched))
+        ⊎_elim (λ before. open_before at from before occurs) (λ l. omega arith)
+        (cases_lt at (place - matched))
 
 module _ {piece : List ℕ} where
-  -- Where the piece is looked for in itself, the bytes matched are the longest proper border of the bytes read.
+  -- Where the piece is looked for in itself, the bytes matched are the longest proper border of the bytes
+  -- read.
   pub longest_border : {len border : ℕ} → IsFirstOpen piece piece 1 len len border
       → IsLongestBorder piece len border
   longest_border {len} {border} first =
@@ -158,13 +162,15 @@ module _ {piece old now : List ℕ} {len : ℕ} (adds : AddsBorders piece old no
       let long = adds.long in
       record {
         table = adds.table ++ border ∷ [];
-        added = ap (λ items. items ++ border ∷ []) adds.added ∙ append_assoc old adds.table (border ∷ []);
+        added = ap (λ items. items ++ border ∷ []) adds.added
+            ∙ append_assoc old adds.table (border ∷ []);
         long = omega arith;
         borders = borders_push adds.table border adds.borders (rw long longest);
       }
 
   -- Each entry of the table is the longest proper border of a beginning of its piece.
-  pub adds_entry : (count : ℕ) → 0 < count → count ≤ len → (at : ℕ) → at ≡ length old + count - 1
+  pub adds_entry : (count : ℕ) → 0 < count → count ≤ len → (at : ℕ)
+      → at ≡ length old + count - 1
       → (entry : ℕ) → entry ≡ get_or now at entry → IsLongestBorder piece count entry
   adds_entry count some upto at place entry is =
       let long = adds.long in

@@ -1,7 +1,7 @@
 -- Collapsing a pattern.
-use Rattle.std.proofs.Common.{◌≡◌, ◌≢◌, ◌↔◌, ℕ, suc, ◌<◌, ◌≤◌, Bool, true, false, eqb, ◌==◌, ◌&&◌, inl, inr}
-use Rattle.std.proofs.Common.{List, [], ◌∷◌, ◌++◌, length, get_or, arith}
-use Rattle.std.proofs.Common.{refl, sym, ap, ◌∙◌, append_assoc, append-nil}
+use Rattle.std.proofs.Common.{◌≡◌, ◌≢◌, ◌↔◌, ℕ, suc, ◌<◌, ◌≤◌, Bool, true}
+use Rattle.std.proofs.Common.{false, eqb, ◌==◌, ◌&&◌, inl, inr, List, [], ◌∷◌, ◌++◌}
+use Rattle.std.proofs.Common.{length, get_or, arith, refl, sym, ap, ◌∙◌, append_assoc, append-nil}
 use Rattle.std.specs.List.{starts_with}
 use Rattle.std.proofs.lemmas.Cmp.{nat_eq_equiv}
 use Rattle.std.proofs.lemmas.Bool.{and_parts, cases_Bool, eq-eqb, eqb-true, ne_eqb}
@@ -72,7 +72,8 @@ length_none (b ∷ q) none = absurd (omega (arith, none))
 
 module _ (b : ℕ) (q : List ℕ) where
   -- a star before another one
-  pub length_merged : b ≡ star → begins_with_star q ≡ true → length (collapsed (b ∷ q)) ≡ length (collapsed q)
+  pub length_merged : b ≡ star → begins_with_star q ≡ true
+      → length (collapsed (b ∷ q)) ≡ length (collapsed q)
   unfolding collapsed
   length_merged is two = rw (eq-eqb b star is, two) refl
 
@@ -80,7 +81,8 @@ module _ (b : ℕ) (q : List ℕ) where
   unfolding collapsed
   length_plain plain = rw (ne_eqb b star plain) refl
 
-  pub length_last : begins_with_star q ≡ false → length (collapsed (b ∷ q)) ≡ suc (length (collapsed q))
+  pub length_last : begins_with_star q ≡ false
+      → length (collapsed (b ∷ q)) ≡ suc (length (collapsed q))
   unfolding collapsed
   length_last one = elim (cases_Bool (b == star)) [
     | inl is ↦ rw (is, one) refl

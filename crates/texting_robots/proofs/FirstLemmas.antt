@@ -1,7 +1,7 @@
 -- In sorted rules the first that matches decides.
-use Rattle.std.proofs.Common.{◌≡◌, ◌≢◌, inl, inr, ℕ, zero, suc, ◌-◌, ◌+◌, ◌*◌, ◌<◌, ◌≤◌, count_by, cond, leb}
-use Rattle.std.proofs.Common.{Bool, true, false, List, [], ◌∷◌, AllPairs, length, get_or, string_bytes, refl, sym}
-use Rattle.std.proofs.Common.{◌∙◌, ap, arith}
+use Rattle.std.proofs.Common.{◌≡◌, ◌≢◌, inl, inr, ℕ, zero, suc, ◌-◌, ◌+◌, ◌*◌}
+use Rattle.std.proofs.Common.{◌<◌, ◌≤◌, count_by, cond, leb, Bool, true, false, List, [], ◌∷◌}
+use Rattle.std.proofs.Common.{AllPairs, length, get_or, string_bytes, refl, sym, ◌∙◌, ap, arith}
 use Rattle.std.specs.List.{Contains}
 use Rattle.std.proofs.Math.Nat.{mul-le-mul_left}
 use Rattle.std.proofs.lemmas.Bool.{cases_lt, cases_order, false≢true, le-leb}
@@ -10,7 +10,8 @@ use Rattle.std.proofs.lemmas.List.Sums.{sum_by-cons}
 use Rattle.texting_robots.specs.declared.pieces.Span.{Span}
 use Rattle.texting_robots.specs.declared.rules.Entry.{Entry}
 use Rattle.texting_robots.specs.declared.rules.Gathered.{Gathered}
-use Rattle.texting_robots.specs.Steps.Entries.{AreEntries, GoesBefore, IsFirstMatch, NoneMatches, no_entry, placed_at, rules_in}
+use Rattle.texting_robots.specs.Steps.Entries.{AreEntries, GoesBefore, IsFirstMatch}
+use Rattle.texting_robots.specs.Steps.Entries.{NoneMatches, no_entry, placed_at, rules_in}
 use Rattle.texting_robots.specs.Steps.Pieces.{IsSpan, part_of}
 use Rattle.texting_robots.specs.Decision.{Decides, IsLongestMatch, as_long_as}
 use Rattle.texting_robots.specs.Pattern.{Matches}
@@ -22,7 +23,8 @@ use Rattle.texting_robots.specs.View.{LooksAtMost, ViewValue}
 record IsPreferred (first second : PlacedRule) : Type 0 where
   longer : length second.rule.0 ≤ length first.rule.0
   allows : length second.rule.0 ≡ length first.rule.0 → second.rule.1 ≡ true → first.rule.1 ≡ true
-  earlier : length second.rule.0 ≡ length first.rule.0 → second.rule.1 ≡ first.rule.1 → first.line ≤ second.line
+  earlier : length second.rule.0 ≡ length first.rule.0 → second.rule.1 ≡ first.rule.1
+      → first.line ≤ second.line
 
 -- a rule without its line is that of some rule with one
 pub placed_of : (rules : List PlacedRule) (rule : Rule) → Contains (unplaced rules) rule
@@ -64,16 +66,19 @@ module _ (rules : List PlacedRule) (text : List ℕ) (sorted : AllPairs IsPrefer
   has : Contains rules placed
   has = (at, first.within, first.is)
 
-  first_best : (other : PlacedRule) → Contains rules other → Matches other.rule.0 text → IsPreferred placed other
+  first_best : (other : PlacedRule) → Contains rules other → Matches other.rule.0 text
+      → IsPreferred placed other
   first_best other (k, below, here) matches = elim (cases_order k at) [
     | inl same ↦
         let one : placed ≡ other = sym (front other) ∙ rw (sym same) here in
-        rw (sym one) (record { longer = omega arith; allows = λ long is. is; earlier = λ long kinds. omega arith })
+        rw (sym one)
+        (record { longer = omega arith; allows = λ long is. is; earlier = λ long kinds. omega arith })
     | inr (inl early) ↦ absurd (first.before k other early (rw here matches))
     | inr (inr late) ↦ rw (front other, here) at (sorted at k other late below)
   ]
 
-  verdict_by : (answer : Bool) → placed.rule.1 ≡ answer → text ≢ robots_file → IsVerdict (unplaced rules) text answer
+  verdict_by : (answer : Bool) → placed.rule.1 ≡ answer → text ≢ robots_file
+      → IsVerdict (unplaced rules) text answer
   verdict_by true is other = λ (_, p, stands, matches, longest).
       let (found, listed, rule) = placed_of rules (p, false) stands in
       let best = (rw rule at (first_best found listed (rw rule matches)).longer) in
@@ -101,7 +106,8 @@ module _ (rules : List PlacedRule) (text : List ℕ) (sorted : AllPairs IsPrefer
     longest = λ other listed matches. (first_best other listed matches).longer;
   }
 
-  as_long : (other : PlacedRule) → IsLongestMatch rules text other → length other.rule.0 ≡ length placed.rule.0
+  as_long : (other : PlacedRule) → IsLongestMatch rules text other
+      → length other.rule.0 ≡ length placed.rule.0
   as_long other is =
       let best = (first_best other is.listed is.matches).longer in
       let least = is.longest placed has first.matches in
@@ -115,11 +121,13 @@ module _ (rules : List PlacedRule) (text : List ℕ) (sorted : AllPairs IsPrefer
   }
 
   -- all rules up to the first that matches are as long as any that matches
-  tried : (other : PlacedRule) → Contains rules other → Matches other.rule.0 text → at + 1 ≤ as_long_as other rules
+  tried : (other : PlacedRule) → Contains rules other → Matches other.rule.0 text
+      → at + 1 ≤ as_long_as other rules
   tried other stands matches =
       let best = (first_best other stands matches).longer in
       let within = first.within in
-      count_front (λ (r : PlacedRule). leb (length other.rule.0) (length r.rule.0)) rules (at + 1) (omega arith)
+      count_front (λ (r : PlacedRule). leb (length other.rule.0) (length r.rule.0)) rules
+      (at + 1) (omega arith)
       (λ k d below. le-leb (length other.rule.0) (length (get_or rules k d).rule.0) (elim (cases_lt k at) [
         | inl early ↦ let more = (rw (front d) at (sorted k at d early within)).longer in omega arith
         | inr late ↦ let same : k ≡ at = omega arith in rw (same, front d) best
@@ -134,7 +142,8 @@ part_length xs span h =
     let within = h.within in
     simp (length-take, length-drop) (omega arith)
 
-preferred : (text : List ℕ) (first second : Entry) → IsSpan text first.pattern → IsSpan text second.pattern
+preferred : (text : List ℕ) (first second : Entry) → IsSpan text first.pattern
+    → IsSpan text second.pattern
     → GoesBefore first second → IsPreferred (placed_at text first) (placed_at text second)
 preferred text first second one two before =
     let a = part_length text first.pattern one in
@@ -174,7 +183,8 @@ module _ (all : Gathered) (known : AreEntries all) where
           found.2 k early (rw (rule_is k d here) at fits);
     }
 
-    pub first_decides : text ≢ robots_file → IsVerdict (unplaced (rules_in all)) text (entry_at at).is_allow
+    pub first_decides : text ≢ robots_file
+        → IsVerdict (unplaced (rules_in all)) text (entry_at at).is_allow
     first_decides =
         verdict_by (rules_in all) text (sorted_rules sorted) at _ is_first (entry_at at).is_allow refl
 
@@ -188,7 +198,8 @@ module _ (all : Gathered) (known : AreEntries all) where
         (tried (rules_in all) text (sorted_rules sorted) at _ is_first rule stands matches)
 
   module _ (text : List ℕ) (none : NoneMatches all text) where
-    pub none_stands : (rule : PlacedRule) → Contains (rules_in all) rule → Matches rule.rule.0 text → ⊥
+    pub none_stands : (rule : PlacedRule) → Contains (rules_in all) rule → Matches rule.rule.0 text
+        → ⊥
     none_stands rule (k, below, here) fits =
         let within : k < length all.entries.items = rw length-map at below in
         none k within (rw (sym here, rule_is k rule within) at fits)
@@ -200,7 +211,8 @@ module _ (all : Gathered) (known : AreEntries all) where
 
 -- ---- looks
 
-pub at_most_more : (old new : ViewValue) (few many : ℕ) → few ≤ many → LooksAtMost old new few → LooksAtMost old new many
+pub at_most_more : (old new : ViewValue) (few many : ℕ) → few ≤ many → LooksAtMost old new few
+    → LooksAtMost old new many
 at_most_more old new few many more is =
     let cost = is.cost in
     record { text = is.text; looks = is.looks; cost = omega arith }

@@ -1,6 +1,8 @@
--- What a pattern matches begins as its first piece, and has the pairs of neighbouring bytes of its searched pieces.
-use Rattle.std.proofs.Common.{◌≡◌, ℕ, ◌*◌, ◌^◌, ◌%◌, ◌<◌, ◌≤◌, List, [], ◌∷◌, ◌++◌, length, min, get_or, drop, take}
-use Rattle.std.proofs.Common.{sym, refl, ap, subst, ◌∙◌, arith}
+-- What a pattern matches begins as its first piece, and has the pairs of neighbouring bytes of its searched
+-- pieces.
+use Rattle.std.proofs.Common.{◌≡◌, ℕ, ◌*◌, ◌^◌, ◌%◌, ◌<◌}
+use Rattle.std.proofs.Common.{◌≤◌, List, [], ◌∷◌, ◌++◌, length, min}
+use Rattle.std.proofs.Common.{get_or, drop, take, sym, refl, ap, subst, ◌∙◌, arith}
 use Rattle.std.specs.Int.RustNames.{bit_and, bit_or}
 use Rattle.std.specs.Int.Bits.{or_self, or_zero_l}
 use Rattle.std.proofs.lemmas.Nat.{and_mask, or_comm}
@@ -31,12 +33,14 @@ same_below (a ∷ b ∷ c ∷ d ∷ e ∷ f ∷ g ∷ []) rest = omega arith
 same_below (a ∷ b ∷ c ∷ d ∷ e ∷ f ∷ g ∷ h ∷ piece) rest = refl
 
 -- a text that begins with a piece fits the piece's head
-beginning_fits : (piece rest : List ℕ) (head : Head) → IsHeadOf piece head → Fits head (front_of (piece ++ rest))
+beginning_fits : (piece rest : List ℕ) (head : Head) → IsHeadOf piece head
+    → Fits head (front_of (piece ++ rest))
 beginning_fits piece rest head is =
     let size = 8 * min (length piece) 8 in
     let masked : bit_and (front_of (piece ++ rest)) (ones_below (length piece))
     ≡ bit_and (front_of piece) (ones_below (length piece)) =
-    and_mask (front_of (piece ++ rest)) size ∙ same_below piece rest ∙ sym (and_mask (front_of piece) size) in
+    and_mask (front_of (piece ++ rest)) size ∙ same_below piece rest
+    ∙ sym (and_mask (front_of piece) size) in
     ap (bit_and (front_of (piece ++ rest))) is.mask ∙ masked ∙ ap (bit_and (front_of piece)) (sym is.mask)
     ∙ sym is.bytes
 
@@ -54,7 +58,8 @@ within_later few more many h =
     sym (or_assoc few more many) ∙ ap (λ x. bit_or x many) (or_comm few more)
     ∙ or_assoc more few many ∙ ap (bit_or more) h
 
-within_both : (one other many : ℕ) → AreWithin one many → AreWithin other many → AreWithin (bit_or one other) many
+within_both : (one other many : ℕ) → AreWithin one many → AreWithin other many
+    → AreWithin (bit_or one other) many
 within_both one other many h k = or_assoc one other many ∙ ap (bit_or one) k ∙ h
 
 within_through : (few some many : ℕ) → AreWithin few some → AreWithin some many → AreWithin few many
@@ -89,7 +94,8 @@ unfolding pair_set
 pairs_step bits bit whole [] long is h = absurd (omega arith)
 pairs_step bits bit whole (b ∷ []) long is h = absurd (omega arith)
 pairs_step bits bit whole (b ∷ c ∷ rest) long is h =
-    or_assoc bits bit (pair_set (c ∷ rest)) ∙ ap (λ x. bit_or bits (bit_or x (pair_set (c ∷ rest)))) is ∙ h
+    or_assoc bits bit (pair_set (c ∷ rest)) ∙ ap (λ x. bit_or bits (bit_or x (pair_set (c ∷ rest)))) is
+    ∙ h
 
 pub no_pairs : (rest : List ℕ) → length rest < 2 → pair_set rest ≡ 0
 unfolding pair_set
@@ -102,7 +108,8 @@ no_pairs (b ∷ c ∷ rest) short = absurd (omega arith)
 -- the pairs of all pieces together
 abbrev pub piece_pairs : List ℕ → List Piece → ℕ
 piece_pairs pattern [] = 0
-piece_pairs pattern (piece ∷ pieces) = bit_or (pair_set (part_of pattern piece.span)) (piece_pairs pattern pieces)
+piece_pairs pattern (piece ∷ pieces) =
+    bit_or (pair_set (part_of pattern piece.span)) (piece_pairs pattern pieces)
 
 -- what is left of a pattern matches only texts with the pairs of the pieces that are left
 left_within : (pattern : List ℕ) (ending : Ending) (pieces : List Piece) (left : List ℕ)

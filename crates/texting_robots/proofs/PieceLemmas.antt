@@ -1,7 +1,8 @@
 -- Cutting a pattern from left to right, and what its pieces decide.
-use Rattle.std.proofs.Common.{◌≡◌, ◌≢◌, ◌↔◌, ◌==◌, ℕ, ◌+◌, ◌-◌, ◌<◌, ◌≤◌, true}
-use Rattle.std.proofs.Common.{List, [], ◌∷◌, ◌++◌, All, get_or, length, take, drop, refl, sym, ap, subst, ◌∙◌}
-use Rattle.std.proofs.Common.{append_assoc, append-nil, take-append-drop, zero-add, length-append, arith}
+use Rattle.std.proofs.Common.{◌≡◌, ◌≢◌, ◌↔◌, ◌==◌, ℕ, ◌+◌, ◌-◌}
+use Rattle.std.proofs.Common.{◌<◌, ◌≤◌, true, List, [], ◌∷◌, ◌++◌, All, get_or}
+use Rattle.std.proofs.Common.{length, take, drop, refl, sym, ap, subst, ◌∙◌, append_assoc}
+use Rattle.std.proofs.Common.{append-nil, take-append-drop, zero-add, length-append, arith}
 use Rattle.std.specs.List.{prefix_len}
 use Rattle.std.proofs.lemmas.List.{drop_all, drop_at, drop_more, take_at}
 use Rattle.std.proofs.lemmas.List.Elements.{All-cons, All-nil}
@@ -31,10 +32,12 @@ module _ {p : List ℕ} {ends : Ends} {pieces : List Piece} {borders : List ℕ}
   first = take ends.first_len p
 
   -- where the text begins with the first piece, what is left decides
-  pub first_in_front : (behind : List ℕ) → t ≡ first ++ behind → Matches p t ↔ Matches are.rest behind
+  pub first_in_front : (behind : List ℕ) → t ≡ first ++ behind → Matches p t
+      ↔ Matches are.rest behind
   first_in_front behind split =
       let (to, from) = are.decides t in (
-        λ m. let (after, e, n) = to m in rw (sym (front_rest t first behind split) ∙ front_rest t first after e) n,
+        λ m. let (after, e, n) = to m in
+            rw (sym (front_rest t first behind split) ∙ front_rest t first after e) n,
         λ n. from (behind, split, n),
       )
 
@@ -69,8 +72,10 @@ no_piece = record { span = record { start = 0; end = 0 }; table = 0 }
 module _ (p : List ℕ) (ending : Ending) (pieces : List Piece) (i : ℕ) (left : List ℕ)
     (are : AreLeft p ending (drop i pieces) left) where
   -- the piece at a place is the next
-  pub next_left : i < length pieces → AreLeft p ending (get_or pieces i no_piece ∷ drop (i + 1) pieces) left
-  next_left below = subst (λ (more : List Piece). AreLeft p ending more left) (drop_more pieces i no_piece below) are
+  pub next_left : i < length pieces
+      → AreLeft p ending (get_or pieces i no_piece ∷ drop (i + 1) pieces) left
+  next_left below =
+      subst (λ (more : List Piece). AreLeft p ending more left) (drop_more pieces i no_piece below) are
 
   -- past the last piece the ending is left
   pub none_left : length pieces ≤ i → AreLeft p ending [] left
@@ -133,7 +138,8 @@ spanned p next piece rest (front, e) f =
     (record { ordered = omega arith; within = omega arith }, bytes)
 
 -- a table stands in the tables where it was put
-piece_put : (p tables table more : List ℕ) (span : Span) → IsSpan p span → IsTable (part_of p span) table
+piece_put : (p tables table more : List ℕ) (span : Span) → IsSpan p span
+    → IsTable (part_of p span) table
     → IsPiece p (tables ++ (table ++ more)) (record { span = span; table = length tables })
 piece_put p tables table more span is_span is_table =
     let size = length tables + length (part_of p span) - length tables in
@@ -163,7 +169,8 @@ pub record IsCutUpto (pattern : List ℕ) (first_len : ℕ) (old_pieces pieces :
       old_borders (borders ++ table)
 
 -- before the first star or dollar stands the first piece
-pub cut_first : (p piece left : List ℕ) (pieces : List Piece) (borders : List ℕ) → IsCutAtMark p piece left
+pub cut_first : (p piece left : List ℕ) (pieces : List Piece) (borders : List ℕ)
+    → IsCutAtMark p piece left
     → IsCutUpto p (length piece) pieces pieces borders borders left
 cut_first p piece left pieces borders cut =
     let e = cut.parts in
@@ -188,7 +195,8 @@ cut_first p piece left pieces borders cut =
       };
     }
 
-module _ {p : List ℕ} {first_len : ℕ} {old_pieces pieces : List Piece} {old_borders borders left : List ℕ}
+module _ {p : List ℕ} {first_len : ℕ} {old_pieces pieces : List Piece}
+    {old_borders borders left : List ℕ}
     (upto : IsCutUpto p first_len old_pieces pieces old_borders borders left) where
   abbrev AddsWith : Ending → Type 0
   AddsWith ending =
@@ -212,7 +220,8 @@ module _ {p : List ℕ} {first_len : ℕ} {old_pieces pieces : List Piece} {old_
   cut_closed closes = done Closed tt (λ t. closes_decides left t closes)
 
   -- a dollar that doesn't close is left
-  pub cut_never : left ≢ [] → ((q : List ℕ) → left ≢ star ∷ q) → ¬ Closes left → AddsWith Never
+  pub cut_never : left ≢ [] → ((q : List ℕ) → left ≢ star ∷ q)
+      → ¬ Closes left → AddsWith Never
   cut_never some no_star other =
       done Never tt (λ t. (mark_matches_none left t upto.at_mark some no_star other, λ none. absurd none))
 
@@ -231,7 +240,8 @@ module _ {p : List ℕ} {first_len : ℕ} {old_pieces pieces : List Piece} {old_
     cut_last closes = done (Last span) is_span.0 (λ t. rw is_span.1 (star_is_last is closes t))
 
     -- the piece and its table were added
-    pub cut_more : (at : ℕ) (table : List ℕ) → at ≡ length borders → ¬ Closes rest → IsTable piece table
+    pub cut_more : (at : ℕ) (table : List ℕ) → at ≡ length borders → ¬ Closes rest
+        → IsTable piece table
         → IsCutUpto p first_len old_pieces (pieces ++ record { span = span; table = at } ∷ [])
         old_borders (borders ++ table) rest
     cut_more at table there other is_table =

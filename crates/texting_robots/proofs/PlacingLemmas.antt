@@ -1,7 +1,7 @@
 -- A piece may be placed where it first stands, and what is found by its place.
-use Rattle.std.proofs.Common.{◌≡◌, ◌↔◌, ⊎_elim, ℕ, ◌+◌, ◌-◌, ◌≤◌, Some, None, List, [], ◌++◌}
-use Rattle.std.proofs.Common.{length, take, drop, sym, ap, subst, ◌∙◌, arith}
-use Rattle.std.proofs.Common.{append-nil, take-append-drop, drop-drop, length-append, length-drop}
+use Rattle.std.proofs.Common.{◌≡◌, ◌↔◌, ⊎_elim, ℕ, ◌+◌, ◌-◌, ◌≤◌, Some}
+use Rattle.std.proofs.Common.{None, List, [], ◌++◌, length, take, drop, sym, ap, subst, ◌∙◌}
+use Rattle.std.proofs.Common.{arith, append-nil, take-append-drop, drop-drop, length-append, length-drop}
 use Rattle.std.proofs.lemmas.Bool.{cases_lt}
 use Rattle.std.proofs.lemmas.List.{drop_all}
 use Rattle.std.proofs.lemmas.List.Prefix.{at_from_reads, at_reads, front_rest}
@@ -12,14 +12,16 @@ use Rattle.texting_robots.specs.Steps.Stars.{IsBehindFirst, StandsNowhere}
 module _ (R : List ℕ → Type 0) (piece t : List ℕ) where
   -- where R holds of a text if it holds of an end of it, the first place of the piece is enough
   pub first_is_enough : ((s t : List ℕ) → IsSuffix s t → R s → R t) → (rest : List ℕ)
-      → IsBehindFirst piece t rest → ((after : List ℕ) × IsSuffix (piece ++ after) t × R after) ↔ R rest
+      → IsBehindFirst piece t rest → ((after : List ℕ) × IsSuffix (piece ++ after) t × R after)
+      ↔ R rest
   first_is_enough grows rest behind = (
     λ (after, (front, e), r). grows after rest (behind.first front after e) r,
     λ r. (rest, (behind.front, behind.stands), r),
   )
 
   -- a piece that stands nowhere is followed by nothing
-  pub none_is_enough : StandsNowhere piece t → ¬ ((after : List ℕ) × IsSuffix (piece ++ after) t × R after)
+  pub none_is_enough : StandsNowhere piece t
+      → ¬ ((after : List ℕ) × IsSuffix (piece ++ after) t × R after)
   none_is_enough nowhere (after, (front, e), r) = nowhere front after e
 
 module _ (t : List ℕ) where
@@ -95,5 +97,6 @@ module _ (t : List ℕ) where
           )
 
       -- where it ends with the piece, the piece fits
-      pub ends_short : place ≤ length t → IsSuffix piece (drop place t) → place + length piece ≤ length t
+      pub ends_short : place ≤ length t → IsSuffix piece (drop place t)
+          → place + length piece ≤ length t
       ends_short le i = let (at, ahead, size, is) = suffix_place place piece le i in omega arith

@@ -1,5 +1,7 @@
 -- What the code's loops keep.
-use Rattle.std.proofs.Common.{◌≡◌, ℕ, false, cond, List, [], ◌∷◌, ◌++◌, Option, Some, None, length, slice_get, Result, Ok, Err, IfErr, append_assoc, length-append, subst, sym, refl, ap, ◌∙◌, arith}
+use Rattle.std.proofs.Common.{◌≡◌, ℕ, false, cond, List, [], ◌∷◌, ◌++◌, Option}
+use Rattle.std.proofs.Common.{Some, None, length, slice_get, Result, Ok, Err, IfErr, append_assoc}
+use Rattle.std.proofs.Common.{length-append, subst, sym, refl, ap, ◌∙◌, arith}
 use Rattle.std.specs.List.{All, Any, cons_option, filter_map, last_or, list_any}
 use Rattle.std.specs.Option.{option_to_list, option_or, IfSome, IsSomeAnd}
 use Rattle.std.specs.Result.{IsErrAnd}
@@ -78,7 +80,8 @@ given_more given y left rest old new whole left_is added so_far =
     rw (added, append_assoc, ← cons_is (given y) (filter_map given rest)) (rw left_is at so_far)
 
 -- the same of the first
-pub first_more : {X Y : Type 0} (given : Y → Option X) (y : Y) (left rest : List Y) (old new whole : Option X)
+pub first_more : {X Y : Type 0} (given : Y → Option X) (y : Y) (left rest : List Y)
+    (old new whole : Option X)
     → left ≡ y ∷ rest → new ≡ option_or old (given y)
     → option_or old (slice_get (filter_map given left) 0) ≡ whole
     → option_or new (slice_get (filter_map given rest) 0) ≡ whole
@@ -130,10 +133,17 @@ option_or_none (Some x) = refl
 pub any_unplaced : (P : Rule → Type 0) (rules : List PlacedRule) → Any (λ placed. P placed.rule) rules
     → Any P (unplaced rules)
 any_unplaced P rules (k, placed, below, at, is) =
-    let rule = λ (p : PlacedRule). p.rule in
-    (k, placed.rule, rw (length-map rules rule) below, get_or-map rule rules k placed placed.rule below ∙ ap rule at, is)
+    let rule = λ (p : PlacedRule). p.rule in (
+      k,
+      placed.rule,
+      rw (length-map rules rule) below,
+      get_or-map rule rules k placed placed.rule below
+          ∙ ap rule at,
+      is,
+    )
 
-pub none_unplaced : (P : Rule → Type 0) (rules : List PlacedRule) → All (λ placed. ¬ (P placed.rule)) rules
+pub none_unplaced : (P : Rule → Type 0) (rules : List PlacedRule)
+    → All (λ placed. ¬ (P placed.rule)) rules
     → ¬ (Any P (unplaced rules))
 none_unplaced P rules none (k, rule, below, at, is) =
     let (placed, (n, less, here), same) = placed_of rules rule (k, below, at) in

@@ -1,6 +1,8 @@
 -- What stands in shared vectors stays there when more is added.
-use Rattle.std.proofs.Common.{◌≡◌, ℕ, ◌+◌, ◌-◌, List, [], ◌∷◌, ◌++◌, All, length, drop, map, slice_range, take, refl, sym, ap, ◌∙◌, arith}
-use Rattle.std.proofs.lemmas.List.{drop-append-le, drop_at, length-append, length-drop, map_push, take-append-le, take_all}
+use Rattle.std.proofs.Common.{◌≡◌, ℕ, ◌+◌, ◌-◌, List, [], ◌∷◌, ◌++◌, All}
+use Rattle.std.proofs.Common.{length, drop, map, slice_range, take, refl, sym, ap, ◌∙◌, arith}
+use Rattle.std.proofs.lemmas.List.{drop-append-le, drop_at, length-append}
+use Rattle.std.proofs.lemmas.List.{length-drop, map_push, take-append-le, take_all}
 use Rattle.std.proofs.lemmas.List.Elements.{All-head, All-push, All-tail, All-weaker}
 use Rattle.texting_robots.specs.declared.pieces.Ends.{Ends}
 use Rattle.texting_robots.specs.declared.pieces.Piece.{Piece}

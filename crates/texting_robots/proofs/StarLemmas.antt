@@ -18,7 +18,8 @@ module _ {p piece : List ℕ} {left : Option (Bor (List ℕ))} (t : List ℕ)
   LeftMatches = MatchesStars (from_star left)
 
   -- the piece in front, and then what is left
-  pub stars_in_front : MatchesStars p t ↔ ((after : List ℕ) × (t ≡ piece ++ after) × LeftMatches after)
+  pub stars_in_front : MatchesStars p t
+      ↔ ((after : List ℕ) × (t ≡ piece ++ after) × LeftMatches after)
   stars_in_front = rw cut.parts (in_front false piece (from_star left) t (plain_stars piece cut.plain))
 
   -- behind a star the piece may stand anywhere
@@ -27,7 +28,8 @@ module _ {p piece : List ℕ} {left : Option (Bor (List ℕ))} (t : List ℕ)
   stars_somewhere = rw cut.parts (somewhere false piece (from_star left) t (plain_stars piece cut.plain))
 
   -- it is placed where it first stands
-  pub stars_here : (rest : List ℕ) → IsBehindFirst piece t rest → MatchesStars (star ∷ p) t ↔ LeftMatches rest
+  pub stars_here : (rest : List ℕ) → IsBehindFirst piece t rest
+      → MatchesStars (star ∷ p) t ↔ LeftMatches rest
   stars_here rest behind =
       let (to, from) = stars_somewhere in
       let (first, back) = first_is_enough LeftMatches piece t (left_grows left) rest behind in

@@ -1,6 +1,7 @@
 use Rattle.std.proofs.Common.{drop, ◌∙◌, arith}
 use Rattle.std.proofs.lemmas.Bool.{false≢true, iff_false}
-use Rattle.texting_robots.proofs.PieceLemmas.{first_here, first_missing, left_here, left_missing, next_left, none_left}
+use Rattle.texting_robots.proofs.PieceLemmas.{first_here, first_missing, left_here}
+use Rattle.texting_robots.proofs.PieceLemmas.{left_missing, next_left, none_left}
 use Rattle.texting_robots.proofs.pieces.Pattern.matches.Goals as goal
 
 pub returns-then-not-stands_at-clause-answer : goal.returns-then-not-stands_at-clause-answer
@@ -28,7 +29,8 @@ pub loop-piece-preserved : goal.loop-piece-preserved
 loop-piece-preserved c =
     let i = c.loop-piece.invariant in
     let inside = c.self.inside in
-    let (rest, is, more) = next_left inside.bytes.now inside.ends.ending inside.pieces.now c.loop-piece.piece-index
+    let (rest, is, more) =
+    next_left inside.bytes.now inside.ends.ending inside.pieces.now c.loop-piece.piece-index
     i.left i.pieces c.loop-piece-test.true in
     let (within, behind) = rw i.text at c.in-Some.ensures.some in
     let (to, from) = left_here is _ _ behind in
@@ -48,7 +50,8 @@ pub returns-in-None-clause-answer : goal.returns-in-None-clause-answer
 returns-in-None-clause-answer c =
     let i = c.loop-piece.invariant in
     let inside = c.self.inside in
-    let (rest, is, more) = next_left inside.bytes.now inside.ends.ending inside.pieces.now c.loop-piece.piece-index
+    let (rest, is, more) =
+    next_left inside.bytes.now inside.ends.ending inside.pieces.now c.loop-piece.piece-index
     i.left i.pieces c.loop-piece-test.true in
     let nowhere = rw i.text at c.in-None.ensures.none in
     (λ e. absurd (false≢true e), λ m. absurd (left_missing is _ nowhere (i.decides.0 m)))

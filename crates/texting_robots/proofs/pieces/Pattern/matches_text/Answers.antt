@@ -2,7 +2,8 @@ use Rattle.std.proofs.Common.{None, Some}
 use Rattle.std.proofs.lemmas.Bool.{false≢true}
 use Rattle.std.proofs.lemmas.Bool.Decides.{Decides-eqb}
 use Rattle.std.proofs.lemmas.Slice.Eq.{strip_prefix_is}
-use Rattle.texting_robots.proofs.PieceLemmas.{first_absent, first_in_front, left_here, left_missing, next_left, none_left}
+use Rattle.texting_robots.proofs.PieceLemmas.{first_absent, first_in_front, left_here}
+use Rattle.texting_robots.proofs.PieceLemmas.{left_missing, next_left, none_left}
 use Rattle.texting_robots.proofs.pieces.Pattern.matches_text.Goals as goal
 
 pub returns-in_default : goal.returns-in_default
@@ -24,7 +25,8 @@ pub loop-piece-preserved : goal.loop-piece-preserved
 loop-piece-preserved c =
     let i = c.loop-piece.invariant in
     let inside = c.self.inside in
-    let (rest, is, more) = next_left inside.bytes.now inside.ends.ending inside.pieces.now c.loop-piece.piece-index
+    let (rest, is, more) =
+    next_left inside.bytes.now inside.ends.ending inside.pieces.now c.loop-piece.piece-index
     i.left i.pieces c.loop-piece-test.true in
     let (to, from) = left_here is _ _ c.in-Some-behind_first.ensures in
     record {
@@ -37,7 +39,8 @@ pub returns-in_default-behind_first : goal.returns-in_default-behind_first
 returns-in_default-behind_first c =
     let i = c.loop-piece.invariant in
     let inside = c.self.inside in
-    let (rest, is, more) = next_left inside.bytes.now inside.ends.ending inside.pieces.now c.loop-piece.piece-index
+    let (rest, is, more) =
+    next_left inside.bytes.now inside.ends.ending inside.pieces.now c.loop-piece.piece-index
     i.left i.pieces c.loop-piece-test.true in
     let none = left_missing is _ c.in_default-behind_first.ensures in
     (λ e. absurd (false≢true e), λ m. absurd (none (i.decides.0 m)))

@@ -19,7 +19,8 @@ loop-piece-preserved c =
     let next = drop_more pieces at no_piece c.loop-piece-test.true in
     ap (λ x. bit_or x rest) (c.and-pairs.ensures ∙ ap (bit_or bits) c.of.ensures)
     ∙ or_assoc bits (pair_set (part_of pattern (get_or pieces at no_piece).span)) rest
-    ∙ ap (λ (left : List Piece). bit_or bits (piece_pairs pattern left)) (sym next) ∙ c.loop-piece.invariant
+    ∙ ap (λ (left : List Piece). bit_or bits (piece_pairs pattern left)) (sym next)
+    ∙ c.loop-piece.invariant
 
 pub returns : goal.returns
 returns c =

@@ -1,4 +1,5 @@
-use Rattle.std.proofs.Common.{◌≡◌, ℕ, List, length, slice_range, string_bytes, ap, subst, ◌∙◌, arith}
+use Rattle.std.proofs.Common.{◌≡◌, ℕ, List, length, slice_range}
+use Rattle.std.proofs.Common.{string_bytes, ap, subst, ◌∙◌, arith}
 use Rattle.texting_robots.specs.Steps.Needs.{AreNeeds}
 use Rattle.texting_robots.specs.Steps.Pieces.{ArePieces}
 use Rattle.texting_robots.specs.Escape.{escaped}
@@ -24,10 +25,13 @@ returns-clause-known c =
     let last_byte : c.len.result ≡ length (string_bytes c.push_escaped.new.out) = omega arith in
     let first_piece : c.len-first_piece.result ≡ length old.pieces.items = omega arith in
     let last_piece : c.len-2.result ≡ length c.push_pieces.new.pieces.items = omega arith in
-    let same = ap (λ (t : List ℕ). slice_range t c.len-first_byte.result (length t)) (c.as_bytes.ensures.value ∙ text)
+    let same = ap (λ (t : List ℕ). slice_range t c.len-first_byte.result (length t))
+    (c.as_bytes.ensures.value ∙ text)
     ∙ behind_old old_text more c.len-first_byte.result first_byte in
-    let cut = subst (λ p. ArePieces p c.in_ok-ends.ends added.pieces c.push_pieces.new.borders.items) same added.are_pieces in
-    let needed = subst (λ (p : List ℕ). AreNeeds p c.needs-needs.result) (c.new.ensures ∙ same) c.needs-needs.ensures in
+    let cut = subst (λ p. ArePieces p c.in_ok-ends.ends added.pieces c.push_pieces.new.borders.items)
+    same added.are_pieces in
+    let needed = subst (λ (p : List ℕ). AreNeeds p c.needs-needs.result)
+    (c.new.ensures ∙ same) c.needs-needs.ensures in
     rw (c.in_ok-push.ensures.items, text, added.put_pieces, added.put_tables)
     (entries_pushed old_text more old.pieces.items added.pieces old.borders.items added.tables _
     (record { start = first_byte; end = last_byte ∙ ap length text })

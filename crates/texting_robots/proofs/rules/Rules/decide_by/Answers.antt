@@ -7,7 +7,8 @@ use Rattle.texting_robots.specs.Steps.Entries.{no_entry, placed_at, rules_in}
 use Rattle.texting_robots.specs.Decision.{Decides}
 use Rattle.texting_robots.specs.Rules.{PlacedRule, unplaced}
 use Rattle.texting_robots.specs.Verdict.{IsVerdict}
-use Rattle.texting_robots.proofs.FirstLemmas.{at_most_more, first_decides, first_line, first_tried, none_denies, none_stands}
+use Rattle.texting_robots.proofs.FirstLemmas.{at_most_more, first_decides, first_line}
+use Rattle.texting_robots.proofs.FirstLemmas.{first_tried, none_denies, none_stands}
 use Rattle.texting_robots.proofs.rules.Rules.decide_by.Goals as goal
 
 pub returns-in-Some-clause-verdict : goal.returns-in-Some-clause-verdict
@@ -42,7 +43,8 @@ returns-in-Some-clause-tried g c = λ placed stands matches.
     let all = c.self.inside.gathered in
     let text = (g.A.Asked.seen c.args.asked.now).text in
     let there = rw (← c.self.view_is) at stands in
-    let few = first_tried all c.self.invariant.0 c.self.invariant.1 text c.in-Some.at c.in-Some.ensures.some placed
+    let few =
+    first_tried all c.self.invariant.0 c.self.invariant.1 text c.in-Some.at c.in-Some.ensures.some placed
     there matches in
     rw (← c.self.view_is) (at_most_more _ _ _ _ few c.in-Some.ensures.looks)
 
@@ -57,7 +59,8 @@ pub returns-in-None-clause-line : goal.returns-in-None-clause-line
 returns-in-None-clause-line g c =
     let none = none_stands c.self.inside.gathered c.self.invariant.0 _ c.in-None.ensures.none in
     inr (λ placed stands matches.
-    none placed (subst (λ (rules : List PlacedRule). Contains rules placed) (sym c.self.view_is) stands) matches)
+    none placed (subst (λ (rules : List PlacedRule). Contains rules placed) (sym c.self.view_is) stands)
+    matches)
 
 pub returns-in-None-clause-tried : goal.returns-in-None-clause-tried
 returns-in-None-clause-tried g c = λ placed stands matches.
