@@ -1,5 +1,6 @@
 -- What reads and writes in a row do to known bytes.
-use Rattle.std.proofs.Common.{◌≡◌, ℕ, ◌+◌, ◌-◌, List, [], ◌++◌, length, take, drop, Option, Some, None, IfSome, sym, refl, ap, ◌∙◌, append_assoc}
+use Rattle.std.proofs.Common.{◌≡◌, ℕ, ◌+◌, ◌-◌, List, [], ◌++◌, length, take, drop}
+use Rattle.std.proofs.Common.{Option, Some, None, IfSome, sym, refl, ap, ◌∙◌, append_assoc}
 use Rattle.std.specs.Io.KnownBytes.{Appends, Consumes, IsAtEnd, Keeps}
 use Rattle.std.proofs.Math.Seq.{take-add}
 use Rattle.std.proofs.lemmas.List.{append-nil, take-append-drop, take_rest}
@@ -11,24 +12,31 @@ pub appends_nothing : (old : Option (List ℕ)) → Appends old old []
 appends_nothing None = tt
 appends_nothing (Some held) = sym (append-nil held)
 
-appends_more : (old mid new : Option (List ℕ)) (xs ys : List ℕ) → Appends old mid xs → Appends mid new ys → Appends old new (xs ++ ys)
+appends_more : (old mid new : Option (List ℕ)) (xs ys : List ℕ) → Appends old mid xs
+    → Appends mid new ys → Appends old new (xs ++ ys)
 appends_more None mid new xs ys one two = tt
 appends_more (Some a) None new xs ys one two = absurd one
 appends_more (Some a) (Some b) None xs ys one two = absurd two
-appends_more (Some a) (Some b) (Some d) xs ys one two = two ∙ ap (λ t. t ++ ys) one ∙ append_assoc a xs ys
+appends_more (Some a) (Some b) (Some d) xs ys one two =
+    two ∙ ap (λ t. t ++ ys) one ∙ append_assoc a xs ys
 
-pub appends_kept : (old mid new : Option (List ℕ)) (xs : List ℕ) → Appends old mid xs → Keeps mid new → Appends old new xs
+pub appends_kept : (old mid new : Option (List ℕ)) (xs : List ℕ) → Appends old mid xs
+    → Keeps mid new → Appends old new xs
 appends_kept None mid new xs one two = tt
 appends_kept (Some a) None new xs one two = absurd one
 appends_kept (Some a) (Some b) None xs one two = absurd two
 appends_kept (Some a) (Some b) (Some d) xs one two = two ∙ one
 
 -- the first n bytes of a text were written, and then m bytes of the rest
-pub appends_next : (old mid new : Option (List ℕ)) (n m : ℕ) (text : List ℕ) → Appends old mid (take n text) → Appends mid new (take m (take (length text - n) (drop n text))) → Appends old new (take (n + m) text)
+pub appends_next : (old mid new : Option (List ℕ)) (n m : ℕ) (text : List ℕ)
+    → Appends old mid (take n text) → Appends mid new (take m (take (length text - n) (drop n text)))
+    → Appends old new (take (n + m) text)
 appends_next old mid new n m text one two =
-    rw (take-add n m text) (appends_more old mid new (take n text) (take m (drop n text)) one (rw (take_rest text n) at two))
+    rw (take-add n m text)
+    (appends_more old mid new (take n text) (take m (drop n text)) one (rw (take_rest text n) at two))
 
-pub is_beginning : (old new : Option (List ℕ)) (n : ℕ) (text : List ℕ) → Appends old new (take n text) → AppendsBeginning old new text
+pub is_beginning : (old new : Option (List ℕ)) (n : ℕ) (text : List ℕ) → Appends old new (take n text)
+    → AppendsBeginning old new text
 is_beginning old new n text written = (take n text, drop n text, sym (take-append-drop n text), written)
 
 -- ---- reads
@@ -37,14 +45,18 @@ pub consumes_nothing : (old : Option (List ℕ)) → Consumes old old []
 consumes_nothing None = tt
 consumes_nothing (Some left) = refl
 
-pub consumes_more : (old mid new : Option (List ℕ)) (xs ys : List ℕ) → Consumes old mid xs → Consumes mid new ys → Consumes old new (xs ++ ys)
+pub consumes_more : (old mid new : Option (List ℕ)) (xs ys : List ℕ) → Consumes old mid xs
+    → Consumes mid new ys → Consumes old new (xs ++ ys)
 consumes_more None mid new xs ys one two = tt
 consumes_more (Some a) None new xs ys one two = absurd one
 consumes_more (Some a) (Some b) None xs ys one two = absurd two
-consumes_more (Some a) (Some b) (Some d) xs ys one two = one ∙ ap (λ t. xs ++ t) two ∙ sym (append_assoc xs ys d)
+consumes_more (Some a) (Some b) (Some d) xs ys one two = one ∙ ap (λ t. xs ++ t) two
+    ∙ sym (append_assoc xs ys d)
 
-pub consumed_all : (old mid new : Option (List ℕ)) (xs : List ℕ) → Consumes old mid xs → Consumes mid new [] → IsAtEnd new → IfSome old (λ bytes. xs ≡ bytes)
+pub consumed_all : (old mid new : Option (List ℕ)) (xs : List ℕ) → Consumes old mid xs
+    → Consumes mid new [] → IsAtEnd new → IfSome old (λ bytes. xs ≡ bytes)
 consumed_all None mid new xs one two end = tt
 consumed_all (Some a) None new xs one two end = absurd one
 consumed_all (Some a) (Some b) None xs one two end = absurd two
-consumed_all (Some a) (Some b) (Some d) xs one two end = sym (one ∙ ap (λ t. xs ++ t) (two ∙ end) ∙ append-nil xs)
+consumed_all (Some a) (Some b) (Some d) xs one two end =
+    sym (one ∙ ap (λ t. xs ++ t) (two ∙ end) ∙ append-nil xs)

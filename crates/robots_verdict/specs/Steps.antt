@@ -1,5 +1,6 @@
 -- What the steps of the program do.
-use Rattle.std.specs.Prelude.{◌≡◌, ◌≢◌, ℕ, ◌<◌, List, ◌∷◌, ◌++◌, length, slice_index}
+use Rattle.std.specs.Prelude.{◌≡◌, ◌≢◌, ℕ, ◌<◌, List}
+use Rattle.std.specs.Prelude.{◌∷◌, ◌++◌, length, slice_index}
 use Rattle.std.specs.List.{AllZip}
 use Rattle.texting_robots.specs.Rules.{PlacedRule}
 use Rattle.robots_verdict.specs.Input.{IsOneLine, ended, lf, without_cr}

@@ -1,13 +1,15 @@
 use Rattle.std.proofs.Common.{rules}
 use Rattle.std.proofs.lemmas.List.{map-append}
-use Rattle.robots_verdict.proofs.InputLemmas.{goes_first, goes_more, no_bytes, no_split, rest_shorter, some_bytes, split_found}
+use Rattle.robots_verdict.proofs.InputLemmas.{goes_first, goes_more, no_bytes, no_split}
+use Rattle.robots_verdict.proofs.InputLemmas.{rest_shorter, some_bytes, split_found}
 use Rattle.robots_verdict.proofs.header.split.Goals as goal
 
 pub loop-url-init : goal.loop-url-init
 loop-url-init c = rw c.new-urls.ensures.items (goes_first _)
 
 pub returns-then-is_empty-clause-ok : goal.returns-then-is_empty-clause-ok
-returns-then-is_empty-clause-ok c = split_found _ _ _ _ _ _ _ c.in-Some.ensures c.loop-url.invariant c.in-Some-first_line.ensures (no_bytes _ (search rules))
+returns-then-is_empty-clause-ok c = split_found _ _ _ _ _ _ _ c.in-Some.ensures c.loop-url.invariant
+    c.in-Some-first_line.ensures (no_bytes _ (search rules))
 
 pub loop-url-smaller : goal.loop-url-smaller
 loop-url-smaller c = rest_shorter _ _ _ c.in-Some-first_line.ensures
@@ -18,4 +20,5 @@ loop-url-preserved c =
     (goes_more _ _ _ _ _ c.loop-url.invariant c.in-Some-first_line.ensures (some_bytes _ (search rules)))
 
 pub returns-clause-fault : goal.returns-clause-fault
-returns-clause-fault c = λ _. no_split _ _ _ _ _ c.in-Some.ensures c.loop-url.invariant c.in_default-first_line.ensures
+returns-clause-fault c =
+    λ _. no_split _ _ _ _ _ c.in-Some.ensures c.loop-url.invariant c.in_default-first_line.ensures
