@@ -27,4 +27,5 @@ row_value row = record { number = row.number; kind = row.kind; line = by_value r
 -- the rows of these lines, numbered from n on
 abbrev pub rows_from : ℕ → List LineValue → List RowValue
 rows_from n [] = []
-rows_from n (line ∷ lines) = record { number = n; kind = kind_of line; line = line } ∷ rows_from (n + 1) lines
+rows_from n (line ∷ lines) =
+    record { number = n; kind = kind_of line; line = line } ∷ rows_from (n + 1) lines

@@ -1,5 +1,5 @@
-use Rattle.std.proofs.Common.{◌+◌, ◌<◌, ℕ, Bool, Bor, List, [], ◌∷◌, append_assoc, drop, if◌then◌else◌, length}
-use Rattle.std.proofs.Common.{map, refl, slice_index_or}
+use Rattle.std.proofs.Common.{◌+◌, ◌<◌, ℕ, Bool, Bor, List, [], ◌∷◌, append_assoc}
+use Rattle.std.proofs.Common.{drop, if◌then◌else◌, length, map, refl, slice_index_or}
 use Rattle.std.proofs.lemmas.List.{append-nil, drop_all, drop_more, map-append}
 use Rattle.robots_callers.specs.Crawler.{AreAllowed}
 use Rattle.texting_robots.specs.Callers.{IsVerdict, Rule, prepared, lines_read, rules_for}

@@ -1,5 +1,5 @@
-use Rattle.std.proofs.Common.{◌≡◌, ◌+◌, ◌*◌, ◌<◌, ◌≤◌, ℕ, Bool, Bor, List, arith, drop, if◌then◌else◌, length, map, refl}
-use Rattle.std.proofs.Common.{slice_index_or, subst, sum_by}
+use Rattle.std.proofs.Common.{◌≡◌, ◌+◌, ◌*◌, ◌<◌, ◌≤◌, ℕ, Bool, Bor, List, arith}
+use Rattle.std.proofs.Common.{drop, if◌then◌else◌, length, map, refl, slice_index_or, subst, sum_by}
 use Rattle.std.proofs.lemmas.List.{drop_all, drop_more}
 use Rattle.std.proofs.lemmas.List.Sums.{sum_by-drop_more}
 use Rattle.robots_callers.specs.LinkCheck.{AreDenied}
@@ -17,7 +17,8 @@ from_here rules texts at text allowed rest below (is, are) =
     rw (drop_more texts at text below) (allowed, rest, is, are, refl)
 
 -- the looks at this text are within its share of the bound
-share_here : (share : Bor (List ℕ) → ℕ) (texts : List (Bor (List ℕ))) (at : ℕ) (text : Bor (List ℕ))
+share_here : (share : Bor (List ℕ) → ℕ) (texts : List (Bor (List ℕ)))
+    (at : ℕ) (text : Bor (List ℕ))
     (looks : ℕ)
     → at < length texts → looks ≤ share (slice_index_or texts at text)
     → looks + sum_by share (drop (at + 1) texts) ≤ sum_by share (drop at texts)

@@ -7,7 +7,8 @@ use Rattle.robots_callers.proofs.link_check.count_denied.Given as goal
 abbrev pub invariant-loop-text : goal.invariant-loop-text
 invariant-loop-text l =
     let rules = l.fn.robot.rules in record {
-      count : (rest : ℕ) → AreDenied (unplaced rules) (map (λ text. text.now) (drop l.text-index l.texts)) rest
+      count : (rest : ℕ)
+          → AreDenied (unplaced rules) (map (λ text. text.now) (drop l.text-index l.texts)) rest
           → AreDenied (unplaced rules) (map (λ text. text.now) l.texts) (l.count + rest);
       within : l.count ≤ l.text-index;
       looks : l.looks + sum_by (λ text. 2 * length text.now * length rules) (drop l.text-index l.texts)
