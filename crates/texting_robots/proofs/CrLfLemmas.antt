@@ -7,9 +7,11 @@ use Rattle.texting_robots.specs.Steps.Cut.{before_body, before_byte, before_end,
 use Rattle.texting_robots.specs.Line.{without, without_front}
 use Rattle.texting_robots.specs.Parsed.{parsed}
 use Rattle.texting_robots.specs.Steps.Line.{line_of, lines_of}
-use Rattle.texting_robots.specs.Laws.{feeds_alone, CrLfIsLf}
+use Rattle.texting_robots.specs.Laws.{feeds_alone}
 use Rattle.texting_robots.proofs.CutLemmas.{at_other, byte_cases, cut_cons, pair_of}
 use Rattle.texting_robots.proofs.LineLemmas.{each_text_has_its_lines}
+use Rattle.std.proofs.Common.{◌↔◌}
+use Rattle.texting_robots.specs.Line.{AreLinesOf, LineValue}
 
 -- ---- the bodies of a text, from its back
 
@@ -103,7 +105,8 @@ front_alone text =
 same_parsed : (text : List ℕ) → parsed (feeds_alone text) ≡ parsed text
 same_parsed text = ap lines_of (front_alone text) ∙ same_lines (without_front text)
 
-pub cr_lf_is_lf : CrLfIsLf
+pub cr_lf_is_lf : (text : List ℕ) (lines : List LineValue)
+    → AreLinesOf lines (feeds_alone text) ↔ AreLinesOf lines text
 cr_lf_is_lf text lines =
     let alone = each_text_has_its_lines (feeds_alone text) lines in
     let whole = each_text_has_its_lines text lines in (

@@ -5,7 +5,6 @@ use Rattle.std.proofs.Common.{sym, refl, ap, ◌∙◌, subst, arith}
 use Rattle.std.proofs.lemmas.Bool.{cases_eq, ne_eqb}
 use Rattle.std.proofs.lemmas.List.Elements.{All-cons, All-head, All-nil, All-replicate, All-tail}
 use Rattle.texting_robots.specs.Cut.{IsBodyByte, IsCut, IsEnding, Pair, cr, joined, lf}
-use Rattle.texting_robots.specs.Laws.{EachTextHasOneCut}
 use Rattle.texting_robots.specs.Steps.Cut.{before_body, before_byte, before_end, cut}
 
 abbrev pub pair_of : List ℕ → List ℕ → Pair
@@ -248,5 +247,6 @@ cut_joined (pair ∷ later) is =
 pub only_cut : (text : List ℕ) (pairs : List Pair) → IsCut pairs text → pairs ≡ cut text
 only_cut text pairs is = sym (cut_joined pairs (subst (IsCut pairs) (sym is.whole) is)) ∙ ap cut is.whole
 
-pub each_text_has_one_cut : EachTextHasOneCut
+pub each_text_has_one_cut : (text : List ℕ)
+    → IsCut (cut text) text × ((pairs : List Pair) → IsCut pairs text → pairs ≡ cut text)
 each_text_has_one_cut text = (is_cut text, only_cut text)

@@ -28,7 +28,7 @@ use Rattle.texting_robots.specs.Steps.Delay.{HasDigits, behind_digits, behind_fr
 use Rattle.texting_robots.specs.Steps.Delay.{delay_of, digits_in_front, exponent_of, fraction_in_front}
 use Rattle.texting_robots.specs.Steps.Delay.{is_infinite, is_numeral, is_zero, zero_of, number_of}
 use Rattle.texting_robots.specs.Steps.Delay.{number_with, rounded}
-use Rattle.texting_robots.specs.Laws.{EachTextHasOneDelay}
+use Rattle.std.proofs.Common.{◌↔◌}
 
 -- ---- what the tests say
 
@@ -331,5 +331,5 @@ module _ (text : List ℕ) where
       none None e = refl
       none (Some delay) e = absurd (h delay (found minus unsigned delay e))
 
-pub one_delay : EachTextHasOneDelay
+pub one_delay : (text : List ℕ) (delay : Option ℕ) → IsDelay text delay ↔ delay ≡ delay_of text
 one_delay text delay = (is_delay_of text delay, λ same. subst (IsDelay text) (sym same) (delay_of_is text))

@@ -16,10 +16,10 @@ use Rattle.texting_robots.specs.Rules.{rule_in, rules_for, sitemap_in, sitemaps_
 use Rattle.texting_robots.specs.Pattern.{IsOverlong}
 use Rattle.texting_robots.specs.Verdict.{IsVerdict}
 use Rattle.texting_robots.specs.Steps.Group.{start_of, step}
-use Rattle.texting_robots.specs.Laws.{AgentCase, IsSameKind, RawChangesNothing, SameButSitemaps}
-use Rattle.texting_robots.specs.Laws.{SitemapsChangeNothingElse, UncapturedReachesNothing}
+use Rattle.texting_robots.specs.Laws.{IsSameKind, Same, SameButSitemaps}
 use Rattle.texting_robots.proofs.CapturedLemmas.{Stands, at_front, caught, caught_all, is_captured_decides}
 use Rattle.texting_robots.proofs.CapturedLemmas.{only_agents, rules_are, stands_first, stands_next}
+use Rattle.texting_robots.specs.Group.{IsCaptured}
 
 -- ---- lines that play no part, and lines that differ in their value alone
 
@@ -238,20 +238,25 @@ sitemap_neutral (Disallow value) h = absurd (false≢true (sym h))
 sitemap_neutral (CrawlDelay delay) h = absurd (false≢true (sym h))
 sitemap_neutral (Raw body) h = absurd (false≢true (sym h))
 
-pub raw_changes_nothing : RawChangesNothing
+pub raw_changes_nothing : (agent : List ℕ) (lines others : List LineValue)
+    → filter (λ line. not (is_raw line)) lines ≡ filter (λ line. not (is_raw line)) others
+    → Same agent lines agent others
 raw_changes_nothing agent lines others same =
     let found = found_kept sitemap_in (λ line. not (is_raw line)) raw_no_sitemap in (
       same_kept (λ line. not (is_raw line)) raw_neutral agent lines others same,
       found lines ∙ ap (λ ls. sitemaps_in ls) same ∙ sym (found others),
     )
 
-pub sitemaps_change_nothing_else : SitemapsChangeNothingElse
+pub sitemaps_change_nothing_else : (agent : List ℕ) (lines others : List LineValue)
+    → filter (λ line. not (is_sitemap line)) lines ≡ filter (λ line. not (is_sitemap line)) others
+    → SameButSitemaps agent lines agent others
 sitemaps_change_nothing_else agent lines others same =
     same_kept (λ line. not (is_sitemap line)) sitemap_neutral agent lines others same
 
 -- ---- agents in another case
 
-pub agent_case : AgentCase
+pub agent_case : (agent other : List ℕ) (lines : List LineValue)
+    → str_to_ascii_lowercase agent ≡ str_to_ascii_lowercase other → Same agent lines other lines
 agent_case agent other lines same =
     let low = λ (n : List ℕ). cond (list_any (is_agent_named n) lines) n (codes "*") in
     let name : group_name agent lines ≡ group_name other lines = ap low same in
@@ -304,7 +309,10 @@ same_kind line other (value, another, kinds) =
           (record { agent = refl; named = λ name. refl; group = refl; delay = refl; sitemap = refl })
     ]
 
-pub uncaptured_reaches_nothing : UncapturedReachesNothing
+pub uncaptured_reaches_nothing : (agent : List ℕ) (front back : List LineValue) (line other : LineValue)
+    → IsSameKind line other
+    → ¬ IsCaptured (group_name agent (front ++ line ∷ back)) (front ++ line ∷ back) (length front)
+    → Same agent (front ++ line ∷ back) agent (front ++ other ∷ back)
 uncaptured_reaches_nothing agent front back line other kind uncaptured =
     let lines : List LineValue = front ++ line ∷ back in
     let name = group_name agent lines in

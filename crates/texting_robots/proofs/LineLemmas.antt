@@ -18,11 +18,11 @@ use Rattle.texting_robots.specs.Parsed.{parsed}
 use Rattle.texting_robots.specs.Steps.Line.{delay_or_raw, line_by, line_of, line_with}
 use Rattle.texting_robots.specs.Steps.Delay.{delay_of}
 use Rattle.texting_robots.specs.Delay.{IsDelay}
-use Rattle.texting_robots.specs.Laws.{EachTextHasItsLines, ParseTakesAll}
 use Rattle.texting_robots.proofs.DelayLemmas.{delay_of_is, is_delay_of}
 use Rattle.texting_robots.proofs.CutLemmas.{is_cut, only_cut}
 use Rattle.texting_robots.proofs.StatementLemmas.{statement_found, found_statement}
 use Rattle.texting_robots.proofs.StatementLemmas.{unstated, no_parts, has_parts}
+use Rattle.std.proofs.Common.{◌↔◌}
 
 -- ---- the line of a body
 
@@ -103,7 +103,8 @@ parsed_are_lines text =
       each = are_lines (cut (without_front text));
     }
 
-pub each_text_has_its_lines : EachTextHasItsLines
+pub each_text_has_its_lines : (text : List ℕ) (lines : List LineValue)
+    → AreLinesOf lines text ↔ lines ≡ parsed text
 each_text_has_its_lines text lines = (
   λ is. only_lines lines is.pairs is.each ∙ ap (λ pairs. map (λ pair. line_of pair.body) pairs)
       (only_cut (without_front text) is.pairs is.is_cut),
@@ -281,5 +282,6 @@ lines_range text lines same = subst (λ all. HoldRangesOf all text) (sym same) (
 pub lines_are : (text : List ℕ) (lines : List LineValue) → lines ≡ parsed text → AreLinesOf lines text
 lines_are text lines same = subst (λ all. AreLinesOf all text) (sym same) (parsed_are_lines text)
 
-pub parse_takes_all : ParseTakesAll
+pub parse_takes_all : (text : List ℕ) → (lines : List LineValue)
+    × AreLinesOf lines text × HoldRangesOf lines text
 parse_takes_all text = (parsed text, parsed_are_lines text, parsed_ranges text)

@@ -10,7 +10,6 @@ use Rattle.std.specs.Cmp.{IsTotalOrder}
 use Rattle.std.specs.Ordering.{ordering_reverse}
 use Rattle.std.specs.declared.cmp.Ordering.{Ordering}
 use Rattle.std.proofs.lemmas.Cmp.{back_total, nat_cmp_total, nat_list_cmp_total, on_total, then_total}
-use Rattle.texting_robots.specs.Laws.{OrderAgrees}
 use Rattle.texting_robots.specs.Order.{IsSmaller, IsBefore, pattern_cmp}
 
 pub below : (x y : ℕ) → x < y → nat_cmp x y ≡ Less
@@ -119,15 +118,20 @@ three p q Less is = inr (inl ((less_is_before p q).0 is))
 three p q Equal is = inl ((equal_is_same p q).0 is)
 three p q Greater is = inr (inr ((less_is_before q p).0 (greater_turned p q is)))
 
-pub order_agrees : OrderAgrees
-order_agrees = record {
-  one = λ p q. three p q (pattern_cmp p q) refl;
-  not_both = λ p q before after. let first = (less_is_before p q).1 before in
-      let second = (less_is_before q p).1 after in
-      let k : Less ≡ Greater = sym first ∙ pattern_total.antisymm p q ∙ ap ordering_reverse second in
-      cc;
-  not_equal = λ p before. let first = (less_is_before p p).1 before in
-      let k : Less ≡ Equal = sym first ∙ (equal_is_same p p).1 refl in cc;
-  transitive = λ p q r first second. (less_is_before p r).0
-      (pattern_total.trans p q r ((less_is_before p q).1 first) ((less_is_before q r).1 second));
-}
+pub one_holds : (p q : List ℕ) → (p ≡ q) ⊎ (IsBefore p q ⊎ IsBefore q p)
+one_holds p q = three p q (pattern_cmp p q) refl
+
+pub not_both : (p q : List ℕ) → IsBefore p q → ¬ IsBefore q p
+not_both p q before after =
+    let first = (less_is_before p q).1 before in
+    let second = (less_is_before q p).1 after in
+    let k : Less ≡ Greater = sym first ∙ pattern_total.antisymm p q ∙ ap ordering_reverse second in cc
+
+pub not_equal : (p : List ℕ) → ¬ IsBefore p p
+not_equal p before =
+    let k : Less ≡ Equal = sym ((less_is_before p p).1 before) ∙ (equal_is_same p p).1 refl in cc
+
+pub transitive : (p q r : List ℕ) → IsBefore p q → IsBefore q r → IsBefore p r
+transitive p q r first second =
+    (less_is_before p r).0
+    (pattern_total.trans p q r ((less_is_before p q).1 first) ((less_is_before q r).1 second))

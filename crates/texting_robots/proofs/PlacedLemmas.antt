@@ -6,10 +6,11 @@ use Rattle.std.specs.List.{Contains, cons_option, enumerate_from, filter_map}
 use Rattle.std.specs.Str.{is_utf8}
 use Rattle.texting_robots.specs.Escape.{escaped}
 use Rattle.texting_robots.specs.Group.{Mark, group_name, is_captured, marks_of}
-use Rattle.texting_robots.specs.Laws.{DecidingLineHoldsItsRule, HoldsRule}
+use Rattle.texting_robots.specs.Laws.{HoldsRule}
 use Rattle.texting_robots.specs.Line.{LineValue, UserAgent, Allow, Disallow, Sitemap, CrawlDelay, Raw}
 use Rattle.texting_robots.specs.Rules.{PlacedRule, placed, placed_rules, rule_at, rule_in}
 use Rattle.texting_robots.proofs.CapturedLemmas.{by_test, is_captured_decides}
+use Rattle.texting_robots.specs.Decision.{Decides, IsDecidingLine}
 
 -- what is found in a list comes from one of its elements
 abbrev ComesFrom : {X Y : Type 0} → (X → Option Y) → List X → Y → Type 0
@@ -118,6 +119,10 @@ rule_on_line agent lines found has =
       pattern = gives.pattern;
     }
 
-pub deciding_line_holds_its_rule : DecidingLineHoldsItsRule
+pub deciding_line_holds_its_rule : (agent : List ℕ) (lines : List LineValue)
+    (text : List ℕ) (number : ℕ)
+    → IsDecidingLine (placed_rules agent lines) text (Some number)
+    → (placed : PlacedRule) × Decides (placed_rules agent lines) text placed × (placed.line ≡ number)
+    × HoldsRule agent lines number placed.rule
 deciding_line_holds_its_rule agent lines text number (differs, found, decides, at) =
     (found, decides, at, rw at at (rule_on_line agent lines found decides.is_longest.listed))

@@ -10,8 +10,9 @@ use Rattle.std.proofs.lemmas.List.Sorted.{Contains-permutation, IsPermutation-ma
 use Rattle.texting_robots.specs.Decision.{IsDecidingLine, IsLongestMatch}
 use Rattle.texting_robots.specs.Rules.{PlacedRule, Rule, unplaced}
 use Rattle.texting_robots.specs.Verdict.{IsDenied, IsVerdict}
-use Rattle.texting_robots.specs.Laws.{OrderChangesNothing, OneMoreDisallow, OneMoreAllow}
-use Rattle.texting_robots.specs.Laws.{LengthIsNotCollapsed, OneLineDecides}
+use Rattle.std.proofs.Common.{◌≢◌}
+use Rattle.texting_robots.specs.Pattern.{Matches}
+use Rattle.texting_robots.specs.Verdict.{robots_file}
 
 denied_permuted : (rules others : List Rule) (text : List ℕ) → IsPermutation rules others
     → IsDenied rules text → IsDenied others text
@@ -30,7 +31,8 @@ verdict_permuted rules others text true same holds =
     λ denied. holds (denied_permuted others rules text (IsPermutation-sym rules others same) denied)
 verdict_permuted rules others text false same holds = denied_permuted rules others text same holds
 
-pub order_changes_nothing : OrderChangesNothing
+pub order_changes_nothing : (rules others : List Rule) (text : List ℕ) (answer : Bool)
+    → IsPermutation rules others → IsVerdict rules text answer → IsVerdict others text answer
 order_changes_nothing = verdict_permuted
 
 contains_more : (front back : List Rule) (added rule : Rule) → Contains (front ++ back) rule
@@ -62,7 +64,8 @@ allow_isnt p q same = false≢true (ap (λ (r : Rule). r.1) same)
 disallow_isnt : (p q : List ℕ) → ◌≡◌ {A = Rule} (q, true) (p, false) → ⊥
 disallow_isnt p q same = false≢true (sym (ap (λ (r : Rule). r.1) same))
 
-pub one_more_disallow : OneMoreDisallow
+pub one_more_disallow : (front back : List Rule) (pattern text : List ℕ)
+    → IsVerdict (front ++ back) text false → IsVerdict (front ++ (pattern, false) ∷ back) text false
 one_more_disallow front back pattern text (other, p, has, matches, longest) = (
   other,
   p,
@@ -72,7 +75,8 @@ one_more_disallow front back pattern text (other, p, has, matches, longest) = (
       longest q (contains_less front back (pattern, false) (q, true) (allow_isnt pattern q) stands),
 )
 
-pub one_more_allow : OneMoreAllow
+pub one_more_allow : (front back : List Rule) (pattern text : List ℕ)
+    → IsVerdict (front ++ back) text true → IsVerdict (front ++ (pattern, true) ∷ back) text true
 one_more_allow front back pattern text allowed (other, p, has, matches, longest) =
     allowed (
       other,
@@ -88,7 +92,9 @@ of_two a b x (zero, below, at) = inl at
 of_two a b x (suc zero, below, at) = inr at
 of_two a b x (suc (suc k), below, at) = absurd (omega arith)
 
-pub length_decides : LengthIsNotCollapsed
+pub length_decides : (deny allow text : List ℕ) → text ≢ robots_file → Matches deny text
+    → Matches allow text
+    → IsVerdict ((deny, false) ∷ (allow, true) ∷ []) text false ↔ (length allow < length deny)
 length_decides deny allow text other denies allows = (
   λ (differs, p, has, matches, longest). elim (of_two (deny, false) (allow, true) (p, false) has) [
     | inl same ↦ subst (λ (r : Rule). length allow < length r.0) (sym same)
@@ -172,7 +178,8 @@ none_decides rules text line none (differs, placed, decides, at) = elim none [
   | inr nothing ↦ nothing placed decides.is_longest.listed decides.is_longest.matches
 ]
 
-pub one_line_decides : OneLineDecides
+pub one_line_decides : (rules : List PlacedRule) (text : List ℕ) (line other : Option ℕ)
+    → IsDecidingLine rules text line → IsDecidingLine rules text other → line ≡ other
 one_line_decides rules text None None one two = refl
 one_line_decides rules text None (Some line) one two = absurd (none_decides rules text line one two)
 one_line_decides rules text (Some line) None one two = absurd (none_decides rules text line two one)

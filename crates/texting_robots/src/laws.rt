@@ -1,155 +1,176 @@
 //! Laws over the definitions, each the contract of a function that computes nothing.
-ghost use Rattle.texting_robots.specs.Laws.{
-  AgentCase,
-  CapturedAgrees,
-  CollapseKeepsMeaning,
-  ComparisonAgrees,
-  CrLfIsLf,
-  DecidingLineHoldsItsRule,
-  EachFileHasItsLines,
-  EachTextHasItsLines,
-  EachTextHasOneCut,
-  EachTextHasOneDelay,
-  LengthIsNotCollapsed,
-  OneLineDecides,
-  OneMoreAllow,
-  OneMoreDisallow,
-  OneStatementFits,
-  OrderAgrees,
-  OrderChangesNothing,
-  ParseTakesAll,
-  RawChangesNothing,
-  RobotsFileIsAllowed,
-  SitemapsChangeNothingElse,
-  SitemapsForAll,
-  StandardFilesAreReadSo,
-  StandardFilesSpellOnce,
-  UncapturedReachesNothing,
-};
+ghost use Rattle.std.specs.Prelude.{◌≡◌, ◌≢◌, ◌<◌, ◌↔◌, ◌⊎◌, ℕ, Bool, true, false, not, List, [], ◌∷◌, ◌++◌};
+ghost use Rattle.std.specs.Prelude.{Option, Some, IsTrue, IsPermutation, filter, length};
+ghost use Rattle.std.specs.declared.cmp.Ordering.TheVariants.{Less, Equal};
+ghost use Rattle.std.specs.List.{AllZip};
+ghost use Rattle.std.specs.Str.{str_to_ascii_lowercase};
+ghost use Rattle.texting_robots.specs.declared.parser.statement.Kind.{Kind};
+ghost use Rattle.texting_robots.specs.Cut.{IsCut, Pair};
+ghost use Rattle.texting_robots.specs.Decision.{Decides, IsDecidingLine};
+ghost use Rattle.texting_robots.specs.Delay.{IsDelay};
+ghost use Rattle.texting_robots.specs.Group.{IsCaptured, group_name, is_captured};
+ghost use Rattle.texting_robots.specs.Laws.{HoldsRule, IsReadAs, IsSameKind, Same, SameButSitemaps, feeds_alone};
+ghost use Rattle.texting_robots.specs.Line.{AreFileLinesOf, AreLinesOf, HoldRangesOf, LineValue, is_raw, is_sitemap};
+ghost use Rattle.texting_robots.specs.Order.{IsBefore, pattern_cmp};
+ghost use Rattle.texting_robots.specs.Parsed.{file_lines, parsed};
+ghost use Rattle.texting_robots.specs.Pattern.{Matches, MatchesWith, collapsed};
+ghost use Rattle.texting_robots.specs.Rfc9309 as rfc;
+ghost use Rattle.texting_robots.specs.Robot.{IsRobotOf, RobotValue};
+ghost use Rattle.texting_robots.specs.Rules.{PlacedRule, Rule, placed_rules, rules_for};
+ghost use Rattle.texting_robots.specs.Statement.{IsStatement};
+ghost use Rattle.texting_robots.specs.Steps.Cut.{cut};
+ghost use Rattle.texting_robots.specs.Steps.Delay.{delay_of};
+ghost use Rattle.texting_robots.specs.Verdict.{IsVerdict, robots_file};
 
 /// Every input has its lines, and every value in them is a range of the input, but for the `/` of an empty Disallow.
 /// Whoever shows lines with their place in the file relies on it.
 pub fn parse_takes_all()
-    ensures { ParseTakesAll }
+    ensures { (text : List ℕ) → (lines : List LineValue) × AreLinesOf lines text × HoldRangesOf lines text }
 {}
 
 /// Adding or removing `Raw` lines changes no rule, verdict, delay, sitemap or refusal.
 /// Site owners rely on it: a stray line reaches no crawler.
 pub fn raw_changes_nothing()
-    ensures { RawChangesNothing }
+    ensures { (agent : List ℕ) (lines others : List LineValue)
+        → filter (λ line. not (is_raw line)) lines ≡ filter (λ line. not (is_raw line)) others
+        → Same agent lines agent others }
 {}
 
 /// Another value in an Allow or Disallow line that isn't captured changes no rule, verdict, delay, sitemap or refusal.
 /// Site owners rely on it: a line for one crawler reaches no other.
 pub fn uncaptured_reaches_nothing()
-    ensures { UncapturedReachesNothing }
+    ensures { (agent : List ℕ) (front back : List LineValue) (line other : LineValue) → IsSameKind line other
+        → ¬ IsCaptured (group_name agent (front ++ line ∷ back)) (front ++ line ∷ back) (length front)
+        → Same agent (front ++ line ∷ back) agent (front ++ other ∷ back) }
 {}
 
 /// Sitemap lines change the sitemaps alone, and these are the same for every agent.
 /// A store that keeps one list of sitemaps a host relies on it.
 pub fn sitemaps_for_all()
-    ensures others { SitemapsChangeNothingElse }
-    ensures sitemaps { SitemapsForAll }
+    ensures others { (agent : List ℕ) (lines others : List LineValue)
+        → filter (λ line. not (is_sitemap line)) lines ≡ filter (λ line. not (is_sitemap line)) others
+        → SameButSitemaps agent lines agent others }
+    ensures sitemaps { (agent other : List ℕ) (lines : List LineValue) (robot another : RobotValue)
+        → IsRobotOf agent lines robot → IsRobotOf other lines another → robot.sitemaps ≡ another.sitemaps }
 {}
 
 /// Reordering the rules changes no verdict.
 /// An audit that shows rules in an order of its own relies on it.
 pub fn order_changes_nothing()
-    ensures { OrderChangesNothing }
+    ensures { (rules others : List Rule) (text : List ℕ) (answer : Bool) → IsPermutation rules others
+        → IsVerdict rules text answer → IsVerdict others text answer }
 {}
 
 /// One more Disallow never turns a no into a yes, and one more Allow never a yes into a no.
 /// An audit that removes rules one by one relies on it.
 pub fn one_more_rule()
-    ensures disallow { OneMoreDisallow }
-    ensures allow { OneMoreAllow }
+    ensures disallow { (front back : List Rule) (pattern text : List ℕ) → IsVerdict (front ++ back) text false
+        → IsVerdict (front ++ (pattern, false) ∷ back) text false }
+    ensures allow { (front back : List Rule) (pattern text : List ℕ) → IsVerdict (front ++ back) text true
+        → IsVerdict (front ++ (pattern, true) ∷ back) text true }
 {}
 
 /// Collapsing runs of stars changes no match, and a rule's length is that before collapsing.
 /// An audit that shows collapsed patterns relies on it.
 pub fn collapse_keeps_meaning()
-    ensures meaning { CollapseKeepsMeaning }
-    ensures length { LengthIsNotCollapsed }
+    ensures meaning { (anchors : Bool) (pattern text : List ℕ)
+        → MatchesWith anchors (collapsed pattern) text ↔ MatchesWith anchors pattern text }
+    ensures length { (deny allow text : List ℕ) → text ≢ robots_file → Matches deny text → Matches allow text
+        → IsVerdict ((deny, false) ∷ (allow, true) ∷ []) text false ↔ (length allow < length deny) }
 {}
 
 /// Agents that differ in ASCII letter case alone get the same rules, delay and sitemaps.
 /// A store that keeps one answer for an agent relies on it.
 pub fn agent_case()
-    ensures { AgentCase }
+    ensures { (agent other : List ℕ) (lines : List LineValue)
+        → str_to_ascii_lowercase agent ≡ str_to_ascii_lowercase other → Same agent lines other lines }
 {}
 
 /// The text `/robots.txt` is always allowed.
 /// A crawler that reads a file anew relies on it.
 pub fn robots_file_allowed()
-    ensures { RobotsFileIsAllowed }
+    ensures { (rules : List Rule) → IsVerdict rules robots_file true }
 {}
 
 /// Of two patterns exactly one holds: they are equal, the first is before the second, or the second before the first;
 /// and before is transitive. Ordered maps and sets of patterns rely on it.
-#[tactic(auto, using(crate::proofs::OrderLemmas::order_agrees))]
 pub fn order_agrees()
-    ensures { OrderAgrees }
+    ensures one { (p q : List ℕ) → (p ≡ q) ⊎ (IsBefore p q ⊎ IsBefore q p) }
+    ensures not_both { (p q : List ℕ) → IsBefore p q → ¬ IsBefore q p }
+    ensures not_equal { (p : List ℕ) → ¬ IsBefore p p }
+    ensures transitive { (p q r : List ℕ) → IsBefore p q → IsBefore q r → IsBefore p r }
 {}
 
 /// LF in place of each CR LF leaves the lines as they are.
 /// Whoever shows lines with their place in the file relies on it.
 pub fn cr_lf_is_lf()
-    ensures { CrLfIsLf }
+    ensures { (text : List ℕ) (lines : List LineValue) → AreLinesOf lines (feeds_alone text) ↔ AreLinesOf lines text }
 {}
 
 /// Each text has one cut into bodies and line ends. Whoever reads the definition of lines relies on it.
 pub fn each_text_has_one_cut()
-    ensures { EachTextHasOneCut }
+    ensures { (text : List ℕ) → IsCut (cut text) text × ((pairs : List Pair) → IsCut pairs text → pairs ≡ cut text) }
 {}
 
 /// A body is a statement of one kind with one value at most. Whoever reads the definition of lines relies on it.
 pub fn one_statement_fits()
-    ensures { OneStatementFits }
+    ensures { (kind other : Kind) (value text body : List ℕ) → IsStatement kind value body
+        → IsStatement other text body → (kind ≡ other) × (value ≡ text) }
 {}
 
 /// Each text names one delay or none, the one that `delay_of` computes. Whoever reads the definition of delays relies on it.
 pub fn each_text_has_one_delay()
-    ensures { EachTextHasOneDelay }
+    ensures { (text : List ℕ) (delay : Option ℕ) → IsDelay text delay ↔ delay ≡ delay_of text }
 {}
 
 /// Each text has one list of lines, the one that `parsed` computes. Whoever reads the contract of `robots_txt_parse` relies
 /// on it.
 pub fn each_text_has_its_lines()
-    ensures { EachTextHasItsLines }
+    ensures { (text : List ℕ) (lines : List LineValue) → AreLinesOf lines text ↔ lines ≡ parsed text }
 {}
 
 /// Each file has one list of lines, the one that `file_lines` computes. Whoever reads the contract of `Robot::new` relies on
 /// it.
 pub fn each_file_has_its_lines()
-    ensures { EachFileHasItsLines }
+    ensures { (text : List ℕ) (lines : List LineValue) → AreFileLinesOf lines text ↔ lines ≡ file_lines text }
 {}
 
 /// The test by which lists of captured lines are made says what the definition by places says. Whoever reads the contract of
 /// `Robot::new` relies on it.
 #[tactic(auto, using(crate::proofs::CapturedLemmas::is_captured_decides))]
 pub fn captured_agrees()
-    ensures { CapturedAgrees }
+    ensures { (name : List ℕ) (lines : List LineValue) (i : ℕ)
+        → IsTrue (is_captured name lines i) ↔ IsCaptured name lines i }
 {}
 
 /// The comparison of patterns that `cmp` and `partial_cmp` make says what the order says. Ordered maps and sets of patterns
 /// rely on it.
 pub fn comparison_agrees()
-    ensures { ComparisonAgrees }
+    ensures less { (p q : List ℕ) → (pattern_cmp p q ≡ Less) ↔ IsBefore p q }
+    ensures equal { (p q : List ℕ) → (pattern_cmp p q ≡ Equal) ↔ (p ≡ q) }
 {}
 
 /// At most one line decides on a text. Whoever reads the contract of `Robot::decision` relies on it.
 pub fn one_line_decides()
-    ensures { OneLineDecides }
+    ensures { (rules : List PlacedRule) (text : List ℕ) (line other : Option ℕ)
+        → IsDecidingLine rules text line → IsDecidingLine rules text other → line ≡ other }
 {}
 
 /// The line that decides is captured, and is an Allow or a Disallow whose escaped value is the deciding pattern.
 /// Whoever shows a site owner why a URL is allowed or not relies on it.
 pub fn deciding_line_holds_its_rule()
-    ensures { DecidingLineHoldsItsRule }
+    ensures { (agent : List ℕ) (lines : List LineValue) (text : List ℕ) (number : ℕ)
+        → IsDecidingLine (placed_rules agent lines) text (Some number)
+        → (placed : PlacedRule) × Decides (placed_rules agent lines) text placed × (placed.line ≡ number)
+        × HoldsRule agent lines number placed.rule }
 {}
 
-/// A file of the standard's syntax is read as the groups and rules that it spells.
+/// Of a file of the standard's syntax an agent gets, in order and each as often, the rules that the file spells for it; and
+/// however such a file is taken apart, it spells the same groups once they are merged.
+/// A site owner who writes by the standard relies on it.
 pub fn standard_files_are_read_so()
-    ensures read { StandardFilesAreReadSo }
-    ensures once { StandardFilesSpellOnce }
+    ensures read { (text : List ℕ) (groups : List rfc.Group) (agent : List ℕ) → rfc.IsFile groups text
+        → AllZip IsReadAs (rfc.rules_for agent (rfc.merged groups)) (rules_for agent (file_lines text)) }
+    ensures once { (text : List ℕ) (groups others : List rfc.Group) → rfc.IsFile groups text
+        → rfc.IsFile others text → rfc.merged groups ≡ rfc.merged others }
 {}

@@ -3,15 +3,19 @@ use Rattle.std.proofs.Common.{sym, ap, ◌∙◌, subst}
 use Rattle.std.specs.List.{AllZip}
 use Rattle.std.proofs.lemmas.List.{map-append}
 use Rattle.texting_robots.specs.Rules.{rules_for}
-use Rattle.texting_robots.specs.Laws.{IsReadAs, StandardFilesAreReadSo, StandardFilesSpellOnce}
+use Rattle.texting_robots.specs.Laws.{IsReadAs}
 use Rattle.texting_robots.specs.Rfc9309 as rfc
 use Rattle.texting_robots.proofs.Rfc9309.EndLemmas.{lines_in}
 use Rattle.texting_robots.proofs.Rfc9309.FileLemmas.{file_read}
 use Rattle.texting_robots.proofs.Rfc9309.GroupLemmas.{rules_spelled}
 use Rattle.texting_robots.proofs.Rfc9309.Told.{Told}
 use Rattle.texting_robots.proofs.Rfc9309.ToldLemmas.{front_lines, group_lines, told_groups, told_once}
+use Rattle.std.proofs.Common.{◌≡◌, ℕ, List}
+use Rattle.texting_robots.specs.Parsed.{file_lines}
 
-pub standard_files_are_read_so : StandardFilesAreReadSo
+pub standard_files_are_read_so : (text : List ℕ) (groups : List rfc.Group) (agent : List ℕ)
+    → rfc.IsFile groups text
+    → AllZip IsReadAs (rfc.rules_for agent (rfc.merged groups)) (rules_for agent (file_lines text))
 standard_files_are_read_so text groups agent file =
     let read = file_read text groups file in
     let both = map-append (λ (told : Told). told.0) read.front read.behind in
@@ -20,7 +24,8 @@ standard_files_are_read_so text groups agent file =
     (rules_spelled agent groups (lines_in read.front) (lines_in read.behind)
     (front_lines read.front read.are_front) (group_lines groups read.behind read.are_groups))
 
-pub standard_files_spell_once : StandardFilesSpellOnce
+pub standard_files_spell_once : (text : List ℕ) (groups others : List rfc.Group) → rfc.IsFile groups text
+    → rfc.IsFile others text → rfc.merged groups ≡ rfc.merged others
 standard_files_spell_once text groups others file other =
     let read = file_read text groups file in
     let again = file_read text others other in
