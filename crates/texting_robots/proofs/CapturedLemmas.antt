@@ -3,6 +3,7 @@ use Rattle.std.proofs.Common.{◌≡◌, ◌≤◌, ◌⊎◌, inl, inr, ℕ, ze
 use Rattle.std.proofs.Common.{◌+◌, ◌<◌, nat_lt, Bool, true, false, not, ◌&&◌}
 use Rattle.std.proofs.Common.{◌||◌, List, [], ◌∷◌, Option, Some, None, slice_get}
 use Rattle.std.proofs.Common.{drop, cond, add-one, map, ap, sym, refl, ◌∙◌, arith}
+use Rattle.std.specs.Prelude.{IsTrue}
 use Rattle.std.specs.Bool.{Decides}
 use Rattle.std.proofs.Math.Bool.{and-true, and-false, or-false}
 use Rattle.std.specs.List.{list_any, cons_option, filter_map, enumerate_from}
@@ -12,7 +13,7 @@ use Rattle.std.proofs.lemmas.Bool.{cases_Bool, or_cases, or_left, or_right, and_
 use Rattle.std.proofs.lemmas.Bool.{and_right, le-ltb, lt-ltb, false≢true}
 use Rattle.texting_robots.specs.declared.groups.Walk.{Walk}
 use Rattle.texting_robots.specs.Line.{LineValue, UserAgent}
-use Rattle.texting_robots.specs.Group.{IsCaptured, Mark, NoAgent, from_captured, group_name}
+use Rattle.texting_robots.specs.Group.{IsCaptured, Mark, group_name}
 use Rattle.texting_robots.specs.Group.{in_captured, is_agent, is_captured, is_group}
 use Rattle.texting_robots.specs.Group.{marks_of, is_agent_named, passes_at, some_below}
 use Rattle.texting_robots.specs.Rules.{PlacedRule, Rule, placed, rule_at, rule_in, rules_for}
@@ -66,7 +67,8 @@ some_passes test (line ∷ lines) =
     at later zero passes = or_left _ _ passes
     at later (suc k) passes = or_right _ _ (later (k, passes))
 
-no_agent_decides : (lines : List LineValue) → Decides (not (list_any is_agent lines)) (NoAgent lines)
+no_agent_decides : (lines : List LineValue)
+    → Decides (not (list_any is_agent lines)) ((k : ℕ) → ¬ IsTrue (passes_at is_agent lines k))
 no_agent_decides lines =
     Decides-like _ (λ none k passes. none (k, passes)) (λ none (k, passes). none k passes)
     (Decides-not _ (some_passes is_agent lines))
@@ -272,6 +274,11 @@ unplaced_found : (marks : List Mark) → unplaced (filter_map rule_at marks) ≡
 unplaced_found [] = refl
 unplaced_found (mark ∷ marks) =
     unplaced_next mark.number (in_captured rule_in mark) (filter_map rule_at marks) _ (unplaced_found marks)
+
+-- what `given` finds in the captured lines, in order
+abbrev pub from_captured : {X : Type 0} → (LineValue → Option X) → List ℕ
+    → List LineValue → List X
+from_captured given name lines = filter_map (in_captured given) (marks_of name lines)
 
 pub rules_are : (agent : List ℕ) (lines : List LineValue)
     → rules_for agent lines ≡ from_captured rule_in (group_name agent lines) lines

@@ -9,15 +9,17 @@ use Rattle.std.proofs.lemmas.Bool.{cases_Bool, false≢true, false_from_ne_true}
 use Rattle.texting_robots.specs.declared.groups.Walk.{Walk}
 use Rattle.texting_robots.specs.Line.{LineValue, UserAgent, Allow, Disallow, Sitemap, CrawlDelay, Raw}
 use Rattle.texting_robots.specs.Line.{delay_in, is_raw, is_sitemap}
-use Rattle.texting_robots.specs.Group.{from_captured, group_name, is_agent}
+use Rattle.texting_robots.specs.Group.{group_name, is_agent}
 use Rattle.texting_robots.specs.Group.{is_agent_named, is_group, marks_of}
-use Rattle.texting_robots.specs.Rules.{Rule, before_agent, delay_before_agents, delay_for, rule_at}
+use Rattle.texting_robots.specs.Rules.{Rule, delay_before_agents, delay_for, rule_at}
 use Rattle.texting_robots.specs.Rules.{rule_in, rules_for, sitemap_in, sitemaps_in, unplaced}
 use Rattle.texting_robots.specs.Pattern.{IsOverlong}
 use Rattle.texting_robots.specs.Verdict.{IsVerdict}
 use Rattle.texting_robots.specs.Steps.Group.{start_of, step}
 use Rattle.texting_robots.specs.Laws.{IsSameKind, Same, SameButSitemaps}
-use Rattle.texting_robots.proofs.CapturedLemmas.{Stands, at_front, caught, caught_all, is_captured_decides}
+use Rattle.texting_robots.proofs.CapturedLemmas.{Stands, at_front, caught, caught_all, from_captured}
+use Rattle.texting_robots.proofs.CapturedLemmas.{is_captured_decides}
+use Rattle.texting_robots.proofs.RulesLemmas.{before_agent, before_agents}
 use Rattle.texting_robots.proofs.CapturedLemmas.{only_agents, rules_are, stands_first, stands_next}
 use Rattle.texting_robots.specs.Group.{IsCaptured}
 
@@ -170,7 +172,7 @@ module _ (agent : List ℕ) (lines others : List LineValue)
       let delays = captured_like delay_in (λ line is. no_delay line is.group) in
       same_from agent lines agent others
       (rules_are agent lines ∙ rules ∙ sym (rules_are agent others))
-      (rw (delays, before_like like, agents_like) refl)
+      (rw (delays, before_agents lines, before_agents others, before_like like, agents_like) refl)
 
 -- ---- lines that are left out
 

@@ -11,7 +11,7 @@ use Rattle.texting_robots.specs.Steps.Cut.{cut}
 use Rattle.texting_robots.specs.Statement.{IsStatement, IsTailOf, colon}
 use Rattle.texting_robots.specs.Steps.Statement.{parts_of, statement_of, value_of}
 use Rattle.texting_robots.specs.Group.{is_agent}
-use Rattle.texting_robots.specs.Line.{AreLinesOf, HoldRangesOf, HoldsRangeOf, IsDelayOrRaw}
+use Rattle.texting_robots.specs.Line.{AreLinesOf, HoldRangesOf, HoldsRangeOf}
 use Rattle.texting_robots.specs.Line.{IsLineOf, IsLineWith, IsRangeOf, LineValue, Raw}
 use Rattle.texting_robots.specs.Line.{UserAgent, delay_in, is_sitemap, without, without_front}
 use Rattle.texting_robots.specs.Parsed.{parsed}
@@ -36,7 +36,7 @@ unfolding line_of
 line_raw body none = ap (λ s. line_by s body) none
 
 with_delay : (value body : List ℕ) (delay : Option ℕ) → IsDelay value delay
-    → IsDelayOrRaw value body (delay_or_raw delay body)
+    → IsLineWith kind.CrawlDelay value body (delay_or_raw delay body)
 with_delay value body None names = inr (names, refl)
 with_delay value body (Some delay) names = inl (delay, names, refl)
 
@@ -207,10 +207,9 @@ range_of_range part middle whole (before, after, is) (first, last, all) =
     (first ++ before, after ++ last, rw (all, is) (simp append_assoc))
 
 tail_range : (tail rest : List ℕ) → IsTailOf tail rest → IsRangeOf tail rest
-tail_range tail rest (inl (blanks, all, whole)) =
+tail_range tail rest (blanks, all, inl whole) =
     (blanks ++ colon ∷ [], [], rw whole (simp (append_assoc, append-nil)))
-tail_range tail rest (inr (none, (blank, blanks, all, whole))) =
-    (blank ∷ blanks, [], rw whole (simp append-nil))
+tail_range tail rest (blanks, all, inr (whole, some, plain)) = (blanks, [], rw whole (simp append-nil))
 
 value_range : (kind : Kind) (value body : List ℕ) → IsStatement kind value body → IsRangeOf value body
 value_range kind value body s =

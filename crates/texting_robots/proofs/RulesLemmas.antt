@@ -1,19 +1,19 @@
 -- What the code's loops keep.
 use Rattle.std.proofs.Common.{◌≡◌, ℕ, false, cond, List, [], ◌∷◌, ◌++◌, Option}
 use Rattle.std.proofs.Common.{Some, None, length, slice_get, Result, Ok, Err, IfErr, append_assoc}
-use Rattle.std.proofs.Common.{length-append, subst, sym, refl, ap, ◌∙◌, arith}
-use Rattle.std.specs.List.{All, Any, cons_option, filter_map, last_or, list_any}
+use Rattle.std.proofs.Common.{length-append, subst, sym, refl, ap, ◌∙◌, arith, suc, take, ◌+◌, inl, inr}
+use Rattle.std.specs.List.{All, Any, before_first, cons_option, filter_map, last_or, list_any}
 use Rattle.std.specs.Option.{option_to_list, option_or, IfSome, IsSomeAnd}
 use Rattle.std.specs.Result.{IsErrAnd}
 use Rattle.std.specs.Str.{IsUtf8, is_utf8}
-use Rattle.std.proofs.lemmas.Bool.{false_from_ne_true, false≢true}
+use Rattle.std.proofs.lemmas.Bool.{cases_Bool, false_from_ne_true, false≢true}
 use Rattle.std.proofs.lemmas.List.{append-nil, get_or-map, get_or_at, length-map}
 use Rattle.std.proofs.lemmas.List.Elements.{All-push}
 use Rattle.std.proofs.lemmas.Str.{IsUtf8-from_is_utf8, is_utf8-from_IsUtf8}
 use Rattle.texting_robots.specs.declared.error.Error.{Error}
 use Rattle.texting_robots.specs.declared.error.Error.TheVariants as mine
 use Rattle.texting_robots.specs.Line.{LineValue, Sitemap, delay_in, is_sitemap}
-use Rattle.texting_robots.specs.Rules.{PlacedRule, Rule, before_agent, sitemap_in, unplaced}
+use Rattle.texting_robots.specs.Rules.{PlacedRule, Rule, sitemap_in, unplaced}
 use Rattle.texting_robots.specs.Error.{IsMemoryOr}
 use Rattle.texting_robots.proofs.FirstLemmas.{placed_of}
 use Rattle.texting_robots.specs.Group.{is_agent}
@@ -55,6 +55,22 @@ passed_on P (Ok x) e same is = absurd same
 passed_on P (Err x) e same is = subst (λ (y : Error). IsMemoryOr P y) (sym same) is
 
 -- ---- the first pass
+
+-- the lines before the first agent line, one by one
+abbrev pub before_agent : List LineValue → List LineValue
+before_agent [] = []
+before_agent (line ∷ lines) = cond (is_agent line) [] (line ∷ before_agent lines)
+
+take_next : (n : ℕ) (line : LineValue) (lines : List LineValue)
+    → take (1 + n) (line ∷ lines) ≡ line ∷ take n lines
+take_next n line lines = let more : 1 + n ≡ suc n = omega arith in rw more refl
+
+pub before_agents : (lines : List LineValue) → before_first is_agent lines ≡ before_agent lines
+before_agents [] = refl
+before_agents (line ∷ lines) = elim (cases_Bool (is_agent line)) [
+  | inl agent ↦ rw agent refl
+  | inr other ↦ rw (other, take_next) (ap (λ t. line ∷ t) (before_agents lines))
+]
 
 -- the last delay before the first agent line of the lines that are left
 abbrev pub stray_from : Option ℕ → List LineValue → Option ℕ

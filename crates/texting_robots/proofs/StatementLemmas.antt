@@ -8,7 +8,7 @@ use Rattle.std.specs.List.{AllByRecursion as Each, Contains}
 use Rattle.std.specs.Char.{to_ascii_lowercase}
 use Rattle.std.specs.Str.{bytes_eq}
 use Rattle.std.proofs.lemmas.Bool.{cases_Bool, cond-true, cond-false, eqb-true, eqb-false}
-use Rattle.std.proofs.lemmas.Bool.{ne_eqb, ltb-true, lt-ltb, false_from_ne_true}
+use Rattle.std.proofs.lemmas.Bool.{ne_eqb, ltb-true, lt-ltb, false_from_ne_true, true≢false}
 use Rattle.std.proofs.lemmas.Bool.Decides.{Decides-or, Decides-eqb}
 use Rattle.std.proofs.lemmas.Option.{option_and_then_some, same_Some, some_pair_parts}
 use Rattle.std.proofs.lemmas.Slice.Eq.{bytes_eq-Decides}
@@ -18,7 +18,7 @@ use Rattle.texting_robots.specs.declared.parser.statement.Kind.{Kind}
 use Rattle.texting_robots.specs.declared.parser.statement.Kind.TheVariants.{UserAgent, Allow, Disallow}
 use Rattle.texting_robots.specs.declared.parser.statement.Kind.TheVariants.{Sitemap, CrawlDelay}
 use Rattle.texting_robots.specs.Statement.{spellings, space, tab, colon, hash, IsBlank, IsKey}
-use Rattle.texting_robots.specs.Statement.{IsColonAnd, IsBlanksAnd, IsTailOf, IsComment, IsStatement}
+use Rattle.texting_robots.specs.Statement.{BeginsPlain, IsTailOf, IsComment, IsStatement}
 use Rattle.texting_robots.specs.Steps.Statement.{skip_blanks, kind_with, kind_by, begins, after_any}
 use Rattle.texting_robots.specs.Steps.Statement.{after_blanks, after_separator, tail_of, tail_as}
 use Rattle.texting_robots.specs.Steps.Statement.{parts_of, region_of, trimmed, value_of, statement_of}
@@ -37,12 +37,15 @@ skip_front [] left all = refl
 skip_front (b ∷ blanks) left all = cond-true _ _ _ ((blank_decides b).1 all.0)
     ∙ skip_front blanks left all.1
 
--- and nothing is left to skip
-skip_again : (text : List ℕ) → skip_blanks (skip_blanks text) ≡ skip_blanks text
-skip_again [] = refl
-skip_again (b ∷ text) = elim (cases_Bool (b == space || b == tab)) [
-  | inl is ↦ rw is (skip_again text)
-  | inr isnt ↦ ap skip_blanks (cond-false _ _ _ isnt)
+-- and what is left begins with no blank
+not_blank : (text : List ℕ) (b : ℕ) (left : List ℕ) → skip_blanks text ≡ b ∷ left → ¬ IsBlank b
+not_blank [] b left is = let none : ◌≡◌ {A = List ℕ} [] (b ∷ left) = is in λ blank. cc
+not_blank (c ∷ text) b left is = elim (cases_Bool (c == space || c == tab)) [
+  | inl blank ↦ not_blank text b left (sym (cond-true _ _ _ blank) ∙ is)
+  | inr other ↦
+      let stays : c ∷ text ≡ b ∷ left = sym (cond-false _ _ _ other) ∙ is in
+      let same : c ≡ b = cc in
+      λ blank. true≢false (sym ((blank_decides c).1 (subst IsBlank (sym same) blank)) ∙ other)
 ]
 
 -- the text is blanks and what is left
@@ -160,39 +163,30 @@ found_key (s ∷ list) text rest is = elim (cases_Bool (begins s text)) [
 
 -- ---- separators
 
--- a rest that is blanks, a colon and a tail, as it is skipped, and the other way round
-colon_skipped : (tail rest : List ℕ) → IsColonAnd tail rest → skip_blanks rest ≡ colon ∷ tail
-colon_skipped tail rest (blanks, all, whole) = ap skip_blanks whole ∙ skip_front blanks (colon ∷ tail) all
+-- where no blank and no colon is first, nothing is skipped, and blanks alone separate
+plain_kept : (tail : List ℕ) → BeginsPlain tail → skip_blanks tail ≡ tail
+plain_kept [] plain = refl
+plain_kept (b ∷ tail) plain = elim (cases_Bool (b == space || b == tab)) [
+  | inl is ↦ absurd (plain.0 ((blank_decides b).0 is))
+  | inr isnt ↦ cond-false _ _ _ isnt
+]
 
-colon_there : (tail rest : List ℕ) → skip_blanks rest ≡ colon ∷ tail → IsColonAnd tail rest
-colon_there tail rest reads = let s = skipped rest in
-    (s.blanks, s.all, s.whole ∙ ap (λ t. s.blanks ++ t) reads)
-
--- what is left after blanks, where it begins with no colon
-left_is : (rest left : List ℕ) → ((other : List ℕ) → left ≢ colon ∷ other)
-    → after_separator rest left ≡ after_blanks rest left
-left_is rest [] none = refl
-left_is rest (c ∷ left) none =
-    cond-false _ _ _ (ne_eqb c colon (λ is. none left (ap (λ x. x ∷ left) is)))
+plain_separated : (rest tail : List ℕ) → BeginsPlain tail
+    → after_separator rest tail ≡ after_blanks rest tail
+plain_separated rest [] plain = refl
+plain_separated rest (b ∷ tail) plain = cond-false _ _ _ (ne_eqb b colon plain.1)
 
 tail_found : (tail rest : List ℕ) → IsTailOf tail rest → tail_of rest ≡ Some (skip_blanks tail)
-tail_found tail rest (inl with_colon) = ap (after_separator rest) (colon_skipped tail rest with_colon)
-tail_found tail rest (inr (none, (b, blanks, all, whole))) =
-    let s = skipped tail in
-    let left = skip_blanks tail in
-    let reads : skip_blanks rest ≡ left = ap skip_blanks whole ∙ skip_front (b ∷ blanks) tail all in
-    let less : length left < length rest
-    =
-    omega (
-      arith,
-      ap length whole,
-      ap length s.whole,
-      length-append blanks tail,
-      length-append s.blanks left,
-    ) in
-    ap (after_separator rest) reads
-    ∙ left_is rest left (λ other is. none other (colon_there other rest (reads ∙ is)))
-    ∙ cond-true _ _ _ (lt-ltb (length left) (length rest) less)
+tail_found tail rest (blanks, all, inl whole) =
+    ap (after_separator rest) (ap skip_blanks whole ∙ skip_front blanks (colon ∷ tail) all)
+tail_found tail rest ([], all, inr (whole, some, plain)) = absurd (some refl)
+tail_found tail rest (b ∷ blanks, all, inr (whole, some, plain)) =
+    let kept = plain_kept tail plain in
+    let reads : skip_blanks rest ≡ tail = ap skip_blanks whole ∙ skip_front (b ∷ blanks) tail all
+    ∙ kept in
+    let less : length tail < length rest = omega (arith, ap length whole, length-append blanks tail) in
+    ap (after_separator rest) reads ∙ plain_separated rest tail plain
+    ∙ cond-true _ _ _ (lt-ltb (length tail) (length rest) less) ∙ ap (λ t. Some t) (sym kept)
 
 -- the rest has a tail, and the walk found it, without the blanks at its front
 record Tailed (found rest : List ℕ) : Type 0 where
@@ -200,44 +194,39 @@ record Tailed (found rest : List ℕ) : Type 0 where
   is : IsTailOf tail rest
   same : found ≡ skip_blanks tail
 
-blanks_found : (rest left found : List ℕ) → skip_blanks rest ≡ left
-    → after_blanks rest left ≡ Some found
-    → ((other : List ℕ) → left ≢ colon ∷ other) → Tailed found rest
-blanks_found rest left found reads is none = elim (cases_Bool (nat_lt (length left) (length rest))) [
+-- blanks alone separate what is left from the rest, if there are any
+blanks_found : (rest left found : List ℕ) → skip_blanks rest ≡ left → BeginsPlain left
+    → after_blanks rest left ≡ Some found → Tailed found rest
+blanks_found rest left found reads plain is = elim (cases_Bool (nat_lt (length left) (length rest))) [
   | inr short ↦ let wrong : None ≡ Some found = sym (cond-false _ _ _ short) ∙ is in cc
   | inl more ↦
-      let same : left ≡ found = same_Some _ _ (sym (cond-true _ _ _ more) ∙ is) in
       let s = skipped rest in
+      let whole : rest ≡ s.blanks ++ left = s.whole ∙ ap (λ t. s.blanks ++ t) reads in
       let less = ltb-true (length left) (length rest) more in
+      let some : s.blanks ≢ [] =
+      λ none. omega (arith, less, ap length (whole ∙ ap (λ t. t ++ left) none)) in
       record {
         tail = left;
-        is = inr (
-          (λ other with_colon. none other (sym reads ∙ colon_skipped other rest with_colon)),
-          at s.blanks s.all (s.whole ∙ ap (λ t. s.blanks ++ t) reads) less,
-        );
-        same = sym same ∙ sym reads ∙ sym (skip_again rest) ∙ ap skip_blanks reads;
+        is = (s.blanks, s.all, inr (whole, some, plain));
+        same = sym (same_Some _ _ (sym (cond-true _ _ _ more) ∙ is)) ∙ sym (plain_kept left plain);
       }
 ]
-  where
-    at : (blanks : List ℕ) → Each IsBlank blanks → rest ≡ blanks ++ left → length left < length rest
-        → IsBlanksAnd left rest
-    at [] all whole less = absurd (omega (arith, less, ap length whole))
-    at (b ∷ blanks) all whole less = (b, blanks, all, whole)
 
 found_tail : (rest left found : List ℕ) → skip_blanks rest ≡ left
     → after_separator rest left ≡ Some found → Tailed found rest
-found_tail rest [] found reads is = blanks_found rest [] found reads is (λ other e. cc)
+found_tail rest [] found reads is = blanks_found rest [] found reads tt is
 found_tail rest (c ∷ left) found reads is = elim (cases_Bool (c == colon)) [
   | inl with_colon ↦
+      let s = skipped rest in
       let head = ap (λ x. x ∷ left) (eqb-true c colon with_colon) in
       record {
         tail = left;
-        is = inl (colon_there left rest (reads ∙ head));
+        is = (s.blanks, s.all, inl (s.whole ∙ ap (λ t. s.blanks ++ t) (reads ∙ head)));
         same = sym (same_Some _ _ (sym (cond-true _ _ _ with_colon) ∙ is));
       }
-  | inr other_byte ↦
-      blanks_found rest (c ∷ left) found reads (sym (cond-false _ _ _ other_byte) ∙ is)
-      (λ other e. eqb-false c colon other_byte (cc))
+  | inr other ↦
+      let plain : BeginsPlain (c ∷ left) = (not_blank rest c left reads, eqb-false c colon other) in
+      blanks_found rest (c ∷ left) found reads plain (sym (cond-false _ _ _ other) ∙ is)
 ]
 
 -- ---- regions

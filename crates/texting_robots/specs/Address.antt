@@ -1,9 +1,8 @@
 -- The address of the robots file of a URL.
-use Rattle.std.specs.Prelude.{ℕ, List, [], ◌++◌, ◌||◌, Bool, Option, Some, None, Ok, Err, codes, bytes_eq, decimal, if◌then◌else◌}
-use Rattle.url.specs.Parts.{Parts, cannot_be_a_base, nonempty_host}
-use Rattle.url.specs.Parser.{Parsed, parse_url, and_then}
-use Rattle.url.specs.Host.{host_text}
-use Rattle.url.specs.declared.host.Host.{Host}
+use Rattle.std.specs.Prelude.{ℕ, List, [], ◌++◌, ◌||◌, Bool, Option, Some, None, Ok, Err}
+use Rattle.std.specs.Prelude.{codes, bytes_eq, decimal, if◌then◌else◌}
+use Rattle.url.specs.{Parts.Parts, Parts.cannot_be_a_base, Parts.nonempty_host, Host.host_text}
+use Rattle.url.specs.{Parser.Parsed, Parser.parse_url, Parser.and_then, declared.host.Host.Host}
 use Rattle.url.specs.declared.error.ParseError.TheVariants.{EmptyHost, SetHostOnCannotBeABaseUrl}
 
 -- the scheme is `http` or `https`
@@ -18,7 +17,8 @@ port_text (Some port) = codes ":" ++ decimal port
 -- the address for this host, which may be missing
 abbrev pub address_at : Parts → Option (Host (List ℕ)) → Parsed (List ℕ)
 address_at url None = Err EmptyHost
-address_at url (Some host) = Ok (url.scheme ++ codes "://" ++ host_text host ++ port_text url.port ++ codes "/robots.txt")
+address_at url (Some host) =
+    Ok (url.scheme ++ codes "://" ++ host_text host ++ port_text url.port ++ codes "/robots.txt")
 
 -- the address for the parts of a URL
 abbrev pub robots_address_of : Parts → Parsed (List ℕ)

@@ -1,19 +1,17 @@
 -- The words that the contracts of public calls use, passed on from one place. Declares nothing.
 
 -- the lines of a file
-pub use Rattle.texting_robots.specs.Line.{LineValue, UserAgent, Allow, Disallow, Sitemap, CrawlDelay, Raw, by_value, value_in}
-pub use Rattle.texting_robots.specs.Line.{AreFileLinesOf, AreLinesOf, HoldRangesOf}
-pub use Rattle.texting_robots.specs.Parsed.{file_lines, parsed}
-pub use Rattle.texting_robots.specs.Delay.{IsDelay}
+pub use Rattle.texting_robots.specs.Line.{LineValue, UserAgent, Allow, Disallow, Sitemap, CrawlDelay, Raw}
+pub use Rattle.texting_robots.specs.Line.{AreFileLinesOf, AreLinesOf, HoldRangesOf, by_value, value_in}
+pub use Rattle.texting_robots.specs.{Delay.IsDelay, Parsed.file_lines, Parsed.parsed}
 -- what an agent gets of them
 pub use Rattle.texting_robots.specs.Group.{IsCaptured, group_name}
-pub use Rattle.texting_robots.specs.Rules.{Rule, PlacedRule, unplaced, placed_rules, rules_for, delay_for, sitemaps_in}
-pub use Rattle.texting_robots.specs.Rules.{GivesNothing, IsRefused}
+pub use Rattle.texting_robots.specs.Rules.{GivesNothing, IsRefused, PlacedRule, Rule, delay_for}
+pub use Rattle.texting_robots.specs.Rules.{placed_rules, rules_for, sitemaps_in, unplaced}
 pub use Rattle.texting_robots.specs.Robot.{RobotValue, IsRobotOf, file_limit, lines_read}
 -- URLs, texts and patterns
 pub use Rattle.texting_robots.specs.Address.{robots_address, robots_address_of}
-pub use Rattle.texting_robots.specs.Prepared.{prepared, target_of}
-pub use Rattle.texting_robots.specs.Escape.{escaped}
+pub use Rattle.texting_robots.specs.{Escape.escaped, Prepared.prepared, Prepared.target_of}
 pub use Rattle.texting_robots.specs.Pattern.{Matches, MatchesStars, IsOverlong, collapsed}
 pub use Rattle.texting_robots.specs.Order.{IsBefore, pattern_cmp}
 -- verdicts

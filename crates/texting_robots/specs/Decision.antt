@@ -1,8 +1,7 @@
 -- Which line decides, and how many rules are as long as one.
-use Rattle.std.specs.Prelude.{◌≡◌, ◌≢◌, ◌⊎◌, ℕ, ◌≤◌, nat_le, true, List, Option, Some, None, Contains, count_by, length}
-use Rattle.texting_robots.specs.Pattern.{Matches}
-use Rattle.texting_robots.specs.Rules.{PlacedRule}
-use Rattle.texting_robots.specs.Verdict.{robots_file}
+use Rattle.std.specs.Prelude.{◌≡◌, ◌≢◌, ◌⊎◌, ℕ, ◌≤◌, nat_le}
+use Rattle.std.specs.Prelude.{true, List, Option, Some, None, Contains, count_by, length}
+use Rattle.texting_robots.specs.{Pattern.Matches, Rules.PlacedRule, Verdict.robots_file}
 
 -- the rule matches the text, and no rule that matches is longer
 pub record IsLongestMatch (rules : List PlacedRule) (text : List ℕ) (placed : PlacedRule) : Type 0 where
@@ -11,20 +10,24 @@ pub record IsLongestMatch (rules : List PlacedRule) (text : List ℕ) (placed : 
   pub longest : (other : PlacedRule) → Contains rules other → Matches other.rule.0 text
       → length other.rule.0 ≤ length placed.rule.0
 
--- it is the first Allow among the longest rules that match, or the first Disallow where no Allow is among them
+-- it is the first Allow among the longest rules that match, or the first Disallow where no Allow is among
+-- them
 pub record Decides (rules : List PlacedRule) (text : List ℕ) (placed : PlacedRule) : Type 0 where
   pub is_longest : IsLongestMatch rules text placed
-  pub allows : (other : PlacedRule) → IsLongestMatch rules text other → other.rule.1 ≡ true → placed.rule.1 ≡ true
+  pub allows : (other : PlacedRule) → IsLongestMatch rules text other → other.rule.1 ≡ true
+      → placed.rule.1 ≡ true
   pub first : (other : PlacedRule) → IsLongestMatch rules text other → other.rule.1 ≡ placed.rule.1
       → placed.line ≤ other.line
 
 -- the line of the rule that decides, or `None` for the robots file and where no rule matches
 abbrev pub IsDecidingLine : List PlacedRule → List ℕ → Option ℕ → Type 0
 IsDecidingLine rules text None =
-    (text ≡ robots_file) ⊎ ((placed : PlacedRule) → Contains rules placed → ¬ Matches placed.rule.0 text)
+    (text ≡ robots_file)
+    ⊎ ((placed : PlacedRule) → Contains rules placed → ¬ Matches placed.rule.0 text)
 IsDecidingLine rules text (Some line) =
     (text ≢ robots_file) × (placed : PlacedRule) × Decides rules text placed × (placed.line ≡ line)
 
 -- how many of the rules are at least as long as this one
 abbrev pub as_long_as : PlacedRule → List PlacedRule → ℕ
-as_long_as placed rules = count_by (λ (other : PlacedRule). nat_le (length placed.rule.0) (length other.rule.0)) rules
+as_long_as placed rules =
+    count_by (λ (other : PlacedRule). nat_le (length placed.rule.0) (length other.rule.0)) rules

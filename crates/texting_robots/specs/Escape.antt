@@ -1,7 +1,7 @@
 -- The escape of a rule and of a text that is no URL.
-use Rattle.std.specs.Prelude.{ℕ, ◌/◌, ◌%◌, Bool, true, ◌||◌, ◌==◌, nat_lt, List, [], ◌∷◌, if◌then◌else◌}
-use Rattle.std.specs.List.{flat_map}
-use Rattle.std.specs.Fmt.{digit_glyph}
+use Rattle.std.specs.Prelude.{ℕ, ◌/◌, ◌%◌, Bool, true, ◌||◌}
+use Rattle.std.specs.Prelude.{◌==◌, nat_lt, List, [], ◌∷◌}
+use Rattle.std.specs.{Fmt.digit_glyph, List.flat_map, Prelude.if◌then◌else◌}
 
 -- a byte that doesn't stand for itself: a control, a space, `"`, `<`, `>`, a backquote, or one past ASCII
 abbrev pub is_escaped : ℕ → Bool
@@ -12,7 +12,9 @@ percent = 37
 
 -- `%` and two upper-case hexadecimal digits, or the byte itself
 abbrev pub escape_byte : ℕ → List ℕ
-escape_byte b = if is_escaped b then percent ∷ digit_glyph true (b / 16 % 16) ∷ digit_glyph true (b % 16) ∷ [] else b ∷ []
+escape_byte b =
+    if is_escaped b then percent ∷ digit_glyph true (b / 16 % 16) ∷ digit_glyph true (b % 16) ∷ []
+    else b ∷ []
 
 -- each byte of the text, escaped
 abbrev pub escaped : List ℕ → List ℕ

@@ -1,8 +1,8 @@
 -- Which lines are captured for an agent, by their places in a file.
-use Rattle.std.specs.Prelude.{◌⊎◌, ℕ, zero, suc, ◌+◌, ◌<◌, nat_lt, Bool, true, false, not, ◌&&◌, ◌||◌, List, Option, None, IsTrue, codes, map, slice_get, bytes_eq, if◌then◌else◌}
-use Rattle.std.specs.List.{list_any, filter_map, enumerate_from}
-use Rattle.std.specs.Option.{option_map_or}
-use Rattle.std.specs.Str.{str_to_ascii_lowercase}
+use Rattle.std.specs.Prelude.{◌⊎◌, ℕ, zero, suc, ◌+◌, ◌<◌, nat_lt, Bool, true, false, not}
+use Rattle.std.specs.Prelude.{◌&&◌, ◌||◌, List, Option, None, IsTrue, codes, map, slice_get, bytes_eq}
+use Rattle.std.specs.{List.list_any, List.enumerate_from, Option.option_map_or}
+use Rattle.std.specs.{Str.str_to_ascii_lowercase, Prelude.if◌then◌else◌}
 use Rattle.texting_robots.specs.declared.groups.Marked.{Marked}
 use Rattle.texting_robots.specs.Line.{Allow, CrawlDelay, Disallow, LineValue, UserAgent}
 
@@ -28,28 +28,30 @@ is_agent_named name _ = false
 
 -- the lowered agent where some line names it, else a star
 abbrev pub group_name : List ℕ → List LineValue → List ℕ
-group_name agent lines = if list_any (is_agent_named (str_to_ascii_lowercase agent)) lines then str_to_ascii_lowercase agent else codes "*"
+group_name agent lines =
+    let lowered = str_to_ascii_lowercase agent in
+    if list_any (is_agent_named lowered) lines then lowered else codes "*"
 
 -- a line stands at the place, and passes the test
 abbrev pub passes_at : (LineValue → Bool) → List LineValue → ℕ → Bool
 passes_at test lines at = option_map_or test (slice_get lines at) false
 
-abbrev pub NoAgent : List LineValue → Type 0
-NoAgent lines = (k : ℕ) → ¬ IsTrue (passes_at is_agent lines k)
-
 -- between the two places a user-agent line stands behind a group line
 abbrev pub HasNewRun : List LineValue → ℕ → ℕ → Type 0
 HasNewRun lines j i =
-    (k : ℕ) × (l : ℕ) × (j < k) × (k < l) × (l < i) × IsTrue (passes_at is_group lines k) × IsTrue (passes_at is_agent lines l)
+    (k : ℕ) × (l : ℕ) × (j < k) × (k < l) × (l < i)
+    × IsTrue (passes_at is_group lines k) × IsTrue (passes_at is_agent lines l)
 
--- a user-agent line before the place holds the name, and no new run of user-agent lines begins between the two
+-- a user-agent line before the place holds the name, and no new run of user-agent lines begins between
 abbrev pub IsNamedBefore : List ℕ → List LineValue → ℕ → Type 0
 IsNamedBefore name lines i =
     (j : ℕ) × (j < i) × IsTrue (passes_at (is_agent_named name) lines j) × ¬ (HasNewRun lines j i)
 
--- a group line at this place, if one stands there, is captured
+-- a group line at this place, if one stands there, is captured: no line is a user-agent line, or one before
+-- it names the group
 abbrev pub IsCaptured : List ℕ → List LineValue → ℕ → Type 0
-IsCaptured name lines i = NoAgent lines ⊎ IsNamedBefore name lines i
+IsCaptured name lines i =
+    ((k : ℕ) → ¬ IsTrue (passes_at is_agent lines k)) ⊎ IsNamedBefore name lines i
 
 -- ---- the same as a test that computes, for lists in order; the law `captured_agrees` says that it agrees
 
@@ -60,7 +62,8 @@ some_below test (suc n) = test n || some_below test n
 
 abbrev pub has_new_run : List LineValue → ℕ → ℕ → Bool
 has_new_run lines j i =
-    some_below (λ l. passes_at is_agent lines l && some_below (λ k. nat_lt j k && passes_at is_group lines k) l) i
+    let has_group = λ (l : ℕ). some_below (λ k. nat_lt j k && passes_at is_group lines k) l in
+    some_below (λ l. passes_at is_agent lines l && has_group l) i
 
 abbrev pub is_captured : List ℕ → List LineValue → ℕ → Bool
 is_captured name lines i =
@@ -81,12 +84,9 @@ mark_of marked = record { number = marked.number; captured = marked.is_captured;
 -- all lines, in order
 abbrev pub marks_of : List ℕ → List LineValue → List Mark
 marks_of name lines =
-    map (λ p. record { number = p.0 + 1; captured = is_captured name lines p.0; line = p.1 }) (enumerate_from 0 lines)
+    map (λ p. record { number = p.0 + 1; captured = is_captured name lines p.0; line = p.1 })
+    (enumerate_from 0 lines)
 
 -- what `given` finds in the line, if it is captured
 abbrev pub in_captured : {X : Type 0} → (LineValue → Option X) → Mark → Option X
 in_captured given mark = if mark.captured then given mark.line else None
-
--- what `given` finds in the captured lines, in order
-abbrev pub from_captured : {X : Type 0} → (LineValue → Option X) → List ℕ → List LineValue → List X
-from_captured given name lines = filter_map (in_captured given) (marks_of name lines)

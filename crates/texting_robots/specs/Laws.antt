@@ -1,15 +1,13 @@
 -- Words of the laws, which stand as the contracts of `laws`.
-use Rattle.std.specs.Prelude.{◌≡◌, ◌+◌, ◌↔◌, ◌⊎◌, ℕ, Bool, true, false, ◌==◌, ◌&&◌, List, [], ◌∷◌}
-use Rattle.std.specs.Prelude.{Some, IsTrue, codes, slice_get, if◌then◌else◌}
-use Rattle.std.specs.Str.{is_utf8}
-use Rattle.texting_robots.specs.Cut.{cr, lf}
-use Rattle.texting_robots.specs.Escape.{escaped}
-use Rattle.texting_robots.specs.Group.{IsCaptured, group_name}
-use Rattle.texting_robots.specs.Line.{Allow, Disallow, LineValue}
+use Rattle.std.specs.Prelude.{◌≡◌, ◌+◌, ◌↔◌, ◌⊎◌, ℕ, Bool}
+use Rattle.std.specs.Prelude.{true, false, ◌==◌, ◌&&◌, List, [], ◌∷◌}
+use Rattle.std.specs.{Prelude.Some, Prelude.IsTrue, Prelude.codes, Prelude.slice_get, Str.is_utf8}
+use Rattle.std.specs.Prelude.{if◌then◌else◌}
+use Rattle.texting_robots.specs.{Cut.cr, Cut.lf, Escape.escaped, Group.IsCaptured, Group.group_name}
+use Rattle.texting_robots.specs.{Line.Allow, Line.Disallow, Line.LineValue, Trim.IsTrimOf}
+use Rattle.texting_robots.specs.{Rules.Rule, Rules.IsRefused, Rules.delay_for, Rules.rules_for}
+use Rattle.texting_robots.specs.{Rules.sitemaps_in, Verdict.IsVerdict}
 use Rattle.texting_robots.specs.Rfc9309 as rfc
-use Rattle.texting_robots.specs.Rules.{IsRefused, Rule, delay_for, rules_for, sitemaps_in}
-use Rattle.texting_robots.specs.Trim.{IsTrimOf}
-use Rattle.texting_robots.specs.Verdict.{IsVerdict}
 
 -- LF in place of each CR LF
 abbrev pub feeds_alone : List ℕ → List ℕ

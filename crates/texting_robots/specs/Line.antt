@@ -1,20 +1,16 @@
 -- Which line a body is, and which lines a text has.
-use Rattle.std.specs.Prelude.{◌≡◌, ◌⊎◌, ℕ, ◌==◌, Bool, true, false, List, [], ◌∷◌, ◌++◌, map, codes, Option, Some, None, if◌then◌else◌}
-use Rattle.std.specs.List.{AllZip}
-use Rattle.texting_robots.specs.declared.parser.Line.{Line}
+use Rattle.std.specs.Prelude.{◌≡◌, ◌⊎◌, ℕ, ◌==◌, Bool, true}
+use Rattle.std.specs.Prelude.{false, List, [], ◌∷◌, ◌++◌, map, codes}
+use Rattle.std.specs.{Prelude.Option, Prelude.Some, Prelude.None, Prelude.if◌then◌else◌, List.AllZip}
+use Rattle.texting_robots.specs.declared.{parser.Line.Line, parser.statement.Kind.Kind}
 use Rattle.texting_robots.specs.declared.parser.Line.TheVariants as line
-use Rattle.texting_robots.specs.declared.parser.statement.Kind.{Kind}
 use Rattle.texting_robots.specs.declared.parser.statement.Kind.TheVariants as kind
-use Rattle.texting_robots.specs.Cut.{Pair, IsCut, joined, lf}
-use Rattle.texting_robots.specs.Delay.{IsDelay}
-use Rattle.texting_robots.specs.Statement.{IsStatement}
+use Rattle.texting_robots.specs.{Cut.Pair, Cut.IsCut, Cut.joined, Cut.lf}
+use Rattle.texting_robots.specs.{Delay.IsDelay, Statement.IsStatement}
 
 -- a line by value, wherever its bytes lie
 pub data LineValue : Type 0 where
-  UserAgent : List ℕ → LineValue
-  Allow : List ℕ → LineValue
-  Disallow : List ℕ → LineValue
-  Sitemap : List ℕ → LineValue
+  UserAgent Allow Disallow Sitemap : List ℕ → LineValue
   CrawlDelay : Option ℕ → LineValue
   Raw : List ℕ → LineValue
 
@@ -31,19 +27,17 @@ by_value (line.Raw body) = Raw body.now
 abbrev pub slash : List ℕ
 slash = codes "/"
 
--- the delay that the value names, or the whole body where it names none
-abbrev pub IsDelayOrRaw : List ℕ → List ℕ → LineValue → Type 0
-IsDelayOrRaw value body line =
-    ((delay : ℕ) × IsDelay value (Some delay) × (line ≡ CrawlDelay (Some delay))) ⊎ (IsDelay value None × (line ≡ Raw body))
-
--- the line is that of a statement of this kind with this value, in this body
+-- the line is that of a statement of this kind with this value, in this body; of an empty Disallow that is an
+-- Allow of the slash, and of a value that names no delay the whole body
 abbrev pub IsLineWith : Kind → List ℕ → List ℕ → LineValue → Type 0
 IsLineWith kind.UserAgent value body line = line ≡ UserAgent value
 IsLineWith kind.Allow value body line = line ≡ Allow value
 IsLineWith kind.Disallow [] body line = line ≡ Allow slash
 IsLineWith kind.Disallow (b ∷ value) body line = line ≡ Disallow (b ∷ value)
 IsLineWith kind.Sitemap value body line = line ≡ Sitemap value
-IsLineWith kind.CrawlDelay value body line = IsDelayOrRaw value body line
+IsLineWith kind.CrawlDelay value body line =
+    ((delay : ℕ) × IsDelay value (Some delay) × (line ≡ CrawlDelay (Some delay)))
+    ⊎ (IsDelay value None × (line ≡ Raw body))
 
 -- the line is that of the body: its statement's, or the whole body where it is no statement
 abbrev pub IsLineOf : LineValue → List ℕ → Type 0
@@ -58,7 +52,8 @@ abbrev pub without : ℕ → List ℕ → List ℕ
 without byte [] = []
 without byte (first ∷ text) = if first == byte then text else first ∷ text
 
--- the text without EF where it begins with it, then without BB, then without BF, each where it then stands first
+-- the text without EF where it begins with it, then without BB, then without BF, each where it then stands
+-- first
 abbrev pub without_front : List ℕ → List ℕ
 without_front text = without 0xBF (without 0xBB (without 0xEF text))
 
@@ -82,17 +77,20 @@ AreFileLinesOf lines text = AreLinesOf lines (map nul_as_lf text)
 abbrev pub IsRangeOf : List ℕ → List ℕ → Type 0
 IsRangeOf value body = (before : List ℕ) × (after : List ℕ) × (body ≡ before ++ (value ++ after))
 
--- the bytes that the line holds are a range of the body, or the slash of an empty Disallow, and a delay is a number
+-- the bytes that the line holds are a range of the body, or the slash of an empty Disallow, and a delay is a
+-- number
 abbrev pub HoldsRangeOf : LineValue → List ℕ → Type 0
 HoldsRangeOf (UserAgent value) body = IsRangeOf value body
-HoldsRangeOf (Allow value) body = IsRangeOf value body ⊎ ((value ≡ slash) × IsStatement kind.Disallow [] body)
+HoldsRangeOf (Allow value) body =
+    IsRangeOf value body ⊎ ((value ≡ slash) × IsStatement kind.Disallow [] body)
 HoldsRangeOf (Disallow value) body = IsRangeOf value body
 HoldsRangeOf (Sitemap value) body = IsRangeOf value body
 HoldsRangeOf (CrawlDelay None) body = ⊥
 HoldsRangeOf (CrawlDelay (Some delay)) body = Unit {0}
 HoldsRangeOf (Raw value) body = value ≡ body
 
--- each line holds a range of its body, and the bodies and ends of the cut, in order, are the text from some place on
+-- each line holds a range of its body, and the bodies and ends of the cut, in order, are the text from some
+-- place on
 pub record HoldRangesOf (lines : List LineValue) (text : List ℕ) : Type 0 where
   pub taken : List ℕ
   pub pairs : List Pair

@@ -1,8 +1,7 @@
--- The lines of a text and of a file as lists. The clauses of public calls cite them beside the definitions, which say
--- the same: the laws `each_text_has_its_lines` and `each_file_has_its_lines` tie the one to the other.
+-- The lines of a text and of a file as lists. The clauses of public calls cite them beside the definitions,
+-- which say the same: the laws `each_text_has_its_lines` and `each_file_has_its_lines` tie them together.
 use Rattle.std.specs.Prelude.{ℕ, List, map}
-use Rattle.texting_robots.specs.Line.{LineValue, nul_as_lf, without_front}
-use Rattle.texting_robots.specs.Steps.Line.{lines_of}
+use Rattle.texting_robots.specs.{Line.LineValue, Line.nul_as_lf, Line.without_front, Steps.Line.lines_of}
 
 -- the lines of a text
 abbrev pub parsed : List ℕ → List LineValue

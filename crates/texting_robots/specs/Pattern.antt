@@ -1,5 +1,6 @@
 -- Patterns of rules, and what they match.
-use Rattle.std.specs.Prelude.{◌≡◌, ℕ, ◌<◌, Bool, true, false, ◌==◌, ◌&&◌, List, [], ◌∷◌, ◌++◌, MatchBool, Contains, length, if◌then◌else◌}
+use Rattle.std.specs.Prelude.{◌≡◌, ℕ, ◌<◌, Bool, true, false, ◌==◌, ◌&&◌, List, []}
+use Rattle.std.specs.Prelude.{◌∷◌, ◌++◌, MatchBool, Contains, length, if◌then◌else◌}
 
 abbrev pub star : ℕ
 star = 42
@@ -15,8 +16,8 @@ longest_with_dollar = 4096
 abbrev pub IsSuffix : List ℕ → List ℕ → Type 0
 IsSuffix s t = (front : List ℕ) × (t ≡ front ++ s)
 
--- The pattern's byte b takes a beginning off t and leaves s: a star takes any beginning; a dollar, where `anchors` is true,
--- takes nothing and stands only where t is empty; any other byte takes itself.
+-- The pattern's byte b takes a beginning off t and leaves s: a star takes any beginning; a dollar, where
+-- `anchors` is true, takes nothing and stands only where t is empty; any other byte takes itself.
 abbrev pub Takes : Bool → ℕ → List ℕ → List ℕ → Type 0
 Takes anchors b t s =
     MatchBool (b == star) (IsSuffix s t)

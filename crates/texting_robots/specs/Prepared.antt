@@ -1,7 +1,6 @@
 -- The prepared text of a URL or a path.
 use Rattle.std.specs.Prelude.{ℕ, List, [], ◌∷◌, ◌++◌, codes, Option, Some, None, Ok, Err}
-use Rattle.url.specs.Parts.{Parts}
-use Rattle.url.specs.Parser.{Parsed, parse_url}
+use Rattle.url.specs.{Parts.Parts, Parser.Parsed, Parser.parse_url}
 use Rattle.texting_robots.specs.Escape.{escaped}
 
 -- a mark and the text behind it, where there is one

@@ -5,8 +5,8 @@
 -- This goes further than the standard in four things, and says so where it does: a byte order mark in front,
 -- a last line without its end, a pattern that begins with a star, and the lines that the standard leaves to
 -- implementers.
-use Rattle.std.specs.Prelude.{◌≡◌, ◌⊎◌, ℕ, ◌≤◌, Bool, true, false, List, [], ◌∷◌, ◌++◌, map}
-use Rattle.std.specs.Prelude.{codes, bytes_eq, filter, Contains, if◌then◌else◌}
+use Rattle.std.specs.Prelude.{◌≡◌, ◌⊎◌, ℕ, ◌≤◌, Bool, true, false, List, [], ◌∷◌}
+use Rattle.std.specs.Prelude.{◌++◌, map, codes, bytes_eq, filter, Contains, if◌then◌else◌}
 use Rattle.std.specs.List.{flat_map, list_any, AllByRecursion as Each}
 use Rattle.std.specs.Char.{to_ascii_lowercase}
 
@@ -42,7 +42,8 @@ pub record Piece (X : Type 0) : Type 0 where
   pub bytes : List ℕ
 
 -- `*P`, where each piece of the text spells some items: all spell theirs, in order
-pub record Repeats {X : Type 0} (P : List X → List ℕ → Type 0) (items : List X) (text : List ℕ) : Type 0 where
+pub record Repeats {X : Type 0} (P : List X → List ℕ → Type 0) (items : List X)
+    (text : List ℕ) : Type 0 where
   pub pieces : List (Piece X)
   pub each : Each (λ piece. P piece.items piece.bytes) pieces
   pub spelled : items ≡ flat_map (λ piece. piece.items) pieces
@@ -103,7 +104,8 @@ IsNl bytes = (bytes ≡ 0x0D ∷ []) ⊎ ((bytes ≡ 0x0A ∷ []) ⊎ (bytes ≡
 -- a piece of a comment: UTF8-char-noctl / WS / "#"
 abbrev pub IsCommentPiece : List ℕ → Type 0
 IsCommentPiece bytes =
-    IsUtf8CharNoctl bytes ⊎ (((byte : ℕ) × IsWs byte × (bytes ≡ byte ∷ [])) ⊎ (bytes ≡ codes "#"))
+    IsUtf8CharNoctl bytes
+    ⊎ (((byte : ℕ) × IsWs byte × (bytes ≡ byte ∷ [])) ⊎ (bytes ≡ codes "#"))
 
 -- comment = "#" *( UTF8-char-noctl / WS / "#" )
 pub record IsComment (bytes : List ℕ) : Type 0 where

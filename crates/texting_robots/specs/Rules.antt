@@ -1,12 +1,11 @@
 -- What an agent gets of a file.
-use Rattle.std.specs.Prelude.{◌≡◌, ℕ, Bool, true, false, List, [], ◌∷◌, Option, Some, None, slice_get, Any, map, option_map, if◌then◌else◌}
-use Rattle.std.specs.List.{filter_map, last_or, list_any}
-use Rattle.std.specs.Option.{option_or}
-use Rattle.std.specs.Str.{is_utf8}
+use Rattle.std.specs.Prelude.{◌≡◌, ℕ, Bool, true, false, List, [], Option, Some, None, slice_get, Any}
+use Rattle.std.specs.Prelude.{map, option_map, if◌then◌else◌}
+use Rattle.std.specs.{List.before_first, List.filter_map, List.last_or, List.list_any}
+use Rattle.std.specs.{Option.option_or, Str.is_utf8}
+use Rattle.texting_robots.specs.{Escape.escaped, Pattern.IsOverlong}
+use Rattle.texting_robots.specs.Group.{Mark, group_name, in_captured, is_agent, marks_of}
 use Rattle.texting_robots.specs.Line.{LineValue, Allow, Disallow, Sitemap, delay_in}
-use Rattle.texting_robots.specs.Group.{Mark, from_captured, group_name, in_captured, is_agent, marks_of}
-use Rattle.texting_robots.specs.Escape.{escaped}
-use Rattle.texting_robots.specs.Pattern.{IsOverlong}
 
 -- a pattern, and whether it allows
 abbrev pub Rule : Type 0
@@ -38,11 +37,6 @@ abbrev pub sitemap_in : LineValue → Option (List ℕ)
 sitemap_in (Sitemap value) = text_from value
 sitemap_in _ = None
 
--- the lines before the first agent line
-abbrev pub before_agent : List LineValue → List LineValue
-before_agent [] = []
-before_agent (line ∷ lines) = if is_agent line then [] else line ∷ before_agent lines
-
 -- the rule, if there is one, with this line
 abbrev pub placed : ℕ → Option Rule → Option PlacedRule
 placed line rule = option_map (λ (r : Rule). record { rule = r; line = line }) rule
@@ -68,12 +62,13 @@ sitemap_at mark = sitemap_in mark.line
 
 -- the captured delays, in order
 abbrev pub captured_delays : List ℕ → List LineValue → List ℕ
-captured_delays agent lines = from_captured delay_in (group_name agent lines) lines
+captured_delays agent lines = filter_map delay_at (marks_of (group_name agent lines) lines)
 
 -- where there is an agent line, the last delay before the first one
 abbrev pub delay_before_agents : List LineValue → Option ℕ
 delay_before_agents lines =
-    if list_any is_agent lines then last_or None (filter_map delay_in (before_agent lines)) else None
+    if list_any is_agent lines then last_or None (filter_map delay_in (before_first is_agent lines))
+    else None
 
 -- the first captured delay, else that before the agents
 abbrev pub delay_for : List ℕ → List LineValue → Option ℕ

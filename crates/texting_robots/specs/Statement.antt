@@ -1,10 +1,9 @@
 -- Which bodies are statements.
 use Rattle.std.specs.Prelude.{◌≡◌, ◌≢◌, ◌⊎◌, ℕ, List, [], ◌∷◌, ◌++◌, map, codes}
-use Rattle.std.specs.List.{AllByRecursion as Each, Contains}
-use Rattle.std.specs.Char.{to_ascii_lowercase}
-use Rattle.texting_robots.specs.declared.parser.statement.Kind.{Kind}
-use Rattle.texting_robots.specs.declared.parser.statement.Kind.TheVariants.{UserAgent, Allow, Disallow, Sitemap, CrawlDelay}
-use Rattle.texting_robots.specs.Trim.{IsTrimOf}
+use Rattle.std.specs.{Char.to_ascii_lowercase, List.AllByRecursion as Each, List.Contains}
+use Rattle.texting_robots.specs.{Trim.IsTrimOf, declared.parser.statement.Kind.Kind}
+use Rattle.texting_robots.specs.declared.parser.statement.Kind.TheVariants.{UserAgent, Allow}
+use Rattle.texting_robots.specs.declared.parser.statement.Kind.TheVariants.{Disallow, Sitemap, CrawlDelay}
 
 abbrev pub space : ℕ
 space = 32
@@ -22,7 +21,9 @@ hash = 35
 abbrev pub spellings : Kind → List (List ℕ)
 spellings UserAgent = codes "user-agent" ∷ codes "user agent" ∷ codes "useragent" ∷ []
 spellings Allow = codes "allow" ∷ []
-spellings Disallow = codes "disallow" ∷ codes "dissallow" ∷ codes "dissalow" ∷ codes "disalow" ∷ codes "diasllow" ∷ codes "disallaw" ∷ []
+spellings Disallow =
+    codes "disallow" ∷ codes "dissallow" ∷ codes "dissalow" ∷ codes "disalow" ∷ codes "diasllow"
+    ∷ codes "disallaw" ∷ []
 spellings Sitemap = codes "sitemap" ∷ codes "site-map" ∷ codes "site map" ∷ []
 spellings CrawlDelay = codes "crawl-delay" ∷ codes "crawl delay" ∷ codes "crawldelay" ∷ []
 
@@ -33,17 +34,17 @@ IsBlank byte = (byte ≡ space) ⊎ (byte ≡ tab)
 abbrev pub IsKey : Kind → List ℕ → Type 0
 IsKey kind key = Contains (spellings kind) (map to_ascii_lowercase key)
 
--- the rest is blanks, a colon and the tail
-abbrev pub IsColonAnd : List ℕ → List ℕ → Type 0
-IsColonAnd tail rest = (blanks : List ℕ) × Each IsBlank blanks × (rest ≡ blanks ++ colon ∷ tail)
+-- neither a blank nor a colon stands first
+abbrev pub BeginsPlain : List ℕ → Type 0
+BeginsPlain [] = Unit {0}
+BeginsPlain (byte ∷ text) = (¬ IsBlank byte) × (byte ≢ colon)
 
--- the rest is one or more blanks and the tail
-abbrev pub IsBlanksAnd : List ℕ → List ℕ → Type 0
-IsBlanksAnd tail rest = (blank : ℕ) × (blanks : List ℕ) × Each IsBlank (blank ∷ blanks) × (rest ≡ blank ∷ (blanks ++ tail))
-
--- the tail is what follows the separator that the rest begins with: a colon, or else blanks
+-- the rest is blanks and the tail; between the two stands a colon, or the blanks alone separate
 abbrev pub IsTailOf : List ℕ → List ℕ → Type 0
-IsTailOf tail rest = IsColonAnd tail rest ⊎ (((other : List ℕ) → ¬ IsColonAnd other rest) × IsBlanksAnd tail rest)
+IsTailOf tail rest =
+    (blanks : List ℕ) × Each IsBlank blanks
+    × ((rest ≡ blanks ++ colon ∷ tail)
+    ⊎ ((rest ≡ blanks ++ tail) × (blanks ≢ []) × BeginsPlain tail))
 
 -- nothing, or a hash and anything
 abbrev pub IsComment : List ℕ → Type 0

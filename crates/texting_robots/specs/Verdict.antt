@@ -1,7 +1,6 @@
 -- The verdict of rules on a text.
 use Rattle.std.specs.Prelude.{◌≢◌, ℕ, ◌<◌, Bool, true, false, List, length, codes, Contains}
-use Rattle.texting_robots.specs.Pattern.{Matches}
-use Rattle.texting_robots.specs.Rules.{Rule}
+use Rattle.texting_robots.specs.{Pattern.Matches, Rules.Rule}
 
 abbrev pub robots_file : List ℕ
 robots_file = codes "/robots.txt"

@@ -40,8 +40,8 @@ pub fn raw_changes_nothing()
 /// Site owners rely on it: a line for one crawler reaches no other.
 pub fn uncaptured_reaches_nothing()
     ensures { (agent : List ℕ) (front back : List LineValue) (line other : LineValue) → IsSameKind line other
-        → ¬ IsCaptured (group_name agent (front ++ line ∷ back)) (front ++ line ∷ back) (length front)
-        → Same agent (front ++ line ∷ back) agent (front ++ other ∷ back) }
+        → (let lines = front ++ line ∷ back in ¬ IsCaptured (group_name agent lines) lines (length front)
+        → Same agent lines agent (front ++ other ∷ back)) }
 {}
 
 /// Sitemap lines change the sitemaps alone, and these are the same for every agent.

@@ -112,9 +112,10 @@ low_colon blanks text all =
 
 -- what stands behind a key stops it
 tail_stops : (tail rest : List ℕ) → IsTailOf tail rest → Stops (low rest)
-tail_stops tail rest (inl (blanks, all, whole)) =
+tail_stops tail rest (blanks, all, inl whole) =
     subst Stops (sym (ap low whole ∙ low_colon blanks tail all)) (colon_stops blanks (low tail) all)
-tail_stops tail rest (inr (none, (b, blanks, all, whole))) =
+tail_stops tail rest ([], all, inr (whole, some, plain)) = absurd (some refl)
+tail_stops tail rest (b ∷ blanks, all, inr (whole, some, plain)) =
     subst Stops (sym (ap low whole))
     (λ letter. blank_no_identifier b all.0 (subst rfc.IsIdentifierByte (low_blank b all.0) letter))
 

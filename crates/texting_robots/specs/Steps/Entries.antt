@@ -1,5 +1,6 @@
 -- Rules by their ranges of shared vectors.
-use Rattle.std.specs.Prelude.{◌≡◌, ℕ, ◌-◌, ◌<◌, ◌≤◌, Bool, true, false, List, All, length, map, slice_index_or, string_bytes}
+use Rattle.std.specs.Prelude.{◌≡◌, ℕ, ◌-◌, ◌<◌, ◌≤◌, Bool, true}
+use Rattle.std.specs.Prelude.{false, List, All, length, map, slice_index_or, string_bytes}
 use Rattle.std.specs.Ordering.{bool_cmp, flip_args, nat_cmp, on, then_cmp}
 use Rattle.std.specs.declared.cmp.Ordering.{Ordering}
 use Rattle.texting_robots.specs.declared.pieces.Span.{Span}
@@ -49,13 +50,15 @@ line_of entry = entry.line
 
 -- which of two is asked first
 abbrev pub entry_cmp : Entry → Entry → Ordering
-entry_cmp = then_cmp (then_cmp (flip_args (on len_of nat_cmp)) (flip_args (on allows bool_cmp))) (on line_of nat_cmp)
+entry_cmp = then_cmp (then_cmp (flip_args (on len_of nat_cmp)) (flip_args (on allows bool_cmp)))
+    (on line_of nat_cmp)
 
 -- the longer goes first, of two as long an Allow before a Disallow, and then the earlier line
 pub record GoesBefore (first second : Entry) : Type 0 where
   pub longer : len_of second ≤ len_of first
   pub allows : len_of second ≡ len_of first → second.is_allow ≡ true → first.is_allow ≡ true
-  pub earlier : len_of second ≡ len_of first → second.is_allow ≡ first.is_allow → first.line ≤ second.line
+  pub earlier : len_of second ≡ len_of first → second.is_allow ≡ first.is_allow
+      → first.line ≤ second.line
 
 -- ---- which rule matches first
 
@@ -83,4 +86,5 @@ NoneMatches all text = (k : ℕ) → k < length all.entries.items → ¬ Matches
 -- the rule at this place matches the text, and none before it does
 abbrev pub IsFirstMatch : Gathered → List ℕ → ℕ → Type 0
 IsFirstMatch all text at =
-    (at < length all.entries.items) × MatchesAt all at text × ((k : ℕ) → k < at → ¬ MatchesAt all k text)
+    (at < length all.entries.items) × MatchesAt all at text
+    × ((k : ℕ) → k < at → ¬ MatchesAt all k text)

@@ -1,5 +1,6 @@
 -- The code's walk along the lines.
-use Rattle.std.specs.Prelude.{ℕ, ◌+◌, false, not, ◌&&◌, ◌||◌, List, [], ◌∷◌, if◌then◌else◌}
+use Rattle.std.specs.Prelude.{ℕ, ◌+◌, false, not, ◌&&◌, ◌||◌}
+use Rattle.std.specs.Prelude.{List, [], ◌∷◌, if◌then◌else◌}
 use Rattle.std.specs.List.{list_any}
 use Rattle.texting_robots.specs.declared.groups.Walk.{Walk}
 use Rattle.texting_robots.specs.Group.{Mark, is_agent, is_group, is_agent_named}

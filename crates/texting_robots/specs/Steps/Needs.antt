@@ -1,5 +1,6 @@
 -- What a text needs so that a pattern can match it.
-use Rattle.std.specs.Prelude.{◌≡◌, ℕ, ◌+◌, ◌*◌, ◌-◌, ◌%◌, ◌^◌, List, [], ◌∷◌, Option, IfSome, bit_and, bit_or, length, min}
+use Rattle.std.specs.Prelude.{◌≡◌, ℕ, ◌+◌, ◌*◌, ◌-◌, ◌%◌, ◌^◌, List}
+use Rattle.std.specs.Prelude.{[], ◌∷◌, Option, IfSome, bit_and, bit_or, length, min}
 use Rattle.std.specs.Int.{w64, from_le_bytes}
 use Rattle.texting_robots.specs.declared.needs.Needs.{Needs}
 use Rattle.texting_robots.specs.declared.needs.head.Head.{Head}

@@ -1,6 +1,6 @@
 -- What the parts of a cut pattern stand for, by what is left of the pattern behind each.
-use Rattle.std.specs.Prelude.{◌≡◌, ◌↔◌, ℕ, ◌+◌, ◌≤◌, ◌==◌, ◌||◌, Bool, true, false}
-use Rattle.std.specs.Prelude.{List, [], ◌∷◌, ◌++◌, All, drop, length, slice_range, take}
+use Rattle.std.specs.Prelude.{◌≡◌, ◌↔◌, ℕ, ◌+◌, ◌≤◌, ◌==◌, ◌||◌, Bool, true}
+use Rattle.std.specs.Prelude.{false, List, [], ◌∷◌, ◌++◌, All, drop, length, slice_range, take}
 use Rattle.std.specs.List.{prefix_len}
 use Rattle.texting_robots.specs.declared.pieces.Span.{Span}
 use Rattle.texting_robots.specs.declared.pieces.Piece.{Piece}
@@ -89,7 +89,8 @@ AreLeft pattern ending (piece ∷ pieces) left =
     (rest : List ℕ) × IsLeft left (part_of pattern piece.span) rest × AreLeft pattern ending pieces rest
 
 -- the pattern is its first piece, these pieces with their tables, and its ending
-pub record ArePieces (pattern : List ℕ) (ends : Ends) (pieces : List Piece) (borders : List ℕ) : Type 0 where
+pub record ArePieces (pattern : List ℕ) (ends : Ends) (pieces : List Piece)
+    (borders : List ℕ) : Type 0 where
   pub first : ends.first_len ≤ length pattern
   pub known : All (IsPiece pattern borders) pieces
   pub ending : IsEnding pattern ends.ending

@@ -1,5 +1,6 @@
 -- A pattern cut at its first star, and where a piece first stands in a text.
-use Rattle.std.specs.Prelude.{◌≡◌, ◌≢◌, List, ℕ, Option, Some, None, All, [], ◌∷◌, ◌++◌}
+use Rattle.std.specs.Prelude.{◌≡◌, ◌≢◌, List, ℕ, Option}
+use Rattle.std.specs.Prelude.{Some, None, All, [], ◌∷◌, ◌++◌}
 use Rattle.std.specs.Borrow.{Bor}
 use Rattle.texting_robots.specs.Pattern.{IsSuffix, star}
 

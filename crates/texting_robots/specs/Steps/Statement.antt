@@ -1,11 +1,13 @@
 -- The statement of a body, computed from its front.
-use Rattle.std.specs.Prelude.{ℕ, ◌==◌, ◌||◌, Bool, nat_lt, List, [], ◌∷◌, map, length, take, drop, Option, Some, None, option_map, option_and_then, if◌then◌else◌}
+use Rattle.std.specs.Prelude.{ℕ, ◌==◌, ◌||◌, Bool, nat_lt, List, [], ◌∷◌, map, length, take}
+use Rattle.std.specs.Prelude.{drop, Option, Some, None, option_map, option_and_then, if◌then◌else◌}
 use Rattle.std.specs.List.{before_first}
 use Rattle.std.specs.Char.{to_ascii_lowercase, is_whitespace}
 use Rattle.std.specs.Str.{bytes_eq}
 use Rattle.bstr.specs.Trim.{trim_start_by, trim_end_by}
 use Rattle.texting_robots.specs.declared.parser.statement.Kind.{Kind}
-use Rattle.texting_robots.specs.declared.parser.statement.Kind.TheVariants.{UserAgent, Allow, Disallow, Sitemap, CrawlDelay}
+use Rattle.texting_robots.specs.declared.parser.statement.Kind.TheVariants.{UserAgent, Allow, Disallow}
+use Rattle.texting_robots.specs.declared.parser.statement.Kind.TheVariants.{Sitemap, CrawlDelay}
 use Rattle.texting_robots.specs.Statement.{spellings, space, tab, colon, hash}
 
 -- the text from its first byte that is no blank on
@@ -34,14 +36,16 @@ begins spelling text = bytes_eq (map to_ascii_lowercase (take (length spelling) 
 -- what follows the first of these spellings that the text begins with
 abbrev pub after_any : List (List ℕ) → List ℕ → Option (List ℕ)
 after_any [] text = None
-after_any (spelling ∷ spellings) text = if begins spelling text then Some (drop (length spelling) text) else after_any spellings text
+after_any (spelling ∷ spellings) text =
+    if begins spelling text then Some (drop (length spelling) text) else after_any spellings text
 
 abbrev pub after_blanks : List ℕ → List ℕ → Option (List ℕ)
 after_blanks rest after = if nat_lt (length after) (length rest) then Some after else None
 
 abbrev pub after_separator : List ℕ → List ℕ → Option (List ℕ)
 after_separator rest [] = after_blanks rest []
-after_separator rest (byte ∷ after) = if byte == colon then Some (skip_blanks after) else after_blanks rest (byte ∷ after)
+after_separator rest (byte ∷ after) =
+    if byte == colon then Some (skip_blanks after) else after_blanks rest (byte ∷ after)
 
 -- what follows the separator that the rest begins with, and the blanks behind it
 abbrev pub tail_of : List ℕ → Option (List ℕ)
@@ -64,7 +68,9 @@ tail_as kind text = option_and_then tail_of (after_any (spellings kind) text)
 
 -- the kind and the tail of a body, if it is a statement
 abbrev pub parts_of : List ℕ → Option (Kind × List ℕ)
-parts_of body = option_and_then (λ kind. option_map (λ tail. (kind, tail)) (tail_as kind (skip_blanks body))) (kind_by (skip_blanks body))
+parts_of body = option_and_then
+    (λ kind. option_map (λ tail. (kind, tail)) (tail_as kind (skip_blanks body)))
+    (kind_by (skip_blanks body))
 
 -- the kind and the value of a body, if it is a statement
 unfoldable pub statement_of : List ℕ → Option (Kind × List ℕ)

@@ -1,7 +1,14 @@
-use Rattle.std.proofs.Common.{refl}
+use Rattle.std.proofs.Common.{List, None, ap, cond, refl, sym}
+use Rattle.std.specs.List.{filter_map, last_or, list_any}
+use Rattle.texting_robots.specs.Group.{is_agent}
+use Rattle.texting_robots.specs.Line.{LineValue, delay_in}
+use Rattle.texting_robots.proofs.RulesLemmas.{before_agents}
 use Rattle.texting_robots.proofs.groups.group_for.Goals as goal
 
 pub loop-line-init : goal.loop-line-init
 loop-line-init c =
+    let lines = c.args.lines in
+    let last = λ (front : List LineValue). cond (list_any is_agent lines)
+    (last_or None (filter_map delay_in front)) None in
     rw c.into_iter-line-iterator.ensures.into_iter_gives
-    (record { named = refl; agents = refl; stray = refl })
+    (record { named = refl; agents = refl; stray = ap last (sym (before_agents lines)) })
