@@ -3,7 +3,7 @@ use Rattle.std.proofs.Common.{◌≡◌, ◌≤◌, ◌⊎◌, inl, inr, ℕ, ze
 use Rattle.std.proofs.Common.{◌+◌, ◌<◌, nat_lt, Bool, true, false, not, ◌&&◌}
 use Rattle.std.proofs.Common.{◌||◌, List, [], ◌∷◌, Option, Some, None, slice_get}
 use Rattle.std.proofs.Common.{drop, cond, add-one, map, ap, sym, refl, ◌∙◌, arith}
-use Rattle.std.specs.Prelude.{IsTrue}
+use Rattle.std.specs.Prelude.{IsTrue, filter}
 use Rattle.std.specs.Bool.{Decides}
 use Rattle.std.proofs.Math.Bool.{and-true, and-false, or-false}
 use Rattle.std.specs.List.{list_any, cons_option, filter_map, enumerate_from}
@@ -13,12 +13,13 @@ use Rattle.std.proofs.lemmas.Bool.{cases_Bool, or_cases, or_left, or_right, and_
 use Rattle.std.proofs.lemmas.Bool.{and_right, le-ltb, lt-ltb, false≢true}
 use Rattle.texting_robots.specs.declared.groups.Walk.{Walk}
 use Rattle.texting_robots.specs.Line.{LineValue, UserAgent}
-use Rattle.texting_robots.specs.Group.{IsCaptured, Mark, group_name}
-use Rattle.texting_robots.specs.Group.{in_captured, is_agent, is_captured, is_group}
-use Rattle.texting_robots.specs.Group.{marks_of, is_agent_named, passes_at, some_below}
-use Rattle.texting_robots.specs.Rules.{PlacedRule, Rule, placed, rule_at, rule_in, rules_for}
-use Rattle.texting_robots.specs.Rules.{sitemap_at, sitemap_in, sitemaps_in, unplaced}
-use Rattle.texting_robots.specs.Steps.Group.{start_of, step, marks_from}
+use Rattle.texting_robots.specs.Group.{IsCaptured, group_name, is_agent, is_agent_named, is_captured}
+use Rattle.texting_robots.specs.Group.{is_group, passes_at, some_below}
+use Rattle.texting_robots.specs.Line.{delay_in}
+use Rattle.texting_robots.specs.Rules.{PlacedRule, Rule, captured_delays, placed_in, placed_rules}
+use Rattle.texting_robots.specs.Rules.{rule_in, rules_for, sitemap_in, sitemaps_in, unplaced}
+use Rattle.texting_robots.specs.Steps.Group.{Mark, in_captured, marks_from, marks_of, placed, rule_at}
+use Rattle.texting_robots.specs.Steps.Group.{sitemap_at, start_of, step}
 
 -- ---- tests of places: of agent lines, group lines and agent lines of the name
 
@@ -280,9 +281,40 @@ abbrev pub from_captured : {X : Type 0} → (LineValue → Option X) → List �
     → List LineValue → List X
 from_captured given name lines = filter_map (in_captured given) (marks_of name lines)
 
+-- what is found in the captured lines is found in the marked ones
+found_marked : {X : Type 0} (at : Mark → Option X) (of : ℕ × LineValue → Option X)
+    (test : ℕ → Bool)
+    → ((p : ℕ × LineValue) → at (by_test test p) ≡ cond (test p.0) (of p) None)
+    → (ps : List (ℕ × LineValue))
+    → filter_map of (filter (λ p. test p.0) ps) ≡ filter_map at (map (by_test test) ps)
+found_marked at of test same [] = refl
+found_marked at of test same (p ∷ ps) = elim (cases_Bool (test p.0)) [
+  | inl is ↦ rw (same p, is) (ap (λ found. cons_option (of p) found) (found_marked at of test same ps))
+  | inr isnt ↦ rw (same p, isnt) (found_marked at of test same ps)
+]
+
+placed_under : (number : ℕ) (captured : Bool) (found : Option Rule)
+    → placed number (cond captured found None) ≡ cond captured (placed number found) None
+placed_under number true found = refl
+placed_under number false found = refl
+
+pub rules_marked : (agent : List ℕ) (lines : List LineValue)
+    → placed_rules agent lines ≡ filter_map rule_at (marks_of (group_name agent lines) lines)
+rules_marked agent lines =
+    let test = is_captured (group_name agent lines) lines in
+    found_marked rule_at placed_in test (λ p. placed_under (p.0 + 1) (test p.0) (rule_in p.1))
+    (enumerate_from 0 lines)
+
+pub delays_marked : (agent : List ℕ) (lines : List LineValue)
+    → captured_delays agent lines ≡ from_captured delay_in (group_name agent lines) lines
+delays_marked agent lines =
+    found_marked (in_captured delay_in) (λ p. delay_in p.1) (is_captured (group_name agent lines) lines)
+    (λ p. refl) (enumerate_from 0 lines)
+
 pub rules_are : (agent : List ℕ) (lines : List LineValue)
     → rules_for agent lines ≡ from_captured rule_in (group_name agent lines) lines
-rules_are agent lines = unplaced_found (marks_of (group_name agent lines) lines)
+rules_are agent lines =
+    ap unplaced (rules_marked agent lines) ∙ unplaced_found (marks_of (group_name agent lines) lines)
 
 sitemaps_from : (test : ℕ → Bool) (n : ℕ) (lines : List LineValue)
     → sitemaps_in lines ≡ filter_map sitemap_at (map (by_test test) (enumerate_from n lines))

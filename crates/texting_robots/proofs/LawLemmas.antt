@@ -10,15 +10,15 @@ use Rattle.texting_robots.specs.declared.groups.Walk.{Walk}
 use Rattle.texting_robots.specs.Line.{LineValue, UserAgent, Allow, Disallow, Sitemap, CrawlDelay, Raw}
 use Rattle.texting_robots.specs.Line.{delay_in, is_raw, is_sitemap}
 use Rattle.texting_robots.specs.Group.{group_name, is_agent}
-use Rattle.texting_robots.specs.Group.{is_agent_named, is_group, marks_of}
-use Rattle.texting_robots.specs.Rules.{Rule, delay_before_agents, delay_for, rule_at}
+use Rattle.texting_robots.specs.Group.{captured_lines, is_agent_named, is_group}
+use Rattle.texting_robots.specs.Rules.{Rule, delay_before_agents, delay_for, placed_in}
 use Rattle.texting_robots.specs.Rules.{rule_in, rules_for, sitemap_in, sitemaps_in, unplaced}
 use Rattle.texting_robots.specs.Pattern.{IsOverlong}
 use Rattle.texting_robots.specs.Verdict.{IsVerdict}
 use Rattle.texting_robots.specs.Steps.Group.{start_of, step}
 use Rattle.texting_robots.specs.Laws.{IsSameKind, Same, SameButSitemaps}
 use Rattle.texting_robots.proofs.CapturedLemmas.{Stands, at_front, caught, caught_all, from_captured}
-use Rattle.texting_robots.proofs.CapturedLemmas.{is_captured_decides}
+use Rattle.texting_robots.proofs.CapturedLemmas.{delays_marked, is_captured_decides}
 use Rattle.texting_robots.proofs.RulesLemmas.{before_agent, before_agents}
 use Rattle.texting_robots.proofs.CapturedLemmas.{only_agents, rules_are, stands_first, stands_next}
 use Rattle.texting_robots.specs.Group.{IsCaptured}
@@ -172,7 +172,15 @@ module _ (agent : List ℕ) (lines others : List LineValue)
       let delays = captured_like delay_in (λ line is. no_delay line is.group) in
       same_from agent lines agent others
       (rules_are agent lines ∙ rules ∙ sym (rules_are agent others))
-      (rw (delays, before_agents lines, before_agents others, before_like like, agents_like) refl)
+      (rw (
+        delays_marked agent lines,
+        delays_marked agent others,
+        delays,
+        before_agents lines,
+        before_agents others,
+        before_like like,
+        agents_like,
+      ) refl)
 
 -- ---- lines that are left out
 
@@ -262,10 +270,11 @@ pub agent_case : (agent other : List ℕ) (lines : List LineValue)
 agent_case agent other lines same =
     let low = λ (n : List ℕ). cond (list_any (is_agent_named n) lines) n (codes "*") in
     let name : group_name agent lines ≡ group_name other lines = ap low same in
+    let delays = λ (n : List ℕ). filter_map (λ p. delay_in p.1) (captured_lines n lines) in
     let stray = delay_before_agents lines in (
       same_from agent lines other lines
-          (ap (λ n. unplaced (filter_map rule_at (marks_of n lines))) name)
-          (ap (λ n. option_or (slice_get (from_captured delay_in n lines) 0) stray) name),
+          (ap (λ n. unplaced (filter_map placed_in (captured_lines n lines))) name)
+          (ap (λ n. option_or (slice_get (delays n) 0) stray) name),
       refl,
     )
 

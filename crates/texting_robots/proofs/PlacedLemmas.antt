@@ -3,13 +3,17 @@ use Rattle.std.proofs.Common.{◌≡◌, ℕ, zero, suc, ◌+◌, Bool, true, fa
 use Rattle.std.proofs.Common.{cond, List, [], ◌∷◌, Option, Some, None, map}
 use Rattle.std.proofs.Common.{slice_get, refl, sym, ap, ◌∙◌, arith, zero-add}
 use Rattle.std.specs.List.{Contains, cons_option, enumerate_from, filter_map}
+use Rattle.std.specs.Prelude.{filter}
+use Rattle.std.proofs.Common.{inl, inr}
+use Rattle.std.proofs.lemmas.Bool.{cases_Bool}
 use Rattle.std.specs.Str.{is_utf8}
 use Rattle.texting_robots.specs.Escape.{escaped}
-use Rattle.texting_robots.specs.Group.{Mark, group_name, is_captured, marks_of}
+use Rattle.texting_robots.specs.Group.{captured_lines, group_name, is_captured}
 use Rattle.texting_robots.specs.Laws.{HoldsRule}
 use Rattle.texting_robots.specs.Line.{LineValue, UserAgent, Allow, Disallow, Sitemap, CrawlDelay, Raw}
-use Rattle.texting_robots.specs.Rules.{PlacedRule, placed, placed_rules, rule_at, rule_in}
-use Rattle.texting_robots.proofs.CapturedLemmas.{by_test, is_captured_decides}
+use Rattle.texting_robots.specs.Rules.{PlacedRule, placed_in, placed_rules, rule_in}
+use Rattle.texting_robots.specs.Steps.Group.{placed}
+use Rattle.texting_robots.proofs.CapturedLemmas.{is_captured_decides}
 use Rattle.texting_robots.specs.Decision.{Decides, IsDecidingLine}
 
 -- what is found in a list comes from one of its elements
@@ -35,31 +39,37 @@ found_in : {X Y : Type 0} (f : X → Option Y) (xs : List X) (y : Y) → Contain
 found_in f [] y (k, below, at) = absurd (omega arith)
 found_in f (x ∷ xs) y has = from_first f x xs y (f x) refl (found_in f xs y) has
 
--- the line at a place, marked
-record IsMarkAt (test : ℕ → Bool) (start : ℕ) (lines : List LineValue) (mark : Mark) : Type 0 where
-  place : ℕ
-  line : LineValue
-  at : slice_get lines place ≡ Some line
-  is : mark ≡ by_test test (start + place, line)
+-- what is left by a filter passes its test, and stood in the list
+among_filtered : {X : Type 0} (test : X → Bool) (xs : List X) (x : X) → Contains (filter test xs) x
+    → (test x ≡ true) × Contains xs x
+among_filtered test [] x (k, below, at) = absurd (omega arith)
+among_filtered {X} test (y ∷ xs) x has = elim (cases_Bool (test y)) [
+  | inl is ↦ kept is (among_filtered test xs x) (rw is at has)
+  | inr isnt ↦ later (among_filtered test xs x (rw isnt at has))
+]
+  where
+    later : (test x ≡ true) × Contains xs x → (test x ≡ true) × Contains (y ∷ xs) x
+    later (passes, (k, below, here)) = (passes, (suc k, omega arith, here))
 
-mark_at : (test : ℕ → Bool) (start : ℕ) (lines : List LineValue) (mark : Mark)
-    → Contains (map (by_test test) (enumerate_from start lines)) mark → IsMarkAt test start lines mark
-mark_at test start [] mark (k, below, at) = absurd (omega arith)
-mark_at test start (line ∷ lines) mark (zero, below, at) =
-    record {
-      place = 0;
-      line = line;
-      at = refl;
-      is = sym at ∙ ap (λ n. by_test test (n, line)) (omega arith);
-    }
-mark_at test start (line ∷ lines) mark (suc k, below, at) =
-    let later = mark_at test (start + 1) lines mark (k, omega arith, at) in
-    record {
-      place = suc later.place;
-      line = later.line;
-      at = later.at;
-      is = later.is ∙ ap (λ n. by_test test (n, later.line)) (omega arith);
-    }
+    kept : test y ≡ true → (Contains (filter test xs) x → (test x ≡ true) × Contains xs x)
+        → Contains (y ∷ filter test xs) x → (test x ≡ true) × Contains (y ∷ xs) x
+    kept is rest (zero, below, here) = (ap test (sym here) ∙ is, (0, omega arith, here))
+    kept is rest (suc k, below, here) = later (rest (k, omega arith, here))
+
+-- a line among the numbered ones stands at its place
+record IsAt (start : ℕ) (lines : List LineValue) (p : ℕ × LineValue) : Type 0 where
+  place : ℕ
+  at : slice_get lines place ≡ Some p.1
+  is : p.0 ≡ start + place
+
+stands_at : (start : ℕ) (lines : List LineValue) (p : ℕ × LineValue)
+    → Contains (enumerate_from start lines) p → IsAt start lines p
+stands_at start [] p (k, below, at) = absurd (omega arith)
+stands_at start (line ∷ lines) p (zero, below, at) =
+    record { place = 0; at = ap (λ p. Some p.1) at; is = sym (ap (λ p. p.0) at) ∙ omega arith }
+stands_at start (line ∷ lines) p (suc k, below, at) =
+    let later = stands_at (start + 1) lines p (k, omega arith, at) in
+    record { place = suc later.place; at = later.at; is = later.is ∙ omega arith }
 
 -- the line gives the rule, and the rule has this number
 record Gives (number : ℕ) (line : LineValue) (found : PlacedRule) : Type 0 where
@@ -94,26 +104,22 @@ line_gives number (CrawlDelay delay) found is =
 line_gives number (Raw body) found is =
     absurd (let k : ◌≡◌ {A = Option PlacedRule} None (Some found) = is in cc)
 
-captured_gives : (captured : Bool) (number : ℕ) (line : LineValue) (found : PlacedRule)
-    → placed number (cond captured (rule_in line) None) ≡ Some found → (captured ≡ true)
-    × Gives number line found
-captured_gives true number line found is = (refl, line_gives number line found is)
-captured_gives false number line found is =
-    absurd (let wrong : ◌≡◌ {A = Option PlacedRule} None (Some found) = is in cc)
-
 -- each rule stands on its line
 pub rule_on_line : (agent : List ℕ) (lines : List LineValue) (found : PlacedRule)
     → Contains (placed_rules agent lines) found → HoldsRule agent lines found.line found.rule
 rule_on_line agent lines found has =
     let name = group_name agent lines in
-    let (mark, there, is) = found_in rule_at (marks_of name lines) found has in
-    let at = mark_at (is_captured name lines) 0 lines mark there in
-    let (captured, gives) = captured_gives _ _ at.line found (rw at.is at is) in
+    let (p, there, is) = found_in placed_in (captured_lines name lines) found has in
+    let (captured, listed) =
+    among_filtered (λ p. is_captured name lines p.0) (enumerate_from 0 lines) p there in
+    let at = stands_at 0 lines p listed in
+    let gives = line_gives (p.0 + 1) p.1 found is in
+    let here : p.0 ≡ at.place = at.is ∙ zero-add at.place in
     record {
       place = at.place;
       value = gives.value;
-      is_number = gives.is_number ∙ omega arith;
-      captured = (is_captured_decides name lines at.place).0 (rw zero-add at captured);
+      is_number = gives.is_number ∙ ap (λ n. n + 1) here;
+      captured = (is_captured_decides name lines at.place).0 (rw here at captured);
       line = at.at ∙ ap (λ l. Some l) gives.is_line;
       utf8 = gives.utf8;
       pattern = gives.pattern;

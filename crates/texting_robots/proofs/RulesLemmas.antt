@@ -1,7 +1,7 @@
 -- What the code's loops keep.
-use Rattle.std.proofs.Common.{◌≡◌, ℕ, false, cond, List, [], ◌∷◌, ◌++◌, Option}
-use Rattle.std.proofs.Common.{Some, None, length, slice_get, Result, Ok, Err, IfErr, append_assoc}
-use Rattle.std.proofs.Common.{length-append, subst, sym, refl, ap, ◌∙◌, arith, suc, take, ◌+◌, inl, inr}
+use Rattle.std.proofs.Common.{◌≡◌, ℕ, false, cond, List, [], ◌∷◌, ◌++◌, Option, Some}
+use Rattle.std.proofs.Common.{None, length, slice_get, Result, Ok, Err, IfErr, append_assoc, length-append}
+use Rattle.std.proofs.Common.{subst, sym, refl, ap, ◌∙◌, arith, suc, take, ◌+◌, inl, inr}
 use Rattle.std.specs.List.{All, Any, before_first, cons_option, filter_map, last_or, list_any}
 use Rattle.std.specs.Option.{option_to_list, option_or, IfSome, IsSomeAnd}
 use Rattle.std.specs.Result.{IsErrAnd}

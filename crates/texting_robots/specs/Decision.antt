@@ -10,8 +10,7 @@ pub record IsLongestMatch (rules : List PlacedRule) (text : List ℕ) (placed : 
   pub longest : (other : PlacedRule) → Contains rules other → Matches other.rule.0 text
       → length other.rule.0 ≤ length placed.rule.0
 
--- it is the first Allow among the longest rules that match, or the first Disallow where no Allow is among
--- them
+-- the first Allow among the longest rules that match, or the first Disallow where no Allow is among them
 pub record Decides (rules : List PlacedRule) (text : List ℕ) (placed : PlacedRule) : Type 0 where
   pub is_longest : IsLongestMatch rules text placed
   pub allows : (other : PlacedRule) → IsLongestMatch rules text other → other.rule.1 ≡ true

@@ -1,9 +1,8 @@
 -- Which lines are captured for an agent, by their places in a file.
 use Rattle.std.specs.Prelude.{◌⊎◌, ℕ, zero, suc, ◌+◌, ◌<◌, nat_lt, Bool, true, false, not}
-use Rattle.std.specs.Prelude.{◌&&◌, ◌||◌, List, Option, None, IsTrue, codes, map, slice_get, bytes_eq}
+use Rattle.std.specs.Prelude.{◌&&◌, ◌||◌, List, IsTrue, codes, filter, slice_get, bytes_eq}
 use Rattle.std.specs.{List.list_any, List.enumerate_from, Option.option_map_or}
 use Rattle.std.specs.{Str.str_to_ascii_lowercase, Prelude.if◌then◌else◌}
-use Rattle.texting_robots.specs.declared.groups.Marked.{Marked}
 use Rattle.texting_robots.specs.Line.{Allow, CrawlDelay, Disallow, LineValue, UserAgent}
 
 -- ---- what groups ask of a line
@@ -70,23 +69,8 @@ is_captured name lines i =
     not (list_any is_agent lines)
     || some_below (λ j. passes_at (is_agent_named name) lines j && not (has_new_run lines j i)) i
 
--- ---- the lines one by one
+-- ---- captured lines as a list
 
--- a line with its number, counted from 1, and whether a group line there is captured
-pub record Mark : Type 0 where
-  pub number : ℕ
-  pub captured : Bool
-  pub line : LineValue
-
-abbrev pub mark_of : Marked → Mark
-mark_of marked = record { number = marked.number; captured = marked.is_captured; line = marked.line }
-
--- all lines, in order
-abbrev pub marks_of : List ℕ → List LineValue → List Mark
-marks_of name lines =
-    map (λ p. record { number = p.0 + 1; captured = is_captured name lines p.0; line = p.1 })
-    (enumerate_from 0 lines)
-
--- what `given` finds in the line, if it is captured
-abbrev pub in_captured : {X : Type 0} → (LineValue → Option X) → Mark → Option X
-in_captured given mark = if mark.captured then given mark.line else None
+-- the captured lines, in order, each with its place, counted from 0
+abbrev pub captured_lines : List ℕ → List LineValue → List (ℕ × LineValue)
+captured_lines name lines = filter (λ p. is_captured name lines p.0) (enumerate_from 0 lines)

@@ -52,8 +52,7 @@ abbrev pub without : ℕ → List ℕ → List ℕ
 without byte [] = []
 without byte (first ∷ text) = if first == byte then text else first ∷ text
 
--- the text without EF where it begins with it, then without BB, then without BF, each where it then stands
--- first
+-- the text without EF where that stands first, then without BB, then without BF, each where it then does
 abbrev pub without_front : List ℕ → List ℕ
 without_front text = without 0xBF (without 0xBB (without 0xEF text))
 
@@ -77,8 +76,7 @@ AreFileLinesOf lines text = AreLinesOf lines (map nul_as_lf text)
 abbrev pub IsRangeOf : List ℕ → List ℕ → Type 0
 IsRangeOf value body = (before : List ℕ) × (after : List ℕ) × (body ≡ before ++ (value ++ after))
 
--- the bytes that the line holds are a range of the body, or the slash of an empty Disallow, and a delay is a
--- number
+-- what the line holds is a range of the body, or the slash of an empty Disallow; a delay is a number
 abbrev pub HoldsRangeOf : LineValue → List ℕ → Type 0
 HoldsRangeOf (UserAgent value) body = IsRangeOf value body
 HoldsRangeOf (Allow value) body =
@@ -89,8 +87,7 @@ HoldsRangeOf (CrawlDelay None) body = ⊥
 HoldsRangeOf (CrawlDelay (Some delay)) body = Unit {0}
 HoldsRangeOf (Raw value) body = value ≡ body
 
--- each line holds a range of its body, and the bodies and ends of the cut, in order, are the text from some
--- place on
+-- each line holds a range of its body, and the pairs of the cut, joined, are the text from some place on
 pub record HoldRangesOf (lines : List LineValue) (text : List ℕ) : Type 0 where
   pub taken : List ℕ
   pub pairs : List Pair

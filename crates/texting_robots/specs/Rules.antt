@@ -1,10 +1,10 @@
 -- What an agent gets of a file.
-use Rattle.std.specs.Prelude.{◌≡◌, ℕ, Bool, true, false, List, [], Option, Some, None, slice_get, Any}
-use Rattle.std.specs.Prelude.{map, option_map, if◌then◌else◌}
+use Rattle.std.specs.Prelude.{◌≡◌, ◌+◌, ℕ, Bool, true, false, List, [], Option}
+use Rattle.std.specs.Prelude.{Some, None, slice_get, Any, map, option_map, if◌then◌else◌}
 use Rattle.std.specs.{List.before_first, List.filter_map, List.last_or, List.list_any}
 use Rattle.std.specs.{Option.option_or, Str.is_utf8}
 use Rattle.texting_robots.specs.{Escape.escaped, Pattern.IsOverlong}
-use Rattle.texting_robots.specs.Group.{Mark, group_name, in_captured, is_agent, marks_of}
+use Rattle.texting_robots.specs.Group.{captured_lines, group_name, is_agent}
 use Rattle.texting_robots.specs.Line.{LineValue, Allow, Disallow, Sitemap, delay_in}
 
 -- a pattern, and whether it allows
@@ -20,10 +20,6 @@ pub record PlacedRule : Type 0 where
 abbrev pub unplaced : List PlacedRule → List Rule
 unplaced rules = map (λ (placed : PlacedRule). placed.rule) rules
 
--- the value, if it is UTF-8
-abbrev pub text_from : List ℕ → Option (List ℕ)
-text_from value = if is_utf8 value then Some value else None
-
 -- the rule that a value gives
 abbrev pub rule_with : List ℕ → Bool → Option Rule
 rule_with value is_allow = if is_utf8 value then Some (escaped value, is_allow) else None
@@ -34,35 +30,25 @@ rule_in (Disallow value) = rule_with value false
 rule_in _ = None
 
 abbrev pub sitemap_in : LineValue → Option (List ℕ)
-sitemap_in (Sitemap value) = text_from value
+sitemap_in (Sitemap value) = if is_utf8 value then Some value else None
 sitemap_in _ = None
 
--- the rule, if there is one, with this line
-abbrev pub placed : ℕ → Option Rule → Option PlacedRule
-placed line rule = option_map (λ (r : Rule). record { rule = r; line = line }) rule
-
--- the rule of a marked line, if it gives one and is captured
-abbrev pub rule_at : Mark → Option PlacedRule
-rule_at mark = placed mark.number (in_captured rule_in mark)
+-- the rule of the line at a place, if it gives one, with the line's number
+abbrev pub placed_in : ℕ × LineValue → Option PlacedRule
+placed_in p = option_map (λ (r : Rule). record { rule = r; line = p.0 + 1 }) (rule_in p.1)
 
 -- the captured rules with their lines, in order
 abbrev pub placed_rules : List ℕ → List LineValue → List PlacedRule
-placed_rules agent lines = filter_map rule_at (marks_of (group_name agent lines) lines)
+placed_rules agent lines = filter_map placed_in (captured_lines (group_name agent lines) lines)
 
 -- the captured rules, in order
 abbrev pub rules_for : List ℕ → List LineValue → List Rule
 rules_for agent lines = unplaced (placed_rules agent lines)
 
--- the delay of a marked line, if it gives one and is captured
-abbrev pub delay_at : Mark → Option ℕ
-delay_at mark = in_captured delay_in mark
-
-abbrev pub sitemap_at : Mark → Option (List ℕ)
-sitemap_at mark = sitemap_in mark.line
-
 -- the captured delays, in order
 abbrev pub captured_delays : List ℕ → List LineValue → List ℕ
-captured_delays agent lines = filter_map delay_at (marks_of (group_name agent lines) lines)
+captured_delays agent lines =
+    filter_map (λ p. delay_in p.1) (captured_lines (group_name agent lines) lines)
 
 -- where there is an agent line, the last delay before the first one
 abbrev pub delay_before_agents : List LineValue → Option ℕ

@@ -3,8 +3,8 @@ ghost use Rattle.std.specs.Prelude.{◌≡◌, ◌<◌, ◌^◌, length};
 ghost use Rattle.std.specs.Iterator.{YieldsFirstBy, item_count};
 ghost use Rattle.std.specs.List.{list_any};
 ghost use Rattle.std.specs.Str.{str_to_ascii_lowercase};
-ghost use Rattle.texting_robots.specs.Steps.Group.{step};
-ghost use Rattle.texting_robots.specs.Group.{group_name, is_agent, mark_of, marks_of};
+ghost use Rattle.texting_robots.specs.Steps.Group.{mark_of, marks_of, step};
+ghost use Rattle.texting_robots.specs.Group.{group_name, is_agent};
 ghost use Rattle.texting_robots.specs.Rules.{delay_before_agents};
 
 use crate::parser::{Unread, UnreadLines};
@@ -98,8 +98,7 @@ pub(crate) struct MarkedLines<'a> {
 impl<'a> Model for MarkedLines<'a> {
     ghost use Rattle.std.specs.Prelude.{List, length, ◌+◌, ◌<◌, ◌^◌};
     ghost use Rattle.std.specs.Str.{str_to_ascii_lowercase};
-    ghost use Rattle.texting_robots.specs.Group.{Mark};
-    ghost use Rattle.texting_robots.specs.Steps.Group.{marks_from};
+    ghost use Rattle.texting_robots.specs.Steps.Group.{Mark, marks_from};
 
     ghost Value = { List Mark };
 

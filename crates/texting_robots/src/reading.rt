@@ -3,9 +3,9 @@ ghost use Rattle.std.specs.Prelude.{◌≡◌, ◌++◌, [], IfErr, IsOk, None, 
 ghost use Rattle.std.specs.Option.{IfSome, IsSomeAnd, option_or, option_to_list};
 ghost use Rattle.texting_robots.specs.Steps.Entries.{AreEntries, rules_in};
 ghost use Rattle.texting_robots.specs.Error.{IsMemoryOr};
-ghost use Rattle.texting_robots.specs.Group.{mark_of};
 ghost use Rattle.texting_robots.specs.Pattern.{IsOverlong};
-ghost use Rattle.texting_robots.specs.Rules.{delay_at, placed, rule_at, rule_with, sitemap_at, text_from};
+ghost use Rattle.texting_robots.specs.Rules.{rule_with};
+ghost use Rattle.texting_robots.specs.Steps.Group.{delay_at, mark_of, placed, rule_at, sitemap_at, text_from};
 
 use crate::error::Error;
 use crate::groups::Marked;

@@ -1,12 +1,14 @@
-use Rattle.std.proofs.Common.{◌≡◌, List, IsPermutation, ap, arith, refl, subst, sym, ◌∙◌}
+use Rattle.std.proofs.Common.{◌≡◌, ℕ, List, IsPermutation, ap}
+use Rattle.std.proofs.Common.{arith, slice_get, subst, sym, ◌∙◌}
 use Rattle.std.specs.Option.{option_or}
 use Rattle.std.proofs.lemmas.List.{append-nil}
 use Rattle.std.proofs.lemmas.Bool.{false≢true}
 use Rattle.texting_robots.specs.Parsed.{file_lines}
-use Rattle.texting_robots.specs.Group.{group_name, marks_of}
+use Rattle.texting_robots.specs.Group.{group_name}
 use Rattle.texting_robots.specs.Pattern.{IsOverlong}
-use Rattle.texting_robots.specs.Rules.{PlacedRule, Rule, delay_at, delay_before_agents, rule_at, sitemap_at}
-use Rattle.texting_robots.proofs.CapturedLemmas.{sitemaps_are}
+use Rattle.texting_robots.specs.Rules.{PlacedRule, Rule, delay_before_agents}
+use Rattle.texting_robots.specs.Steps.Group.{delay_at, marks_of, rule_at, sitemap_at}
+use Rattle.texting_robots.proofs.CapturedLemmas.{delays_marked, rules_marked, sitemaps_are}
 use Rattle.texting_robots.proofs.RulesLemmas.{all_added, any_unplaced, first_more, given_any}
 use Rattle.texting_robots.proofs.RulesLemmas.{given_more, given_none, no_rules, none_unplaced}
 use Rattle.texting_robots.proofs.RulesLemmas.{option_or_none, passed_on, refused_wider}
@@ -39,9 +41,9 @@ loop-marked-init c =
     let empty = c.new-reading.ensures in
     rw (empty.rules, empty.sitemaps, empty.delay, marks) (record {
       known = empty.known;
-      rules = refl;
+      rules = sym (rules_marked c.args.agent.now lines);
       sitemaps = sym (sitemaps_are name lines);
-      delay = refl;
+      delay = ap (λ (delays : List ℕ). slice_get delays 0) (sym (delays_marked c.args.agent.now lines));
       accepted = λ k d below. absurd (omega arith);
     })
 

@@ -4,8 +4,8 @@ use Rattle.std.specs.Option.{option_or}
 use Rattle.texting_robots.specs.Steps.Entries.{AreEntries, rules_in}
 use Rattle.texting_robots.specs.Parsed.{file_lines}
 use Rattle.texting_robots.specs.Pattern.{IsOverlong}
-use Rattle.texting_robots.specs.Rules.{PlacedRule, captured_delays, delay_at}
-use Rattle.texting_robots.specs.Rules.{placed_rules, rule_at, sitemap_at, sitemaps_in}
+use Rattle.texting_robots.specs.Rules.{PlacedRule, captured_delays, placed_rules, sitemaps_in}
+use Rattle.texting_robots.specs.Steps.Group.{delay_at, rule_at, sitemap_at}
 use Rattle.texting_robots.proofs.robot.Robot.read.Given as goal
 
 -- what was read, and what the lines that are left give, is what the file gives
