@@ -13,8 +13,9 @@ use Rattle.std.proofs.lemmas.Bool.{cases_Bool, or_cases, or_left, or_right, and_
 use Rattle.std.proofs.lemmas.Bool.{and_right, le-ltb, lt-ltb, false≢true}
 use Rattle.texting_robots.specs.declared.groups.Walk.{Walk}
 use Rattle.texting_robots.specs.Line.{LineValue, UserAgent}
-use Rattle.texting_robots.specs.Group.{IsCaptured, group_name, is_agent, is_agent_named, is_captured}
-use Rattle.texting_robots.specs.Group.{is_group, passes_at, some_below}
+use Rattle.texting_robots.specs.Group.{IsCaptured, group_name, is_agent, is_agent_named, is_group}
+use Rattle.texting_robots.specs.Group.{passes_at}
+use Rattle.texting_robots.specs.Steps.Captured.{is_captured, some_below}
 use Rattle.texting_robots.specs.Line.{delay_in}
 use Rattle.texting_robots.specs.Rules.{PlacedRule, Rule, captured_delays, placed_in, placed_rules}
 use Rattle.texting_robots.specs.Rules.{rule_in, rules_for, sitemap_in, sitemaps_in, unplaced}

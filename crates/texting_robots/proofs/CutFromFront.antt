@@ -83,12 +83,6 @@ lines_nil = ap (λ ps. map (λ p. line_of p.body) ps) cut_nil
 drop_read : (n : Bool) (k : ℕ) (text : List ℕ) → drop k (read_as n text) ≡ read_as n (drop k text)
 drop_read n k text = drop-map (read_byte n) k text
 
--- the text from a place within it on, as it is read
-at_read : (n : Bool) (text : List ℕ) (i : ℕ) → i < length text
-    → drop i (read_as n text) ≡ read_byte n (get_or text i 0) ∷ drop (i + 1) (read_as n text)
-at_read n text i within = drop_read n i text ∙ ap (read_as n) (drop_more text i 0 within)
-    ∙ ap (λ t. read_byte n (get_or text i 0) ∷ t) (sym (drop_read n (i + 1) text))
-
 pub read_as_is : (text : List ℕ) → read_as false text ≡ text
 read_as_is text = map-id text
 

@@ -10,8 +10,8 @@ use Rattle.texting_robots.specs.declared.groups.Walk.{Walk}
 use Rattle.texting_robots.specs.Line.{LineValue, UserAgent, Allow, Disallow, Sitemap, CrawlDelay, Raw}
 use Rattle.texting_robots.specs.Line.{delay_in, is_raw, is_sitemap}
 use Rattle.texting_robots.specs.Group.{group_name, is_agent}
-use Rattle.texting_robots.specs.Group.{captured_lines, is_agent_named, is_group}
-use Rattle.texting_robots.specs.Rules.{Rule, delay_before_agents, delay_for, placed_in}
+use Rattle.texting_robots.specs.Group.{is_agent_named, is_group}
+use Rattle.texting_robots.specs.Rules.{Rule, captured_lines, delay_before_agents, delay_for, placed_in}
 use Rattle.texting_robots.specs.Rules.{rule_in, rules_for, sitemap_in, sitemaps_in, unplaced}
 use Rattle.texting_robots.specs.Pattern.{IsOverlong}
 use Rattle.texting_robots.specs.Verdict.{IsVerdict}

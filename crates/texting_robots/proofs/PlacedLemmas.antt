@@ -8,10 +8,11 @@ use Rattle.std.proofs.Common.{inl, inr}
 use Rattle.std.proofs.lemmas.Bool.{cases_Bool}
 use Rattle.std.specs.Str.{is_utf8}
 use Rattle.texting_robots.specs.Escape.{escaped}
-use Rattle.texting_robots.specs.Group.{captured_lines, group_name, is_captured}
+use Rattle.texting_robots.specs.Group.{group_name}
+use Rattle.texting_robots.specs.Steps.Captured.{is_captured}
 use Rattle.texting_robots.specs.Laws.{HoldsRule}
 use Rattle.texting_robots.specs.Line.{LineValue, UserAgent, Allow, Disallow, Sitemap, CrawlDelay, Raw}
-use Rattle.texting_robots.specs.Rules.{PlacedRule, placed_in, placed_rules, rule_in}
+use Rattle.texting_robots.specs.Rules.{PlacedRule, captured_lines, placed_in, placed_rules, rule_in}
 use Rattle.texting_robots.specs.Steps.Group.{placed}
 use Rattle.texting_robots.proofs.CapturedLemmas.{is_captured_decides}
 use Rattle.texting_robots.specs.Decision.{Decides, IsDecidingLine}

@@ -5,12 +5,12 @@ pub use Rattle.texting_robots.specs.Line.{LineValue, UserAgent, Allow, Disallow,
 pub use Rattle.texting_robots.specs.Line.{AreFileLinesOf, AreLinesOf, HoldRangesOf, by_value, value_in}
 pub use Rattle.texting_robots.specs.{Delay.IsDelay, Parsed.file_lines, Parsed.parsed}
 -- what an agent gets of them
-pub use Rattle.texting_robots.specs.Group.{IsCaptured, group_name}
 pub use Rattle.texting_robots.specs.Rules.{GivesNothing, IsRefused, PlacedRule, Rule, delay_for}
 pub use Rattle.texting_robots.specs.Rules.{placed_rules, rules_for, sitemaps_in, unplaced}
-pub use Rattle.texting_robots.specs.Robot.{RobotValue, IsRobotOf, file_limit, lines_read}
+pub use Rattle.texting_robots.specs.{Group.IsCaptured, Group.group_name, Robot.RobotValue}
+pub use Rattle.texting_robots.specs.{Robot.IsRobotOf, Robot.file_limit, Robot.lines_read}
 -- URLs, texts and patterns
-pub use Rattle.texting_robots.specs.Address.{robots_address, robots_address_of}
+pub use Rattle.texting_robots.specs.{Address.robots_address, Address.robots_address_of}
 pub use Rattle.texting_robots.specs.{Escape.escaped, Prepared.prepared, Prepared.target_of}
 pub use Rattle.texting_robots.specs.Pattern.{Matches, MatchesStars, IsOverlong, collapsed}
 pub use Rattle.texting_robots.specs.Order.{IsBefore, pattern_cmp}

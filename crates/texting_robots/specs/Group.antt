@@ -1,8 +1,7 @@
 -- Which lines are captured for an agent, by their places in a file.
-use Rattle.std.specs.Prelude.{◌⊎◌, ℕ, zero, suc, ◌+◌, ◌<◌, nat_lt, Bool, true, false, not}
-use Rattle.std.specs.Prelude.{◌&&◌, ◌||◌, List, IsTrue, codes, filter, slice_get, bytes_eq}
-use Rattle.std.specs.{List.list_any, List.enumerate_from, Option.option_map_or}
-use Rattle.std.specs.{Str.str_to_ascii_lowercase, Prelude.if◌then◌else◌}
+use Rattle.std.specs.Prelude.{◌⊎◌, ℕ, ◌<◌, Bool, true, false, List, IsTrue, codes, slice_get}
+use Rattle.std.specs.{Prelude.bytes_eq, Prelude.if◌then◌else◌, List.list_any}
+use Rattle.std.specs.{Option.option_map_or, Str.str_to_ascii_lowercase}
 use Rattle.texting_robots.specs.Line.{Allow, CrawlDelay, Disallow, LineValue, UserAgent}
 
 -- ---- what groups ask of a line
@@ -51,26 +50,3 @@ IsNamedBefore name lines i =
 abbrev pub IsCaptured : List ℕ → List LineValue → ℕ → Type 0
 IsCaptured name lines i =
     ((k : ℕ) → ¬ IsTrue (passes_at is_agent lines k)) ⊎ IsNamedBefore name lines i
-
--- ---- the same as a test that computes, for lists in order; the law `captured_agrees` says that it agrees
-
--- some number below this one passes
-abbrev pub some_below : (ℕ → Bool) → ℕ → Bool
-some_below test zero = false
-some_below test (suc n) = test n || some_below test n
-
-abbrev pub has_new_run : List LineValue → ℕ → ℕ → Bool
-has_new_run lines j i =
-    let has_group = λ (l : ℕ). some_below (λ k. nat_lt j k && passes_at is_group lines k) l in
-    some_below (λ l. passes_at is_agent lines l && has_group l) i
-
-abbrev pub is_captured : List ℕ → List LineValue → ℕ → Bool
-is_captured name lines i =
-    not (list_any is_agent lines)
-    || some_below (λ j. passes_at (is_agent_named name) lines j && not (has_new_run lines j i)) i
-
--- ---- captured lines as a list
-
--- the captured lines, in order, each with its place, counted from 0
-abbrev pub captured_lines : List ℕ → List LineValue → List (ℕ × LineValue)
-captured_lines name lines = filter (λ p. is_captured name lines p.0) (enumerate_from 0 lines)

@@ -24,15 +24,12 @@ by_value (line.Raw body) = Raw body.now
 
 -- ---- the line of a body
 
-abbrev pub slash : List ℕ
-slash = codes "/"
-
 -- the line is that of a statement of this kind with this value, in this body; of an empty Disallow that is an
 -- Allow of the slash, and of a value that names no delay the whole body
 abbrev pub IsLineWith : Kind → List ℕ → List ℕ → LineValue → Type 0
 IsLineWith kind.UserAgent value body line = line ≡ UserAgent value
 IsLineWith kind.Allow value body line = line ≡ Allow value
-IsLineWith kind.Disallow [] body line = line ≡ Allow slash
+IsLineWith kind.Disallow [] body line = line ≡ Allow (codes "/")
 IsLineWith kind.Disallow (b ∷ value) body line = line ≡ Disallow (b ∷ value)
 IsLineWith kind.Sitemap value body line = line ≡ Sitemap value
 IsLineWith kind.CrawlDelay value body line =
@@ -80,7 +77,7 @@ IsRangeOf value body = (before : List ℕ) × (after : List ℕ) × (body ≡ be
 abbrev pub HoldsRangeOf : LineValue → List ℕ → Type 0
 HoldsRangeOf (UserAgent value) body = IsRangeOf value body
 HoldsRangeOf (Allow value) body =
-    IsRangeOf value body ⊎ ((value ≡ slash) × IsStatement kind.Disallow [] body)
+    IsRangeOf value body ⊎ ((value ≡ codes "/") × IsStatement kind.Disallow [] body)
 HoldsRangeOf (Disallow value) body = IsRangeOf value body
 HoldsRangeOf (Sitemap value) body = IsRangeOf value body
 HoldsRangeOf (CrawlDelay None) body = ⊥

@@ -1,11 +1,11 @@
 -- What an agent gets of a file.
-use Rattle.std.specs.Prelude.{◌≡◌, ◌+◌, ℕ, Bool, true, false, List, [], Option}
-use Rattle.std.specs.Prelude.{Some, None, slice_get, Any, map, option_map, if◌then◌else◌}
-use Rattle.std.specs.{List.before_first, List.filter_map, List.last_or, List.list_any}
-use Rattle.std.specs.{Option.option_or, Str.is_utf8}
-use Rattle.texting_robots.specs.{Escape.escaped, Pattern.IsOverlong}
-use Rattle.texting_robots.specs.Group.{captured_lines, group_name, is_agent}
+use Rattle.std.specs.Prelude.{◌≡◌, ◌+◌, ℕ, Bool, true, false, List, [], Option, Some, None, Any}
+use Rattle.std.specs.Prelude.{filter, map, option_map, slice_get, if◌then◌else◌}
+use Rattle.std.specs.{List.before_first, List.enumerate_from, List.filter_map, List.last_or}
+use Rattle.std.specs.{List.list_any, Option.option_or, Str.is_utf8}
+use Rattle.texting_robots.specs.{Escape.escaped, Group.group_name, Group.is_agent, Pattern.IsOverlong}
 use Rattle.texting_robots.specs.Line.{LineValue, Allow, Disallow, Sitemap, delay_in}
+use Rattle.texting_robots.specs.Steps.Captured.{is_captured}
 
 -- a pattern, and whether it allows
 abbrev pub Rule : Type 0
@@ -32,6 +32,10 @@ rule_in _ = None
 abbrev pub sitemap_in : LineValue → Option (List ℕ)
 sitemap_in (Sitemap value) = if is_utf8 value then Some value else None
 sitemap_in _ = None
+
+-- the captured lines, in order, each with its place, counted from 0
+abbrev pub captured_lines : List ℕ → List LineValue → List (ℕ × LineValue)
+captured_lines name lines = filter (λ p. is_captured name lines p.0) (enumerate_from 0 lines)
 
 -- the rule of the line at a place, if it gives one, with the line's number
 abbrev pub placed_in : ℕ × LineValue → Option PlacedRule

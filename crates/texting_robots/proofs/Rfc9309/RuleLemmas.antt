@@ -8,7 +8,7 @@ use Rattle.std.proofs.lemmas.Str.{IsUtf8-nil, is_utf8-from_IsUtf8}
 use Rattle.texting_robots.specs.declared.parser.statement.Kind.{Kind}
 use Rattle.texting_robots.specs.declared.parser.statement.Kind.TheVariants as kind
 use Rattle.texting_robots.specs.Escape.{escaped}
-use Rattle.texting_robots.specs.Line.{UserAgent, Allow, Disallow, slash}
+use Rattle.texting_robots.specs.Line.{UserAgent, Allow, Disallow}
 use Rattle.texting_robots.specs.Rules.{Rule, rule_with}
 use Rattle.texting_robots.specs.Statement.{IsBlank, spellings}
 use Rattle.texting_robots.specs.Trim.{IsTrimOf}
@@ -204,6 +204,7 @@ disallow_empty value text all line =
     let k =
     keyed (codes "disallow") value text (key_word (codes "disallow") refl)
     (blanks_value value all) line in
+    let slash = codes "/" in
     let rule : Rule = (slash, true) in
     let utf8 : IsUtf8 slash = (char_text slash (inl (inr (inr (omega arith, omega arith))))).utf8 in
     record {

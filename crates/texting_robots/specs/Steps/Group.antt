@@ -3,7 +3,8 @@ use Rattle.std.specs.Prelude.{ℕ, ◌+◌, Bool, false, not, ◌&&◌, ◌||◌
 use Rattle.std.specs.Prelude.{◌∷◌, Option, Some, None, map, option_map, if◌then◌else◌}
 use Rattle.std.specs.{List.enumerate_from, List.list_any, Str.is_utf8}
 use Rattle.texting_robots.specs.declared.{groups.Marked.Marked, groups.Walk.Walk}
-use Rattle.texting_robots.specs.Group.{is_agent, is_agent_named, is_captured, is_group}
+use Rattle.texting_robots.specs.{Group.is_agent, Group.is_agent_named, Group.is_group}
+use Rattle.texting_robots.specs.Steps.Captured.{is_captured}
 use Rattle.texting_robots.specs.{Line.LineValue, Line.delay_in}
 use Rattle.texting_robots.specs.Rules.{PlacedRule, Rule, rule_in, sitemap_in}
 

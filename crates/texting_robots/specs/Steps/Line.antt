@@ -1,11 +1,11 @@
 -- The lines of a text, computed.
-use Rattle.std.specs.Prelude.{ℕ, List, [], ◌∷◌, map, Option, Some, None}
+use Rattle.std.specs.Prelude.{ℕ, List, [], ◌∷◌, codes, map, Option, Some, None}
 use Rattle.texting_robots.specs.declared.parser.statement.Kind.{Kind}
 use Rattle.texting_robots.specs.Steps.Cut.{cut}
 use Rattle.texting_robots.specs.Steps.Delay.{delay_of}
 use Rattle.texting_robots.specs.Steps.Statement.{statement_of}
 use Rattle.texting_robots.specs.declared.parser.statement.Kind.TheVariants as kind
-use Rattle.texting_robots.specs.Line.{LineValue, UserAgent, Allow, Disallow, Sitemap, CrawlDelay, Raw, slash}
+use Rattle.texting_robots.specs.Line.{LineValue, UserAgent, Allow, Disallow, Sitemap, CrawlDelay, Raw}
 
 -- the line with this delay, or the whole body where there is none
 abbrev pub delay_or_raw : Option ℕ → List ℕ → LineValue
@@ -16,7 +16,7 @@ delay_or_raw (Some delay) body = CrawlDelay (Some delay)
 abbrev pub line_with : Kind → List ℕ → List ℕ → LineValue
 line_with kind.UserAgent value body = UserAgent value
 line_with kind.Allow value body = Allow value
-line_with kind.Disallow [] body = Allow slash
+line_with kind.Disallow [] body = Allow (codes "/")
 line_with kind.Disallow (b ∷ value) body = Disallow (b ∷ value)
 line_with kind.Sitemap value body = Sitemap value
 line_with kind.CrawlDelay value body = delay_or_raw (delay_of value) body
