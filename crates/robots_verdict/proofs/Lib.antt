@@ -1,3 +1,2 @@
-pub mod EndsLemmas
 pub mod InputLemmas
 pub mod ReportLemmas

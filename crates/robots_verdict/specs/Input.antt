@@ -1,21 +1,14 @@
 -- What an input of the program is made of.
-use Rattle.std.specs.Prelude.{◌≡◌, ◌≢◌, ◌⊎◌, ℕ, ◌==◌, List, [], ◌∷◌}
-use Rattle.std.specs.Prelude.{◌++◌, Any, IsUtf8, flat_map, if◌then◌else◌, map}
+use Rattle.std.specs.Prelude.{◌≡◌, ◌≢◌, ◌⊎◌, ℕ, ◌==◌, List, [], ◌∷◌, ◌++◌, Any, IsUtf8, if◌then◌else◌, map}
 use Rattle.std.specs.List.{AllByRecursion as Each}
+use Rattle.robots_io.specs.Lines.{ended, lf}
 
 abbrev pub cr : ℕ
 cr = 13
 
-abbrev pub lf : ℕ
-lf = 10
-
 -- the line holds no LF
 abbrev pub IsOneLine : List ℕ → Type 0
 IsOneLine line = Each (λ byte. byte ≢ lf) line
-
--- the lines, each ended by LF
-abbrev pub ended : List (List ℕ) → List ℕ
-ended lines = flat_map (λ line. line ++ lf ∷ []) lines
 
 -- the text of a line: all but one CR at its end
 abbrev pub without_cr : List ℕ → List ℕ
@@ -48,5 +41,4 @@ HoldNotUtf8 agent urls = (¬ IsUtf8 agent) ⊎ Any (λ url. ¬ IsUtf8 url) urls
 abbrev pub EachInputHasOneSplit : Type 0
 EachInputHasOneSplit =
     (input agent other : List ℕ) (urls others : List (List ℕ)) (file rest : List ℕ)
-    → IsInput input agent urls file → IsInput input other others rest → (agent ≡ other)
-    × (urls ≡ others) × (file ≡ rest)
+    → IsInput input agent urls file → IsInput input other others rest → (agent ≡ other) × (urls ≡ others) × (file ≡ rest)

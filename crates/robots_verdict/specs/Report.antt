@@ -1,6 +1,5 @@
 -- What the program writes of what it reads.
-use Rattle.std.specs.Prelude.{◌≡◌, ℕ, Bool, true, false, List, ◌∷◌, ◌++◌}
-use Rattle.std.specs.Prelude.{Option, Some, None, Result, Ok, Err, codes, decimal, map}
+use Rattle.std.specs.Prelude.{◌≡◌, ℕ, Bool, List, ◌∷◌, ◌++◌, Option, Result, Ok, Err, codes, map}
 use Rattle.std.specs.List.{AllZip}
 use Rattle.std.specs.Io.KnownBytes.{Appends}
 use Rattle.texting_robots.specs.Decision.{IsDecidingLine}
@@ -8,31 +7,16 @@ use Rattle.texting_robots.specs.Prepared.{prepared}
 use Rattle.texting_robots.specs.Rules.{IsRefused, PlacedRule, delay_for, placed_rules, sitemaps_in, unplaced}
 use Rattle.texting_robots.specs.Verdict.{IsVerdict}
 use Rattle.texting_robots.specs.Robot.{lines_read}
+use Rattle.robots_io.specs.Ends.{AppendsBeginning}
+use Rattle.robots_io.specs.Lines.{delay_line, ended, verdict_line}
 use Rattle.robots_verdict.specs.declared.fault.Fault.{Fault}
-use Rattle.robots_verdict.specs.declared.fault.Fault.TheVariants.{HeaderNotUtf8, InvalidRule}
-use Rattle.robots_verdict.specs.declared.fault.Fault.TheVariants.{Memory, NoEmptyLine, Read, Write}
-use Rattle.robots_verdict.specs.Input.{AreUtf8, HoldNotUtf8, IsInput, ended}
+use Rattle.robots_verdict.specs.declared.fault.Fault.TheVariants.{HeaderNotUtf8, InvalidRule, Memory, NoEmptyLine, Read, Write}
+use Rattle.robots_verdict.specs.Input.{AreUtf8, HoldNotUtf8, IsInput}
 
 -- ---- the lines of a report
 
-abbrev pub delay_line : Option ℕ → List ℕ
-delay_line None = codes "delay none"
-delay_line (Some micros) = codes "delay " ++ decimal micros
-
 abbrev pub sitemap_line : List ℕ → List ℕ
 sitemap_line sitemap = codes "sitemap " ++ sitemap
-
-abbrev pub verdict_word : Bool → List ℕ
-verdict_word true = codes "allow "
-verdict_word false = codes "deny "
-
--- the number of the deciding line, or `-` where there is none
-abbrev pub line_text : Option ℕ → List ℕ
-line_text None = codes "-"
-line_text (Some number) = decimal number
-
-abbrev pub verdict_line : Bool → Option ℕ → List ℕ → List ℕ
-verdict_line allowed number url = verdict_word allowed ++ line_text number ++ codes " " ++ url
 
 -- the line says the rules' verdict on the URL, and which line of the file decides
 pub record IsVerdictLine (rules : List PlacedRule) (url line : List ℕ) : Type 0 where
@@ -55,27 +39,22 @@ pub record IsReportText (agent : List ℕ) (urls : List (List ℕ)) (file text :
 abbrev pub HasFault : List ℕ → Fault → Type 0
 HasFault input Read = ⊥
 HasFault input Write = ⊥
-HasFault input NoEmptyLine = (agent : List ℕ) (urls : List (List ℕ)) (file : List ℕ)
-    → ¬ IsInput input agent urls file
-HasFault input HeaderNotUtf8 = (agent : List ℕ) × (urls : List (List ℕ)) × (file : List ℕ)
-    × IsInput input agent urls file × HoldNotUtf8 agent urls
+HasFault input NoEmptyLine = (agent : List ℕ) (urls : List (List ℕ)) (file : List ℕ) → ¬ IsInput input agent urls file
+HasFault input HeaderNotUtf8 = (agent : List ℕ) × (urls : List (List ℕ)) × (file : List ℕ) × IsInput input agent urls file × HoldNotUtf8 agent urls
 HasFault input InvalidRule =
-    (agent : List ℕ) × (urls : List (List ℕ)) × (file : List ℕ) × IsInput input agent urls file
-    × AreUtf8 agent urls × IsRefused agent (lines_read file)
+    (agent : List ℕ) × (urls : List (List ℕ)) × (file : List ℕ) × IsInput input agent urls file × AreUtf8 agent urls × IsRefused agent (lines_read file)
 HasFault input Memory = ⊥
 
 -- the text of the report, or the fault of the input
 abbrev pub IsReport : List ℕ → Result (List ℕ) Fault → Type 0
 IsReport input (Ok text) =
     (agent : List ℕ) × (urls : List (List ℕ)) × (file : List ℕ)
-    × IsInput input agent urls file × AreUtf8 agent urls × (¬ IsRefused agent (lines_read file))
-    × IsReportText agent urls file text
+    × IsInput input agent urls file × AreUtf8 agent urls × (¬ IsRefused agent (lines_read file)) × IsReportText agent urls file text
 IsReport input (Err fault) = HasFault input fault
 
 -- an input has one report at most
 abbrev pub EachInputHasOneReport : Type 0
-EachInputHasOneReport = (input : List ℕ) (report other : Result (List ℕ) Fault) → IsReport input report
-    → IsReport input other → report ≡ other
+EachInputHasOneReport = (input : List ℕ) (report other : Result (List ℕ) Fault) → IsReport input report → IsReport input other → report ≡ other
 
 -- ---- what is written of it
 
@@ -83,12 +62,6 @@ EachInputHasOneReport = (input : List ℕ) (report other : Result (List ℕ) Fau
 abbrev pub AppendsReport : Option (List ℕ) → Option (List ℕ) → List ℕ → Type 0
 AppendsReport old new input = (text : List ℕ) × IsReport input (Ok text) × Appends old new text
 
--- the writer holds what it held, and then a beginning of the text
-abbrev pub AppendsBeginning : Option (List ℕ) → Option (List ℕ) → List ℕ → Type 0
-AppendsBeginning old new text = (front : List ℕ) × (back : List ℕ) × (text ≡ front ++ back)
-    × Appends old new front
-
 -- the writer holds what it held, and then a beginning of the report of the input
 abbrev pub AppendsReportBeginning : Option (List ℕ) → Option (List ℕ) → List ℕ → Type 0
-AppendsReportBeginning old new input = (text : List ℕ) × IsReport input (Ok text)
-    × AppendsBeginning old new text
+AppendsReportBeginning old new input = (text : List ℕ) × IsReport input (Ok text) × AppendsBeginning old new text

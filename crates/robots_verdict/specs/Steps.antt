@@ -3,7 +3,8 @@ use Rattle.std.specs.Prelude.{◌≡◌, ◌≢◌, ℕ, ◌<◌, List}
 use Rattle.std.specs.Prelude.{◌∷◌, ◌++◌, length, slice_index}
 use Rattle.std.specs.List.{AllZip}
 use Rattle.texting_robots.specs.Rules.{PlacedRule}
-use Rattle.robots_verdict.specs.Input.{IsOneLine, ended, lf, without_cr}
+use Rattle.robots_io.specs.Lines.{ended, lf}
+use Rattle.robots_verdict.specs.Input.{IsOneLine, without_cr}
 use Rattle.robots_verdict.specs.Report.{IsVerdictLine}
 
 -- the first LF of the input stands at this place

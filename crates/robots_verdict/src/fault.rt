@@ -1,4 +1,5 @@
 //! Why the program stopped.
+use robots_io::ends::{ReadFault, WriteFault};
 use std::alloc::{AllocError, AllocFailed};
 use texting_robots::Error;
 
@@ -83,5 +84,30 @@ impl From<Error> for Fault {
             Error::InvalidRule => Fault::InvalidRule,
             Error::Memory | Error::InvalidRobots => Fault::Memory,
         }
+    }
+}
+
+impl From<ReadFault> for Fault {
+    ghost use Rattle.std.specs.Prelude.{◌≡◌};
+    ghost use Rattle.robots_verdict.specs.Fault.{fault_of_read};
+
+    ghost from_gives = { λ fault own. own ≡ fault_of_read fault };
+
+    fn from(fault: ReadFault) -> Fault {
+        match fault {
+            ReadFault::Read => Fault::Read,
+            ReadFault::Memory => Fault::Memory,
+        }
+    }
+}
+
+impl From<WriteFault> for Fault {
+    ghost use Rattle.std.specs.Prelude.{◌≡◌};
+    ghost use Rattle.robots_verdict.specs.declared.fault.Fault.TheVariants.{Write};
+
+    ghost from_gives = { λ _ fault. fault ≡ Write };
+
+    fn from(_: WriteFault) -> Fault {
+        Fault::Write
     }
 }

@@ -7,7 +7,6 @@
 #![tactic(auto)]
 
 mod ending;
-mod ends;
 mod fault;
 mod header;
 mod laws;

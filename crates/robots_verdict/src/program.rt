@@ -3,9 +3,9 @@ ghost use Rattle.std.specs.Prelude.{◌≢◌, Err, IfErr, IfSome, IsErrOf, OnOk
 ghost use Rattle.std.specs.Io.KnownBytes.{Keeps};
 ghost use Rattle.robots_verdict.specs.Report.{AppendsReport, AppendsReportBeginning, IsReport};
 
-use crate::ends::{read_all, write_out};
 use crate::fault::Fault;
 use crate::report::report_of;
+use robots_io::ends::{read_all, write_out};
 use std::alloc::Global;
 use std::io::{Read, Write};
 
@@ -30,5 +30,5 @@ pub fn run<R: Read, W: Write>(alloc: Global, reader: &mut R, writer: &mut W) -> 
 {
     let input = read_all(alloc, reader)?;
     let text = report_of(alloc, &input)?;
-    write_out(writer, text.as_bytes())
+    Ok(write_out(writer, text.as_bytes())?)
 }

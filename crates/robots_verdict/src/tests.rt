@@ -2,97 +2,9 @@
 use crate::ending::{Ending, ending_of};
 use crate::fault::Fault;
 use crate::program::run;
+use robots_io::fakes::{Sink, Source};
 use std::alloc::{AllocError, Global};
-use std::io;
-use std::io::{ErrorKind, Read, Write};
 use std::test::Fail;
-
-/// Gives a text piece by piece, over and over if it is endless, and fails once, after so many good calls, if it is told to.
-#[derive(Drop)]
-struct Source<'a> {
-    text: &'a [u8],
-    rest: &'a [u8],
-    piece: usize,
-    endless: bool,
-    good_calls: Option<u32>,
-    calls: u32,
-    most_asked: usize,
-}
-
-impl<'a> Source<'a> {
-    fn new(text: &'a [u8], piece: usize) -> Self {
-        Source {
-            text,
-            rest: text,
-            piece,
-            endless: false,
-            good_calls: None,
-            calls: 0,
-            most_asked: 0,
-        }
-    }
-}
-
-impl<'a> Read for Source<'a> {
-    fn read(&mut self, buf: &mut [u8]) -> io::Result<usize> {
-        let call = self.calls;
-        self.calls = call.saturating_add(1);
-        self.most_asked = self.most_asked.max(buf.len());
-        if self.good_calls == Some(call) {
-            return Err(io::Error::from(ErrorKind::BrokenPipe));
-        }
-        if self.endless && self.rest.is_empty() {
-            self.rest = self.text;
-        }
-        let count = self.rest.len().min(self.piece).min(buf.len());
-        let (given, rest) = self.rest.split_at(count);
-        buf[..count].copy_from_slice(given);
-        self.rest = rest;
-        Ok(count)
-    }
-}
-
-/// Takes a text piece by piece, and fails once, after so many good calls, or at the flush, if it is told to.
-#[derive(Drop)]
-struct Sink {
-    held: Vec<u8>,
-    piece: usize,
-    good_calls: Option<u32>,
-    flush_fails: bool,
-    calls: u32,
-}
-
-impl Sink {
-    fn new(alloc: Global, piece: usize) -> Self {
-        Sink {
-            held: Vec::new(alloc),
-            piece,
-            good_calls: None,
-            flush_fails: false,
-            calls: 0,
-        }
-    }
-}
-
-impl Write for Sink {
-    fn write(&mut self, buf: &[u8]) -> io::Result<usize> {
-        let call = self.calls;
-        self.calls = call.saturating_add(1);
-        if self.good_calls == Some(call) {
-            return Err(io::Error::from(ErrorKind::BrokenPipe));
-        }
-        let count = buf.len().min(self.piece);
-        self.held.extend_from_slice(&buf[..count])?;
-        Ok(count)
-    }
-
-    fn flush(&mut self) -> io::Result<()> {
-        if self.flush_fails {
-            return Err(io::Error::from(ErrorKind::BrokenPipe));
-        }
-        Ok(())
-    }
-}
 
 const INPUT: &[u8] =
     b"FerrisCrawler\nhttps://www.rust-lang.org/ocean\n/ocean\n/ocean/reef.html\n/rust\n/forest/tree/snake.py\n\nUser-Agent: FerrisCrawler\nAllow: /ocean\nDisallow: /rust\nDisallow: /forest*.py\nCrawl-Delay: 10\nUser-Agent: *\nDisallow: /\nSitemap: https://www.example.com/site.xml\n";

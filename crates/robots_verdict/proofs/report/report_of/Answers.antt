@@ -1,7 +1,8 @@
 use Rattle.std.proofs.Common.{◌≡◌, ◌++◌, ◌∷◌, [], ℕ, List, ap, map, string_bytes, ◌∙◌}
 use Rattle.texting_robots.specs.Robot.{RobotValue}
-use Rattle.robots_verdict.specs.Input.{ended}
-use Rattle.robots_verdict.specs.Report.{delay_line, sitemap_line}
+use Rattle.robots_io.specs.Lines.{ended}
+use Rattle.robots_io.specs.Lines.{delay_line}
+use Rattle.robots_verdict.specs.Report.{sitemap_line}
 use Rattle.robots_verdict.proofs.ReportLemmas.{text_made}
 use Rattle.robots_verdict.proofs.report.report_of.Goals as goal
 

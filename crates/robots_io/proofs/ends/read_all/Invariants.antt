@@ -1,5 +1,5 @@
 use Rattle.std.specs.Io.KnownBytes.{Consumes}
-use Rattle.robots_verdict.proofs.ends.read_all.Given as goal
+use Rattle.robots_io.proofs.ends.read_all.Given as goal
 
 abbrev pub invariant-loop-all : goal.invariant-loop-all
 invariant-loop-all g l = let remaining = g.R.Read.remaining in

@@ -4,7 +4,7 @@ use Rattle.std.proofs.Common.{Option, Some, None, IfSome, sym, refl, ap, ◌∙�
 use Rattle.std.specs.Io.KnownBytes.{Appends, Consumes, IsAtEnd, Keeps}
 use Rattle.std.proofs.Math.Seq.{take-add}
 use Rattle.std.proofs.lemmas.List.{append-nil, take-append-drop, take_rest}
-use Rattle.robots_verdict.specs.Report.{AppendsBeginning}
+use Rattle.robots_io.specs.Ends.{AppendsBeginning}
 
 -- ---- writes
 

@@ -1,6 +1,6 @@
 use Rattle.std.proofs.Common.{◌+◌, rules}
-use Rattle.robots_verdict.proofs.EndsLemmas.{appends_kept, appends_next, is_beginning}
-use Rattle.robots_verdict.proofs.ends.write_out.Goals as goal
+use Rattle.robots_io.proofs.EndsLemmas.{appends_kept, appends_next, is_beginning}
+use Rattle.robots_io.proofs.ends.write_out.Goals as goal
 
 pub loop-at-preserved : goal.loop-at-preserved
 loop-at-preserved g c =

@@ -1,0 +1,164 @@
+//! The two ends of a program: reading all of an input, and writing all of a report.
+ghost use Rattle.std.specs.Prelude.{◌≡◌, ◌+◌, IfErr, IfOk, IfSome, OnOk};
+ghost use Rattle.std.specs.Io.{ReadsAtMost};
+ghost use Rattle.std.specs.Io.KnownBytes.{Appends, ReadConsumes};
+ghost use Rattle.robots_io.specs.Ends.{AppendsBeginning};
+
+use std::alloc::{AllocError, Global};
+use std::io::{Read, Write};
+
+/// How many bytes one read takes at most.
+const PIECE: usize = 65_536;
+
+/// How many reads are made at most.
+const MOST_READS: u32 = 1_048_576;
+
+/// Why an input wasn't read to its end.
+#[derive(Debug, PartialEq, Eq, Drop)]
+pub enum ReadFault {
+    /// A read failed, or the input didn't end within the reads that are made.
+    Read,
+    /// Memory was refused.
+    Memory,
+}
+
+/// A write failed, or took nothing.
+#[derive(Debug, PartialEq, Eq, Drop)]
+pub struct WriteFault;
+
+impl From<AllocError> for ReadFault {
+    ghost use Rattle.std.specs.Prelude.{◌≡◌};
+    ghost use Rattle.robots_io.specs.declared.ends.ReadFault.TheVariants.{Memory};
+
+    ghost from_gives = { λ _ fault. fault ≡ Memory };
+
+    fn from(_: AllocError) -> ReadFault {
+        ReadFault::Memory
+    }
+}
+
+/// Makes one more read, if one is left. A read that fails is `ReadFault::Read`, and so is the lack of one that is left.
+fn read_piece<R: Read>(reader: &mut R, left: &mut u32, piece: &mut [u8]) -> Result<usize, ReadFault>
+    ensures counted { OnOk result (left.new + 1 ≡ left.old) }
+    ensures bound { ReadsAtMost result piece.new }
+    ensures bytes { ReadConsumes (R.remaining reader.old) (R.remaining reader.new) result piece.new }
+    ensures fault { IfErr result (λ fault. fault ≡ ReadFault.Read) }
+{
+    if *left == 0 {
+        return Err(ReadFault::Read);
+    }
+    *left -= 1;
+    match reader.read(piece) {
+        Ok(count) => Ok(count),
+        Err(_) => Err(ReadFault::Read),
+    }
+}
+
+/// Reads to the end of the input.
+///
+/// # Errors
+///
+/// `ReadFault::Read` where a read fails or more than 1,048,576 would be made, and `ReadFault::Memory` where memory is refused.
+pub fn read_all<R: Read>(alloc: Global, reader: &mut R) -> Result<Vec<u8>, ReadFault>
+    ensures { IfOk result (λ all. IfSome (R.remaining reader.old) (λ input. all.items ≡ input)) }
+{
+    let mut all = Vec::new(alloc);
+    let mut piece = [0u8; PIECE];
+    let mut left = MOST_READS;
+    loop {
+        let count = read_piece(reader, &mut left, &mut piece)?;
+        if count == 0 {
+            return Ok(all);
+        }
+        all.extend_from_slice(&piece[..count])?;
+    }
+}
+
+/// Writes the whole text and flushes.
+///
+/// # Errors
+///
+/// `WriteFault` where a write fails or takes nothing, or the flush fails. A beginning of the text is written then.
+pub fn write_out<W: Write>(writer: &mut W, text: &[u8]) -> Result<(), WriteFault>
+    ensures ok { OnOk result (Appends (W.contents writer.old) (W.contents writer.new) text.now) }
+    ensures beginning { AppendsBeginning (W.contents writer.old) (W.contents writer.new) text.now }
+{
+    let mut at = 0;
+    while at < text.len() {
+        match writer.write(&text[at..]) {
+            Ok(0) => return Err(WriteFault),
+            Ok(count) => at += count,
+            Err(_) => return Err(WriteFault),
+        }
+    }
+    match writer.flush() {
+        Ok(()) => Ok(()),
+        Err(_) => Err(WriteFault),
+    }
+}
+
+#[cfg(test)]
+mod tests {
+    use super::*;
+    use crate::fakes::{Sink, Source};
+    use std::test::Fail;
+
+    const TEXT: &[u8] = b"User-agent: *\nDisallow: /\n";
+
+    #[test]
+    fn all_is_read(rt: HostRuntime) -> Result<(), Fail> {
+        for piece in [1, 7, 65_536] {
+            let mut source = Source::new(TEXT, piece);
+            assert_eq!(rt;
+                read_all(rt.alloc(), &mut source)
+                    .map_err(|_| "fault")?
+                    .as_slice(),
+                TEXT
+            );
+            for call in 0..source.calls {
+                let mut failing = Source::new(TEXT, piece);
+                failing.good_calls = Some(call);
+                assert!(rt;
+                    matches!(read_all(rt.alloc(), &mut failing), Err(ReadFault::Read)),
+                    "call {call}"
+                );
+            }
+        }
+        Ok(())
+    }
+
+    #[test]
+    fn reads_run_out(rt: HostRuntime) -> Result<(), Fail> {
+        let mut endless = Source::new(TEXT, 1);
+        endless.endless = true;
+        assert!(rt; matches!(read_all(rt.alloc(), &mut endless), Err(ReadFault::Read)));
+        assert_eq!(rt; endless.calls, 1_048_576);
+        assert!(rt; endless.most_asked <= 65_536);
+        Ok(())
+    }
+
+    #[test]
+    fn all_is_written(rt: HostRuntime) -> Result<(), Fail> {
+        for piece in [1, 7, 65_536] {
+            let mut sink = Sink::new(rt.alloc(), piece);
+            assert_eq!(rt; write_out(&mut sink, TEXT), Ok(()));
+            assert_eq!(rt; sink.held.as_slice(), TEXT);
+            for call in 0..sink.calls {
+                let mut failing = Sink::new(rt.alloc(), piece);
+                failing.good_calls = Some(call);
+                assert_eq!(rt;
+                    write_out(&mut failing, TEXT),
+                    Err(WriteFault),
+                    "call {call}"
+                );
+                assert!(rt; TEXT.starts_with(failing.held.as_slice()), "call {call}");
+            }
+        }
+        let mut taking_nothing = Sink::new(rt.alloc(), 0);
+        assert_eq!(rt; write_out(&mut taking_nothing, TEXT), Err(WriteFault));
+        let mut not_flushing = Sink::new(rt.alloc(), 7);
+        not_flushing.flush_fails = true;
+        assert_eq!(rt; write_out(&mut not_flushing, TEXT), Err(WriteFault));
+        Ok(())
+    }
+}
