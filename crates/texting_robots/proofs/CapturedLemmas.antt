@@ -19,7 +19,8 @@ use Rattle.texting_robots.specs.Steps.Captured.{is_captured, some_below}
 use Rattle.texting_robots.specs.Line.{delay_in}
 use Rattle.texting_robots.specs.Rules.{PlacedRule, Rule, captured_delays, placed_in, placed_rules}
 use Rattle.texting_robots.specs.Rules.{rule_in, rules_for, sitemap_in, sitemaps_in, unplaced}
-use Rattle.texting_robots.specs.Steps.Group.{Mark, in_captured, marks_from, marks_of, placed, rule_at}
+use Rattle.texting_robots.specs.Marks.{Mark, marks_of}
+use Rattle.texting_robots.specs.Steps.Group.{in_captured, marks_from, placed, rule_at}
 use Rattle.texting_robots.specs.Steps.Group.{sitemap_at, start_of, step}
 
 -- ---- tests of places: of agent lines, group lines and agent lines of the name

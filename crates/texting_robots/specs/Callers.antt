@@ -9,6 +9,8 @@ pub use Rattle.texting_robots.specs.Rules.{GivesNothing, IsRefused, PlacedRule, 
 pub use Rattle.texting_robots.specs.Rules.{placed_rules, rules_for, sitemaps_in, unplaced}
 pub use Rattle.texting_robots.specs.{Group.IsCaptured, Group.group_name, Robot.RobotValue}
 pub use Rattle.texting_robots.specs.{Robot.IsRobotOf, Robot.file_limit, Robot.lines_read}
+pub use Rattle.texting_robots.specs.{Group.is_agent_named, Marks.Mark, Marks.is_named}
+pub use Rattle.texting_robots.specs.{Marks.mark_by_value, Marks.marks_of}
 -- URLs, texts and patterns
 pub use Rattle.texting_robots.specs.{Address.robots_address, Address.robots_address_of}
 pub use Rattle.texting_robots.specs.{Escape.escaped, Prepared.prepared, Prepared.target_of}

@@ -3,7 +3,7 @@ ghost use Rattle.std.specs.Prelude.{◌≡◌, ◌++◌, OnOk, IfOk, string_byte
 ghost use Rattle.std.specs.Cow.{cow_str_bytes};
 ghost use Rattle.texting_robots.specs.Escape.{escaped};
 
-use percent_encoding::{AsciiSet, CONTROLS, ascii_set, utf8_percent_encode};
+use percent_encoding::{AsciiSet, CONTROLS, ascii_set, percent_encode, utf8_percent_encode};
 use std::alloc::{AllocError, Global};
 use std::borrow::CowStr;
 
@@ -22,4 +22,12 @@ pub(crate) fn push_escaped(out: &mut String, text: &str) -> Result<(), AllocErro
     ensures { OnOk result (string_bytes out.new ≡ string_bytes out.old ++ escaped text.now) }
 {
     utf8_percent_encode(text, ESCAPED).append_to(out)
+}
+
+/// Adds the bytes, escaped as rules are. They may be any: each control, space, `"`, `<`, `>` and backquote and each byte past
+/// ASCII comes out as `%` and two digits, so what was added is printable ASCII.
+pub fn push_escaped_bytes(out: &mut String, bytes: &[u8]) -> Result<(), AllocError>
+    ensures { OnOk result (string_bytes out.new ≡ string_bytes out.old ++ escaped bytes.now) }
+{
+    percent_encode(bytes, ESCAPED).append_to(out)
 }

@@ -3,9 +3,10 @@ ghost use Rattle.std.specs.Prelude.{◌≡◌, ◌<◌, ◌^◌, length};
 ghost use Rattle.std.specs.Iterator.{YieldsFirstBy, item_count};
 ghost use Rattle.std.specs.List.{list_any};
 ghost use Rattle.std.specs.Str.{str_to_ascii_lowercase};
-ghost use Rattle.texting_robots.specs.Steps.Group.{mark_of, marks_of, step};
 ghost use Rattle.texting_robots.specs.Group.{group_name, is_agent};
+ghost use Rattle.texting_robots.specs.Marks.{marks_of};
 ghost use Rattle.texting_robots.specs.Rules.{delay_before_agents};
+ghost use Rattle.texting_robots.specs.Steps.Group.{mark_of, step};
 
 use crate::parser::{Unread, UnreadLines};
 use std::marker::Model;
@@ -98,7 +99,8 @@ pub(crate) struct MarkedLines<'a> {
 impl<'a> Model for MarkedLines<'a> {
     ghost use Rattle.std.specs.Prelude.{List, length, ◌+◌, ◌<◌, ◌^◌};
     ghost use Rattle.std.specs.Str.{str_to_ascii_lowercase};
-    ghost use Rattle.texting_robots.specs.Steps.Group.{Mark, marks_from};
+    ghost use Rattle.texting_robots.specs.Marks.{Mark};
+    ghost use Rattle.texting_robots.specs.Steps.Group.{marks_from};
 
     ghost Value = { List Mark };
 

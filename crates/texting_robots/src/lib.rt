@@ -32,6 +32,7 @@ mod error;
 mod escape;
 mod groups;
 pub mod laws;
+pub mod marks;
 pub mod minregex;
 mod needs;
 pub mod parser;
@@ -44,4 +45,5 @@ pub mod view;
 
 pub use address::{get_robots_url, robots_url_of};
 pub use error::Error;
+pub use escape::push_escaped_bytes;
 pub use robot::{Decision, Robot};

@@ -1,11 +1,10 @@
 -- The code's walk along the lines, and what it finds in them.
 use Rattle.std.specs.Prelude.{ℕ, ◌+◌, Bool, false, not, ◌&&◌, ◌||◌, List, []}
-use Rattle.std.specs.Prelude.{◌∷◌, Option, Some, None, map, option_map, if◌then◌else◌}
-use Rattle.std.specs.{List.enumerate_from, List.list_any, Str.is_utf8}
+use Rattle.std.specs.Prelude.{◌∷◌, Option, Some, None, option_map, if◌then◌else◌}
+use Rattle.std.specs.{List.list_any, Str.is_utf8}
 use Rattle.texting_robots.specs.declared.{groups.Marked.Marked, groups.Walk.Walk}
 use Rattle.texting_robots.specs.{Group.is_agent, Group.is_agent_named, Group.is_group}
-use Rattle.texting_robots.specs.Steps.Captured.{is_captured}
-use Rattle.texting_robots.specs.{Line.LineValue, Line.delay_in}
+use Rattle.texting_robots.specs.{Line.LineValue, Line.delay_in, Marks.Mark}
 use Rattle.texting_robots.specs.Rules.{PlacedRule, Rule, rule_in, sitemap_in}
 
 -- before the first line
@@ -19,20 +18,8 @@ step name walk line = record {
   named = is_agent_named name line || (not (is_group line) && walk.named);
 }
 
--- a line with its number, counted from 1, and whether a group line there is captured
-pub record Mark : Type 0 where
-  pub number : ℕ
-  pub captured : Bool
-  pub line : LineValue
-
 abbrev pub mark_of : Marked → Mark
 mark_of marked = record { number = marked.number; captured = marked.is_captured; line = marked.line }
-
--- all lines, in order
-abbrev pub marks_of : List ℕ → List LineValue → List Mark
-marks_of name lines =
-    map (λ p. record { number = p.0 + 1; captured = is_captured name lines p.0; line = p.1 })
-    (enumerate_from 0 lines)
 
 -- the lines that are left, marked by the walk
 abbrev pub marks_from : List ℕ → Walk → ℕ → List LineValue → List Mark
