@@ -7,11 +7,12 @@ use Rattle.std.proofs.Math.Nat.{mul-le-mul_left}
 use Rattle.std.proofs.lemmas.Bool.{cases_lt, cases_order, false≢true, le-leb}
 use Rattle.std.proofs.lemmas.List.{get_or-map, get_or_default, length-drop, length-map, length-take}
 use Rattle.std.proofs.lemmas.List.Sums.{sum_by-cons}
+use Rattle.texting_robots.specs.declared.pieces.Piece.{Piece}
 use Rattle.texting_robots.specs.declared.pieces.Span.{Span}
 use Rattle.texting_robots.specs.declared.rules.Entry.{Entry}
 use Rattle.texting_robots.specs.declared.rules.Gathered.{Gathered}
-use Rattle.texting_robots.specs.Steps.Entries.{AreEntries, GoesBefore, IsFirstMatch}
-use Rattle.texting_robots.specs.Steps.Entries.{NoneMatches, no_entry, placed_at, rules_in}
+use Rattle.texting_robots.specs.Steps.Entries.{AreEntries, GoesBefore, IsEntry, IsFirstMatch, NoneMatches}
+use Rattle.texting_robots.specs.Steps.Entries.{len_of, no_entry, placed_at, rank, rules_in}
 use Rattle.texting_robots.specs.Steps.Pieces.{IsSpan, part_of}
 use Rattle.texting_robots.specs.Decision.{Decides, IsLongestMatch, as_long_as}
 use Rattle.texting_robots.specs.Pattern.{Matches}
@@ -142,18 +143,39 @@ part_length xs span h =
     let within = h.within in
     simp (length-take, length-drop) (omega arith)
 
-preferred : (text : List ℕ) (first second : Entry) → IsSpan text first.pattern
-    → IsSpan text second.pattern
-    → GoesBefore first second → IsPreferred (placed_at text first) (placed_at text second)
-preferred text first second one two before =
-    let a = part_length text first.pattern one in
-    let b = part_length text second.pattern two in
-    let longer = before.longer in
-    record {
-      longer = omega arith;
-      allows = λ same is. before.allows (omega arith) is;
-      earlier = λ same kinds. before.earlier (omega arith) kinds;
-    }
+-- ranks say of lengths m and n and kinds a and b which is longer, and of two as long which allows
+ranked_longer : (m n : ℕ) (a b : Bool) → rank n b ≤ rank m a → n ≤ m
+ranked_longer m n true true h = omega arith
+ranked_longer m n true false h = omega arith
+ranked_longer m n false true h = omega arith
+ranked_longer m n false false h = omega arith
+
+ranked_allows : (n : ℕ) (a b : Bool) → rank n b ≤ rank n a → b ≡ true → a ≡ true
+ranked_allows n true b h is = refl
+ranked_allows n false true h is = absurd (omega arith)
+ranked_allows n false false h is = is
+
+module _ (text : List ℕ) (pieces : List Piece) (borders : List ℕ) (first second : Entry)
+    (one : IsEntry text pieces borders first) (two : IsEntry text pieces borders second)
+    (before : GoesBefore first second) where
+  preferred : IsPreferred (placed_at text first) (placed_at text second)
+  preferred =
+      let m = len_of first in
+      let n = len_of second in
+      let a = first.is_allow in
+      let b = second.is_allow in
+      let first_len = part_length text first.pattern one.pattern in
+      let second_len = part_length text second.pattern two.pattern in
+      let higher : rank n b ≤ rank m a = rw (← one.ranked, ← two.ranked) before.higher in
+      record {
+        longer = let longer = ranked_longer m n a b higher in omega arith;
+        allows = λ same is.
+            let lens : n ≡ m = sym second_len ∙ same ∙ first_len in
+            ranked_allows m a b (rw lens at higher) is;
+        earlier = λ same kinds.
+            let lens : n ≡ m = sym second_len ∙ same ∙ first_len in
+            before.earlier (two.ranked ∙ rw (lens, kinds) (sym one.ranked));
+      }
 
 module _ (all : Gathered) (known : AreEntries all) where
   abbrev entry_at : ℕ → Entry
@@ -167,8 +189,8 @@ module _ (all : Gathered) (known : AreEntries all) where
   sorted_rules sorted i j d before within =
       let there : j < length all.entries.items = rw length-map at within in
       let here : i < length all.entries.items = omega arith in
-      rw (rule_is i d here, rule_is j d there) (preferred (string_bytes all.text) (entry_at i) (entry_at j)
-      (known i no_entry here).pattern (known j no_entry there).pattern (sorted i j no_entry before there))
+      rw (rule_is i d here, rule_is j d there) (preferred (string_bytes all.text) all.pieces.items all.borders.items
+      (entry_at i) (entry_at j) (known i no_entry here) (known j no_entry there) (sorted i j no_entry before there))
 
   module _ (sorted : AllPairs GoesBefore all.entries.items) (text : List ℕ) (at : ℕ)
       (found : IsFirstMatch all text at) where

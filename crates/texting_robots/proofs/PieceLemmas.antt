@@ -16,7 +16,7 @@ use Rattle.texting_robots.specs.declared.pieces.Span.{Span}
 use Rattle.texting_robots.specs.Steps.Border.{IsTable}
 use Rattle.texting_robots.specs.Steps.Pieces.{AddsPieces, AreLeft, ArePieces, behind_stars, part_of}
 use Rattle.texting_robots.specs.Steps.Pieces.{Closes, EndsAs, IsAtMark, IsCutAtMark, IsEnding, IsLeft}
-use Rattle.texting_robots.specs.Steps.Pieces.{IsPiece, IsSpan, Somewhere}
+use Rattle.texting_robots.specs.Steps.Pieces.{IsPiece, IsSpan, Somewhere, no_piece}
 use Rattle.texting_robots.specs.Steps.Stars.{IsBehindFirst, StandsNowhere}
 use Rattle.texting_robots.specs.Pattern.{IsSuffix, Matches, star}
 use Rattle.texting_robots.proofs.PatternLemmas.{closes_decides, end_matches, grows_at_mark, in_front}
@@ -64,10 +64,6 @@ module _ {left piece rest : List ℕ} (is : IsLeft left piece rest) (t : List �
   -- where it stands nowhere, nothing matches
   pub left_missing : StandsNowhere piece t → ¬ Matches left t
   left_missing nowhere m = none_is_enough (Matches rest) piece t nowhere ((is.decides t).0 m)
-
--- what the code reads past the pieces
-abbrev pub no_piece : Piece
-no_piece = record { span = record { start = 0; end = 0 }; table = 0 }
 
 module _ (p : List ℕ) (ending : Ending) (pieces : List Piece) (i : ℕ) (left : List ℕ)
     (are : AreLeft p ending (drop i pieces) left) where

@@ -1,5 +1,5 @@
 -- The definitions again, as functions that take the steps of the code. Contracts of private functions cite
--- them, and of the definitions `Parsed` and `Rules` alone; each is tied to its definition by a theorem, so
+-- them, and of the definitions `Parsed`, `Rules` and `Marks`; each is tied to its definition by a theorem, so
 -- nobody has to believe them.
 pub mod Cut
 pub mod Statement

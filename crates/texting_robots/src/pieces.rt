@@ -44,8 +44,8 @@ impl Span {
 /// A piece that may stand anywhere behind the one before, and where its table begins among the tables.
 #[derive(Clone, Copy, Debug)]
 pub(crate) struct Piece {
-    span: Span,
-    table: usize,
+    pub(crate) span: Span,
+    pub(crate) table: usize,
 }
 
 /// What has to follow the searched pieces.
@@ -64,8 +64,8 @@ pub(crate) enum Ending {
 /// How many bytes stand before the first star or dollar, and what has to follow the searched pieces.
 #[derive(Clone, Copy, Debug)]
 pub(crate) struct Ends {
-    first_len: usize,
-    ending: Ending,
+    pub(crate) first_len: usize,
+    pub(crate) ending: Ending,
 }
 
 /// A pattern, lent with its pieces and their tables.

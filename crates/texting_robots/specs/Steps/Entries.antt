@@ -1,24 +1,64 @@
 -- Rules by their ranges of shared vectors.
-use Rattle.std.specs.Prelude.{◌≡◌, ℕ, ◌-◌, ◌<◌, ◌≤◌, Bool, true}
-use Rattle.std.specs.Prelude.{false, List, All, length, map, slice_index_or, string_bytes}
-use Rattle.std.specs.Ordering.{bool_cmp, flip_args, nat_cmp, on, then_cmp}
+use Rattle.std.specs.Prelude.{◌≡◌, ℕ, ◌+◌, ◌-◌, ◌*◌, ◌<◌, ◌≤◌, Bool, false, List, ◌++◌, All, length, map, slice_index_or, string_bytes}
+use Rattle.std.specs.Prelude.{if◌then◌else◌}
+use Rattle.std.specs.Ordering.{flip_args, nat_cmp, on, then_cmp}
 use Rattle.std.specs.declared.cmp.Ordering.{Ordering}
 use Rattle.texting_robots.specs.declared.pieces.Span.{Span}
 use Rattle.texting_robots.specs.declared.pieces.Piece.{Piece}
-use Rattle.texting_robots.specs.declared.pieces.Ending.TheVariants.{Open}
+use Rattle.texting_robots.specs.declared.pieces.Ending.{Ending}
+use Rattle.texting_robots.specs.declared.pieces.Ending.TheVariants.{Open, Closed, Last, Never}
+use Rattle.texting_robots.specs.declared.pieces.Ends.{Ends}
 use Rattle.texting_robots.specs.declared.rules.Entry.{Entry}
+use Rattle.texting_robots.specs.declared.rules.Tail.{Tail}
+use Rattle.texting_robots.specs.declared.rules.Tail.TheVariants.{Any, End, LastPiece, Nothing}
 use Rattle.texting_robots.specs.declared.rules.Gathered.{Gathered}
 use Rattle.texting_robots.specs.Steps.Needs.{AreNeeds}
-use Rattle.texting_robots.specs.Steps.Pieces.{ArePieces, IsSpan, part_of}
+use Rattle.texting_robots.specs.Steps.Pieces.{ArePieces, IsSpan, no_piece, part_of}
 use Rattle.texting_robots.specs.Pattern.{Matches}
 use Rattle.texting_robots.specs.Rules.{PlacedRule}
+
+-- what a tail says of the text that is left; a last piece stands at this place
+abbrev pub ending_of : List Piece → ℕ → Tail → Ending
+ending_of pieces at Any = Open
+ending_of pieces at End = Closed
+ending_of pieces at LastPiece = Last (slice_index_or pieces at no_piece).span
+ending_of pieces at Nothing = Never
+
+-- where the tail says that there is a last piece, it stands there
+abbrev pub HasLast : List Piece → ℕ → Tail → Type 0
+HasLast pieces at Any = Unit {0}
+HasLast pieces at End = Unit {0}
+HasLast pieces at LastPiece = at < length pieces
+HasLast pieces at Nothing = Unit {0}
+
+-- a last piece was added, if the ending has one
+pub record AddsLast (ending : Ending) (old new : List Piece) (tail : Tail) : Type 0 where
+  pub added : List Piece
+  pub put : new ≡ old ++ added
+  pub there : HasLast new (length old) tail
+  pub is : ending_of new (length old) tail ≡ ending
+
+-- the ends of an entry's pattern
+abbrev pub ends_of : List Piece → Entry → Ends
+ends_of pieces entry =
+    record { first_len = entry.first_len; ending = ending_of pieces entry.pieces.end entry.tail }
+
+-- how many bytes the pattern has
+abbrev pub len_of : Entry → ℕ
+len_of entry = entry.pattern.end - entry.pattern.start
+
+-- twice the length, and one more where the rule allows
+abbrev pub rank : ℕ → Bool → ℕ
+rank len allows = 2 * len + (if allows then 1 else 0)
 
 -- the ranges hold a pattern and its pieces, whose tables are among all, and what it matches meets the needs
 pub record IsEntry (text : List ℕ) (pieces : List Piece) (borders : List ℕ) (entry : Entry) : Type 0 where
   pub pattern : IsSpan text entry.pattern
   pub searched : IsSpan pieces entry.pieces
-  pub is_cut : ArePieces (part_of text entry.pattern) entry.ends (part_of pieces entry.pieces) borders
+  pub last : HasLast pieces entry.pieces.end entry.tail
+  pub is_cut : ArePieces (part_of text entry.pattern) (ends_of pieces entry) (part_of pieces entry.pieces) borders
   pub needed : AreNeeds (part_of text entry.pattern) entry.needs
+  pub ranked : entry.rank ≡ rank (len_of entry) entry.is_allow
 
 abbrev pub IsEntryOf : Gathered → Entry → Type 0
 IsEntryOf all entry = IsEntry (string_bytes all.text) all.pieces.items all.borders.items entry
@@ -38,27 +78,20 @@ rules_in all = map (placed_at (string_bytes all.text)) all.entries.items
 
 -- ---- the order
 
--- how many bytes the pattern has
-abbrev pub len_of : Entry → ℕ
-len_of entry = entry.pattern.end - entry.pattern.start
-
-abbrev pub allows : Entry → Bool
-allows entry = entry.is_allow
+abbrev pub rank_in : Entry → ℕ
+rank_in entry = entry.rank
 
 abbrev pub line_of : Entry → ℕ
 line_of entry = entry.line
 
 -- which of two is asked first
 abbrev pub entry_cmp : Entry → Entry → Ordering
-entry_cmp = then_cmp (then_cmp (flip_args (on len_of nat_cmp)) (flip_args (on allows bool_cmp)))
-    (on line_of nat_cmp)
+entry_cmp = then_cmp (flip_args (on rank_in nat_cmp)) (on line_of nat_cmp)
 
--- the longer goes first, of two as long an Allow before a Disallow, and then the earlier line
+-- the one that ranks higher goes first, of two that rank alike the one of the earlier line
 pub record GoesBefore (first second : Entry) : Type 0 where
-  pub longer : len_of second ≤ len_of first
-  pub allows : len_of second ≡ len_of first → second.is_allow ≡ true → first.is_allow ≡ true
-  pub earlier : len_of second ≡ len_of first → second.is_allow ≡ first.is_allow
-      → first.line ≤ second.line
+  pub higher : second.rank ≤ first.rank
+  pub earlier : second.rank ≡ first.rank → first.line ≤ second.line
 
 -- ---- which rule matches first
 
@@ -70,8 +103,10 @@ no_entry =
       needs = record { head = record { bytes = 0; mask = 0 }; pairs = record { bits = 0 } };
       pattern = none;
       pieces = none;
-      ends = record { first_len = 0; ending = Open };
+      first_len = 0;
+      tail = Any;
       is_allow = false;
+      rank = 0;
       line = 0;
     }
 

@@ -44,6 +44,10 @@ pub record IsSpan {X : Type 0} (xs : List X) (span : Span) : Type 0 where
 abbrev pub part_of : {X : Type 0} → List X → Span → List X
 part_of xs span = slice_range xs span.start span.end
 
+-- stands for a piece where there is none
+abbrev pub no_piece : Piece
+no_piece = record { span = record { start = 0; end = 0 }; table = 0 }
+
 -- the text is the piece, and then what the rest of the pattern matches
 abbrev pub InFront : List ℕ → List ℕ → List ℕ → Type 0
 InFront piece rest text = (after : List ℕ) × (text ≡ piece ++ after) × Matches rest after

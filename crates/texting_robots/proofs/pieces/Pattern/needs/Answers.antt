@@ -4,9 +4,8 @@ use Rattle.std.specs.Int.Bits.{or_zero_r}
 use Rattle.std.proofs.lemmas.List.{drop_all, drop_more}
 use Rattle.texting_robots.specs.declared.pieces.Piece.{Piece}
 use Rattle.texting_robots.specs.Steps.Needs.{pair_set}
-use Rattle.texting_robots.specs.Steps.Pieces.{part_of}
+use Rattle.texting_robots.specs.Steps.Pieces.{no_piece, part_of}
 use Rattle.texting_robots.proofs.NeedLemmas.{are_needs, or_assoc, piece_pairs}
-use Rattle.texting_robots.proofs.PieceLemmas.{no_piece}
 use Rattle.texting_robots.proofs.pieces.Pattern.needs.Goals as goal
 
 pub loop-piece-preserved : goal.loop-piece-preserved

@@ -1,9 +1,10 @@
-use Rattle.std.proofs.Common.{◌≡◌, ℕ, List, length, slice_range}
-use Rattle.std.proofs.Common.{string_bytes, ap, subst, ◌∙◌, arith}
+use Rattle.std.proofs.Common.{◌≡◌, ℕ, ◌-◌, List, ◌++◌, length, slice_range, string_bytes, refl, ap, subst, ◌∙◌, arith}
+use Rattle.std.proofs.Common.{append_assoc, length-append}
+use Rattle.texting_robots.specs.declared.pieces.Piece.{Piece}
 use Rattle.texting_robots.specs.Steps.Needs.{AreNeeds}
 use Rattle.texting_robots.specs.Steps.Pieces.{ArePieces}
 use Rattle.texting_robots.specs.Escape.{escaped}
-use Rattle.texting_robots.proofs.SharingLemmas.{behind_old, entries_pushed, rules_pushed}
+use Rattle.texting_robots.proofs.SharingLemmas.{IsPushed, behind_old, entries_pushed, entry_new, rules_pushed}
 use Rattle.texting_robots.proofs.rules.Gathered.push.Goals as goal
 
 pub new-requires : goal.new-requires
@@ -21,22 +22,32 @@ returns-clause-known c =
     let old = c.args.self.now in
     let old_text = string_bytes old.text in
     let more = escaped c.args.value.now in
+    let put = ap length text ∙ length-append old_text more in
     let first_byte : c.len-first_byte.result ≡ length old_text = omega arith in
-    let last_byte : c.len.result ≡ length (string_bytes c.push_escaped.new.out) = omega arith in
+    let end_byte : c.len-end_byte.result ≡ length (string_bytes c.push_escaped.new.out) = omega arith in
     let first_piece : c.len-first_piece.result ≡ length old.pieces.items = omega arith in
-    let last_piece : c.len-2.result ≡ length c.push_pieces.new.pieces.items = omega arith in
-    let same = ap (λ (t : List ℕ). slice_range t c.len-first_byte.result (length t))
-    (c.as_bytes.ensures.value ∙ text)
+    let end_piece : c.len-end_piece.result ≡ length c.push_pieces.new.pieces.items = omega arith in
+    let len : c.len-end_byte.result - c.len-first_byte.result ≡ length more = omega arith in
+    let same = ap (λ (t : List ℕ). slice_range t c.len-first_byte.result (length t)) (c.as_bytes.ensures.value ∙ text)
     ∙ behind_old old_text more c.len-first_byte.result first_byte in
-    let cut = subst (λ p. ArePieces p c.in_ok-ends.ends added.pieces c.push_pieces.new.borders.items)
-    same added.are_pieces in
-    let needed = subst (λ (p : List ℕ). AreNeeds p c.needs-needs.result)
-    (c.new.ensures ∙ same) c.needs-needs.ensures in
-    rw (c.in_ok-push.ensures.items, text, added.put_pieces, added.put_tables)
-    (entries_pushed old_text more old.pieces.items added.pieces old.borders.items added.tables _
-    (record { start = first_byte; end = last_byte ∙ ap length text })
-    (record { start = first_piece; end = last_piece ∙ ap length added.put_pieces })
-    (rw added.put_tables at cut) needed old.entries.items c.requires)
+    let last = c.in_ok-tail.ensures in
+    let cut = subst (λ p. ArePieces p c.in_ok-ends.ends added.pieces c.push_pieces.new.borders.items) same added.are_pieces in
+    let needed = subst (λ (p : List ℕ). AreNeeds p c.needs-needs.result) (c.new.ensures ∙ same) c.needs-needs.ensures in
+    let pushed : IsPushed old_text more old.pieces.items added.pieces c.push_pieces.new.borders.items _ c.in_ok-ends.ends
+    c.push_last.new.pieces.items = record {
+      pattern_span = record { start = first_byte; end = end_byte ∙ ap length text };
+      searched_span = record { start = first_piece; end = end_piece ∙ ap length added.put_pieces };
+      first_len = refl;
+      last = rw (← added.put_pieces) last;
+      is_cut = cut;
+      needed = needed;
+      ranked = rw (← len) c.rank_of.ensures;
+    } in
+    let all = last.put ∙ ap (λ (p : List Piece). p ++ last.added) added.put_pieces
+    ∙ append_assoc old.pieces.items added.pieces last.added in
+    rw (c.in_ok-push.ensures.items, text, all, added.put_tables)
+    (entries_pushed old_text more old.pieces.items (added.pieces ++ last.added) old.borders.items added.tables
+    old.entries.items _ c.requires (rw (← all, ← added.put_tables) (entry_new _ _ _ _ _ _ _ _ pushed)))
 
 pub returns-clause-added : goal.returns-clause-added
 returns-clause-added c =
@@ -44,8 +55,8 @@ returns-clause-added c =
     let old = c.args.self.now in
     let old_text = string_bytes old.text in
     let first_byte : c.len-first_byte.result ≡ length old_text = omega arith in
-    let last_byte : c.len.result ≡ length (string_bytes c.push_escaped.new.out) = omega arith in
+    let end_byte : c.len-end_byte.result ≡ length (string_bytes c.push_escaped.new.out) = omega arith in
     let more = escaped c.args.value.now in
     rw (c.in_ok-push.ensures.items, text)
     (rules_pushed old_text more old.pieces.items old.borders.items old.entries.items _ c.requires
-    (record { start = first_byte; end = last_byte ∙ ap length text }))
+    (record { start = first_byte; end = end_byte ∙ ap length text }))
