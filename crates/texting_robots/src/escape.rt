@@ -1,7 +1,8 @@
 //! The escape.
-ghost use Rattle.std.specs.Prelude.{◌≡◌, ◌++◌, OnOk, IfOk, string_bytes};
+ghost use Rattle.std.specs.Prelude.{◌≡◌, ◌++◌, OnOk, IfOk, not, string_bytes};
 ghost use Rattle.std.specs.Cow.{cow_str_bytes};
-ghost use Rattle.texting_robots.specs.Escape.{escaped};
+ghost use Rattle.std.specs.List.{list_all};
+ghost use Rattle.texting_robots.specs.Escape.{escaped, is_escaped};
 
 use percent_encoding::{AsciiSet, CONTROLS, ascii_set, percent_encode, utf8_percent_encode};
 use std::alloc::{AllocError, Global};
@@ -17,10 +18,27 @@ pub(crate) fn escaped<'a>(alloc: Global, text: &'a str) -> Result<CowStr<'a, Glo
     utf8_percent_encode(text, ESCAPED).into_cow(alloc)
 }
 
-/// Adds the text with each byte of the set and each byte past ASCII escaped.
+/// Whether a byte stands for itself.
+fn is_plain(byte: u8) -> bool
+    ensures { result ≡ not (is_escaped byte) }
+{
+    matches!(byte, b'!' | b'#'..=b';' | b'=' | b'?'..=b'_' | b'a'..=b'~')
+}
+
+/// Whether each byte stands for itself.
+fn are_plain(bytes: &[u8]) -> bool
+    ensures { result ≡ list_all (λ b. not (is_escaped b)) bytes.now }
+{
+    bytes.iter().all(|byte| is_plain(*byte))
+}
+
+/// Adds the text with each byte of the set and each byte past ASCII escaped. Most texts have none, and are copied whole.
 pub(crate) fn push_escaped(out: &mut String, text: &str) -> Result<(), AllocError>
     ensures { OnOk result (string_bytes out.new ≡ string_bytes out.old ++ escaped text.now) }
 {
+    if are_plain(text.as_bytes()) {
+        return out.push_str(text);
+    }
     utf8_percent_encode(text, ESCAPED).append_to(out)
 }
 

@@ -1,7 +1,12 @@
-use Rattle.std.proofs.Common.{◌++◌, ap, string_bytes, ◌∙◌}
+use Rattle.std.proofs.Common.{◌++◌, ap, string_bytes, rules, sym, ◌∙◌}
 use Rattle.std.proofs.lemmas.Result.{on_ok_weaker}
-use Rattle.texting_robots.proofs.EscapeLemmas.{same_escape}
+use Rattle.texting_robots.proofs.EscapeLemmas.{plain_stays, same_escape}
 use Rattle.texting_robots.proofs.escape.push_escaped.Goals as goal
+
+pub returns-then-are_plain : goal.returns-then-are_plain
+returns-then-are_plain c =
+    let plain = rw c.as_bytes.ensures.value at (sym c.are_plain.ensures ∙ c.if-are_plain.true) in
+    rw (plain_stays c.args.text.now plain) (search rules)
 
 pub returns : goal.returns
 returns c =
