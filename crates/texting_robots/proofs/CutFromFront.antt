@@ -1,13 +1,13 @@
 -- The cut read from the front: the first line of a text, and the lines of the rest.
-use Rattle.std.proofs.Common.{◌≡◌, ◌≢◌, ℕ, suc, ◌+◌, ◌<◌, Bool, true}
-use Rattle.std.proofs.Common.{false, ◌==◌, ◌||◌, inl, inr, List, [], ◌∷◌, length}
-use Rattle.std.proofs.Common.{take, drop, map, get_or, sym, refl, ap, ◌∙◌, arith, cond}
-use Rattle.std.proofs.Common.{if◌then◌else◌, map-id, Option, Some, None, MatchOption, zero}
+use Rattle.std.proofs.Common.{◌≡◌, ◌≢◌, ℕ, suc, ◌+◌, ◌%◌, ◌^◌, ◌<◌, ◌≤◌, Bool, true, false, ◌==◌, ◌||◌, inl, inr, List, [], ◌∷◌, length, take, drop, map, get_or, sym, refl, ap, ◌∙◌, arith, cond, if◌then◌else◌, map-id, Option, Some, None, MatchOption, zero, bit_or}
 use Rattle.std.specs.List.{position_or_len}
 use Rattle.std.proofs.lemmas.Bool.{cases_Bool, cond-true, cond-false, eqb-true, ne_eqb}
 use Rattle.std.proofs.lemmas.Bool.Decides.{nat_tests}
-use Rattle.std.proofs.lemmas.List.{drop_more, drop-map, take-map, length-map, nil_from_length}
+use Rattle.std.proofs.lemmas.List.{drop_more, drop-map, take-map, length-map, length-take, nil_from_length}
 use Rattle.std.proofs.lemmas.List.Recursion.{is_position_or_len}
+use Rattle.std.proofs.lemmas.Simd.{first_set_mask_l, map-map, mask_l-mod}
+use Rattle.std.specs.Int.{trailing_zeros, w64}
+use lib.Lanes.{mask_l, top}
 use Rattle.std.proofs.Math.Bool.{or_comm}
 use Rattle.memchr.specs.Find.{is_byte2, is_byte3, IsFirstByte}
 use Rattle.texting_robots.proofs.RegionLemmas.{place_is, end_is}
@@ -176,6 +176,85 @@ near_body n text k end is less =
     let read = take-map (read_byte n) k text in
     near_end (read_as n text) k (rw (read, is) (omega (arith, less, length-map (take k text) (read_byte n))))
     ∙ ap body_len read ∙ is
+
+body_within : (text : List ℕ) → body_len text ≤ length text
+body_within [] = omega arith
+body_within (b ∷ text) = elim (cases_Bool (b == lf)) [
+  | inl is_lf ↦ rw is_lf (omega arith)
+  | inr not_lf ↦ elim (cases_Bool (b == cr)) [
+    | inl is_cr ↦ rw (not_lf, is_cr) (omega arith)
+    | inr not_cr ↦ (let rest = body_within text in rw (not_lf, not_cr) (omega (arith, rest)))
+  ]
+]
+
+-- a front without an end is passed over
+pub passed_front : (n : Bool) (text : List ℕ) (k : ℕ) → k ≤ length text → body_len (read_as n (take k text)) ≡ k
+    → body_len (read_as n text) ≡ k + body_len (read_as n (drop k text))
+passed_front n text zero within none = omega arith
+passed_front n [] (suc k) within none = absurd (omega (arith, within))
+passed_front n (b ∷ text) (suc k) within none = elim (cases_Bool (read_byte n b == lf)) [
+  | inl is_lf ↦ (let wrong : 0 ≡ suc k = rw is_lf at none in absurd (omega (arith, wrong)))
+  | inr not_lf ↦ elim (cases_Bool (read_byte n b == cr)) [
+    | inl is_cr ↦ (let wrong : 0 ≡ suc k = rw (not_lf, is_cr) at none in absurd (omega (arith, wrong)))
+    | inr not_cr ↦ (let rest = passed_front n text k (omega (arith, within)) (omega (arith, (rw (not_lf, not_cr) at none))) in
+        rw (not_lf, not_cr) (omega (arith, rest)))
+  ]
+]
+
+-- the front of a text, looked at for an end: there is one, or all of it is passed over
+pub front_seen : (n : Bool) (text : List ℕ) (k len : ℕ) → k ≤ length text → len ≡ body_len (read_as n (take k text))
+    → (len < k → body_len (read_as n text) ≡ len)
+    × (k ≤ len → body_len (read_as n text) ≡ k + body_len (read_as n (drop k text)))
+front_seen n text k len within len_is =
+    let long = length-take k text in
+    let most = body_within (read_as n (take k text)) in
+    let same = length-map (take k text) (read_byte n) in (
+      λ less. near_body n text k len (sym len_is) (omega arith),
+      λ all. passed_front n text k within (sym len_is ∙ (omega arith)),
+    )
+
+-- ---- the lanes of a vector that end a line
+
+-- a lane is marked where one of three comparisons holds
+abbrev mark : ℕ → ℕ → ℕ
+mark third b =
+    bit_or (bit_or (cond (b == cr) 255 0) (cond (b == lf) 255 0)) (cond (b == third) 255 0)
+
+pub ends_marked : (n : Bool) (third : ℕ) → third ≡ (if n then 0 else lf) → Ends n (λ b. top 7 (mark third b))
+ends_marked n third is b = told (b == cr) (b == lf) (b == third) ∙ rw is (by n)
+  where
+    told : (x y z : Bool) → top 7 (bit_or (bit_or (cond x 255 0) (cond y 255 0)) (cond z 255 0)) ≡ (x || y || z)
+    told true true true = refl
+    told true true false = refl
+    told true false true = refl
+    told true false false = refl
+    told false true true = refl
+    told false true false = refl
+    told false false true = refl
+    told false false false = refl
+
+    twice : (x y : Bool) → (x || y || y) ≡ (x || y)
+    twice true true = refl
+    twice true false = refl
+    twice false true = refl
+    twice false false = refl
+
+    by : (n : Bool) → is_byte3 cr lf (if n then 0 else lf) b ≡ (read_byte n b == lf || read_byte n b == cr)
+    by true = ends_with_nul b
+    by false = twice (b == cr) (b == lf) ∙ ends_as_is b
+
+-- the first lane that is marked is the first end
+pub marked_first : (n : Bool) (f : ℕ → ℕ) (v lanes : List ℕ) (first : ℕ) → length v ≡ 32 → lanes ≡ map f v
+    → Ends n (λ b. top 7 (f b))
+    → (let mask = mask_l (map (top 7) lanes) % 2 ^ 64 in first ≡ (if mask == 0 then 32 else trailing_zeros w64 mask))
+    → first ≡ body_len (read_as n v)
+marked_first n f v lanes first long lanes_are ends found =
+    let test = λ (b : ℕ). top 7 (f b) in
+    let mask : mask_l (map (top 7) lanes) % 2 ^ 64 ≡ mask_l (map test v)
+    = ap (λ l. mask_l l % 2 ^ 64) (ap (map (top 7)) lanes_are ∙ map-map (top 7) f v)
+        ∙ mask_l-mod (map test v) 64 (omega (arith, length-map v test, long)) in
+    found ∙ ap (λ m. if m == 0 then 32 else trailing_zeros w64 m) mask
+    ∙ first_set_mask_l test v 32 long (omega arith) ∙ body_by n test ends v
 
 -- a body holds no NUL that is read as LF
 body_plain : (n : Bool) (text : List ℕ)

@@ -1,8 +1,17 @@
-use Rattle.std.proofs.Common.{sym}
-use Rattle.texting_robots.proofs.CutFromFront.{near_body}
+use Rattle.std.proofs.Common.{arith, length-drop}
+use Rattle.texting_robots.proofs.CutFromFront.{front_seen}
 use Rattle.texting_robots.proofs.parser.cut.body_len.Goals as goal
 
-pub returns-in-Some-clause-value : goal.returns-in-Some-clause-value
-returns-in-Some-clause-value c =
-    let found = c.in-Some.ensures in
-    sym (near_body c.args.nul_ends c.args.text.now c.min.result c.in-Some.end found.0 found.1)
+pub returns-then-len-lt-LANES-clause-value : goal.returns-then-len-lt-LANES-clause-value
+returns-then-len-lt-LANES-clause-value c =
+    let seen = front_seen c.args.nul_ends c.loop-rest.rest.now 32 _ (omega arith) c.body_len_in_front-len.ensures in
+    omega (arith, seen.0 (omega arith))
+
+pub loop-rest-preserved : goal.loop-rest-preserved
+loop-rest-preserved c =
+    let seen = front_seen c.args.nul_ends c.loop-rest.rest.now 32 _ (omega arith) c.body_len_in_front-len.ensures in
+    let short = length-drop 32 c.loop-rest.rest.now in
+    rw c.split_at.ensures.back (record {
+      within = omega (arith, short, c.loop-rest.invariant.within);
+      passed = omega (arith, short, c.loop-rest.invariant.passed, seen.1 (omega arith));
+    })

@@ -1,0 +1,14 @@
+use Rattle.std.proofs.Common.{◌≡◌, ◌+◌, ◌≤◌, length}
+use Rattle.texting_robots.specs.Steps.Cut.{body_len, read_as}
+use Rattle.texting_robots.proofs.parser.cut.body_len.Given as goal
+
+-- no line ends in what was passed over
+abbrev pub invariant-loop-rest : goal.invariant-loop-rest
+invariant-loop-rest l = record {
+  within : length l.rest ≤ length l.text;
+  passed : body_len (read_as l.nul_ends l.text) + length l.rest
+      ≡ body_len (read_as l.nul_ends l.rest) + length l.text;
+}
+
+abbrev pub decreases-loop-rest : goal.decreases-loop-rest
+decreases-loop-rest l = length l.rest
