@@ -1,24 +1,32 @@
 -- How an input is split, line by line, and that there is one way at most.
-use Rattle.std.proofs.Common.{◌≡◌, ◌≢◌, inl, inr, ℕ, zero, suc, ◌+◌, ◌<◌, ◌==◌, true, false, slice_index_or, Any, Bor, IfErr, IsUtf8, Result, Ok, Err, List, [], ◌∷◌, ◌++◌, length, map, slice_index, sym, refl, ap, subst, ◌∙◌, arith, append_assoc, take, drop}
+use Rattle.std.proofs.Common.{◌≡◌, ◌≢◌, inl, inr, ℕ, zero, suc, ◌+◌, ◌<◌}
+use Rattle.std.proofs.Common.{◌==◌, true, false, slice_index_or, Any, Bor, IfErr, IsUtf8, Result}
+use Rattle.std.proofs.Common.{Ok, Err, List, [], ◌∷◌, ◌++◌, length, map, slice_index, sym}
+use Rattle.std.proofs.Common.{refl, ap, subst, ◌∙◌, arith, append_assoc, take, drop}
 use Rattle.std.specs.List.{AllByRecursion as Each}
 use Rattle.std.specs.Result.{IsErrAnd}
 use Rattle.std.proofs.lemmas.Bool.Decides.{nat_tests}
-use Rattle.std.proofs.lemmas.List.{append-nil, drop_more, get_or-map, length-append, length-map, take-append-drop}
+use Rattle.std.proofs.lemmas.List.{append-nil, drop_more, get_or-map}
+use Rattle.std.proofs.lemmas.List.{length-append, length-map, take-append-drop}
 use Rattle.robots_verdict.specs.declared.fault.Fault.{Fault}
 use Rattle.robots_verdict.specs.declared.fault.Fault.TheVariants.{HeaderNotUtf8, Memory}
 use Rattle.robots_io.specs.Lines.{ended, lf}
-use Rattle.robots_verdict.specs.Input.{AreUtf8, EachInputHasOneSplit, HoldNotUtf8, IsInput, IsOneLine, cr, without_cr}
+use Rattle.robots_verdict.specs.Input.{AreUtf8, EachInputHasOneSplit, HoldNotUtf8}
+use Rattle.robots_verdict.specs.Input.{IsInput, IsOneLine, cr, without_cr}
 use Rattle.robots_verdict.specs.Steps.{BeginsWithLine, IsFirstFeed}
 
 -- the input is a line for each URL, a line with an empty text, and the file
 abbrev pub AreUrlLines : List ℕ → List (List ℕ) → List ℕ → Type 0
 AreUrlLines input [] file = BeginsWithLine input [] file
-AreUrlLines input (url ∷ urls) file = (rest : List ℕ) × BeginsWithLine input url rest × (url ≢ []) × AreUrlLines rest urls file
+AreUrlLines input (url ∷ urls) file = (rest : List ℕ) × BeginsWithLine input url rest × (url ≢ [])
+    × AreUrlLines rest urls file
 
 -- the same splits go on from the rest, behind these URLs
 pub record GoesOn (input : List ℕ) (urls : List (List ℕ)) (rest : List ℕ) : Type 0 where
-  pub from_rest : (later : List (List ℕ)) (file : List ℕ) → AreUrlLines rest later file → AreUrlLines input (urls ++ later) file
-  pub to_rest : (all : List (List ℕ)) (file : List ℕ) → AreUrlLines input all file → (later : List (List ℕ)) × (all ≡ urls ++ later) × AreUrlLines rest later file
+  pub from_rest : (later : List (List ℕ)) (file : List ℕ) → AreUrlLines rest later file
+      → AreUrlLines input (urls ++ later) file
+  pub to_rest : (all : List (List ℕ)) (file : List ℕ) → AreUrlLines input all file
+      → (later : List (List ℕ)) × (all ≡ urls ++ later) × AreUrlLines rest later file
 
 -- ---- the text of a line
 
@@ -27,36 +35,47 @@ taken [] = refl
 taken (b ∷ []) = refl
 taken (b ∷ d ∷ text) = ap (λ (rest : List ℕ). b ∷ rest) (taken (d ∷ text))
 
-kept : (text : List ℕ) (last : ℕ) → last ≢ cr → without_cr (text ++ last ∷ []) ≡ text ++ last ∷ []
+kept : (text : List ℕ) (last : ℕ) → last ≢ cr
+    → without_cr (text ++ last ∷ []) ≡ text ++ last ∷ []
 kept [] last apart = grind (arith, nat_tests)
 kept (b ∷ []) last apart = ap (λ (rest : List ℕ). b ∷ rest) (kept [] last apart)
 kept (b ∷ d ∷ text) last apart = ap (λ (rest : List ℕ). b ∷ rest) (kept (d ∷ text) last apart)
 
-pub without_cr_taken : (line text : List ℕ) (last : ℕ) → line ≡ text ++ last ∷ [] → last ≡ cr → text ≡ without_cr line
-without_cr_taken line text last whole is = sym (ap without_cr (whole ∙ ap (λ b. text ++ b ∷ []) is) ∙ taken text)
+pub without_cr_taken : (line text : List ℕ) (last : ℕ) → line ≡ text ++ last ∷ [] → last ≡ cr
+    → text ≡ without_cr line
+without_cr_taken line text last whole is =
+    sym (ap without_cr (whole ∙ ap (λ b. text ++ b ∷ []) is) ∙ taken text)
 
-pub without_cr_kept : (line text : List ℕ) (last : ℕ) → line ≡ text ++ last ∷ [] → last ≢ cr → line ≡ without_cr line
+pub without_cr_kept : (line text : List ℕ) (last : ℕ) → line ≡ text ++ last ∷ [] → last ≢ cr
+    → line ≡ without_cr line
 without_cr_kept line text last whole apart = whole ∙ sym (ap without_cr whole ∙ kept text last apart)
 
 -- ---- the first line
 
-one_before : (input : List ℕ) (place : ℕ) → ((k : ℕ) → k < place → slice_index input k ≢ lf) → IsOneLine (take place input)
+one_before : (input : List ℕ) (place : ℕ) → ((k : ℕ) → k < place → slice_index input k ≢ lf)
+    → IsOneLine (take place input)
 one_before [] zero before = tt
 one_before [] (suc place) before = tt
 one_before (b ∷ input) zero before = tt
-one_before (b ∷ input) (suc place) before = (before 0 (omega arith), one_before input place (λ k below. before (suc k) (omega arith)))
+one_before (b ∷ input) (suc place) before =
+    (before 0 (omega arith), one_before input place (λ k below. before (suc k) (omega arith)))
 
-pub line_before : (input text line rest : List ℕ) (place : ℕ) → IsFirstFeed input place → line ≡ take place input → text ≡ without_cr line → rest ≡ drop (place + 1) input → BeginsWithLine input text rest
+pub line_before : (input text line rest : List ℕ) (place : ℕ) → IsFirstFeed input place
+    → line ≡ take place input → text ≡ without_cr line → rest ≡ drop (place + 1) input
+    → BeginsWithLine input text rest
 line_before input text line rest place first is of after = record {
   line = take place input;
   whole =
       sym (take-append-drop place input)
-      ∙ ap (λ t. take place input ++ t) (drop_more input place 0 first.within ∙ ap (λ b. b ∷ drop (place + 1) input) first.feed ∙ ap (λ t. lf ∷ t) (sym after));
+      ∙ ap (λ t. take place input ++ t)
+          (drop_more input place 0 first.within ∙ ap (λ b. b ∷ drop (place + 1) input) first.feed
+          ∙ ap (λ t. lf ∷ t) (sym after));
   one = one_before input place first.before;
   text_of = of ∙ ap without_cr is;
 }
 
-same_cut : (line other rest more : List ℕ) → IsOneLine line → IsOneLine other → line ++ lf ∷ rest ≡ other ++ lf ∷ more → (line ≡ other) × (rest ≡ more)
+same_cut : (line other rest more : List ℕ) → IsOneLine line → IsOneLine other
+    → line ++ lf ∷ rest ≡ other ++ lf ∷ more → (line ≡ other) × (rest ≡ more)
 same_cut [] [] rest more one two e = (refl, cc)
 same_cut [] (b ∷ other) rest more one two e = absurd (two.0 (cc))
 same_cut (b ∷ line) [] rest more one two e = absurd (one.0 (cc))
@@ -66,7 +85,8 @@ same_cut (b ∷ line) (d ∷ other) rest more one two e =
     let same = same_cut line other rest more one.1 two.1 tail in
     (cc, same.1)
 
-line_once : (input text other rest more : List ℕ) → BeginsWithLine input text rest → BeginsWithLine input other more → (text ≡ other) × (rest ≡ more)
+line_once : (input text other rest more : List ℕ) → BeginsWithLine input text rest
+    → BeginsWithLine input other more → (text ≡ other) × (rest ≡ more)
 line_once input text other rest more one two =
     let same = same_cut one.line two.line rest more one.one two.one (sym one.whole ∙ two.whole) in
     (one.text_of ∙ ap without_cr same.0 ∙ sym two.text_of, same.1)
@@ -78,7 +98,8 @@ no_feed (b ∷ line) rest one = no_feed line rest one.1
 no_line : (input text rest : List ℕ) → IsOneLine input → BeginsWithLine input text rest → ⊥
 no_line input text rest one is = no_feed is.line rest (subst (λ t. IsOneLine t) is.whole one)
 
-pub rest_shorter : (input text rest : List ℕ) → BeginsWithLine input text rest → length rest < length input
+pub rest_shorter : (input text rest : List ℕ) → BeginsWithLine input text rest
+    → length rest < length input
 rest_shorter input text rest is = rw is.whole (simp length-append (omega arith))
 
 -- ---- the lines of the URLs
@@ -86,40 +107,53 @@ rest_shorter input text rest is = rw is.whole (simp length-append (omega arith))
 pub goes_first : (input : List ℕ) → GoesOn input [] input
 goes_first input = record { from_rest = λ later file is. is; to_rest = λ all file is. (all, refl, is) }
 
-after_line : (input url rest : List ℕ) (all : List (List ℕ)) (file : List ℕ) → BeginsWithLine input url rest → url ≢ [] → AreUrlLines input all file
+after_line : (input url rest : List ℕ) (all : List (List ℕ)) (file : List ℕ)
+    → BeginsWithLine input url rest → url ≢ [] → AreUrlLines input all file
     → (later : List (List ℕ)) × (all ≡ url ∷ later) × AreUrlLines rest later file
-after_line input url rest [] file line filled is = absurd (filled (line_once input url [] rest file line is).0)
+after_line input url rest [] file line filled is =
+    absurd (filled (line_once input url [] rest file line is).0)
 after_line input url rest (other ∷ later) file line filled is =
     let same = line_once input url other rest is.0 line is.1 in
     (later, ap (λ u. u ∷ later) (sym same.0), subst (λ t. AreUrlLines t later file) (sym same.1) is.3)
 
-pub goes_more : (input rest next url : List ℕ) (urls : List (List ℕ)) → GoesOn input urls rest → BeginsWithLine rest url next → url ≢ [] → GoesOn input (urls ++ url ∷ []) next
+pub goes_more : (input rest next url : List ℕ) (urls : List (List ℕ)) → GoesOn input urls rest
+    → BeginsWithLine rest url next → url ≢ [] → GoesOn input (urls ++ url ∷ []) next
 goes_more input rest next url urls goes line filled = record {
-  from_rest = λ later file is. subst (λ all. AreUrlLines input all file) (sym (append_assoc urls (url ∷ []) later)) (goes.from_rest (url ∷ later) file (next, line, filled, is));
+  from_rest = λ later file is. subst (λ all. AreUrlLines input all file)
+      (sym (append_assoc urls (url ∷ []) later))
+      (goes.from_rest (url ∷ later) file (next, line, filled, is));
   to_rest =
       λ all file is.
       let back = goes.to_rest all file is in
       let on = after_line rest url next back.0 file line filled back.2 in
-      (on.0, back.1 ∙ ap (λ (t : List (List ℕ)). urls ++ t) on.1 ∙ sym (append_assoc urls (url ∷ []) on.0), on.2);
+      (on.0, back.1 ∙ ap (λ (t : List (List ℕ)). urls ++ t) on.1
+          ∙ sym (append_assoc urls (url ∷ []) on.0), on.2);
 }
 
-no_lines : (input : List ℕ) (urls : List (List ℕ)) (file : List ℕ) → IsOneLine input → AreUrlLines input urls file → ⊥
+no_lines : (input : List ℕ) (urls : List (List ℕ)) (file : List ℕ) → IsOneLine input
+    → AreUrlLines input urls file → ⊥
 no_lines input [] file one is = no_line input [] file one is
 no_lines input (url ∷ urls) file one is = no_line input url is.0 one is.1
 
-same_lines : (urls others : List (List ℕ)) (input file rest : List ℕ) → AreUrlLines input urls file → AreUrlLines input others rest → (urls ≡ others) × (file ≡ rest)
+same_lines : (urls others : List (List ℕ)) (input file rest : List ℕ) → AreUrlLines input urls file
+    → AreUrlLines input others rest → (urls ≡ others) × (file ≡ rest)
 same_lines [] [] input file rest one two = (refl, (line_once input [] [] file rest one two).1)
-same_lines [] (url ∷ others) input file rest one two = absurd (two.2 (sym (line_once input [] url file two.0 one two.1).0))
-same_lines (url ∷ urls) [] input file rest one two = absurd (one.2 (line_once input url [] one.0 rest one.1 two).0)
+same_lines [] (url ∷ others) input file rest one two =
+    absurd (two.2 (sym (line_once input [] url file two.0 one two.1).0))
+same_lines (url ∷ urls) [] input file rest one two =
+    absurd (one.2 (line_once input url [] one.0 rest one.1 two).0)
 same_lines (url ∷ urls) (other ∷ others) input file rest one two =
     let first = line_once input url other one.0 two.0 one.1 two.1 in
-    let later = same_lines urls others two.0 file rest (subst (λ t. AreUrlLines t urls file) first.1 one.3) two.3 in
+    let later =
+        same_lines urls others two.0 file rest (subst (λ t. AreUrlLines t urls file) first.1 one.3) two.3 in
     (cc, later.1)
 
 -- ---- whole inputs
 
-line_first : (line front back : List ℕ) → ((line ++ lf ∷ []) ++ front) ++ back ≡ line ++ lf ∷ (front ++ back)
-line_first line front back = append_assoc (line ++ lf ∷ []) front back ∙ append_assoc line (lf ∷ []) (front ++ back)
+line_first : (line front back : List ℕ)
+    → ((line ++ lf ∷ []) ++ front) ++ back ≡ line ++ lf ∷ (front ++ back)
+line_first line front back = append_assoc (line ++ lf ∷ []) front back
+    ∙ append_assoc line (lf ∷ []) (front ++ back)
 
 -- what an input is behind the agent's line
 record Behind (input : List ℕ) (urls : List (List ℕ)) (file : List ℕ) : Type 0 where
@@ -131,17 +165,25 @@ record Behind (input : List ℕ) (urls : List (List ℕ)) (file : List ℕ) : Ty
   filled : Each (λ url. url ≢ []) urls
   empty_text : without_cr empty_line ≡ []
 
-to_lines : (url_lines : List (List ℕ)) (empty_line file input : List ℕ) → input ≡ ended (url_lines ++ empty_line ∷ []) ++ file → Each IsOneLine (url_lines ++ empty_line ∷ [])
-    → Each (λ url. url ≢ []) (map without_cr url_lines) → without_cr empty_line ≡ [] → AreUrlLines input (map without_cr url_lines) file
-to_lines [] empty_line file input whole lines filled empty = record { line = empty_line; whole = whole ∙ line_first empty_line [] file; one = lines.0; text_of = sym empty }
+to_lines : (url_lines : List (List ℕ)) (empty_line file input : List ℕ)
+    → input ≡ ended (url_lines ++ empty_line ∷ []) ++ file
+    → Each IsOneLine (url_lines ++ empty_line ∷ [])
+    → Each (λ url. url ≢ []) (map without_cr url_lines) → without_cr empty_line ≡ []
+        → AreUrlLines input (map without_cr url_lines) file
+to_lines [] empty_line file input whole lines filled empty =
+    record { line = empty_line; whole = whole ∙ line_first empty_line [] file;
+    one = lines.0; text_of = sym empty }
 to_lines (line ∷ url_lines) empty_line file input whole lines filled empty = (
   ended (url_lines ++ empty_line ∷ []) ++ file,
-  record { line = line; whole = whole ∙ line_first line (ended (url_lines ++ empty_line ∷ [])) file; one = lines.0; text_of = refl },
+  record { line = line; whole = whole ∙ line_first line (ended (url_lines ++ empty_line ∷ [])) file;
+      one = lines.0; text_of = refl },
   filled.0,
-  to_lines url_lines empty_line file (ended (url_lines ++ empty_line ∷ []) ++ file) refl lines.1 filled.1 empty,
+  to_lines url_lines empty_line file (ended (url_lines ++ empty_line ∷ []) ++ file)
+      refl lines.1 filled.1 empty,
 )
 
-from_lines : (urls : List (List ℕ)) (input file : List ℕ) → AreUrlLines input urls file → Behind input urls file
+from_lines : (urls : List (List ℕ)) (input file : List ℕ) → AreUrlLines input urls file
+    → Behind input urls file
 from_lines [] input file is = record {
   url_lines = [];
   empty_line = is.line;
@@ -157,21 +199,25 @@ from_lines (url ∷ urls) input file is =
     record {
       url_lines = line.line ∷ later.url_lines;
       empty_line = later.empty_line;
-      whole = line.whole ∙ ap (λ t. line.line ++ lf ∷ t) later.whole ∙ sym (line_first line.line (ended (later.url_lines ++ later.empty_line ∷ [])) file);
+      whole = line.whole ∙ ap (λ t. line.line ++ lf ∷ t) later.whole
+          ∙ sym (line_first line.line (ended (later.url_lines ++ later.empty_line ∷ [])) file);
       lines = (line.one, later.lines);
-      url_texts = ap (λ u. u ∷ urls) line.text_of ∙ ap (λ t. without_cr line.line ∷ t) later.url_texts;
+      url_texts = ap (λ u. u ∷ urls) line.text_of
+          ∙ ap (λ t. without_cr line.line ∷ t) later.url_texts;
       filled = (is.2, later.filled);
       empty_text = later.empty_text;
     }
 
-lines_are_input : (input agent rest : List ℕ) (urls : List (List ℕ)) (file : List ℕ) → BeginsWithLine input agent rest → AreUrlLines rest urls file → IsInput input agent urls file
+lines_are_input : (input agent rest : List ℕ) (urls : List (List ℕ)) (file : List ℕ)
+    → BeginsWithLine input agent rest → AreUrlLines rest urls file → IsInput input agent urls file
 lines_are_input input agent rest urls file line are =
     let behind = from_lines urls rest file are in
     record {
       agent_line = line.line;
       url_lines = behind.url_lines;
       empty_line = behind.empty_line;
-      whole = line.whole ∙ ap (λ t. line.line ++ lf ∷ t) behind.whole ∙ sym (line_first line.line (ended (behind.url_lines ++ behind.empty_line ∷ [])) file);
+      whole = line.whole ∙ ap (λ t. line.line ++ lf ∷ t) behind.whole
+          ∙ sym (line_first line.line (ended (behind.url_lines ++ behind.empty_line ∷ [])) file);
       lines = (line.one, behind.lines);
       agent_text = line.text_of;
       url_texts = behind.url_texts;
@@ -179,27 +225,38 @@ lines_are_input input agent rest urls file line are =
       empty_text = behind.empty_text;
     }
 
-input_lines : (input agent : List ℕ) (urls : List (List ℕ)) (file : List ℕ) → IsInput input agent urls file → (rest : List ℕ) × BeginsWithLine input agent rest × AreUrlLines rest urls file
+input_lines : (input agent : List ℕ) (urls : List (List ℕ)) (file : List ℕ)
+    → IsInput input agent urls file → (rest : List ℕ) × BeginsWithLine input agent rest
+    × AreUrlLines rest urls file
 input_lines input agent urls file is =
     let rest : List ℕ = ended (is.url_lines ++ is.empty_line ∷ []) ++ file in (
       rest,
-      record { line = is.agent_line; whole = is.whole ∙ line_first is.agent_line (ended (is.url_lines ++ is.empty_line ∷ [])) file; one = is.lines.0; text_of = is.agent_text },
+      record { line = is.agent_line; whole = is.whole
+          ∙ line_first is.agent_line (ended (is.url_lines ++ is.empty_line ∷ [])) file; one =
+          is.lines.0; text_of = is.agent_text },
       subst (λ all. AreUrlLines rest all file) (sym is.url_texts)
-          (to_lines is.url_lines is.empty_line file rest refl is.lines.1 (subst (λ all. Each (λ url. url ≢ []) all) is.url_texts is.no_url_is_empty) is.empty_text),
+          (to_lines is.url_lines is.empty_line file rest refl is.lines.1
+              (subst (λ all. Each (λ url. url ≢ []) all) is.url_texts is.no_url_is_empty) is.empty_text),
     )
 
 -- the split that was found
-pub split_found : (input agent start rest url file : List ℕ) (urls : List (List ℕ)) → BeginsWithLine input agent start → GoesOn start urls rest → BeginsWithLine rest url file → url ≡ [] → IsInput input agent urls file
+pub split_found : (input agent start rest url file : List ℕ) (urls : List (List ℕ))
+    → BeginsWithLine input agent start → GoesOn start urls rest → BeginsWithLine rest url file
+    → url ≡ [] → IsInput input agent urls file
 split_found input agent start rest url file urls line goes end empty =
     lines_are_input input agent start urls file line
-    (subst (λ all. AreUrlLines start all file) (append-nil urls) (goes.from_rest [] file (subst (λ t. BeginsWithLine rest t file) empty end)))
+    (subst (λ all. AreUrlLines start all file) (append-nil urls)
+        (goes.from_rest [] file (subst (λ t. BeginsWithLine rest t file) empty end)))
 
 -- there is none: the first line isn't ended
-pub no_split_first : (input : List ℕ) → IsOneLine input → (agent : List ℕ) (urls : List (List ℕ)) (file : List ℕ) → ¬ IsInput input agent urls file
-no_split_first input one agent urls file is = let lines = input_lines input agent urls file is in no_line input agent lines.0 one lines.1
+pub no_split_first : (input : List ℕ) → IsOneLine input → (agent : List ℕ) (urls : List (List ℕ))
+    (file : List ℕ) → ¬ IsInput input agent urls file
+no_split_first input one agent urls file is = let lines = input_lines input agent urls file is in
+    no_line input agent lines.0 one lines.1
 
 -- there is none: a later line isn't ended
-pub no_split : (input agent start rest : List ℕ) (urls : List (List ℕ)) → BeginsWithLine input agent start → GoesOn start urls rest → IsOneLine rest
+pub no_split : (input agent start rest : List ℕ) (urls : List (List ℕ))
+    → BeginsWithLine input agent start → GoesOn start urls rest → IsOneLine rest
     → (other : List ℕ) (all : List (List ℕ)) (file : List ℕ) → ¬ IsInput input other all file
 no_split input agent start rest urls line goes one other all file is =
     let lines = input_lines input other all file is in
@@ -212,7 +269,8 @@ one_split input agent other urls others file rest is is_too =
     let one = input_lines input agent urls file is in
     let two = input_lines input other others rest is_too in
     let first = line_once input agent other one.0 two.0 one.1 two.1 in
-    let later = same_lines urls others two.0 file rest (subst (λ t. AreUrlLines t urls file) first.1 one.2) two.2 in
+    let later =
+        same_lines urls others two.0 file rest (subst (λ t. AreUrlLines t urls file) first.1 one.2) two.2 in
     (first.0, later.0, later.1)
 
 -- ---- empty and other texts
@@ -227,21 +285,29 @@ some_bytes (b ∷ text) e = λ is. cc
 
 -- ---- texts that are UTF-8
 
-pub each_pushed : (P : List ℕ → Type 0) (texts : List (List ℕ)) (text : List ℕ) → Each P texts → P text → Each P (texts ++ text ∷ [])
+pub each_pushed : (P : List ℕ → Type 0) (texts : List (List ℕ)) (text : List ℕ) → Each P texts
+    → P text → Each P (texts ++ text ∷ [])
 each_pushed P [] text each one = (one, tt)
 each_pushed P (t ∷ texts) text each one = (each.0, each_pushed P texts text each.1 one)
 
-each_at : (P : List ℕ → Type 0) (texts : List (List ℕ)) (k : ℕ) (text : List ℕ) → k < length texts → slice_index_or texts k text ≡ text → Each P texts → P text
+each_at : (P : List ℕ → Type 0) (texts : List (List ℕ)) (k : ℕ) (text : List ℕ) → k < length texts
+    → slice_index_or texts k text ≡ text → Each P texts → P text
 each_at P [] k text below is each = absurd (omega arith)
 each_at P (t ∷ texts) zero text below is each = subst P is each.0
 each_at P (t ∷ texts) (suc k) text below is each = each_at P texts k text (omega arith) is each.1
 
-pub not_both : (agent : List ℕ) (urls : List (List ℕ)) → AreUtf8 agent urls → HoldNotUtf8 agent urls → ⊥
-not_both agent urls are hold = elim hold [ inl not ↦ not are.0 | inr some ↦ some.4 (each_at IsUtf8 urls some.0 some.1 some.2 some.3 are.1) ]
+pub not_both : (agent : List ℕ) (urls : List (List ℕ)) → AreUtf8 agent urls → HoldNotUtf8 agent urls
+    → ⊥
+not_both agent urls are hold =
+    elim hold
+    [ inl not ↦ not are.0 | inr some ↦ some.4 (each_at IsUtf8 urls some.0 some.1 some.2 some.3 are.1) ]
 
-pub first_not_utf8 : {X : Type 0} (r : Result X Fault) (fault : Fault) (urls : List (Bor (List ℕ))) (place : ℕ) (url : Bor (List ℕ)) → IsErrAnd r (λ other. other ≡ fault) → place < length urls
+pub first_not_utf8 : {X : Type 0} (r : Result X Fault) (fault : Fault) (urls : List (Bor (List ℕ)))
+    (place : ℕ) (url : Bor (List ℕ)) → IsErrAnd r (λ other. other ≡ fault) → place < length urls
     → (fault ≡ HeaderNotUtf8) × ¬ IsUtf8 (slice_index_or urls place url).now
-    → IfErr r (λ fault. fault ≢ Memory → (fault ≡ HeaderNotUtf8) × Any (λ text. ¬ IsUtf8 text) (map (λ url. url.now) urls))
+    → IfErr r
+        (λ fault. fault ≢ Memory → (fault ≡ HeaderNotUtf8)
+        × Any (λ text. ¬ IsUtf8 text) (map (λ url. url.now) urls))
 first_not_utf8 (Ok x) fault urls place url is below not = absurd is
 first_not_utf8 (Err e) fault urls place url is below not = λ known. (
   is ∙ not.0,

@@ -1,5 +1,7 @@
 -- How a report is made, and that an input has one at most.
-use Rattle.std.proofs.Common.{◌≡◌, ◌≢◌, ℕ, ◌+◌, ◌<◌, length, take, slice_index_or, Bor, Bool, true, false, List, [], ◌∷◌, ◌++◌, Option, Some, None, Result, Ok, Err, IfSome, OnOk, map, sym, refl, ap, subst, ◌∙◌, append_assoc}
+use Rattle.std.proofs.Common.{◌≡◌, ◌≢◌, ℕ, ◌+◌, ◌<◌, length, take, slice_index_or, Bor}
+use Rattle.std.proofs.Common.{Bool, true, false, List, [], ◌∷◌, ◌++◌, Option, Some, None, Result}
+use Rattle.std.proofs.Common.{Ok, Err, IfSome, OnOk, map, sym, refl, ap, subst, ◌∙◌, append_assoc}
 use Rattle.std.specs.Io.KnownBytes.{Appends}
 use Rattle.std.specs.List.{AllZip}
 use Rattle.std.specs.Result.{IsErrAnd}
@@ -9,16 +11,19 @@ use Rattle.texting_robots.specs.Decision.{IsDecidingLine}
 use Rattle.texting_robots.specs.Line.{LineValue}
 use Rattle.texting_robots.specs.Prepared.{prepared}
 use Rattle.texting_robots.specs.Robot.{IsRobotOf, RobotValue, lines_read}
-use Rattle.texting_robots.specs.Rules.{IsRefused, PlacedRule, Rule, delay_for, placed_rules, sitemaps_in, unplaced}
+use Rattle.texting_robots.specs.Rules.{IsRefused, PlacedRule, Rule, delay_for}
+use Rattle.texting_robots.specs.Rules.{placed_rules, sitemaps_in, unplaced}
 use Rattle.texting_robots.specs.Verdict.{IsVerdict}
 use Rattle.texting_robots.proofs.VerdictLemmas.{one_line_decides}
 use Rattle.robots_verdict.specs.declared.fault.Fault.{Fault}
-use Rattle.robots_verdict.specs.declared.fault.Fault.TheVariants.{HeaderNotUtf8, InvalidRule, Memory, NoEmptyLine, Read, Write}
+use Rattle.robots_verdict.specs.declared.fault.Fault.TheVariants.{HeaderNotUtf8, InvalidRule}
+use Rattle.robots_verdict.specs.declared.fault.Fault.TheVariants.{Memory, NoEmptyLine, Read, Write}
 use Rattle.robots_io.specs.Lines.{ended, lf}
 use Rattle.robots_verdict.specs.Input.{AreUtf8, HoldNotUtf8, IsInput}
 use Rattle.robots_io.specs.Lines.{delay_line, verdict_line}
 use Rattle.robots_io.specs.Ends.{AppendsBeginning}
-use Rattle.robots_verdict.specs.Report.{AppendsReport, AppendsReportBeginning, EachInputHasOneReport, HasFault, IsReport, IsReportText, IsVerdictLine, sitemap_line}
+use Rattle.robots_verdict.specs.Report.{AppendsReport, AppendsReportBeginning, EachInputHasOneReport}
+use Rattle.robots_verdict.specs.Report.{HasFault, IsReport, IsReportText, IsVerdictLine, sitemap_line}
 use Rattle.robots_verdict.specs.Steps.{AddsVerdicts}
 use Rattle.robots_verdict.proofs.InputLemmas.{not_both, one_split}
 
@@ -28,14 +33,18 @@ ended-append : (lines more : List (List ℕ)) → ended (lines ++ more) ≡ ende
 ended-append lines more = flat_map-append (λ line. line ++ lf ∷ []) lines more
 
 -- a text, some lines and then others
-pub lines_added : (old mid new : List ℕ) (lines more : List (List ℕ)) → mid ≡ old ++ ended lines → new ≡ mid ++ ended more → new ≡ old ++ ended (lines ++ more)
-lines_added old mid new lines more one two = two ∙ ap (λ t. t ++ ended more) one ∙ append_assoc old (ended lines) (ended more) ∙ ap (λ t. old ++ t) (sym (ended-append lines more))
+pub lines_added : (old mid new : List ℕ) (lines more : List (List ℕ)) → mid ≡ old ++ ended lines
+    → new ≡ mid ++ ended more → new ≡ old ++ ended (lines ++ more)
+lines_added old mid new lines more one two = two ∙ ap (λ t. t ++ ended more) one
+    ∙ append_assoc old (ended lines) (ended more) ∙ ap (λ t. old ++ t) (sym (ended-append lines more))
 
-all_zip-append : (R : List ℕ → List ℕ → Type 0) (xs ys more others : List (List ℕ)) → AllZip R xs ys → AllZip R more others → AllZip R (xs ++ more) (ys ++ others)
+all_zip-append : (R : List ℕ → List ℕ → Type 0) (xs ys more others : List (List ℕ))
+    → AllZip R xs ys → AllZip R more others → AllZip R (xs ++ more) (ys ++ others)
 all_zip-append R [] [] more others one two = two
 all_zip-append R [] (y ∷ ys) more others one two = absurd one
 all_zip-append R (x ∷ xs) [] more others one two = absurd one
-all_zip-append R (x ∷ xs) (y ∷ ys) more others one two = (one.0, all_zip-append R xs ys more others one.1 two)
+all_zip-append R (x ∷ xs) (y ∷ ys) more others one two =
+    (one.0, all_zip-append R xs ys more others one.1 two)
 
 -- ---- verdicts
 
@@ -44,14 +53,19 @@ adds_nothing rules text = record { lines = []; verdicts = tt; whole = sym (appen
 
 pub adds_one : (rules : List PlacedRule) (url old new : List ℕ) (allowed : Bool) (number : Option ℕ)
     → IsVerdict (unplaced rules) (prepared url) allowed → IsDecidingLine rules (prepared url) number
-    → new ≡ old ++ ended (verdict_line allowed number url ∷ []) → AddsVerdicts rules (url ∷ []) old new
+    → new ≡ old ++ ended (verdict_line allowed number url ∷ [])
+        → AddsVerdicts rules (url ∷ []) old new
 adds_one rules url old new allowed number verdict deciding whole = record {
   lines = verdict_line allowed number url ∷ [];
-  verdicts = (record { allowed = allowed; number = number; verdict = verdict; deciding = deciding; whole = refl }, tt);
+  verdicts =
+      (record { allowed = allowed; number = number; verdict = verdict; deciding = deciding; whole = refl },
+      tt);
   whole = whole;
 }
 
-pub adds_more : (rules : List PlacedRule) (urls others : List (List ℕ)) (old mid new : List ℕ) → AddsVerdicts rules urls old mid → AddsVerdicts rules others mid new → AddsVerdicts rules (urls ++ others) old new
+pub adds_more : (rules : List PlacedRule) (urls others : List (List ℕ)) (old mid new : List ℕ)
+    → AddsVerdicts rules urls old mid → AddsVerdicts rules others mid new
+    → AddsVerdicts rules (urls ++ others) old new
 adds_more rules urls others old mid new one two = record {
   lines = one.lines ++ two.lines;
   verdicts = all_zip-append (IsVerdictLine rules) urls one.lines others two.lines one.verdicts two.verdicts;
@@ -59,11 +73,15 @@ adds_more rules urls others old mid new one two = record {
 }
 
 -- one URL more of a list
-pub adds_at : (rules : List PlacedRule) (urls : List (Bor (List ℕ))) (place : ℕ) (url : Bor (List ℕ)) (old mid new : List ℕ) → place < length urls
-    → AddsVerdicts rules (map (λ url. url.now) (take place urls)) old mid → AddsVerdicts rules ((slice_index_or urls place url).now ∷ []) mid new
+pub adds_at : (rules : List PlacedRule) (urls : List (Bor (List ℕ))) (place : ℕ) (url : Bor (List ℕ))
+    (old mid new : List ℕ) → place < length urls
+    → AddsVerdicts rules (map (λ url. url.now) (take place urls)) old mid
+        → AddsVerdicts rules ((slice_index_or urls place url).now ∷ []) mid new
     → AddsVerdicts rules (map (λ url. url.now) (take (place + 1) urls)) old new
 adds_at rules urls place url old mid new below one two =
-    rw (take_more urls place url below, map-append) (adds_more rules (map (λ url. url.now) (take place urls)) ((slice_index_or urls place url).now ∷ []) old mid new one two)
+    rw (take_more urls place url below, map-append)
+        (adds_more rules (map (λ url. url.now) (take place urls))
+        ((slice_index_or urls place url).now ∷ []) old mid new one two)
 
 -- a robot's verdicts are those of its file
 lines_like : (agent : List ℕ) (lines : List LineValue) (robot : RobotValue) → IsRobotOf agent lines robot
@@ -86,7 +104,8 @@ lines_like agent lines robot is (url ∷ urls) (text ∷ texts) (first, later) =
 -- ---- the report
 
 -- what is written line after line is the text of the report
-pub text_made : (agent : List ℕ) (urls : List (List ℕ)) (file one two text : List ℕ) (robot : RobotValue)
+pub text_made : (agent : List ℕ) (urls : List (List ℕ)) (file one two text : List ℕ)
+    (robot : RobotValue)
     → IsRobotOf agent (lines_read file) robot → one ≡ ended (delay_line robot.delay ∷ [])
     → two ≡ one ++ ended (map sitemap_line robot.sitemaps) → AddsVerdicts robot.rules urls two text
     → IsReportText agent urls file text
@@ -104,13 +123,15 @@ text_made agent urls file one two text robot is first second last =
 
 -- ---- one report
 
-verdict_once : (rules : List Rule) (text : List ℕ) (one two : Bool) → IsVerdict rules text one → IsVerdict rules text two → one ≡ two
+verdict_once : (rules : List Rule) (text : List ℕ) (one two : Bool) → IsVerdict rules text one
+    → IsVerdict rules text two → one ≡ two
 verdict_once rules text true true is is_too = refl
 verdict_once rules text true false is is_too = absurd (is is_too)
 verdict_once rules text false true is is_too = absurd (is_too is)
 verdict_once rules text false false is is_too = refl
 
-lines_once : (rules : List PlacedRule) (urls lines others : List (List ℕ)) → AllZip (IsVerdictLine rules) urls lines
+lines_once : (rules : List PlacedRule) (urls lines others : List (List ℕ))
+    → AllZip (IsVerdictLine rules) urls lines
     → AllZip (IsVerdictLine rules) urls others → lines ≡ others
 lines_once rules [] [] [] one two = refl
 lines_once rules [] [] (other ∷ others) one two = absurd two
@@ -118,45 +139,58 @@ lines_once rules [] (line ∷ lines) others one two = absurd one
 lines_once rules (url ∷ urls) [] others one two = absurd one
 lines_once rules (url ∷ urls) (line ∷ lines) [] one two = absurd two
 lines_once rules (url ∷ urls) (line ∷ lines) (other ∷ others) (one, more) (two, rest) =
-    let answers = verdict_once (unplaced rules) (prepared url) one.allowed two.allowed one.verdict two.verdict in
+    let answers =
+        verdict_once (unplaced rules) (prepared url) one.allowed two.allowed one.verdict two.verdict in
     let numbers = one_line_decides rules (prepared url) one.number two.number one.deciding two.deciding in
     let first : line ≡ other = one.whole ∙ ap (λ allowed. verdict_line allowed one.number url) answers
     ∙ ap (λ number. verdict_line two.allowed number url) numbers ∙ sym two.whole in
     let later : lines ≡ others = lines_once rules urls lines others more rest in
     cc
 
-text_once : (agent : List ℕ) (urls : List (List ℕ)) (file text other : List ℕ) → IsReportText agent urls file text
+text_once : (agent : List ℕ) (urls : List (List ℕ)) (file text other : List ℕ)
+    → IsReportText agent urls file text
     → IsReportText agent urls file other → text ≡ other
 text_once agent urls file text other one two =
     let lines = lines_read file in
     one.whole
-    ∙ ap (λ verdicts. ended (delay_line (delay_for agent lines) ∷ (map sitemap_line (sitemaps_in lines) ++ verdicts)))
+    ∙ ap (λ verdicts.
+        ended (delay_line (delay_for agent lines) ∷ (map sitemap_line (sitemaps_in lines) ++ verdicts)))
     (lines_once (placed_rules agent lines) urls one.verdict_lines two.verdict_lines one.verdicts two.verdicts)
     ∙ sym two.whole
 
 -- a fact of one split holds of the other
-same_split : (P : List ℕ → List (List ℕ) → List ℕ → Type 0) (input agent other : List ℕ) (urls others : List (List ℕ)) (file rest : List ℕ)
-    → IsInput input agent urls file → IsInput input other others rest → P other others rest → P agent urls file
+same_split : (P : List ℕ → List (List ℕ) → List ℕ → Type 0) (input agent other : List ℕ)
+    (urls others : List (List ℕ)) (file rest : List ℕ)
+    → IsInput input agent urls file → IsInput input other others rest → P other others rest
+        → P agent urls file
 same_split P input agent other urls others file rest one two is =
     let same = one_split input agent other urls others file rest one two in
-    subst (λ a. P a urls file) (sym same.0) (subst (λ u. P other u file) (sym same.1) (subst (λ f. P other others f) (sym same.2) is))
+    subst (λ a. P a urls file) (sym same.0)
+        (subst (λ u. P other u file) (sym same.1) (subst (λ f. P other others f) (sym same.2) is))
 
-no_fault : (input : List ℕ) (text : List ℕ) (fault : Fault) → IsReport input (Ok text) → HasFault input fault → ⊥
+no_fault : (input : List ℕ) (text : List ℕ) (fault : Fault) → IsReport input (Ok text)
+    → HasFault input fault → ⊥
 no_fault input text Read report has = has
 no_fault input text Write report has = has
 no_fault input text NoEmptyLine report has = has report.0 report.1 report.2 report.3
 no_fault input text HeaderNotUtf8 report has =
     not_both report.0 report.1 report.4
-    (same_split (λ agent urls file. HoldNotUtf8 agent urls) input report.0 has.0 report.1 has.1 report.2 has.2 report.3 has.3 has.4)
+    (same_split (λ agent urls file. HoldNotUtf8 agent urls) input report.0 has.0 report.1 has.1 report.2
+        has.2 report.3 has.3 has.4)
 no_fault input text InvalidRule report has =
-    report.5 (same_split (λ agent urls file. IsRefused agent (lines_read file)) input report.0 has.0 report.1 has.1 report.2 has.2 report.3 has.3 has.5)
+    report.5
+        (same_split (λ agent urls file. IsRefused agent (lines_read file)) input report.0 has.0 report.1
+        has.1 report.2 has.2 report.3 has.3 has.5)
 no_fault input text Memory report has = has
 
 not_refused : (input : List ℕ) → HasFault input HeaderNotUtf8 → HasFault input InvalidRule → ⊥
 not_refused input one two =
-    not_both one.0 one.1 (same_split (λ agent urls file. AreUtf8 agent urls) input one.0 two.0 one.1 two.1 one.2 two.2 one.3 two.3 two.4) one.4
+    not_both one.0 one.1
+        (same_split (λ agent urls file. AreUtf8 agent urls) input one.0 two.0 one.1 two.1 one.2 two.2
+        one.3 two.3 two.4) one.4
 
-same_fault : (input : List ℕ) (fault other : Fault) → HasFault input fault → HasFault input other → fault ≡ other
+same_fault : (input : List ℕ) (fault other : Fault) → HasFault input fault → HasFault input other
+    → fault ≡ other
 same_fault input Read other one two = absurd one
 same_fault input Write other one two = absurd one
 same_fault input Memory other one two = absurd one
@@ -182,7 +216,9 @@ same_fault input InvalidRule Memory one two = absurd two
 pub one_report : EachInputHasOneReport
 one_report input (Ok text) (Ok other) one two =
     ap (λ t. Ok t)
-    (text_once one.0 one.1 one.2 text other one.6 (same_split (λ agent urls file. IsReportText agent urls file other) input one.0 two.0 one.1 two.1 one.2 two.2 one.3 two.3 two.6))
+    (text_once one.0 one.1 one.2 text other one.6
+        (same_split (λ agent urls file. IsReportText agent urls file other) input one.0 two.0 one.1 two.1
+        one.2 two.2 one.3 two.3 two.6))
 one_report input (Ok text) (Err fault) one two = absurd (no_fault input text fault one two)
 one_report input (Err fault) (Ok text) one two = absurd (no_fault input text fault two one)
 one_report input (Err fault) (Err other) one two = ap (λ f. Err f) (same_fault input fault other one two)
@@ -190,7 +226,8 @@ one_report input (Err fault) (Err other) one two = ap (λ f. Err f) (same_fault 
 -- ---- the run
 
 pub run_ok : (left old new : Option (List ℕ)) (items bytes text written : List ℕ)
-    → IfSome left (λ input. items ≡ input) → bytes ≡ items → IsReport bytes (Ok text) → written ≡ text → Appends old new written
+    → IfSome left (λ input. items ≡ input) → bytes ≡ items → IsReport bytes (Ok text)
+        → written ≡ text → Appends old new written
     → IfSome left (AppendsReport old new)
 run_ok None old new items bytes text written read same report whole wrote = tt
 run_ok (Some input) old new items bytes text written read same report whole wrote = (
@@ -200,7 +237,8 @@ run_ok (Some input) old new items bytes text written read same report whole wrot
 )
 
 pub run_beginning : (left old new : Option (List ℕ)) (items bytes text written : List ℕ)
-    → IfSome left (λ input. items ≡ input) → bytes ≡ items → IsReport bytes (Ok text) → written ≡ text → AppendsBeginning old new written
+    → IfSome left (λ input. items ≡ input) → bytes ≡ items → IsReport bytes (Ok text)
+        → written ≡ text → AppendsBeginning old new written
     → IfSome left (AppendsReportBeginning old new)
 run_beginning None old new items bytes text written read same report whole wrote = tt
 run_beginning (Some input) old new items bytes text written read same report whole wrote = (
@@ -209,12 +247,16 @@ run_beginning (Some input) old new items bytes text written read same report who
   subst (λ t. AppendsBeginning old new t) whole wrote,
 )
 
-pub run_fault : {X : Type 0} (left : Option (List ℕ)) (items bytes : List ℕ) (r : Result X Fault) (fault wanted : Fault)
-    → IfSome left (λ input. items ≡ input) → bytes ≡ items → (fault ≢ Memory → HasFault bytes fault) → IsErrAnd r (λ other. other ≡ fault) → wanted ≢ Memory
+pub run_fault : {X : Type 0} (left : Option (List ℕ)) (items bytes : List ℕ)
+    (r : Result X Fault) (fault wanted : Fault)
+    → IfSome left (λ input. items ≡ input) → bytes ≡ items
+        → (fault ≢ Memory → HasFault bytes fault) → IsErrAnd r (λ other. other ≡ fault)
+        → wanted ≢ Memory
     → r ≡ Err wanted → IfSome left (λ input. IsReport input (Err wanted))
 run_fault left items bytes (Ok x) fault wanted read same has is known answer = absurd is
 run_fault None items bytes (Err e) fault wanted read same has is known answer = tt
 run_fault {X = X} (Some input) items bytes (Err e) fault wanted read same has is known answer =
     let errors : ◌≡◌ {A = Result X Fault} (Err e) (Err wanted) = answer in
     let found : fault ≡ wanted = cc in
-    subst (λ t. HasFault t wanted) (same ∙ read) (subst (λ f. HasFault bytes f) found (has (λ memory. known (sym found ∙ memory))))
+    subst (λ t. HasFault t wanted) (same ∙ read)
+        (subst (λ f. HasFault bytes f) found (has (λ memory. known (sym found ∙ memory))))

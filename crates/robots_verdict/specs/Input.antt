@@ -1,5 +1,6 @@
 -- What an input of the program is made of.
-use Rattle.std.specs.Prelude.{◌≡◌, ◌≢◌, ◌⊎◌, ℕ, ◌==◌, List, [], ◌∷◌, ◌++◌, Any, IsUtf8, if◌then◌else◌, map}
+use Rattle.std.specs.Prelude.{◌≡◌, ◌≢◌, ◌⊎◌, ℕ, ◌==◌, List, []}
+use Rattle.std.specs.Prelude.{◌∷◌, ◌++◌, Any, IsUtf8, if◌then◌else◌, map}
 use Rattle.std.specs.List.{AllByRecursion as Each}
 use Rattle.robots_io.specs.Lines.{ended, lf}
 
@@ -41,4 +42,5 @@ HoldNotUtf8 agent urls = (¬ IsUtf8 agent) ⊎ Any (λ url. ¬ IsUtf8 url) urls
 abbrev pub EachInputHasOneSplit : Type 0
 EachInputHasOneSplit =
     (input agent other : List ℕ) (urls others : List (List ℕ)) (file rest : List ℕ)
-    → IsInput input agent urls file → IsInput input other others rest → (agent ≡ other) × (urls ≡ others) × (file ≡ rest)
+    → IsInput input agent urls file → IsInput input other others rest → (agent ≡ other)
+        × (urls ≡ others) × (file ≡ rest)

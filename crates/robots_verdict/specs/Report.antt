@@ -1,5 +1,6 @@
 -- What the program writes of what it reads.
-use Rattle.std.specs.Prelude.{◌≡◌, ℕ, Bool, List, ◌∷◌, ◌++◌, Option, Result, Ok, Err, codes, map}
+use Rattle.std.specs.Prelude.{◌≡◌, ℕ, Bool, List, ◌∷◌}
+use Rattle.std.specs.Prelude.{◌++◌, Option, Result, Ok, Err, codes, map}
 use Rattle.std.specs.List.{AllZip}
 use Rattle.std.specs.Io.KnownBytes.{Appends}
 use Rattle.texting_robots.specs.Decision.{IsDecidingLine}
@@ -10,7 +11,8 @@ use Rattle.texting_robots.specs.Robot.{lines_read}
 use Rattle.robots_io.specs.Ends.{AppendsBeginning}
 use Rattle.robots_io.specs.Lines.{delay_line, ended, verdict_line}
 use Rattle.robots_verdict.specs.declared.fault.Fault.{Fault}
-use Rattle.robots_verdict.specs.declared.fault.Fault.TheVariants.{HeaderNotUtf8, InvalidRule, Memory, NoEmptyLine, Read, Write}
+use Rattle.robots_verdict.specs.declared.fault.Fault.TheVariants.{HeaderNotUtf8, InvalidRule}
+use Rattle.robots_verdict.specs.declared.fault.Fault.TheVariants.{Memory, NoEmptyLine, Read, Write}
 use Rattle.robots_verdict.specs.Input.{AreUtf8, HoldNotUtf8, IsInput}
 
 -- ---- the lines of a report
@@ -39,22 +41,27 @@ pub record IsReportText (agent : List ℕ) (urls : List (List ℕ)) (file text :
 abbrev pub HasFault : List ℕ → Fault → Type 0
 HasFault input Read = ⊥
 HasFault input Write = ⊥
-HasFault input NoEmptyLine = (agent : List ℕ) (urls : List (List ℕ)) (file : List ℕ) → ¬ IsInput input agent urls file
-HasFault input HeaderNotUtf8 = (agent : List ℕ) × (urls : List (List ℕ)) × (file : List ℕ) × IsInput input agent urls file × HoldNotUtf8 agent urls
+HasFault input NoEmptyLine = (agent : List ℕ) (urls : List (List ℕ)) (file : List ℕ)
+    → ¬ IsInput input agent urls file
+HasFault input HeaderNotUtf8 = (agent : List ℕ) × (urls : List (List ℕ)) × (file : List ℕ)
+    × IsInput input agent urls file × HoldNotUtf8 agent urls
 HasFault input InvalidRule =
-    (agent : List ℕ) × (urls : List (List ℕ)) × (file : List ℕ) × IsInput input agent urls file × AreUtf8 agent urls × IsRefused agent (lines_read file)
+    (agent : List ℕ) × (urls : List (List ℕ)) × (file : List ℕ) × IsInput input agent urls file
+        × AreUtf8 agent urls × IsRefused agent (lines_read file)
 HasFault input Memory = ⊥
 
 -- the text of the report, or the fault of the input
 abbrev pub IsReport : List ℕ → Result (List ℕ) Fault → Type 0
 IsReport input (Ok text) =
     (agent : List ℕ) × (urls : List (List ℕ)) × (file : List ℕ)
-    × IsInput input agent urls file × AreUtf8 agent urls × (¬ IsRefused agent (lines_read file)) × IsReportText agent urls file text
+    × IsInput input agent urls file × AreUtf8 agent urls × (¬ IsRefused agent (lines_read file))
+        × IsReportText agent urls file text
 IsReport input (Err fault) = HasFault input fault
 
 -- an input has one report at most
 abbrev pub EachInputHasOneReport : Type 0
-EachInputHasOneReport = (input : List ℕ) (report other : Result (List ℕ) Fault) → IsReport input report → IsReport input other → report ≡ other
+EachInputHasOneReport = (input : List ℕ) (report other : Result (List ℕ) Fault) → IsReport input report
+    → IsReport input other → report ≡ other
 
 -- ---- what is written of it
 
@@ -64,4 +71,5 @@ AppendsReport old new input = (text : List ℕ) × IsReport input (Ok text) × A
 
 -- the writer holds what it held, and then a beginning of the report of the input
 abbrev pub AppendsReportBeginning : Option (List ℕ) → Option (List ℕ) → List ℕ → Type 0
-AppendsReportBeginning old new input = (text : List ℕ) × IsReport input (Ok text) × AppendsBeginning old new text
+AppendsReportBeginning old new input = (text : List ℕ) × IsReport input (Ok text)
+    × AppendsBeginning old new text

@@ -1,5 +1,8 @@
 -- The cut read from the front: the first line of a text, and the lines of the rest.
-use Rattle.std.proofs.Common.{◌≡◌, ◌≢◌, ℕ, suc, ◌+◌, ◌%◌, ◌^◌, ◌<◌, ◌≤◌, Bool, true, false, ◌==◌, ◌||◌, inl, inr, List, [], ◌∷◌, length, take, drop, map, get_or, sym, refl, ap, ◌∙◌, arith, cond, if◌then◌else◌, map-id, Option, Some, None, MatchOption, zero, bit_or}
+use Rattle.std.proofs.Common.{◌≡◌, ◌≢◌, ℕ, suc, ◌+◌, ◌%◌, ◌^◌, ◌<◌, ◌≤◌}
+use Rattle.std.proofs.Common.{Bool, true, false, ◌==◌, ◌||◌, inl, inr, List, [], ◌∷◌, length}
+use Rattle.std.proofs.Common.{take, drop, map, get_or, sym, refl, ap, ◌∙◌, arith, cond}
+use Rattle.std.proofs.Common.{if◌then◌else◌, map-id, Option, Some, None, MatchOption, zero, bit_or}
 use Rattle.std.specs.List.{position_or_len}
 use Rattle.std.proofs.lemmas.Bool.{cases_Bool, cond-true, cond-false, eqb-true, ne_eqb}
 use Rattle.std.proofs.lemmas.Bool.Decides.{nat_tests}
@@ -188,7 +191,8 @@ body_within (b ∷ text) = elim (cases_Bool (b == lf)) [
 ]
 
 -- a front without an end is passed over
-pub passed_front : (n : Bool) (text : List ℕ) (k : ℕ) → k ≤ length text → body_len (read_as n (take k text)) ≡ k
+pub passed_front : (n : Bool) (text : List ℕ) (k : ℕ) → k ≤ length text
+    → body_len (read_as n (take k text)) ≡ k
     → body_len (read_as n text) ≡ k + body_len (read_as n (drop k text))
 passed_front n text zero within none = omega arith
 passed_front n [] (suc k) within none = absurd (omega (arith, within))
@@ -196,13 +200,16 @@ passed_front n (b ∷ text) (suc k) within none = elim (cases_Bool (read_byte n 
   | inl is_lf ↦ (let wrong : 0 ≡ suc k = rw is_lf at none in absurd (omega (arith, wrong)))
   | inr not_lf ↦ elim (cases_Bool (read_byte n b == cr)) [
     | inl is_cr ↦ (let wrong : 0 ≡ suc k = rw (not_lf, is_cr) at none in absurd (omega (arith, wrong)))
-    | inr not_cr ↦ (let rest = passed_front n text k (omega (arith, within)) (omega (arith, (rw (not_lf, not_cr) at none))) in
+    | inr
+        not_cr ↦ (let rest = passed_front n text k (omega (arith, within))
+        (omega (arith, (rw (not_lf, not_cr) at none))) in
         rw (not_lf, not_cr) (omega (arith, rest)))
   ]
 ]
 
 -- the front of a text, looked at for an end: there is one, or all of it is passed over
-pub front_seen : (n : Bool) (text : List ℕ) (k len : ℕ) → k ≤ length text → len ≡ body_len (read_as n (take k text))
+pub front_seen : (n : Bool) (text : List ℕ) (k len : ℕ) → k ≤ length text
+    → len ≡ body_len (read_as n (take k text))
     → (len < k → body_len (read_as n text) ≡ len)
     × (k ≤ len → body_len (read_as n text) ≡ k + body_len (read_as n (drop k text)))
 front_seen n text k len within len_is =
@@ -220,10 +227,12 @@ abbrev mark : ℕ → ℕ → ℕ
 mark third b =
     bit_or (bit_or (cond (b == cr) 255 0) (cond (b == lf) 255 0)) (cond (b == third) 255 0)
 
-pub ends_marked : (n : Bool) (third : ℕ) → third ≡ (if n then 0 else lf) → Ends n (λ b. top 7 (mark third b))
+pub ends_marked : (n : Bool) (third : ℕ) → third ≡ (if n then 0 else lf)
+    → Ends n (λ b. top 7 (mark third b))
 ends_marked n third is b = told (b == cr) (b == lf) (b == third) ∙ rw is (by n)
   where
-    told : (x y z : Bool) → top 7 (bit_or (bit_or (cond x 255 0) (cond y 255 0)) (cond z 255 0)) ≡ (x || y || z)
+    told : (x y z : Bool) → top 7 (bit_or (bit_or (cond x 255 0) (cond y 255 0)) (cond z 255 0))
+        ≡ (x || y || z)
     told true true true = refl
     told true true false = refl
     told true false true = refl
@@ -239,14 +248,17 @@ ends_marked n third is b = told (b == cr) (b == lf) (b == third) ∙ rw is (by n
     twice false true = refl
     twice false false = refl
 
-    by : (n : Bool) → is_byte3 cr lf (if n then 0 else lf) b ≡ (read_byte n b == lf || read_byte n b == cr)
+    by : (n : Bool) → is_byte3 cr lf (if n then 0 else lf) b
+        ≡ (read_byte n b == lf || read_byte n b == cr)
     by true = ends_with_nul b
     by false = twice (b == cr) (b == lf) ∙ ends_as_is b
 
 -- the first lane that is marked is the first end
-pub marked_first : (n : Bool) (f : ℕ → ℕ) (v lanes : List ℕ) (first : ℕ) → length v ≡ 32 → lanes ≡ map f v
+pub marked_first : (n : Bool) (f : ℕ → ℕ) (v lanes : List ℕ) (first : ℕ)
+    → length v ≡ 32 → lanes ≡ map f v
     → Ends n (λ b. top 7 (f b))
-    → (let mask = mask_l (map (top 7) lanes) % 2 ^ 64 in first ≡ (if mask == 0 then 32 else trailing_zeros w64 mask))
+    → (let mask = mask_l (map (top 7) lanes) % 2 ^ 64 in
+        first ≡ (if mask == 0 then 32 else trailing_zeros w64 mask))
     → first ≡ body_len (read_as n v)
 marked_first n f v lanes first long lanes_are ends found =
     let test = λ (b : ℕ). top 7 (f b) in

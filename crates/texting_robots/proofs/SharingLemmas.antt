@@ -1,6 +1,8 @@
 -- What stands in shared vectors stays there when more is added.
-use Rattle.std.proofs.Common.{◌≡◌, ℕ, ◌+◌, ◌-◌, List, [], ◌∷◌, ◌++◌, All, length, drop, map, slice_range, take, refl, sym, ap, ◌∙◌, arith}
-use Rattle.std.proofs.lemmas.List.{drop-append-le, drop_at, get_or_append_left, length-append, length-drop, map_push, take-append-le, take_all}
+use Rattle.std.proofs.Common.{◌≡◌, ℕ, ◌+◌, ◌-◌, List, [], ◌∷◌, ◌++◌, All}
+use Rattle.std.proofs.Common.{length, drop, map, slice_range, take, refl, sym, ap, ◌∙◌, arith}
+use Rattle.std.proofs.lemmas.List.{drop-append-le, drop_at, get_or_append_left, length-append}
+use Rattle.std.proofs.lemmas.List.{length-drop, map_push, take-append-le, take_all}
 use Rattle.std.proofs.lemmas.List.Elements.{All-head, All-push, All-tail, All-weaker}
 use Rattle.texting_robots.specs.declared.pieces.Ends.{Ends}
 use Rattle.texting_robots.specs.declared.pieces.Piece.{Piece}
@@ -82,7 +84,8 @@ module _ (pieces more : List Piece) (at : ℕ) where
   last_kept LastPiece h = let sizes = length-append pieces more in omega arith
   last_kept Nothing h = tt
 
-  ending_kept : (tail : Tail) → HasLast pieces at tail → ending_of (pieces ++ more) at tail ≡ ending_of pieces at tail
+  ending_kept : (tail : Tail) → HasLast pieces at tail
+      → ending_of (pieces ++ more) at tail ≡ ending_of pieces at tail
   ending_kept Any h = refl
   ending_kept End h = refl
   ending_kept LastPiece h = ap (λ (p : Piece). Last p.span) (get_or_append_left pieces more no_piece at h)

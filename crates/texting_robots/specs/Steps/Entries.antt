@@ -1,6 +1,7 @@
 -- Rules by their ranges of shared vectors.
-use Rattle.std.specs.Prelude.{◌≡◌, ℕ, ◌+◌, ◌-◌, ◌*◌, ◌<◌, ◌≤◌, Bool, false, List, ◌++◌, All, length, map, slice_index_or, string_bytes}
-use Rattle.std.specs.Prelude.{if◌then◌else◌}
+use Rattle.std.specs.Prelude.{◌≡◌, ℕ, ◌+◌, ◌-◌, ◌*◌, ◌<◌}
+use Rattle.std.specs.Prelude.{◌≤◌, Bool, false, List, ◌++◌, All, length}
+use Rattle.std.specs.Prelude.{map, slice_index_or, string_bytes, if◌then◌else◌}
 use Rattle.std.specs.Ordering.{flip_args, nat_cmp, on, then_cmp}
 use Rattle.std.specs.declared.cmp.Ordering.{Ordering}
 use Rattle.texting_robots.specs.declared.pieces.Span.{Span}
@@ -56,7 +57,8 @@ pub record IsEntry (text : List ℕ) (pieces : List Piece) (borders : List ℕ) 
   pub pattern : IsSpan text entry.pattern
   pub searched : IsSpan pieces entry.pieces
   pub last : HasLast pieces entry.pieces.end entry.tail
-  pub is_cut : ArePieces (part_of text entry.pattern) (ends_of pieces entry) (part_of pieces entry.pieces) borders
+  pub is_cut : ArePieces (part_of text entry.pattern) (ends_of pieces entry)
+      (part_of pieces entry.pieces) borders
   pub needed : AreNeeds (part_of text entry.pattern) entry.needs
   pub ranked : entry.rank ≡ rank (len_of entry) entry.is_allow
 

@@ -1,5 +1,5 @@
-use Rattle.std.proofs.Common.{◌≡◌, ℕ, ◌-◌, List, ◌++◌, length, slice_range, string_bytes, refl, ap, subst, ◌∙◌, arith}
-use Rattle.std.proofs.Common.{append_assoc, length-append}
+use Rattle.std.proofs.Common.{◌≡◌, ℕ, ◌-◌, List, ◌++◌, length, slice_range, string_bytes}
+use Rattle.std.proofs.Common.{refl, ap, subst, ◌∙◌, arith, append_assoc, length-append}
 use Rattle.texting_robots.specs.declared.pieces.Piece.{Piece}
 use Rattle.texting_robots.specs.Steps.Needs.{AreNeeds}
 use Rattle.texting_robots.specs.Steps.Pieces.{ArePieces}
@@ -28,12 +28,16 @@ returns-clause-known c =
     let first_piece : c.len-first_piece.result ≡ length old.pieces.items = omega arith in
     let end_piece : c.len-end_piece.result ≡ length c.push_pieces.new.pieces.items = omega arith in
     let len : c.len-end_byte.result - c.len-first_byte.result ≡ length more = omega arith in
-    let same = ap (λ (t : List ℕ). slice_range t c.len-first_byte.result (length t)) (c.as_bytes.ensures.value ∙ text)
+    let same = ap (λ (t : List ℕ). slice_range t c.len-first_byte.result (length t))
+        (c.as_bytes.ensures.value ∙ text)
     ∙ behind_old old_text more c.len-first_byte.result first_byte in
     let last = c.in_ok-tail.ensures in
-    let cut = subst (λ p. ArePieces p c.in_ok-ends.ends added.pieces c.push_pieces.new.borders.items) same added.are_pieces in
-    let needed = subst (λ (p : List ℕ). AreNeeds p c.needs-needs.result) (c.new.ensures ∙ same) c.needs-needs.ensures in
-    let pushed : IsPushed old_text more old.pieces.items added.pieces c.push_pieces.new.borders.items _ c.in_ok-ends.ends
+    let cut = subst (λ p. ArePieces p c.in_ok-ends.ends added.pieces c.push_pieces.new.borders.items)
+        same added.are_pieces in
+    let needed = subst (λ (p : List ℕ). AreNeeds p c.needs-needs.result)
+        (c.new.ensures ∙ same) c.needs-needs.ensures in
+    let pushed : IsPushed old_text more old.pieces.items added.pieces c.push_pieces.new.borders.items _
+        c.in_ok-ends.ends
     c.push_last.new.pieces.items = record {
       pattern_span = record { start = first_byte; end = end_byte ∙ ap length text };
       searched_span = record { start = first_piece; end = end_piece ∙ ap length added.put_pieces };
