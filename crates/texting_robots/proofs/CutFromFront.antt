@@ -96,6 +96,10 @@ pub past_return : (n : Bool) (after : List ℕ)
 past_return true after = refl
 past_return false after = refl
 
+pub past_line_feed : (n : Bool) (after : List ℕ) → drop (end_len (read_as n (lf ∷ after))) (lf ∷ after) ≡ after
+past_line_feed true after = refl
+past_line_feed false after = refl
+
 pub past_feed : (n : Bool) (b : ℕ) (after : List ℕ) → (read_byte n b == lf) ≡ true
     → drop (end_len (read_as n (b ∷ after))) (b ∷ after) ≡ after
 past_feed n b after is = rw is refl

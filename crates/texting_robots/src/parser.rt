@@ -67,6 +67,7 @@ impl<'a> Model for Unread<'a> {
 
 impl<'a> Unread<'a> {
     /// The line, read.
+    #[inline(always)]
     pub(crate) fn read(&self) -> Line<'a>
         ensures { by_value result ≡ self.now }
     {

@@ -78,11 +78,14 @@ fn feeds(byte: u8, nul_ends: bool) -> bool
     byte == b'\n' || nul_ends && byte == 0
 }
 
-/// What follows the line end that the text begins with.
-#[tactic(auto, using(crate::proofs::CutFromFront::past_return, crate::proofs::CutFromFront::past_feed, crate::proofs::CutFromFront::no_end))]
+/// What follows the line end that the text begins with, mostly an LF alone.
+#[tactic(auto, using(crate::proofs::CutFromFront::past_line_feed, crate::proofs::CutFromFront::past_return, crate::proofs::CutFromFront::past_feed, crate::proofs::CutFromFront::no_end))]
 pub(crate) fn after_end<'a>(text: &'a [u8], nul_ends: bool) -> &'a [u8]
     ensures { result.now ≡ drop (end_len (read_as nul_ends text.now)) text.now }
 {
+    if let [b'\n', after @ ..] = text {
+        return after;
+    }
     let mut rest = text;
     while let [b'\r', after @ ..] = rest {
         rest = after;

@@ -100,6 +100,7 @@ fn after_any<'a>(spellings: &[&str], text: &'a [u8]) -> Option<&'a [u8]>
 }
 
 /// What follows the separator and the blanks behind it.
+#[inline(always)]
 fn tail_of<'a>(rest: &'a [u8]) -> Option<&'a [u8]>
     ensures { MatchOption result (tail_of rest.now ≡ None) (λ tail. tail_of rest.now ≡ Some tail.now) }
 {
@@ -112,6 +113,7 @@ fn tail_of<'a>(rest: &'a [u8]) -> Option<&'a [u8]>
 }
 
 /// What follows the separator, if the text begins with a key of this kind.
+#[inline(never)]
 fn tail_as<'a>(kind: Kind, text: &'a [u8]) -> Option<&'a [u8]>
     ensures { MatchOption result (tail_as kind text.now ≡ None) (λ tail. tail_as kind text.now ≡ Some tail.now) }
 {
@@ -129,6 +131,7 @@ fn parts_of<'a>(body: &'a [u8]) -> Option<(Kind, &'a [u8])>
 }
 
 /// The tail of a body that is a statement of this kind, whose value isn't read yet. A body of another kind is passed over by its first letter.
+#[inline(always)]
 pub(crate) fn tail_if<'a>(kind: Kind, body: &'a [u8]) -> Option<&'a [u8]>
     ensures { MatchOption result ((tail : List ℕ) → parts_of body.now ≢ Some (kind, tail))
         (λ tail. parts_of body.now ≡ Some (kind, tail.now)) }
@@ -163,18 +166,36 @@ fn holds_hash(text: &[u8]) -> bool
     }
 }
 
-/// What stands before the comment.
-#[tactic(auto, using(crate::proofs::RegionLemmas::first_is, crate::proofs::RegionLemmas::none_is, crate::proofs::RegionLemmas::plain_is))]
-fn region_of<'a>(tail: &'a [u8]) -> &'a [u8]
+/// What stands before the first hash.
+#[tactic(auto, using(crate::proofs::RegionLemmas::first_is, crate::proofs::RegionLemmas::none_is))]
+#[inline(never)]
+fn before_hash<'a>(tail: &'a [u8]) -> &'a [u8]
     ensures { result.now ≡ region_of tail.now }
 {
-    if !holds_hash(tail) {
-        return tail;
-    }
     match memchr(b'#', tail) {
         Some(at) => &tail[..at],
         None => tail,
     }
+}
+
+/// What stands before the comment. Most tails hold none, and these are told soonest.
+#[tactic(auto, using(crate::proofs::RegionLemmas::plain_is))]
+fn region_of<'a>(tail: &'a [u8]) -> &'a [u8]
+    ensures { result.now ≡ region_of tail.now }
+{
+    if holds_hash(tail) {
+        before_hash(tail)
+    } else {
+        tail
+    }
+}
+
+/// The text without white space at its ends, which are decoded.
+#[inline(never)]
+fn trimmed_by_chars<'a>(text: &'a [u8]) -> &'a [u8]
+    ensures { result.now ≡ trimmed text.now }
+{
+    text.trim()
 }
 
 /// The text without white space at its ends. Where both ends are ASCII and visible, nothing is decoded.
@@ -183,7 +204,7 @@ fn trimmed<'a>(text: &'a [u8]) -> &'a [u8]
 {
     match (text.first(), text.last()) {
         (Some(first), Some(last)) if first.is_ascii_graphic() && last.is_ascii_graphic() => text,
-        _ => text.trim(),
+        _ => trimmed_by_chars(text),
     }
 }
 
