@@ -22,14 +22,23 @@ pub(crate) fn escaped<'a>(alloc: Global, text: &'a str) -> Result<CowStr<'a, Glo
 fn is_plain(byte: u8) -> bool
     ensures { result ≡ not (is_escaped byte) }
 {
-    matches!(byte, b'!' | b'#'..=b';' | b'=' | b'?'..=b'_' | b'a'..=b'~')
+    (byte > b' ')
+        & (byte <= b'~')
+        & (byte != b'"')
+        & (byte != b'<')
+        & (byte != b'>')
+        & (byte != b'`')
 }
 
-/// Whether each byte stands for itself.
+/// Whether each byte stands for itself. All are tested: where most do, stopping early costs more than it saves.
 fn are_plain(bytes: &[u8]) -> bool
     ensures { result ≡ list_all (λ b. not (is_escaped b)) bytes.now }
 {
-    bytes.iter().all(|byte| is_plain(*byte))
+    let mut all = true;
+    for byte in bytes {
+        all &= is_plain(*byte);
+    }
+    all
 }
 
 /// Adds the text with each byte of the set and each byte past ASCII escaped. Most texts have none, and are copied whole.
