@@ -59,7 +59,7 @@ behind_old xs more start is =
 module _ (p : List ℕ) (ends : Ends) (pieces : List Piece) (borders more : List ℕ) where
   piece_kept : (piece : Piece) → IsPiece p borders piece → IsPiece p (borders ++ more) piece
   piece_kept piece is =
-      let len = length (part_of p piece.span) in
+      let len = length (part_of p piece.span) - 1 in
       let table : Span = record { start = piece.table; end = piece.table + len } in
       let fits = is.fits in
       let stays = part_kept borders more table (record { ordered = omega arith; within = fits }) in

@@ -119,7 +119,7 @@ impl<'a> Pattern<'a> {
         let mut place = first.len();
         for piece in self.pieces {
             let bytes = &self.bytes[piece.span.start..piece.span.end];
-            let table = &self.borders[piece.table..piece.table + bytes.len()];
+            let table = &self.borders[piece.table..piece.table + bytes.len().saturating_sub(1)];
             match find(view, bytes, table, place) {
                 Some(end) => place = end,
                 None => return false,
@@ -187,19 +187,19 @@ pub(crate) fn is_overlong(pattern: &[u8]) -> bool
     pattern.contains(&DOLLAR) && collapsed_len(pattern) > LONGEST_WITH_DOLLAR
 }
 
-/// Adds the table of a piece: for each beginning of it the length of its longest proper border.
+/// Adds the table of a piece: for each beginning of it, but the piece itself, the length of its longest proper border.
 fn push_borders(borders: &mut Vec<usize>, piece: &[u8]) -> Result<(), AllocError>
     ensures { IfOk result (λ _. (table : _) × (borders.new.items ≡ borders.old.items ++ table)
         × IsTable piece.now table) }
 {
-    if piece.is_empty() {
+    if piece.len() < 2 {
         return Ok(());
     }
     let table = borders.len();
     borders.push(0)?;
     let mut place = 1;
     let mut matched = 0;
-    while place < piece.len() {
+    while place < piece.len() - 1 {
         if piece[place] == piece[matched] {
             matched += 1;
         } else if matched > 0 {
@@ -328,13 +328,13 @@ mod tests {
     fn tables(rt: HostRuntime) -> Result<(), Fail> {
         let mut borders = Vec::new(rt.alloc());
         push_borders(&mut borders, b"aaaab")?;
-        assert_eq!(rt; borders.as_slice(), [0, 1, 2, 3, 0].as_slice());
+        assert_eq!(rt; borders.as_slice(), [0, 1, 2, 3].as_slice());
         let mut borders = Vec::new(rt.alloc());
         push_borders(&mut borders, b"aabaaab")?;
-        assert_eq!(rt; borders.as_slice(), [0, 1, 0, 1, 2, 2, 3].as_slice());
+        assert_eq!(rt; borders.as_slice(), [0, 1, 0, 1, 2, 2].as_slice());
         let mut borders = Vec::new(rt.alloc());
         push_borders(&mut borders, b"abab")?;
-        assert_eq!(rt; borders.as_slice(), [0, 0, 1, 2].as_slice());
+        assert_eq!(rt; borders.as_slice(), [0, 0, 1].as_slice());
         Ok(())
     }
 }

@@ -1,6 +1,6 @@
 -- What the parts of a cut pattern stand for, by what is left of the pattern behind each.
-use Rattle.std.specs.Prelude.{◌≡◌, ◌↔◌, ℕ, ◌+◌, ◌≤◌, ◌==◌, ◌||◌, Bool, true}
-use Rattle.std.specs.Prelude.{false, List, [], ◌∷◌, ◌++◌, All, drop, length, slice_range, take}
+use Rattle.std.specs.Prelude.{◌≡◌, ◌↔◌, ℕ, ◌+◌, ◌-◌, ◌≤◌, ◌==◌, ◌||◌, Bool, true, false}
+use Rattle.std.specs.Prelude.{List, [], ◌∷◌, ◌++◌, All, drop, length, slice_range, take}
 use Rattle.std.specs.List.{prefix_len}
 use Rattle.texting_robots.specs.declared.pieces.Span.{Span}
 use Rattle.texting_robots.specs.declared.pieces.Piece.{Piece}
@@ -77,9 +77,9 @@ IsEnding pattern Never = Unit {0}
 -- the table of the piece's bytes stands where the piece says
 pub record IsPiece (pattern borders : List ℕ) (piece : Piece) : Type 0 where
   pub span : IsSpan pattern piece.span
-  pub fits : piece.table + length (part_of pattern piece.span) ≤ length borders
+  pub fits : piece.table + (length (part_of pattern piece.span) - 1) ≤ length borders
   pub table : IsTable (part_of pattern piece.span)
-      (slice_range borders piece.table (piece.table + length (part_of pattern piece.span)))
+      (slice_range borders piece.table (piece.table + (length (part_of pattern piece.span) - 1)))
 
 -- what is left of the pattern is the piece, which may stand anywhere, and then the rest
 pub record IsLeft (left piece rest : List ℕ) : Type 0 where

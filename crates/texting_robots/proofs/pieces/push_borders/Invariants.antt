@@ -7,7 +7,7 @@ abbrev pub invariant-loop-place : goal.invariant-loop-place
 invariant-loop-place l =
     record {
       table : l.table ≡ length l.fn.borders.items;
-      within : l.place ≤ length l.piece;
+      within : l.place + 1 ≤ length l.piece;
       first : IsFirstOpen l.piece l.piece 1 (l.place + 1) l.place l.matched;
       adds : AddsBorders l.piece l.fn.borders.items l.borders.items l.place;
     }
