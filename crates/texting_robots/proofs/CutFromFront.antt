@@ -96,7 +96,8 @@ pub past_return : (n : Bool) (after : List ℕ)
 past_return true after = refl
 past_return false after = refl
 
-pub past_line_feed : (n : Bool) (after : List ℕ) → drop (end_len (read_as n (lf ∷ after))) (lf ∷ after) ≡ after
+pub past_line_feed : (n : Bool) (after : List ℕ)
+    → drop (end_len (read_as n (lf ∷ after))) (lf ∷ after) ≡ after
 past_line_feed true after = refl
 past_line_feed false after = refl
 
