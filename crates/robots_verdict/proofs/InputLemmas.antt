@@ -68,8 +68,8 @@ line_before input text line rest place first is of after = record {
   whole =
       sym (take-append-drop place input)
       ∙ ap (λ t. take place input ++ t)
-          (drop_more input place 0 first.within ∙ ap (λ b. b ∷ drop (place + 1) input) first.feed
-          ∙ ap (λ t. lf ∷ t) (sym after));
+      (drop_more input place 0 first.within ∙ ap (λ b. b ∷ drop (place + 1) input) first.feed
+      ∙ ap (λ t. lf ∷ t) (sym after));
   one = one_before input place first.before;
   text_of = of ∙ ap without_cr is;
 }
@@ -125,9 +125,12 @@ goes_more input rest next url urls goes line filled = record {
   to_rest =
       λ all file is.
       let back = goes.to_rest all file is in
-      let on = after_line rest url next back.0 file line filled back.2 in
-      (on.0, back.1 ∙ ap (λ (t : List (List ℕ)). urls ++ t) on.1
-          ∙ sym (append_assoc urls (url ∷ []) on.0), on.2);
+      let on = after_line rest url next back.0 file line filled back.2 in (
+        on.0,
+        back.1 ∙ ap (λ (t : List (List ℕ)). urls ++ t) on.1
+            ∙ sym (append_assoc urls (url ∷ []) on.0),
+        on.2,
+      );
 }
 
 no_lines : (input : List ℕ) (urls : List (List ℕ)) (file : List ℕ) → IsOneLine input
@@ -145,7 +148,7 @@ same_lines (url ∷ urls) [] input file rest one two =
 same_lines (url ∷ urls) (other ∷ others) input file rest one two =
     let first = line_once input url other one.0 two.0 one.1 two.1 in
     let later =
-        same_lines urls others two.0 file rest (subst (λ t. AreUrlLines t urls file) first.1 one.3) two.3 in
+    same_lines urls others two.0 file rest (subst (λ t. AreUrlLines t urls file) first.1 one.3) two.3 in
     (cc, later.1)
 
 -- ---- whole inputs
@@ -169,14 +172,22 @@ to_lines : (url_lines : List (List ℕ)) (empty_line file input : List ℕ)
     → input ≡ ended (url_lines ++ empty_line ∷ []) ++ file
     → Each IsOneLine (url_lines ++ empty_line ∷ [])
     → Each (λ url. url ≢ []) (map without_cr url_lines) → without_cr empty_line ≡ []
-        → AreUrlLines input (map without_cr url_lines) file
+    → AreUrlLines input (map without_cr url_lines) file
 to_lines [] empty_line file input whole lines filled empty =
-    record { line = empty_line; whole = whole ∙ line_first empty_line [] file;
-    one = lines.0; text_of = sym empty }
+    record {
+      line = empty_line;
+      whole = whole ∙ line_first empty_line [] file;
+      one = lines.0;
+      text_of = sym empty;
+    }
 to_lines (line ∷ url_lines) empty_line file input whole lines filled empty = (
   ended (url_lines ++ empty_line ∷ []) ++ file,
-  record { line = line; whole = whole ∙ line_first line (ended (url_lines ++ empty_line ∷ [])) file;
-      one = lines.0; text_of = refl },
+  record {
+    line = line;
+    whole = whole ∙ line_first line (ended (url_lines ++ empty_line ∷ [])) file;
+    one = lines.0;
+    text_of = refl;
+  },
   filled.0,
   to_lines url_lines empty_line file (ended (url_lines ++ empty_line ∷ []) ++ file)
       refl lines.1 filled.1 empty,
@@ -231,12 +242,17 @@ input_lines : (input agent : List ℕ) (urls : List (List ℕ)) (file : List ℕ
 input_lines input agent urls file is =
     let rest : List ℕ = ended (is.url_lines ++ is.empty_line ∷ []) ++ file in (
       rest,
-      record { line = is.agent_line; whole = is.whole
-          ∙ line_first is.agent_line (ended (is.url_lines ++ is.empty_line ∷ [])) file; one =
-          is.lines.0; text_of = is.agent_text },
+      record {
+        line = is.agent_line;
+        whole = is.whole
+            ∙ line_first is.agent_line (ended (is.url_lines ++ is.empty_line ∷ [])) file;
+        one =
+            is.lines.0;
+        text_of = is.agent_text;
+      },
       subst (λ all. AreUrlLines rest all file) (sym is.url_texts)
           (to_lines is.url_lines is.empty_line file rest refl is.lines.1
-              (subst (λ all. Each (λ url. url ≢ []) all) is.url_texts is.no_url_is_empty) is.empty_text),
+          (subst (λ all. Each (λ url. url ≢ []) all) is.url_texts is.no_url_is_empty) is.empty_text),
     )
 
 -- the split that was found
@@ -246,7 +262,7 @@ pub split_found : (input agent start rest url file : List ℕ) (urls : List (Lis
 split_found input agent start rest url file urls line goes end empty =
     lines_are_input input agent start urls file line
     (subst (λ all. AreUrlLines start all file) (append-nil urls)
-        (goes.from_rest [] file (subst (λ t. BeginsWithLine rest t file) empty end)))
+    (goes.from_rest [] file (subst (λ t. BeginsWithLine rest t file) empty end)))
 
 -- there is none: the first line isn't ended
 pub no_split_first : (input : List ℕ) → IsOneLine input → (agent : List ℕ) (urls : List (List ℕ))
@@ -270,7 +286,7 @@ one_split input agent other urls others file rest is is_too =
     let two = input_lines input other others rest is_too in
     let first = line_once input agent other one.0 two.0 one.1 two.1 in
     let later =
-        same_lines urls others two.0 file rest (subst (λ t. AreUrlLines t urls file) first.1 one.2) two.2 in
+    same_lines urls others two.0 file rest (subst (λ t. AreUrlLines t urls file) first.1 one.2) two.2 in
     (first.0, later.0, later.1)
 
 -- ---- empty and other texts
@@ -306,8 +322,8 @@ pub first_not_utf8 : {X : Type 0} (r : Result X Fault) (fault : Fault) (urls : L
     (place : ℕ) (url : Bor (List ℕ)) → IsErrAnd r (λ other. other ≡ fault) → place < length urls
     → (fault ≡ HeaderNotUtf8) × ¬ IsUtf8 (slice_index_or urls place url).now
     → IfErr r
-        (λ fault. fault ≢ Memory → (fault ≡ HeaderNotUtf8)
-        × Any (λ text. ¬ IsUtf8 text) (map (λ url. url.now) urls))
+    (λ fault. fault ≢ Memory → (fault ≡ HeaderNotUtf8)
+    × Any (λ text. ¬ IsUtf8 text) (map (λ url. url.now) urls))
 first_not_utf8 (Ok x) fault urls place url is below not = absurd is
 first_not_utf8 (Err e) fault urls place url is below not = λ known. (
   is ∙ not.0,

@@ -54,12 +54,13 @@ adds_nothing rules text = record { lines = []; verdicts = tt; whole = sym (appen
 pub adds_one : (rules : List PlacedRule) (url old new : List ℕ) (allowed : Bool) (number : Option ℕ)
     → IsVerdict (unplaced rules) (prepared url) allowed → IsDecidingLine rules (prepared url) number
     → new ≡ old ++ ended (verdict_line allowed number url ∷ [])
-        → AddsVerdicts rules (url ∷ []) old new
+    → AddsVerdicts rules (url ∷ []) old new
 adds_one rules url old new allowed number verdict deciding whole = record {
   lines = verdict_line allowed number url ∷ [];
-  verdicts =
-      (record { allowed = allowed; number = number; verdict = verdict; deciding = deciding; whole = refl },
-      tt);
+  verdicts = (
+    record { allowed = allowed; number = number; verdict = verdict; deciding = deciding; whole = refl },
+    tt,
+  );
   whole = whole;
 }
 
@@ -76,12 +77,12 @@ adds_more rules urls others old mid new one two = record {
 pub adds_at : (rules : List PlacedRule) (urls : List (Bor (List ℕ))) (place : ℕ) (url : Bor (List ℕ))
     (old mid new : List ℕ) → place < length urls
     → AddsVerdicts rules (map (λ url. url.now) (take place urls)) old mid
-        → AddsVerdicts rules ((slice_index_or urls place url).now ∷ []) mid new
+    → AddsVerdicts rules ((slice_index_or urls place url).now ∷ []) mid new
     → AddsVerdicts rules (map (λ url. url.now) (take (place + 1) urls)) old new
 adds_at rules urls place url old mid new below one two =
     rw (take_more urls place url below, map-append)
-        (adds_more rules (map (λ url. url.now) (take place urls))
-        ((slice_index_or urls place url).now ∷ []) old mid new one two)
+    (adds_more rules (map (λ url. url.now) (take place urls))
+    ((slice_index_or urls place url).now ∷ []) old mid new one two)
 
 -- a robot's verdicts are those of its file
 lines_like : (agent : List ℕ) (lines : List LineValue) (robot : RobotValue) → IsRobotOf agent lines robot
@@ -140,7 +141,7 @@ lines_once rules (url ∷ urls) [] others one two = absurd one
 lines_once rules (url ∷ urls) (line ∷ lines) [] one two = absurd two
 lines_once rules (url ∷ urls) (line ∷ lines) (other ∷ others) (one, more) (two, rest) =
     let answers =
-        verdict_once (unplaced rules) (prepared url) one.allowed two.allowed one.verdict two.verdict in
+    verdict_once (unplaced rules) (prepared url) one.allowed two.allowed one.verdict two.verdict in
     let numbers = one_line_decides rules (prepared url) one.number two.number one.deciding two.deciding in
     let first : line ≡ other = one.whole ∙ ap (λ allowed. verdict_line allowed one.number url) answers
     ∙ ap (λ number. verdict_line two.allowed number url) numbers ∙ sym two.whole in
@@ -154,7 +155,7 @@ text_once agent urls file text other one two =
     let lines = lines_read file in
     one.whole
     ∙ ap (λ verdicts.
-        ended (delay_line (delay_for agent lines) ∷ (map sitemap_line (sitemaps_in lines) ++ verdicts)))
+    ended (delay_line (delay_for agent lines) ∷ (map sitemap_line (sitemaps_in lines) ++ verdicts)))
     (lines_once (placed_rules agent lines) urls one.verdict_lines two.verdict_lines one.verdicts two.verdicts)
     ∙ sym two.whole
 
@@ -162,11 +163,11 @@ text_once agent urls file text other one two =
 same_split : (P : List ℕ → List (List ℕ) → List ℕ → Type 0) (input agent other : List ℕ)
     (urls others : List (List ℕ)) (file rest : List ℕ)
     → IsInput input agent urls file → IsInput input other others rest → P other others rest
-        → P agent urls file
+    → P agent urls file
 same_split P input agent other urls others file rest one two is =
     let same = one_split input agent other urls others file rest one two in
     subst (λ a. P a urls file) (sym same.0)
-        (subst (λ u. P other u file) (sym same.1) (subst (λ f. P other others f) (sym same.2) is))
+    (subst (λ u. P other u file) (sym same.1) (subst (λ f. P other others f) (sym same.2) is))
 
 no_fault : (input : List ℕ) (text : List ℕ) (fault : Fault) → IsReport input (Ok text)
     → HasFault input fault → ⊥
@@ -176,18 +177,18 @@ no_fault input text NoEmptyLine report has = has report.0 report.1 report.2 repo
 no_fault input text HeaderNotUtf8 report has =
     not_both report.0 report.1 report.4
     (same_split (λ agent urls file. HoldNotUtf8 agent urls) input report.0 has.0 report.1 has.1 report.2
-        has.2 report.3 has.3 has.4)
+    has.2 report.3 has.3 has.4)
 no_fault input text InvalidRule report has =
     report.5
-        (same_split (λ agent urls file. IsRefused agent (lines_read file)) input report.0 has.0 report.1
-        has.1 report.2 has.2 report.3 has.3 has.5)
+    (same_split (λ agent urls file. IsRefused agent (lines_read file)) input report.0 has.0 report.1
+    has.1 report.2 has.2 report.3 has.3 has.5)
 no_fault input text Memory report has = has
 
 not_refused : (input : List ℕ) → HasFault input HeaderNotUtf8 → HasFault input InvalidRule → ⊥
 not_refused input one two =
     not_both one.0 one.1
-        (same_split (λ agent urls file. AreUtf8 agent urls) input one.0 two.0 one.1 two.1 one.2 two.2
-        one.3 two.3 two.4) one.4
+    (same_split (λ agent urls file. AreUtf8 agent urls) input one.0 two.0 one.1 two.1 one.2 two.2
+    one.3 two.3 two.4) one.4
 
 same_fault : (input : List ℕ) (fault other : Fault) → HasFault input fault → HasFault input other
     → fault ≡ other
@@ -217,8 +218,8 @@ pub one_report : EachInputHasOneReport
 one_report input (Ok text) (Ok other) one two =
     ap (λ t. Ok t)
     (text_once one.0 one.1 one.2 text other one.6
-        (same_split (λ agent urls file. IsReportText agent urls file other) input one.0 two.0 one.1 two.1
-        one.2 two.2 one.3 two.3 two.6))
+    (same_split (λ agent urls file. IsReportText agent urls file other) input one.0 two.0 one.1 two.1
+    one.2 two.2 one.3 two.3 two.6))
 one_report input (Ok text) (Err fault) one two = absurd (no_fault input text fault one two)
 one_report input (Err fault) (Ok text) one two = absurd (no_fault input text fault two one)
 one_report input (Err fault) (Err other) one two = ap (λ f. Err f) (same_fault input fault other one two)
@@ -227,7 +228,7 @@ one_report input (Err fault) (Err other) one two = ap (λ f. Err f) (same_fault 
 
 pub run_ok : (left old new : Option (List ℕ)) (items bytes text written : List ℕ)
     → IfSome left (λ input. items ≡ input) → bytes ≡ items → IsReport bytes (Ok text)
-        → written ≡ text → Appends old new written
+    → written ≡ text → Appends old new written
     → IfSome left (AppendsReport old new)
 run_ok None old new items bytes text written read same report whole wrote = tt
 run_ok (Some input) old new items bytes text written read same report whole wrote = (
@@ -238,7 +239,7 @@ run_ok (Some input) old new items bytes text written read same report whole wrot
 
 pub run_beginning : (left old new : Option (List ℕ)) (items bytes text written : List ℕ)
     → IfSome left (λ input. items ≡ input) → bytes ≡ items → IsReport bytes (Ok text)
-        → written ≡ text → AppendsBeginning old new written
+    → written ≡ text → AppendsBeginning old new written
     → IfSome left (AppendsReportBeginning old new)
 run_beginning None old new items bytes text written read same report whole wrote = tt
 run_beginning (Some input) old new items bytes text written read same report whole wrote = (
@@ -250,8 +251,8 @@ run_beginning (Some input) old new items bytes text written read same report who
 pub run_fault : {X : Type 0} (left : Option (List ℕ)) (items bytes : List ℕ)
     (r : Result X Fault) (fault wanted : Fault)
     → IfSome left (λ input. items ≡ input) → bytes ≡ items
-        → (fault ≢ Memory → HasFault bytes fault) → IsErrAnd r (λ other. other ≡ fault)
-        → wanted ≢ Memory
+    → (fault ≢ Memory → HasFault bytes fault) → IsErrAnd r (λ other. other ≡ fault)
+    → wanted ≢ Memory
     → r ≡ Err wanted → IfSome left (λ input. IsReport input (Err wanted))
 run_fault left items bytes (Ok x) fault wanted read same has is known answer = absurd is
 run_fault None items bytes (Err e) fault wanted read same has is known answer = tt
@@ -259,4 +260,4 @@ run_fault {X = X} (Some input) items bytes (Err e) fault wanted read same has is
     let errors : ◌≡◌ {A = Result X Fault} (Err e) (Err wanted) = answer in
     let found : fault ≡ wanted = cc in
     subst (λ t. HasFault t wanted) (same ∙ read)
-        (subst (λ f. HasFault bytes f) found (has (λ memory. known (sym found ∙ memory))))
+    (subst (λ f. HasFault bytes f) found (has (λ memory. known (sym found ∙ memory))))

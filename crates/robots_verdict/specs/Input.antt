@@ -43,4 +43,4 @@ abbrev pub EachInputHasOneSplit : Type 0
 EachInputHasOneSplit =
     (input agent other : List ℕ) (urls others : List (List ℕ)) (file rest : List ℕ)
     → IsInput input agent urls file → IsInput input other others rest → (agent ≡ other)
-        × (urls ≡ others) × (file ≡ rest)
+    × (urls ≡ others) × (file ≡ rest)

@@ -47,7 +47,7 @@ HasFault input HeaderNotUtf8 = (agent : List ℕ) × (urls : List (List ℕ)) ×
     × IsInput input agent urls file × HoldNotUtf8 agent urls
 HasFault input InvalidRule =
     (agent : List ℕ) × (urls : List (List ℕ)) × (file : List ℕ) × IsInput input agent urls file
-        × AreUtf8 agent urls × IsRefused agent (lines_read file)
+    × AreUtf8 agent urls × IsRefused agent (lines_read file)
 HasFault input Memory = ⊥
 
 -- the text of the report, or the fault of the input
@@ -55,7 +55,7 @@ abbrev pub IsReport : List ℕ → Result (List ℕ) Fault → Type 0
 IsReport input (Ok text) =
     (agent : List ℕ) × (urls : List (List ℕ)) × (file : List ℕ)
     × IsInput input agent urls file × AreUtf8 agent urls × (¬ IsRefused agent (lines_read file))
-        × IsReportText agent urls file text
+    × IsReportText agent urls file text
 IsReport input (Err fault) = HasFault input fault
 
 -- an input has one report at most

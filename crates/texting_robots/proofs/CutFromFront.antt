@@ -1,12 +1,12 @@
 -- The cut read from the front: the first line of a text, and the lines of the rest.
 use Rattle.std.proofs.Common.{◌≡◌, ◌≢◌, ℕ, suc, ◌+◌, ◌%◌, ◌^◌, ◌<◌, ◌≤◌}
 use Rattle.std.proofs.Common.{Bool, true, false, ◌==◌, ◌||◌, inl, inr, List, [], ◌∷◌, length}
-use Rattle.std.proofs.Common.{take, drop, map, get_or, sym, refl, ap, ◌∙◌, arith, cond}
+use Rattle.std.proofs.Common.{take, drop, map, sym, refl, ap, ◌∙◌, arith, cond}
 use Rattle.std.proofs.Common.{if◌then◌else◌, map-id, Option, Some, None, MatchOption, zero, bit_or}
 use Rattle.std.specs.List.{position_or_len}
 use Rattle.std.proofs.lemmas.Bool.{cases_Bool, cond-true, cond-false, eqb-true, ne_eqb}
 use Rattle.std.proofs.lemmas.Bool.Decides.{nat_tests}
-use Rattle.std.proofs.lemmas.List.{drop_more, drop-map, take-map, length-map, length-take, nil_from_length}
+use Rattle.std.proofs.lemmas.List.{drop-map, take-map, length-map, length-take, nil_from_length}
 use Rattle.std.proofs.lemmas.List.Recursion.{is_position_or_len}
 use Rattle.std.proofs.lemmas.Simd.{first_set_mask_l, map-map, mask_l-mod}
 use Rattle.std.specs.Int.{trailing_zeros, w64}
@@ -263,13 +263,13 @@ pub marked_first : (n : Bool) (f : ℕ → ℕ) (v lanes : List ℕ) (first : �
     → length v ≡ 32 → lanes ≡ map f v
     → Ends n (λ b. top 7 (f b))
     → (let mask = mask_l (map (top 7) lanes) % 2 ^ 64 in
-        first ≡ (if mask == 0 then 32 else trailing_zeros w64 mask))
+    first ≡ (if mask == 0 then 32 else trailing_zeros w64 mask))
     → first ≡ body_len (read_as n v)
 marked_first n f v lanes first long lanes_are ends found =
     let test = λ (b : ℕ). top 7 (f b) in
     let mask : mask_l (map (top 7) lanes) % 2 ^ 64 ≡ mask_l (map test v)
     = ap (λ l. mask_l l % 2 ^ 64) (ap (map (top 7)) lanes_are ∙ map-map (top 7) f v)
-        ∙ mask_l-mod (map test v) 64 (omega (arith, length-map v test, long)) in
+    ∙ mask_l-mod (map test v) 64 (omega (arith, length-map v test, long)) in
     found ∙ ap (λ m. if m == 0 then 32 else trailing_zeros w64 m) mask
     ∙ first_set_mask_l test v 32 long (omega arith) ∙ body_by n test ends v
 

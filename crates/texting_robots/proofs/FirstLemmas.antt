@@ -190,9 +190,9 @@ module _ (all : Gathered) (known : AreEntries all) where
       let there : j < length all.entries.items = rw length-map at within in
       let here : i < length all.entries.items = omega arith in
       rw (rule_is i d here, rule_is j d there)
-          (preferred (string_bytes all.text) all.pieces.items all.borders.items
+      (preferred (string_bytes all.text) all.pieces.items all.borders.items
       (entry_at i) (entry_at j) (known i no_entry here) (known j no_entry there)
-          (sorted i j no_entry before there))
+      (sorted i j no_entry before there))
 
   module _ (sorted : AllPairs GoesBefore all.entries.items) (text : List ℕ) (at : ℕ)
       (found : IsFirstMatch all text at) where

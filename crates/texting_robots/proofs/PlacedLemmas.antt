@@ -1,6 +1,6 @@
 -- The line that decides holds the rule that decides.
 use Rattle.std.proofs.Common.{◌≡◌, ℕ, zero, suc, ◌+◌, Bool, true, false}
-use Rattle.std.proofs.Common.{cond, List, [], ◌∷◌, Option, Some, None, map}
+use Rattle.std.proofs.Common.{cond, List, [], ◌∷◌, Option, Some, None}
 use Rattle.std.proofs.Common.{slice_get, refl, sym, ap, ◌∙◌, arith, zero-add}
 use Rattle.std.specs.List.{Contains, cons_option, enumerate_from, filter_map}
 use Rattle.std.specs.Prelude.{filter}

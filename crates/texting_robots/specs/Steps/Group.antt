@@ -1,5 +1,5 @@
 -- The code's walk along the lines, and what it finds in them.
-use Rattle.std.specs.Prelude.{ℕ, ◌+◌, Bool, false, not, ◌&&◌, ◌||◌, List, []}
+use Rattle.std.specs.Prelude.{ℕ, ◌+◌, false, not, ◌&&◌, ◌||◌, List, []}
 use Rattle.std.specs.Prelude.{◌∷◌, Option, Some, None, option_map, if◌then◌else◌}
 use Rattle.std.specs.{List.list_any, Str.is_utf8}
 use Rattle.texting_robots.specs.declared.{groups.Marked.Marked, groups.Walk.Walk}

@@ -29,15 +29,15 @@ returns-clause-known c =
     let end_piece : c.len-end_piece.result ≡ length c.push_pieces.new.pieces.items = omega arith in
     let len : c.len-end_byte.result - c.len-first_byte.result ≡ length more = omega arith in
     let same = ap (λ (t : List ℕ). slice_range t c.len-first_byte.result (length t))
-        (c.as_bytes.ensures.value ∙ text)
+    (c.as_bytes.ensures.value ∙ text)
     ∙ behind_old old_text more c.len-first_byte.result first_byte in
     let last = c.in_ok-tail.ensures in
     let cut = subst (λ p. ArePieces p c.in_ok-ends.ends added.pieces c.push_pieces.new.borders.items)
-        same added.are_pieces in
+    same added.are_pieces in
     let needed = subst (λ (p : List ℕ). AreNeeds p c.needs-needs.result)
-        (c.new.ensures ∙ same) c.needs-needs.ensures in
+    (c.new.ensures ∙ same) c.needs-needs.ensures in
     let pushed : IsPushed old_text more old.pieces.items added.pieces c.push_pieces.new.borders.items _
-        c.in_ok-ends.ends
+    c.in_ok-ends.ends
     c.push_last.new.pieces.items = record {
       pattern_span = record { start = first_byte; end = end_byte ∙ ap length text };
       searched_span = record { start = first_piece; end = end_piece ∙ ap length added.put_pieces };
