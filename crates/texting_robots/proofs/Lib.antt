@@ -29,3 +29,4 @@ pub mod SharingLemmas
 pub mod FirstLemmas
 pub mod VerdictLemmas
 pub mod PlacedLemmas
+pub mod BestLemmas
