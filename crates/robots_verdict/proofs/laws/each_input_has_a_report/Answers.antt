@@ -1,0 +1,5 @@
+use Rattle.robots_verdict.proofs.ExistsLemmas.{some_report}
+use Rattle.robots_verdict.proofs.laws.each_input_has_a_report.Goals as goal
+
+pub returns : goal.returns
+returns c = some_report
