@@ -11,7 +11,7 @@ use Rattle.std.proofs.lemmas.List.{length-append, length-map, take-append-drop}
 use Rattle.robots_verdict.specs.declared.fault.Fault.{Fault}
 use Rattle.robots_verdict.specs.declared.fault.Fault.TheVariants.{HeaderNotUtf8, Memory}
 use Rattle.robots_io.specs.Lines.{ended, lf}
-use Rattle.robots_verdict.specs.Input.{AreUtf8, EachInputHasOneSplit, HoldNotUtf8}
+use Rattle.robots_verdict.specs.Input.{AreUtf8, HoldNotUtf8}
 use Rattle.robots_verdict.specs.Input.{IsInput, IsOneLine, cr, without_cr}
 use Rattle.robots_verdict.specs.Steps.{BeginsWithLine, IsFirstFeed}
 
@@ -280,7 +280,9 @@ no_split input agent start rest urls line goes one other all file is =
     let back = goes.to_rest all file (subst (λ t. AreUrlLines t all file) (sym same.1) lines.2) in
     no_lines rest back.0 file one back.2
 
-pub one_split : EachInputHasOneSplit
+pub one_split : (input agent other : List ℕ) (urls others : List (List ℕ)) (file rest : List ℕ)
+    → IsInput input agent urls file → IsInput input other others rest
+    → (agent ≡ other) × (urls ≡ others) × (file ≡ rest)
 one_split input agent other urls others file rest is is_too =
     let one = input_lines input agent urls file is in
     let two = input_lines input other others rest is_too in

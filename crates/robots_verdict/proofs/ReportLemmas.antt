@@ -22,7 +22,7 @@ use Rattle.robots_io.specs.Lines.{ended, lf}
 use Rattle.robots_verdict.specs.Input.{AreUtf8, HoldNotUtf8, IsInput}
 use Rattle.robots_io.specs.Lines.{delay_line, verdict_line}
 use Rattle.robots_io.specs.Ends.{AppendsBeginning}
-use Rattle.robots_verdict.specs.Report.{AppendsReport, AppendsReportBeginning, EachInputHasOneReport}
+use Rattle.robots_verdict.specs.Report.{AppendsReport, AppendsReportBeginning}
 use Rattle.robots_verdict.specs.Report.{HasFault, IsReport, IsReportText, IsVerdictLine, sitemap_line}
 use Rattle.robots_verdict.specs.Steps.{AddsVerdicts}
 use Rattle.robots_verdict.proofs.InputLemmas.{not_both, one_split}
@@ -214,7 +214,8 @@ same_fault input InvalidRule HeaderNotUtf8 one two = absurd (not_refused input t
 same_fault input InvalidRule InvalidRule one two = refl
 same_fault input InvalidRule Memory one two = absurd two
 
-pub one_report : EachInputHasOneReport
+pub one_report : (input : List ℕ) (report other : Result (List ℕ) Fault) → IsReport input report
+    → IsReport input other → report ≡ other
 one_report input (Ok text) (Ok other) one two =
     ap (λ t. Ok t)
     (text_once one.0 one.1 one.2 text other one.6

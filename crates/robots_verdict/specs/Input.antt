@@ -37,10 +37,3 @@ AreUtf8 agent urls = IsUtf8 agent × Each IsUtf8 urls
 -- the agent isn't UTF-8, or some URL isn't
 abbrev pub HoldNotUtf8 : List ℕ → List (List ℕ) → Type 0
 HoldNotUtf8 agent urls = (¬ IsUtf8 agent) ⊎ Any (λ url. ¬ IsUtf8 url) urls
-
--- an input is made up in one way at most
-abbrev pub EachInputHasOneSplit : Type 0
-EachInputHasOneSplit =
-    (input agent other : List ℕ) (urls others : List (List ℕ)) (file rest : List ℕ)
-    → IsInput input agent urls file → IsInput input other others rest → (agent ≡ other)
-    × (urls ≡ others) × (file ≡ rest)

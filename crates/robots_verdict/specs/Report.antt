@@ -58,11 +58,6 @@ IsReport input (Ok text) =
     × IsReportText agent urls file text
 IsReport input (Err fault) = HasFault input fault
 
--- an input has one report at most
-abbrev pub EachInputHasOneReport : Type 0
-EachInputHasOneReport = (input : List ℕ) (report other : Result (List ℕ) Fault) → IsReport input report
-    → IsReport input other → report ≡ other
-
 -- ---- what is written of it
 
 -- the writer holds what it held, and then the report of the input
