@@ -1,7 +1,8 @@
--- Which line decides, and how many rules are as long as one.
-use Rattle.std.specs.Prelude.{◌≡◌, ◌≢◌, ◌⊎◌, ℕ, ◌≤◌, nat_le}
+-- Which line decides, and the looks that this takes.
+use Rattle.std.specs.Prelude.{◌≡◌, ◌≢◌, ◌⊎◌, ℕ, ◌*◌, ◌≤◌, nat_le}
 use Rattle.std.specs.Prelude.{true, List, Option, Some, None, Contains, count_by, length}
 use Rattle.texting_robots.specs.{Pattern.Matches, Rules.PlacedRule, Verdict.robots_file}
+use Rattle.texting_robots.specs.View.{LooksAtMost, ViewValue}
 
 -- the rule matches the text, and no rule that matches is longer
 pub record IsLongestMatch (rules : List PlacedRule) (text : List ℕ) (placed : PlacedRule) : Type 0 where
@@ -30,3 +31,10 @@ IsDecidingLine rules text (Some line) =
 abbrev pub as_long_as : PlacedRule → List PlacedRule → ℕ
 as_long_as placed rules =
     count_by (λ (other : PlacedRule). nat_le (length placed.rule.0) (length other.rule.0)) rules
+
+-- at most twice the text's length of looks were taken for each rule, and where a rule matches, for each that
+-- is at least as long as it
+pub record LooksForRules (rules : List PlacedRule) (old new : ViewValue) : Type 0 where
+  pub all : LooksAtMost old new (2 * length old.text * length rules)
+  pub tried : (placed : PlacedRule) → Contains rules placed → Matches placed.rule.0 old.text
+      → LooksAtMost old new (2 * length old.text * as_long_as placed rules)

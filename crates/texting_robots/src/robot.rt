@@ -1,14 +1,12 @@
 //! What one crawler gets of a robots.txt file.
-ghost use Rattle.std.specs.Prelude.{◌≡◌, ◌*◌, Contains, IfErr, IfOk, IsOk, length, string_bytes, take};
+ghost use Rattle.std.specs.Prelude.{◌≡◌, IfErr, IfOk, IsOk, string_bytes, take};
 ghost use Rattle.texting_robots.specs.Parsed.{file_lines};
-ghost use Rattle.texting_robots.specs.Decision.{IsDecidingLine, as_long_as};
+ghost use Rattle.texting_robots.specs.Decision.{IsDecidingLine, LooksForRules};
 ghost use Rattle.texting_robots.specs.Error.{IsMemoryOr};
-ghost use Rattle.texting_robots.specs.Pattern.{Matches};
 ghost use Rattle.texting_robots.specs.Prepared.{prepared, target_of};
 ghost use Rattle.texting_robots.specs.Robot.{IsRobotOf, lines_read};
-ghost use Rattle.texting_robots.specs.Rules.{GivesNothing, IsRefused, PlacedRule, unplaced};
+ghost use Rattle.texting_robots.specs.Rules.{GivesNothing, IsRefused, unplaced};
 ghost use Rattle.texting_robots.specs.Verdict.{IsVerdict};
-ghost use Rattle.texting_robots.specs.View.{LooksAtMost};
 
 pub use crate::decision::Decision;
 use crate::error::Error;
@@ -146,9 +144,7 @@ impl Robot {
     /// least as long.
     pub fn allowed_view(&self, view: &mut View<'_>) -> bool
         ensures verdict { IsVerdict (unplaced self.now.rules) view.old.text result }
-        ensures looks { LooksAtMost view.old view.new (2 * length view.old.text * length self.now.rules) }
-        ensures tried { (placed : PlacedRule) → Contains self.now.rules placed → Matches placed.rule.0 view.old.text
-            → LooksAtMost view.old view.new (2 * length view.old.text * as_long_as placed self.now.rules) }
+        ensures looks { LooksForRules self.now.rules view.old view.new }
     {
         self.decision(view).allowed
     }
@@ -158,9 +154,7 @@ impl Robot {
     pub fn decision(&self, view: &mut View<'_>) -> Decision
         ensures verdict { IsVerdict (unplaced self.now.rules) view.old.text result.allowed }
         ensures line { IsDecidingLine self.now.rules view.old.text result.line }
-        ensures looks { LooksAtMost view.old view.new (2 * length view.old.text * length self.now.rules) }
-        ensures tried { (placed : PlacedRule) → Contains self.now.rules placed → Matches placed.rule.0 view.old.text
-            → LooksAtMost view.old view.new (2 * length view.old.text * as_long_as placed self.now.rules) }
+        ensures looks { LooksForRules self.now.rules view.old view.new }
     {
         self.rules.decide(view)
     }
