@@ -4,7 +4,8 @@ ghost use Rattle.std.specs.Iterator.{YieldsFirst, YieldsFirstBy, item_count};
 ghost use Rattle.texting_robots.specs.Parsed.{file_lines, parsed};
 ghost use Rattle.texting_robots.specs.Steps.Line.{line_of, line_with};
 ghost use Rattle.texting_robots.specs.Group.{is_agent, is_group};
-ghost use Rattle.texting_robots.specs.Line.{AreFileLinesOf, AreLinesOf, HoldRangesOf, UserAgent, by_value, delay_in, is_sitemap, value_in, without_front};
+ghost use Rattle.texting_robots.specs.Line.{AreFileLinesOf, AreLinesOf, HoldRangesOf, UserAgent, by_value, delay_in};
+ghost use Rattle.texting_robots.specs.Line.{is_sitemap, nul_as_lf, value_in, without_front};
 
 mod cut;
 mod delay;
@@ -210,6 +211,7 @@ pub(crate) fn unread_file_lines<'a>(input: &'a [u8]) -> UnreadLines<'a>
 pub fn file_lines<'a>(input: &'a [u8]) -> LineIter<'a>
     ensures value { result ≡ file_lines input.now }
     ensures lines { AreFileLinesOf result input.now }
+    ensures ranges { HoldRangesOf result (map nul_as_lf input.now) }
     ensures count { length result ≤ length input.now }
 {
     LineIter {

@@ -1,5 +1,5 @@
 use Rattle.std.proofs.Common.{rules}
-use Rattle.texting_robots.proofs.LineLemmas.{lines_are}
+use Rattle.texting_robots.proofs.LineLemmas.{lines_are, lines_range}
 use Rattle.texting_robots.proofs.parser.file_lines.Goals as goal
 
 pub returns-clause-value : goal.returns-clause-value
@@ -7,3 +7,6 @@ returns-clause-value c = search rules
 
 pub returns-clause-lines : goal.returns-clause-lines
 returns-clause-lines c = lines_are _ _ (returns-clause-value c)
+
+pub returns-clause-ranges : goal.returns-clause-ranges
+returns-clause-ranges c = lines_range _ _ (returns-clause-value c)
