@@ -6,7 +6,7 @@ use Rattle.std.specs.List.{Contains}
 use Rattle.std.specs.Prelude.{bytes_eq}
 use Rattle.std.proofs.lemmas.Bool.{cases_Bool, cases_lt, eqb-false, eqb-true, false≢true}
 use Rattle.std.proofs.lemmas.Slice.Eq.{bytes_eq-Decides}
-use Rattle.texting_robots.specs.Decision.{Decides, IsDecidingLine, IsLongestMatch}
+use Rattle.texting_robots.specs.Decision.{IsDecidingRule, IsDecidingLine, IsLongestMatch}
 use Rattle.texting_robots.specs.Pattern.{IsSuffix, Matches, MatchesWith, dollar, star}
 use Rattle.texting_robots.specs.Rules.{PlacedRule, unplaced}
 use Rattle.texting_robots.specs.Verdict.{IsVerdict, robots_file}
@@ -273,7 +273,7 @@ module _ (rules : List PlacedRule) (text : List ℕ) (placed : PlacedRule)
         ],
   )
 
-  best_decides : Decides rules text placed
+  best_decides : IsDecidingRule rules text placed
   best_decides =
       let as_long = λ (other : PlacedRule) (l : IsLongestMatch rules text other).
       (let longer = (is.best other l.listed l.matches).longer in

@@ -14,7 +14,7 @@ use Rattle.texting_robots.specs.declared.rules.Gathered.{Gathered}
 use Rattle.texting_robots.specs.Steps.Entries.{AreEntries, GoesBefore, IsEntry, IsFirstMatch, NoneMatches}
 use Rattle.texting_robots.specs.Steps.Entries.{len_of, no_entry, placed_at, rank, rules_in}
 use Rattle.texting_robots.specs.Steps.Pieces.{IsSpan, part_of}
-use Rattle.texting_robots.specs.Decision.{Decides, IsLongestMatch, as_long_as}
+use Rattle.texting_robots.specs.Decision.{IsDecidingRule, IsLongestMatch, as_long_as}
 use Rattle.texting_robots.specs.Pattern.{Matches}
 use Rattle.texting_robots.specs.Rules.{PlacedRule, Rule, unplaced}
 use Rattle.texting_robots.specs.Verdict.{IsVerdict, robots_file}
@@ -114,7 +114,7 @@ module _ (rules : List PlacedRule) (text : List ℕ) (sorted : AllPairs IsPrefer
       let least = is.longest placed has first.matches in
       omega arith
 
-  decides : Decides rules text placed
+  decides : IsDecidingRule rules text placed
   decides = record {
     is_longest = first_is_longest;
     allows = λ other is. (first_best other is.listed is.matches).allows (as_long other is);
@@ -212,7 +212,7 @@ module _ (all : Gathered) (known : AreEntries all) where
     first_decides =
         verdict_by (rules_in all) text (sorted_rules sorted) at _ is_first (entry_at at).is_allow refl
 
-    pub first_line : Decides (rules_in all) text (placed_at (string_bytes all.text) (entry_at at))
+    pub first_line : IsDecidingRule (rules_in all) text (placed_at (string_bytes all.text) (entry_at at))
     first_line = decides (rules_in all) text (sorted_rules sorted) at _ is_first
 
     pub first_tried : (rule : PlacedRule) → Contains (rules_in all) rule → Matches rule.rule.0 text

@@ -15,7 +15,7 @@ use Rattle.texting_robots.specs.Line.{LineValue, UserAgent, Allow, Disallow, Sit
 use Rattle.texting_robots.specs.Rules.{PlacedRule, captured_lines, placed_in, placed_rules, rule_in}
 use Rattle.texting_robots.specs.Steps.Group.{placed}
 use Rattle.texting_robots.proofs.CapturedLemmas.{is_captured_decides}
-use Rattle.texting_robots.specs.Decision.{Decides, IsDecidingLine}
+use Rattle.texting_robots.specs.Decision.{IsDecidingRule, IsDecidingLine}
 
 -- what is found in a list comes from one of its elements
 abbrev ComesFrom : {X Y : Type 0} → (X → Option Y) → List X → Y → Type 0
@@ -129,7 +129,8 @@ rule_on_line agent lines found has =
 pub deciding_line_holds_its_rule : (agent : List ℕ) (lines : List LineValue)
     (text : List ℕ) (number : ℕ)
     → IsDecidingLine (placed_rules agent lines) text (Some number)
-    → (placed : PlacedRule) × Decides (placed_rules agent lines) text placed × (placed.line ≡ number)
+    → (placed : PlacedRule) × IsDecidingRule (placed_rules agent lines) text placed
+    × (placed.line ≡ number)
     × HoldsRule agent lines number placed.rule
 deciding_line_holds_its_rule agent lines text number (differs, found, decides, at) =
     (found, decides, at, rw at at (rule_on_line agent lines found decides.is_longest.listed))

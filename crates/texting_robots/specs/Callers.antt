@@ -18,7 +18,7 @@ pub use Rattle.texting_robots.specs.Pattern.{Matches, MatchesStars, IsOverlong, 
 pub use Rattle.texting_robots.specs.Order.{IsBefore, pattern_cmp}
 -- verdicts
 pub use Rattle.texting_robots.specs.Verdict.{IsDenied, IsVerdict, robots_file}
-pub use Rattle.texting_robots.specs.Decision.{Decides, IsDecidingLine, IsLongestMatch, LooksForRules}
+pub use Rattle.texting_robots.specs.Decision.{IsDecidingRule, IsDecidingLine, IsLongestMatch, LooksForRules}
 pub use Rattle.texting_robots.specs.Decision.{as_long_as}
 pub use Rattle.texting_robots.specs.View.{LooksAtMost, ViewValue, seen_of}
 -- errors

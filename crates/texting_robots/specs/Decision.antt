@@ -12,7 +12,7 @@ pub record IsLongestMatch (rules : List PlacedRule) (text : List ℕ) (placed : 
       → length other.rule.0 ≤ length placed.rule.0
 
 -- the first Allow among the longest rules that match, or the first Disallow where no Allow is among them
-pub record Decides (rules : List PlacedRule) (text : List ℕ) (placed : PlacedRule) : Type 0 where
+pub record IsDecidingRule (rules : List PlacedRule) (text : List ℕ) (placed : PlacedRule) : Type 0 where
   pub is_longest : IsLongestMatch rules text placed
   pub allows : (other : PlacedRule) → IsLongestMatch rules text other → other.rule.1 ≡ true
       → placed.rule.1 ≡ true
@@ -25,7 +25,8 @@ IsDecidingLine rules text None =
     (text ≡ robots_file)
     ⊎ ((placed : PlacedRule) → Contains rules placed → ¬ Matches placed.rule.0 text)
 IsDecidingLine rules text (Some line) =
-    (text ≢ robots_file) × (placed : PlacedRule) × Decides rules text placed × (placed.line ≡ line)
+    (text ≢ robots_file) × (placed : PlacedRule) × IsDecidingRule rules text placed
+    × (placed.line ≡ line)
 
 -- how many of the rules are at least as long as this one
 abbrev pub as_long_as : PlacedRule → List PlacedRule → ℕ

@@ -6,7 +6,7 @@ ghost use Rattle.std.specs.List.{AllZip};
 ghost use Rattle.std.specs.Str.{str_to_ascii_lowercase};
 ghost use Rattle.texting_robots.specs.declared.parser.statement.Kind.{Kind};
 ghost use Rattle.texting_robots.specs.Cut.{IsCut, Pair};
-ghost use Rattle.texting_robots.specs.Decision.{Decides, IsDecidingLine};
+ghost use Rattle.texting_robots.specs.Decision.{IsDecidingRule, IsDecidingLine};
 ghost use Rattle.texting_robots.specs.Delay.{IsDelay};
 ghost use Rattle.texting_robots.specs.Group.{IsCaptured, group_name};
 ghost use Rattle.texting_robots.specs.Laws.{HoldsRule, IsReadAs, IsSameKind, Same, SameButSitemaps, feeds_alone};
@@ -162,7 +162,7 @@ pub fn one_line_decides()
 pub fn deciding_line_holds_its_rule()
     ensures { (agent : List ℕ) (lines : List LineValue) (text : List ℕ) (number : ℕ)
         → IsDecidingLine (placed_rules agent lines) text (Some number)
-        → (placed : PlacedRule) × Decides (placed_rules agent lines) text placed × (placed.line ≡ number)
+        → (placed : PlacedRule) × IsDecidingRule (placed_rules agent lines) text placed × (placed.line ≡ number)
         × HoldsRule agent lines number placed.rule }
 {}
 

@@ -4,7 +4,7 @@ use Rattle.std.proofs.lemmas.Bool.{iff_false}
 use Rattle.std.proofs.lemmas.List.{get_or_read}
 use Rattle.texting_robots.specs.declared.rules.Entry.{Entry}
 use Rattle.texting_robots.specs.Steps.Entries.{no_entry, placed_at, rules_in}
-use Rattle.texting_robots.specs.Decision.{Decides}
+use Rattle.texting_robots.specs.Decision.{IsDecidingRule}
 use Rattle.texting_robots.specs.Rules.{PlacedRule, unplaced}
 use Rattle.texting_robots.specs.Verdict.{IsVerdict}
 use Rattle.texting_robots.proofs.FirstLemmas.{at_most_more, first_decides, first_line}
@@ -34,7 +34,7 @@ returns-in-Some-clause-line g c =
     let decides = first_line all c.self.invariant.0 c.self.invariant.1 text c.in-Some.at found in (
       iff_false c.is_robots_file.ensures c.if-is_robots_file.false,
       placed,
-      subst (λ (rules : List PlacedRule). Decides rules text placed) c.self.view_is decides,
+      subst (λ (rules : List PlacedRule). IsDecidingRule rules text placed) c.self.view_is decides,
       ap (λ (e : Entry). e.line) (sym is),
     )
 
