@@ -8,7 +8,7 @@ use texting_robots::Error;
 pub enum Fault {
     /// A read failed, or the input didn't end within the reads that are made.
     Read,
-    /// A write failed, or took nothing.
+    /// A write or a flush failed, or a write took nothing.
     Write,
     /// No line after the first one has an empty text.
     NoEmptyLine,
