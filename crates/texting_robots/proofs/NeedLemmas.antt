@@ -32,17 +32,19 @@ same_below (a ∷ b ∷ c ∷ d ∷ e ∷ f ∷ []) rest = omega arith
 same_below (a ∷ b ∷ c ∷ d ∷ e ∷ f ∷ g ∷ []) rest = omega arith
 same_below (a ∷ b ∷ c ∷ d ∷ e ∷ f ∷ g ∷ h ∷ piece) rest = refl
 
+-- and so a mask over the piece hides what stands behind it
+pub same_masked : (piece rest : List ℕ) → bit_and (front_of (piece ++ rest)) (ones_below (length piece))
+    ≡ bit_and (front_of piece) (ones_below (length piece))
+same_masked piece rest =
+    let size = 8 * min (length piece) 8 in
+    and_mask (front_of (piece ++ rest)) size ∙ same_below piece rest ∙ sym (and_mask (front_of piece) size)
+
 -- a text that begins with a piece fits the piece's head
 beginning_fits : (piece rest : List ℕ) (head : Head) → IsHeadOf piece head
     → Fits head (front_of (piece ++ rest))
 beginning_fits piece rest head is =
-    let size = 8 * min (length piece) 8 in
-    let masked : bit_and (front_of (piece ++ rest)) (ones_below (length piece))
-    ≡ bit_and (front_of piece) (ones_below (length piece)) =
-    and_mask (front_of (piece ++ rest)) size ∙ same_below piece rest
-    ∙ sym (and_mask (front_of piece) size) in
-    ap (bit_and (front_of (piece ++ rest))) is.mask ∙ masked ∙ ap (bit_and (front_of piece)) (sym is.mask)
-    ∙ sym is.bytes
+    ap (bit_and (front_of (piece ++ rest))) is.mask ∙ same_masked piece rest
+    ∙ ap (bit_and (front_of piece)) (sym is.mask) ∙ sym is.bytes
 
 -- ---- pairs of neighbouring bytes
 

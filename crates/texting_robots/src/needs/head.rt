@@ -1,5 +1,5 @@
 //! The first bytes of a text, compared all at once.
-ghost use Rattle.std.specs.Prelude.{◌≡◌, ◌↔◌, IsTrue, slice_index_or};
+ghost use Rattle.std.specs.Prelude.{◌≡◌, ◌≤◌, ◌↔◌, IsTrue, length, slice_index_or, take};
 ghost use Rattle.texting_robots.specs.Steps.Needs.{Fits, IsHeadOf, front_of, ones_below};
 
 /// The first bytes of a piece, up to eight, and ones where they stand.
@@ -10,13 +10,14 @@ pub(crate) struct Head {
 }
 
 impl Head {
-    /// What a text that begins with the piece has in front.
-    pub(crate) fn of(piece: &[u8]) -> Self
-        ensures { IsHeadOf piece.now result }
+    /// What a text that begins with the first `len` bytes of the pattern has in front. Those behind are masked out.
+    pub(crate) fn of(pattern: &[u8], len: usize) -> Self
+        requires { len ≤ length pattern.now }
+        ensures { IsHeadOf (take len pattern.now) result }
     {
-        let mask = mask_of(piece.len());
+        let mask = mask_of(len);
         Head {
-            bytes: front(piece) & mask,
+            bytes: front(pattern) & mask,
             mask,
         }
     }

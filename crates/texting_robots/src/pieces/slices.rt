@@ -56,7 +56,7 @@ impl<'a> Pattern<'a> {
     pub(crate) fn needs(&self) -> Needs
         ensures { AreNeeds self.now result }
     {
-        let head = Head::of(&self.bytes[..self.ends.first_len]);
+        let head = Head::of(self.bytes, self.ends.first_len);
         let mut pairs = Pairs::none();
         for piece in self.pieces {
             pairs = pairs.and(Pairs::of(&self.bytes[piece.span.start..piece.span.end]));
