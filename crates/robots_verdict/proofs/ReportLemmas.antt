@@ -1,12 +1,9 @@
 -- How a report is made, and that an input has one at most.
-use Rattle.std.proofs.Common.{◌≡◌, ◌≢◌, ℕ, ◌+◌, ◌<◌, length, take, slice_index_or, Bor}
-use Rattle.std.proofs.Common.{Bool, true, false, List, [], ◌∷◌, ◌++◌, Option, Some, None, Result}
-use Rattle.std.proofs.Common.{Ok, Err, IfSome, OnOk, map, sym, refl, ap, subst, ◌∙◌, append_assoc}
+use Rattle.std.proofs.Common.{◌≡◌, ◌≢◌, ℕ, ◌+◌, ◌<◌, length, take, slice_index_or, Bor, Bool, true, false, List, [], ◌∷◌, ◌++◌, Option, Some, None, Result, Ok, Err, IfSome, map, sym, refl, ap, subst, ◌∙◌}
 use Rattle.std.specs.Io.KnownBytes.{Appends}
 use Rattle.std.specs.List.{AllZip}
 use Rattle.std.specs.Result.{IsErrAnd}
 use Rattle.std.proofs.lemmas.List.{append-nil, map-append, take_more}
-use Rattle.std.proofs.lemmas.List.Concat.{flat_map-append}
 use Rattle.texting_robots.specs.Decision.{IsDecidingLine}
 use Rattle.texting_robots.specs.Line.{LineValue}
 use Rattle.texting_robots.specs.Prepared.{prepared}
@@ -16,35 +13,15 @@ use Rattle.texting_robots.specs.Rules.{placed_rules, sitemaps_in, unplaced}
 use Rattle.texting_robots.specs.Verdict.{IsVerdict}
 use Rattle.texting_robots.proofs.VerdictLemmas.{one_line_decides}
 use Rattle.robots_verdict.specs.declared.fault.Fault.{Fault}
-use Rattle.robots_verdict.specs.declared.fault.Fault.TheVariants.{HeaderNotUtf8, InvalidRule}
-use Rattle.robots_verdict.specs.declared.fault.Fault.TheVariants.{Memory, NoEmptyLine, Read, Write}
-use Rattle.robots_io.specs.Lines.{ended, lf}
+use Rattle.robots_verdict.specs.declared.fault.Fault.TheVariants.{HeaderNotUtf8, InvalidRule, Memory, NoEmptyLine, Read, Write}
+use Rattle.robots_io.specs.Lines.{delay_line, ended, verdict_line}
 use Rattle.robots_verdict.specs.Input.{AreUtf8, HoldNotUtf8, IsInput}
-use Rattle.robots_io.specs.Lines.{delay_line, verdict_line}
 use Rattle.robots_io.specs.Ends.{AppendsBeginning}
 use Rattle.robots_verdict.specs.Report.{AppendsReport, AppendsReportBeginning}
 use Rattle.robots_verdict.specs.Report.{HasFault, IsReport, IsReportText, IsVerdictLine, sitemap_line}
 use Rattle.robots_verdict.specs.Steps.{AddsVerdicts}
+use Rattle.robots_io.proofs.LinesLemmas.{all_zip-append, ended-append, lines_added}
 use Rattle.robots_verdict.proofs.InputLemmas.{not_both, one_split}
-
--- ---- lines, one after another
-
-ended-append : (lines more : List (List ℕ)) → ended (lines ++ more) ≡ ended lines ++ ended more
-ended-append lines more = flat_map-append (λ line. line ++ lf ∷ []) lines more
-
--- a text, some lines and then others
-pub lines_added : (old mid new : List ℕ) (lines more : List (List ℕ)) → mid ≡ old ++ ended lines
-    → new ≡ mid ++ ended more → new ≡ old ++ ended (lines ++ more)
-lines_added old mid new lines more one two = two ∙ ap (λ t. t ++ ended more) one
-    ∙ append_assoc old (ended lines) (ended more) ∙ ap (λ t. old ++ t) (sym (ended-append lines more))
-
-all_zip-append : (R : List ℕ → List ℕ → Type 0) (xs ys more others : List (List ℕ))
-    → AllZip R xs ys → AllZip R more others → AllZip R (xs ++ more) (ys ++ others)
-all_zip-append R [] [] more others one two = two
-all_zip-append R [] (y ∷ ys) more others one two = absurd one
-all_zip-append R (x ∷ xs) [] more others one two = absurd one
-all_zip-append R (x ∷ xs) (y ∷ ys) more others one two =
-    (one.0, all_zip-append R xs ys more others one.1 two)
 
 -- ---- verdicts
 
