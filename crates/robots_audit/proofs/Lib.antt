@@ -1,0 +1,4 @@
+pub mod OverlongLemmas
+pub mod ReportLemmas
+pub mod RowLemmas
+pub mod WarningLemmas

@@ -1,0 +1,6 @@
+pub mod Command
+pub mod Fault
+pub mod Rows
+pub mod Report
+pub mod Warnings
+pub mod Steps

@@ -1,0 +1,86 @@
+-- What the program writes of a file.
+use Rattle.std.specs.Prelude.{◌≡◌, ℕ, Bool, true, false, nat_lt, List, [], ◌∷◌, ◌++◌, Option, ⊤, Contains, codes, if◌then◌else◌, length}
+use Rattle.std.specs.List.{AllByRecursion as Each, AllZip}
+use Rattle.std.specs.Io.KnownBytes.{Appends}
+use Rattle.texting_robots.specs.Callers.{IsDecidingLine, IsOverlong, IsRefused, IsVerdict, LineValue, PlacedRule, Rule}
+use Rattle.texting_robots.specs.Callers.{delay_for, escaped, file_limit, is_named, lines_read, placed_rules, prepared, rules_for, unplaced}
+use Rattle.robots_io.specs.Ends.{AppendsBeginning}
+use Rattle.robots_io.specs.Lines.{delay_line, ended, verdict_line}
+use Rattle.robots_audit.specs.declared.fault.Fault.{Fault}
+use Rattle.robots_audit.specs.declared.fault.Fault.TheVariants.{InvalidRule, Memory, NotUtf8, Read, Usage, Write}
+use Rattle.robots_audit.specs.Rows.{rows}
+
+-- ---- the lines behind the rows
+
+-- the group that the agent gets, and why
+abbrev pub group_line : List ℕ → List LineValue → List ℕ
+group_line agent lines =
+    if is_named agent lines then codes "group " ++ escaped agent ++ codes ", named in the file"
+    else codes "group *, as the agent isn't named in the file"
+
+-- a note, if the file has more bytes than count
+abbrev pub note_lines : List ℕ → List (List ℕ)
+note_lines file =
+    if nat_lt file_limit (length file) then codes "note: only the file's first 512000 bytes count" ∷ [] else []
+
+-- the line says the rules' verdict on the URL, and which line of the file decides
+pub record IsVerdictLine (rules : List PlacedRule) (url line : List ℕ) : Type 0 where
+  pub allowed : Bool
+  pub number : Option ℕ
+  pub verdict : IsVerdict (unplaced rules) (prepared url) allowed
+  pub deciding : IsDecidingLine rules (prepared url) number
+  pub whole : line ≡ verdict_line allowed number (escaped url)
+
+-- ---- the report
+
+-- the text is a row for each line of the file, the agent's group, its delay and the note, and the verdict on each URL
+pub record IsReportText (agent : List ℕ) (urls : List (List ℕ)) (file text : List ℕ) : Type 0 where
+  pub verdict_lines : List (List ℕ)
+  pub verdicts : AllZip (IsVerdictLine (placed_rules agent (lines_read file))) urls verdict_lines
+  pub whole : text ≡ ended (rows agent (lines_read file)
+      ++ (group_line agent (lines_read file) ∷ delay_line (delay_for agent (lines_read file))
+      ∷ (note_lines file ++ verdict_lines)))
+
+-- yes where the rules allow every URL, and no where they deny one
+abbrev pub AreAllowed : List Rule → List (List ℕ) → Bool → Type 0
+AreAllowed rules urls true = Each (λ url. IsVerdict rules (prepared url) true) urls
+AreAllowed rules urls false = (url : List ℕ) × Contains urls url × IsVerdict rules (prepared url) false
+
+-- the text is the report of a file that the agent can use, and the answer says whether every URL is allowed
+pub record IsReport (agent : List ℕ) (urls : List (List ℕ)) (file text : List ℕ) (all_allowed : Bool) : Type 0 where
+  pub accepted : ¬ IsRefused agent (lines_read file)
+  pub whole : IsReportText agent urls file text
+  pub answer : AreAllowed (rules_for agent (lines_read file)) urls all_allowed
+
+-- ---- faults
+
+-- the first of the rules that is overlong stands in the line with this number
+pub record IsFirstOverlong (rules : List PlacedRule) (number : ℕ) : Type 0 where
+  pub front : List PlacedRule
+  pub placed : PlacedRule
+  pub back : List PlacedRule
+  pub whole : rules ≡ front ++ placed ∷ back
+  pub accepted : Each (λ (other : PlacedRule). ¬ IsOverlong other.rule.0) front
+  pub overlong : IsOverlong placed.rule.0
+  pub line : placed.line ≡ number
+
+-- a run on the file may end with this fault: nothing is claimed of when a read, a write or a request for memory fails
+abbrev pub MayFail : List ℕ → Fault → List ℕ → Type 0
+MayFail agent Usage file = ⊥
+MayFail agent NotUtf8 file = ⊥
+MayFail agent Read file = ⊤
+MayFail agent Write file = ⊤
+MayFail agent (InvalidRule line) file = IsFirstOverlong (placed_rules agent (lines_read file)) line
+MayFail agent Memory file = ⊤
+
+-- ---- what is written
+
+-- the writer holds what it held, and then the report of the file
+abbrev pub AppendsReport : List ℕ → List (List ℕ) → Bool → Option (List ℕ) → Option (List ℕ) → List ℕ → Type 0
+AppendsReport agent urls all_allowed old new file =
+    (text : List ℕ) × IsReport agent urls file text all_allowed × Appends old new text
+
+-- the writer holds what it held, and then a beginning of the report of the file
+abbrev pub AppendsReportBeginning : List ℕ → List (List ℕ) → Option (List ℕ) → Option (List ℕ) → List ℕ → Type 0
+AppendsReportBeginning agent urls old new file =
+    (text : List ℕ) × (all_allowed : Bool) × IsReport agent urls file text all_allowed × AppendsBeginning old new text

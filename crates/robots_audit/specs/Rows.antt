@@ -1,0 +1,80 @@
+-- The rows of a report: a line on each line of a file.
+use Rattle.std.specs.Prelude.{ℕ, ◌-◌, ◌==◌, Bool, true, false, ◌||◌, ◌&&◌, List, [], ◌∷◌, ◌++◌, Some, None, codes, decimal, if◌then◌else◌, length, map, replicate}
+use Rattle.texting_robots.specs.Callers.{Allow, CrawlDelay, Disallow, LineValue, Mark, Raw, Sitemap, UserAgent}
+use Rattle.texting_robots.specs.Callers.{escaped, group_name, is_agent_named, marks_of}
+
+-- ---- columns
+
+abbrev pub space : ℕ
+space = 32
+
+abbrev pub tab : ℕ
+tab = 9
+
+abbrev pub hash : ℕ
+hash = 35
+
+-- the text behind as many blanks as fill the width
+abbrev pub right_aligned : ℕ → List ℕ → List ℕ
+right_aligned width text = replicate (width - length text) space ++ text
+
+-- how wide the column of the words is, with a blank behind the longest
+abbrev pub word_width : ℕ
+word_width = 12
+
+-- the word, and the value in its column behind it, if it isn't empty
+abbrev pub word_and_value : List ℕ → List ℕ → List ℕ
+word_and_value word [] = word
+word_and_value word (byte ∷ value) = word ++ replicate (word_width - length word) space ++ byte ∷ value
+
+-- ---- a line of a file
+
+-- `+` in the agent's group, `-` in another
+abbrev pub sign : Bool → List ℕ
+sign true = codes "+"
+sign false = codes "-"
+
+-- A User-Agent line is the agent's where it has the name of the agent's group, a rule or a delay where it is captured.
+-- Other lines belong to no group.
+abbrev pub mark_text : List ℕ → Bool → LineValue → List ℕ
+mark_text name captured (UserAgent value) = sign (is_agent_named name (UserAgent value))
+mark_text name captured (Allow value) = sign captured
+mark_text name captured (Disallow value) = sign captured
+mark_text name captured (CrawlDelay delay) = sign captured
+mark_text name captured (Sitemap value) = codes " "
+mark_text name captured (Raw body) = codes " "
+
+-- nothing but blanks, or blanks and a comment
+abbrev pub is_blank : List ℕ → Bool
+is_blank [] = true
+is_blank (byte ∷ body) = byte == hash || ((byte == space || byte == tab) && is_blank body)
+
+-- what the line was read as
+abbrev pub kind_text : LineValue → List ℕ
+kind_text (UserAgent value) = codes "user-agent"
+kind_text (Allow value) = codes "allow"
+kind_text (Disallow value) = codes "disallow"
+kind_text (CrawlDelay delay) = codes "crawl-delay"
+kind_text (Sitemap value) = codes "sitemap"
+kind_text (Raw body) = if is_blank body then codes "blank" else codes "unread"
+
+-- its value, escaped as rules are, or the microseconds of a delay
+abbrev pub value_text : LineValue → List ℕ
+value_text (UserAgent value) = escaped value
+value_text (Allow value) = escaped value
+value_text (Disallow value) = escaped value
+value_text (CrawlDelay None) = []
+value_text (CrawlDelay (Some micros)) = decimal micros
+value_text (Sitemap value) = escaped value
+value_text (Raw body) = escaped body
+
+-- its number, its mark, what it was read as, and its value
+abbrev pub row : ℕ → List ℕ → Mark → List ℕ
+row width name mark =
+    right_aligned width (decimal mark.number) ++ codes " " ++ mark_text name mark.captured mark.line ++ codes " "
+    ++ word_and_value (kind_text mark.line) (value_text mark.line)
+
+-- a row for each line, the numbers as wide as the last
+abbrev pub rows : List ℕ → List LineValue → List (List ℕ)
+rows agent lines =
+    map (row (length (decimal (length lines))) (group_name agent lines)) (marks_of (group_name agent lines) lines)

@@ -1,0 +1,117 @@
+//! How a run ends.
+ghost use Rattle.std.specs.Prelude.{◌≡◌};
+ghost use Rattle.robots_audit.specs.Fault.{status_after};
+
+use robots_io::ends::{ReadFault, WriteFault};
+use std::alloc::{AllocError, AllocFailed};
+use std::fmt;
+
+/// How the program is called.
+pub const USAGE: &str = "usage: robots_audit AGENT [URL..] < robots.txt";
+
+/// What a run that wrote its report found.
+#[derive(Debug, PartialEq, Eq, Drop)]
+pub struct Outcome {
+    /// Whether the agent may fetch every URL that was asked for.
+    pub all_allowed: bool,
+    /// What is warned of, a line each.
+    pub warnings: String,
+}
+
+/// Why the program stopped.
+#[derive(Debug, PartialEq, Eq, Drop)]
+pub enum Fault {
+    /// No agent was given.
+    Usage,
+    /// An argument isn't UTF-8.
+    NotUtf8,
+    /// A read failed, or the file didn't end within the reads that are made.
+    Read,
+    /// A write failed, or took nothing.
+    Write,
+    /// The agent's rule in the line with this number holds `$` and is too long.
+    InvalidRule(usize),
+    /// Memory was refused, or a URL came to more bytes than `url` can count.
+    Memory,
+}
+
+impl fmt::Display for Fault {
+    ghost use Rattle.std.specs.Prelude.{Some};
+    ghost use Rattle.robots_audit.specs.Fault.{text_of};
+
+    ghost output = { λ fault. Some (text_of fault) };
+
+    fn fmt<W: fmt::Write>(&self, f: &mut fmt::Formatter<W>) -> fmt::Result {
+        f.write_str("robots_audit: ")?;
+        match self {
+            Fault::Usage => f.write_str("no agent was given")?,
+            Fault::NotUtf8 => f.write_str("an argument isn't UTF-8")?,
+            Fault::Read => f.write_str("reading the file failed")?,
+            Fault::Write => f.write_str("writing the report failed")?,
+            Fault::InvalidRule(line) => write!(
+                f,
+                "the rule in line {line} holds $ and is too long, so a crawler can't use the file"
+            )?,
+            Fault::Memory => f.write_str("out of memory")?,
+        }
+        write!(f, "; {USAGE}")
+    }
+}
+
+impl From<AllocError> for Fault {
+    ghost use Rattle.std.specs.Prelude.{◌≡◌};
+    ghost use Rattle.robots_audit.specs.declared.fault.Fault.TheVariants.{Memory};
+
+    ghost from_gives = { λ _ fault. fault ≡ Memory };
+
+    fn from(_: AllocError) -> Fault {
+        Fault::Memory
+    }
+}
+
+impl<T: Drop> From<AllocFailed<T>> for Fault {
+    ghost use Rattle.std.specs.Prelude.{◌≡◌};
+    ghost use Rattle.robots_audit.specs.declared.fault.Fault.TheVariants.{Memory};
+
+    ghost from_gives = { λ _ fault. fault ≡ Memory };
+
+    fn from(_: AllocFailed<T>) -> Fault {
+        Fault::Memory
+    }
+}
+
+impl From<ReadFault> for Fault {
+    ghost use Rattle.std.specs.Prelude.{◌≡◌};
+    ghost use Rattle.robots_audit.specs.Fault.{fault_of_read};
+
+    ghost from_gives = { λ fault own. own ≡ fault_of_read fault };
+
+    fn from(fault: ReadFault) -> Fault {
+        match fault {
+            ReadFault::Read => Fault::Read,
+            ReadFault::Memory => Fault::Memory,
+        }
+    }
+}
+
+impl From<WriteFault> for Fault {
+    ghost use Rattle.std.specs.Prelude.{◌≡◌};
+    ghost use Rattle.robots_audit.specs.declared.fault.Fault.TheVariants.{Write};
+
+    ghost from_gives = { λ _ fault. fault ≡ Write };
+
+    fn from(_: WriteFault) -> Fault {
+        Fault::Write
+    }
+}
+
+/// The status that the process ends with.
+pub fn status_after(outcome: &Result<Outcome, Fault>) -> u8
+    ensures { result ≡ status_after outcome.now }
+{
+    match outcome {
+        Ok(outcome) if outcome.all_allowed => 0,
+        Ok(_) => 1,
+        Err(_) => 2,
+    }
+}

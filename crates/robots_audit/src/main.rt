@@ -1,0 +1,74 @@
+//! Shows a site owner what a crawler makes of a robots.txt file, which comes from standard input: each line with its number,
+//! whether it is in the crawler's group, and what it was read as; the group and the delay that the crawler gets; and for each
+//! URL whether the crawler may fetch it, and which line says so.
+//!
+//! `robots_audit AGENT [URL..] < robots.txt`
+//!
+//! The status is 0 where every URL is allowed, 1 where some is denied, and 2 where the program couldn't answer.
+#![tactic(auto)]
+
+mod command;
+mod fault;
+mod file;
+mod overlong;
+mod program;
+mod report;
+mod rows;
+#[cfg(test)]
+mod tests;
+mod warnings;
+
+use command::{Command, command_of};
+use fault::{Fault, Outcome, USAGE, status_after};
+use program::run;
+use robots_io::ends::write_out;
+use std::alloc::Global;
+use std::env;
+use std::io::ErrorKind;
+use std::process::ExitCode;
+
+/// The words behind the program's name.
+fn words(rt: &HostRuntime) -> Result<Vec<String>, Fault> {
+    match env::args(rt) {
+        Ok(mut args) => {
+            let _ = args.next();
+            Ok(args.collect(rt.alloc())?)
+        }
+        Err(error) if error.kind() == ErrorKind::InvalidData => Err(Fault::NotUtf8),
+        Err(_) => Err(Fault::Memory),
+    }
+}
+
+/// Writes how the program is called.
+fn help(rt: &HostRuntime) -> Result<Outcome, Fault> {
+    let text = format!(in rt.alloc(); "{USAGE}\n")?;
+    write_out(&mut rt.stdout(), text.as_bytes())?;
+    Ok(Outcome {
+        all_allowed: true,
+        warnings: String::new(rt.alloc()),
+    })
+}
+
+/// Does what the words ask for.
+fn outcome(rt: &HostRuntime) -> Result<Outcome, Fault> {
+    let words = words(rt)?;
+    match command_of(&words)? {
+        Command::Help => help(rt),
+        Command::Audit(agent, urls) => run(
+            rt.alloc(),
+            agent,
+            urls,
+            &mut rt.stdin(),
+            &mut rt.stdout(),
+        ),
+    }
+}
+
+fn main(rt: HostRuntime) -> ExitCode {
+    let outcome = outcome(&rt);
+    let _ = match &outcome {
+        Ok(outcome) => rt.eprint(&outcome.warnings),
+        Err(fault) => rt.eprintln(fault),
+    };
+    ExitCode::from(status_after(&outcome))
+}

@@ -1,0 +1,291 @@
+//! Rows on `run`, on what the words ask for, and on what the process ends with.
+use crate::command::{Command, command_of};
+use crate::fault::{Fault, Outcome, status_after};
+use crate::program::run;
+use robots_io::fakes::{Sink, Source};
+use std::alloc::{AllocError, Global};
+use std::test::Fail;
+
+/// What all pieces fit into.
+const WHOLE: usize = 65_536;
+
+/// Every kind of line, with a byte order mark, comments, CR LF, NUL and bytes that aren't UTF-8.
+const FILE: &[u8] =
+    b"\xEF\xBB\xBF# hello\r\nUser-agent: Ferris\r\nDisallow: /a b\nAllow: /a/\xFF\0Crawl-delay: 2.5\n\nUser-agent: *\nDisallow:\nNoindex: /x\n   # note\nSitemap: https://example.com/s.xml";
+
+const REPORT: &str =
+    " 1   blank       #%20hello\n 2 + user-agent  Ferris\n 3 + disallow    /a%20b\n 4 + allow       /a/%FF\n 5 + crawl-delay 2500000\n 6   blank\n 7 - user-agent  *\n 8 - allow       /\n 9   unread      Noindex:%20/x\n10   blank       %20%20%20#%20note\n11   sitemap     https://example.com/s.xml\ngroup Ferris, named in the file\ndelay 2500000\n";
+
+/// The texts as arguments.
+fn strings(alloc: Global, texts: &[&str]) -> Result<Vec<String>, AllocError> {
+    let mut all = Vec::new(alloc);
+    for text in texts {
+        all.push(String::from_str(alloc, text)?)?;
+    }
+    Ok(all)
+}
+
+/// The lines of a text as arguments.
+fn line_strings(alloc: Global, text: &str) -> Result<Vec<String>, AllocError> {
+    let mut all = Vec::new(alloc);
+    for line in text.lines() {
+        all.push(String::from_str(alloc, line)?)?;
+    }
+    Ok(all)
+}
+
+/// An outcome without warnings.
+fn quiet(alloc: Global, all_allowed: bool) -> Outcome {
+    Outcome {
+        all_allowed,
+        warnings: String::new(alloc),
+    }
+}
+
+#[test]
+fn reports(rt: HostRuntime) -> Result<(), Fail> {
+    let rows: [(&str, &str, &[u8], &str, &str, bool); 8] = [
+        ("every kind of line", "", FILE, REPORT, "", true),
+        (
+            "a URL is denied",
+            "/b\n/a b\nhttps://example.com/a%20b/c",
+            FILE,
+            REPORT,
+            "allow - /b\ndeny 3 /a%20b\ndeny 3 https://example.com/a%20b/c\n",
+            false,
+        ),
+        (
+            "all are allowed",
+            "/b\n/robots.txt",
+            FILE,
+            REPORT,
+            "allow - /b\nallow - /robots.txt\n",
+            true,
+        ),
+        (
+            "nothing",
+            "",
+            b"",
+            "",
+            "group *, as the agent isn't named in the file\ndelay none\n",
+            true,
+        ),
+        (
+            "no agent line",
+            "/a",
+            b"Disallow: /a",
+            "1 + disallow    /a\ngroup *, as the agent isn't named in the file\ndelay none\n",
+            "deny 1 /a\n",
+            false,
+        ),
+        (
+            "the star's group",
+            "/a",
+            b"User-agent: Other\nUser-agent: *\nDisallow: /a\nCrawl-delay: nan",
+            "1 - user-agent  Other\n2 + user-agent  *\n3 + disallow    /a\n4   unread      Crawl-delay:%20nan\ngroup *, as the agent isn't named in the file\ndelay none\n",
+            "deny 3 /a\n",
+            false,
+        ),
+        (
+            "a terminal isn't steered",
+            "/\u{1b}[2J",
+            b"\x1b[31m\nUser-agent: ferris\x07",
+            "1   unread      %1B[31m\n2 - user-agent  ferris%07\ngroup *, as the agent isn't named in the file\ndelay none\n",
+            "allow - /%1B[2J\n",
+            true,
+        ),
+        (
+            "a delay before the agents",
+            "",
+            b"Crawl-delay: 1\nUser-agent: ferris",
+            "1 - crawl-delay 1000000\n2 + user-agent  ferris\ngroup Ferris, named in the file\ndelay 1000000\n",
+            "",
+            true,
+        ),
+    ];
+    for (name, urls, file, front, back, all_allowed) in rows {
+        let urls = line_strings(rt.alloc(), urls)?;
+        let mut sink = Sink::new(rt.alloc(), WHOLE);
+        let outcome = run(
+            rt.alloc(),
+            "Ferris",
+            &urls,
+            &mut Source::new(file, WHOLE),
+            &mut sink,
+        );
+        assert_eq!(rt; outcome, Ok(quiet(rt.alloc(), all_allowed)), "{name}");
+        let text = format!(in rt.alloc(); "{front}{back}")?;
+        assert_eq!(rt; sink.held.as_slice(), text.as_bytes(), "{name}");
+    }
+    Ok(())
+}
+
+/// So many bytes of a comment, LF, and then this line.
+fn behind_comment(alloc: Global, bytes: usize, line: &[u8]) -> Result<Vec<u8>, AllocError> {
+    let mut file = vec![in alloc; b'#'; bytes]?;
+    file.push(b'\n')?;
+    file.extend_from_slice(line)?;
+    Ok(file)
+}
+
+#[test]
+fn only_the_first_bytes_count(rt: HostRuntime) -> Result<(), Fail> {
+    let rows: [(usize, bool); 2] = [(511_987, false), (511_999, true)];
+    for (bytes, is_noted) in rows {
+        let file = behind_comment(rt.alloc(), bytes, b"Disallow: /a")?;
+        let mut sink = Sink::new(rt.alloc(), WHOLE);
+        let urls = strings(rt.alloc(), &["/a"])?;
+        let outcome = run(rt.alloc(), "Ferris", &urls, &mut file.as_slice(), &mut sink);
+        assert_eq!(rt; outcome, Ok(quiet(rt.alloc(), is_noted)));
+        let end: &[u8] = if is_noted {
+            b"#\ngroup *, as the agent isn't named in the file\ndelay none\nnote: only the file's first 512000 bytes count\nallow - /a\n"
+        } else {
+            b"#\n2 + disallow    /a\ngroup *, as the agent isn't named in the file\ndelay none\ndeny 2 /a\n"
+        };
+        assert!(rt; sink.held.as_slice().ends_with(end));
+    }
+    Ok(())
+}
+
+#[test]
+fn faults(rt: HostRuntime) -> Result<(), Fail> {
+    let mut overlong = String::from_str(rt.alloc(), "User-agent: ferris\nAllow: /$\nDisallow: /")?;
+    for _ in 0..4_095 {
+        overlong.push('a')?;
+    }
+    overlong.push_str("$\nSitemap: s")?;
+    let mut sink = Sink::new(rt.alloc(), WHOLE);
+    let outcome = run(
+        rt.alloc(),
+        "Ferris",
+        &[],
+        &mut Source::new(overlong.as_bytes(), WHOLE),
+        &mut sink,
+    );
+    assert_eq!(rt; outcome, Err(Fault::InvalidRule(3)));
+    assert!(rt; sink.held.is_empty());
+    let other = run(
+        rt.alloc(),
+        "Other",
+        &[],
+        &mut Source::new(overlong.as_bytes(), WHOLE),
+        &mut sink,
+    );
+    assert_eq!(rt; other, Ok(quiet(rt.alloc(), true)));
+    let mut failing = Source::new(FILE, 7);
+    failing.good_calls = Some(3);
+    let mut sink = Sink::new(rt.alloc(), WHOLE);
+    let outcome = run(rt.alloc(), "Ferris", &[], &mut failing, &mut sink);
+    assert_eq!(rt; outcome, Err(Fault::Read));
+    assert!(rt; sink.held.is_empty());
+    let mut full = Sink::new(rt.alloc(), 7);
+    full.good_calls = Some(3);
+    let outcome = run(
+        rt.alloc(),
+        "Ferris",
+        &[],
+        &mut Source::new(FILE, WHOLE),
+        &mut full,
+    );
+    assert_eq!(rt; outcome, Err(Fault::Write));
+    assert_eq!(rt; REPORT.as_bytes().get(..21), Some(full.held.as_slice()));
+    Ok(())
+}
+
+#[test]
+fn warnings(rt: HostRuntime) -> Result<(), Fail> {
+    let rows: [(&str, &str, &[u8], &str); 6] = [
+        (
+            "Ferris",
+            "https://example.com/",
+            b"Disallow: /a\nAllow: *b\nDisallow: /c?'",
+            "",
+        ),
+        (
+            " Ferris",
+            "/",
+            b"",
+            "robots_audit: warning: the agent has blanks around it, so no line names it\n",
+        ),
+        (
+            "Ferris/1.0",
+            "http://example.com/",
+            b"",
+            "robots_audit: warning: the agent has a / in it: a name is compared whole, and a version isn't taken off\n",
+        ),
+        (
+            "Ferris",
+            "example.com/\n",
+            b"",
+            "robots_audit: warning: a URL begins with neither http:// nor https:// nor /: example.com/%0A\n",
+        ),
+        (
+            "Ferris",
+            "/",
+            b"User-agent: *\nDisallow: a\nUser-agent: other\nDisallow: b",
+            "robots_audit: warning: the rule in line 2 begins with neither / nor *\n",
+        ),
+        (
+            "Ferris",
+            "/",
+            b"\nAllow: /^",
+            "robots_audit: warning: the rule in line 2 has a byte that a whole URL has escaped: ^, { or }\n",
+        ),
+    ];
+    for (agent, url, file, text) in rows {
+        let mut sink = Sink::new(rt.alloc(), WHOLE);
+        let urls = strings(rt.alloc(), &[url])?;
+        let outcome = run(
+            rt.alloc(),
+            agent,
+            &urls,
+            &mut Source::new(file, WHOLE),
+            &mut sink,
+        );
+        let warnings = outcome.map_err(|_| "a fault")?.warnings;
+        assert_eq!(rt; warnings.as_str(), text);
+    }
+    Ok(())
+}
+
+#[test]
+fn words(rt: HostRuntime) -> Result<(), Fail> {
+    assert!(rt; matches!(command_of(&[]), Err(Fault::Usage)));
+    let words = strings(rt.alloc(), &["--help", "/"])?;
+    assert!(rt; matches!(command_of(&words), Ok(Command::Help)));
+    let words = strings(rt.alloc(), &["Ferris", "--help"])?;
+    match command_of(&words) {
+        Ok(Command::Audit(agent, urls)) => {
+            assert_eq!(rt; agent, "Ferris");
+            assert_eq!(rt; urls.len(), 1);
+        }
+        _ => return Err(Fail::from("an audit")),
+    }
+    Ok(())
+}
+
+#[test]
+fn endings(rt: HostRuntime) -> Result<(), Fail> {
+    assert_eq!(rt; status_after(&Ok(quiet(rt.alloc(), true))), 0);
+    assert_eq!(rt; status_after(&Ok(quiet(rt.alloc(), false))), 1);
+    let rows = [
+        (Fault::Usage, "no agent was given"),
+        (Fault::NotUtf8, "an argument isn't UTF-8"),
+        (Fault::Read, "reading the file failed"),
+        (Fault::Write, "writing the report failed"),
+        (
+            Fault::InvalidRule(12),
+            "the rule in line 12 holds $ and is too long, so a crawler can't use the file",
+        ),
+        (Fault::Memory, "out of memory"),
+    ];
+    for (fault, reason) in rows {
+        let said = format!(in rt.alloc(); "{fault}")?;
+        let text = format!(in rt.alloc();
+            "robots_audit: {reason}; usage: robots_audit AGENT [URL..] < robots.txt"
+        )?;
+        assert_eq!(rt; said, text);
+        assert_eq!(rt; status_after(&Err(fault)), 2);
+    }
+    Ok(())
+}
