@@ -1,5 +1,6 @@
 -- How warnings are made.
-use Rattle.std.proofs.Common.{◌≡◌, ℕ, Bool, List, [], ◌∷◌, ◌++◌, ap, reverse, sym, ◌∙◌}
+use Rattle.std.proofs.Common.{◌≡◌, ℕ, Bool, List, [], ◌∷◌}
+use Rattle.std.proofs.Common.{◌++◌, ap, reverse, sym, ◌∙◌}
 use Rattle.std.proofs.lemmas.List.{reverse-append}
 use Rattle.robots_io.specs.Lines.{ended}
 use Rattle.robots_audit.specs.Warnings.{begins_blank, is_blank_byte, warned}
@@ -7,10 +8,13 @@ use Rattle.robots_audit.specs.Warnings.{begins_blank, is_blank_byte, warned}
 -- what stands last begins the reverse
 pub last_of_reverse : (text rest : List ℕ) (last : ℕ) → text ≡ rest ++ last ∷ []
     → is_blank_byte last ≡ begins_blank (reverse text)
-last_of_reverse text rest last is = sym (ap (λ t. begins_blank (reverse t)) is ∙ ap begins_blank (reverse-append rest (last ∷ [])))
+last_of_reverse text rest last is =
+    sym (ap (λ t. begins_blank (reverse t)) is ∙ ap begins_blank (reverse-append rest (last ∷ [])))
 
 -- a warning for the same cause, in the same words
-pub warned_same : (old new text said : List ℕ) (cause is : Bool) → new ≡ old ++ ended (warned cause text)
+pub warned_same : (old new text said : List ℕ) (cause is : Bool)
+    → new ≡ old ++ ended (warned cause text)
     → cause ≡ is → text ≡ said → new ≡ old ++ ended (warned is said)
 warned_same old new text said cause is added same words =
-    added ∙ ap (λ b. old ++ ended (warned b text)) same ∙ ap (λ (t : List ℕ). old ++ ended (warned is t)) words
+    added ∙ ap (λ b. old ++ ended (warned b text)) same
+    ∙ ap (λ (t : List ℕ). old ++ ended (warned is t)) words

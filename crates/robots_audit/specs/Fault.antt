@@ -3,7 +3,8 @@ use Rattle.std.specs.Prelude.{ℕ, List, ◌++◌, Result, Ok, Err, codes, decim
 use Rattle.robots_io.specs.declared.ends.ReadFault.{ReadFault}
 use Rattle.robots_io.specs.declared.ends.ReadFault.TheVariants as read
 use Rattle.robots_audit.specs.declared.fault.Fault.{Fault}
-use Rattle.robots_audit.specs.declared.fault.Fault.TheVariants.{InvalidRule, Memory, NotUtf8, Read, Usage, Write}
+use Rattle.robots_audit.specs.declared.fault.Fault.TheVariants.{InvalidRule, Memory}
+use Rattle.robots_audit.specs.declared.fault.Fault.TheVariants.{NotUtf8, Read, Usage, Write}
 use Rattle.robots_audit.specs.declared.fault.Outcome.{Outcome}
 
 -- how the program is called
@@ -17,14 +18,16 @@ reason_of NotUtf8 = codes "an argument isn't UTF-8"
 reason_of Read = codes "reading the file failed"
 reason_of Write = codes "writing the report failed"
 reason_of (InvalidRule line) =
-    codes "the rule in line " ++ decimal line ++ codes " holds $ and is too long, so a crawler can't use the file"
+    codes "the rule in line " ++ decimal line
+    ++ codes " holds $ and is too long, so a crawler can't use the file"
 reason_of Memory = codes "out of memory"
 
 -- all of it, in one line
 abbrev pub text_of : Fault → List ℕ
 text_of fault = codes "robots_audit: " ++ reason_of fault ++ codes "; " ++ usage
 
--- the status that the process ends with: 0 where every URL is allowed, 1 where some is denied, and 2 after a fault
+-- the status that the process ends with: 0 where every URL is allowed, 1 where some is denied, and 2 after a
+-- fault
 abbrev pub status_after : Result Outcome Fault → ℕ
 status_after (Ok outcome) = if outcome.all_allowed then 0 else 1
 status_after (Err fault) = 2

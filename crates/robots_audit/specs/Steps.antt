@@ -8,7 +8,8 @@ use Rattle.robots_io.specs.Lines.{ended}
 use Rattle.robots_audit.specs.Report.{AreAllowed, IsVerdictLine}
 
 -- the verdict on each URL was added, a line each, and the answer says whether all are allowed
-pub record AddsVerdicts (rules : List PlacedRule) (urls : List (List ℕ)) (all_allowed : Bool) (old new : List ℕ) : Type 0 where
+pub record AddsVerdicts (rules : List PlacedRule) (urls : List (List ℕ)) (all_allowed : Bool)
+    (old new : List ℕ) : Type 0 where
   pub lines : List (List ℕ)
   pub verdicts : AllZip (IsVerdictLine rules) urls lines
   pub answer : AreAllowed (unplaced rules) urls all_allowed
@@ -16,4 +17,5 @@ pub record AddsVerdicts (rules : List PlacedRule) (urls : List (List ℕ)) (all_
 
 -- the line gives a captured rule that is overlong
 abbrev pub GivesOverlong : Mark → Type 0
-GivesOverlong mark = IsTrue mark.captured × IsSomeAnd (rule_in mark.line) (λ (rule : Rule). IsOverlong rule.0)
+GivesOverlong mark =
+    IsTrue mark.captured × IsSomeAnd (rule_in mark.line) (λ (rule : Rule). IsOverlong rule.0)

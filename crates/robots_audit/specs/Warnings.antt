@@ -1,8 +1,9 @@
 -- What the program warns of: what silently means something else than it seems.
-use Rattle.std.specs.Prelude.{ℕ, ◌==◌, nat_eq, Bool, false, not, ◌||◌, List, [], ◌∷◌, ◌++◌, codes, decimal, flat_map, if◌then◌else◌, reverse}
+use Rattle.std.specs.Prelude.{ℕ, ◌==◌, nat_eq, Bool, false, not, ◌||◌, List, [], ◌∷◌}
+use Rattle.std.specs.Prelude.{◌++◌, codes, decimal, flat_map, if◌then◌else◌, reverse}
 use Rattle.std.specs.List.{list_any, starts_with}
-use Rattle.texting_robots.specs.Callers.{Allow, CrawlDelay, Disallow, LineValue, Mark, Raw, Sitemap, UserAgent}
-use Rattle.texting_robots.specs.Callers.{escaped, group_name, marks_of}
+use Rattle.texting_robots.specs.Callers.{Allow, CrawlDelay, Disallow, LineValue, Mark, Raw}
+use Rattle.texting_robots.specs.Callers.{Sitemap, UserAgent, escaped, group_name, marks_of}
 use Rattle.robots_audit.specs.Rows.{space, tab}
 
 abbrev pub slash : ℕ
@@ -50,7 +51,8 @@ is_url_or_path url = is_url url || starts_with nat_eq url (codes "/")
 
 abbrev pub url_warnings : List ℕ → List (List ℕ)
 url_warnings url =
-    warned (not (is_url_or_path url)) (codes "a URL begins with neither http:// nor https:// nor /: " ++ escaped url)
+    warned (not (is_url_or_path url))
+    (codes "a URL begins with neither http:// nor https:// nor /: " ++ escaped url)
 
 -- ---- rules
 

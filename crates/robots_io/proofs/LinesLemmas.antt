@@ -21,9 +21,11 @@ lines_next mid new whole lines more added all =
     ap (λ t. t ++ ended more) added ∙ append_assoc mid (ended lines) (ended more)
     ∙ ap (λ t. mid ++ t) (sym (ended-append lines more)) ∙ all
 
-pub all_zip-append : (R : List ℕ → List ℕ → Type 0) (xs ys more others : List (List ℕ)) → AllZip R xs ys
+pub all_zip-append : (R : List ℕ → List ℕ → Type 0) (xs ys more others : List (List ℕ))
+    → AllZip R xs ys
     → AllZip R more others → AllZip R (xs ++ more) (ys ++ others)
 all_zip-append R [] [] more others one two = two
 all_zip-append R [] (y ∷ ys) more others one two = absurd one
 all_zip-append R (x ∷ xs) [] more others one two = absurd one
-all_zip-append R (x ∷ xs) (y ∷ ys) more others one two = (one.0, all_zip-append R xs ys more others one.1 two)
+all_zip-append R (x ∷ xs) (y ∷ ys) more others one two =
+    (one.0, all_zip-append R xs ys more others one.1 two)

@@ -37,7 +37,8 @@ pub same_masked : (piece rest : List ℕ) → bit_and (front_of (piece ++ rest))
     ≡ bit_and (front_of piece) (ones_below (length piece))
 same_masked piece rest =
     let size = 8 * min (length piece) 8 in
-    and_mask (front_of (piece ++ rest)) size ∙ same_below piece rest ∙ sym (and_mask (front_of piece) size)
+    and_mask (front_of (piece ++ rest)) size ∙ same_below piece rest
+    ∙ sym (and_mask (front_of piece) size)
 
 -- a text that begins with a piece fits the piece's head
 beginning_fits : (piece rest : List ℕ) (head : Head) → IsHeadOf piece head

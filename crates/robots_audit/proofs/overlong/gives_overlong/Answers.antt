@@ -8,4 +8,5 @@ returns-in-Allow c =
 pub returns-in-Disallow : goal.returns-in-Disallow
 returns-in-Disallow c =
     rw c.in-Disallow.is
-    (captured_answer c.is_overlong-in-Disallow.result _ _ c.if-not-marked.false c.is_overlong-in-Disallow.ensures)
+    (captured_answer c.is_overlong-in-Disallow.result _ _ c.if-not-marked.false
+    c.is_overlong-in-Disallow.ensures)

@@ -6,5 +6,8 @@ use Rattle.robots_audit.proofs.warnings.warn_of_bytes.Goals as goal
 
 pub returns : goal.returns
 returns c =
-    warned_same _ _ c.deref.result.now (rule_text c.args.number (codes "has a byte that a whole URL has escaped: ^, { or }")) c.has_byte_escaped_in_urls.result
-    (list_any is_escaped_in_urls c.args.value.now) c.in_ok-warn.ensures c.has_byte_escaped_in_urls.ensures (c.deref.ensures ∙ c.in_ok-warning.ensures)
+    warned_same _ _ c.deref.result.now
+    (rule_text c.args.number (codes "has a byte that a whole URL has escaped: ^, { or }"))
+    c.has_byte_escaped_in_urls.result
+    (list_any is_escaped_in_urls c.args.value.now) c.in_ok-warn.ensures c.has_byte_escaped_in_urls.ensures
+    (c.deref.ensures ∙ c.in_ok-warning.ensures)

@@ -8,5 +8,9 @@ returns c =
     let pattern = c.args.pattern.now in
     let len = c.args.len in
     let long : length (take len pattern) ≡ len = length-take-le len pattern c.requires in
-    let masked = rw (take-append-drop len pattern, long) at (same_masked (take len pattern) (drop len pattern)) in
-    record { mask = rw long c.mask_of-mask.ensures; bytes = rw (c.front.ensures, c.mask_of-mask.ensures) masked }
+    let masked =
+    rw (take-append-drop len pattern, long) at (same_masked (take len pattern) (drop len pattern)) in
+    record {
+      mask = rw long c.mask_of-mask.ensures;
+      bytes = rw (c.front.ensures, c.mask_of-mask.ensures) masked;
+    }
