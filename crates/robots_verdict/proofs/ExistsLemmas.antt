@@ -1,8 +1,8 @@
 -- An input has a report.
-use Rattle.std.proofs.Common.{◌≡◌, ◌≢◌, ◌⊎◌, inl, inr, ℕ, zero, suc}
-use Rattle.std.proofs.Common.{◌+◌, ◌<◌, ◌==◌, Any, IsUtf8, true, false, Option}
-use Rattle.std.proofs.Common.{Some, None, Result, Ok, Err, List, [], ◌∷◌, ◌++◌}
-use Rattle.std.proofs.Common.{length, map, nat_lt, sym, refl, ap, subst, ◌∙◌, arith}
+use Rattle.std.proofs.Common.{◌≢◌, ◌⊎◌, inl, inr, ℕ, zero, suc}
+use Rattle.std.proofs.Common.{◌<◌, ◌==◌, Any, IsUtf8}
+use Rattle.std.proofs.Common.{Result, Ok, Err, List, [], ◌∷◌, ◌++◌}
+use Rattle.std.proofs.Common.{length, map, sym, refl, ap, subst, ◌∙◌, arith}
 use Rattle.std.specs.List.{AllByRecursion as Each, AllZip, Contains}
 use Rattle.std.specs.Str.{is_utf8}
 use Rattle.std.proofs.lemmas.Bool.{cases_Bool, cases_lt, eqb-false, eqb-true, false≢true}
@@ -10,14 +10,14 @@ use Rattle.std.proofs.lemmas.Str.{IsUtf8-from_is_utf8, is_utf8-from_IsUtf8}
 use Rattle.texting_robots.specs.Pattern.{IsOverlong, collapsed, dollar, longest_with_dollar}
 use Rattle.texting_robots.specs.Prepared.{prepared}
 use Rattle.texting_robots.specs.Robot.{lines_read}
-use Rattle.texting_robots.specs.Rules.{IsRefused, PlacedRule, Rule, delay_for, placed_rules, rules_for}
+use Rattle.texting_robots.specs.Rules.{PlacedRule, Rule, delay_for, placed_rules, rules_for}
 use Rattle.texting_robots.specs.Rules.{sitemaps_in}
 use Rattle.texting_robots.proofs.BestLemmas.{Either, each_text_answered}
 use Rattle.robots_verdict.specs.declared.fault.Fault.{Fault}
 use Rattle.robots_verdict.specs.declared.fault.Fault.TheVariants.{HeaderNotUtf8, InvalidRule, NoEmptyLine}
-use Rattle.robots_verdict.specs.Input.{AreUtf8, HoldNotUtf8, IsInput, IsOneLine, ended, lf, without_cr}
-use Rattle.robots_verdict.specs.Report.{IsReport, IsReportText, IsVerdictLine, delay_line, sitemap_line}
-use Rattle.robots_verdict.specs.Report.{verdict_line}
+use Rattle.robots_io.specs.Lines.{delay_line, ended, lf, verdict_line}
+use Rattle.robots_verdict.specs.Input.{IsInput, IsOneLine, without_cr}
+use Rattle.robots_verdict.specs.Report.{IsReport, IsReportText, IsVerdictLine, sitemap_line}
 use Rattle.robots_verdict.specs.Steps.{BeginsWithLine}
 use Rattle.robots_verdict.proofs.InputLemmas.{GoesOn, goes_first, goes_more, no_split, no_split_first}
 use Rattle.robots_verdict.proofs.InputLemmas.{rest_shorter, split_found}

@@ -11,11 +11,6 @@ returns-in_err-text-clause-invalid_rule g c = run_fault _ _ _ c.from_residual-in
     c.in_ok-input.ensures c.deref.ensures.value c.in_err-text.ensures.fault
     c.from_residual-in_err-text.ensures.1 (λ e. cc)
 
-pub returns-in_err-text-clause-invalid_rule : goal.returns-in_err-text-clause-invalid_rule
-returns-in_err-text-clause-invalid_rule g c = run_fault _ _ _ c.from_residual-in_err-text.result _ _
-    c.in_ok-input.ensures.ok c.deref.ensures.value c.in_err-text.ensures.fault
-    c.from_residual-in_err-text.ensures.1 (λ e. cc)
-
 pub returns-clause-ok : goal.returns-clause-ok
 returns-clause-ok g c = run_ok _ _ _ _ _ _ _ c.in_ok-input.ensures c.deref.ensures.value
     c.in_ok-text.ensures.ok c.as_bytes.ensures.value c.in_ok-write_out.ensures.ok
