@@ -36,7 +36,7 @@ abbrev pub sign : Bool → List ℕ
 sign true = codes "+"
 sign false = codes "-"
 
--- A User-Agent line is the agent's where it has the name of the agent's group, a rule or a delay where it is
+-- A user-agent line is the agent's where it has the name of the agent's group, a rule or a delay where it is
 -- captured.
 -- Other lines belong to no group.
 abbrev pub mark_text : List ℕ → Bool → LineValue → List ℕ

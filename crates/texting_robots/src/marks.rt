@@ -64,7 +64,7 @@ pub fn marked_lines<'a>(agent: &'a str, txt: &'a [u8]) -> MarkedLineIter<'a>
     }
 }
 
-/// Whether a User-Agent line of the file `txt` names the crawler that calls itself `agent`, ASCII letters in any case. A
+/// Whether a user-agent line of the file `txt` names the crawler that calls itself `agent`, ASCII letters in any case. A
 /// crawler that isn't named gets the groups of `*`. It takes no memory.
 #[tactic(auto, using(crate::proofs::NameLemmas::tested_names))]
 pub fn is_named(agent: &str, txt: &[u8]) -> bool

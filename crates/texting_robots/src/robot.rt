@@ -46,7 +46,7 @@ impl Model for Robot {
 impl Robot {
     /// Reads the first [`FILE_LIMIT`] bytes of the file `txt` for the crawler that calls itself `agent`.
     ///
-    /// The agent is compared whole with the file's User-Agent lines, ASCII letters in any case; it isn't trimmed. Every
+    /// The agent is compared whole with the file's user-agent lines, ASCII letters in any case; it isn't trimmed. Every
     /// file can be read: lines that are no statement are passed over. Memory is taken only for rules and sitemaps.
     ///
     /// # Errors
