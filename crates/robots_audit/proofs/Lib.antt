@@ -1,3 +1,4 @@
+pub mod LawLemmas
 pub mod OverlongLemmas
 pub mod ReportLemmas
 pub mod RowLemmas

@@ -1,15 +1,14 @@
 -- Which rule is the first that is overlong.
-use Rattle.std.proofs.Common.{◌≡◌, ℕ, zero, suc, ◌<◌, Bool, true, false, IsTrue}
-use Rattle.std.proofs.Common.{List, [], ◌∷◌, ◌++◌, Any, Option, Some, None, Result, Ok}
-use Rattle.std.proofs.Common.{Err, IfErr, IfOk, ◌↔◌, if◌then◌else◌, append_assoc}
-use Rattle.std.proofs.Common.{arith, length, refl, rules, slice_index_or, subst, sym, ◌∙◌}
+use Rattle.std.proofs.Common.{◌≡◌, ℕ, zero, suc, ◌<◌, Bool, true, false, IsTrue, List, [], ◌∷◌, ◌++◌, Any, Option, Some, None}
+use Rattle.std.proofs.Common.{Result, Ok, Err, IfErr, IfOk, ◌↔◌, if◌then◌else◌, append_assoc, arith, length, refl, rules, slice_index_or, subst, sym, ◌∙◌}
 use Rattle.std.specs.List.{AllByRecursion as Each, cons_option, filter_map}
 use Rattle.std.specs.Option.{IsSomeAnd}
 use Rattle.std.proofs.lemmas.List.{append-nil}
 use Rattle.texting_robots.specs.declared.error.Error.{Error}
 use Rattle.texting_robots.specs.declared.error.Error.TheVariants.{InvalidRule}
 use Rattle.texting_robots.specs.Callers.{IsMemoryOr, IsOverlong, Mark, PlacedRule, Rule, unplaced}
-use Rattle.texting_robots.specs.Rules.{placed, rule_at, rule_in}
+use Rattle.texting_robots.specs.Rules.{rule_in}
+use Rattle.texting_robots.specs.Steps.Group.{placed, rule_at}
 use Rattle.robots_audit.specs.Report.{IsFirstOverlong}
 use Rattle.robots_audit.specs.Steps.{GivesOverlong}
 
@@ -22,8 +21,9 @@ pub record AreLeft (rules : List PlacedRule) (marks : List Mark) : Type 0 where
   pub whole : rules ≡ front ++ filter_map rule_at marks
   pub accepted : Each IsAccepted front
 
-pub all_left : (marks : List Mark) → AreLeft (filter_map rule_at marks) marks
-all_left marks = record { front = []; whole = refl; accepted = tt }
+pub all_left : (rules : List PlacedRule) (marks : List Mark) → rules ≡ filter_map rule_at marks
+    → AreLeft rules marks
+all_left rules marks whole = record { front = []; whole = whole; accepted = tt }
 
 each_more : (xs : List PlacedRule) (x : PlacedRule) → Each IsAccepted xs → IsAccepted x
     → Each IsAccepted (xs ++ x ∷ [])
@@ -32,30 +32,26 @@ each_more (y ∷ xs) x are is = (are.0, each_more xs x are.1 is)
 
 less : (captured : Bool) (rule : Option Rule) (number : ℕ) (all rest front : List PlacedRule)
     → all ≡ front ++ cons_option (placed number (if captured then rule else None)) rest
-    → Each IsAccepted front
-    → ¬ (IsTrue captured × IsSomeAnd rule (λ (r : Rule). IsOverlong r.0))
+    → Each IsAccepted front → ¬ (IsTrue captured × IsSomeAnd rule (λ (r : Rule). IsOverlong r.0))
     → (more : List PlacedRule) × (all ≡ more ++ rest) × Each IsAccepted more
 less false rule number all rest front whole are not = (front, whole, are)
 less true None number all rest front whole are not = (front, whole, are)
 less true (Some rule) number all rest front whole are not =
-    let here : PlacedRule = record { rule = rule; line = number } in (
-      front ++ here ∷ [],
-      whole ∙ sym (append_assoc front (here ∷ []) rest),
-      each_more front here are (λ is. not (search rules, is)),
-    )
+    let here : PlacedRule = record { rule = rule; line = number } in
+    let accepted = each_more front here are (λ is. not (search rules, is)) in
+    (front ++ here ∷ [], whole ∙ sym (append_assoc front (here ∷ []) rest), accepted)
 
 pub left_next : (all : List PlacedRule) (mark : Mark) (marks : List Mark) → AreLeft all (mark ∷ marks)
-    → ¬ GivesOverlong mark
-    → AreLeft all marks
+    → ¬ GivesOverlong mark → AreLeft all marks
 left_next all mark marks left not =
-    let next = less mark.captured (rule_in mark.line) mark.number all (filter_map rule_at marks) left.front
-    left.whole left.accepted not in
+    let later = filter_map rule_at marks in
+    let next =
+    less mark.captured (rule_in mark.line) mark.number all later left.front left.whole left.accepted not in
     record { front = next.0; whole = next.1; accepted = next.2 }
 
 first : (captured : Bool) (rule : Option Rule) (number : ℕ) (all rest front : List PlacedRule)
     → all ≡ front ++ cons_option (placed number (if captured then rule else None)) rest
-    → Each IsAccepted front
-    → (IsTrue captured × IsSomeAnd rule (λ (r : Rule). IsOverlong r.0)) → IsFirstOverlong all number
+    → Each IsAccepted front → (IsTrue captured × IsSomeAnd rule (λ (r : Rule). IsOverlong r.0)) → IsFirstOverlong all number
 first false rule number all rest front whole are is = absurd (search (rules, is.0))
 first true None number all rest front whole are is = absurd is.1
 first true (Some rule) number all rest front whole are is = record {
@@ -69,15 +65,13 @@ first true (Some rule) number all rest front whole are is = record {
 }
 
 pub first_found : (all : List PlacedRule) (mark : Mark) (marks : List Mark) → AreLeft all (mark ∷ marks)
-    → GivesOverlong mark
-    → IsFirstOverlong all mark.number
+    → GivesOverlong mark → IsFirstOverlong all mark.number
 first_found all mark marks left is =
-    first mark.captured (rule_in mark.line) mark.number all (filter_map rule_at marks) left.front
-    left.whole left.accepted is
+    let later = filter_map rule_at marks in
+    first mark.captured (rule_in mark.line) mark.number all later left.front left.whole left.accepted is
 
 none_overlong : (all : List PlacedRule) → Each IsAccepted all → (k : ℕ) (rule : Rule)
-    → k < length (unplaced all)
-    → slice_index_or (unplaced all) k rule ≡ rule → IsOverlong rule.0 → ⊥
+    → k < length (unplaced all) → slice_index_or (unplaced all) k rule ≡ rule → IsOverlong rule.0 → ⊥
 none_overlong [] are k rule below is over = absurd (omega arith)
 none_overlong (here ∷ all) are zero rule below is over =
     are.0 (subst (λ (r : Rule). IsOverlong r.0) (sym is) over)
@@ -87,9 +81,8 @@ none_overlong (here ∷ all) are (suc k) rule below is over =
 pub none_left : (all : List PlacedRule) → AreLeft all []
     → Any (λ (rule : Rule). IsOverlong rule.0) (unplaced all) → ⊥
 none_left all left some =
-    none_overlong all
-    (subst (λ t. Each IsAccepted t) (sym (left.whole ∙ append-nil left.front)) left.accepted)
-    some.0 some.1 some.2 some.3 some.4
+    let are = subst (λ t. Each IsAccepted t) (sym (left.whole ∙ append-nil left.front)) left.accepted in
+    none_overlong all are some.0 some.1 some.2 some.3 some.4
 
 pub not_so : (answer : Bool) (P : Type 0) → answer ≡ false → (IsTrue answer ↔ P) → ¬ P
 not_so false P is both = λ holds. absurd (search (rules, both.1 holds))
@@ -100,7 +93,6 @@ pub refused_is : {T : Type 0} (r : Result T Error) (P : Type 0) → r ≡ Err In
 refused_is r P is refused = rw is at refused
 
 pub captured_answer : {E : Type 0} (r : Result Bool E) (captured : Bool) (P : Type 0) → captured ≡ true
-    → IfOk r (λ answer. IsTrue answer ↔ P)
-    → IfOk r (λ answer. IsTrue answer ↔ (IsTrue captured × P))
+    → IfOk r (λ answer. IsTrue answer ↔ P) → IfOk r (λ answer. IsTrue answer ↔ (IsTrue captured × P))
 captured_answer (Err e) captured P is h = tt
 captured_answer (Ok answer) captured P is h = (λ yes. (search rules, h.0 yes), λ both. h.1 both.1)

@@ -1,16 +1,13 @@
 -- What the program writes of a file.
-use Rattle.std.specs.Prelude.{◌≡◌, ℕ, Bool, true, false, nat_lt, List, [], ◌∷◌}
-use Rattle.std.specs.Prelude.{◌++◌, Option, ⊤, Contains, codes, if◌then◌else◌, length}
+use Rattle.std.specs.Prelude.{◌≡◌, ℕ, Bool, true, false, nat_lt, List, [], ◌∷◌, ◌++◌, Option, ⊤, Contains, codes, if◌then◌else◌, length}
 use Rattle.std.specs.List.{AllByRecursion as Each, AllZip}
 use Rattle.std.specs.Io.KnownBytes.{Appends}
-use Rattle.texting_robots.specs.Callers.{IsDecidingLine, IsOverlong, IsRefused, IsVerdict, LineValue}
-use Rattle.texting_robots.specs.Callers.{PlacedRule, Rule, delay_for, escaped, file_limit, is_named}
-use Rattle.texting_robots.specs.Callers.{lines_read, placed_rules, prepared, rules_for, unplaced}
+use Rattle.texting_robots.specs.Callers.{IsDecidingLine, IsOverlong, IsRefused, IsVerdict, LineValue, PlacedRule, Rule}
+use Rattle.texting_robots.specs.Callers.{delay_for, escaped, file_limit, is_named, lines_read, placed_rules, prepared, rules_for, unplaced}
 use Rattle.robots_io.specs.Ends.{AppendsBeginning}
 use Rattle.robots_io.specs.Lines.{delay_line, ended, verdict_line}
 use Rattle.robots_audit.specs.declared.fault.Fault.{Fault}
-use Rattle.robots_audit.specs.declared.fault.Fault.TheVariants.{InvalidRule, Memory}
-use Rattle.robots_audit.specs.declared.fault.Fault.TheVariants.{NotUtf8, Read, Usage, Write}
+use Rattle.robots_audit.specs.declared.fault.Fault.TheVariants.{InvalidRule, Memory, NotUtf8, Read, Usage, Write}
 use Rattle.robots_audit.specs.Rows.{rows}
 
 -- ---- the lines behind the rows
@@ -24,8 +21,8 @@ group_line agent lines =
 -- a note, if the file has more bytes than count
 abbrev pub note_lines : List ℕ → List (List ℕ)
 note_lines file =
-    if nat_lt file_limit (length file) then codes "note: only the file's first 512000 bytes count"
-    ∷ [] else []
+    if nat_lt file_limit (length file) then codes "note: only the file's first 512000 bytes count" ∷ []
+    else []
 
 -- the line says the rules' verdict on the URL, and which line of the file decides
 pub record IsVerdictLine (rules : List PlacedRule) (url line : List ℕ) : Type 0 where
@@ -52,11 +49,18 @@ AreAllowed rules urls true = Each (λ url. IsVerdict rules (prepared url) true) 
 AreAllowed rules urls false = (url : List ℕ) × Contains urls url × IsVerdict rules (prepared url) false
 
 -- the text is the report of a file that the agent can use, and the answer says whether every URL is allowed
-pub record IsReport (agent : List ℕ) (urls : List (List ℕ)) (file text : List ℕ)
-    (all_allowed : Bool) : Type 0 where
+pub record IsReport (agent : List ℕ) (urls : List (List ℕ)) (file text : List ℕ) (all_allowed : Bool)
+    : Type 0 where
   pub accepted : ¬ IsRefused agent (lines_read file)
   pub whole : IsReportText agent urls file text
   pub answer : AreAllowed (rules_for agent (lines_read file)) urls all_allowed
+
+-- a file has one report at most for an agent and URLs
+abbrev pub EachFileHasOneReport : Type 0
+EachFileHasOneReport =
+    (agent : List ℕ) (urls : List (List ℕ)) (file text other : List ℕ) (answer another : Bool)
+    → IsReport agent urls file text answer → IsReport agent urls file other another
+    → (text ≡ other) × (answer ≡ another)
 
 -- ---- faults
 
@@ -83,14 +87,13 @@ MayFail agent Memory file = ⊤
 -- ---- what is written
 
 -- the writer holds what it held, and then the report of the file
-abbrev pub AppendsReport : List ℕ → List (List ℕ) → Bool → Option (List ℕ)
-    → Option (List ℕ) → List ℕ → Type 0
+abbrev pub AppendsReport : List ℕ → List (List ℕ) → Bool → Option (List ℕ) → Option (List ℕ) → List ℕ → Type 0
 AppendsReport agent urls all_allowed old new file =
     (text : List ℕ) × IsReport agent urls file text all_allowed × Appends old new text
 
 -- the writer holds what it held, and then a beginning of the report of the file
-abbrev pub AppendsReportBeginning : List ℕ → List (List ℕ) → Option (List ℕ)
-    → Option (List ℕ) → List ℕ → Type 0
+abbrev pub AppendsReportBeginning
+    : List ℕ → List (List ℕ) → Option (List ℕ) → Option (List ℕ) → List ℕ → Type 0
 AppendsReportBeginning agent urls old new file =
     (text : List ℕ) × (all_allowed : Bool) × IsReport agent urls file text all_allowed
     × AppendsBeginning old new text

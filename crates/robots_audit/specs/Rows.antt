@@ -1,9 +1,7 @@
 -- The rows of a report: a line on each line of a file.
-use Rattle.std.specs.Prelude.{ℕ, ◌-◌, ◌==◌, Bool, true, false, ◌||◌}
-use Rattle.std.specs.Prelude.{◌&&◌, List, [], ◌∷◌, ◌++◌, Some, None, codes}
-use Rattle.std.specs.Prelude.{decimal, if◌then◌else◌, length, map, replicate}
-use Rattle.texting_robots.specs.Callers.{Allow, CrawlDelay, Disallow, LineValue, Mark, Raw, Sitemap}
-use Rattle.texting_robots.specs.Callers.{UserAgent, escaped, group_name, is_agent_named, marks_of}
+use Rattle.std.specs.Prelude.{ℕ, ◌-◌, ◌==◌, Bool, true, false, ◌||◌, ◌&&◌, List, [], ◌∷◌, ◌++◌, Some, None, codes, decimal, if◌then◌else◌, length, map, replicate}
+use Rattle.texting_robots.specs.Callers.{Allow, CrawlDelay, Disallow, LineValue, Mark, Raw, Sitemap, UserAgent}
+use Rattle.texting_robots.specs.Callers.{escaped, group_name, is_agent_named, marks_of}
 
 -- ---- columns
 
@@ -36,9 +34,8 @@ abbrev pub sign : Bool → List ℕ
 sign true = codes "+"
 sign false = codes "-"
 
--- A user-agent line is the agent's where it has the name of the agent's group, a rule or a delay where it is
--- captured.
--- Other lines belong to no group.
+-- A User-Agent line is the agent's where it has the name of the agent's group, a rule or a delay where it is
+-- captured. Other lines belong to no group.
 abbrev pub mark_text : List ℕ → Bool → LineValue → List ℕ
 mark_text name captured (UserAgent value) = sign (is_agent_named name (UserAgent value))
 mark_text name captured (Allow value) = sign captured
@@ -75,8 +72,7 @@ value_text (Raw body) = escaped body
 abbrev pub row : ℕ → List ℕ → Mark → List ℕ
 row width name mark =
     right_aligned width (decimal mark.number) ++ codes " " ++ mark_text name mark.captured mark.line
-    ++ codes " "
-    ++ word_and_value (kind_text mark.line) (value_text mark.line)
+    ++ codes " " ++ word_and_value (kind_text mark.line) (value_text mark.line)
 
 -- a row for each line, the numbers as wide as the last
 abbrev pub rows : List ℕ → List LineValue → List (List ℕ)

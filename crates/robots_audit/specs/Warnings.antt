@@ -1,9 +1,8 @@
 -- What the program warns of: what silently means something else than it seems.
-use Rattle.std.specs.Prelude.{ℕ, ◌==◌, nat_eq, Bool, false, not, ◌||◌, List, [], ◌∷◌}
-use Rattle.std.specs.Prelude.{◌++◌, codes, decimal, flat_map, if◌then◌else◌, reverse}
+use Rattle.std.specs.Prelude.{ℕ, ◌==◌, nat_eq, Bool, false, not, ◌||◌, List, [], ◌∷◌, ◌++◌, codes, decimal, flat_map, if◌then◌else◌, reverse}
 use Rattle.std.specs.List.{list_any, starts_with}
-use Rattle.texting_robots.specs.Callers.{Allow, CrawlDelay, Disallow, LineValue, Mark, Raw}
-use Rattle.texting_robots.specs.Callers.{Sitemap, UserAgent, escaped, group_name, marks_of}
+use Rattle.texting_robots.specs.Callers.{Allow, CrawlDelay, Disallow, LineValue, Mark, Raw, Sitemap, UserAgent}
+use Rattle.texting_robots.specs.Callers.{escaped, group_name, marks_of}
 use Rattle.robots_audit.specs.Rows.{space, tab}
 
 abbrev pub slash : ℕ
@@ -61,9 +60,16 @@ abbrev pub begins_as_rule : List ℕ → Bool
 begins_as_rule [] = false
 begins_as_rule (byte ∷ value) = byte == slash || byte == star
 
--- a byte that a rule keeps and a whole URL escapes in its path: `^`, `{` or `}`
-abbrev pub is_escaped_in_urls : ℕ → Bool
-is_escaped_in_urls byte = byte == 94 || byte == 123 || byte == 125
+-- a byte that a rule keeps and a whole URL escapes: `^`, `{` or `}` in its path, `'` in its query
+abbrev pub is_escaped_in_urls : Bool → ℕ → Bool
+is_escaped_in_urls in_query byte =
+    if in_query then byte == 39 else (byte == 94 || (byte == 123 || byte == 125))
+
+-- the value holds such a byte; what follows a `?` is a query
+abbrev pub holds_escaped : Bool → List ℕ → Bool
+holds_escaped in_query [] = false
+holds_escaped in_query (byte ∷ value) =
+    is_escaped_in_urls in_query byte || holds_escaped (in_query || byte == 63) value
 
 -- what is said of the rule in the line with this number
 abbrev pub rule_text : ℕ → List ℕ → List ℕ
@@ -75,8 +81,8 @@ start_warnings number value =
 
 abbrev pub byte_warnings : ℕ → List ℕ → List (List ℕ)
 byte_warnings number value =
-    warned (list_any is_escaped_in_urls value)
-    (rule_text number (codes "has a byte that a whole URL has escaped: ^, { or }"))
+    warned (holds_escaped false value)
+    (rule_text number (codes "has a byte that a whole URL has escaped: ^, { or } in its path, ' in its query"))
 
 abbrev pub value_warnings : ℕ → List ℕ → List (List ℕ)
 value_warnings number value = start_warnings number value ++ byte_warnings number value

@@ -1,6 +1,6 @@
-//! Shows a site owner what a crawler makes of a robots.txt file, which comes from standard input: each line with its number,
-//! whether it is in the crawler's group, and what it was read as; the group and the delay that the crawler gets; and for each
-//! URL whether the crawler may fetch it, and which line says so.
+//! Shows a site owner what a crawler makes of a robots.txt file, which comes from standard input: each line with its
+//! number, whether it is in the crawler's group, and what it was read as; the group and the delay that the crawler gets;
+//! and for each URL whether the crawler may fetch it, and which line says so.
 //!
 //! `robots_audit AGENT [URL..] < robots.txt`
 //!
@@ -10,6 +10,7 @@
 mod command;
 mod fault;
 mod file;
+mod laws;
 mod overlong;
 mod program;
 mod report;

@@ -18,8 +18,8 @@ use std::io::{Read, Write};
 ///
 /// The clauses are about a reader and a writer that tell their bytes; of standard input and output nothing is claimed.
 ///
-/// `Fault::Read` tells of a read that failed or of reads that ran out, `Fault::Write` of a write or a flush that failed or a
-/// write that took nothing, and `Fault::Memory` of memory that was refused; no clause says when.
+/// `Fault::Read` tells of a read that failed or of reads that ran out, `Fault::Write` of a write or a flush that failed or
+/// a write that took nothing, and `Fault::Memory` of memory that was refused; no clause says when.
 pub fn run<R: Read, W: Write>(
     alloc: Global,
     agent: &str,

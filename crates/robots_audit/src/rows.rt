@@ -44,7 +44,7 @@ fn push_word_and_value(text: &mut String, word: &str, value: &str) -> Result<(),
     Ok(())
 }
 
-/// The name whose groups the agent gets, but for its letter case: its own where a line of the file names it, else a star.
+/// The name whose groups the agent gets, but for its letter case: its own where a line names it, else a star.
 pub(crate) fn group_name<'a>(agent: &'a str, file: &[u8]) -> &'a str
     ensures { str_to_ascii_lowercase result.now ≡ group_name agent.now (file_lines file.now) }
 {
@@ -126,7 +126,8 @@ fn push_front(
 ) -> Result<(), AllocError>
     ensures { OnOk result (string_bytes text.new ≡ string_bytes text.old
         ++ (right_aligned width (decimal marked.now.number) ++ codes " "
-        ++ mark_text (str_to_ascii_lowercase name.now) marked.now.is_captured (by_value marked.now.line) ++ codes " ")) }
+        ++ mark_text (str_to_ascii_lowercase name.now) marked.now.is_captured (by_value marked.now.line)
+        ++ codes " ")) }
 {
     push_right(text, width, &marked.number.to_string(alloc)?)?;
     text.push(' ')?;

@@ -198,7 +198,7 @@ fn warnings(rt: HostRuntime) -> Result<(), Fail> {
         (
             "Ferris",
             "https://example.com/",
-            b"Disallow: /a\nAllow: *b\nDisallow: /c?'",
+            b"Disallow: /a\nAllow: *b\nDisallow: /c'?{^",
             "",
         ),
         (
@@ -228,8 +228,8 @@ fn warnings(rt: HostRuntime) -> Result<(), Fail> {
         (
             "Ferris",
             "/",
-            b"\nAllow: /^",
-            "robots_audit: warning: the rule in line 2 has a byte that a whole URL has escaped: ^, { or }\n",
+            b"\nAllow: /^\nDisallow: /a?'",
+            "robots_audit: warning: the rule in line 2 has a byte that a whole URL has escaped: ^, { or } in its path, ' in its query\nrobots_audit: warning: the rule in line 3 has a byte that a whole URL has escaped: ^, { or } in its path, ' in its query\n",
         ),
     ];
     for (agent, url, file, text) in rows {

@@ -1,10 +1,10 @@
 //! What the program warns of: what silently means something else than it seems.
-ghost use Rattle.std.specs.Prelude.{◌≡◌, ◌++◌, ◌==◌, IfOk, OnOk, flat_map, map, reverse, string_bytes};
+ghost use Rattle.std.specs.Prelude.{◌≡◌, ◌++◌, ◌==◌, IfOk, OnOk, false, flat_map, map, reverse, string_bytes};
 ghost use Rattle.std.specs.List.{list_any};
 ghost use Rattle.texting_robots.specs.Callers.{by_value, file_lines, group_name, marks_of};
 ghost use Rattle.robots_io.specs.Lines.{ended};
 ghost use Rattle.robots_audit.specs.Warnings.{agent_warnings, begins_as_rule, begins_blank, blank_warnings, byte_warnings};
-ghost use Rattle.robots_audit.specs.Warnings.{has_blanks_around, is_blank_byte, is_escaped_in_urls, is_url, is_url_or_path};
+ghost use Rattle.robots_audit.specs.Warnings.{has_blanks_around, holds_escaped, is_blank_byte, is_escaped_in_urls, is_url, is_url_or_path};
 ghost use Rattle.robots_audit.specs.Warnings.{mark_warnings, rule_text, rule_warnings, slash, slash_warnings, start_warnings};
 ghost use Rattle.robots_audit.specs.Warnings.{url_warnings, value_warnings, warned, warnings};
 
@@ -124,11 +124,30 @@ fn begins_as_rule(value: &[u8]) -> bool
     matches!(value, [b'/' | b'*', ..])
 }
 
-/// Whether the value has a byte that a rule keeps and a whole URL escapes in its path.
-fn has_byte_escaped_in_urls(value: &[u8]) -> bool
-    ensures { result ≡ list_any is_escaped_in_urls value.now }
+/// Whether a rule keeps the byte and a whole URL escapes it, in its query or in its path.
+fn is_escaped_in_urls(in_query: bool, byte: u8) -> bool
+    ensures { result ≡ is_escaped_in_urls in_query byte }
 {
-    value.iter().any(|byte| matches!(*byte, b'^' | b'{' | b'}'))
+    if in_query {
+        byte == b'\''
+    } else {
+        byte == b'^' || byte == b'{' || byte == b'}'
+    }
+}
+
+/// Whether the value has a byte that a rule keeps and a whole URL escapes.
+#[tactic(auto, using(crate::proofs::WarningLemmas::escaped_at))]
+fn holds_escaped(value: &[u8]) -> bool
+    ensures { result ≡ holds_escaped false value.now }
+{
+    let mut in_query = false;
+    for byte in value {
+        if is_escaped_in_urls(in_query, *byte) {
+            return true;
+        }
+        in_query = in_query || *byte == b'?';
+    }
+    false
 }
 
 /// What is said of the rule in the line with this number.
@@ -168,9 +187,9 @@ fn warn_of_bytes(
     let warning = rule_text(
         alloc,
         number,
-        "has a byte that a whole URL has escaped: ^, { or }",
+        "has a byte that a whole URL has escaped: ^, { or } in its path, ' in its query",
     )?;
-    warn(text, has_byte_escaped_in_urls(value), &warning)?;
+    warn(text, holds_escaped(value), &warning)?;
     Ok(())
 }
 
@@ -226,7 +245,8 @@ fn warn_of_rules(
     file: &[u8],
 ) -> Result<(), AllocError>
     ensures { OnOk result (string_bytes text.new ≡ string_bytes text.old
-        ++ ended (flat_map mark_warnings (marks_of (group_name agent.now (file_lines file.now)) (file_lines file.now)))) }
+        ++ ended (flat_map mark_warnings
+        (marks_of (group_name agent.now (file_lines file.now)) (file_lines file.now)))) }
 {
     for marked in marked_lines(agent, file) {
         warn_of_line(alloc, text, marked.is_captured, marked.number, marked.line)?;

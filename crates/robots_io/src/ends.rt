@@ -58,7 +58,8 @@ fn read_piece<R: Read>(reader: &mut R, left: &mut u32, piece: &mut [u8]) -> Resu
 ///
 /// # Errors
 ///
-/// `ReadFault::Read` where a read fails or more than 1,048,576 would be made, and `ReadFault::Memory` where memory is refused.
+/// `ReadFault::Read` where a read fails or more than 1,048,576 would be made, and `ReadFault::Memory` where memory is
+/// refused.
 pub fn read_all<R: Read>(alloc: Global, reader: &mut R) -> Result<Vec<u8>, ReadFault>
     ensures { IfOk result (λ all. IfSome (R.remaining reader.old) (λ input. all.items ≡ input)) }
 {

@@ -3,7 +3,8 @@ use std::alloc::Global;
 use std::io;
 use std::io::{ErrorKind, Read, Write};
 
-/// Gives a text piece by piece, over and over if it is endless, and fails once, after so many good calls, if it is told to.
+/// Gives a text piece by piece, over and over if it is endless, and fails once, after so many good calls, if it is told
+/// to.
 #[derive(Drop)]
 pub struct Source<'a> {
     /// The whole text.

@@ -13,7 +13,7 @@ use Rattle.texting_robots.specs.Robot.{IsRobotOf, RobotValue, lines_read}
 use Rattle.texting_robots.specs.Rules.{IsRefused, PlacedRule, Rule, delay_for}
 use Rattle.texting_robots.specs.Rules.{placed_rules, sitemaps_in, unplaced}
 use Rattle.texting_robots.specs.Verdict.{IsVerdict}
-use Rattle.texting_robots.proofs.VerdictLemmas.{one_line_decides}
+use Rattle.texting_robots.proofs.VerdictLemmas.{one_line_decides, one_verdict}
 use Rattle.robots_verdict.specs.declared.fault.Fault.{Fault}
 use Rattle.robots_verdict.specs.declared.fault.Fault.TheVariants.{HeaderNotUtf8, InvalidRule}
 use Rattle.robots_verdict.specs.declared.fault.Fault.TheVariants.{Memory, NoEmptyLine, Read, Write}
@@ -104,15 +104,7 @@ text_made agent urls file one two text robot is first second last =
 
 -- ---- one report
 
-verdict_once : (rules : List Rule) (text : List ℕ) (one two : Bool) → IsVerdict rules text one
-    → IsVerdict rules text two → one ≡ two
-verdict_once rules text true true is is_too = refl
-verdict_once rules text true false is is_too = absurd (is is_too)
-verdict_once rules text false true is is_too = absurd (is_too is)
-verdict_once rules text false false is is_too = refl
-
-lines_once : (rules : List PlacedRule) (urls lines others : List (List ℕ))
-    → AllZip (IsVerdictLine rules) urls lines
+lines_once : (rules : List PlacedRule) (urls lines others : List (List ℕ)) → AllZip (IsVerdictLine rules) urls lines
     → AllZip (IsVerdictLine rules) urls others → lines ≡ others
 lines_once rules [] [] [] one two = refl
 lines_once rules [] [] (other ∷ others) one two = absurd two
@@ -120,8 +112,7 @@ lines_once rules [] (line ∷ lines) others one two = absurd one
 lines_once rules (url ∷ urls) [] others one two = absurd one
 lines_once rules (url ∷ urls) (line ∷ lines) [] one two = absurd two
 lines_once rules (url ∷ urls) (line ∷ lines) (other ∷ others) (one, more) (two, rest) =
-    let answers =
-    verdict_once (unplaced rules) (prepared url) one.allowed two.allowed one.verdict two.verdict in
+    let answers = one_verdict (unplaced rules) (prepared url) one.allowed two.allowed one.verdict two.verdict in
     let numbers = one_line_decides rules (prepared url) one.number two.number one.deciding two.deciding in
     let first : line ≡ other = one.whole ∙ ap (λ allowed. verdict_line allowed one.number url) answers
     ∙ ap (λ number. verdict_line two.allowed number url) numbers ∙ sym two.whole in

@@ -178,6 +178,14 @@ none_decides rules text line none (differs, placed, decides, at) = elim none [
   | inr nothing ↦ nothing placed decides.is_longest.listed decides.is_longest.matches
 ]
 
+-- rules have one verdict on a text
+pub one_verdict : (rules : List Rule) (text : List ℕ) (one two : Bool) → IsVerdict rules text one
+    → IsVerdict rules text two → one ≡ two
+one_verdict rules text true true is is_too = refl
+one_verdict rules text true false is is_too = absurd (is is_too)
+one_verdict rules text false true is is_too = absurd (is_too is)
+one_verdict rules text false false is is_too = refl
+
 pub one_line_decides : (rules : List PlacedRule) (text : List ℕ) (line other : Option ℕ)
     → IsDecidingLine rules text line → IsDecidingLine rules text other → line ≡ other
 one_line_decides rules text None None one two = refl

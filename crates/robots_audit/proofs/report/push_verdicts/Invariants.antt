@@ -5,5 +5,4 @@ use Rattle.robots_audit.proofs.report.push_verdicts.Given as goal
 abbrev pub invariant-loop-url : goal.invariant-loop-url
 invariant-loop-url l =
     AddsVerdicts l.robot.rules (map string_bytes (take l.url-index l.urls)) l.all_allowed
-    (string_bytes l.fn.text)
-    (string_bytes l.text)
+    (string_bytes l.fn.text) (string_bytes l.text)

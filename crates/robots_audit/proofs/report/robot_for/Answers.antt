@@ -5,6 +5,5 @@ use Rattle.robots_audit.proofs.report.robot_for.Goals as goal
 
 pub overlong_line-requires : goal.overlong_line-requires
 overlong_line-requires c =
-    refused_is c.new.result _
-    (c.in-Err-InvalidRule.is ∙ ap (λ (e : Error). Err e) c.in-Err-InvalidRule.field-0-is)
-    c.new.ensures.refused
+    let is = c.in-Err-InvalidRule.is ∙ ap (λ (e : Error). Err e) c.in-Err-InvalidRule.field-0-is in
+    refused_is c.new.result _ is c.new.ensures.refused
