@@ -1,15 +1,17 @@
 -- A file has one report at most.
-use Rattle.std.proofs.Common.{◌≡◌, ℕ, zero, suc, ◌<◌, Bool, true, false, List, [], ◌∷◌, ◌++◌, ap, arith, length, refl}
-use Rattle.std.proofs.Common.{slice_index_or, subst, sym, ◌∙◌}
+use Rattle.std.proofs.Common.{◌≡◌, ℕ, zero, suc, ◌<◌, Bool, true, false, List, [], ◌∷◌}
+use Rattle.std.proofs.Common.{◌++◌, ap, arith, length, refl, slice_index_or, subst, sym, ◌∙◌}
 use Rattle.std.specs.List.{AllByRecursion as Each, AllZip}
 use Rattle.texting_robots.specs.Callers.{IsVerdict, PlacedRule, Rule}
 use Rattle.texting_robots.specs.Callers.{delay_for, escaped, lines_read, placed_rules, prepared, unplaced}
 use Rattle.texting_robots.proofs.VerdictLemmas.{one_line_decides, one_verdict}
 use Rattle.robots_io.specs.Lines.{delay_line, ended, verdict_line}
-use Rattle.robots_audit.specs.Report.{AreAllowed, EachFileHasOneReport, IsReportText, IsVerdictLine, group_line, note_lines}
+use Rattle.robots_audit.specs.Report.{AreAllowed, EachFileHasOneReport, IsReportText}
+use Rattle.robots_audit.specs.Report.{IsVerdictLine, group_line, note_lines}
 use Rattle.robots_audit.specs.Rows.{rows}
 
-lines_once : (rules : List PlacedRule) (urls lines others : List (List ℕ)) → AllZip (IsVerdictLine rules) urls lines
+lines_once : (rules : List PlacedRule) (urls lines others : List (List ℕ))
+    → AllZip (IsVerdictLine rules) urls lines
     → AllZip (IsVerdictLine rules) urls others → lines ≡ others
 lines_once rules [] [] [] one two = refl
 lines_once rules [] [] (other ∷ others) one two = absurd two
@@ -20,7 +22,8 @@ lines_once rules (url ∷ urls) (line ∷ lines) (other ∷ others) (one, more) 
     let text = prepared url in
     let answers = one_verdict (unplaced rules) text one.allowed two.allowed one.verdict two.verdict in
     let numbers = one_line_decides rules text one.number two.number one.deciding two.deciding in
-    let first : line ≡ other = one.whole ∙ ap (λ allowed. verdict_line allowed one.number (escaped url)) answers
+    let first : line ≡ other =
+    one.whole ∙ ap (λ allowed. verdict_line allowed one.number (escaped url)) answers
     ∙ ap (λ number. verdict_line two.allowed number (escaped url)) numbers ∙ sym two.whole in
     let later : lines ≡ others = lines_once rules urls lines others more rest in
     cc
@@ -31,10 +34,12 @@ text_once agent urls file text other one two =
     let lines = lines_read file in
     let with_verdicts = λ (verdicts : List (List ℕ)). ended (rows agent lines
     ++ (group_line agent lines ∷ delay_line (delay_for agent lines) ∷ (note_lines file ++ verdicts))) in
-    let same = lines_once (placed_rules agent lines) urls one.verdict_lines two.verdict_lines one.verdicts two.verdicts in
+    let same = lines_once (placed_rules agent lines) urls one.verdict_lines two.verdict_lines
+    one.verdicts two.verdicts in
     one.whole ∙ ap with_verdicts same ∙ sym two.whole
 
-each_at : (P : List ℕ → Type 0) (xs : List (List ℕ)) → Each P xs → (k : ℕ) (x : List ℕ) → k < length xs
+each_at : (P : List ℕ → Type 0) (xs : List (List ℕ)) → Each P xs → (k : ℕ) (x : List ℕ)
+    → k < length xs
     → slice_index_or xs k x ≡ x → P x
 each_at P [] are k x below is = absurd (omega arith)
 each_at P (y ∷ xs) are zero x below is = subst P is are.0
@@ -44,10 +49,12 @@ allowed_once : (rules : List Rule) (urls : List (List ℕ)) (one two : Bool) →
     → AreAllowed rules urls two → one ≡ two
 allowed_once rules urls true true are too = refl
 allowed_once rules urls true false are too =
-    let allowed = each_at (λ url. IsVerdict rules (prepared url) true) urls are too.1.0 too.0 too.1.1 too.1.2 in
+    let allowed =
+    each_at (λ url. IsVerdict rules (prepared url) true) urls are too.1.0 too.0 too.1.1 too.1.2 in
     absurd (allowed too.2)
 allowed_once rules urls false true are too =
-    let allowed = each_at (λ url. IsVerdict rules (prepared url) true) urls too are.1.0 are.0 are.1.1 are.1.2 in
+    let allowed =
+    each_at (λ url. IsVerdict rules (prepared url) true) urls too are.1.0 are.0 are.1.1 are.1.2 in
     absurd (allowed are.2)
 allowed_once rules urls false false are too = refl
 

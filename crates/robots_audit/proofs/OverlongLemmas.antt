@@ -1,6 +1,8 @@
 -- Which rule is the first that is overlong.
-use Rattle.std.proofs.Common.{◌≡◌, ℕ, zero, suc, ◌<◌, Bool, true, false, IsTrue, List, [], ◌∷◌, ◌++◌, Any, Option, Some, None}
-use Rattle.std.proofs.Common.{Result, Ok, Err, IfErr, IfOk, ◌↔◌, if◌then◌else◌, append_assoc, arith, length, refl, rules, slice_index_or, subst, sym, ◌∙◌}
+use Rattle.std.proofs.Common.{◌≡◌, ℕ, zero, suc, ◌<◌, Bool, true, false, IsTrue}
+use Rattle.std.proofs.Common.{List, [], ◌∷◌, ◌++◌, Any, Option, Some, None, Result, Ok}
+use Rattle.std.proofs.Common.{Err, IfErr, IfOk, ◌↔◌, if◌then◌else◌, append_assoc}
+use Rattle.std.proofs.Common.{arith, length, refl, rules, slice_index_or, subst, sym, ◌∙◌}
 use Rattle.std.specs.List.{AllByRecursion as Each, cons_option, filter_map}
 use Rattle.std.specs.Option.{IsSomeAnd}
 use Rattle.std.proofs.lemmas.List.{append-nil}
@@ -51,7 +53,8 @@ left_next all mark marks left not =
 
 first : (captured : Bool) (rule : Option Rule) (number : ℕ) (all rest front : List PlacedRule)
     → all ≡ front ++ cons_option (placed number (if captured then rule else None)) rest
-    → Each IsAccepted front → (IsTrue captured × IsSomeAnd rule (λ (r : Rule). IsOverlong r.0)) → IsFirstOverlong all number
+    → Each IsAccepted front → (IsTrue captured × IsSomeAnd rule (λ (r : Rule). IsOverlong r.0))
+    → IsFirstOverlong all number
 first false rule number all rest front whole are is = absurd (search (rules, is.0))
 first true None number all rest front whole are is = absurd is.1
 first true (Some rule) number all rest front whole are is = record {
@@ -71,7 +74,8 @@ first_found all mark marks left is =
     first mark.captured (rule_in mark.line) mark.number all later left.front left.whole left.accepted is
 
 none_overlong : (all : List PlacedRule) → Each IsAccepted all → (k : ℕ) (rule : Rule)
-    → k < length (unplaced all) → slice_index_or (unplaced all) k rule ≡ rule → IsOverlong rule.0 → ⊥
+    → k < length (unplaced all) → slice_index_or (unplaced all) k rule ≡ rule
+    → IsOverlong rule.0 → ⊥
 none_overlong [] are k rule below is over = absurd (omega arith)
 none_overlong (here ∷ all) are zero rule below is over =
     are.0 (subst (λ (r : Rule). IsOverlong r.0) (sym is) over)
@@ -93,6 +97,7 @@ pub refused_is : {T : Type 0} (r : Result T Error) (P : Type 0) → r ≡ Err In
 refused_is r P is refused = rw is at refused
 
 pub captured_answer : {E : Type 0} (r : Result Bool E) (captured : Bool) (P : Type 0) → captured ≡ true
-    → IfOk r (λ answer. IsTrue answer ↔ P) → IfOk r (λ answer. IsTrue answer ↔ (IsTrue captured × P))
+    → IfOk r (λ answer. IsTrue answer ↔ P)
+    → IfOk r (λ answer. IsTrue answer ↔ (IsTrue captured × P))
 captured_answer (Err e) captured P is h = tt
 captured_answer (Ok answer) captured P is h = (λ yes. (search rules, h.0 yes), λ both. h.1 both.1)

@@ -1,11 +1,13 @@
 -- How a report is made.
-use Rattle.std.proofs.Common.{◌≡◌, ℕ, Bool, true, false, ◌&&◌, List, [], ◌∷◌, ◌++◌, Option, None, Some, IfSome, length, map, take, ◌+◌, ◌<◌}
+use Rattle.std.proofs.Common.{◌≡◌, ℕ, Bool, true, false, ◌&&◌, List, [], ◌∷◌}
+use Rattle.std.proofs.Common.{◌++◌, Option, None, Some, IfSome, length, map, take, ◌+◌, ◌<◌}
 use Rattle.std.proofs.Common.{slice_index_or, refl, sym, ap, subst, ◌∙◌, append_assoc, lit<}
 use Rattle.std.specs.List.{AllByRecursion as Each, AllZip}
 use Rattle.std.proofs.lemmas.List.{append-nil, map-append, take_more}
 use Rattle.std.proofs.lemmas.List.Elements.{Contains-append_left, Contains-append_right}
-use Rattle.texting_robots.specs.Callers.{IsDecidingLine, IsRobotOf, IsVerdict, LineValue, PlacedRule, RobotValue, Rule}
-use Rattle.texting_robots.specs.Callers.{delay_for, escaped, lines_read, placed_rules, prepared, rules_for, unplaced}
+use Rattle.texting_robots.specs.Callers.{IsDecidingLine, IsRobotOf, IsVerdict, LineValue}
+use Rattle.texting_robots.specs.Callers.{PlacedRule, RobotValue, Rule, delay_for, escaped}
+use Rattle.texting_robots.specs.Callers.{lines_read, placed_rules, prepared, rules_for, unplaced}
 use Rattle.robots_io.specs.Lines.{delay_line, ended, verdict_line}
 use Rattle.robots_io.proofs.LinesLemmas.{all_zip-append, lines_added}
 use Rattle.robots_audit.specs.Report.{AreAllowed, IsReport, IsVerdictLine, group_line, note_lines}
@@ -14,7 +16,8 @@ use Rattle.robots_audit.specs.Steps.{AddsVerdicts}
 
 -- ---- verdicts
 
-each-append : (P : List ℕ → Type 0) (xs ys : List (List ℕ)) → Each P xs → Each P ys → Each P (xs ++ ys)
+each-append : (P : List ℕ → Type 0) (xs ys : List (List ℕ)) → Each P xs
+    → Each P ys → Each P (xs ++ ys)
 each-append P [] ys one two = two
 each-append P (x ∷ xs) ys one two = (one.0, each-append P xs ys one.1 two)
 
@@ -24,7 +27,8 @@ allowed_one rules url true is = (is, tt)
 allowed_one rules url false is = (url, (0, lit< tt, refl), is)
 
 allowed-append : (rules : List Rule) (urls others : List (List ℕ)) (one two : Bool)
-    → AreAllowed rules urls one → AreAllowed rules others two → AreAllowed rules (urls ++ others) (one && two)
+    → AreAllowed rules urls one → AreAllowed rules others two
+    → AreAllowed rules (urls ++ others) (one && two)
 allowed-append rules urls others true true are too =
     each-append (λ url. IsVerdict rules (prepared url) true) urls others are too
 allowed-append rules urls others true false are too =
@@ -55,7 +59,8 @@ adds_one rules url shown old new allowed number (verdict, deciding) is whole = r
   whole = whole;
 }
 
-adds_more : (rules : List PlacedRule) (urls others : List (List ℕ)) (one two : Bool) (old mid new : List ℕ)
+adds_more : (rules : List PlacedRule) (urls others : List (List ℕ))
+    (one two : Bool) (old mid new : List ℕ)
     → AddsVerdicts rules urls one old mid → AddsVerdicts rules others two mid new
     → AddsVerdicts rules (urls ++ others) (one && two) old new
 adds_more rules urls others one two old mid new first then = record {
@@ -103,7 +108,8 @@ each_like agent lines robot is [] are = tt
 each_like agent lines robot is (url ∷ urls) are =
     ((is.verdicts (prepared url) true).0 are.0, each_like agent lines robot is urls are.1)
 
-allowed_like : (agent : List ℕ) (lines : List LineValue) (robot : RobotValue) → IsRobotOf agent lines robot
+allowed_like : (agent : List ℕ) (lines : List LineValue) (robot : RobotValue)
+    → IsRobotOf agent lines robot
     → (urls : List (List ℕ)) (answer : Bool) → AreAllowed (unplaced robot.rules) urls answer
     → AreAllowed (rules_for agent lines) urls answer
 allowed_like agent lines robot is urls true are = each_like agent lines robot is urls are
@@ -113,7 +119,8 @@ allowed_like agent lines robot is urls false are =
 -- ---- the report
 
 -- the front of a report and then the verdicts are the report
-pub report_made : (agent file front text : List ℕ) (urls : List (List ℕ)) (answer : Bool) (robot : RobotValue)
+pub report_made : (agent file front text : List ℕ) (urls : List (List ℕ))
+    (answer : Bool) (robot : RobotValue)
     → IsRobotOf agent (lines_read file) robot
     → front ≡ ended (rows agent (lines_read file)
     ++ (group_line agent (lines_read file) ∷ delay_line robot.delay ∷ note_lines file))

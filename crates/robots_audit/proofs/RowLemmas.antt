@@ -1,11 +1,13 @@
 -- How a row is made.
-use Rattle.std.proofs.Common.{◌≡◌, ℕ, ◌+◌, ◌<◌, ◌==◌, ◌||◌, ◌&&◌, List, [], ◌∷◌, ◌++◌, ap, append_assoc, drop, length, refl}
-use Rattle.std.proofs.Common.{replicate, slice_index_or, ◌∙◌}
+use Rattle.std.proofs.Common.{◌≡◌, ℕ, ◌+◌, ◌<◌, ◌==◌, ◌||◌}
+use Rattle.std.proofs.Common.{◌&&◌, List, [], ◌∷◌, ◌++◌, ap, append_assoc}
+use Rattle.std.proofs.Common.{drop, length, refl, replicate, slice_index_or, ◌∙◌}
 use Rattle.std.proofs.lemmas.List.{drop_more, replicate-append-replicate}
 use Rattle.robots_audit.specs.Rows.{hash, is_blank, space, tab}
 
 -- one blank more
-pub blanks_more : (n : ℕ) (old mid new : List ℕ) → new ≡ mid ++ space ∷ [] → mid ≡ old ++ replicate n space
+pub blanks_more : (n : ℕ) (old mid new : List ℕ) → new ≡ mid ++ space ∷ []
+    → mid ≡ old ++ replicate n space
     → new ≡ old ++ replicate (n + 1) space
 blanks_more n old mid new added before =
     added ∙ ap (λ t. t ++ space ∷ []) before ∙ append_assoc old (replicate n space) (space ∷ [])

@@ -1,5 +1,6 @@
 -- What the words behind the program's name ask for.
-use Rattle.std.specs.Prelude.{◌≡◌, ◌≢◌, ℕ, List, [], ◌∷◌, Result, Ok, Err, codes, map, string_bytes}
+use Rattle.std.specs.Prelude.{◌≡◌, ◌≢◌, ℕ, List, [], ◌∷◌}
+use Rattle.std.specs.Prelude.{Result, Ok, Err, codes, map, string_bytes}
 use Rattle.robots_audit.specs.declared.command.Command.{Command}
 use Rattle.robots_audit.specs.declared.command.Command.TheVariants.{Audit, Help}
 use Rattle.robots_audit.specs.declared.fault.Fault.{Fault}

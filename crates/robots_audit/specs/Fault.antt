@@ -3,7 +3,8 @@ use Rattle.std.specs.Prelude.{ℕ, List, ◌++◌, Result, Ok, Err, codes, decim
 use Rattle.robots_io.specs.declared.ends.ReadFault.{ReadFault}
 use Rattle.robots_io.specs.declared.ends.ReadFault.TheVariants as read
 use Rattle.robots_audit.specs.declared.fault.Fault.{Fault}
-use Rattle.robots_audit.specs.declared.fault.Fault.TheVariants.{InvalidRule, Memory, NotUtf8, Read, Usage, Write}
+use Rattle.robots_audit.specs.declared.fault.Fault.TheVariants.{InvalidRule, Memory}
+use Rattle.robots_audit.specs.declared.fault.Fault.TheVariants.{NotUtf8, Read, Usage, Write}
 use Rattle.robots_audit.specs.declared.fault.Outcome.{Outcome}
 
 -- how the program is called

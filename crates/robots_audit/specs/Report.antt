@@ -1,13 +1,16 @@
 -- What the program writes of a file.
-use Rattle.std.specs.Prelude.{◌≡◌, ℕ, Bool, true, false, nat_lt, List, [], ◌∷◌, ◌++◌, Option, ⊤, Contains, codes, if◌then◌else◌, length}
+use Rattle.std.specs.Prelude.{◌≡◌, ℕ, Bool, true, false, nat_lt, List, [], ◌∷◌}
+use Rattle.std.specs.Prelude.{◌++◌, Option, ⊤, Contains, codes, if◌then◌else◌, length}
 use Rattle.std.specs.List.{AllByRecursion as Each, AllZip}
 use Rattle.std.specs.Io.KnownBytes.{Appends}
-use Rattle.texting_robots.specs.Callers.{IsDecidingLine, IsOverlong, IsRefused, IsVerdict, LineValue, PlacedRule, Rule}
-use Rattle.texting_robots.specs.Callers.{delay_for, escaped, file_limit, is_named, lines_read, placed_rules, prepared, rules_for, unplaced}
+use Rattle.texting_robots.specs.Callers.{IsDecidingLine, IsOverlong, IsRefused, IsVerdict, LineValue}
+use Rattle.texting_robots.specs.Callers.{PlacedRule, Rule, delay_for, escaped, file_limit, is_named}
+use Rattle.texting_robots.specs.Callers.{lines_read, placed_rules, prepared, rules_for, unplaced}
 use Rattle.robots_io.specs.Ends.{AppendsBeginning}
 use Rattle.robots_io.specs.Lines.{delay_line, ended, verdict_line}
 use Rattle.robots_audit.specs.declared.fault.Fault.{Fault}
-use Rattle.robots_audit.specs.declared.fault.Fault.TheVariants.{InvalidRule, Memory, NotUtf8, Read, Usage, Write}
+use Rattle.robots_audit.specs.declared.fault.Fault.TheVariants.{InvalidRule, Memory}
+use Rattle.robots_audit.specs.declared.fault.Fault.TheVariants.{NotUtf8, Read, Usage, Write}
 use Rattle.robots_audit.specs.Rows.{rows}
 
 -- ---- the lines behind the rows
@@ -87,7 +90,8 @@ MayFail agent Memory file = ⊤
 -- ---- what is written
 
 -- the writer holds what it held, and then the report of the file
-abbrev pub AppendsReport : List ℕ → List (List ℕ) → Bool → Option (List ℕ) → Option (List ℕ) → List ℕ → Type 0
+abbrev pub AppendsReport : List ℕ → List (List ℕ) → Bool → Option (List ℕ)
+    → Option (List ℕ) → List ℕ → Type 0
 AppendsReport agent urls all_allowed old new file =
     (text : List ℕ) × IsReport agent urls file text all_allowed × Appends old new text
 

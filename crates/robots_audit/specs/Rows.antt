@@ -1,7 +1,9 @@
 -- The rows of a report: a line on each line of a file.
-use Rattle.std.specs.Prelude.{ℕ, ◌-◌, ◌==◌, Bool, true, false, ◌||◌, ◌&&◌, List, [], ◌∷◌, ◌++◌, Some, None, codes, decimal, if◌then◌else◌, length, map, replicate}
-use Rattle.texting_robots.specs.Callers.{Allow, CrawlDelay, Disallow, LineValue, Mark, Raw, Sitemap, UserAgent}
-use Rattle.texting_robots.specs.Callers.{escaped, group_name, is_agent_named, marks_of}
+use Rattle.std.specs.Prelude.{ℕ, ◌-◌, ◌==◌, Bool, true, false, ◌||◌}
+use Rattle.std.specs.Prelude.{◌&&◌, List, [], ◌∷◌, ◌++◌, Some, None, codes}
+use Rattle.std.specs.Prelude.{decimal, if◌then◌else◌, length, map, replicate}
+use Rattle.texting_robots.specs.Callers.{Allow, CrawlDelay, Disallow, LineValue, Mark, Raw, Sitemap}
+use Rattle.texting_robots.specs.Callers.{UserAgent, escaped, group_name, is_agent_named, marks_of}
 
 -- ---- columns
 

@@ -17,4 +17,5 @@ pub record AddsVerdicts (rules : List PlacedRule) (urls : List (List ℕ)) (all_
 
 -- the line gives a captured rule that is overlong
 abbrev pub GivesOverlong : Mark → Type 0
-GivesOverlong mark = IsTrue mark.captured × IsSomeAnd (rule_in mark.line) (λ (rule : Rule). IsOverlong rule.0)
+GivesOverlong mark =
+    IsTrue mark.captured × IsSomeAnd (rule_in mark.line) (λ (rule : Rule). IsOverlong rule.0)

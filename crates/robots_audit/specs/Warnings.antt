@@ -1,8 +1,9 @@
 -- What the program warns of: what silently means something else than it seems.
-use Rattle.std.specs.Prelude.{ℕ, ◌==◌, nat_eq, Bool, false, not, ◌||◌, List, [], ◌∷◌, ◌++◌, codes, decimal, flat_map, if◌then◌else◌, reverse}
+use Rattle.std.specs.Prelude.{ℕ, ◌==◌, nat_eq, Bool, false, not, ◌||◌, List, [], ◌∷◌}
+use Rattle.std.specs.Prelude.{◌++◌, codes, decimal, flat_map, if◌then◌else◌, reverse}
 use Rattle.std.specs.List.{list_any, starts_with}
-use Rattle.texting_robots.specs.Callers.{Allow, CrawlDelay, Disallow, LineValue, Mark, Raw, Sitemap, UserAgent}
-use Rattle.texting_robots.specs.Callers.{escaped, group_name, marks_of}
+use Rattle.texting_robots.specs.Callers.{Allow, CrawlDelay, Disallow, LineValue, Mark, Raw}
+use Rattle.texting_robots.specs.Callers.{Sitemap, UserAgent, escaped, group_name, marks_of}
 use Rattle.robots_audit.specs.Rows.{space, tab}
 
 abbrev pub slash : ℕ
@@ -82,7 +83,8 @@ start_warnings number value =
 abbrev pub byte_warnings : ℕ → List ℕ → List (List ℕ)
 byte_warnings number value =
     warned (holds_escaped false value)
-    (rule_text number (codes "has a byte that a whole URL has escaped: ^, { or } in its path, ' in its query"))
+    (rule_text number
+    (codes "has a byte that a whole URL has escaped: ^, { or } in its path, ' in its query"))
 
 abbrev pub value_warnings : ℕ → List ℕ → List (List ℕ)
 value_warnings number value = start_warnings number value ++ byte_warnings number value

@@ -104,7 +104,8 @@ text_made agent urls file one two text robot is first second last =
 
 -- ---- one report
 
-lines_once : (rules : List PlacedRule) (urls lines others : List (List ℕ)) → AllZip (IsVerdictLine rules) urls lines
+lines_once : (rules : List PlacedRule) (urls lines others : List (List ℕ))
+    → AllZip (IsVerdictLine rules) urls lines
     → AllZip (IsVerdictLine rules) urls others → lines ≡ others
 lines_once rules [] [] [] one two = refl
 lines_once rules [] [] (other ∷ others) one two = absurd two
@@ -112,7 +113,8 @@ lines_once rules [] (line ∷ lines) others one two = absurd one
 lines_once rules (url ∷ urls) [] others one two = absurd one
 lines_once rules (url ∷ urls) (line ∷ lines) [] one two = absurd two
 lines_once rules (url ∷ urls) (line ∷ lines) (other ∷ others) (one, more) (two, rest) =
-    let answers = one_verdict (unplaced rules) (prepared url) one.allowed two.allowed one.verdict two.verdict in
+    let answers =
+    one_verdict (unplaced rules) (prepared url) one.allowed two.allowed one.verdict two.verdict in
     let numbers = one_line_decides rules (prepared url) one.number two.number one.deciding two.deciding in
     let first : line ≡ other = one.whole ∙ ap (λ allowed. verdict_line allowed one.number url) answers
     ∙ ap (λ number. verdict_line two.allowed number url) numbers ∙ sym two.whole in

@@ -6,7 +6,8 @@ use Rattle.robots_audit.proofs.report.push_verdicts.Goals as goal
 pub loop-url-preserved : goal.loop-url-preserved
 loop-url-preserved c =
     let is = c.deref.ensures ∙ ap string_bytes c.url-item.is in
-    let added = subst (λ (t : List ℕ). AddsVerdicts c.args.robot.now.rules (t ∷ []) c.in_ok-allowed.allowed
+    let added =
+    subst (λ (t : List ℕ). AddsVerdicts c.args.robot.now.rules (t ∷ []) c.in_ok-allowed.allowed
     (string_bytes c.loop-url.text) (string_bytes c.push_verdict.new.text)) is c.in_ok-allowed.ensures.ok in
     rw c.both-all_allowed.ensures
     (adds_at string_bytes c.args.urls.now c.loop-url.url-index c.url-item.result c.loop-url-test.true

@@ -11,7 +11,8 @@ returns-in-Ok-clause-ok c =
     let agent = c.args.agent.now in
     let lines = lines_read c.args.file.now in
     let front_with = λ (delay : Option ℕ).
-    ended (rows agent lines ++ (group_line agent lines ∷ delay_line delay ∷ note_lines c.args.file.now)) in
+    ended
+    (rows agent lines ++ (group_line agent lines ∷ delay_line delay ∷ note_lines c.args.file.now)) in
     let front = c.in_ok-push_front.ensures
     ∙ ap (λ (t : List ℕ). t ++ front_with c.robot.inside.delay) c.new-text.ensures.bytes
     ∙ ap front_with (ap (λ (r : RobotValue). r.delay) c.robot.view_is) in

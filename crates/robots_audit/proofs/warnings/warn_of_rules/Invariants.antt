@@ -9,4 +9,5 @@ abbrev pub invariant-loop-marked : goal.invariant-loop-marked
 invariant-loop-marked l =
     let lines = file_lines l.fn.file in
     string_bytes l.text ++ ended (flat_map mark_warnings l.marked-iterator)
-    ≡ string_bytes l.fn.text ++ ended (flat_map mark_warnings (marks_of (group_name l.fn.agent lines) lines))
+    ≡ string_bytes l.fn.text ++ ended
+    (flat_map mark_warnings (marks_of (group_name l.fn.agent lines) lines))

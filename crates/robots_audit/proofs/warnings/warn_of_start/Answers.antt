@@ -6,5 +6,6 @@ use Rattle.robots_audit.proofs.warnings.warn_of_start.Goals as goal
 pub returns : goal.returns
 returns c =
     let said = rule_text c.args.number (codes "begins with neither / nor *") in
-    warned_same _ _ c.deref.result.now said (not c.begins_as_rule.result) (not (begins_as_rule c.args.value.now)) c.in_ok-warn.ensures
+    warned_same _ _ c.deref.result.now said (not c.begins_as_rule.result)
+    (not (begins_as_rule c.args.value.now)) c.in_ok-warn.ensures
     (ap not c.begins_as_rule.ensures) (c.deref.ensures ∙ c.in_ok-warning.ensures)
