@@ -25,7 +25,7 @@ abbrev pub begins_blank : List ℕ → Bool
 begins_blank [] = false
 begins_blank (byte ∷ text) = is_blank_byte byte
 
--- blanks stand around the text
+-- a blank stands first or last in the text
 abbrev pub has_blanks_around : List ℕ → Bool
 has_blanks_around text = begins_blank text || begins_blank (reverse text)
 
@@ -89,7 +89,7 @@ byte_warnings number value =
 abbrev pub value_warnings : ℕ → List ℕ → List (List ℕ)
 value_warnings number value = start_warnings number value ++ byte_warnings number value
 
--- of a line: only a captured rule is warned of
+-- of a line: only a captured Allow or Disallow is warned of, even one whose value is not UTF-8
 abbrev pub rule_warnings : Bool → ℕ → LineValue → List (List ℕ)
 rule_warnings captured number (Allow value) = if captured then value_warnings number value else []
 rule_warnings captured number (Disallow value) = if captured then value_warnings number value else []

@@ -2,6 +2,7 @@
 use crate::calls::{Asked, PAGE, PAGE_LINES, make_asked};
 use std::alloc::Global;
 use std::cmp::Ordering;
+use texting_robots::marks::{MarkedLine, is_named, marked_lines};
 use texting_robots::minregex::MinRegex;
 use texting_robots::parser::{Line, LineIter, file_lines, lines, read_delay};
 use texting_robots::view::View;
@@ -23,6 +24,8 @@ pub(crate) const NAMES: &[&str] = &[
     "parser::lines without memory",
     "parser::file_lines without memory",
     "parser::read_delay without memory",
+    "marks::marked_lines without memory",
+    "marks::is_named without memory",
     LINE_ENDS,
 ];
 
@@ -32,6 +35,11 @@ const LINE_ENDS: &str = "Robot::new on line ends without memory";
 /// Makes what is asked, and then the call of this name.
 pub(crate) fn answer(alloc: Global, name: &str) -> Result<bool, Error> {
     let asked = make_asked(alloc)?;
+    asks(alloc, &asked, name)
+}
+
+/// Makes the call of this name.
+fn asks(alloc: Global, asked: &Asked, name: &str) -> Result<bool, Error> {
     match name {
         "Robot::allowed_prepared without memory" => Ok(asks_prepared(&asked.robot)),
         "Robot::allowed_url without memory" => Ok(!asked.robot.allowed_url(&asked.url)),
@@ -42,11 +50,15 @@ pub(crate) fn answer(alloc: Global, name: &str) -> Result<bool, Error> {
         "MinRegex::matches_view without memory" => Ok(asks_match_of_view(&asked.pattern)),
         "MinRegex::match_stars without memory" => Ok(asks_match_of_stars(&asked.pattern)),
         "MinRegex::as_str without memory" => Ok(asked.pattern.as_str() == "/*ab*ba$"),
-        "comparisons without memory" => Ok(compares(&asked)),
+        "comparisons without memory" => Ok(compares(asked)),
         "View without memory" => Ok(looks()),
         "parser::lines without memory" => Ok(gives_page(lines(PAGE))),
         "parser::file_lines without memory" => Ok(gives_page(file_lines(PAGE))),
         "parser::read_delay without memory" => Ok(reads_delays()),
+        "marks::marked_lines without memory" => Ok(marks_page()),
+        "marks::is_named without memory" => Ok(
+            is_named("smerbot", PAGE) && !is_named("BobBot", PAGE),
+        ),
         LINE_ENDS => reads_line_ends(alloc),
         _ => Ok(false),
     }
@@ -120,6 +132,18 @@ fn gives_page(mut given: LineIter<'_>) -> bool {
         }
     }
     given.next() == None && given.next() == None
+}
+
+/// Whether the page's lines are marked for the agent that it names.
+fn marks_page() -> bool {
+    let mut marked = marked_lines("SmerBot", PAGE);
+    let _ = marked.next();
+    let rule = MarkedLine {
+        number: 2,
+        is_captured: true,
+        line: Line::Disallow(b"/path"),
+    };
+    marked.next() == Some(rule) && marked.count() == 4
 }
 
 fn reads_delays() -> bool {

@@ -25,7 +25,7 @@ fn file_address(alloc: Global, page: &str) -> Result<Option<String>, Error> {
 }
 
 /// What the crawler `FerrisBot` does about a page of the site with this file.
-fn plan(alloc: Global, file: &[u8], page: &str) -> Result<Plan, Error> {
+fn visit(alloc: Global, file: &[u8], page: &str) -> Result<Plan, Error> {
     let robot = match Robot::new(alloc, "FerrisBot", file) {
         Ok(robot) => robot,
         Err(Error::Memory) => return Err(Error::Memory),
@@ -47,9 +47,9 @@ fn a_crawler_plans_its_visit(rt: HostRuntime) -> Result<(), Fail> {
     assert!(rt; address.is_some_and(|text| text.as_str() == "https://example.com/robots.txt"));
     assert!(rt; file_address(alloc, "mailto:ferris@example.com")?.is_none());
     let file = b"User-agent: FerrisBot\nDisallow: /forest\nCrawl-delay: 2.5\n";
-    assert!(rt; plan(alloc, file, page)? == Plan::Fetch(2_500_000));
-    assert!(rt; plan(alloc, file, "https://example.com/forest/tree")? == Plan::Leave);
-    assert!(rt; plan(alloc, b"Crawl-delay: inf", page)? == Plan::Fetch(60_000_000));
-    assert!(rt; plan(alloc, b"", page)? == Plan::Fetch(1_000_000));
+    assert!(rt; visit(alloc, file, page)? == Plan::Fetch(2_500_000));
+    assert!(rt; visit(alloc, file, "https://example.com/forest/tree")? == Plan::Leave);
+    assert!(rt; visit(alloc, b"Crawl-delay: inf", page)? == Plan::Fetch(60_000_000));
+    assert!(rt; visit(alloc, b"", page)? == Plan::Fetch(1_000_000));
     Ok(())
 }

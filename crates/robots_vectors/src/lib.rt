@@ -23,6 +23,8 @@ mod limits;
 #[cfg(test)]
 mod lines;
 #[cfg(test)]
+mod marks;
+#[cfg(test)]
 mod parsed;
 #[cfg(test)]
 mod patterns;

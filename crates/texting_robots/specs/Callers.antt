@@ -2,7 +2,8 @@
 
 -- the lines of a file
 pub use Rattle.texting_robots.specs.Line.{LineValue, UserAgent, Allow, Disallow, Sitemap, CrawlDelay, Raw}
-pub use Rattle.texting_robots.specs.Line.{AreFileLinesOf, AreLinesOf, HoldRangesOf, by_value, value_in}
+pub use Rattle.texting_robots.specs.Line.{AreFileLinesOf, AreLinesOf, HoldRangesOf}
+pub use Rattle.texting_robots.specs.Line.{by_value, nul_as_lf, value_in}
 pub use Rattle.texting_robots.specs.{Delay.IsDelay, Parsed.file_lines, Parsed.parsed}
 -- what an agent gets of them
 pub use Rattle.texting_robots.specs.Rules.{GivesNothing, IsRefused, PlacedRule, Rule, delay_for}

@@ -45,8 +45,8 @@ abbrev pub IsNamedBefore : List ℕ → List LineValue → ℕ → Type 0
 IsNamedBefore name lines i =
     (j : ℕ) × (j < i) × IsTrue (passes_at (is_agent_named name) lines j) × ¬ (HasNewRun lines j i)
 
--- a group line at this place, if one stands there, is captured: no line is a user-agent line, or one of those
--- that lead its group holds the name
+-- a group line at this place, if one stands there, is captured: the lines have no user-agent line, or
+-- one of the user-agent lines that lead the group of the place holds the name
 abbrev pub IsCaptured : List ℕ → List LineValue → ℕ → Type 0
 IsCaptured name lines i =
     ((k : ℕ) → ¬ IsTrue (passes_at is_agent lines k)) ⊎ IsNamedBefore name lines i

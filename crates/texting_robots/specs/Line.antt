@@ -24,8 +24,8 @@ by_value (line.Raw body) = Raw body.now
 
 -- ---- the line of a body
 
--- the line is that of a statement of this kind with this value, in this body; of an empty Disallow that is an
--- Allow of the slash, and of a value that names no delay the whole body
+-- the line is that of a statement of this kind with this value, in this body; an empty Disallow gives an
+-- Allow of the slash, and a crawl-delay whose value names no delay gives the whole body
 abbrev pub IsLineWith : Kind → List ℕ → List ℕ → LineValue → Type 0
 IsLineWith kind.UserAgent value body line = line ≡ UserAgent value
 IsLineWith kind.Allow value body line = line ≡ Allow value
@@ -84,7 +84,8 @@ HoldsRangeOf (CrawlDelay None) body = ⊥
 HoldsRangeOf (CrawlDelay (Some delay)) body = Unit {0}
 HoldsRangeOf (Raw value) body = value ≡ body
 
--- each line holds a range of its body, and the pairs of the cut, joined, are the text from some place on
+-- each line holds a range of its body, and the text is what was taken off its front and then the pairs,
+-- joined
 pub record HoldRangesOf (lines : List LineValue) (text : List ℕ) : Type 0 where
   pub taken : List ℕ
   pub pairs : List Pair

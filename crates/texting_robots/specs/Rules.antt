@@ -33,7 +33,8 @@ abbrev pub sitemap_in : LineValue → Option (List ℕ)
 sitemap_in (Sitemap value) = if is_utf8 value then Some value else None
 sitemap_in _ = None
 
--- the captured lines, in order, each with its place, counted from 0
+-- the lines at captured places, in order, each with its place, counted from 0; of these only an Allow, a
+-- Disallow or a delay gives something
 abbrev pub captured_lines : List ℕ → List LineValue → List (ℕ × LineValue)
 captured_lines name lines = filter (λ p. is_captured name lines p.0) (enumerate_from 0 lines)
 

@@ -39,7 +39,8 @@ abbrev pub BeginsPlain : List ℕ → Type 0
 BeginsPlain [] = Unit {0}
 BeginsPlain (byte ∷ text) = (¬ IsBlank byte) × (byte ≢ colon)
 
--- the rest is blanks, a colon and the tail, or one or more blanks and a tail that begins with neither
+-- the rest is blanks, a colon and the tail; or one or more blanks and the tail, which begins with no blank
+-- and no colon
 abbrev pub IsTailOf : List ℕ → List ℕ → Type 0
 IsTailOf tail rest =
     (blanks : List ℕ) × Each IsBlank blanks

@@ -33,7 +33,7 @@ fn text_of(alloc: Global, scheme: &str, host: &str, port: Option<u16>) -> Result
 /// The address of the robots.txt file of the site that a parsed URL is on.
 ///
 /// A URL that can't be a base is refused with `SetHostOnCannotBeABaseUrl`, and one that isn't `http` or `https`, or has no
-/// host, with `EmptyHost`. Want of memory is `OutOfMemory`.
+/// host, with `EmptyHost`. An allocation failure is `OutOfMemory` or `Overflow`.
 pub fn robots_url_of(alloc: Global, url: &Url) -> Result<String, ParseError>
     ensures { GivesBy string_bytes result (robots_address_of url.now) }
 {
