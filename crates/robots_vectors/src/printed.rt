@@ -48,6 +48,15 @@ fn a_robot_shows_what_a_rule_allows(rt: HostRuntime) -> Result<(), Fail> {
     Ok(())
 }
 
+#[test]
+fn a_robot_shows_a_longer_rule_first_with_all_its_stars(rt: HostRuntime) -> Result<(), Fail> {
+    let robot = robot_of(&rt, "longer", BOB, b"Allow: /\nDisallow: /x***y/");
+    let text = shown(&rt, "longer", &robot);
+    let rules = "[(\"/x***y/\", false, 2), (\"/\", true, 1)]";
+    assert!(rt; text.contains(rules), "{text}");
+    Ok(())
+}
+
 /// A table has a number for each byte of a searched piece, so with one the text were more than twice as long.
 #[test]
 fn patterns_show_without_tables(rt: HostRuntime) -> Result<(), Fail> {

@@ -22,6 +22,7 @@ pub mod PieceLemmas
 pub mod NeedLemmas
 pub mod PlacingLemmas
 pub mod BorderLemmas
+mod BorderSamples
 pub mod CollapseLemmas
 pub mod OrderLemmas
 pub mod SortLemmas

@@ -318,23 +318,3 @@ pub(crate) fn push_pieces(
     };
     Ok(Ends { first_len, ending })
 }
-
-#[cfg(test)]
-mod tests {
-    use super::*;
-    use std::test::Fail;
-
-    #[test]
-    fn tables(rt: HostRuntime) -> Result<(), Fail> {
-        let mut borders = Vec::new(rt.alloc());
-        push_borders(&mut borders, b"aaaab")?;
-        assert_eq!(rt; borders.as_slice(), [0, 1, 2, 3].as_slice());
-        let mut borders = Vec::new(rt.alloc());
-        push_borders(&mut borders, b"aabaaab")?;
-        assert_eq!(rt; borders.as_slice(), [0, 1, 0, 1, 2, 2].as_slice());
-        let mut borders = Vec::new(rt.alloc());
-        push_borders(&mut borders, b"abab")?;
-        assert_eq!(rt; borders.as_slice(), [0, 0, 1].as_slice());
-        Ok(())
-    }
-}

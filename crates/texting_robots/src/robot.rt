@@ -159,20 +159,3 @@ impl Robot {
         self.rules.decide(view)
     }
 }
-
-#[cfg(test)]
-mod tests {
-    use super::*;
-    use std::test::Fail;
-
-    #[test]
-    fn rules_show_as_patterns(rt: HostRuntime) -> Result<(), Fail> {
-        let robot = Robot::new(rt.alloc(), "BobBot", b"Allow: /\nDisallow: /x***y/")?;
-        let shown = format!(in rt.alloc(); "{:?}", robot.rules)?;
-        assert_eq!(rt;
-            shown.as_str(),
-            "[(\"/x***y/\", false, 2), (\"/\", true, 1)]"
-        );
-        Ok(())
-    }
-}
