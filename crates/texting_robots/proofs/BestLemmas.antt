@@ -1,16 +1,18 @@
 -- For each text some rule decides, or none matches; and a pattern matches a text or not.
-use Rattle.std.proofs.Common.{◌≡◌, ◌≢◌, ◌⊎◌, inl, inr, ℕ, zero, suc, ◌<◌}
+use Rattle.std.proofs.Common.{◌≡◌, ◌≢◌, ◌⊎◌, inl, inr, ℕ, zero, suc}
 use Rattle.std.proofs.Common.{◌≤◌, Bool, true, false, ◌==◌, ◌&&◌, List, [], ◌∷◌}
 use Rattle.std.proofs.Common.{◌++◌, length, Option, Some, None, refl, sym, ap, subst, ◌∙◌, arith}
-use Rattle.std.specs.List.{Contains}
+use Rattle.std.specs.List.{All, Contains}
 use Rattle.std.specs.Prelude.{bytes_eq}
-use Rattle.std.proofs.lemmas.Bool.{cases_Bool, cases_lt, eqb-false, eqb-true, false≢true}
+use Rattle.std.proofs.lemmas.Bool.{cases_Bool, cases_lt, cases_order, eqb-false, eqb-true, false≢true}
+use Rattle.std.proofs.lemmas.List.{get_or-map, length-map}
+use Rattle.std.proofs.lemmas.List.Elements.{All-cons, All-contains, All-nil}
 use Rattle.std.proofs.lemmas.Slice.Eq.{bytes_eq-Decides}
 use Rattle.texting_robots.specs.Decision.{IsDecidingRule, IsDecidingLine, IsLongestMatch}
 use Rattle.texting_robots.specs.Pattern.{IsSuffix, Matches, MatchesWith, dollar, star}
-use Rattle.texting_robots.specs.Rules.{PlacedRule, unplaced}
+use Rattle.texting_robots.specs.Rules.{PlacedRule, Rule, unplaced}
+use Rattle.texting_robots.specs.Steps.Entries.{rank}
 use Rattle.texting_robots.specs.Verdict.{IsVerdict, robots_file}
-use Rattle.texting_robots.proofs.FirstLemmas.{placed_of, unplaced_of}
 
 -- it holds, or it doesn't
 abbrev pub Either : Type 0 → Type 0
@@ -75,219 +77,175 @@ matches_or_not anchors (b ∷ q) t = elim (cases_Bool (b == star)) [
       ]
     ]
 
+-- ---- rules with and without their lines
+
+-- a rule without its line is that of some rule with one
+pub placed_of : (rules : List PlacedRule) (rule : Rule) → Contains (unplaced rules) rule
+    → (placed : PlacedRule) × Contains rules placed × (placed.rule ≡ rule)
+placed_of [] rule (k, below, at) = absurd (omega arith)
+placed_of (first ∷ rules) rule (zero, below, at) = (first, (0, omega arith, refl), at)
+placed_of (first ∷ rules) rule (suc k, below, at) =
+    let (placed, (n, less, here), is) = placed_of rules rule (k, omega arith, at) in
+    (placed, (suc n, omega arith, here), is)
+
+unplaced_of : (rules : List PlacedRule) (placed : PlacedRule) → Contains rules placed
+    → Contains (unplaced rules) placed.rule
+unplaced_of rules placed (k, below, at) =
+    let rule = λ (p : PlacedRule). p.rule in
+    (k, rw (length-map rules rule) below, get_or-map rule rules k placed placed.rule below ∙ ap rule at)
+
 -- ---- the rule that decides
 
--- the first rule goes before the second, where both match
-record IsPreferred (first second : PlacedRule) : Type 0 where
-  longer : length second.rule.0 ≤ length first.rule.0
-  allows : length second.rule.0 ≡ length first.rule.0 → second.rule.1 ≡ true → first.rule.1 ≡ true
-  earlier : length second.rule.0 ≡ length first.rule.0 → second.rule.1 ≡ first.rule.1
-      → first.line ≤ second.line
+abbrev pub rank_of : PlacedRule → ℕ
+rank_of placed = rank (length placed.rule.0) placed.rule.1
 
-preferred_itself : (rule : PlacedRule) → IsPreferred rule rule
-preferred_itself rule = record {
-  longer = omega arith;
-  allows = λ long is. is;
-  earlier = λ long kinds. omega arith;
-}
-
-by_length : (first second : PlacedRule) → length second.rule.0 < length first.rule.0
-    → IsPreferred first second
-by_length first second less = record {
-  longer = omega arith;
-  allows = λ long is. absurd (omega arith);
-  earlier = λ long kinds. absurd (omega arith);
-}
-
-by_kind : (first second : PlacedRule) → length second.rule.0 ≡ length first.rule.0
-    → first.rule.1 ≡ true → second.rule.1 ≡ false → IsPreferred first second
-by_kind first second long allow deny = record {
-  longer = omega arith;
-  allows = λ same is. allow;
-  earlier = λ same kinds. absurd (false≢true (sym deny ∙ kinds ∙ allow));
-}
-
-by_line : (first second : PlacedRule) → length second.rule.0 ≡ length first.rule.0
-    → second.rule.1 ≡ first.rule.1 → first.line ≤ second.line → IsPreferred first second
-by_line first second long kinds less = record {
-  longer = omega arith;
-  allows = λ same is. sym kinds ∙ is;
-  earlier = λ same alike. less;
-}
-
-by_lines : (first second : PlacedRule) → length second.rule.0 ≡ length first.rule.0
-    → second.rule.1 ≡ first.rule.1 → IsPreferred first second ⊎ IsPreferred second first
-by_lines first second long kinds = elim (cases_lt second.line first.line) [
-  | inl later ↦ inr (by_line second first (sym long) (sym kinds) (omega arith))
-  | inr sooner ↦ inl (by_line first second long kinds sooner)
-]
-
-by_kinds : (first second : PlacedRule) → length second.rule.0 ≡ length first.rule.0
-    → IsPreferred first second ⊎ IsPreferred second first
-by_kinds first second long = elim (cases_Bool first.rule.1) [
-  | inl allow ↦ elim (cases_Bool second.rule.1) [
-    | inl too ↦ by_lines first second long (too ∙ sym allow)
-    | inr deny ↦ inl (by_kind first second long allow deny)
-  ]
-  | inr deny ↦ elim (cases_Bool second.rule.1) [
-    | inl allow ↦ inr (by_kind second first (sym long) allow deny)
-    | inr too ↦ by_lines first second long (too ∙ sym deny)
-  ]
-]
+-- the first rule ranks higher, or as high and stands on no later line
+pub record IsPreferred (first second : PlacedRule) : Type 0 where
+  pub higher : rank_of second ≤ rank_of first
+  pub earlier : rank_of second ≡ rank_of first → first.line ≤ second.line
 
 one_preferred : (first second : PlacedRule) → IsPreferred first second ⊎ IsPreferred second first
-one_preferred first second = elim (cases_lt (length first.rule.0) (length second.rule.0)) [
-  | inl less ↦ inr (by_length second first less)
-  | inr most ↦ elim (cases_lt (length second.rule.0) (length first.rule.0)) [
-    | inl more ↦ inl (by_length first second more)
-    | inr least ↦ by_kinds first second (omega arith)
+one_preferred first second = elim (cases_order (rank_of first) (rank_of second)) [
+  | inl same ↦ elim (cases_lt second.line first.line) [
+    | inl later ↦ inr (record { higher = omega arith; earlier = λ _. omega arith })
+    | inr sooner ↦ inl (record { higher = omega arith; earlier = λ _. sooner })
   ]
+  | inr (inl less) ↦ inr (record { higher = omega arith; earlier = λ same. absurd (omega arith) })
+  | inr (inr more) ↦ inl (record { higher = omega arith; earlier = λ same. absurd (omega arith) })
 ]
 
 preferred_trans : (first second third : PlacedRule) → IsPreferred first second
     → IsPreferred second third → IsPreferred first third
-preferred_trans first second third one two = record {
-  longer = omega (arith, one.longer, two.longer);
-  allows = λ long is. one.allows (near long) (two.allows (far long) is);
-  earlier = λ long kinds.
-      let alike = kinds_between second.rule.1 third.rule.1 first.rule.1 (one.allows (near long))
-      (two.allows (far long)) kinds in
-      let lines = one.earlier (near long) alike in
-      let more = two.earlier (far long) (kinds ∙ sym alike) in
-      omega (arith, lines, more);
-}
-  where
-    near : length third.rule.0 ≡ length first.rule.0 → length second.rule.0 ≡ length first.rule.0
-    near long = omega (arith, one.longer, two.longer)
+preferred_trans first second third one two =
+    let high = one.higher in
+    let low = two.higher in
+    record {
+      higher = omega arith;
+      earlier = λ same. omega (arith, one.earlier (omega arith), two.earlier (omega arith));
+    }
 
-    far : length third.rule.0 ≡ length first.rule.0 → length third.rule.0 ≡ length second.rule.0
-    far long = omega (arith, one.longer, two.longer)
+-- of two rules the one that ranks higher is as long
+no_longer : (m n : ℕ) (a b : Bool) → rank n b ≤ rank m a → n ≤ m
+no_longer m n true true h = omega arith
+no_longer m n true false h = omega arith
+no_longer m n false true h = omega arith
+no_longer m n false false h = omega arith
 
-    kinds_between : (b c a : Bool) → (b ≡ true → a ≡ true) → (c ≡ true → b ≡ true)
-        → c ≡ a → b ≡ a
-    kinds_between true c a up down same = sym (up refl)
-    kinds_between false true a up down same = absurd (false≢true (down refl))
-    kinds_between false false a up down same = same
+pub longer : (first second : PlacedRule) → IsPreferred first second
+    → length second.rule.0 ≤ length first.rule.0
+longer first second is = no_longer _ _ first.rule.1 second.rule.1 is.higher
+
+-- and allows if the other does, where they are as long
+allows_too : (n : ℕ) (a b : Bool) → rank n b ≤ rank n a → b ≡ true → a ≡ true
+allows_too n true b h is = refl
+allows_too n false true h is = absurd (omega arith)
+allows_too n false false h is = is
 
 -- this rule matches, and is preferred to each that matches
-record IsBest (rules : List PlacedRule) (text : List ℕ) (placed : PlacedRule) : Type 0 where
-  has : Contains rules placed
-  matches : Matches placed.rule.0 text
-  best : (other : PlacedRule) → Contains rules other → Matches other.rule.0 text
-      → IsPreferred placed other
+abbrev pub IsAbove : List ℕ → PlacedRule → PlacedRule → Type 0
+IsAbove text placed other = Matches other.rule.0 text → IsPreferred placed other
 
-abbrev NoneMatches : List PlacedRule → List ℕ → Type 0
-NoneMatches rules text = (placed : PlacedRule) → Contains rules placed → ¬ Matches placed.rule.0 text
+pub record IsBest (rules : List PlacedRule) (text : List ℕ) (placed : PlacedRule) : Type 0 where
+  pub listed : Contains rules placed
+  pub matches : Matches placed.rule.0 text
+  pub best : All (IsAbove text placed) rules
 
-best_or_none : (rules : List PlacedRule) (text : List ℕ)
-    → ((placed : PlacedRule) × IsBest rules text placed) ⊎ NoneMatches rules text
-best_or_none [] text = inr (λ placed (k, below, here) matches. absurd (omega arith))
-best_or_none (rule ∷ rules) text = elim (matches_or_not true rule.rule.0 text) [
-  | inl here ↦ elim (best_or_none rules text) [
-    | inl later ↦ inl (better here later)
-    | inr none ↦ inl (rule, alone here none)
-  ]
-  | inr isnt ↦ elim (best_or_none rules text) [
-    | inl later ↦ inl (later.0, passed isnt later.1)
-    | inr none ↦ inr (no_more isnt none)
-  ]
-]
+pub best_decides : (rules : List PlacedRule) (text : List ℕ) (placed : PlacedRule)
+    → IsBest rules text placed → IsDecidingRule rules text placed
+best_decides rules text placed is =
+    let above = λ (other : PlacedRule) (listed : Contains rules other).
+    All-contains (IsAbove text placed) rules other is.best listed in
+    let long = λ (other : PlacedRule) (l : IsLongestMatch rules text other).
+    (let more = longer placed other (above other l.listed l.matches) in
+    let least = l.longest placed is.listed is.matches in
+    let same : length other.rule.0 ≡ length placed.rule.0 = omega arith in same) in
+    record {
+      is_longest = record {
+        listed = is.listed;
+        matches = is.matches;
+        longest = λ other listed matches. longer placed other (above other listed matches);
+      };
+      allows = λ other l. allows_too (length placed.rule.0) placed.rule.1 other.rule.1
+          (rw (long other l) at (above other l.listed l.matches).higher);
+      first = λ other l kinds.
+          (above other l.listed l.matches).earlier (rw (long other l, kinds) refl);
+    }
+
+-- the rule that decides gives the verdict
+pub verdict_by : (rules : List PlacedRule) (text : List ℕ) (placed : PlacedRule) (answer : Bool)
+    → IsDecidingRule rules text placed → placed.rule.1 ≡ answer → text ≢ robots_file
+    → IsVerdict (unplaced rules) text answer
+verdict_by rules text placed true decides allow other = λ (_, p, stands, matches, longest).
+    let is = decides.is_longest in
+    let (found, listed, rule) = placed_of rules (p, false) stands in
+    let most = rw rule at (is.longest found listed (rw rule matches)) in
+    let less = longest placed.rule.0 (rw (sym allow) (unplaced_of rules placed is.listed)) is.matches in
+    omega arith
+verdict_by rules text placed false decides deny other =
+    let is = decides.is_longest in (
+      other,
+      placed.rule.0,
+      rw (sym deny) (unplaced_of rules placed is.listed),
+      is.matches,
+      λ q stands matches.
+          let (found, listed, rule) = placed_of rules (q, true) stands in
+          let fits : Matches found.rule.0 text = rw rule matches in
+          let most = rw rule at (is.longest found listed fits) in
+          elim (cases_lt (length q) (length placed.rule.0)) [
+            | inl less ↦ less
+            | inr more ↦ absurd (false≢true (sym deny ∙ decides.allows found (record {
+              listed = listed;
+              matches = fits;
+              longest = λ third l m. rw rule (omega (arith, is.longest third l m));
+            }) (ap (λ (r : Rule). r.1) rule)))
+          ],
+    )
+
+-- where no rule matches, the answer is yes
+abbrev pub NoMatch : List PlacedRule → List ℕ → Type 0
+NoMatch rules text = (placed : PlacedRule) → Contains rules placed → ¬ Matches placed.rule.0 text
+
+pub none_denies : (rules : List PlacedRule) (text : List ℕ) → NoMatch rules text
+    → IsVerdict (unplaced rules) text true
+none_denies rules text none (other, p, stands, matches, longest) =
+    let (found, listed, rule) = placed_of rules (p, false) stands in
+    none found listed (rw rule matches)
+
+abbrev Found : List PlacedRule → List ℕ → Type 0
+Found rules text =
+    ((placed : PlacedRule) × IsBest rules text placed) ⊎ All (λ placed. ¬ Matches placed.rule.0 text) rules
+
+best_or_none : (text : List ℕ) (rules : List PlacedRule) → Found rules text
+best_or_none text [] = inr (All-nil (λ placed. ¬ Matches placed.rule.0 text))
+best_or_none text (rule ∷ rules) = at (matches_or_not true rule.rule.0 text) (best_or_none text rules)
   where
-    push : (other : PlacedRule) → Contains rules other → Contains (rule ∷ rules) other
-    push other (k, below, here) = (suc k, omega arith, here)
-
-    split : (P : PlacedRule → Type 0) → P rule
-        → ((other : PlacedRule) → Contains rules other → P other)
-        → (other : PlacedRule) → Contains (rule ∷ rules) other → P other
-    split P first rest other (zero, below, here) = subst P here first
-    split P first rest other (suc k, below, here) = rest other (k, omega arith, here)
-
-    alone : Matches rule.rule.0 text → NoneMatches rules text → IsBest (rule ∷ rules) text rule
-    alone here none = record {
-      has = (0, omega arith, refl);
+    first : Matches rule.rule.0 text → All (IsAbove text rule) rules → IsBest (rule ∷ rules) text rule
+    first here rest = record {
+      listed = (0, omega arith, refl);
       matches = here;
-      best = split (λ other. Matches other.rule.0 text → IsPreferred rule other)
-          (λ _. preferred_itself rule) (λ other listed matches. absurd (none other listed matches));
+      best = All-cons (IsAbove text rule) rule rules
+          (λ _. record { higher = omega arith; earlier = λ _. omega arith }) rest;
     }
 
-    passed : {placed : PlacedRule} → ¬ Matches rule.rule.0 text → IsBest rules text placed
+    later : (placed : PlacedRule) → IsAbove text placed rule → IsBest rules text placed
         → IsBest (rule ∷ rules) text placed
-    passed {placed} isnt later = record {
-      has = push placed later.has;
-      matches = later.matches;
-      best = split (λ other. Matches other.rule.0 text → IsPreferred placed other)
-          (λ here. absurd (isnt here)) later.best;
+    later placed above is = record {
+      listed = let (k, below, here) = is.listed in (suc k, omega arith, here);
+      matches = is.matches;
+      best = All-cons (IsAbove text placed) rule rules above is.best;
     }
 
-    better : Matches rule.rule.0 text → (placed : PlacedRule) × IsBest rules text placed
-        → (placed : PlacedRule) × IsBest (rule ∷ rules) text placed
-    better here (placed, later) = elim (one_preferred rule placed) [
-      | inl first ↦ (
-        rule,
-        record {
-          has = (0, omega arith, refl);
-          matches = here;
-          best = split (λ other. Matches other.rule.0 text → IsPreferred rule other)
-              (λ _. preferred_itself rule)
-              (λ other listed matches.
-              preferred_trans rule placed other first (later.best other listed matches));
-        },
-      )
-      | inr second ↦ (
-        placed,
-        record {
-          has = push placed later.has;
-          matches = later.matches;
-          best = split (λ other. Matches other.rule.0 text → IsPreferred placed other)
-              (λ _. second) later.best;
-        },
-      )
+    at : Either (Matches rule.rule.0 text) → Found rules text → Found (rule ∷ rules) text
+    at (inr isnt) (inr none) = inr (All-cons (λ placed. ¬ Matches placed.rule.0 text) rule rules isnt none)
+    at (inr isnt) (inl (placed, is)) = inl (placed, later placed (λ here. absurd (isnt here)) is)
+    at (inl here) (inr none) = inl (rule, first here (λ k d below fits. absurd (none k d below fits)))
+    at (inl here) (inl (placed, is)) = elim (one_preferred rule placed) [
+      | inl before ↦ inl (rule, first here (λ k d below fits.
+          preferred_trans rule placed _ before (is.best k d below fits)))
+      | inr after ↦ inl (placed, later placed (λ _. after) is)
     ]
 
-    no_more : ¬ Matches rule.rule.0 text → NoneMatches rules text → NoneMatches (rule ∷ rules) text
-    no_more isnt none = split (λ other. ¬ Matches other.rule.0 text) isnt none
-
 -- ---- the verdict and the line
-
-module _ (rules : List PlacedRule) (text : List ℕ) (placed : PlacedRule)
-    (is : IsBest rules text placed) where
-  best_verdict : (answer : Bool) → placed.rule.1 ≡ answer → text ≢ robots_file
-      → IsVerdict (unplaced rules) text answer
-  best_verdict true allow other = λ (_, p, stands, matches, longest).
-      let (found, listed, rule) = placed_of rules (p, false) stands in
-      let best = (rw rule at (is.best found listed (rw rule matches)).longer) in
-      let less = longest placed.rule.0 (rw (sym allow) (unplaced_of rules placed is.has)) is.matches in
-      omega arith
-  best_verdict false deny other = (
-    other,
-    placed.rule.0,
-    rw (sym deny) (unplaced_of rules placed is.has),
-    is.matches,
-    λ q stands matches.
-        let (found, listed, rule) = placed_of rules (q, true) stands in
-        let best = is.best found listed (rw rule matches) in
-        let most = rw rule at best.longer in
-        elim (cases_lt (length q) (length placed.rule.0)) [
-          | inl less ↦ less
-          | inr more ↦ absurd (false≢true (sym deny ∙ (rw rule at best.allows) (omega arith) refl))
-        ],
-  )
-
-  best_decides : IsDecidingRule rules text placed
-  best_decides =
-      let as_long = λ (other : PlacedRule) (l : IsLongestMatch rules text other).
-      (let longer = (is.best other l.listed l.matches).longer in
-      let least = l.longest placed is.has is.matches in
-      let same : length other.rule.0 ≡ length placed.rule.0 = omega arith in same) in
-      record {
-        is_longest = record {
-          listed = is.has;
-          matches = is.matches;
-          longest = λ other listed matches. (is.best other listed matches).longer;
-        };
-        allows = λ other l. (is.best other l.listed l.matches).allows (as_long other l);
-        first = λ other l. (is.best other l.listed l.matches).earlier (as_long other l);
-      }
 
 -- a verdict, and the line that it comes from
 pub record Answered (rules : List PlacedRule) (text : List ℕ) : Type 0 where
@@ -304,24 +262,23 @@ each_text_answered rules text = elim (cases_Bool (bytes_eq text robots_file)) [
   | inr other ↦
       let differs : text ≢ robots_file =
       λ same. false≢true (sym other ∙ (bytes_eq-Decides text robots_file).1 same) in
-      elim (best_or_none rules text) [
-        | inl (placed, is) ↦ record {
-          allowed = placed.rule.1;
-          number = Some placed.line;
-          verdict = best_verdict rules text placed is placed.rule.1 refl differs;
-          deciding = (differs, placed, best_decides rules text placed is, refl);
-        }
-        | inr none ↦ record {
-          allowed = true;
-          number = None;
-          verdict = λ denied. nothing none denied.1 denied.2 denied.3;
-          deciding = inr none;
-        }
+      elim (best_or_none text rules) [
+        | inl (placed, is) ↦
+            let decides = best_decides rules text placed is in
+            record {
+              allowed = placed.rule.1;
+              number = Some placed.line;
+              verdict = verdict_by rules text placed placed.rule.1 decides refl differs;
+              deciding = (differs, placed, decides, refl);
+            }
+        | inr none ↦
+            let nowhere = λ (placed : PlacedRule) (listed : Contains rules placed).
+            All-contains (λ placed. ¬ Matches placed.rule.0 text) rules placed none listed in
+            record {
+              allowed = true;
+              number = None;
+              verdict = none_denies rules text nowhere;
+              deciding = inr nowhere;
+            }
       ]
 ]
-  where
-    nothing : NoneMatches rules text → (p : List ℕ) → Contains (unplaced rules) (p, false)
-        → ¬ Matches p text
-    nothing none p stands matches =
-        let (found, listed, rule) = placed_of rules (p, false) stands in
-        none found listed (rw rule matches)

@@ -15,7 +15,7 @@ use Rattle.texting_robots.specs.declared.error.Error.TheVariants as mine
 use Rattle.texting_robots.specs.Line.{LineValue, Sitemap, delay_in, is_sitemap}
 use Rattle.texting_robots.specs.Rules.{PlacedRule, Rule, sitemap_in, unplaced}
 use Rattle.texting_robots.specs.Error.{IsMemoryOr}
-use Rattle.texting_robots.proofs.FirstLemmas.{placed_of}
+use Rattle.texting_robots.proofs.BestLemmas.{placed_of}
 use Rattle.texting_robots.specs.Group.{is_agent}
 
 -- ---- what lines give
@@ -88,57 +88,35 @@ cons_is : {X : Type 0} (o : Option X) (xs : List X) → cons_option o xs ≡ opt
 cons_is None xs = refl
 cons_is (Some x) xs = refl
 
--- what one more item gave was added
-pub given_more : {X Y : Type 0} (given : Y → Option X) (y : Y) (left rest : List Y) (old new whole : List X)
-    → left ≡ y ∷ rest → new ≡ old ++ option_to_list (given y)
-    → old ++ filter_map given left ≡ whole → new ++ filter_map given rest ≡ whole
-given_more given y left rest old new whole left_is added so_far =
-    rw (added, append_assoc, ← cons_is (given y) (filter_map given rest)) (rw left_is at so_far)
+-- what one more item gave was added to what the earlier ones gave; the later ones give these
+pub given_more : {X : Type 0} (o : Option X) (xs old new : List X) → new ≡ old ++ option_to_list o
+    → new ++ xs ≡ old ++ cons_option o xs
+given_more o xs old new added = rw (added, append_assoc, cons_is o xs) refl
 
 -- the same of the first
-pub first_more : {X Y : Type 0} (given : Y → Option X) (y : Y) (left rest : List Y)
-    (old new whole : Option X)
-    → left ≡ y ∷ rest → new ≡ option_or old (given y)
-    → option_or old (slice_get (filter_map given left) 0) ≡ whole
-    → option_or new (slice_get (filter_map given rest) 0) ≡ whole
-first_more {X = X} given y left rest old new whole left_is added so_far =
-    rw added (at old (given y) ∙ rw left_is at so_far)
-  where
-    at : (old o : Option X) → option_or (option_or old o) (slice_get (filter_map given rest) 0)
-        ≡ option_or old (slice_get (cons_option o (filter_map given rest)) 0)
-    at None None = refl
-    at None (Some x) = refl
-    at (Some z) o = refl
+pub first_more : {X : Type 0} (o old new : Option X) (xs : List X) → new ≡ option_or old o
+    → option_or new (slice_get xs 0) ≡ option_or old (slice_get (cons_option o xs) 0)
+first_more None None new xs added = rw added refl
+first_more (Some x) None new xs added = rw added refl
+first_more o (Some z) new xs added = rw added refl
 
 -- an item gives nothing where all of them give nothing
-pub given_none : {X Y : Type 0} (given : Y → Option X) (y : Y) (left rest : List Y) (old : List X)
-    → left ≡ y ∷ rest → old ++ filter_map given left ≡ [] → given y ≡ None
-given_none {X = X} given y left rest old left_is none = at (given y) old (rw left_is at none)
-  where
-    at : (o : Option X) (xs : List X) → xs ++ cons_option o (filter_map given rest) ≡ [] → o ≡ None
-    at None xs none = refl
-    at (Some x) [] none = absurd (let k : x ∷ filter_map given rest ≡ [] = none in cc)
-    at (Some x) (z ∷ xs) none =
-        absurd (let k : z ∷ (xs ++ (x ∷ filter_map given rest)) ≡ [] = none in cc)
+pub given_none : {X : Type 0} (o : Option X) (xs old : List X) → old ++ cons_option o xs ≡ [] → o ≡ None
+given_none None xs old none = refl
+given_none (Some x) xs [] none = absurd (let k : x ∷ xs ≡ [] = none in cc)
+given_none (Some x) xs (z ∷ old) none = absurd (let k : z ∷ (old ++ (x ∷ xs)) ≡ [] = none in cc)
 
 pub all_added : {X : Type 0} (P : X → Type 0) (old new : List X) (o : Option X)
     → new ≡ old ++ option_to_list o → IfSome o P → All P old → All P new
 all_added P old new None added here before = rw (added, append-nil) before
 all_added P old new (Some x) added here before = rw added (All-push P old x before here)
 
-any_added : {X : Type 0} (P : X → Type 0) (old rest : List X) (o : Option X)
-    → IsSomeAnd o P → Any P (old ++ cons_option o rest)
-any_added P old rest None here = absurd here
-any_added P old rest (Some x) here =
-    (length old, x, simp length-append (omega arith), get_or_at old x rest x (length old) refl, here)
-
 -- an item gave one of which P holds
-pub given_any : {X Y : Type 0} (P : X → Type 0) (given : Y → Option X) (y : Y) (left rest : List Y)
-    (old whole : List X) → left ≡ y ∷ rest → IsSomeAnd (given y) P
-    → old ++ filter_map given left ≡ whole → Any P whole
-given_any {X = X} P given y left rest old whole left_is here so_far =
-    subst (λ (xs : List X). Any P xs) (rw left_is at so_far)
-    (any_added P old (filter_map given rest) (given y) here)
+pub given_any : {X : Type 0} (P : X → Type 0) (o : Option X) (xs old : List X) → IsSomeAnd o P
+    → Any P (old ++ cons_option o xs)
+given_any P None xs old here = absurd here
+given_any P (Some x) xs old here =
+    (length old, x, simp length-append (omega arith), get_or_at old x xs x (length old) refl, here)
 
 pub option_or_none : {X : Type 0} (o : Option X) → option_or o None ≡ o
 option_or_none None = refl

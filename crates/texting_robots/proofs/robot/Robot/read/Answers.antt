@@ -1,5 +1,6 @@
 use Rattle.std.proofs.Common.{◌≡◌, ℕ, List, IsPermutation, ap}
 use Rattle.std.proofs.Common.{arith, slice_get, subst, sym, ◌∙◌}
+use Rattle.std.specs.List.{Any}
 use Rattle.std.specs.Option.{option_or}
 use Rattle.std.proofs.lemmas.List.{append-nil}
 use Rattle.std.proofs.lemmas.Bool.{false≢true}
@@ -8,7 +9,6 @@ use Rattle.texting_robots.specs.Group.{group_name}
 use Rattle.texting_robots.specs.Pattern.{IsOverlong}
 use Rattle.texting_robots.specs.Rules.{PlacedRule, Rule, delay_before_agents}
 use Rattle.texting_robots.specs.Marks.{marks_of}
-use Rattle.texting_robots.specs.Steps.Group.{delay_at, rule_at, sitemap_at}
 use Rattle.texting_robots.proofs.CapturedLemmas.{delays_marked, rules_marked, sitemaps_are}
 use Rattle.texting_robots.proofs.RulesLemmas.{all_added, any_unplaced, first_more, given_any}
 use Rattle.texting_robots.proofs.RulesLemmas.{given_more, given_none, no_rules, none_unplaced}
@@ -23,9 +23,9 @@ loop-marked-preserved c =
     let so_far = c.loop-marked.invariant in
     record {
       known = added.known;
-      rules = given_more rule_at _ _ _ _ _ _ next added.rules so_far.rules;
-      sitemaps = given_more sitemap_at _ _ _ _ _ _ next added.sitemaps so_far.sitemaps;
-      delay = first_more delay_at _ _ _ _ _ _ next added.delay so_far.delay;
+      rules = given_more _ _ _ _ added.rules ∙ rw next at so_far.rules;
+      sitemaps = given_more _ _ _ _ added.sitemaps ∙ rw next at so_far.sitemaps;
+      delay = first_more _ _ _ _ added.delay ∙ rw next at so_far.delay;
       accepted = all_added (λ (placed : PlacedRule). ¬ IsOverlong placed.rule.0) _ _ _
           added.rules added.accepted so_far.accepted;
     }
@@ -51,9 +51,10 @@ loop-marked-init c =
 pub returns-in_err-take-clause-refused : goal.returns-in_err-take-clause-refused
 returns-in_err-take-clause-refused c =
     let overlong = λ (placed : PlacedRule). IsOverlong placed.rule.0 in
+    let rules = rw c.in-Some.ensures.steps at c.loop-marked.invariant.rules in
     passed_on _ c.from_residual.result c.in_err-take.field-0.0 c.from_residual.ensures.1
     (refused_wider _ _ _ (λ here. any_unplaced (λ (rule : Rule). IsOverlong rule.0) _
-    (given_any overlong rule_at _ _ _ _ _ c.in-Some.ensures.steps here c.loop-marked.invariant.rules))
+    (subst (λ (all : List PlacedRule). Any overlong all) rules (given_any overlong _ _ _ here)))
     c.in_err-take.ensures.refused)
 
 -- a line that takes memory gives a rule or a sitemap
@@ -62,8 +63,8 @@ returns-in_err-take-clause-without_memory c = λ (rules, sitemaps).
     let next = c.in-Some.ensures.steps in
     let so_far = c.loop-marked.invariant in
     absurd (false≢true (c.in_err-take.ensures.unasked
-    (given_none rule_at _ _ _ _ next (so_far.rules ∙ no_rules _ rules))
-    (given_none sitemap_at _ _ _ _ next (so_far.sitemaps ∙ sitemaps))))
+    (given_none _ _ _ (rw next at so_far.rules ∙ no_rules _ rules))
+    (given_none _ _ _ (rw next at so_far.sitemaps ∙ sitemaps))))
 
 pub returns-clause-robot : goal.returns-clause-robot
 returns-clause-robot c =

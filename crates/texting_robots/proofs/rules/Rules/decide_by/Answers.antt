@@ -8,7 +8,8 @@ use Rattle.texting_robots.specs.Decision.{IsDecidingRule}
 use Rattle.texting_robots.specs.Rules.{PlacedRule, unplaced}
 use Rattle.texting_robots.specs.Verdict.{IsVerdict}
 use Rattle.texting_robots.proofs.FirstLemmas.{at_most_more, first_decides, first_line}
-use Rattle.texting_robots.proofs.FirstLemmas.{first_tried, none_denies, none_stands}
+use Rattle.texting_robots.proofs.FirstLemmas.{first_tried, none_stands}
+use Rattle.texting_robots.proofs.BestLemmas.{none_denies}
 use Rattle.texting_robots.proofs.rules.Rules.decide_by.Goals as goal
 
 pub returns-in-Some-clause-verdict : goal.returns-in-Some-clause-verdict
@@ -53,7 +54,7 @@ returns-in-None-clause-verdict g c =
     let all = c.self.inside.gathered in
     let text = (g.A.Asked.seen c.args.asked.now).text in
     subst (λ (rules : List PlacedRule). IsVerdict (unplaced rules) text true) c.self.view_is
-    (none_denies all c.self.invariant.0 text c.in-None.ensures.none)
+    (none_denies (rules_in all) text (none_stands all c.self.invariant.0 text c.in-None.ensures.none))
 
 pub returns-in-None-clause-line : goal.returns-in-None-clause-line
 returns-in-None-clause-line g c =
