@@ -8,7 +8,7 @@ use Rattle.texting_robots.specs.Rules.{rules_for}
 use Rattle.texting_robots.specs.Parsed.{file_lines}
 use Rattle.texting_robots.specs.Rfc9309 as rfc
 use Rattle.texting_robots.proofs.Rfc9309.CharLemmas.{each_append}
-use Rattle.texting_robots.proofs.Rfc9309.GroupLemmas.{AllZip-append}
+use Rattle.texting_robots.proofs.Rfc9309.GroupLemmas.{zip_append}
 use Rattle.texting_robots.proofs.Rfc9309.ToldLemmas.{AreGroups, IsFrontTold}
 use Rattle.texting_robots.proofs.Rfc9309.Told.{IsToldFor, Told, token_told}
 use Rattle.texting_robots.proofs.Rfc9309.EndLemmas.{file_heard, file_rules, lines_in}
@@ -98,7 +98,7 @@ AreMembers members tolds = AllZip IsToldFor members tolds
 members_join : IsJoin AreMembers
 members_join = record {
   none = tt;
-  both = λ members more tolds later is also. AllZip-append IsToldFor members more tolds later is also;
+  both = zip_append IsToldFor;
 }
 
 groups_both : (groups more : List rfc.Group) (tolds later : List Told) → AreGroups groups tolds

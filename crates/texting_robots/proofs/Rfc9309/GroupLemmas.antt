@@ -24,15 +24,13 @@ use Rattle.texting_robots.proofs.Rfc9309.WalkLemmas.{run, run_found}
 
 -- ---- the rules of groups
 
-pub AllZip-append : {A B : Type 0} (R : A → B → Type 0) (xs vs : List A) (ys ws : List B)
-    → AllZip R xs ys
-    → AllZip R vs ws
-    → AllZip R (xs ++ vs) (ys ++ ws)
-AllZip-append R [] vs [] ws first second = second
-AllZip-append R [] vs (y ∷ ys) ws first second = absurd first
-AllZip-append R (x ∷ xs) vs [] ws first second = absurd first
-AllZip-append R (x ∷ xs) vs (y ∷ ys) ws first second =
-    (first.0, AllZip-append R xs vs ys ws first.1 second)
+-- members and what they are read as, and more of both behind them
+pub zip_append : {X : Type 0} (R : Member → X → Type 0) (xs vs : List Member) (ys ws : List X)
+    → AllZip R xs ys → AllZip R vs ws → AllZip R (xs ++ vs) (ys ++ ws)
+zip_append R [] vs [] ws first second = second
+zip_append R [] vs (y ∷ ys) ws first second = absurd first
+zip_append R (x ∷ xs) vs [] ws first second = absurd first
+zip_append R (x ∷ xs) vs (y ∷ ys) ws first second = (first.0, zip_append R xs vs ys ws first.1 second)
 
 member_read : (member : Member) (o : Option Rule) (is : Bool) (members : List Member) (rules : List Rule)
     → GivesRuleOf member o is → AllZip IsReadAs members rules
@@ -66,7 +64,7 @@ group_read false group groups own rules here later = later
 group_read true group groups own rules here later =
     subst (λ m. AllZip IsReadAs m (own ++ rules))
     (sym (filter-append is_rule group.members (members_in groups)))
-    (AllZip-append IsReadAs (filter is_rule group.members) (filter is_rule (members_in groups)) own rules
+    (zip_append IsReadAs (filter is_rule group.members) (filter is_rule (members_in groups)) own rules
     here later)
 
 -- a group that comes next begins a run
