@@ -1,17 +1,20 @@
 -- The cut read from the front: the first line of a text, and the lines of the rest.
 use Rattle.std.proofs.Common.{◌≡◌, ◌≢◌, ℕ, suc, ◌+◌, ◌%◌, ◌^◌, ◌<◌, ◌≤◌}
-use Rattle.std.proofs.Common.{Bool, true, false, ◌==◌, ◌||◌, inl, inr, List, [], ◌∷◌, length}
-use Rattle.std.proofs.Common.{take, drop, map, sym, refl, ap, ◌∙◌, arith, cond}
-use Rattle.std.proofs.Common.{if◌then◌else◌, map-id, Option, Some, None, MatchOption, zero, bit_or}
+use Rattle.std.proofs.Common.{Bool, true, false, not, ◌==◌, ◌||◌, inl, inr, List, [], ◌∷◌, length}
+use Rattle.std.proofs.Common.{take, drop, get_or, map, sym, refl, ap, ◌∙◌, arith, cond}
+use Rattle.std.proofs.Common.{if◌then◌else◌, map-id, Option, Some, None, MatchOption, bit_or}
 use Rattle.std.specs.List.{position_or_len}
-use Rattle.std.proofs.lemmas.Bool.{cases_Bool, cond-true, cond-false, eqb-true, ne_eqb}
+use Rattle.std.proofs.lemmas.Bool.{cases_Bool, cond-true, cond-false, eq-eqb, eqb-true, ne_eqb}
 use Rattle.std.proofs.lemmas.Bool.Decides.{nat_tests}
-use Rattle.std.proofs.lemmas.List.{drop-map, take-map, length-map, length-take, nil_from_length}
+use Rattle.std.proofs.lemmas.List.{drop-map, get_or-take, take-append-drop, take-map, length-map}
+use Rattle.std.proofs.lemmas.List.{length-take, length-take-le, nil_from_length}
+use Rattle.std.proofs.lemmas.List.Folds.{map_fixed, prefix_len-append}
 use Rattle.std.proofs.lemmas.List.Recursion.{is_position_or_len}
+use Rattle.std.proofs.lemmas.List.Sums.{fails_before_first, prefix_len-le-length}
 use Rattle.std.proofs.lemmas.Simd.{first_set_mask_l, map-map, mask_l-mod}
 use Rattle.std.specs.Int.{trailing_zeros, w64}
 use lib.Lanes.{mask_l, top}
-use Rattle.std.proofs.Math.Bool.{or_comm}
+use Rattle.std.proofs.Math.Bool.{or_assoc, or_comm, or_self, or-false}
 use Rattle.memchr.specs.Find.{is_byte2, is_byte3, IsFirstByte}
 use Rattle.texting_robots.proofs.RegionLemmas.{place_is, end_is}
 use Rattle.texting_robots.specs.Cut.{Pair, cr, lf}
@@ -83,9 +86,6 @@ lines_nil = ap (λ ps. map (λ p. line_of p.body) ps) cut_nil
 
 -- ---- reading NUL as LF
 
-drop_read : (n : Bool) (k : ℕ) (text : List ℕ) → drop k (read_as n text) ≡ read_as n (drop k text)
-drop_read n k text = drop-map (read_byte n) k text
-
 pub read_as_is : (text : List ℕ) → read_as false text ≡ text
 read_as_is text = map-id text
 
@@ -137,21 +137,9 @@ ends_as_is b = or_comm (b == cr) (b == lf)
 
 pub ends_with_nul : Ends true (is_byte3 cr lf 0)
 ends_with_nul b = elim (cases_Bool (b == 0)) [
-  | inl nul ↦ rw nul
-      (last (b == cr) (b == lf))
-  | inr other ↦ rw other (turned (b == cr) (b == lf))
+  | inl nul ↦ rw (eqb-true b 0 nul) refl
+  | inr other ↦ rw (other, or-false) (or_comm (b == cr) (b == lf))
 ]
-  where
-    last : (x y : Bool) → (x || y || true) ≡ true
-    last true y = refl
-    last false true = refl
-    last false false = refl
-
-    turned : (x y : Bool) → (x || y || false) ≡ (y || x)
-    turned true true = refl
-    turned true false = refl
-    turned false true = refl
-    turned false false = refl
 
 -- what `memchr` finds
 pub body_found : (n : Bool) (test : ℕ → Bool) (text : List ℕ) (found : Option ℕ) → Ends n test
@@ -162,67 +150,24 @@ body_found n test text None ends none = sym (body_by n test ends text) ∙ end_i
 body_found n test text (Some k) ends first =
     (sym (body_by n test ends text) ∙ place_is test text k first.0 first.1, first.0.high)
 
--- an end that is found in a front of the text is the text's
-near_end : (text : List ℕ) (k : ℕ) → body_len (take k text) < length (take k text)
-    → body_len text ≡ body_len (take k text)
-near_end [] zero less = refl
-near_end [] (suc k) less = refl
-near_end (b ∷ text) zero less = absurd (omega (arith, less))
-near_end (b ∷ text) (suc k) less = elim (cases_Bool (b == lf)) [
-  | inl is_lf ↦ rw is_lf refl
-  | inr not_lf ↦ elim (cases_Bool (b == cr)) [
-    | inl is_cr ↦ rw (not_lf, is_cr) refl
-    | inr not_cr ↦ rw (not_lf, not_cr)
-        (ap (λ k. suc k) (near_end text k (omega (arith, (rw (not_lf, not_cr) at less)))))
-  ]
-]
-
-pub near_body : (n : Bool) (text : List ℕ) (k end : ℕ) → body_len (read_as n (take k text)) ≡ end
-    → end < length (take k text)
-    → body_len (read_as n text) ≡ end
-near_body n text k end is less =
-    let read = take-map (read_byte n) k text in
-    near_end (read_as n text) k (rw (read, is) (omega (arith, less, length-map (take k text) (read_byte n))))
-    ∙ ap body_len read ∙ is
-
-body_within : (text : List ℕ) → body_len text ≤ length text
-body_within [] = omega arith
-body_within (b ∷ text) = elim (cases_Bool (b == lf)) [
-  | inl is_lf ↦ rw is_lf (omega arith)
-  | inr not_lf ↦ elim (cases_Bool (b == cr)) [
-    | inl is_cr ↦ rw (not_lf, is_cr) (omega arith)
-    | inr not_cr ↦ (let rest = body_within text in rw (not_lf, not_cr) (omega (arith, rest)))
-  ]
-]
-
--- a front without an end is passed over
-pub passed_front : (n : Bool) (text : List ℕ) (k : ℕ) → k ≤ length text
-    → body_len (read_as n (take k text)) ≡ k
-    → body_len (read_as n text) ≡ k + body_len (read_as n (drop k text))
-passed_front n text zero within none = omega arith
-passed_front n [] (suc k) within none = absurd (omega (arith, within))
-passed_front n (b ∷ text) (suc k) within none = elim (cases_Bool (read_byte n b == lf)) [
-  | inl is_lf ↦ (let wrong : 0 ≡ suc k = rw is_lf at none in absurd (omega (arith, wrong)))
-  | inr not_lf ↦ elim (cases_Bool (read_byte n b == cr)) [
-    | inl is_cr ↦ (let wrong : 0 ≡ suc k = rw (not_lf, is_cr) at none in absurd (omega (arith, wrong)))
-    | inr
-        not_cr ↦ (let rest = passed_front n text k (omega (arith, within))
-        (omega (arith, (rw (not_lf, not_cr) at none))) in
-        rw (not_lf, not_cr) (omega (arith, rest)))
-  ]
-]
-
 -- the front of a text, looked at for an end: there is one, or all of it is passed over
 pub front_seen : (n : Bool) (text : List ℕ) (k len : ℕ) → k ≤ length text
     → len ≡ body_len (read_as n (take k text))
     → (len < k → body_len (read_as n text) ≡ len)
     × (k ≤ len → body_len (read_as n text) ≡ k + body_len (read_as n (drop k text)))
 front_seen n text k len within len_is =
-    let long = length-take k text in
-    let most = body_within (read_as n (take k text)) in
-    let same = length-map (take k text) (read_byte n) in (
-      λ less. near_body n text k len (sym len_is) (omega arith),
-      λ all. passed_front n text k within (sym len_is ∙ (omega arith)),
+    let test = λ (b : ℕ). read_byte n b == lf || read_byte n b == cr in
+    let by = body_by n test (λ b. refl) in
+    let front = take k text in
+    let back = drop k text in
+    let long = length-take-le k text within in
+    let most = prefix_len-le-length (λ b. not (test b)) front in
+    let here : position_or_len test front ≡ len = by front ∙ sym len_is in
+    let seen : body_len (read_as n text) ≡ cond (len == k) (k + body_len (read_as n back)) len =
+    sym (by text) ∙ ap (position_or_len test) (sym (take-append-drop k text))
+    ∙ prefix_len-append (λ b. not (test b)) front back ∙ rw (here, long, by back) refl in (
+      λ less. seen ∙ cond-false _ _ _ (ne_eqb len k (omega arith)),
+      λ all. seen ∙ cond-true _ _ _ (eq-eqb len k (omega arith)),
     )
 
 -- ---- the lanes of a vector that end a line
@@ -247,75 +192,57 @@ ends_marked n third is b = told (b == cr) (b == lf) (b == third) ∙ rw is (by n
     told false false true = refl
     told false false false = refl
 
-    twice : (x y : Bool) → (x || y || y) ≡ (x || y)
-    twice true true = refl
-    twice true false = refl
-    twice false true = refl
-    twice false false = refl
-
     by : (n : Bool) → is_byte3 cr lf (if n then 0 else lf) b
         ≡ (read_byte n b == lf || read_byte n b == cr)
     by true = ends_with_nul b
-    by false = twice (b == cr) (b == lf) ∙ ends_as_is b
+    by false = rw (or_assoc, or_self) (ends_as_is b)
 
 -- the first lane that is marked is the first end
-pub marked_first : (n : Bool) (f : ℕ → ℕ) (v lanes : List ℕ) (first : ℕ)
-    → length v ≡ 32 → lanes ≡ map f v
+pub marked_first : (n : Bool) (f : ℕ → ℕ) (v lanes : List ℕ) → length v ≡ 32 → lanes ≡ map f v
     → Ends n (λ b. top 7 (f b))
     → (let mask = mask_l (map (top 7) lanes) % 2 ^ 64 in
-    first ≡ (if mask == 0 then 32 else trailing_zeros w64 mask))
-    → first ≡ body_len (read_as n v)
-marked_first n f v lanes first long lanes_are ends found =
+    (if mask == 0 then 32 else trailing_zeros w64 mask) ≡ body_len (read_as n v))
+marked_first n f v lanes long lanes_are ends =
     let test = λ (b : ℕ). top 7 (f b) in
     let mask : mask_l (map (top 7) lanes) % 2 ^ 64 ≡ mask_l (map test v)
     = ap (λ l. mask_l l % 2 ^ 64) (ap (map (top 7)) lanes_are ∙ map-map (top 7) f v)
     ∙ mask_l-mod (map test v) 64 (omega (arith, length-map v test, long)) in
-    found ∙ ap (λ m. if m == 0 then 32 else trailing_zeros w64 m) mask
+    ap (λ m. if m == 0 then 32 else trailing_zeros w64 m) mask
     ∙ first_set_mask_l test v 32 long (omega arith) ∙ body_by n test ends v
 
 -- a body holds no NUL that is read as LF
 body_plain : (n : Bool) (text : List ℕ)
     → take (body_len (read_as n text)) (read_as n text) ≡ take (body_len (read_as n text)) text
-body_plain n [] = refl
-body_plain n (b ∷ text) =
-    elim (cases_Bool (read_byte n b == lf)) [
-      | inl is_lf ↦ rw is_lf refl
-      | inr not_lf ↦ elim (cases_Bool (read_byte n b == cr)) [
-        | inl is_cr ↦ rw (not_lf, is_cr) refl
-        | inr not_cr ↦ rw (not_lf, not_cr)
-            (ap (λ t. read_byte n b ∷ t) (body_plain n text)
-            ∙ ap (λ x. x ∷ take (body_len (read_as n text)) text) (as_is n b not_lf))
-      ]
-    ]
+body_plain n text =
+    let test = λ (b : ℕ). read_byte n b == lf || read_byte n b == cr in
+    let len = body_len (read_as n text) in
+    let is = body_by n test (λ b. refl) text in
+    take-map (read_byte n) len text ∙ map_fixed (read_byte n) (take len text)
+    (λ i d below. let short = length-take len text in
+    let before : i < len = omega arith in
+    rw (get_or-take len text i d before)
+    (as_is n (get_or text i d) (fails_before_first test text i d (rw is before))))
   where
-    as_is : (n : Bool) (b : ℕ) → (read_byte n b == lf) ≡ false → read_byte n b ≡ b
-    as_is false b not_lf = refl
-    as_is true b not_lf = elim (cases_Bool (b == 0)) [
-      | inr nz ↦ cond-false _ _ _ nz
-      | inl z ↦ let wrong : true ≡ false = ap (λ x. x == lf) (sym (cond-true _ _ _ z)) ∙ not_lf in cc
+    as_is : (n : Bool) (b : ℕ) → (read_byte n b == lf || read_byte n b == cr) ≡ false → read_byte n b ≡ b
+    as_is false b plain = refl
+    as_is true b plain = elim (cases_Bool (b == 0)) [
+      | inl nul ↦ (let wrong : true ≡ false = rw nul at plain in cc)
+      | inr other ↦ cond-false _ _ _ other
     ]
-
-long_read : (n : Bool) (text : List ℕ) → length (read_as n text) ≡ length text
-long_read n text = simp length-map
 
 -- ---- the next line
 
-pub next_line : (n : Bool) (rest body after next : List ℕ) (k : ℕ) → 0 < length rest
-    → k ≡ body_len (read_as n rest)
-    → body ≡ take k rest → after ≡ drop k rest → next ≡ drop (end_len (read_as n after)) after
-    → lines_of (read_as n rest) ≡ line_of body ∷ lines_of (read_as n next)
-next_line n rest body after next k some k_is body_is after_is next_is =
+pub next_line : (n : Bool) (rest : List ℕ) → 0 < length rest
+    → (let k = body_len (read_as n rest) in
+    let after = drop k rest in
+    lines_of (read_as n rest)
+    ≡ line_of (take k rest) ∷ lines_of (read_as n (drop (end_len (read_as n after)) after)))
+next_line n rest some =
     let text = read_as n rest in
-    let first = lines_first text (omega (arith, some, long_read n rest)) in
-    let body_same : take (body_len text) text ≡ body =
-    body_plain n rest ∙ ap (λ i. take i rest) (sym k_is) ∙ sym body_is in
-    let after_same : drop (body_len text) text ≡ read_as n after
-    = ap (λ i. drop i text) (sym k_is) ∙ drop_read n k rest ∙ ap (read_as n) (sym after_is) in
-    let rest_same : rest_of text ≡ read_as n next
-    = ap (λ t. drop (end_len t) t) after_same ∙ drop_read n (end_len (read_as n after)) after
-    ∙ ap (read_as n) (sym next_is) in
-    first ∙ ap (λ t. line_of t ∷ lines_of (rest_of text)) body_same
-    ∙ ap (λ t. line_of body ∷ lines_of t) rest_same
+    let k = body_len text in
+    let after = drop k rest in
+    lines_first text (rw (length-map rest (read_byte n)) some)
+    ∙ rw (body_plain n rest, drop-map (read_byte n) k rest, drop-map (read_byte n) _ after) refl
 
 -- what the tests of the reader say
 pub not_empty : (n : ℕ) (b : Bool) → b ≡ (n == 0) → b ≡ false → 0 < n

@@ -14,10 +14,15 @@ returns-then-is_empty-clause-steps c =
 
 pub returns-clause-steps : goal.returns-clause-steps
 returns-clause-steps c =
-    rw (← c.self.view_is)
-    (next_line c.self.inside.nul_ends _ _ _ _ _ (not_empty _ _ c.is_empty.ensures c.if-is_empty.false)
-    c.body_len.ensures.value
-    c.split_at.ensures.front c.split_at.ensures.back c.after_end-self-inside.ensures)
+    rw (
+      ← c.self.view_is,
+      c.after_end-self-inside.ensures,
+      c.split_at.ensures.front,
+      c.split_at.ensures.back,
+      c.body_len.ensures.value,
+    )
+    (next_line c.self.inside.nul_ends c.self.inside.rest.now
+    (not_empty _ _ c.is_empty.ensures c.if-is_empty.false))
 
 pub returns-clause-goes : goal.returns-clause-goes
 returns-clause-goes c =
