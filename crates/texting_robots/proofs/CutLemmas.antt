@@ -1,9 +1,13 @@
 -- Each text has one cut, the one that the walk gives.
-use Rattle.std.proofs.Common.{◌≡◌, ◌≢◌, ◌⊎◌, ℕ, zero, suc, inl, inr, List, [], ◌∷◌}
-use Rattle.std.proofs.Common.{◌++◌, All, replicate}
+use Rattle.std.proofs.Common.{◌≡◌, ◌≢◌, ◌⊎◌, ℕ, zero, suc, ◌+◌, ◌<◌, inl, inr, List, [], ◌∷◌}
+use Rattle.std.proofs.Common.{◌++◌, All, replicate, length, get_or, take, drop, append_assoc}
 use Rattle.std.proofs.Common.{sym, refl, ap, ◌∙◌, subst, arith}
+use Rattle.std.specs.List.{AllByRecursion as Each, Contains}
 use Rattle.std.proofs.lemmas.Bool.{cases_eq, ne_eqb}
-use Rattle.std.proofs.lemmas.List.Elements.{All-cons, All-head, All-nil, All-replicate, All-tail}
+use Rattle.std.proofs.lemmas.List.{append-nil, drop_more, get_or_at, length-append, length-replicate}
+use Rattle.std.proofs.lemmas.List.{take-append-drop}
+use Rattle.std.proofs.lemmas.List.Elements.{All-contains, All-from_recursion, All-replicate}
+use Rattle.std.proofs.lemmas.List.Elements.{recursion_from_All}
 use Rattle.texting_robots.specs.Cut.{IsBodyByte, IsCut, IsEnding, Pair, cr, joined, lf}
 use Rattle.texting_robots.specs.Steps.Cut.{before_body, before_byte, before_end, cut}
 
@@ -18,177 +22,176 @@ pub cut_cons : (b : ℕ) (text : List ℕ) → cut (b ∷ text) ≡ before_byte 
 unfolding cut
 cut_cons b text = refl
 
--- ---- a pair in front of a cut
-
-abbrev NoFeed : List ℕ → Type 0
-NoFeed bytes = All (λ byte. byte ≢ lf) bytes
-
--- the first of these pairs, if there is one, has a body that isn't empty
-abbrev BeginWithBody : List Pair → Type 0
-BeginWithBody pairs = (next : Pair) (more : List Pair) → pairs ≡ next ∷ more → next.body ≢ []
-
-record Stands (pair : Pair) (later : List Pair) : Type 0 where
-  body : All IsBodyByte pair.body
-  ending : IsEnding pair.ending
-  last : pair.ending ≡ [] → (later ≡ []) × (pair.body ≢ [])
-  follows : NoFeed pair.ending → BeginWithBody later
-
--- what holds of the first pair and the later ones, and at each split of those, holds at each split
-at_split : (P : Pair → List Pair → Type 0) (pair : Pair) (later : List Pair) → P pair later
-    → ((front back : List Pair) (p : Pair) → later ≡ front ++ p ∷ back → P p back)
-    → (front back : List Pair) (p : Pair) → pair ∷ later ≡ front ++ p ∷ back → P p back
-at_split P pair later here more [] back p e =
-    let first : pair ≡ p = cc in
-    let rest : later ≡ back = cc in
-    subst (λ x. P x back) first (subst (P pair) rest here)
-at_split P pair later here more (x ∷ front) back p e = more front back p cc
-
-put : (pair : Pair) (later : List Pair) (text : List ℕ) → Stands pair later → IsCut later text
-    → IsCut (pair ∷ later) ((pair.body ++ pair.ending) ++ text)
-put pair later text stands is = record {
-  whole = ap (λ t. (pair.body ++ pair.ending) ++ t) is.whole;
-  bodies = All-cons (λ p. All IsBodyByte p.body) pair later stands.body is.bodies;
-  endings = All-cons (λ p. IsEnding p.ending) pair later stands.ending is.endings;
-  empty_ending = at_split (λ p back. p.ending ≡ [] → (back ≡ [])
-      × (p.body ≢ [])) pair later stands.last is.empty_ending;
-  open_ending = λ front back p next e no_feed.
-      at_split (λ q rest. NoFeed q.ending → BeginWithBody rest) pair later stands.follows
-      (λ f b q split none n more is_b. is.open_ending f more q n
-      (split ∙ ap (λ t. f ++ q ∷ t) is_b) none)
-      front (next ∷ back) p e no_feed next back refl;
-}
-
-first_stands : (pair : Pair) (later : List Pair) (text : List ℕ) → IsCut (pair ∷ later) text
-    → Stands pair later
-first_stands pair later text is = record {
-  body = All-head (λ p. All IsBodyByte p.body) pair later is.bodies;
-  ending = All-head (λ p. IsEnding p.ending) pair later is.endings;
-  last = is.empty_ending [] later pair refl;
-  follows = λ no_feed next more e. is.open_ending [] more pair next (ap (λ l. pair ∷ l) e) no_feed;
-}
-
-rest_is_cut : (pair : Pair) (later : List Pair) (text : List ℕ) → IsCut (pair ∷ later) text
-    → IsCut later (joined later)
-rest_is_cut pair later text is = record {
-  whole = refl;
-  bodies = All-tail (λ p. All IsBodyByte p.body) pair later is.bodies;
-  endings = All-tail (λ p. IsEnding p.ending) pair later is.endings;
-  empty_ending = λ front back p e. is.empty_ending (pair ∷ front) back p (ap (λ l. pair ∷ l) e);
-  open_ending = λ front back p next e. is.open_ending (pair ∷ front) back p next (ap (λ l. pair ∷ l) e);
-}
-
--- ---- the walk gives a cut
-
 pub byte_cases : (b : ℕ) → (b ≡ lf) ⊎ ((b ≡ cr) ⊎ IsBodyByte b)
 byte_cases b = elim (cases_eq b lf) [
   | inl feed ↦ inl feed
   | inr no_feed ↦ elim (cases_eq b cr) [
     | inl return ↦ inr (inl return)
-    | inr other ↦ inr
-        (inr (other, no_feed))
+    | inr other ↦ inr (inr (other, no_feed))
   ]
 ]
 
 pub at_other : (b : ℕ) (pairs : List Pair) → IsBodyByte b → before_byte b pairs ≡ before_body b pairs
 at_other b pairs other = rw (ne_eqb b lf other.1, ne_eqb b cr other.0) refl
 
--- an end alone goes before a cut
-end_before : (b : ℕ) (pairs : List Pair) (text : List ℕ) → IsEnding (b ∷ [])
-    → (b ≢ lf → BeginWithBody pairs)
-    → IsCut pairs text → IsCut (pair_of [] (b ∷ []) ∷ pairs) (b ∷ text)
-end_before b pairs text ending follows is = put (pair_of [] (b ∷ [])) pairs text (record {
-  body = All-nil IsBodyByte;
-  ending = ending;
-  last = λ none. cc;
-  follows = λ no_feed. follows (All-head (λ byte. byte ≢ lf) b [] no_feed);
-}) is
+-- ---- a pair before the later ones
 
-nothing_begins : BeginWithBody []
-nothing_begins next more e = cc
+-- the first of these pairs, if there is one, has a body that isn't empty
+abbrev BeginWithBody : List Pair → Type 0
+BeginWithBody [] = Unit {0}
+BeginWithBody (next ∷ more) = next.body ≢ []
 
-return_before : (pairs : List Pair) (text : List ℕ) → IsCut pairs text
-    → IsCut (before_end pairs) (cr ∷ text)
-return_before [] text is = end_before cr [] text (1, inl refl) (λ no_feed. nothing_begins) is
-return_before (pair ∷ later) text is = at pair.body pair.ending is
+-- how a body ends before the later pairs: as the last one, by CRs, or by an LF
+data EndsBy : List ℕ → List ℕ → List Pair → Type 0 where
+  nothing : {b : ℕ} {body : List ℕ} → EndsBy (b ∷ body) [] []
+  returns : {body : List ℕ} {later : List Pair} (k : ℕ) → BeginWithBody later
+      → EndsBy body (replicate (suc k) cr) later
+  feed : {body : List ℕ} {later : List Pair} (k : ℕ) → EndsBy body (replicate k cr ++ lf ∷ []) later
+
+record Stands (pair : Pair) (later : List Pair) : Type 0 where
+  body : Each IsBodyByte pair.body
+  ends : EndsBy pair.body pair.ending later
+
+abbrev AreStanding : List Pair → Type 0
+AreStanding [] = Unit {0}
+AreStanding (pair ∷ later) = Stands pair later × AreStanding later
+
+-- ---- pairs that stand so are a cut
+
+stands_at : (pairs : List Pair) → AreStanding pairs
+    → (front back : List Pair) (pair : Pair) → pairs ≡ front ++ pair ∷ back → Stands pair back
+stands_at [] are [] back pair e = cc
+stands_at [] are (x ∷ front) back pair e = cc
+stands_at (first ∷ later) are [] back pair e =
+    let here : first ≡ pair = cc in
+    let rest : later ≡ back = cc in
+    subst (λ p. Stands p back) here (subst (Stands first) rest are.0)
+stands_at (first ∷ later) are (x ∷ front) back pair e = stands_at later are.1 front back pair cc
+
+is_ending : {body ending : List ℕ} {later : List Pair} → EndsBy body ending later → IsEnding ending
+is_ending nothing = (0, inl refl)
+is_ending (returns k begin) = (suc k, inl refl)
+is_ending (feed k) = (k, inr refl)
+
+is_last : {body ending : List ℕ} {later : List Pair} → EndsBy body ending later → ending ≡ []
+    → (later ≡ []) × (body ≢ [])
+is_last nothing none = (refl, λ e. cc)
+is_last (returns k begin) none = cc
+is_last (feed zero) none = cc
+is_last (feed (suc k)) none = cc
+
+goes_on : {body ending : List ℕ} {next : Pair} {back : List Pair} → EndsBy body ending (next ∷ back)
+    → All (λ byte. byte ≢ lf) ending → next.body ≢ []
+goes_on (returns k begin) none = begin
+goes_on (feed k) none = absurd (none k 0 (simp (length-append, length-replicate) (omega arith))
+    (get_or_at (replicate k cr) lf [] 0 k (length-replicate k cr)))
+
+standing_cut : (pairs : List Pair) → AreStanding pairs → IsCut pairs (joined pairs)
+standing_cut pairs are =
+    let at = λ (k : ℕ) (d : Pair) (below : k < length pairs).
+    stands_at pairs are (take k pairs) (drop (k + 1) pairs) (get_or pairs k d)
+    (sym (take-append-drop k pairs) ∙ ap (λ t. take k pairs ++ t) (drop_more pairs k d below)) in
+    record {
+      whole = refl;
+      bodies = λ k d below. All-from_recursion IsBodyByte (get_or pairs k d).body (at k d below).body;
+      endings = λ k d below. is_ending (at k d below).ends;
+      empty_ending = λ front back pair e. is_last (stands_at pairs are front back pair e).ends;
+      open_ending = λ front back pair next e. goes_on (stands_at pairs are front (next ∷ back) pair e).ends;
+    }
+
+-- ---- and the pairs of a cut stand so
+
+are_standing : (pairs : List Pair)
+    → ((front back : List Pair) (pair : Pair) → pairs ≡ front ++ pair ∷ back → Stands pair back)
+    → AreStanding pairs
+are_standing [] at = tt
+are_standing (pair ∷ later) at = (
+  at [] later pair refl,
+  are_standing later (λ front back p e. at (pair ∷ front) back p (ap (λ l. pair ∷ l) e)),
+)
+
+ends_by : (body ending : List ℕ) (later : List Pair) → IsEnding ending
+    → (ending ≡ [] → (later ≡ []) × (body ≢ []))
+    → (All (λ byte. byte ≢ lf) ending → BeginWithBody later) → EndsBy body ending later
+ends_by [] ending later (zero, inl e) last begin = absurd ((last e).1 refl)
+ends_by (b ∷ body) ending later (zero, inl e) last begin = rw (e, (last e).0) nothing
+ends_by body ending later (suc k, inl e) last begin =
+    rw e (returns k (begin (rw e (All-replicate (λ byte. byte ≢ lf) (suc k) cr (λ is. omega arith)))))
+ends_by body ending later (k, inr e) last begin = rw e (feed k)
+
+module _ (pairs : List Pair) (text : List ℕ) (is : IsCut pairs text) where
+  begins : (front back : List Pair) (pair : Pair) → pairs ≡ front ++ pair ∷ back
+      → All (λ byte. byte ≢ lf) pair.ending → BeginWithBody back
+  begins front [] pair e none = tt
+  begins front (next ∷ back) pair e none = is.open_ending front back pair next e none
+
+  cut_stands : AreStanding pairs
+  cut_stands = are_standing pairs (λ front back pair e.
+      let there : Contains pairs pair = rw e
+      (length front, simp length-append (omega arith), get_or_at front pair back pair (length front) refl) in
+      record {
+        body = recursion_from_All IsBodyByte pair.body
+            (All-contains (λ p. All IsBodyByte p.body) pairs pair is.bodies there);
+        ends = ends_by pair.body pair.ending back
+            (All-contains (λ p. IsEnding p.ending) pairs pair is.endings there)
+            (is.empty_ending front back pair e) (begins front back pair e);
+      })
+
+-- ---- the walk gives a cut
+
+-- these pairs stand, and are the others with one byte in front
+abbrev Adds : ℕ → List Pair → List Pair → Type 0
+Adds b pairs more = AreStanding more × (joined more ≡ b ∷ joined pairs)
+
+return_adds : (pairs : List Pair) → AreStanding pairs → Adds cr pairs (before_end pairs)
+return_adds [] are = ((record { body = tt; ends = returns 0 tt }, tt), refl)
+return_adds (pair ∷ later) are = at pair.body pair.ending are
   where
-    longer : (ending : List ℕ) → IsEnding ending → IsEnding (cr ∷ ending)
-    longer ending (k, inl e) = (suc k, inl (ap (λ t. cr ∷ t) e))
-    longer ending (k, inr e) = (suc k, inr (ap (λ t. cr ∷ t) e))
+    longer : {ending : List ℕ} → EndsBy [] ending later → EndsBy [] (cr ∷ ending) later
+    longer (returns k begin) = returns (suc k) begin
+    longer (feed k) = feed (suc k)
 
-    at : (body ending : List ℕ) → IsCut (pair_of body ending ∷ later) text
-        → IsCut (before_end (pair_of body ending ∷ later)) (cr ∷ text)
-    at [] ending is =
-        let first = first_stands (pair_of [] ending) later text is in
-        subst (λ t. IsCut (pair_of [] (cr ∷ ending) ∷ later) (cr ∷ t)) is.whole
-        (put (pair_of [] (cr ∷ ending)) later (joined later) (record {
-          body = first.body;
-          ending = longer ending first.ending;
-          last = λ none. cc;
-          follows = λ no_feed. first.follows (All-tail (λ byte. byte ≢ lf) cr ending no_feed);
-        }) (rest_is_cut (pair_of [] ending) later text is))
-    at (b ∷ body) ending is =
-        end_before cr (pair_of (b ∷ body) ending ∷ later) text (1, inl refl)
-        (λ no_feed next more e none. let same : pair_of (b ∷ body) ending ≡ next = cc in
-        let here : b ∷ body ≡ [] = ap (λ (p : Pair). p.body) same ∙ none in cc) is
+    at : (body ending : List ℕ) → AreStanding (pair_of body ending ∷ later)
+        → Adds cr (pair_of body ending ∷ later) (before_end (pair_of body ending ∷ later))
+    at [] ending are = ((record { body = tt; ends = longer are.0.ends }, are.1), refl)
+    at (b ∷ body) ending are = ((record { body = tt; ends = returns 0 (λ e. cc) }, are), refl)
 
-byte_before : (b : ℕ) (pairs : List Pair) (text : List ℕ) → IsBodyByte b → IsCut pairs text
-    → IsCut (before_body b pairs) (b ∷ text)
-byte_before b [] text other is = put (pair_of (b ∷ []) []) [] text (record {
-  body = All-cons IsBodyByte b [] other (All-nil IsBodyByte);
-  ending = (0, inl refl);
-  last = λ none. (refl, λ e. cc);
-  follows = λ no_feed. nothing_begins;
-}) is
-byte_before b (pair ∷ later) text other is =
-    let first = first_stands pair later text is in
-    subst (λ t. IsCut (pair_of (b ∷ pair.body) pair.ending ∷ later) (b ∷ t)) is.whole
-    (put (pair_of (b ∷ pair.body) pair.ending) later (joined later) (record {
-      body = All-cons IsBodyByte b pair.body other first.body;
-      ending = first.ending;
-      last = λ none. ((first.last none).0, λ e. cc);
-      follows = first.follows;
-    }) (rest_is_cut pair later text is))
+longer : {b : ℕ} {body ending : List ℕ} {later : List Pair} → EndsBy body ending later
+    → EndsBy (b ∷ body) ending later
+longer nothing = nothing
+longer (returns k begin) = returns k begin
+longer (feed k) = feed k
+
+body_adds : (b : ℕ) (pairs : List Pair) → IsBodyByte b → AreStanding pairs
+    → Adds b pairs (before_body b pairs)
+body_adds b [] other are = ((record { body = (other, tt); ends = nothing }, tt), refl)
+body_adds b (pair ∷ later) other are =
+    ((record { body = (other, are.0.body); ends = longer are.0.ends }, are.1), refl)
+
+byte_adds : (b : ℕ) (pairs : List Pair) → AreStanding pairs → Adds b pairs (before_byte b pairs)
+byte_adds b pairs are = elim (byte_cases b) [
+  | inl is ↦ rw is ((record { body = tt; ends = feed 0 }, are), refl)
+  | inr (inl return) ↦ rw return (return_adds pairs are)
+  | inr (inr other) ↦ rw (at_other b pairs other) (body_adds b pairs other are)
+]
+
+walked : (text : List ℕ) → AreStanding (cut text) × (joined (cut text) ≡ text)
+walked [] = rw cut_nil (tt, refl)
+walked (b ∷ text) =
+    let (are, whole) = walked text in
+    let (more, adds) = byte_adds b (cut text) are in
+    rw cut_cons (more, adds ∙ ap (λ t. b ∷ t) whole)
 
 pub is_cut : (text : List ℕ) → IsCut (cut text) text
-is_cut [] = rw cut_nil (record {
-  whole = refl;
-  bodies = All-nil (λ p. All IsBodyByte p.body);
-  endings = All-nil (λ p. IsEnding p.ending);
-  empty_ending = λ front back p e. absurd (no_split front (p ∷ back) (λ none. cc) e);
-  open_ending = λ front back p next e. absurd (no_split front (p ∷ next ∷ back) (λ none. cc) e);
-})
-  where
-    no_split : (front back : List Pair) → back ≢ [] → [] ≡ front ++ back → ⊥
-    no_split [] back some e = some (sym e)
-    no_split (p ∷ front) back some e = cc
-is_cut (b ∷ text) = rw cut_cons (elim (byte_cases b) [
-  | inl feed ↦ rw feed (end_before lf (cut text) text (0, inr refl) (λ no_feed. absurd (no_feed refl))
-      (is_cut text))
-  | inr (inl return) ↦ rw return (return_before (cut text) text (is_cut text))
-  | inr (inr other) ↦ rw (at_other b (cut text) other) (byte_before b (cut text) text other (is_cut text))
-])
+is_cut text = let (are, whole) = walked text in subst (IsCut (cut text)) whole (standing_cut (cut text) are)
 
 -- ---- each cut is what the walk gives
-
--- the walk over more bytes in front
-abbrev before : List ℕ → List Pair → List Pair
-before [] pairs = pairs
-before (b ∷ bytes) pairs = before_byte b (before bytes pairs)
-
-cut-append : (bytes text : List ℕ) → cut (bytes ++ text) ≡ before bytes (cut text)
-cut-append [] text = refl
-cut-append (b ∷ bytes) text = cut_cons b (bytes ++ text) ∙ ap (before_byte b) (cut-append bytes text)
-
-before-append : (front back : List ℕ) (pairs : List Pair)
-    → before (front ++ back) pairs ≡ before front (before back pairs)
-before-append [] back pairs = refl
-before-append (b ∷ front) back pairs = ap (before_byte b) (before-append front back pairs)
 
 -- a CR is an end by itself where no empty body follows
 lone_return : (pairs : List Pair) → BeginWithBody pairs
     → before_end pairs ≡ pair_of [] (cr ∷ []) ∷ pairs
 lone_return [] begin = refl
-lone_return (pair ∷ later) begin = at pair.body pair.ending (begin pair later refl)
+lone_return (pair ∷ later) begin = at pair.body pair.ending begin
   where
     at : (body ending : List ℕ) → body ≢ []
         → before_end (pair_of body ending ∷ later)
@@ -196,56 +199,44 @@ lone_return (pair ∷ later) begin = at pair.body pair.ending (begin pair later 
     at [] ending some = absurd (some refl)
     at (b ∷ body) ending some = refl
 
-open_end : (k : ℕ) (pairs : List Pair) → BeginWithBody pairs
-    → before (replicate (suc k) cr) pairs ≡ pair_of [] (replicate (suc k) cr) ∷ pairs
-open_end zero pairs begin = lone_return pairs begin
-open_end (suc k) pairs begin = ap before_end (open_end k pairs begin)
+returns_cut : (k : ℕ) (text : List ℕ) → BeginWithBody (cut text)
+    → cut (replicate (suc k) cr ++ text) ≡ pair_of [] (replicate (suc k) cr) ∷ cut text
+returns_cut zero text begin = cut_cons cr text ∙ lone_return (cut text) begin
+returns_cut (suc k) text begin = cut_cons cr _ ∙ ap before_end (returns_cut k text begin)
 
-feed_end : (k : ℕ) (pairs : List Pair)
-    → before (replicate k cr ++ lf ∷ []) pairs ≡ pair_of [] (replicate k cr ++ lf ∷ []) ∷ pairs
-feed_end zero pairs = refl
-feed_end (suc k) pairs = ap before_end (feed_end k pairs)
+feed_cut : (k : ℕ) (text : List ℕ)
+    → cut ((replicate k cr ++ lf ∷ []) ++ text) ≡ pair_of [] (replicate k cr ++ lf ∷ []) ∷ cut text
+feed_cut zero text = cut_cons lf text
+feed_cut (suc k) text = cut_cons cr _ ∙ ap before_end (feed_cut k text)
 
-body_end : (body ending : List ℕ) (pairs : List Pair) → All IsBodyByte body
-    → before body (pair_of [] ending ∷ pairs) ≡ pair_of body ending ∷ pairs
-body_end [] ending pairs all = refl
-body_end (b ∷ body) ending pairs all =
-    ap (before_byte b) (body_end body ending pairs (All-tail IsBodyByte b body all))
-    ∙ at_other b (pair_of body ending ∷ pairs) (All-head IsBodyByte b body all)
+body_cut : {ending : List ℕ} {later : List Pair} (body text : List ℕ) → Each IsBodyByte body
+    → cut text ≡ pair_of [] ending ∷ later → cut (body ++ text) ≡ pair_of body ending ∷ later
+body_cut [] text all e = e
+body_cut (b ∷ body) text all e =
+    cut_cons b (body ++ text) ∙ ap (before_byte b) (body_cut body text all.1 e) ∙ at_other b _ all.0
 
-last_body : (body : List ℕ) → body ≢ [] → All IsBodyByte body
-    → before body [] ≡ pair_of body [] ∷ []
-last_body [] some all = absurd (some refl)
-last_body (b ∷ []) some all = at_other b [] (All-head IsBodyByte b [] all)
-last_body (b ∷ c ∷ body) some all =
-    ap (before_byte b) (last_body (c ∷ body) (λ e. cc) (All-tail IsBodyByte b (c ∷ body) all))
-    ∙ at_other b (pair_of (c ∷ body) [] ∷ []) (All-head IsBodyByte b (c ∷ body) all)
+last_cut : (b : ℕ) (body : List ℕ) → Each IsBodyByte (b ∷ body)
+    → cut (b ∷ body) ≡ pair_of (b ∷ body) [] ∷ []
+last_cut b [] all = cut_cons b [] ∙ at_other b _ all.0 ∙ ap (before_body b) cut_nil
+last_cut b (c ∷ body) all =
+    cut_cons b (c ∷ body) ∙ ap (before_byte b) (last_cut c body all.1) ∙ at_other b _ all.0
 
-pair_again : (pair : Pair) (later : List Pair) → Stands pair later → IsEnding pair.ending
-    → before pair.body (before pair.ending later) ≡ pair ∷ later
-pair_again pair later stands (zero, inl none) =
-    let last = stands.last none in
-    rw (none, last.0) (last_body pair.body last.1 stands.body)
-pair_again pair later stands (suc k, inl e) =
-    let begin = stands.follows (subst NoFeed (sym e)
-    (All-replicate (λ byte. byte ≢ lf) (suc k) cr (λ is. omega arith))) in
-    rw e (ap (before pair.body) (open_end k later begin)
-    ∙ body_end pair.body (replicate (suc k) cr) later stands.body)
-pair_again pair later stands (k, inr e) =
-    rw e (ap (before pair.body) (feed_end k later)
-    ∙ body_end pair.body (replicate k cr ++ lf ∷ []) later stands.body)
+pair_cut : {body ending : List ℕ} {later : List Pair} (text : List ℕ) → Each IsBodyByte body
+    → EndsBy body ending later → joined later ≡ text → cut text ≡ later
+    → cut (body ++ (ending ++ text)) ≡ pair_of body ending ∷ later
+pair_cut text all (nothing {b} {body}) none same =
+    ap (λ t. cut ((b ∷ body) ++ t)) (sym none) ∙ ap cut (append-nil (b ∷ body)) ∙ last_cut b body all
+pair_cut {body} text all (returns k begin) whole same =
+    rw (sym same) (body_cut body _ all (returns_cut k text (rw same begin)))
+pair_cut {body} text all (feed k) whole same = rw (sym same) (body_cut body _ all (feed_cut k text))
 
-cut_joined : (pairs : List Pair) → IsCut pairs (joined pairs) → cut (joined pairs) ≡ pairs
-cut_joined [] is = cut_nil
-cut_joined (pair ∷ later) is =
-    let stands = first_stands pair later (joined (pair ∷ later)) is in
-    cut-append (pair.body ++ pair.ending) (joined later)
-    ∙ ap (before (pair.body ++ pair.ending))
-    (cut_joined later (rest_is_cut pair later (joined (pair ∷ later)) is))
-    ∙ before-append pair.body pair.ending later ∙ pair_again pair later stands stands.ending
+joined_cut : (pairs : List Pair) → AreStanding pairs → cut (joined pairs) ≡ pairs
+joined_cut [] are = cut_nil
+joined_cut (pair ∷ later) are = ap cut (append_assoc pair.body pair.ending (joined later))
+    ∙ pair_cut (joined later) are.0.body are.0.ends refl (joined_cut later are.1)
 
 pub only_cut : (text : List ℕ) (pairs : List Pair) → IsCut pairs text → pairs ≡ cut text
-only_cut text pairs is = sym (cut_joined pairs (subst (IsCut pairs) (sym is.whole) is)) ∙ ap cut is.whole
+only_cut text pairs is = sym (joined_cut pairs (cut_stands pairs text is)) ∙ ap cut is.whole
 
 pub each_text_has_one_cut : (text : List ℕ)
     → IsCut (cut text) text × ((pairs : List Pair) → IsCut pairs text → pairs ≡ cut text)
