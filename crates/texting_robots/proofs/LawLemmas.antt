@@ -6,8 +6,10 @@ use Rattle.std.specs.List.{Any, cons_option, filter_map, list_any}
 use Rattle.std.specs.Option.{option_or}
 use Rattle.std.specs.Str.{str_to_ascii_lowercase}
 use Rattle.std.proofs.lemmas.Bool.{cases_Bool, false≢true, false_from_ne_true}
+use Rattle.std.proofs.lemmas.List.Elements.{filter_map-append}
+use Rattle.std.proofs.lemmas.List.Folds.{list_any-append}
 use Rattle.texting_robots.specs.declared.groups.Walk.{Walk}
-use Rattle.texting_robots.specs.Line.{LineValue, UserAgent, Allow, Disallow, Sitemap, CrawlDelay, Raw}
+use Rattle.texting_robots.specs.Line.{LineValue, Allow, Disallow, Sitemap, CrawlDelay, Raw}
 use Rattle.texting_robots.specs.Line.{delay_in, is_raw, is_sitemap}
 use Rattle.texting_robots.specs.Group.{group_name, is_agent}
 use Rattle.texting_robots.specs.Group.{is_agent_named, is_group}
@@ -23,111 +25,26 @@ use Rattle.texting_robots.proofs.RulesLemmas.{before_agent, before_agents}
 use Rattle.texting_robots.proofs.CapturedLemmas.{only_agents, rules_are, stands_first, stands_next}
 use Rattle.texting_robots.specs.Group.{IsCaptured}
 
--- ---- lines that play no part, and lines that differ in their value alone
+-- ---- what the walk reaches, whatever the lines' places are
 
-pub record IsNeutral (line : LineValue) : Type 0 where
-  pub agent : is_agent line ≡ false
-  pub group : is_group line ≡ false
+abbrev pub reached : {X : Type 0} → (LineValue → Option X) → List ℕ → Walk → List LineValue → List X
+reached given name walk [] = []
+reached given name walk (line ∷ lines) =
+    cons_option (cond walk.captured (given line) None) (reached given name (step name walk line) lines)
 
-no_rule : (line : LineValue) → is_group line ≡ false → rule_in line ≡ None
-no_rule (UserAgent value) isnt = refl
-no_rule (Sitemap value) isnt = refl
-no_rule (Raw body) isnt = refl
-no_rule (Allow value) isnt = absurd (false≢true (sym isnt))
-no_rule (Disallow value) isnt = absurd (false≢true (sym isnt))
-no_rule (CrawlDelay delay) isnt = refl
+caught_reached : {X : Type 0} (given : LineValue → Option X) (name : List ℕ) (walk : Walk) (place : ℕ)
+    (lines : List LineValue) → caught given name walk place lines ≡ reached given name walk lines
+caught_reached given name walk place [] = refl
+caught_reached given name walk place (line ∷ lines) =
+    ap (cons_option (cond walk.captured (given line) None))
+    (caught_reached given name (step name walk line) (place + 1) lines)
 
-no_delay : (line : LineValue) → is_group line ≡ false → delay_in line ≡ None
-no_delay (CrawlDelay delay) isnt = absurd (false≢true (sym isnt))
-no_delay _ isnt = refl
+-- from the start it reaches what the captured lines give
+pub all_reached : {X : Type 0} (given : LineValue → Option X) (name : List ℕ) (lines : List LineValue)
+    → from_captured given name lines ≡ reached given name (start_of lines) lines
+all_reached given name lines = caught_all given name lines ∙ caught_reached given name (start_of lines) 0 lines
 
-neutral_step : (name : List ℕ) (walk : Walk) (line : LineValue) → IsNeutral line
-    → step name walk line ≡ walk
-neutral_step name walk line is = rw (is.agent, is.group, only_agents name line is.agent) refl
-
-record IsAlike (line other : LineValue) : Type 0 where
-  agent : is_agent line ≡ is_agent other
-  named : (name : List ℕ) → is_agent_named name line ≡ is_agent_named name other
-  group : is_group line ≡ is_group other
-  delay : delay_in line ≡ delay_in other
-  sitemap : sitemap_in line ≡ sitemap_in other
-
-alike_step : (name : List ℕ) (walk : Walk) (line other : LineValue) → IsAlike line other
-    → step name walk line ≡ step name walk other
-alike_step name walk line other is = rw (is.agent, is.named name, is.group) refl
-
--- from a walk on, the lines give the same as the others: lines that play no part are left out, and one that
--- isn't captured may have another value
-data IsLike : List ℕ → Walk → List LineValue → List LineValue → Type 0 where
-  none : {name : List ℕ} {walk : Walk} → IsLike name walk [] []
-  both : {name : List ℕ} {walk : Walk} {lines others : List LineValue} (line : LineValue)
-      → IsLike name (step name walk line) lines others
-      → IsLike name walk (line ∷ lines) (line ∷ others)
-  left_out : {name : List ℕ} {walk : Walk} {lines others : List LineValue} (line : LineValue)
-      → IsNeutral line
-      → IsLike name walk lines others → IsLike name walk (line ∷ lines) others
-  turned : {name : List ℕ} {walk : Walk} {lines others : List LineValue} (line other : LineValue)
-      → IsAlike line other → walk.captured ≡ false → IsLike name (step name walk line) lines others
-      → IsLike name walk (line ∷ lines) (other ∷ others)
-
-itself : (name : List ℕ) (walk : Walk) (lines : List LineValue) → IsLike name walk lines lines
-itself name walk [] = none
-itself name walk (line ∷ lines) = both line (itself name (step name walk line) lines)
-
--- ---- what lists that are alike give
-
-cond_same : {X : Type 0} (b : Bool) (x : X) → cond b x x ≡ x
-cond_same true x = refl
-cond_same false x = refl
-
-uncaught : {X : Type 0} (captured : Bool) (a b : Option X) (xs ys : List X)
-    → captured ≡ false → xs ≡ ys
-    → cons_option (cond captured a None) xs ≡ cons_option (cond captured b None) ys
-uncaught captured a b xs ys free same = rw free same
-
-any_like : {name : List ℕ} {walk : Walk} {lines others : List LineValue} (test : LineValue → Bool)
-    → ((line : LineValue) → IsNeutral line → test line ≡ false)
-    → ((line other : LineValue) → IsAlike line other → test line ≡ test other)
-    → IsLike name walk lines others → list_any test lines ≡ list_any test others
-any_like test drops same none = refl
-any_like test drops same (both line like) = ap (λ b. test line || b) (any_like test drops same like)
-any_like test drops same (left_out line neutral like) =
-    rw (drops line neutral) (any_like test drops same like)
-any_like test drops same (turned line other alike captured like) =
-    rw (same line other alike) (ap (λ b. test other || b) (any_like test drops same like))
-
-caught_like : {X : Type 0} {name : List ℕ} {walk : Walk} {lines others : List LineValue}
-    (given : LineValue → Option X)
-    → ((line : LineValue) → IsNeutral line → given line ≡ None) → (p q : ℕ)
-    → IsLike name walk lines others
-    → caught given name walk p lines ≡ caught given name walk q others
-caught_like given drops p q none = refl
-caught_like {walk = walk} given drops p q (both line like) =
-    ap (λ found. cons_option (cond walk.captured (given line) None) found)
-    (caught_like given drops (p + 1) (q + 1) like)
-caught_like {X = X} {name = name} {walk = walk} given drops p q (left_out line neutral like) =
-    rw (drops line neutral, cond_same {X = Option X} walk.captured None, neutral_step name walk line neutral)
-    (caught_like given drops (p + 1) q like)
-caught_like {name = name} {walk = walk} {others = _ ∷ others} given drops p q
-    (turned line other alike free like) =
-    let later = λ (w : Walk). caught given name w (q + 1) others in
-    uncaught walk.captured (given line) (given other) _ _ free
-    (caught_like given drops (p + 1) (q + 1) like ∙ ap later (alike_step name walk line other alike))
-
-before_like : {name : List ℕ} {walk : Walk} {lines others : List LineValue}
-    → IsLike name walk lines others
-    → filter_map delay_in (before_agent lines) ≡ filter_map delay_in (before_agent others)
-before_like none = refl
-before_like (both line like) = elim (cases_Bool (is_agent line)) [
-  | inl agent ↦ rw agent refl
-  | inr other ↦ rw other (ap (λ found. cons_option (delay_in line) found) (before_like like))
-]
-before_like (left_out line neutral like) = rw (neutral.agent, no_delay line neutral.group) (before_like like)
-before_like (turned line other alike captured like) = elim (cases_Bool (is_agent other)) [
-  | inl agent ↦ rw (alike.agent, agent) refl
-  | inr isnt ↦ rw (alike.agent, isnt, alike.delay)
-      (ap (λ found. cons_option (delay_in other) found) (before_like like))
-]
+-- ---- lists that give the same
 
 along : {X : Type 0} (P : X → Type 0) (x y : X) → x ≡ y → P x ↔ P y
 along P x y e = (subst P e, subst P (sym e))
@@ -142,99 +59,129 @@ same_from agent lines other others rules delay = record {
   refusal = along (λ (r : List Rule). Any (λ (rule : Rule). IsOverlong rule.0) r) _ _ rules;
 }
 
-module _ (agent : List ℕ) (lines others : List LineValue)
-    (like : IsLike (group_name agent lines) (start_of lines) lines others) where
-  agents_like : list_any is_agent lines ≡ list_any is_agent others
-  agents_like = any_like is_agent (λ line is. is.agent) (λ line other is. is.agent) like
+-- the same agents are named, and the walk reaches the same
+record AreAlike (agent : List ℕ) (lines others : List LineValue) : Type 0 where
+  agents : list_any is_agent lines ≡ list_any is_agent others
+  named : (name : List ℕ) → list_any (is_agent_named name) lines ≡ list_any (is_agent_named name) others
+  rules : reached rule_in (group_name agent lines) (start_of lines) lines
+      ≡ reached rule_in (group_name agent lines) (start_of lines) others
+  delays : reached delay_in (group_name agent lines) (start_of lines) lines
+      ≡ reached delay_in (group_name agent lines) (start_of lines) others
+  before : filter_map delay_in (before_agent lines) ≡ filter_map delay_in (before_agent others)
 
-  name_like : group_name agent lines ≡ group_name agent others
-  name_like =
-      let low = str_to_ascii_lowercase agent in
-      ap (λ b. cond b low (codes "*"))
-      (any_like (is_agent_named low) (λ line is. only_agents low line is.agent)
-      (λ line other is. is.named low) like)
-
-  captured_like : {X : Type 0} (given : LineValue → Option X)
-      → ((line : LineValue) → IsNeutral line → given line ≡ None)
-      → from_captured given (group_name agent lines) lines ≡ from_captured given
-      (group_name agent others) others
-  captured_like given drops =
-      let name = group_name agent lines in
-      let start : start_of lines ≡ start_of others =
-      ap (λ b. let walk : Walk = record { captured = not b; named = false } in walk) agents_like in
-      caught_all given name lines ∙ caught_like given drops 0 0 like
-      ∙ ap (λ walk. caught given name walk 0 others) start ∙ sym (caught_all given name others)
-      ∙ ap (λ n. from_captured given n others) name_like
-
-  same_like : SameButSitemaps agent lines agent others
-  same_like =
-      let rules = captured_like rule_in (λ line is. no_rule line is.group) in
-      let delays = captured_like delay_in (λ line is. no_delay line is.group) in
-      same_from agent lines agent others
-      (rules_are agent lines ∙ rules ∙ sym (rules_are agent others))
-      (rw (
-        delays_marked agent lines,
-        delays_marked agent others,
-        delays,
-        before_agents lines,
-        before_agents others,
-        before_like like,
-        agents_like,
-      ) refl)
+same_alike : (agent : List ℕ) (lines others : List LineValue) → AreAlike agent lines others
+    → SameButSitemaps agent lines agent others
+same_alike agent lines others are = same_from agent lines agent others
+    (rules_are agent lines ∙ found rule_in are.rules ∙ sym (rules_are agent others))
+    (rw (
+      delays_marked agent lines,
+      delays_marked agent others,
+      found delay_in are.delays,
+      before_agents lines,
+      before_agents others,
+      are.before,
+      are.agents,
+    ) refl)
+  where
+    found : {X : Type 0} (given : LineValue → Option X)
+        → reached given (group_name agent lines) (start_of lines) lines
+        ≡ reached given (group_name agent lines) (start_of lines) others
+        → from_captured given (group_name agent lines) lines
+        ≡ from_captured given (group_name agent others) others
+    found given same =
+        let low = str_to_ascii_lowercase agent in
+        let name : group_name agent lines ≡ group_name agent others =
+        ap (λ b. cond b low (codes "*")) (are.named low) in
+        let start : start_of lines ≡ start_of others =
+        ap (λ b. let walk : Walk = record { captured = not b; named = false } in walk) are.agents in
+        all_reached given _ lines ∙ same ∙ sym (all_reached given _ others ∙ rw (name, start) refl)
 
 -- ---- lines that are left out
 
-kept_like : (keep : LineValue → Bool) → ((line : LineValue) → keep line ≡ false → IsNeutral line)
-    → (name : List ℕ) (walk : Walk) (lines : List LineValue)
-    → IsLike name walk lines (filter keep lines)
-kept_like keep neutral name walk [] = none
-kept_like keep neutral name walk (line ∷ lines) = elim (cases_Bool (keep line)) [
-  | inl keeps ↦ rw keeps (both line (kept_like keep neutral name (step name walk line) lines))
-  | inr dropped ↦ rw dropped (left_out line (neutral line dropped) (kept_like keep neutral name walk lines))
-]
+pub record IsNeutral (line : LineValue) : Type 0 where
+  pub agent : is_agent line ≡ false
+  pub group : is_group line ≡ false
+
+no_rule : (line : LineValue) → is_group line ≡ false → rule_in line ≡ None
+no_rule (Allow value) isnt = absurd (false≢true (sym isnt))
+no_rule (Disallow value) isnt = absurd (false≢true (sym isnt))
+no_rule _ isnt = refl
+
+no_delay : (line : LineValue) → is_group line ≡ false → delay_in line ≡ None
+no_delay (CrawlDelay delay) isnt = absurd (false≢true (sym isnt))
+no_delay _ isnt = refl
 
 found_kept : {X : Type 0} (given : LineValue → Option X) (keep : LineValue → Bool)
     → ((line : LineValue) → keep line ≡ false → given line ≡ None) → (lines : List LineValue)
     → filter_map given lines ≡ filter_map given (filter keep lines)
 found_kept given keep drops [] = refl
 found_kept given keep drops (line ∷ lines) = elim (cases_Bool (keep line)) [
-  | inl keeps ↦ rw keeps (ap (λ found. cons_option (given line) found) (found_kept given keep drops lines))
+  | inl keeps ↦ rw keeps (ap (cons_option (given line)) (found_kept given keep drops lines))
   | inr dropped ↦ rw (dropped, drops line dropped) (found_kept given keep drops lines)
 ]
 
-turned_around : (agent : List ℕ) (lines others : List LineValue)
-    → SameButSitemaps agent lines agent others
-    → SameButSitemaps agent others agent lines
-turned_around agent lines others same = same_from agent others agent lines (sym same.rules) (sym same.delay)
+module _ (keep : LineValue → Bool) (neutral : (line : LineValue) → keep line ≡ false → IsNeutral line) where
+  any_kept : (test : LineValue → Bool) → ((line : LineValue) → is_agent line ≡ false → test line ≡ false)
+      → (lines : List LineValue) → list_any test lines ≡ list_any test (filter keep lines)
+  any_kept test drops [] = refl
+  any_kept test drops (line ∷ lines) = elim (cases_Bool (keep line)) [
+    | inl keeps ↦ rw keeps (ap (λ b. test line || b) (any_kept test drops lines))
+    | inr dropped ↦ rw (dropped, drops line (neutral line dropped).agent) (any_kept test drops lines)
+  ]
 
-both_ways : (agent : List ℕ) (lines between others : List LineValue)
-    → SameButSitemaps agent lines agent between
-    → SameButSitemaps agent between agent others → SameButSitemaps agent lines agent others
-both_ways agent lines between others one two =
-    same_from agent lines agent others (one.rules ∙ two.rules) (one.delay ∙ two.delay)
+  reached_kept : {X : Type 0} (given : LineValue → Option X)
+      → ((line : LineValue) → is_group line ≡ false → given line ≡ None)
+      → (name : List ℕ) (walk : Walk) (lines : List LineValue)
+      → reached given name walk lines ≡ reached given name walk (filter keep lines)
+  reached_kept given drops name walk [] = refl
+  reached_kept {X} given drops name walk (line ∷ lines) = elim (cases_Bool (keep line)) [
+    | inl keeps ↦ rw keeps (ap (cons_option (cond walk.captured (given line) None))
+        (reached_kept given drops name (step name walk line) lines))
+    | inr dropped ↦
+        let is = neutral line dropped in
+        rw (dropped, drops line is.group, nothing walk.captured, is.agent, is.group,
+        only_agents name line is.agent) (reached_kept given drops name walk lines)
+  ]
+    where
+      nothing : (b : Bool) → ◌≡◌ {A = Option X} (cond b None None) None
+      nothing true = refl
+      nothing false = refl
 
-pub same_filtered : (keep : LineValue → Bool)
-    → ((line : LineValue) → keep line ≡ false → IsNeutral line)
-    → (agent : List ℕ) (lines : List LineValue) → SameButSitemaps agent lines agent (filter keep lines)
-same_filtered keep neutral agent lines =
-    same_like agent lines (filter keep lines) (kept_like keep neutral _ _ lines)
+  before_kept : (lines : List LineValue)
+      → filter_map delay_in (before_agent lines) ≡ filter_map delay_in (before_agent (filter keep lines))
+  before_kept [] = refl
+  before_kept (line ∷ lines) = elim (cases_Bool (keep line)) [
+    | inl keeps ↦ rw keeps (elim (cases_Bool (is_agent line)) [
+      | inl agent ↦ rw agent refl
+      | inr other ↦ rw other (ap (cons_option (delay_in line)) (before_kept lines))
+    ])
+    | inr dropped ↦
+        let is = neutral line dropped in
+        rw (dropped, is.agent, no_delay line is.group) (before_kept lines)
+  ]
 
-same_kept : (keep : LineValue → Bool) → ((line : LineValue) → keep line ≡ false → IsNeutral line)
-    → (agent : List ℕ)
-    (lines others : List LineValue) → filter keep lines ≡ filter keep others
-    → SameButSitemaps agent lines agent others
-same_kept keep neutral agent lines others same =
-    let left = same_filtered keep neutral agent in
-    both_ways agent lines (filter keep lines) others (left lines)
-    (rw same (turned_around agent others (filter keep others) (left others)))
+  pub same_filtered : (agent : List ℕ) (lines : List LineValue)
+      → SameButSitemaps agent lines agent (filter keep lines)
+  same_filtered agent lines = same_alike agent lines (filter keep lines) (record {
+    agents = any_kept is_agent (λ line is. is) lines;
+    named = λ name. any_kept (is_agent_named name) (only_agents name) lines;
+    rules = reached_kept rule_in no_rule _ _ lines;
+    delays = reached_kept delay_in no_delay _ _ lines;
+    before = before_kept lines;
+  })
+
+  same_kept : (agent : List ℕ) (lines others : List LineValue) → filter keep lines ≡ filter keep others
+      → SameButSitemaps agent lines agent others
+  same_kept agent lines others same =
+      let one = same_filtered agent lines in
+      let two = same_filtered agent others in
+      same_from agent lines agent others
+      (one.rules ∙ ap (rules_for agent) same ∙ sym two.rules)
+      (one.delay ∙ ap (delay_for agent) same ∙ sym two.delay)
 
 raw_neutral : (line : LineValue) → not (is_raw line) ≡ false → IsNeutral line
 raw_neutral (Raw body) h = record { agent = refl; group = refl }
-raw_neutral (UserAgent value) h = absurd (false≢true (sym h))
-raw_neutral (Allow value) h = absurd (false≢true (sym h))
-raw_neutral (Disallow value) h = absurd (false≢true (sym h))
-raw_neutral (Sitemap value) h = absurd (false≢true (sym h))
-raw_neutral (CrawlDelay delay) h = absurd (false≢true (sym h))
+raw_neutral _ h = absurd (false≢true (sym h))
 
 raw_no_sitemap : (line : LineValue) → not (is_raw line) ≡ false → sitemap_in line ≡ None
 raw_no_sitemap (Sitemap value) h = absurd (false≢true (sym h))
@@ -242,11 +189,7 @@ raw_no_sitemap _ h = refl
 
 sitemap_neutral : (line : LineValue) → not (is_sitemap line) ≡ false → IsNeutral line
 sitemap_neutral (Sitemap value) h = record { agent = refl; group = refl }
-sitemap_neutral (UserAgent value) h = absurd (false≢true (sym h))
-sitemap_neutral (Allow value) h = absurd (false≢true (sym h))
-sitemap_neutral (Disallow value) h = absurd (false≢true (sym h))
-sitemap_neutral (CrawlDelay delay) h = absurd (false≢true (sym h))
-sitemap_neutral (Raw body) h = absurd (false≢true (sym h))
+sitemap_neutral _ h = absurd (false≢true (sym h))
 
 pub raw_changes_nothing : (agent : List ℕ) (lines others : List LineValue)
     → filter (λ line. not (is_raw line)) lines ≡ filter (λ line. not (is_raw line)) others
@@ -254,14 +197,13 @@ pub raw_changes_nothing : (agent : List ℕ) (lines others : List LineValue)
 raw_changes_nothing agent lines others same =
     let found = found_kept sitemap_in (λ line. not (is_raw line)) raw_no_sitemap in (
       same_kept (λ line. not (is_raw line)) raw_neutral agent lines others same,
-      found lines ∙ ap (λ ls. sitemaps_in ls) same ∙ sym (found others),
+      found lines ∙ ap sitemaps_in same ∙ sym (found others),
     )
 
 pub sitemaps_change_nothing_else : (agent : List ℕ) (lines others : List LineValue)
     → filter (λ line. not (is_sitemap line)) lines ≡ filter (λ line. not (is_sitemap line)) others
     → SameButSitemaps agent lines agent others
-sitemaps_change_nothing_else agent lines others same =
-    same_kept (λ line. not (is_sitemap line)) sitemap_neutral agent lines others same
+sitemaps_change_nothing_else = same_kept (λ line. not (is_sitemap line)) sitemap_neutral
 
 -- ---- agents in another case
 
@@ -280,6 +222,19 @@ agent_case agent other lines same =
 
 -- ---- another value in a line that isn't captured
 
+record IsAlike (line other : LineValue) : Type 0 where
+  agent : is_agent line ≡ is_agent other
+  named : (name : List ℕ) → is_agent_named name line ≡ is_agent_named name other
+  group : is_group line ≡ is_group other
+  delay : delay_in line ≡ delay_in other
+  sitemap : sitemap_in line ≡ sitemap_in other
+
+same_kind : (line other : LineValue) → IsSameKind line other → IsAlike line other
+same_kind line other (value, another, inl (is, too)) = rw (is, too)
+    (record { agent = refl; named = λ name. refl; group = refl; delay = refl; sitemap = refl })
+same_kind line other (value, another, inr (is, too)) = rw (is, too)
+    (record { agent = refl; named = λ name. refl; group = refl; delay = refl; sitemap = refl })
+
 -- the walk after these lines
 abbrev walked : List ℕ → Walk → List LineValue → Walk
 walked name walk [] = walk
@@ -296,29 +251,24 @@ stands_walked name all walk place (line ∷ front) back stands left =
     let sum : place + suc (length front) ≡ (place + 1) + length front = omega arith in
     rw sum (stands_walked name all (step name walk line) (place + 1) front back here next)
 
-turned_like : (name : List ℕ) (walk : Walk) (front back : List LineValue) (line other : LineValue)
-    → IsAlike line other
-    → (walked name walk front).captured ≡ false
-    → IsLike name walk (front ++ line ∷ back) (front ++ other ∷ back)
-turned_like name walk [] back line other alike free =
-    turned line other alike free (itself name (step name walk line) back)
-turned_like name walk (first ∷ front) back line other alike free =
-    both first (turned_like name (step name walk first) front back line other alike free)
+-- what is the same behind these lines is the same with them
+reached_behind : {X : Type 0} (given : LineValue → Option X) (name : List ℕ) (walk : Walk)
+    (front back others : List LineValue)
+    → reached given name (walked name walk front) back ≡ reached given name (walked name walk front) others
+    → reached given name walk (front ++ back) ≡ reached given name walk (front ++ others)
+reached_behind given name walk [] back others same = same
+reached_behind given name walk (line ∷ front) back others same =
+    ap (cons_option (cond walk.captured (given line) None))
+    (reached_behind given name (step name walk line) front back others same)
 
-found_alike : (front back : List LineValue) (line other : LineValue) → IsAlike line other
-    → sitemaps_in (front ++ line ∷ back) ≡ sitemaps_in (front ++ other ∷ back)
-found_alike [] back line other alike = ap (λ o. cons_option o (sitemaps_in back)) alike.sitemap
-found_alike (first ∷ front) back line other alike =
-    ap (λ found. cons_option (sitemap_in first) found) (found_alike front back line other alike)
-
-same_kind : (line other : LineValue) → IsSameKind line other → IsAlike line other
-same_kind line other (value, another, kinds) =
-    elim kinds [
-      | inl (is, others) ↦ rw (is, others)
-          (record { agent = refl; named = λ name. refl; group = refl; delay = refl; sitemap = refl })
-      | inr (is, others) ↦ rw (is, others)
-          (record { agent = refl; named = λ name. refl; group = refl; delay = refl; sitemap = refl })
-    ]
+before_behind : (front back others : List LineValue)
+    → filter_map delay_in (before_agent back) ≡ filter_map delay_in (before_agent others)
+    → filter_map delay_in (before_agent (front ++ back)) ≡ filter_map delay_in (before_agent (front ++ others))
+before_behind [] back others same = same
+before_behind (line ∷ front) back others same = elim (cases_Bool (is_agent line)) [
+  | inl agent ↦ rw agent refl
+  | inr other ↦ rw other (ap (cons_option (delay_in line)) (before_behind front back others same))
+]
 
 pub uncaptured_reaches_nothing : (agent : List ℕ) (front back : List LineValue) (line other : LineValue)
     → IsSameKind line other
@@ -334,7 +284,28 @@ uncaptured_reaches_nothing agent front back line other kind uncaptured =
     rw (zero-add (length front)) at stands in
     let free =
     false_from_ne_true _ (λ h. uncaptured ((is_captured_decides _ _ _).0 (here.captured ∙ h))) in (
-      same_like agent lines (front ++ other ∷ back)
-          (turned_like name (start_of lines) front back line other alike free),
-      found_alike front back line other alike,
+      same_alike agent lines (front ++ other ∷ back) (record {
+        agents = any is_agent alike.agent;
+        named = λ n. any (is_agent_named n) (alike.named n);
+        rules = reached_behind rule_in _ _ front _ _ (apart rule_in _ _ alike free);
+        delays = reached_behind delay_in _ _ front _ _ (apart delay_in _ _ alike free);
+        before = before_behind front _ _ (elim (cases_Bool (is_agent other)) [
+          | inl is ↦ rw (alike.agent, is) refl
+          | inr isnt ↦ rw (alike.agent, isnt, alike.delay) refl
+        ]);
+      }),
+      filter_map-append sitemap_in front (line ∷ back)
+          ∙ ap (λ o. sitemaps_in front ++ cons_option o (sitemaps_in back)) alike.sitemap
+          ∙ sym (filter_map-append sitemap_in front (other ∷ back)),
     )
+  where
+    any : (test : LineValue → Bool) → test line ≡ test other
+        → list_any test (front ++ line ∷ back) ≡ list_any test (front ++ other ∷ back)
+    any test same = list_any-append test front (line ∷ back)
+        ∙ ap (λ b. list_any test front || (b || list_any test back)) same
+        ∙ sym (list_any-append test front (other ∷ back))
+
+    apart : {X : Type 0} (given : LineValue → Option X) (name : List ℕ) (walk : Walk) → IsAlike line other
+        → walk.captured ≡ false
+        → reached given name walk (line ∷ back) ≡ reached given name walk (other ∷ back)
+    apart given name walk alike free = rw (free, alike.agent, alike.named name, alike.group) refl

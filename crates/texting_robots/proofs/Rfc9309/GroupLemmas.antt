@@ -15,10 +15,11 @@ use Rattle.texting_robots.specs.Steps.Group.{start_of, step}
 use Rattle.texting_robots.specs.Laws.{IsReadAs}
 use Rattle.texting_robots.specs.Rfc9309.{Group, Member, merged, is_rule, has_token, groups_for}
 use Rattle.texting_robots.specs.Rfc9309 as rfc
-use Rattle.texting_robots.proofs.CapturedLemmas.{caught_all, rules_are}
+use Rattle.texting_robots.proofs.CapturedLemmas.{rules_are}
+use Rattle.texting_robots.proofs.LawLemmas.{all_reached}
 use Rattle.texting_robots.proofs.Rfc9309.MergeLemmas.{AreApart, AreGroupLines, GivesRuleOf, IsLineFor}
 use Rattle.texting_robots.proofs.Rfc9309.MergeLemmas.{merged_apart, merged_lines}
-use Rattle.texting_robots.proofs.Rfc9309.WalkLemmas.{behind, caught_found, found, group_step}
+use Rattle.texting_robots.proofs.Rfc9309.WalkLemmas.{behind, found, group_step}
 use Rattle.texting_robots.proofs.Rfc9309.WalkLemmas.{group_steps, is_named, members_found, nothing}
 use Rattle.texting_robots.proofs.Rfc9309.WalkLemmas.{run, run_found}
 
@@ -207,8 +208,7 @@ rules_spelled agent groups front lines all are =
     ∙ any_named low (merged groups) lines whole in
     let rules : rules_for agent (front ++ lines) ≡ found name p.next lines =
     rules_are agent (front ++ lines)
-    ∙ caught_all rule_in name (front ++ lines)
-    ∙ caught_found name start 0 (front ++ lines)
+    ∙ all_reached rule_in name (front ++ lines)
     ∙ p.same in
     rw (rules, ← named_groups agent (merged groups) (front ++ lines) _ named refl) (
     groups_read name p.next (merged groups) lines whole (merged_apart groups)

@@ -1,5 +1,5 @@
 -- The walk along the lines of a group.
-use Rattle.std.proofs.Common.{◌≡◌, ◌≢◌, ℕ, ◌+◌, Bool, true, false}
+use Rattle.std.proofs.Common.{◌≡◌, ◌≢◌, ℕ, Bool, true, false}
 use Rattle.std.proofs.Common.{◌||◌, List, [], ◌∷◌, ◌++◌, Option, Some}
 use Rattle.std.proofs.Common.{None, map, bytes_eq, cond, refl, ap, ◌∙◌}
 use Rattle.std.specs.Str.{str_to_ascii_lowercase}
@@ -12,23 +12,14 @@ use Rattle.texting_robots.specs.Group.{is_group}
 use Rattle.texting_robots.specs.Rules.{Rule, rule_in}
 use Rattle.texting_robots.specs.Steps.Group.{step}
 use Rattle.texting_robots.specs.Rfc9309.{Member}
-use Rattle.texting_robots.proofs.CapturedLemmas.{caught}
+use Rattle.texting_robots.proofs.LawLemmas.{reached}
 use Rattle.texting_robots.proofs.Rfc9309.MergeLemmas.{IsLineFor}
 
 -- ---- the walk along such lines
 
 -- the rules that the walk finds
 abbrev pub found : List ℕ → Walk → List LineValue → List Rule
-found name walk [] = []
-found name walk (line ∷ lines) =
-    cons_option (cond walk.captured (rule_in line) None) (found name (step name walk line) lines)
-
-pub caught_found : (name : List ℕ) (walk : Walk) (place : ℕ) (lines : List LineValue)
-    → caught rule_in name walk place lines ≡ found name walk lines
-caught_found name walk place [] = refl
-caught_found name walk place (line ∷ lines) =
-    ap (cons_option (cond walk.captured (rule_in line) None))
-    (caught_found name (step name walk line) (place + 1) lines)
+found name walk lines = reached rule_in name walk lines
 
 abbrev pub is_named : List ℕ → List ℕ → Bool
 is_named name token = bytes_eq (str_to_ascii_lowercase token) name
