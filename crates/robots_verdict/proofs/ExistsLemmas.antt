@@ -7,7 +7,7 @@ use Rattle.std.specs.List.{AllByRecursion as Each, AllZip, Contains}
 use Rattle.std.specs.Str.{is_utf8}
 use Rattle.std.proofs.lemmas.Bool.{cases_Bool, cases_lt, eqb-false, eqb-true, false≢true}
 use Rattle.std.proofs.lemmas.Str.{IsUtf8-from_is_utf8, is_utf8-from_IsUtf8}
-use Rattle.texting_robots.specs.Pattern.{IsOverlong, collapsed, dollar, longest_with_dollar}
+use Rattle.texting_robots.specs.Pattern.{IsOverlong, collapsed, dollar}
 use Rattle.texting_robots.specs.Prepared.{prepared}
 use Rattle.texting_robots.specs.Robot.{lines_read}
 use Rattle.texting_robots.specs.Rules.{PlacedRule, Rule, delay_for, placed_rules, rules_for}
@@ -133,7 +133,7 @@ contains_or_not (y ∷ xs) x = elim (cases_Bool (y == x)) [
 overlong_or_not : (rule : Rule) → Either (IsOverlong rule.0)
 overlong_or_not rule = elim (contains_or_not rule.0 dollar) [
   | inr none ↦ inr (λ is. none is.0)
-  | inl has ↦ elim (cases_lt longest_with_dollar (length (collapsed rule.0))) [
+  | inl has ↦ elim (cases_lt 4096 (length (collapsed rule.0))) [
     | inl long ↦ inl (has, long)
     | inr short ↦ inr (λ is. let more = is.1 in omega arith)
   ]

@@ -5,7 +5,7 @@ use Rattle.std.proofs.Common.{length, get_or, arith, refl, sym, ap, ◌∙◌, a
 use Rattle.std.specs.List.{starts_with}
 use Rattle.std.proofs.lemmas.Cmp.{nat_eq_equiv}
 use Rattle.std.proofs.lemmas.Bool.{and_parts, cases_Bool, eq-eqb, eqb-true, ne_eqb}
-use Rattle.texting_robots.specs.Pattern.{MatchesWith, begins_with_star, collapsed, star}
+use Rattle.texting_robots.specs.Pattern.{MatchesWith, collapsed, star}
 use Rattle.texting_robots.proofs.PatternLemmas.{behind_byte, star_star}
 
 -- bytes that are no star stay
@@ -17,18 +17,14 @@ collapse_plain (b ∷ w) q plain =
     let other : (b == star) ≡ false = ne_eqb b star (plain 0 (omega arith)) in
     rw other (ap (λ x. b ∷ x) (collapse_plain w q (λ i l. plain (suc i) (omega arith))))
 
-begins_get_or : (q : List ℕ) → begins_with_star q ≡ (get_or q 0 0 == star)
-begins_get_or [] = refl
-begins_get_or (b ∷ q) = refl
-
 -- a star stays where no star comes after it
 collapse_one : (q : List ℕ) → get_or q 0 0 ≢ star → collapsed (star ∷ q) ≡ star ∷ collapsed q
 unfolding collapsed
-collapse_one q other = rw (begins_get_or q, ne_eqb (get_or q 0 0) star other) refl
+collapse_one q other = rw (ne_eqb (get_or q 0 0) star other) refl
 
 collapse_two : (q : List ℕ) → get_or q 0 0 ≡ star → collapsed (star ∷ q) ≡ collapsed q
 unfolding collapsed
-collapse_two q two = rw (begins_get_or q, eq-eqb (get_or q 0 0) star two) refl
+collapse_two q two = rw (eq-eqb (get_or q 0 0) star two) refl
 
 -- the steps of a loop over the stars
 module _ (done before after rest : List ℕ) (split : rest ≡ before ++ (star ∷ after))
@@ -54,9 +50,9 @@ pub collapse_keeps_meaning : (anchors : Bool) (p t : List ℕ)
     → MatchesWith anchors (collapsed p) t ↔ MatchesWith anchors p t
 unfolding collapsed
 collapse_keeps_meaning anchors [] t = (λ m. m, λ m. m)
-collapse_keeps_meaning anchors (b ∷ q) t = elim (cases_Bool ((b == star) && begins_with_star q)) [
+collapse_keeps_meaning anchors (b ∷ q) t = elim (cases_Bool ((b == star) && (get_or q 0 0 == star))) [
   | inl two ↦
-      let (first, second) = and_parts (b == star) (begins_with_star q) two in
+      let (first, second) = and_parts (b == star) (get_or q 0 0 == star) two in
       let rest = collapse_keeps_meaning anchors q t in
       let one = star_star anchors q t second in
       rw (two, eqb-true b star first) (λ m. one.1 (rest.0 m), λ m. rest.1 (one.0 m))
@@ -72,7 +68,7 @@ length_none (b ∷ q) none = absurd (omega (arith, none))
 
 module _ (b : ℕ) (q : List ℕ) where
   -- a star before another one
-  pub length_merged : b ≡ star → begins_with_star q ≡ true
+  pub length_merged : b ≡ star → (get_or q 0 0 == star) ≡ true
       → length (collapsed (b ∷ q)) ≡ length (collapsed q)
   unfolding collapsed
   length_merged is two = rw (eq-eqb b star is, two) refl
@@ -81,7 +77,7 @@ module _ (b : ℕ) (q : List ℕ) where
   unfolding collapsed
   length_plain plain = rw (ne_eqb b star plain) refl
 
-  pub length_last : begins_with_star q ≡ false
+  pub length_last : (get_or q 0 0 == star) ≡ false
       → length (collapsed (b ∷ q)) ≡ suc (length (collapsed q))
   unfolding collapsed
   length_last one = elim (cases_Bool (b == star)) [
@@ -92,7 +88,7 @@ module _ (b : ℕ) (q : List ℕ) where
 pub length_within : (q : List ℕ) → length (collapsed q) ≤ length q
 unfolding collapsed
 length_within [] = omega arith
-length_within (b ∷ q) = elim (cases_Bool ((b == star) && begins_with_star q)) [
+length_within (b ∷ q) = elim (cases_Bool ((b == star) && (get_or q 0 0 == star))) [
   | inl two ↦ rw two (omega (arith, length_within q))
   | inr other ↦ rw other (omega (arith, length_within q))
 ]
@@ -101,6 +97,6 @@ and_true : (v : Bool) → (v && true) ≡ v
 and_true true = refl
 and_true false = refl
 
-pub star_starts : (q : List ℕ) → starts_with eqb q (star ∷ []) ≡ begins_with_star q
+pub star_starts : (q : List ℕ) → starts_with eqb q (star ∷ []) ≡ (get_or q 0 0 == star)
 star_starts [] = refl
 star_starts (b ∷ q) = and_true (eqb star b) ∙ nat_eq_equiv.symm star b

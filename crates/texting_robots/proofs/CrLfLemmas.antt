@@ -1,6 +1,6 @@
 -- A CR LF and a LF end a line alike.
 use Rattle.std.proofs.Common.{◌≡◌, ℕ, false, ◌==◌, ◌&&◌, inl, inr, List}
-use Rattle.std.proofs.Common.{[], ◌∷◌, map, sym, refl, ap, ◌∙◌}
+use Rattle.std.proofs.Common.{[], ◌∷◌, map, slice_index, arith, sym, refl, ap, ◌∙◌}
 use Rattle.std.proofs.lemmas.Bool.{cases_Bool, cond-true, cond-false, and_parts, eqb-true}
 use Rattle.texting_robots.specs.Cut.{Pair, cr, lf}
 use Rattle.texting_robots.specs.Steps.Cut.{before_body, before_byte, before_end, cut}
@@ -49,23 +49,22 @@ byte_keeps b pairs others same = elim (byte_cases b) [
   | inr (inr other) ↦ rw (at_other b pairs other, at_other b others other) (body_keeps b pairs others same)
 ]
 
+-- a CR before an LF adds no body
+return_before_feed : (b : ℕ) (text : List ℕ) → b ≡ cr → slice_index text 0 ≡ lf
+    → bodies_of (cut (b ∷ text)) ≡ bodies_of (cut text)
+return_before_feed b [] return feed = absurd (omega (arith, feed))
+return_before_feed b (c ∷ text) return feed =
+    rw (return, feed, cut_cons cr (lf ∷ text), cut_cons lf text) refl
+
 same_bodies : (text : List ℕ) → bodies_of (cut (feeds_alone text)) ≡ bodies_of (cut text)
 same_bodies [] = refl
-same_bodies (b ∷ []) = refl
-same_bodies (b ∷ c ∷ text) = elim (cases_Bool (b == cr && c == lf)) [
-  | inl pair ↦ (let both = and_parts (b == cr) (c == lf) pair in
-      rw (
-        pair,
-        eqb-true b cr both.0,
-        eqb-true c lf both.1,
-        cut_cons lf (feeds_alone text),
-        cut_cons cr
-            (lf ∷ text),
-        cut_cons lf text,
-      )
-      (ap (λ bodies. [] ∷ bodies) (same_bodies text)))
-  | inr single ↦ rw (single, cut_cons b (feeds_alone (c ∷ text)), cut_cons b (c ∷ text))
-      (byte_keeps b (cut (feeds_alone (c ∷ text))) (cut (c ∷ text)) (same_bodies (c ∷ text)))
+same_bodies (b ∷ text) = elim (cases_Bool (b == cr && slice_index text 0 == lf)) [
+  | inl pair ↦
+      let (return, feed) = and_parts (b == cr) (slice_index text 0 == lf) pair in
+      rw pair (same_bodies text
+      ∙ sym (return_before_feed b text (eqb-true b cr return) (eqb-true (slice_index text 0) lf feed)))
+  | inr single ↦ rw (single, cut_cons b (feeds_alone text), cut_cons b text)
+      (byte_keeps b (cut (feeds_alone text)) (cut text) (same_bodies text))
 ]
 
 pub lines_by_bodies : (pairs : List Pair)
@@ -77,18 +76,22 @@ same_lines : (text : List ℕ) → lines_of (feeds_alone text) ≡ lines_of text
 same_lines text = lines_by_bodies (cut (feeds_alone text)) ∙ ap (map line_of) (same_bodies text)
     ∙ sym (lines_by_bodies (cut text))
 
+feed_stays : (byte : ℕ) (text : List ℕ) → (lf == byte) ≡ false → slice_index text 0 ≡ lf
+    → without byte text ≡ text
+feed_stays byte [] no_lf feed = refl
+feed_stays byte (c ∷ text) no_lf feed = cond-false _ _ _ (ap (λ x. x == byte) feed ∙ no_lf)
+
 -- a byte that ends no line, taken off the front before or after
 without_alone : (byte : ℕ) (text : List ℕ) → (lf == byte) ≡ false → (cr == byte) ≡ false
     → without byte (feeds_alone text) ≡ feeds_alone (without byte text)
 without_alone byte [] no_lf no_cr = refl
-without_alone byte (b ∷ []) no_lf no_cr =
-    elim (cases_Bool (b == byte)) [ inl is ↦ rw (is) refl | inr isnt ↦ rw (isnt) refl ]
-without_alone byte (b ∷ c ∷ text) no_lf no_cr = elim (cases_Bool (b == cr && c == lf)) [
+without_alone byte (b ∷ text) no_lf no_cr = elim (cases_Bool (b == cr && slice_index text 0 == lf)) [
   | inl pair ↦
-      let b_is : (b == byte) ≡ false =
-      ap (λ x. x == byte) (eqb-true b cr (and_parts (b == cr) (c == lf) pair).0) ∙ no_cr in
-      ap (without byte) (cond-true _ _ _ pair) ∙ cond-false _ _ _ no_lf ∙ sym (cond-true _ _ _ pair)
-      ∙ ap feeds_alone (sym (cond-false _ _ _ b_is))
+      let (return, feed) = and_parts (b == cr) (slice_index text 0 == lf) pair in
+      let b_is : (b == byte) ≡ false = ap (λ x. x == byte) (eqb-true b cr return) ∙ no_cr in
+      ap (without byte) (cond-true _ _ _ pair) ∙ without_alone byte text no_lf no_cr
+      ∙ ap feeds_alone (feed_stays byte text no_lf (eqb-true (slice_index text 0) lf feed))
+      ∙ sym (cond-true _ _ _ pair) ∙ ap feeds_alone (sym (cond-false _ _ _ b_is))
   | inr single ↦ ap (without byte) (cond-false _ _ _ single) ∙ elim (cases_Bool (b == byte)) [
     | inl is ↦ cond-true _ _ _ is ∙ ap feeds_alone (sym (cond-true _ _ _ is))
     | inr isnt ↦ cond-false _ _ _ isnt ∙ sym (cond-false _ _ _ single)

@@ -230,10 +230,11 @@ record IsAlike (line other : LineValue) : Type 0 where
   sitemap : sitemap_in line ≡ sitemap_in other
 
 same_kind : (line other : LineValue) → IsSameKind line other → IsAlike line other
-same_kind line other (value, another, inl (is, too)) = rw (is, too)
-    (record { agent = refl; named = λ name. refl; group = refl; delay = refl; sitemap = refl })
-same_kind line other (value, another, inr (is, too)) = rw (is, too)
-    (record { agent = refl; named = λ name. refl; group = refl; delay = refl; sitemap = refl })
+same_kind (Allow value) (Allow other) same =
+    record { agent = refl; named = λ name. refl; group = refl; delay = refl; sitemap = refl }
+same_kind (Disallow value) (Disallow other) same =
+    record { agent = refl; named = λ name. refl; group = refl; delay = refl; sitemap = refl }
+same_kind line other differ = absurd differ
 
 -- the walk after these lines
 abbrev walked : List ℕ → Walk → List LineValue → Walk

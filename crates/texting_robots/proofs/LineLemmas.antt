@@ -8,7 +8,8 @@ use Rattle.texting_robots.specs.declared.parser.statement.Kind.{Kind}
 use Rattle.texting_robots.specs.declared.parser.statement.Kind.TheVariants as kind
 use Rattle.texting_robots.specs.Cut.{Pair}
 use Rattle.texting_robots.specs.Steps.Cut.{cut}
-use Rattle.texting_robots.specs.Statement.{IsStatement, IsTailOf, colon}
+use Rattle.texting_robots.specs.Statement.{IsStatement, IsTailOf}
+use Rattle.texting_robots.specs.Steps.Statement.{colon}
 use Rattle.texting_robots.specs.Steps.Statement.{parts_of, statement_of, value_of}
 use Rattle.texting_robots.specs.Group.{is_agent}
 use Rattle.texting_robots.specs.Line.{AreLinesOf, HoldRangesOf, HoldsRangeOf}
@@ -223,7 +224,7 @@ value_range kind value body s =
 
 delay_range : (delay : Option ℕ) (body : List ℕ) → HoldsRangeOf (delay_or_raw delay body) body
 delay_range None body = refl
-delay_range (Some delay) body = tt
+delay_range (Some delay) body = refl
 
 with_range : (kind : Kind) (value body : List ℕ) → IsStatement kind value body
     → HoldsRangeOf (line_with kind value body) body
@@ -266,10 +267,9 @@ parsed_ranges : (text : List ℕ) → HoldRangesOf (parsed text) text
 parsed_ranges text =
     let end = front_is_end text in
     record {
-      taken = end.0;
       pairs = cut (without_front text);
       is_cut = is_cut (without_front text);
-      whole = end.1 ∙ ap (λ t. end.0 ++ t) (sym (is_cut (without_front text)).whole);
+      whole = (end.0, end.1 ∙ ap (λ t. end.0 ++ t) (sym (is_cut (without_front text)).whole));
       each =
           line_ranges (cut (without_front text));
     }

@@ -1,7 +1,7 @@
 -- What the order of patterns says in words.
 use Rattle.std.proofs.Common.{◌≡◌, ◌↔◌, ◌⊎◌, ℕ, ◌<◌, true, false}
-use Rattle.std.proofs.Common.{◌==◌, nat_lt, inl, inr, List, [], ◌∷◌, ◌++◌}
-use Rattle.std.proofs.Common.{length, Less, Equal, Greater, sym, refl, ap, ◌∙◌, arith}
+use Rattle.std.proofs.Common.{◌==◌, nat_lt, inl, inr, suc, arith, List, [], ◌∷◌}
+use Rattle.std.proofs.Common.{length, slice_index, take, zero, Less, Equal, Greater, sym, refl, ap, ◌∙◌}
 use Rattle.std.specs.Ordering.{nat_cmp}
 use Rattle.std.specs.Cmp.Lexicographic.{slice_cmp}
 use Rattle.std.proofs.lemmas.Bool.{cases_order, lt-ltb}
@@ -10,7 +10,7 @@ use Rattle.std.specs.Cmp.{IsTotalOrder}
 use Rattle.std.specs.Ordering.{ordering_reverse}
 use Rattle.std.specs.declared.cmp.Ordering.{Ordering}
 use Rattle.std.proofs.lemmas.Cmp.{back_total, nat_cmp_total, nat_list_cmp_total, on_total, then_total}
-use Rattle.texting_robots.specs.Order.{IsSmaller, IsBefore, pattern_cmp}
+use Rattle.texting_robots.specs.Order.{IsBefore, pattern_cmp}
 
 pub below : (x y : ℕ) → x < y → nat_cmp x y ≡ Less
 below x y h = rw (lt-ltb x y h) refl
@@ -23,6 +23,10 @@ above : (x y : ℕ) → y < x → nat_cmp x y ≡ Greater
 above x y h = let lt : nat_lt x y ≡ false = grind (arith, nat_tests) in
     let eq : (x == y) ≡ false = grind (arith, nat_tests) in rw (lt, eq) refl
 
+-- alike up to some place, and smaller there
+abbrev IsSmaller : List ℕ → List ℕ → Type 0
+IsSmaller p q = (k : ℕ) × (take k p ≡ take k q) × (slice_index p k < slice_index q k)
+
 smaller : (p q : List ℕ) → length p ≡ length q → slice_cmp nat_cmp p q ≡ Less → IsSmaller p q
 smaller [] [] n h = absurd (let k : Equal ≡ Less = h in cc)
 smaller [] (y ∷ q) n h = absurd (omega (arith, n))
@@ -30,50 +34,37 @@ smaller (x ∷ p) [] n h = absurd (omega (arith, n))
 smaller (x ∷ p) (y ∷ q) n h =
     elim (cases_order x y) [
       | inl same ↦
-          let k : slice_cmp nat_cmp p q ≡ Less = rw (same, alike y) at h in
-          let later = smaller p q (omega (arith, n)) k in
-          record {
-            same = x ∷ later.same;
-            smaller = later.smaller;
-            greater = later.greater;
-            left_rest = later.left_rest;
-            right_rest = later.right_rest;
-            less = later.less;
-            is_left = ap (λ t. x ∷ t) later.is_left;
-            is_right = ap (λ t. y ∷ t) later.is_right
-                ∙ ap (λ z. z ∷ (later.same ++ later.greater ∷ later.right_rest)) (sym same);
-          }
-      | inr (inl less) ↦ record {
-        same = [];
-        smaller = x;
-        greater = y;
-        left_rest = p;
-        right_rest = q;
-        is_left = refl;
-        is_right = refl;
-        less = less;
-      }
+          let rest : slice_cmp nat_cmp p q ≡ Less = rw (same, alike y) at h in
+          let (k, begin, less) = smaller p q (omega (arith, n)) rest in
+          (suc k, rw (same, begin) refl, less)
+      | inr (inl less) ↦ (0, refl, less)
       | inr (inr more) ↦ absurd (let k : Greater ≡ Less = rw (above x y more) at h in cc)
     ]
 
-larger : (front : List ℕ) (a b : ℕ) (more rest : List ℕ) → a < b
-    → slice_cmp nat_cmp (front ++ a ∷ more) (front ++ b ∷ rest) ≡ Less
-larger [] a b more rest h = rw (below a b h) refl
-larger (x ∷ front) a b more rest h = rw (alike x) (larger front a b more rest h)
+larger : (p q : List ℕ) (k : ℕ) → length p ≡ length q → take k p ≡ take k q
+    → slice_index p k < slice_index q k → slice_cmp nat_cmp p q ≡ Less
+larger [] [] k n same less = absurd (omega (arith, less))
+larger [] (y ∷ q) k n same less = absurd (omega (arith, n))
+larger (x ∷ p) [] k n same less = absurd (omega (arith, n))
+larger (x ∷ p) (y ∷ q) zero n same less = rw (below x y less) refl
+larger (x ∷ p) (y ∷ q) (suc k) n same less =
+    let first : x ≡ y = cc in
+    let rest : take k p ≡ take k q = cc in
+    rw (first, alike y) (larger p q k (omega (arith, n)) rest less)
 
 pub less_is_before : (p q : List ℕ) → (pattern_cmp p q ≡ Less) ↔ IsBefore p q
 less_is_before p q = (
   λ h. elim (cases_order (length q) (length p)) [
-    | inl same ↦ inr (sym same, smaller p q (sym same) (rw (same, alike (length p)) at h))
+    | inl same ↦
+        let (k, begin, less) = smaller p q (sym same) (rw (same, alike (length p)) at h) in
+        inr (sym same, k, begin, less)
     | inr (inl longer) ↦ inl longer
     | inr (inr shorter) ↦ absurd
         (let k : Greater ≡ Less = rw (above (length q) (length p) shorter) at h in cc)
   ],
   λ before. elim before [
     | inl longer ↦ rw (below (length q) (length p) longer) refl
-    | inr (same, is) ↦
-        rw (same, alike (length q), is.is_left, is.is_right)
-        (larger is.same is.smaller is.greater is.left_rest is.right_rest is.less)
+    | inr (same, k, begin, less) ↦ rw (same, alike (length q)) (larger p q k same begin less)
   ],
 )
 

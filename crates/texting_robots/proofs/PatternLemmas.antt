@@ -1,11 +1,11 @@
 -- What a pattern matches, piece by piece.
 use Rattle.std.proofs.Common.{◌≡◌, ◌≢◌, ◌↔◌, ℕ, suc, ◌+◌, ◌==◌}
 use Rattle.std.proofs.Common.{◌&&◌, Bool, true, false, inl, inr, List, [], ◌∷◌, ◌++◌}
-use Rattle.std.proofs.Common.{All, drop, refl, sym, ap, subst, ◌∙◌, append_assoc, arith}
+use Rattle.std.proofs.Common.{All, drop, get_or, refl, sym, ap, subst, ◌∙◌, append_assoc, arith}
 use Rattle.std.specs.List.{list_all, prefix_len}
 use Rattle.std.proofs.lemmas.Bool.{cases_Bool, eqb-true, ne_eqb, or_cases, or_parts, false≢true}
 use Rattle.std.proofs.lemmas.List.Elements.{All-head, All-tail, All-weaker}
-use Rattle.texting_robots.specs.Pattern.{begins_with_star, dollar, IsSuffix, Matches, MatchesWith, star}
+use Rattle.texting_robots.specs.Pattern.{dollar, IsSuffix, Matches, MatchesWith, star}
 use Rattle.texting_robots.specs.Steps.Pieces.{behind_stars, is_mark, IsAtMark, Closes, Grows}
 
 -- a byte that stands for itself
@@ -56,7 +56,7 @@ module _ (anchors : Bool) where
   star_grows q s t i (u, j, m) = (u, suffix_trans j i, m)
 
   -- the first of two stars adds nothing
-  pub star_star : (q t : List ℕ) → begins_with_star q ≡ true
+  pub star_star : (q t : List ℕ) → (get_or q 0 0 == star) ≡ true
       → MatchesWith anchors (star ∷ q) t ↔ MatchesWith anchors q t
   unfolding MatchesWith
   star_star [] t two = absurd (false≢true two)

@@ -1,5 +1,5 @@
 -- A text with a slash in front is no absolute URL, so it is prepared by escaping it.
-use Rattle.std.proofs.Common.{◌≡◌, ℕ, ◌+◌, ◌-◌, ◌≤◌, None, Err}
+use Rattle.std.proofs.Common.{◌≡◌, ℕ, ◌+◌, ◌-◌, ◌≤◌, None, Ok, Err}
 use Rattle.std.proofs.Common.{List, [], ◌∷◌, ◌++◌, length, take, suc, ap, arith}
 use Rattle.std.specs.List.{prefix_len, suffix_len}
 use Rattle.std.specs.Prelude.{reverse, slice_index}
@@ -12,7 +12,7 @@ use Rattle.url.specs.Scheme.{scheme_len}
 use Rattle.url.specs.Parts.{Parts}
 use Rattle.url.specs.Parser.{Parsed, parse_by_scheme, split_scheme, parse_url}
 use Rattle.texting_robots.specs.Escape.{escaped}
-use Rattle.texting_robots.specs.Prepared.{prepared, prepared_by}
+use Rattle.texting_robots.specs.Prepared.{prepared, target_of}
 
 abbrev slash : ℕ
 slash = 47
@@ -54,4 +54,7 @@ no_url rest = ap parsed_from (trimmed rest)
 
 pub slash_prepared : (text : List ℕ) → slice_index text 0 ≡ slash → prepared text ≡ escaped text
 slash_prepared [] e = cc
-slash_prepared (b ∷ rest) e = rw e (ap (prepared_by (slash ∷ rest)) (no_url rest))
+slash_prepared (b ∷ rest) e = rw e (ap by_answer (no_url rest))
+  where
+    by_answer : Parsed Parts → List ℕ
+    by_answer answer = elim answer [ Ok url ↦ target_of url | Err e ↦ escaped (slash ∷ rest) ]

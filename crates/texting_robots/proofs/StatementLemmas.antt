@@ -17,8 +17,9 @@ use Rattle.std.proofs.lemmas.List.Elements.{All-contains, All-from_recursion, Co
 use Rattle.texting_robots.specs.declared.parser.statement.Kind.{Kind}
 use Rattle.texting_robots.specs.declared.parser.statement.Kind.TheVariants.{UserAgent, Allow, Disallow}
 use Rattle.texting_robots.specs.declared.parser.statement.Kind.TheVariants.{Sitemap, CrawlDelay}
-use Rattle.texting_robots.specs.Statement.{spellings, space, tab, colon, hash, IsBlank, IsKey}
-use Rattle.texting_robots.specs.Statement.{BeginsPlain, IsTailOf, IsComment, IsStatement}
+use Rattle.texting_robots.specs.Statement.{spellings, IsBlank}
+use Rattle.texting_robots.specs.Statement.{BeginsPlain, IsTailOf, IsStatement}
+use Rattle.texting_robots.specs.Steps.Statement.{space, tab, colon, hash, IsComment}
 use Rattle.texting_robots.specs.Steps.Statement.{skip_blanks, kind_with, kind_by, begins, after_any}
 use Rattle.texting_robots.specs.Steps.Statement.{after_blanks, after_separator, tail_of, tail_as}
 use Rattle.texting_robots.specs.Steps.Statement.{parts_of, region_of, trimmed, value_of, statement_of}
@@ -124,7 +125,7 @@ each_read Sitemap =
 each_read CrawlDelay =
     ((λ m. refl, λ m t. refl), ((λ m. refl, λ m t. refl), ((λ m. refl, λ m t. refl), tt)))
 
-key_found : (kind : Kind) (key rest : List ℕ) → IsKey kind key
+key_found : (kind : Kind) (key rest : List ℕ) → Contains (spellings kind) (map to_ascii_lowercase key)
     → (kind_by (key ++ rest) ≡ Some kind) × (after_any (spellings kind) (key ++ rest) ≡ Some rest)
 key_found kind key rest is =
     let low = map to_ascii_lowercase key in

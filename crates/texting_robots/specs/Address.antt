@@ -1,24 +1,21 @@
 -- The address of the robots file of a URL.
-use Rattle.std.specs.Prelude.{ℕ, List, [], ◌++◌, ◌||◌, Bool, Option, Some, None, Ok, Err}
-use Rattle.std.specs.Prelude.{codes, bytes_eq, decimal, if◌then◌else◌}
-use Rattle.url.specs.{Parts.Parts, Parts.cannot_be_a_base, Parts.nonempty_host, Host.host_text}
-use Rattle.url.specs.{Parser.Parsed, Parser.parse_url, Parser.and_then, declared.host.Host.Host}
+use Rattle.std.specs.Prelude.{ℕ, List, ◌++◌, ◌||◌, Bool, Option, Some, None, Ok, Err, codes}
+use Rattle.std.specs.Prelude.{bytes_eq, decimal, option_map, if◌then◌else◌}
 use Rattle.url.specs.declared.error.ParseError.TheVariants.{EmptyHost, SetHostOnCannotBeABaseUrl}
+use Rattle.url.specs.{Parts.Parts, Parts.cannot_be_a_base, Parts.nonempty_host, Host.host_text, Parser.Parsed}
+use Rattle.url.specs.{Parser.parse_url, Parser.and_then, declared.host.Host.Host}
+use Rattle.texting_robots.specs.Prepared.{marked}
 
 -- the scheme is `http` or `https`
 abbrev pub is_web : List ℕ → Bool
 is_web scheme = bytes_eq scheme (codes "http") || bytes_eq scheme (codes "https")
 
--- `:` and the port, if one is kept
-abbrev pub port_text : Option ℕ → List ℕ
-port_text None = []
-port_text (Some port) = codes ":" ++ decimal port
-
--- the address for this host, which may be missing
+-- the address for this host, which may be missing, and `:` with the port, if one is kept
 abbrev pub address_at : Parts → Option (Host (List ℕ)) → Parsed (List ℕ)
 address_at url None = Err EmptyHost
 address_at url (Some host) =
-    Ok (url.scheme ++ codes "://" ++ host_text host ++ port_text url.port ++ codes "/robots.txt")
+    Ok (url.scheme ++ codes "://" ++ host_text host ++ marked (codes ":") (option_map decimal url.port)
+    ++ codes "/robots.txt")
 
 -- the address for the parts of a URL
 abbrev pub robots_address_of : Parts → Parsed (List ℕ)

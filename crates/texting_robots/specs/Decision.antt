@@ -1,8 +1,8 @@
 -- Which line decides, and the looks that this takes.
-use Rattle.std.specs.Prelude.{◌≡◌, ◌≢◌, ◌⊎◌, ℕ, ◌*◌, ◌≤◌, nat_le}
-use Rattle.std.specs.Prelude.{true, List, Option, Some, None, Contains, count_by, length}
-use Rattle.texting_robots.specs.{Pattern.Matches, Rules.PlacedRule, Verdict.robots_file}
+use Rattle.std.specs.Prelude.{◌≡◌, ◌≢◌, ◌⊎◌, ℕ, ◌*◌, ◌≤◌, nat_le, true, List}
+use Rattle.std.specs.Prelude.{Option, Some, None, Contains, count_by, length}
 use Rattle.texting_robots.specs.View.{LooksAtMost, ViewValue}
+use Rattle.texting_robots.specs.{Pattern.Matches, Rules.PlacedRule, Verdict.robots_file}
 
 -- the rule matches the text, and no rule that matches is longer
 pub record IsLongestMatch (rules : List PlacedRule) (text : List ℕ) (placed : PlacedRule) : Type 0 where

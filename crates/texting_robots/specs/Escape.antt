@@ -1,7 +1,7 @@
 -- The escape of a rule and of a text that is no URL.
-use Rattle.std.specs.Prelude.{ℕ, ◌/◌, ◌%◌, Bool, true, ◌||◌}
-use Rattle.std.specs.Prelude.{◌==◌, nat_lt, List, [], ◌∷◌}
-use Rattle.std.specs.{Fmt.digit_glyph, List.flat_map, Prelude.if◌then◌else◌, Str.byte}
+use Rattle.std.specs.Prelude.{ℕ, ◌/◌, ◌%◌, Bool, true, ◌||◌, ◌==◌, nat_lt, List, []}
+use Rattle.std.specs.Prelude.{◌∷◌, if◌then◌else◌}
+use Rattle.std.specs.{Fmt.digit_glyph, List.flat_map, Str.byte}
 
 -- a byte that doesn't stand for itself: a control, a space, `"`, `<`, `>`, a backquote, or one past ASCII
 abbrev pub is_escaped : ℕ → Bool

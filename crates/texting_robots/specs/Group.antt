@@ -1,7 +1,7 @@
 -- Which lines are captured for an agent, by their places in a file.
 use Rattle.std.specs.Prelude.{◌⊎◌, ℕ, ◌<◌, Bool, true, false, List, IsTrue, codes, slice_get}
-use Rattle.std.specs.{Prelude.bytes_eq, Prelude.if◌then◌else◌, List.list_any}
-use Rattle.std.specs.{Option.option_map_or, Str.str_to_ascii_lowercase}
+use Rattle.std.specs.Prelude.{bytes_eq, if◌then◌else◌}
+use Rattle.std.specs.{List.list_any, Option.option_map_or, Str.str_to_ascii_lowercase}
 use Rattle.texting_robots.specs.Line.{Allow, CrawlDelay, Disallow, LineValue, UserAgent}
 
 -- ---- what groups ask of a line

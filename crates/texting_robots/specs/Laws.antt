@@ -1,20 +1,17 @@
 -- Words of the laws, which stand as the contracts of `laws`.
-use Rattle.std.specs.Prelude.{◌≡◌, ◌+◌, ◌↔◌, ◌⊎◌, ℕ, Bool}
-use Rattle.std.specs.Prelude.{true, false, ◌==◌, ◌&&◌, List, [], ◌∷◌}
-use Rattle.std.specs.{Prelude.Some, Prelude.IsTrue, Prelude.codes, Prelude.slice_get, Str.is_utf8}
-use Rattle.std.specs.Prelude.{if◌then◌else◌}
+use Rattle.std.specs.Prelude.{◌≡◌, ◌+◌, ◌↔◌, ℕ, Bool, true, false, ◌==◌, ◌&&◌, List, []}
+use Rattle.std.specs.Prelude.{◌∷◌, Some, IsTrue, codes, slice_get, slice_index, if◌then◌else◌}
+use Rattle.std.specs.Str.{is_utf8}
+use Rattle.texting_robots.specs.Rules.{IsRefused, Rule, delay_for, rules_for, sitemaps_in}
 use Rattle.texting_robots.specs.{Cut.cr, Cut.lf, Escape.escaped, Group.IsCaptured, Group.group_name}
-use Rattle.texting_robots.specs.{Line.Allow, Line.Disallow, Line.LineValue, Trim.IsTrimOf}
-use Rattle.texting_robots.specs.{Rules.Rule, Rules.IsRefused, Rules.delay_for, Rules.rules_for}
-use Rattle.texting_robots.specs.{Rules.sitemaps_in, Verdict.IsVerdict}
+use Rattle.texting_robots.specs.{Line.Allow, Line.Disallow, Line.LineValue, Trim.IsTrimOf, Verdict.IsVerdict}
 use Rattle.texting_robots.specs.Rfc9309 as rfc
 
--- LF in place of each CR LF
+-- LF in place of each CR LF: the text without each CR that LF follows
 abbrev pub feeds_alone : List ℕ → List ℕ
 feeds_alone [] = []
-feeds_alone (b ∷ []) = b ∷ []
-feeds_alone (b ∷ c ∷ text) =
-    if b == cr && c == lf then lf ∷ feeds_alone text else b ∷ feeds_alone (c ∷ text)
+feeds_alone (b ∷ text) =
+    if b == cr && slice_index text 0 == lf then feeds_alone text else b ∷ feeds_alone text
 
 -- one agent's lines and another's give the same rules, verdicts, delay and refusal
 pub record SameButSitemaps (agent : List ℕ) (lines : List LineValue)
@@ -32,10 +29,9 @@ Same agent lines other others =
 
 -- both Allow, or both Disallow
 abbrev pub IsSameKind : LineValue → LineValue → Type 0
-IsSameKind line other =
-    (value : List ℕ) × (another : List ℕ)
-    × (((line ≡ Allow value) × (other ≡ Allow another))
-    ⊎ ((line ≡ Disallow value) × (other ≡ Disallow another)))
+IsSameKind (Allow value) (Allow other) = Unit {0}
+IsSameKind (Disallow value) (Disallow other) = Unit {0}
+IsSameKind line other = ⊥
 
 -- the line with this number, counted from 1, is captured, and is an Allow or a Disallow whose escaped value
 -- is the pattern

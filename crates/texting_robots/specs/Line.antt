@@ -1,18 +1,17 @@
 -- Which line a body is, and which lines a text has.
-use Rattle.std.specs.Prelude.{◌≡◌, ◌⊎◌, ℕ, ◌==◌, Bool, true}
-use Rattle.std.specs.Prelude.{false, List, [], ◌∷◌, ◌++◌, map, codes}
-use Rattle.std.specs.{Prelude.Option, Prelude.Some, Prelude.None, Prelude.if◌then◌else◌, List.AllZip}
-use Rattle.texting_robots.specs.declared.{parser.Line.Line, parser.statement.Kind.Kind}
+use Rattle.std.specs.Prelude.{◌≡◌, ◌⊎◌, ℕ, ◌==◌, Bool, true, false, List, [], ◌∷◌}
+use Rattle.std.specs.Prelude.{◌++◌, map, codes, IfSome, IsSome, Option, Some, None, if◌then◌else◌}
+use Rattle.std.specs.List.{AllZip}
+use Rattle.texting_robots.specs.Cut.{Pair, IsCut, joined, lf}
+use Rattle.texting_robots.specs.{declared.parser.Line.Line, declared.parser.statement.Kind.Kind}
+use Rattle.texting_robots.specs.{Delay.IsDelay, Pattern.IsSuffix, Statement.IsStatement}
 use Rattle.texting_robots.specs.declared.parser.Line.TheVariants as line
 use Rattle.texting_robots.specs.declared.parser.statement.Kind.TheVariants as kind
-use Rattle.texting_robots.specs.{Cut.Pair, Cut.IsCut, Cut.joined, Cut.lf}
-use Rattle.texting_robots.specs.{Delay.IsDelay, Statement.IsStatement}
 
 -- a line by value, wherever its bytes lie
 pub data LineValue : Type 0 where
-  UserAgent Allow Disallow Sitemap : List ℕ → LineValue
+  UserAgent Allow Disallow Sitemap Raw : List ℕ → LineValue
   CrawlDelay : Option ℕ → LineValue
-  Raw : List ℕ → LineValue
 
 abbrev pub by_value : Line → LineValue
 by_value (line.UserAgent value) = UserAgent value.now
@@ -69,28 +68,32 @@ AreFileLinesOf lines text = AreLinesOf lines (map nul_as_lf text)
 
 -- ---- where a line's bytes stand
 
+-- the bytes that the line holds, where it holds some
+abbrev pub value_in : LineValue → Option (List ℕ)
+value_in (UserAgent value) = Some value
+value_in (Allow value) = Some value
+value_in (Disallow value) = Some value
+value_in (Sitemap value) = Some value
+value_in (CrawlDelay delay) = None
+value_in (Raw body) = Some body
+
 -- the value is a range of the body
 abbrev pub IsRangeOf : List ℕ → List ℕ → Type 0
 IsRangeOf value body = (before : List ℕ) × (after : List ℕ) × (body ≡ before ++ (value ++ after))
 
 -- what the line holds is a range of the body, or the slash of an empty Disallow; a delay is a number
 abbrev pub HoldsRangeOf : LineValue → List ℕ → Type 0
-HoldsRangeOf (UserAgent value) body = IsRangeOf value body
 HoldsRangeOf (Allow value) body =
     IsRangeOf value body ⊎ ((value ≡ codes "/") × IsStatement kind.Disallow [] body)
-HoldsRangeOf (Disallow value) body = IsRangeOf value body
-HoldsRangeOf (Sitemap value) body = IsRangeOf value body
-HoldsRangeOf (CrawlDelay None) body = ⊥
-HoldsRangeOf (CrawlDelay (Some delay)) body = Unit {0}
+HoldsRangeOf (CrawlDelay delay) body = IsSome delay
 HoldsRangeOf (Raw value) body = value ≡ body
+HoldsRangeOf line body = IfSome (value_in line) (λ value. IsRangeOf value body)
 
--- each line holds a range of its body, and the text is what was taken off its front and then the pairs,
--- joined
+-- each line holds a range of its body, and the pairs, joined, are what is left of the text behind its front
 pub record HoldRangesOf (lines : List LineValue) (text : List ℕ) : Type 0 where
-  pub taken : List ℕ
   pub pairs : List Pair
   pub is_cut : IsCut pairs (without_front text)
-  pub whole : text ≡ taken ++ joined pairs
+  pub whole : IsSuffix (joined pairs) text
   pub each : AllZip HoldsRangeOf lines (map (λ pair. pair.body) pairs)
 
 -- ---- what else is asked of a line
@@ -102,15 +105,6 @@ is_sitemap _ = false
 abbrev pub is_raw : LineValue → Bool
 is_raw (Raw body) = true
 is_raw _ = false
-
--- the bytes that the line holds, where it holds some
-abbrev pub value_in : LineValue → Option (List ℕ)
-value_in (UserAgent value) = Some value
-value_in (Allow value) = Some value
-value_in (Disallow value) = Some value
-value_in (Sitemap value) = Some value
-value_in (CrawlDelay delay) = None
-value_in (Raw body) = Some body
 
 -- the delay that the line gives
 abbrev pub delay_in : LineValue → Option ℕ

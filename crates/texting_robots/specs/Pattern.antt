@@ -1,6 +1,7 @@
 -- Patterns of rules, and what they match.
 use Rattle.std.specs.Prelude.{◌≡◌, ℕ, ◌<◌, Bool, true, false, ◌==◌, ◌&&◌, List, []}
-use Rattle.std.specs.Prelude.{◌∷◌, ◌++◌, MatchBool, Contains, length, if◌then◌else◌}
+use Rattle.std.specs.Prelude.{◌∷◌, ◌++◌, MatchBool, Contains, length, slice_index}
+use Rattle.std.specs.Prelude.{if◌then◌else◌}
 
 abbrev pub star : ℕ
 star = 42
@@ -37,15 +38,10 @@ Matches pattern text = MatchesWith true pattern text
 abbrev pub MatchesStars : List ℕ → List ℕ → Type 0
 MatchesStars pattern text = MatchesWith false pattern text
 
--- whether the list begins with a star
-abbrev pub begins_with_star : List ℕ → Bool
-begins_with_star [] = false
-begins_with_star (b ∷ q) = b == star
-
--- the pattern with one star in place of each run of stars
+-- the pattern with one star in place of each run of stars: without each star that another one follows
 unfoldable pub collapsed : List ℕ → List ℕ
 collapsed [] = []
-collapsed (b ∷ q) = if (b == star) && begins_with_star q then collapsed q else b ∷ collapsed q
+collapsed (b ∷ q) = if (b == star) && (slice_index q 0 == star) then collapsed q else b ∷ collapsed q
 
 -- it holds a dollar, and is too long when it is collapsed
 abbrev pub IsOverlong : List ℕ → Type 0

@@ -1,6 +1,6 @@
 -- The prepared text of a URL or a path.
-use Rattle.std.specs.Prelude.{ℕ, List, [], ◌∷◌, ◌++◌, codes, Option, Some, None, Ok, Err}
-use Rattle.url.specs.{Parts.Parts, Parser.Parsed, Parser.parse_url}
+use Rattle.std.specs.Prelude.{ℕ, List, [], ◌++◌, codes, Option, Some, None, Ok, Err}
+use Rattle.url.specs.{Parts.Parts, Parser.parse_url}
 use Rattle.texting_robots.specs.Escape.{escaped}
 
 -- a mark and the text behind it, where there is one
@@ -12,12 +12,7 @@ marked mark (Some text) = mark ++ text
 abbrev pub target_of : Parts → List ℕ
 target_of url = url.path ++ marked (codes "?") url.query ++ marked (codes "#") url.fragment
 
--- of a text, by what the definition of parsing gives for it: a URL, or an error
-abbrev pub prepared_by : List ℕ → Parsed Parts → List ℕ
-prepared_by text (Ok url) = target_of url
-prepared_by text (Err e) = escaped text
-
--- the text that rules are matched with, by the definition of parsing that `url` publishes
+-- the text that rules are matched with; what is a URL is said by the definition that `url` publishes
 abbrev pub prepared : List ℕ → List ℕ
 prepared [] = codes "/"
-prepared (b ∷ bytes) = prepared_by (b ∷ bytes) (parse_url None (b ∷ bytes))
+prepared text = elim (parse_url None text) [ Ok url ↦ target_of url | Err e ↦ escaped text ]

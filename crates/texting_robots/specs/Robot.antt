@@ -1,8 +1,8 @@
 -- What contracts see of a robot.
 use Rattle.std.specs.Prelude.{◌≡◌, ◌↔◌, ℕ, Bool, List, Option, IsPermutation, take}
-use Rattle.texting_robots.specs.{Decision.IsDecidingLine, Line.LineValue, Parsed.file_lines}
-use Rattle.texting_robots.specs.Rules.{IsRefused, PlacedRule, delay_for, placed_rules, rules_for}
-use Rattle.texting_robots.specs.{Rules.sitemaps_in, Rules.unplaced, Verdict.IsVerdict}
+use Rattle.texting_robots.specs.Rules.{IsRefused, PlacedRule, delay_for, placed_rules, rules_for, sitemaps_in}
+use Rattle.texting_robots.specs.Verdict.{IsVerdict}
+use Rattle.texting_robots.specs.{Decision.IsDecidingLine, Line.LineValue, Parsed.file_lines, Rules.unplaced}
 
 -- how many bytes of a file count
 abbrev pub file_limit : ℕ

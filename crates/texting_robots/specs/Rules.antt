@@ -1,11 +1,11 @@
 -- What an agent gets of a file.
 use Rattle.std.specs.Prelude.{◌≡◌, ◌+◌, ℕ, Bool, true, false, List, [], Option, Some, None, Any}
 use Rattle.std.specs.Prelude.{filter, map, option_map, slice_get, if◌then◌else◌}
-use Rattle.std.specs.{List.before_first, List.enumerate_from, List.filter_map, List.last_or}
-use Rattle.std.specs.{List.list_any, Option.option_or, Str.is_utf8}
-use Rattle.texting_robots.specs.{Escape.escaped, Group.group_name, Group.is_agent, Pattern.IsOverlong}
+use Rattle.std.specs.List.{before_first, enumerate_from, filter_map, last_or, list_any}
+use Rattle.std.specs.{Option.option_or, Str.is_utf8}
+use Rattle.texting_robots.specs.Group.{group_name, is_agent}
 use Rattle.texting_robots.specs.Line.{LineValue, Allow, Disallow, Sitemap, delay_in}
-use Rattle.texting_robots.specs.Steps.Captured.{is_captured}
+use Rattle.texting_robots.specs.{Escape.escaped, Pattern.IsOverlong, Steps.Captured.is_captured}
 
 -- a pattern, and whether it allows
 abbrev pub Rule : Type 0

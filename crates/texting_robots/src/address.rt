@@ -1,14 +1,16 @@
 //! The address of a site's robots.txt file.
-ghost use Rattle.std.specs.Prelude.{◌≡◌, ◌++◌, codes, IfOk, OnOk, string_bytes};
+ghost use Rattle.std.specs.Prelude.{◌≡◌, ◌++◌, codes, decimal, IfOk, OnOk, option_map, string_bytes};
 ghost use Rattle.url.specs.Parser.{GivesBy};
-ghost use Rattle.texting_robots.specs.Address.{robots_address, robots_address_of, port_text};
+ghost use Rattle.texting_robots.specs.Prepared.{marked};
+ghost use Rattle.texting_robots.specs.Address.{robots_address, robots_address_of};
 
 use std::alloc::{AllocError, Global};
 use url::{ParseError, Url};
 
 /// Adds `:` and the port, if there is one.
 fn push_port(alloc: Global, text: &mut String, port: Option<u16>) -> Result<(), AllocError>
-    ensures { OnOk result (string_bytes text.new ≡ string_bytes text.old ++ port_text port) }
+    ensures { OnOk result (string_bytes text.new
+        ≡ string_bytes text.old ++ marked (codes ":") (option_map decimal port)) }
 {
     if let Some(port) = port {
         text.push(':')?;
@@ -20,7 +22,8 @@ fn push_port(alloc: Global, text: &mut String, port: Option<u16>) -> Result<(), 
 /// The address with these parts.
 fn text_of(alloc: Global, scheme: &str, host: &str, port: Option<u16>) -> Result<String, AllocError>
     ensures { IfOk result (λ s. string_bytes s
-        ≡ scheme.now ++ codes "://" ++ host.now ++ port_text port ++ codes "/robots.txt") }
+        ≡ scheme.now ++ codes "://" ++ host.now ++ marked (codes ":") (option_map decimal port)
+        ++ codes "/robots.txt") }
 {
     let mut text = String::from_str(alloc, scheme)?;
     text.push_str("://")?;

@@ -7,7 +7,8 @@ use Rattle.std.specs.Char.{to_ascii_lowercase}
 use Rattle.std.proofs.lemmas.Bool.{and_parts, eqb-false, ltb-true, not-true}
 use Rattle.std.proofs.lemmas.Bool.Decides.{nat_tests}
 use Rattle.texting_robots.specs.declared.parser.statement.Kind.{Kind}
-use Rattle.texting_robots.specs.Statement.{IsBlank, IsComment, IsStatement, colon, hash, spellings}
+use Rattle.texting_robots.specs.Statement.{IsBlank, IsStatement, spellings}
+use Rattle.texting_robots.specs.Steps.Statement.{IsComment, colon, hash}
 use Rattle.texting_robots.specs.Trim.{IsTrimOf}
 use Rattle.texting_robots.specs.Steps.Line.{line_of, line_with}
 use Rattle.texting_robots.specs.Steps.Statement.{trimmed}

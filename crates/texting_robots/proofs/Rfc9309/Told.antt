@@ -7,7 +7,8 @@ use Rattle.std.proofs.lemmas.Bool.{cond-false, cond-true, ne_eqb}
 use Rattle.std.proofs.lemmas.List.Elements.{filter-append}
 use Rattle.texting_robots.specs.Group.{is_agent, is_group}
 use Rattle.texting_robots.specs.Line.{LineValue, UserAgent, Allow, Disallow}
-use Rattle.texting_robots.specs.Statement.{IsBlank, IsComment, colon, hash, space, tab}
+use Rattle.texting_robots.specs.Statement.{IsBlank}
+use Rattle.texting_robots.specs.Steps.Statement.{IsComment, colon, hash, space, tab}
 use Rattle.texting_robots.specs.Steps.Line.{line_of}
 use Rattle.texting_robots.specs.Steps.Statement.{region_of}
 use Rattle.texting_robots.specs.Rfc9309 as rfc

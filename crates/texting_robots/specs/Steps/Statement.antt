@@ -1,6 +1,7 @@
 -- The statement of a body, computed from its front.
-use Rattle.std.specs.Prelude.{ℕ, ◌==◌, ◌||◌, Bool, nat_lt, List, [], ◌∷◌, map, length, take}
-use Rattle.std.specs.Prelude.{drop, Option, Some, None, option_map, option_and_then, if◌then◌else◌}
+use Rattle.std.specs.Prelude.{◌≡◌, ◌⊎◌, ℕ, ◌==◌, ◌||◌, Bool, nat_lt, List, []}
+use Rattle.std.specs.Prelude.{◌∷◌, map, length, take, drop, Option, Some, None, if◌then◌else◌}
+use Rattle.std.specs.Prelude.{option_map, option_and_then}
 use Rattle.std.specs.List.{before_first}
 use Rattle.std.specs.Char.{to_ascii_lowercase, is_whitespace}
 use Rattle.std.specs.Str.{bytes_eq}
@@ -8,7 +9,23 @@ use Rattle.bstr.specs.Trim.{trim_start_by, trim_end_by}
 use Rattle.texting_robots.specs.declared.parser.statement.Kind.{Kind}
 use Rattle.texting_robots.specs.declared.parser.statement.Kind.TheVariants.{UserAgent, Allow, Disallow}
 use Rattle.texting_robots.specs.declared.parser.statement.Kind.TheVariants.{Sitemap, CrawlDelay}
-use Rattle.texting_robots.specs.Statement.{spellings, space, tab, colon, hash}
+use Rattle.texting_robots.specs.Statement.{spellings}
+
+abbrev pub space : ℕ
+space = 32
+
+abbrev pub tab : ℕ
+tab = 9
+
+abbrev pub colon : ℕ
+colon = 58
+
+abbrev pub hash : ℕ
+hash = 35
+
+-- nothing, or a hash and anything
+abbrev pub IsComment : List ℕ → Type 0
+IsComment bytes = (bytes ≡ []) ⊎ ((text : List ℕ) × (bytes ≡ hash ∷ text))
 
 -- the text from its first byte that is no blank on
 abbrev pub skip_blanks : List ℕ → List ℕ

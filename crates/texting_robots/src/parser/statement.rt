@@ -3,7 +3,8 @@ ghost use Rattle.std.specs.Prelude.{◌≡◌, ◌≢◌, ◌↔◌, ◌==◌, �
 ghost use Rattle.std.specs.List.{list_any};
 ghost use Rattle.std.specs.Str.{str_to_ascii_lowercase};
 ghost use Rattle.texting_robots.specs.declared.parser.statement.Kind.{Kind};
-ghost use Rattle.texting_robots.specs.Statement.{IsStatement, hash, spellings};
+ghost use Rattle.texting_robots.specs.Statement.{IsStatement, spellings};
+ghost use Rattle.texting_robots.specs.Steps.Statement.{hash};
 ghost use Rattle.texting_robots.specs.Steps.Statement.{skip_blanks, kind_by, begins, after_any, tail_of, tail_as, parts_of, region_of, trimmed, value_of, statement_of};
 
 use bstr::ByteSlice;
