@@ -1,9 +1,12 @@
 -- A body is a statement of one kind with one value at most: the one that the walk gives.
-use Rattle.std.proofs.Common.{◌≡◌, ◌≢◌, ℕ, suc, ◌+◌, ◌<◌, true, false, ◌==◌}
-use Rattle.std.proofs.Common.{◌||◌, inl, inr, List, [], ◌∷◌, ◌++◌, length, take, drop}
+use Rattle.std.proofs.Common.{◌≡◌, ◌≢◌, ℕ, ◌<◌, ◌==◌}
+use Rattle.std.proofs.Common.{not, ◌||◌, inl, inr, List, [], ◌∷◌, ◌++◌, length, take, drop}
 use Rattle.std.proofs.Common.{map, sym, refl, ap, ◌∙◌, arith, if◌then◌else◌, Option, Some}
-use Rattle.std.proofs.Common.{None, option_map, length-append, subst, nat_lt, Bor, MatchOption}
+use Rattle.std.proofs.Common.{None, option_and_then, length-append, subst, nat_lt, Bor, MatchOption}
 use Rattle.std.specs.Bool.{Decides}
+use Rattle.std.proofs.lemmas.Str.Ascii.{lowercase-lowercase}
+use Rattle.std.proofs.Common.{cond, rules}
+use Rattle.std.proofs.lemmas.List.Sums.{take_while-cons}
 use Rattle.std.specs.List.{AllByRecursion as Each, Contains}
 use Rattle.std.specs.Char.{to_ascii_lowercase}
 use Rattle.std.specs.Str.{bytes_eq}
@@ -38,209 +41,167 @@ skip_front [] left all = refl
 skip_front (b ∷ blanks) left all = cond-true _ _ _ ((blank_decides b).1 all.0)
     ∙ skip_front blanks left all.1
 
--- and what is left begins with no blank
-not_blank : (text : List ℕ) (b : ℕ) (left : List ℕ) → skip_blanks text ≡ b ∷ left → ¬ IsBlank b
-not_blank [] b left is = let none : ◌≡◌ {A = List ℕ} [] (b ∷ left) = is in λ blank. cc
-not_blank (c ∷ text) b left is = elim (cases_Bool (c == space || c == tab)) [
-  | inl blank ↦ not_blank text b left (sym (cond-true _ _ _ blank) ∙ is)
-  | inr other ↦
-      let stays : c ∷ text ≡ b ∷ left = sym (cond-false _ _ _ other) ∙ is in
-      let same : c ≡ b = cc in
-      λ blank. true≢false (sym ((blank_decides c).1 (subst IsBlank (sym same) blank)) ∙ other)
-]
+-- no blank stands first, so nothing is skipped
+abbrev NoBlank : List ℕ → Type 0
+NoBlank [] = Unit {0}
+NoBlank (b ∷ text) = ¬ IsBlank b
+
+kept : (text : List ℕ) → NoBlank text → skip_blanks text ≡ text
+kept [] plain = refl
+kept (b ∷ text) plain =
+    cond-false _ _ _ (false_from_ne_true (b == space || b == tab) (λ is. plain ((blank_decides b).0 is)))
 
 -- the text is blanks and what is left
 record Skipped (left text : List ℕ) : Type 0 where
   blanks : List ℕ
   all : Each IsBlank blanks
   whole : text ≡ blanks ++ left
+  plain : NoBlank left
 
 skipped : (text : List ℕ) → Skipped (skip_blanks text) text
-skipped [] = record { blanks = []; all = tt; whole = refl }
+skipped [] = record { blanks = []; all = tt; whole = refl; plain = tt }
 skipped (b ∷ text) = elim (cases_Bool (b == space || b == tab)) [
   | inl is ↦
       let s = skipped text in
-      rw is
-      (record {
+      rw is (record {
         blanks = b ∷ s.blanks;
         all = ((blank_decides b).0 is, s.all);
         whole = ap (λ t. b ∷ t) s.whole;
+        plain = s.plain;
       })
-  | inr isnt ↦ rw isnt (record { blanks = []; all = tt; whole = refl })
+  | inr isnt ↦ rw isnt (record {
+    blanks = [];
+    all = tt;
+    whole = refl;
+    plain = λ blank. true≢false (sym ((blank_decides b).1 blank) ∙ isnt);
+  })
 ]
 
 -- ---- keys
 
 -- a key begins with no blank
-plain_by : (kind : Kind) (text : List ℕ) → kind_by text ≡ Some kind → skip_blanks text ≡ text
-plain_by kind [] is = refl
-plain_by kind (b ∷ text) is =
-    cond-false _ _ _
-    (false_from_ne_true (b == space || b == tab) (λ blank. at b ((blank_decides b).0 blank) is))
+plain_by : (kind : Kind) (text : List ℕ) → kind_by text ≡ Some kind → NoBlank text
+plain_by kind [] is = tt
+plain_by kind (b ∷ text) is = λ blank. at blank is
   where
-    at : (b : ℕ) → IsBlank b → ¬ (kind_with (to_ascii_lowercase b) ≡ Some kind)
-    at b (inl e) is = let none : None ≡ Some kind = rw e at is in cc
-    at b (inr e) is = let none : None ≡ Some kind = rw e at is in cc
+    at : IsBlank b → ¬ (kind_with (to_ascii_lowercase b) ≡ Some kind)
+    at (inl e) is = let none : None ≡ Some kind = rw e at is in cc
+    at (inr e) is = let none : None ≡ Some kind = rw e at is in cc
 
--- `kind_by` and `after_any` of a text in small letters
-abbrev kind_low : List ℕ → Option Kind
-kind_low [] = None
-kind_low (b ∷ low) = kind_with b
+-- `after_any` of a text whose small letters are these
+abbrev after_small : List (List ℕ) → List ℕ → List ℕ → Option (List ℕ)
+after_small [] small text = None
+after_small (s ∷ list) small text =
+    if bytes_eq (take (length s) small) s then Some (drop (length s) text) else after_small list small text
 
-abbrev any_low : List (List ℕ) → List ℕ → List ℕ → Option (List ℕ)
-any_low [] low text = None
-any_low (s ∷ list) low text =
-    if bytes_eq (take (length s) low) s then Some (drop (length s) text) else any_low list low text
-
-by_low : (text : List ℕ) → kind_by text ≡ kind_low (map to_ascii_lowercase text)
-by_low [] = refl
-by_low (b ∷ text) = refl
-
-after_low : (list : List (List ℕ)) (text : List ℕ)
-    → after_any list text ≡ any_low list (map to_ascii_lowercase text) text
-after_low [] text = refl
-after_low (s ∷ list) text = rw (take-map to_ascii_lowercase (length s) text, after_low list text) refl
+any_small : (list : List (List ℕ)) (text : List ℕ)
+    → after_any list text ≡ after_small list (map to_ascii_lowercase text) text
+any_small [] text = refl
+any_small (s ∷ list) text = rw (take-map, any_small list text) refl
 
 -- the spelling is read as the kind's, whatever follows it
 abbrev IsRead : Kind → List ℕ → Type 0
-IsRead kind s = ((more : List ℕ) → kind_low (s ++ more) ≡ Some kind)
-    × ((more text : List ℕ) → any_low (spellings kind) (s ++ more) text ≡ Some (drop (length s) text))
+IsRead kind s = (more text : List ℕ) → (kind_by (s ++ more) ≡ Some kind)
+    × (after_small (spellings kind) (s ++ more) text ≡ Some (drop (length s) text))
 
 each_read : (kind : Kind) → Each (IsRead kind) (spellings kind)
-each_read UserAgent =
-    ((λ m. refl, λ m t. refl), ((λ m. refl, λ m t. refl), ((λ m. refl, λ m t. refl), tt)))
-each_read Allow = ((λ m. refl, λ m t. refl), tt)
-each_read Disallow = (
-  (λ m. refl, λ m t. refl),
-  (
-    (λ m. refl, λ m t. refl),
-    (
-      (λ m. refl, λ m t. refl),
-      ((λ m. refl, λ m t. refl), ((λ m. refl, λ m t. refl), ((λ m. refl, λ m t. refl), tt))),
-    ),
-  ),
-)
-each_read Sitemap =
-    ((λ m. refl, λ m t. refl), ((λ m. refl, λ m t. refl), ((λ m. refl, λ m t. refl), tt)))
-each_read CrawlDelay =
-    ((λ m. refl, λ m t. refl), ((λ m. refl, λ m t. refl), ((λ m. refl, λ m t. refl), tt)))
+each_read UserAgent = search rules
+each_read Allow = search rules
+each_read Disallow = search rules
+each_read Sitemap = search rules
+each_read CrawlDelay = search rules
+
+-- small letters are of the same kind
+kind_small : (text : List ℕ) → kind_by text ≡ kind_by (map to_ascii_lowercase text)
+kind_small [] = refl
+kind_small (b ∷ text) = ap kind_with (sym (lowercase-lowercase b))
 
 key_found : (kind : Kind) (key rest : List ℕ) → Contains (spellings kind) (map to_ascii_lowercase key)
     → (kind_by (key ++ rest) ≡ Some kind) × (after_any (spellings kind) (key ++ rest) ≡ Some rest)
 key_found kind key rest is =
-    let low = map to_ascii_lowercase key in
-    let more = map to_ascii_lowercase rest in
-    let split = map-append to_ascii_lowercase key rest in
-    let reads = All-contains (IsRead kind) (spellings kind) low
-    (All-from_recursion (IsRead kind) (spellings kind) (each_read kind)) is in (
-      by_low (key ++ rest) ∙ ap kind_low split ∙ reads.0 more,
-      after_low (spellings kind) (key ++ rest) ∙ ap (λ t. any_low (spellings kind) t (key ++ rest)) split
-          ∙ reads.1 more (key ++ rest)
-          ∙ ap (λ t. Some t) (drop_at key rest (length low) (sym (length-map key to_ascii_lowercase))),
-    )
+    let small = map to_ascii_lowercase key in
+    let reads = All-contains (IsRead kind) (spellings kind) small
+    (All-from_recursion (IsRead kind) (spellings kind) (each_read kind)) is
+    (map to_ascii_lowercase rest) (key ++ rest) in
+    rw (kind_small (key ++ rest), any_small (spellings kind) (key ++ rest), map-append, reads.0, reads.1, drop_at key rest _ (sym (length-map key to_ascii_lowercase))) (refl, refl)
 
 -- the text is a key and the rest
-record Keyed (list : List (List ℕ)) (text rest : List ℕ) : Type 0 where
-  key : List ℕ
-  is_key : Contains list (map to_ascii_lowercase key)
-  whole : text ≡ key ++ rest
-
 found_key : (list : List (List ℕ)) (text rest : List ℕ) → after_any list text ≡ Some rest
-    → Keyed list text rest
+    → (key : List ℕ) × Contains list (map to_ascii_lowercase key) × (text ≡ key ++ rest)
 found_key [] text rest is = let none : None ≡ Some rest = is in cc
 found_key (s ∷ list) text rest is = elim (cases_Bool (begins s text)) [
   | inl test ↦
       let n = length s in
-      let same : drop n text ≡ rest = same_Some _ _ (sym (cond-true _ _ _ test) ∙ is) in
-      record {
-        key = take n text;
-        is_key = (0, omega arith, sym ((bytes_eq-Decides _ _).0 test));
-        whole = sym (take-append-drop n text) ∙ ap (λ t. take n text ++ t) same;
-      }
+      let same : drop n text ≡ rest = same_Some _ _ (sym (cond-true _ _ _ test) ∙ is) in (
+        take n text,
+        (0, omega arith, sym ((bytes_eq-Decides _ _).0 test)),
+        sym (take-append-drop n text) ∙ ap (λ t. take n text ++ t) same,
+      )
   | inr other ↦
-      let k = found_key list text rest (sym (cond-false _ _ _ other) ∙ is) in
-      record { key = k.key; is_key = Contains-append_right (s ∷ []) list _ k.is_key; whole = k.whole }
+      let (key, among, whole) = found_key list text rest (sym (cond-false _ _ _ other) ∙ is) in
+      (key, Contains-append_right (s ∷ []) list _ among, whole)
 ]
 
 -- ---- separators
 
--- where no blank and no colon is first, nothing is skipped, and blanks alone separate
-plain_kept : (tail : List ℕ) → BeginsPlain tail → skip_blanks tail ≡ tail
-plain_kept [] plain = refl
-plain_kept (b ∷ tail) plain = elim (cases_Bool (b == space || b == tab)) [
-  | inl is ↦ absurd (plain.0 ((blank_decides b).0 is))
-  | inr isnt ↦ cond-false _ _ _ isnt
-]
+-- where no colon is first, blanks alone separate
+spaced : (rest tail : List ℕ) → BeginsPlain tail → after_separator rest tail ≡ after_blanks rest tail
+spaced rest [] plain = refl
+spaced rest (b ∷ tail) plain = cond-false _ _ _ (ne_eqb b colon plain.1)
 
-plain_separated : (rest tail : List ℕ) → BeginsPlain tail
-    → after_separator rest tail ≡ after_blanks rest tail
-plain_separated rest [] plain = refl
-plain_separated rest (b ∷ tail) plain = cond-false _ _ _ (ne_eqb b colon plain.1)
+no_blank : (tail : List ℕ) → BeginsPlain tail → NoBlank tail
+no_blank [] plain = tt
+no_blank (b ∷ tail) plain = plain.0
 
 tail_found : (tail rest : List ℕ) → IsTailOf tail rest → tail_of rest ≡ Some (skip_blanks tail)
 tail_found tail rest (blanks, all, inl whole) =
     ap (after_separator rest) (ap skip_blanks whole ∙ skip_front blanks (colon ∷ tail) all)
 tail_found tail rest ([], all, inr (whole, some, plain)) = absurd (some refl)
 tail_found tail rest (b ∷ blanks, all, inr (whole, some, plain)) =
-    let kept = plain_kept tail plain in
-    let reads : skip_blanks rest ≡ tail = ap skip_blanks whole ∙ skip_front (b ∷ blanks) tail all
-    ∙ kept in
+    let same = kept tail (no_blank tail plain) in
     let less : length tail < length rest = omega (arith, ap length whole, length-append blanks tail) in
-    ap (after_separator rest) reads ∙ plain_separated rest tail plain
-    ∙ cond-true _ _ _ (lt-ltb (length tail) (length rest) less) ∙ ap (λ t. Some t) (sym kept)
+    ap (after_separator rest) (ap skip_blanks whole ∙ skip_front (b ∷ blanks) tail all ∙ same)
+    ∙ spaced rest tail plain
+    ∙ cond-true _ _ _ (lt-ltb (length tail) (length rest) less) ∙ ap (λ t. Some t) (sym same)
 
 -- the rest has a tail, and the walk found it, without the blanks at its front
-record Tailed (found rest : List ℕ) : Type 0 where
-  tail : List ℕ
-  is : IsTailOf tail rest
-  same : found ≡ skip_blanks tail
+abbrev Tailed : List ℕ → List ℕ → Type 0
+Tailed rest found = (tail : List ℕ) × IsTailOf tail rest × (found ≡ skip_blanks tail)
 
 -- blanks alone separate what is left from the rest, if there are any
-blanks_found : (rest left found : List ℕ) → skip_blanks rest ≡ left → BeginsPlain left
-    → after_blanks rest left ≡ Some found → Tailed found rest
-blanks_found rest left found reads plain is = elim (cases_Bool (nat_lt (length left) (length rest))) [
+blanks_found : (rest left found : List ℕ) → Skipped left rest → BeginsPlain left
+    → after_blanks rest left ≡ Some found → Tailed rest found
+blanks_found rest left found s plain is = elim (cases_Bool (nat_lt (length left) (length rest))) [
   | inr short ↦ let wrong : None ≡ Some found = sym (cond-false _ _ _ short) ∙ is in cc
   | inl more ↦
-      let s = skipped rest in
-      let whole : rest ≡ s.blanks ++ left = s.whole ∙ ap (λ t. s.blanks ++ t) reads in
       let less = ltb-true (length left) (length rest) more in
       let some : s.blanks ≢ [] =
-      λ none. omega (arith, less, ap length (whole ∙ ap (λ t. t ++ left) none)) in
-      record {
-        tail = left;
-        is = (s.blanks, s.all, inr (whole, some, plain));
-        same = sym (same_Some _ _ (sym (cond-true _ _ _ more) ∙ is)) ∙ sym (plain_kept left plain);
-      }
+      λ none. omega (arith, less, ap length (s.whole ∙ ap (λ t. t ++ left) none)) in (
+        left,
+        (s.blanks, s.all, inr (s.whole, some, plain)),
+        sym (same_Some _ _ (sym (cond-true _ _ _ more) ∙ is)) ∙ sym (kept left s.plain),
+      )
 ]
 
-found_tail : (rest left found : List ℕ) → skip_blanks rest ≡ left
-    → after_separator rest left ≡ Some found → Tailed found rest
-found_tail rest [] found reads is = blanks_found rest [] found reads tt is
-found_tail rest (c ∷ left) found reads is = elim (cases_Bool (c == colon)) [
-  | inl with_colon ↦
-      let s = skipped rest in
-      let head = ap (λ x. x ∷ left) (eqb-true c colon with_colon) in
-      record {
-        tail = left;
-        is = (s.blanks, s.all, inl (s.whole ∙ ap (λ t. s.blanks ++ t) (reads ∙ head)));
-        same = sym (same_Some _ _ (sym (cond-true _ _ _ with_colon) ∙ is));
-      }
+found_tail : (rest left found : List ℕ) → Skipped left rest → after_separator rest left ≡ Some found
+    → Tailed rest found
+found_tail rest [] found s is = blanks_found rest [] found s tt is
+found_tail rest (c ∷ left) found s is = elim (cases_Bool (c == colon)) [
+  | inl with_colon ↦ (
+    left,
+    (s.blanks, s.all, inl (rw (← eqb-true c colon with_colon) s.whole)),
+    sym (same_Some _ _ (sym (cond-true _ _ _ with_colon) ∙ is)),
+  )
   | inr other ↦
-      let plain : BeginsPlain (c ∷ left) = (not_blank rest c left reads, eqb-false c colon other) in
-      blanks_found rest (c ∷ left) found reads plain (sym (cond-false _ _ _ other) ∙ is)
+      blanks_found rest (c ∷ left) found s (s.plain, eqb-false c colon other)
+      (sym (cond-false _ _ _ other) ∙ is)
 ]
 
 -- ---- regions
 
-region_hash : (b : ℕ) (tail : List ℕ) → (b == hash) ≡ true → region_of (b ∷ tail) ≡ []
-region_hash b tail is = rw is refl
-
-region_other : (b : ℕ) (tail : List ℕ) → (b == hash) ≡ false
-    → region_of (b ∷ tail) ≡ b ∷ region_of tail
-region_other b tail isnt = rw (isnt, one_more) refl
-  where
-    one_more : {n : ℕ} → 1 + n ≡ suc n
-    one_more = omega arith
+region_step : (b : ℕ) (tail : List ℕ) → region_of (b ∷ tail)
+    ≡ cond (not (b == hash)) (b ∷ region_of tail) []
+region_step b tail = take_while-cons (λ byte. not (byte == hash)) b tail
 
 -- the tail is a region with no hash and a comment
 record Parted (region tail : List ℕ) : Type 0 where
@@ -251,41 +212,43 @@ record Parted (region tail : List ℕ) : Type 0 where
 
 parted : (tail : List ℕ) → Parted (region_of tail) tail
 parted [] = record { comment = []; whole = refl; plain = tt; is = inl refl }
-parted (b ∷ tail) = elim (cases_Bool (b == hash)) [
-  | inl is ↦
-      let comment : IsComment (b ∷ tail) = inr (tail, ap (λ x. x ∷ tail) (eqb-true b hash is)) in
-      subst (λ r. Parted r (b ∷ tail)) (sym (region_hash b tail is))
-      (record { comment = b ∷ tail; whole = refl; plain = tt; is = comment })
+parted (b ∷ tail) = rw (region_step b tail) (elim (cases_Bool (b == hash)) [
+  | inl is ↦ rw is (record {
+    comment = b ∷ tail;
+    whole = refl;
+    plain = tt;
+    is = inr (tail, ap (λ x. x ∷ tail) (eqb-true b hash is));
+  })
   | inr isnt ↦
       let p = parted tail in
-      let plain : Each (λ byte. byte ≢ hash) (b ∷ region_of tail) = (eqb-false b hash isnt, p.plain) in
-      subst (λ r. Parted r (b ∷ tail)) (sym (region_other b tail isnt))
-      (record { comment = p.comment; whole = ap (λ t. b ∷ t) p.whole; plain = plain; is = p.is })
-]
+      rw isnt (record {
+        comment = p.comment;
+        whole = ap (λ t. b ∷ t) p.whole;
+        plain = (eqb-false b hash isnt, p.plain);
+        is = p.is;
+      })
+])
 
 pub region_is : (region comment : List ℕ) → Each (λ byte. byte ≢ hash) region → IsComment comment
     → region_of (region ++ comment) ≡ region
 region_is [] comment plain (inl empty) = ap region_of empty
-region_is [] comment plain (inr (text, is)) = ap region_of is ∙ region_hash hash text refl
+region_is [] comment plain (inr (text, is)) = ap region_of is ∙ region_step hash text
 region_is (b ∷ region) comment plain is =
-    region_other b (region ++ comment) (ne_eqb b hash plain.0)
-    ∙ ap (λ t. b ∷ t) (region_is region comment plain.1 is)
+    rw (region_step b (region ++ comment), ne_eqb b hash plain.0, region_is region comment plain.1 is) refl
 
 -- blanks before the value change nothing
 value_skipped : (tail : List ℕ) → value_of (skip_blanks tail) ≡ value_of tail
-value_skipped [] = refl
-value_skipped (b ∷ tail) = elim (cases_Bool (b == space || b == tab)) [
-  | inr isnt ↦ ap value_of (cond-false _ _ _ isnt)
-  | inl is ↦
-      let blank = (blank_decides b).0 is in
-      ap value_of (cond-true _ _ _ is) ∙ value_skipped tail
-      ∙ sym (ap trimmed (region_other b tail (ne_eqb b hash (plain b blank)))
-      ∙ blank_skipped b (region_of tail) blank)
-]
+value_skipped tail = let s = skipped tail in sym (ap value_of s.whole ∙ at s.blanks s.all)
   where
-    plain : (b : ℕ) → IsBlank b → b ≢ hash
-    plain b (inl is) e = omega (arith, is, e)
-    plain b (inr is) e = omega (arith, is, e)
+    first : (b : ℕ) (text : List ℕ) → IsBlank b → region_of (b ∷ text) ≡ b ∷ region_of text
+    first b text (inl is) = rw is (region_step 32 text)
+    first b text (inr is) = rw is (region_step 9 text)
+
+    at : (blanks : List ℕ) → Each IsBlank blanks
+        → value_of (blanks ++ skip_blanks tail) ≡ value_of (skip_blanks tail)
+    at [] all = refl
+    at (b ∷ blanks) all = ap trimmed (first b (blanks ++ skip_blanks tail) all.0)
+        ∙ blank_skipped b (region_of (blanks ++ skip_blanks tail)) all.0 ∙ at blanks all.1
 
 -- ---- the statement
 
@@ -296,86 +259,62 @@ statement_found kind value body s =
     let text = s.key ++ s.rest in
     let key = key_found kind s.key s.rest s.is_key in
     let reads : skip_blanks body ≡ text
-    = ap skip_blanks s.whole ∙ skip_front s.margin text s.margin_blank ∙ plain_by kind text key.0 in
-    let parts : parts_of body ≡ Some (kind, skip_blanks s.tail)
-    = rw (reads, key.0, key.1, tail_found s.tail s.rest s.separated) refl in
+    = ap skip_blanks s.whole ∙ skip_front s.margin text s.margin_blank ∙ kept text (plain_by kind text key.0) in
     let region : region_of s.tail ≡ s.region
     = ap region_of s.parted ∙ region_is s.region s.comment s.no_hash s.is_comment in
     let is : value_of (skip_blanks s.tail) ≡ value
     = value_skipped s.tail ∙ ap trimmed region
     ∙ one_trim s.region (trimmed s.region) value (trimmed_is_trim s.region) s.trimmed in
-    ap (λ o. option_map (λ p. (p.0, value_of p.1)) o) parts ∙ ap (λ v. Some (kind, v)) is
+    rw (reads, key.0, key.1, tail_found s.tail s.rest s.separated, is) refl
 
--- a key of the kind and what follows it
-stated : (kind : Kind) (body found : List ℕ) → tail_as kind (skip_blanks body) ≡ Some found
+-- a key of the kind, a separator and a tail
+stated : (kind : Kind) (body rest found : List ℕ)
+    → after_any (spellings kind) (skip_blanks body) ≡ Some rest → tail_of rest ≡ Some found
     → IsStatement kind (value_of found) body
-stated kind body found is =
-    option_and_then_some tail_of (after_any (spellings kind) (skip_blanks body)) found is
-    (λ rest keyed tailed.
+stated kind body rest found keyed is =
     let s = skipped body in
-    let k = found_key (spellings kind) (skip_blanks body) rest keyed in
-    let t = found_tail rest (skip_blanks rest) found refl tailed in
-    let p = parted t.tail in
-    let same = ap value_of t.same ∙ value_skipped t.tail in
+    let (key, is_key, whole) = found_key (spellings kind) (skip_blanks body) rest keyed in
+    let (tail, separated, same) = found_tail rest (skip_blanks rest) found (skipped rest) is in
+    let p = parted tail in
     record {
       margin = s.blanks;
-      key = k.key;
+      key = key;
       rest = rest;
-      tail = t.tail;
-      region = region_of t.tail;
+      tail = tail;
+      region = region_of tail;
       comment = p.comment;
-      whole = s.whole ∙ ap (λ t. s.blanks ++ t) k.whole;
+      whole = s.whole ∙ ap (λ t. s.blanks ++ t) whole;
       margin_blank = s.all;
-      is_key = k.is_key;
-      separated = t.is;
+      is_key = is_key;
+      separated = separated;
       parted = p.whole;
       no_hash = p.plain;
       is_comment = p.is;
-      trimmed = subst (λ v. IsTrimOf v (region_of t.tail)) (sym same) (trimmed_is_trim (region_of t.tail));
-    })
-
--- the parts of a body, as they are put together
-tail_from : (k kind : Kind) (o : Option (List ℕ)) (tail : List ℕ)
-    → ◌≡◌ {A = Option (Kind × List ℕ)} (option_map (λ t. (k, t)) o) (Some (kind, tail))
-    → (k ≡ kind) × (o ≡ Some tail)
-tail_from k kind None tail is =
-    let none : ◌≡◌ {A = Option (Kind × List ℕ)} None (Some (kind, tail)) = is in cc
-tail_from k kind (Some t) tail is =
-    let same = some_pair_parts k kind t tail is in
-    (same.0, ap (λ t. Some t) same.1)
-
-parts_stated : (kind : Kind) (body tail : List ℕ) → parts_of body ≡ Some (kind, tail)
-    → IsStatement kind (value_of tail) body
-parts_stated kind body tail is =
-    option_and_then_some (λ k. option_map (λ t. (k, t)) (tail_as k (skip_blanks body)))
-    (kind_by (skip_blanks body)) (kind, tail) is (λ k by found.
-    let same = tail_from k kind (tail_as k (skip_blanks body)) tail found in
-    subst (λ k. IsStatement k (value_of tail) body) same.0 (stated k body tail same.1))
+      trimmed = subst (λ v. IsTrimOf v (region_of tail)) (sym (ap value_of same ∙ value_skipped tail))
+          (trimmed_is_trim (region_of tail));
+    }
 
 pub found_statement : (kind : Kind) (value body : List ℕ) → statement_of body ≡ Some (kind, value)
     → IsStatement kind value body
 unfolding statement_of
-found_statement kind value body found = at (parts_of body) refl found
-  where
-    at : (parts : Option (Kind × List ℕ)) → parts_of body ≡ parts
-        → ◌≡◌ {A = Option (Kind × List ℕ)} (option_map (λ p. (p.0, value_of p.1)) parts)
-        (Some (kind, value))
-        → IsStatement kind value body
-    at None is found = let none : ◌≡◌ {A = Option (Kind × List ℕ)} None (Some (kind, value)) =
-        found in cc
-    at (Some (k, tail)) is found =
-        let same = some_pair_parts k kind (value_of tail) value found in
-        rw (← same.0, ← same.1) (parts_stated k body tail is)
+found_statement kind value body found =
+    let text = skip_blanks body in
+    option_and_then_some _ (parts_of body) (kind, value) found (λ parts is valued.
+    option_and_then_some _ (kind_by text) parts is (λ k by is.
+    option_and_then_some _ (tail_as k text) parts is (λ tail is paired.
+    option_and_then_some tail_of (after_any (spellings k) text) tail is (λ rest keyed tailed.
+    let same = ap (λ (p : Kind × List ℕ). (p.0, value_of p.1)) (same_Some _ _ paired) ∙ same_Some _ _ valued in
+    subst (λ (p : Kind × List ℕ). IsStatement p.0 p.1 body) same (stated k body rest tail keyed tailed)))))
 
 -- the walk's last step
 pub no_parts : (body : List ℕ) → parts_of body ≡ None → statement_of body ≡ None
 unfolding statement_of
-no_parts body none = ap (λ o. option_map (λ p. (p.0, value_of p.1)) o) none
+no_parts body none = ap (option_and_then (λ p. Some (p.0, value_of p.1))) none
 
 pub has_parts : (body : List ℕ) (kind : Kind) (tail : List ℕ) → parts_of body ≡ Some (kind, tail)
     → statement_of body ≡ Some (kind, value_of tail)
 unfolding statement_of
-has_parts body kind tail is = ap (λ o. option_map (λ p. (p.0, value_of p.1)) o) is
+has_parts body kind tail is = ap (option_and_then (λ p. Some (p.0, value_of p.1))) is
 
 -- a look at one kind
 pub this_kind : (body text : List ℕ) (kind : Kind) (found : Option (Bor (List ℕ)))

@@ -1,7 +1,7 @@
 -- The statement of a body, computed from its front.
 use Rattle.std.specs.Prelude.{◌≡◌, ◌⊎◌, ℕ, ◌==◌, ◌||◌, Bool, nat_lt, List, []}
 use Rattle.std.specs.Prelude.{◌∷◌, map, length, take, drop, Option, Some, None, if◌then◌else◌}
-use Rattle.std.specs.Prelude.{option_map, option_and_then}
+use Rattle.std.specs.Prelude.{option_and_then}
 use Rattle.std.specs.List.{before_first}
 use Rattle.std.specs.Char.{to_ascii_lowercase, is_whitespace}
 use Rattle.std.specs.Str.{bytes_eq}
@@ -86,9 +86,9 @@ tail_as kind text = option_and_then tail_of (after_any (spellings kind) text)
 -- the kind and the tail of a body, if it is a statement
 abbrev pub parts_of : List ℕ → Option (Kind × List ℕ)
 parts_of body = option_and_then
-    (λ kind. option_map (λ tail. (kind, tail)) (tail_as kind (skip_blanks body)))
+    (λ kind. option_and_then (λ tail. Some (kind, tail)) (tail_as kind (skip_blanks body)))
     (kind_by (skip_blanks body))
 
 -- the kind and the value of a body, if it is a statement
 unfoldable pub statement_of : List ℕ → Option (Kind × List ℕ)
-statement_of body = option_map (λ parts. (parts.0, value_of parts.1)) (parts_of body)
+statement_of body = option_and_then (λ parts. Some (parts.0, value_of parts.1)) (parts_of body)
