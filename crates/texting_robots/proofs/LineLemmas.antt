@@ -22,7 +22,7 @@ use Rattle.texting_robots.specs.Delay.{IsDelay}
 use Rattle.texting_robots.proofs.DelayLemmas.{delay_of_is, is_delay_of}
 use Rattle.texting_robots.proofs.CutLemmas.{is_cut, only_cut}
 use Rattle.texting_robots.proofs.StatementLemmas.{statement_found, found_statement}
-use Rattle.texting_robots.proofs.StatementLemmas.{unstated, no_parts, has_parts}
+use Rattle.texting_robots.proofs.StatementLemmas.{unstated, valued_parts}
 use Rattle.std.proofs.Common.{◌↔◌}
 
 -- ---- the line of a body
@@ -146,16 +146,16 @@ module _ {X : Type 0} (kind : Kind) (look : LineValue → X) (x : X)
     other_line body none = at (parts_of body) refl
       where
         at : (parts : Option (Kind × List ℕ)) → parts_of body ≡ parts → look (line_of body) ≡ x
-        at None is = ap look (line_raw body (no_parts body is)) ∙ raw body
+        at None is = ap look (line_raw body (valued_parts body is)) ∙ raw body
         at (Some (k, tail)) is = elim (only k (value_of tail) body) [
           | inl same ↦ absurd (none tail (is ∙ ap (λ k. Some (k, tail)) same))
-          | inr other ↦ ap look (line_stated body k (value_of tail) (has_parts body k tail is)) ∙ other
+          | inr other ↦ ap look (line_stated body k (value_of tail) (valued_parts body is)) ∙ other
         ]
 
 pub agent_line : (body tail : List ℕ) → parts_of body ≡ Some (kind.UserAgent, tail)
     → line_of body ≡ UserAgent (value_of tail)
 agent_line body tail is =
-    line_stated body kind.UserAgent (value_of tail) (has_parts body kind.UserAgent tail is)
+    line_stated body kind.UserAgent (value_of tail) (valued_parts body is)
 
 pub no_agent : (body : List ℕ) → ((tail : List ℕ) → parts_of body ≢ Some (kind.UserAgent, tail))
     → is_agent (line_of body) ≡ false
@@ -183,13 +183,13 @@ sitemap_told body None none =
 sitemap_told body (Some tail) is =
     sym
     (ap is_sitemap
-    (line_stated body kind.Sitemap (value_of tail.now) (has_parts body kind.Sitemap tail.now is)))
+    (line_stated body kind.Sitemap (value_of tail.now) (valued_parts body is)))
 
 pub delay_told : (body tail : List ℕ) (delay : Option ℕ)
     → parts_of body ≡ Some (kind.CrawlDelay, tail)
     → IsDelay (value_of tail) delay → delay ≡ delay_in (line_of body)
 delay_told body tail delay is names =
-    let line = line_stated body kind.CrawlDelay (value_of tail) (has_parts body kind.CrawlDelay tail is) in
+    let line = line_stated body kind.CrawlDelay (value_of tail) (valued_parts body is) in
     is_delay_of (value_of tail) delay names ∙ at (delay_of (value_of tail)) ∙ sym (ap delay_in line)
   where
     at : (delay : Option ℕ) → delay ≡ delay_in (delay_or_raw delay body)

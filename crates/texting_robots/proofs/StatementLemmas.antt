@@ -1,12 +1,8 @@
 -- A body is a statement of one kind with one value at most: the one that the walk gives.
-use Rattle.std.proofs.Common.{◌≡◌, ◌≢◌, ℕ, ◌<◌, ◌==◌}
-use Rattle.std.proofs.Common.{not, ◌||◌, inl, inr, List, [], ◌∷◌, ◌++◌, length, take, drop}
-use Rattle.std.proofs.Common.{map, sym, refl, ap, ◌∙◌, arith, if◌then◌else◌, Option, Some}
-use Rattle.std.proofs.Common.{None, option_and_then, length-append, subst, nat_lt, Bor, MatchOption}
+use Rattle.std.proofs.Common.{◌≡◌, ◌≢◌, ℕ, ◌<◌, ◌==◌, not, ◌||◌, inl, inr, List, [], ◌∷◌, ◌++◌, length}
+use Rattle.std.proofs.Common.{take, drop, map, sym, refl, ap, ◌∙◌, arith, rules, cond, if◌then◌else◌, subst}
+use Rattle.std.proofs.Common.{Option, Some, None, option_and_then, length-append, nat_lt, Bor, MatchOption}
 use Rattle.std.specs.Bool.{Decides}
-use Rattle.std.proofs.lemmas.Str.Ascii.{lowercase-lowercase}
-use Rattle.std.proofs.Common.{cond, rules}
-use Rattle.std.proofs.lemmas.List.Sums.{take_while-cons}
 use Rattle.std.specs.List.{AllByRecursion as Each, Contains}
 use Rattle.std.specs.Char.{to_ascii_lowercase}
 use Rattle.std.specs.Str.{bytes_eq}
@@ -16,6 +12,8 @@ use Rattle.std.proofs.lemmas.Bool.Decides.{Decides-or, Decides-eqb}
 use Rattle.std.proofs.lemmas.Option.{option_and_then_some, same_Some, some_pair_parts}
 use Rattle.std.proofs.lemmas.Slice.Eq.{bytes_eq-Decides}
 use Rattle.std.proofs.lemmas.List.{length-map, map-append, take-append-drop, take-map, drop_at}
+use Rattle.std.proofs.lemmas.List.Sums.{take_while-cons}
+use Rattle.std.proofs.lemmas.Str.Ascii.{lowercase-lowercase}
 use Rattle.std.proofs.lemmas.List.Elements.{All-contains, All-from_recursion, Contains-append_right}
 use Rattle.texting_robots.specs.declared.parser.statement.Kind.{Kind}
 use Rattle.texting_robots.specs.declared.parser.statement.Kind.TheVariants.{UserAgent, Allow, Disallow}
@@ -52,29 +50,17 @@ kept (b ∷ text) plain =
     cond-false _ _ _ (false_from_ne_true (b == space || b == tab) (λ is. plain ((blank_decides b).0 is)))
 
 -- the text is blanks and what is left
-record Skipped (left text : List ℕ) : Type 0 where
-  blanks : List ℕ
-  all : Each IsBlank blanks
-  whole : text ≡ blanks ++ left
-  plain : NoBlank left
+abbrev Skipped : List ℕ → List ℕ → Type 0
+Skipped left text = (blanks : List ℕ) × Each IsBlank blanks × (text ≡ blanks ++ left) × NoBlank left
 
 skipped : (text : List ℕ) → Skipped (skip_blanks text) text
-skipped [] = record { blanks = []; all = tt; whole = refl; plain = tt }
+skipped [] = ([], tt, refl, tt)
 skipped (b ∷ text) = elim (cases_Bool (b == space || b == tab)) [
   | inl is ↦
-      let s = skipped text in
-      rw is (record {
-        blanks = b ∷ s.blanks;
-        all = ((blank_decides b).0 is, s.all);
-        whole = ap (λ t. b ∷ t) s.whole;
-        plain = s.plain;
-      })
-  | inr isnt ↦ rw isnt (record {
-    blanks = [];
-    all = tt;
-    whole = refl;
-    plain = λ blank. true≢false (sym ((blank_decides b).1 blank) ∙ isnt);
-  })
+      let (blanks, all, whole, plain) = skipped text in
+      rw is (b ∷ blanks, ((blank_decides b).0 is, all), ap (λ t. b ∷ t) whole, plain)
+  | inr isnt ↦
+      rw isnt ([], tt, refl, λ blank. true≢false (sym ((blank_decides b).1 blank) ∙ isnt))
 ]
 
 -- ---- keys
@@ -132,37 +118,34 @@ found_key [] text rest is = let none : None ≡ Some rest = is in cc
 found_key (s ∷ list) text rest is = elim (cases_Bool (begins s text)) [
   | inl test ↦
       let n = length s in
-      let same : drop n text ≡ rest = same_Some _ _ (sym (cond-true _ _ _ test) ∙ is) in (
+      let same : drop n text ≡ rest = same_Some _ _ (rw test at is) in (
         take n text,
         (0, omega arith, sym ((bytes_eq-Decides _ _).0 test)),
         sym (take-append-drop n text) ∙ ap (λ t. take n text ++ t) same,
       )
   | inr other ↦
-      let (key, among, whole) = found_key list text rest (sym (cond-false _ _ _ other) ∙ is) in
+      let (key, among, whole) = found_key list text rest (rw other at is) in
       (key, Contains-append_right (s ∷ []) list _ among, whole)
 ]
 
 -- ---- separators
 
--- where no colon is first, blanks alone separate
-spaced : (rest tail : List ℕ) → BeginsPlain tail → after_separator rest tail ≡ after_blanks rest tail
-spaced rest [] plain = refl
-spaced rest (b ∷ tail) plain = cond-false _ _ _ (ne_eqb b colon plain.1)
-
-no_blank : (tail : List ℕ) → BeginsPlain tail → NoBlank tail
-no_blank [] plain = tt
-no_blank (b ∷ tail) plain = plain.0
+-- where no blank and no colon is first, nothing is skipped, and blanks alone separate
+spaced : (rest tail : List ℕ) → BeginsPlain tail
+    → (skip_blanks tail ≡ tail) × (after_separator rest tail ≡ after_blanks rest tail)
+spaced rest [] plain = (refl, refl)
+spaced rest (b ∷ tail) plain = (kept (b ∷ tail) plain.0, cond-false _ _ _ (ne_eqb b colon plain.1))
 
 tail_found : (tail rest : List ℕ) → IsTailOf tail rest → tail_of rest ≡ Some (skip_blanks tail)
 tail_found tail rest (blanks, all, inl whole) =
     ap (after_separator rest) (ap skip_blanks whole ∙ skip_front blanks (colon ∷ tail) all)
 tail_found tail rest ([], all, inr (whole, some, plain)) = absurd (some refl)
 tail_found tail rest (b ∷ blanks, all, inr (whole, some, plain)) =
-    let same = kept tail (no_blank tail plain) in
+    let (same, blanks_alone) = spaced rest tail plain in
     let less : length tail < length rest = omega (arith, ap length whole, length-append blanks tail) in
-    ap (after_separator rest) (ap skip_blanks whole ∙ skip_front (b ∷ blanks) tail all ∙ same)
-    ∙ spaced rest tail plain
-    ∙ cond-true _ _ _ (lt-ltb (length tail) (length rest) less) ∙ ap (λ t. Some t) (sym same)
+    let short = lt-ltb (length tail) (length rest) less in
+    let reads : skip_blanks rest ≡ tail = ap skip_blanks whole ∙ skip_front (b ∷ blanks) tail all ∙ same in
+    rw (reads, blanks_alone, short, same) refl
 
 -- the rest has a tail, and the walk found it, without the blanks at its front
 abbrev Tailed : List ℕ → List ℕ → Type 0
@@ -171,30 +154,26 @@ Tailed rest found = (tail : List ℕ) × IsTailOf tail rest × (found ≡ skip_b
 -- blanks alone separate what is left from the rest, if there are any
 blanks_found : (rest left found : List ℕ) → Skipped left rest → BeginsPlain left
     → after_blanks rest left ≡ Some found → Tailed rest found
-blanks_found rest left found s plain is = elim (cases_Bool (nat_lt (length left) (length rest))) [
-  | inr short ↦ let wrong : None ≡ Some found = sym (cond-false _ _ _ short) ∙ is in cc
-  | inl more ↦
-      let less = ltb-true (length left) (length rest) more in
-      let some : s.blanks ≢ [] =
-      λ none. omega (arith, less, ap length (s.whole ∙ ap (λ t. t ++ left) none)) in (
-        left,
-        (s.blanks, s.all, inr (s.whole, some, plain)),
-        sym (same_Some _ _ (sym (cond-true _ _ _ more) ∙ is)) ∙ sym (kept left s.plain),
-      )
-]
+blanks_found rest left found (blanks, all, whole, _) plain is =
+    elim (cases_Bool (nat_lt (length left) (length rest))) [
+      | inr short ↦ let none : None ≡ Some found = rw short at is in cc
+      | inl more ↦
+          let less = ltb-true (length left) (length rest) more in
+          let some : blanks ≢ [] = λ none. omega (arith, less, ap length (whole ∙ ap (λ t. t ++ left) none)) in
+          let same : left ≡ found = same_Some _ _ (rw more at is) in
+          (left, (blanks, all, inr (whole, some, plain)), sym same ∙ sym (spaced rest left plain).0)
+    ]
 
 found_tail : (rest left found : List ℕ) → Skipped left rest → after_separator rest left ≡ Some found
     → Tailed rest found
 found_tail rest [] found s is = blanks_found rest [] found s tt is
 found_tail rest (c ∷ left) found s is = elim (cases_Bool (c == colon)) [
-  | inl with_colon ↦ (
+  | inl is_colon ↦ (
     left,
-    (s.blanks, s.all, inl (rw (← eqb-true c colon with_colon) s.whole)),
-    sym (same_Some _ _ (sym (cond-true _ _ _ with_colon) ∙ is)),
+    (s.0, s.1, inl (rw (← eqb-true c colon is_colon) s.2)),
+    sym (same_Some _ _ (rw is_colon at is)),
   )
-  | inr other ↦
-      blanks_found rest (c ∷ left) found s (s.plain, eqb-false c colon other)
-      (sym (cond-false _ _ _ other) ∙ is)
+  | inr other ↦ blanks_found rest (c ∷ left) found s (s.3, eqb-false c colon other) (rw other at is)
 ]
 
 -- ---- regions
@@ -204,29 +183,17 @@ region_step : (b : ℕ) (tail : List ℕ) → region_of (b ∷ tail)
 region_step b tail = take_while-cons (λ byte. not (byte == hash)) b tail
 
 -- the tail is a region with no hash and a comment
-record Parted (region tail : List ℕ) : Type 0 where
-  comment : List ℕ
-  whole : tail ≡ region ++ comment
-  plain : Each (λ byte. byte ≢ hash) region
-  is : IsComment comment
+abbrev Parted : List ℕ → List ℕ → Type 0
+Parted region tail = (comment : List ℕ) × (tail ≡ region ++ comment)
+    × Each (λ byte. byte ≢ hash) region × IsComment comment
 
 parted : (tail : List ℕ) → Parted (region_of tail) tail
-parted [] = record { comment = []; whole = refl; plain = tt; is = inl refl }
+parted [] = ([], refl, tt, inl refl)
 parted (b ∷ tail) = rw (region_step b tail) (elim (cases_Bool (b == hash)) [
-  | inl is ↦ rw is (record {
-    comment = b ∷ tail;
-    whole = refl;
-    plain = tt;
-    is = inr (tail, ap (λ x. x ∷ tail) (eqb-true b hash is));
-  })
+  | inl is ↦ rw is (b ∷ tail, refl, tt, inr (tail, ap (λ x. x ∷ tail) (eqb-true b hash is)))
   | inr isnt ↦
-      let p = parted tail in
-      rw isnt (record {
-        comment = p.comment;
-        whole = ap (λ t. b ∷ t) p.whole;
-        plain = (eqb-false b hash isnt, p.plain);
-        is = p.is;
-      })
+      let (comment, whole, plain, is) = parted tail in
+      rw isnt (comment, ap (λ t. b ∷ t) whole, (eqb-false b hash isnt, plain), is)
 ])
 
 pub region_is : (region comment : List ℕ) → Each (λ byte. byte ≢ hash) region → IsComment comment
@@ -238,7 +205,7 @@ region_is (b ∷ region) comment plain is =
 
 -- blanks before the value change nothing
 value_skipped : (tail : List ℕ) → value_of (skip_blanks tail) ≡ value_of tail
-value_skipped tail = let s = skipped tail in sym (ap value_of s.whole ∙ at s.blanks s.all)
+value_skipped tail = let (blanks, all, whole, _) = skipped tail in sym (ap value_of whole ∙ at blanks all)
   where
     first : (b : ℕ) (text : List ℕ) → IsBlank b → region_of (b ∷ text) ≡ b ∷ region_of text
     first b text (inl is) = rw is (region_step 32 text)
@@ -272,24 +239,24 @@ stated : (kind : Kind) (body rest found : List ℕ)
     → after_any (spellings kind) (skip_blanks body) ≡ Some rest → tail_of rest ≡ Some found
     → IsStatement kind (value_of found) body
 stated kind body rest found keyed is =
-    let s = skipped body in
+    let (margin, blank, before, _) = skipped body in
     let (key, is_key, whole) = found_key (spellings kind) (skip_blanks body) rest keyed in
     let (tail, separated, same) = found_tail rest (skip_blanks rest) found (skipped rest) is in
-    let p = parted tail in
+    let (comment, parts, no_hash, is_comment) = parted tail in
     record {
-      margin = s.blanks;
+      margin = margin;
       key = key;
       rest = rest;
       tail = tail;
       region = region_of tail;
-      comment = p.comment;
-      whole = s.whole ∙ ap (λ t. s.blanks ++ t) whole;
-      margin_blank = s.all;
+      comment = comment;
+      whole = before ∙ ap (λ t. margin ++ t) whole;
+      margin_blank = blank;
       is_key = is_key;
       separated = separated;
-      parted = p.whole;
-      no_hash = p.plain;
-      is_comment = p.is;
+      parted = parts;
+      no_hash = no_hash;
+      is_comment = is_comment;
       trimmed = subst (λ v. IsTrimOf v (region_of tail)) (sym (ap value_of same ∙ value_skipped tail))
           (trimmed_is_trim (region_of tail));
     }
@@ -307,14 +274,10 @@ found_statement kind value body found =
     subst (λ (p : Kind × List ℕ). IsStatement p.0 p.1 body) same (stated k body rest tail keyed tailed)))))
 
 -- the walk's last step
-pub no_parts : (body : List ℕ) → parts_of body ≡ None → statement_of body ≡ None
+pub valued_parts : (body : List ℕ) {parts : Option (Kind × List ℕ)} → parts_of body ≡ parts
+    → statement_of body ≡ option_and_then (λ p. Some (p.0, value_of p.1)) parts
 unfolding statement_of
-no_parts body none = ap (option_and_then (λ p. Some (p.0, value_of p.1))) none
-
-pub has_parts : (body : List ℕ) (kind : Kind) (tail : List ℕ) → parts_of body ≡ Some (kind, tail)
-    → statement_of body ≡ Some (kind, value_of tail)
-unfolding statement_of
-has_parts body kind tail is = ap (option_and_then (λ p. Some (p.0, value_of p.1))) is
+valued_parts body is = ap (option_and_then (λ p. Some (p.0, value_of p.1))) is
 
 -- a look at one kind
 pub this_kind : (body text : List ℕ) (kind : Kind) (found : Option (Bor (List ℕ)))
@@ -337,7 +300,4 @@ one_statement kind kind' value value' body s t =
 
 pub unstated : (body : List ℕ) → statement_of body ≡ None → (kind : Kind) (value : List ℕ)
     → ¬ IsStatement kind value body
-unstated body none kind value is =
-    let wrong : ◌≡◌ {A = Option (Kind × List ℕ)} None (Some (kind, value)) =
-    sym none ∙ statement_found kind value body is in
-    cc
+unstated body none kind value is = let found = statement_found kind value body is in cc

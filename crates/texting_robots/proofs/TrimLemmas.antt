@@ -8,7 +8,7 @@ use Rattle.std.specs.Char.{is_ascii_graphic, is_whitespace, encode_utf8}
 use Rattle.std.specs.Str.{encode_utf8_all}
 use Rattle.std.proofs.lemmas.Bool.{cases_Bool, cond-true, cond-false}
 use Rattle.std.proofs.lemmas.Bool.Decides.{nat_tests}
-use Rattle.std.proofs.lemmas.List.{drop_all, drop_at, drop-drop, length-drop, length-take-le}
+use Rattle.std.proofs.lemmas.List.{append_cancel_right, drop_all, drop_at, drop-append-le, drop-drop, length-drop, length-take}
 use Rattle.std.proofs.lemmas.List.{take-append-drop, take_all, take_at, take_more}
 use Rattle.std.proofs.lemmas.Option.{same_Some, slice_get-get_or}
 use Rattle.std.proofs.lemmas.Str.{encode_ascii, encodes-append, IsUtf8-encode, IsCharBoundary-start}
@@ -21,7 +21,7 @@ use Rattle.bstr.proofs.lemmas.SoundLemmas.{SpellsChar-decoded}
 use Rattle.bstr.proofs.lemmas.TrimLemmas.{kept_end-snoc}
 use Rattle.texting_robots.proofs.Rfc9309.CharLemmas.{each_append}
 use lib.Utf8.{low_scalar, scalar}
-use Rattle.texting_robots.specs.Trim.{IsTrimOf}
+use Rattle.texting_robots.specs.Trim.{IsSpaces, IsTrimOf}
 use Rattle.texting_robots.specs.Statement.{IsBlank}
 use Rattle.texting_robots.specs.Steps.Statement.{trimmed}
 
@@ -104,11 +104,12 @@ encode_some c = grind (arith, nat_tests)
 start_char : (c : ℕ) (rest : List ℕ) → scalar c ≡ true → from_start (encode_utf8 c ++ rest)
     ≡ cond (is_whitespace c) (from_start rest) (encode_utf8 c ++ rest)
 start_char c rest is =
-    let bytes = encode_utf8 c ++ rest in
-    start_step bytes (omega (arith, encode_some c, length-append (encode_utf8 c) rest))
-    ∙ ap (λ (p : Decoded). cond (is_whitespace (or_replacement p.char)) (from_start (drop p.size bytes)) bytes)
-    (decoded-encode c rest is)
-    ∙ ap (λ t. cond (is_whitespace c) (from_start t) bytes) (drop_at (encode_utf8 c) rest _ refl)
+    let some = encode_some c in
+    rw (
+      start_step (encode_utf8 c ++ rest) (simp length-append (omega arith)),
+      decoded-encode c rest is,
+      drop_at (encode_utf8 c) rest _ refl,
+    ) refl
 
 start_spaces : (chars rest : List ℕ) → AllWhite chars
     → from_start (encode_utf8_all chars ++ rest) ≡ from_start rest
@@ -171,63 +172,47 @@ end_spaces (c ∷ cs) rest all =
     ∙ end_spaces cs (rest ++ encode_utf8 c) all.1
     ∙ end_char rest c (white_scalar c all.0) ∙ cond-true _ _ _ all.0
 
--- the text is a value, spaces and bytes; the value ends at one place, and the bytes begin at the other
-record Upto (bytes text : List ℕ) (end off : ℕ) : Type 0 where
-  value : List ℕ
-  chars : List ℕ
-  all : AllWhite chars
-  whole : text ≡ value ++ (encode_utf8_all chars ++ bytes)
-  ends : end ≡ length value
-  begins : off ≡ length value + length (encode_utf8_all chars)
+-- spaces stand behind the place
+abbrev Ended : List ℕ → ℕ → Type 0
+Ended text end = (end ≤ length text) × IsSpaces (drop end text)
 
 -- a piece more
-upto_next : (bytes text : List ℕ) (end off : ℕ) → 0 < length bytes → Upto bytes text end off
-    → (let next = off + (decoded bytes).size in
-    Upto (behind bytes) text (cond (is_whitespace (first_char bytes)) end next) next)
-upto_next bytes text end off some u =
+ended_next : (bytes text : List ℕ) (end : ℕ) → 0 < length bytes → Ended text end
+    → (let n = (decoded bytes).size in
+    Ended (text ++ take n bytes) (cond (is_whitespace (first_char bytes)) end (length text + n)))
+ended_next bytes text end some (within, (chars, all, spaces)) =
+    let c = first_char bytes in
     let n = (decoded bytes).size in
-    let bounds = piece-bounds bytes some in
     let piece = take n bytes in
-    let long : length piece ≡ n = length-take-le n bytes (omega arith) in
-    let spaces = encode_utf8_all u.chars in
-    let parts = sym (take-append-drop n bytes) in
-    elim (cases_Bool (is_whitespace (first_char bytes))) [
-      | inr other ↦ rw other (record {
-        value = u.value ++ (spaces ++ piece);
-        chars = [];
-        all = tt;
-        whole = u.whole ∙ ap (λ t. u.value ++ (spaces ++ t)) parts ∙ (simp append_assoc);
-        ends = simp length-append (omega (arith, u.begins));
-        begins = simp length-append (omega (arith, u.begins));
-      })
+    let bounds = piece-bounds bytes some in
+    let long : length (text ++ piece) ≡ length text + n = simp (length-append, length-take) (omega arith) in
+    elim (cases_Bool (is_whitespace c)) [
+      | inr other ↦ rw other (omega arith, ([], tt, drop_all (length text + n) (text ++ piece) (omega arith)))
       | inl white ↦
-          let c = first_char bytes in
-          let spelling = spelled bytes white in
-          let left = length-drop n bytes in
-          rw white (record {
-            value = u.value;
-            chars = u.chars ++ c ∷ [];
-            all = each_append (λ char. IsTrue (is_whitespace char)) u.chars (c ∷ []) u.all (white, tt);
-            whole = u.whole ∙ ap (λ t. u.value ++ (spaces ++ t)) spelling
-                ∙ (simp (encodes-append, append_assoc));
-            ends = u.ends;
-            begins = simp (encodes-append, length-append)
-                (omega (arith, left, simp length-append at (ap length spelling), u.begins));
-          })
+          let same : piece ≡ encode_utf8 c
+          = append_cancel_right _ _ (behind bytes) (take-append-drop n bytes ∙ spelled bytes white) in
+          rw white (
+            omega arith,
+            (
+              chars ++ c ∷ [],
+              each_append (λ char. IsTrue (is_whitespace char)) chars (c ∷ []) all (white, tt),
+              rw (drop-append-le end text piece within, spaces, encodes-append, append-nil, same) refl,
+            ),
+          )
     ]
 
-ended : (bytes text : List ℕ) (end off : ℕ) → Upto bytes text end off
-    → (last : ℕ) × Upto [] text (kept_end is_whitespace end (spans_from off (pieces bytes))) last
+ended : (bytes text : List ℕ) (end : ℕ) → Ended text end
+    → Ended (text ++ bytes) (kept_end is_whitespace end (spans_from (length text) (pieces bytes)))
 unfolding kept_end
-ended = by_pieces (λ bytes. (text : List ℕ) (end off : ℕ) → Upto bytes text end off
-    → (last : ℕ) × Upto [] text (kept_end is_whitespace end (spans_from off (pieces bytes))) last)
-    (λ text end off u. (off, rw (spans-nil [] off refl) u))
-    (λ bytes some later text end off u.
-    rw (spans-first bytes off some) (later text _ _ (upto_next bytes text end off some u)))
-
-valued : (bytes : List ℕ) → (last : ℕ) × Upto [] bytes (end_of bytes) last
-valued bytes = ended bytes bytes 0 0
-    (record { value = []; chars = []; all = tt; whole = refl; ends = refl; begins = refl })
+ended = by_pieces (λ bytes. (text : List ℕ) (end : ℕ) → Ended text end
+    → Ended (text ++ bytes) (kept_end is_whitespace end (spans_from (length text) (pieces bytes))))
+    (λ text end e. rw (append-nil, spans-nil [] (length text) refl) e)
+    (λ bytes some later text end e.
+    let n = (decoded bytes).size in
+    let bounds = piece-bounds bytes some in
+    let long : length (text ++ take n bytes) ≡ length text + n = simp (length-append, length-take) (omega arith) in
+    rw (spans-first bytes (length text) some)
+    (rw (append_assoc, take-append-drop, long) at (later (text ++ take n bytes) _ (ended_next bytes text end some e))))
 
 -- ---- the trim
 
@@ -236,15 +221,11 @@ trimmed_is_trim region =
     let (chars, all, cut) = started region in
     let front = encode_utf8_all chars in
     let rest = from_start region in
-    let u = (valued rest).1 in
-    let back = encode_utf8_all u.chars in
-    let whole : rest ≡ u.value ++ back = u.whole ∙ ap (λ t. u.value ++ t) (append-nil back) in
-    let value_is : trimmed region ≡ u.value
-    = ap (λ k. take k rest) u.ends ∙ ap (take (length u.value)) whole ∙ take_at u.value back _ refl in
-    rw value_is (record {
+    let e = ended rest [] 0 (omega arith, ([], tt, refl)) in
+    let whole = take-append-drop (end_of rest) rest in record {
       front = front;
-      back = back;
-      whole = cut ∙ ap (λ t. front ++ t) whole;
+      back = drop (end_of rest) rest;
+      whole = cut ∙ ap (λ t. front ++ t) (sym whole);
       front_spaces = (chars, all, refl);
       front_longest = λ s r e is.
           let same : rest ≡ from_start r
@@ -257,20 +238,14 @@ trimmed_is_trim region =
             simp length-append at (ap length cut),
             simp length-append at (ap length e),
           );
-      back_spaces = (u.chars, u.all, refl);
+      back_spaces = e.1;
       back_longest = λ r s e is.
           let same : end_of rest ≡ end_of r
-          = ap end_of (whole ∙ e ∙ ap (λ t. r ++ t) is.2) ∙ end_spaces is.0 r is.1 in
-          let v = (valued r).1 in
-          omega (
-            arith,
-            same,
-            u.ends,
-            v.ends,
-            simp length-append at (ap length v.whole),
-            simp length-append at (ap length e),
-          );
-    })
+          = ap end_of (sym whole ∙ e ∙ ap (λ t. r ++ t) is.2) ∙ end_spaces is.0 r is.1 in
+          let within = (ended r [] 0 (omega arith, ([], tt, refl))).0 in
+          let long : length rest ≡ length r + length s = ap length (sym whole ∙ e) ∙ length-append r s in
+          omega (arith, same, within, length-drop (end_of rest) rest);
+    }
 
 pub one_trim : (region value value' : List ℕ) → IsTrimOf value region → IsTrimOf value' region
     → value ≡ value'

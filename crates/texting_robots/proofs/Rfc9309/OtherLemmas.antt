@@ -14,7 +14,7 @@ use Rattle.texting_robots.specs.Steps.Statement.{IsComment, space, tab}
 use Rattle.texting_robots.specs.Steps.Statement.{kind_by, parts_of, skip_blanks, statement_of}
 use Rattle.texting_robots.specs.Rfc9309 as rfc
 use Rattle.texting_robots.proofs.LineLemmas.{line_raw}
-use Rattle.texting_robots.proofs.StatementLemmas.{blank_decides, found_statement, no_parts, skip_front}
+use Rattle.texting_robots.proofs.StatementLemmas.{blank_decides, found_statement, valued_parts, skip_front}
 use Rattle.texting_robots.proofs.Rfc9309.CharLemmas.{each_append}
 use Rattle.texting_robots.proofs.Rfc9309.KeyedLemmas.{blanks_bare, blanks_low, comment_is, comment_text}
 use Rattle.texting_robots.proofs.Rfc9309.KeyedLemmas.{each_weaker, end_bare}
@@ -45,7 +45,7 @@ empty_line text eol =
     (comment_low eol.comment comment) in
     subst (Reads []) (sym (eol.whole ∙ sym (append_assoc eol.blanks eol.comment eol.nl)))
     (reads_line (Raw body, written body) body eol.nl
-    (ap (λ line. (line, written body)) (line_raw body (no_parts body no_part)))
+    (ap (λ line. (line, written body)) (line_raw body (valued_parts body no_part)))
     (end_bare text eol) low eol.is_nl)
 
 -- ---- a text that begins with no blank

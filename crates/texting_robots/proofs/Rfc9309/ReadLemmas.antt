@@ -12,7 +12,7 @@ use Rattle.texting_robots.proofs.CrLfLemmas.{bodies_of}
 use Rattle.texting_robots.proofs.LineLemmas.{line_raw}
 use Rattle.texting_robots.proofs.Rfc9309.BodyLemmas.{body_return, body_step, step}
 use Rattle.texting_robots.proofs.Rfc9309.CharLemmas.{each_append}
-use Rattle.texting_robots.proofs.StatementLemmas.{no_parts}
+use Rattle.texting_robots.proofs.StatementLemmas.{valued_parts}
 use Rattle.texting_robots.proofs.Rfc9309.Told.{Told, matters, plays, told_of, written}
 
 -- ---- what is heard of a text
@@ -28,7 +28,7 @@ heard text = heard_in (bodies_of (cut text))
 pub empty_unheard : (bodies : List (List ℕ)) → heard_in ([] ∷ bodies) ≡ heard_in bodies
 empty_unheard bodies =
     ap (λ line. cond (plays line) ((line, written []) ∷ heard_in bodies) (heard_in bodies))
-    (line_raw [] (no_parts [] refl))
+    (line_raw [] (valued_parts [] refl))
 
 -- ---- a line and its end
 
