@@ -42,38 +42,24 @@ first_of text = pair_of (take (body_len text) text) (take (end_len (behind_body 
 abbrev FirstLine : List ℕ → Type 0
 FirstLine text = cut text ≡ first_of text ∷ cut (rest_of text)
 
--- a CR before the first pair
-after_return : (c : ℕ) (text : List ℕ) → FirstLine (c ∷ text)
-    → before_end (first_of (c ∷ text) ∷ cut (rest_of (c ∷ text)))
-    ≡ first_of (cr ∷ c ∷ text) ∷ cut (rest_of (cr ∷ c ∷ text))
-after_return c text next = elim (byte_cases c) [
-  | inl feed ↦ rw feed refl
-  | inr (inl return) ↦ rw return refl
-  | inr (inr other) ↦ (let no_lf = ne_eqb c lf other.1 in
-      let no_cr = ne_eqb c cr other.0 in
-      let again = rw (no_lf, no_cr) at next in
-      rw (no_lf, no_cr) (ap (λ pairs. pair_of [] (cr ∷ []) ∷ pairs) (sym again)))
-]
-
 first_line : (b : ℕ) (text : List ℕ) → FirstLine (b ∷ text)
 first_line b [] = elim (byte_cases b) [
-  | inl feed ↦ rw feed (cut_cons lf [])
-  | inr (inl return) ↦ rw return
-      (cut_cons cr [] ∙ ap before_end cut_nil ∙ ap (λ l. pair_of [] (cr ∷ []) ∷ l) (sym cut_nil))
-  | inr (inr other) ↦ (let first = cut_cons b [] ∙ at_other b (cut []) other
-      ∙ ap (before_body b) cut_nil in
-      rw (ne_eqb b lf other.1, ne_eqb b cr other.0)
-      (first ∙ ap (λ l. pair_of (b ∷ []) [] ∷ l) (sym cut_nil)))
+  | inl feed ↦ rw (feed, cut_cons) refl
+  | inr (inl return) ↦ rw (return, cut_cons, cut_nil) refl
+  | inr (inr other) ↦ rw (cut_cons, ne_eqb b lf other.1, ne_eqb b cr other.0, cut_nil) refl
 ]
 first_line b (c ∷ text) =
     let next = first_line c text in
     elim (byte_cases b) [
-      | inl feed ↦ rw feed (cut_cons lf (c ∷ text))
-      | inr (inl return) ↦ rw return
-          (cut_cons cr (c ∷ text) ∙ ap before_end next ∙ after_return c text next)
-      | inr (inr other) ↦ (let first = cut_cons b (c ∷ text) ∙ at_other b (cut (c ∷ text)) other
-          ∙ ap (before_body b) next in
-          rw (ne_eqb b lf other.1, ne_eqb b cr other.0) first)
+      | inl feed ↦ rw (feed, cut_cons lf) refl
+      | inr (inl return) ↦ rw (return, cut_cons cr, next) (elim (byte_cases c) [
+        | inl feed ↦ rw feed refl
+        | inr (inl return) ↦ rw return refl
+        | inr (inr other) ↦ rw (ne_eqb c lf other.1, ne_eqb c cr other.0)
+            (ap (λ pairs. pair_of [] (cr ∷ []) ∷ pairs)
+            (sym (rw (ne_eqb c lf other.1, ne_eqb c cr other.0) at next)))
+      ])
+      | inr (inr other) ↦ rw (cut_cons b, ne_eqb b lf other.1, ne_eqb b cr other.0, next) refl
     ]
 
 lines_first : (text : List ℕ) → 0 < length text
@@ -243,13 +229,3 @@ next_line n rest some =
     let after = drop k rest in
     lines_first text (rw (length-map rest (read_byte n)) some)
     ∙ rw (body_plain n rest, drop-map (read_byte n) k rest, drop-map (read_byte n) _ after) refl
-
--- what the tests of the reader say
-pub not_empty : (n : ℕ) (b : Bool) → b ≡ (n == 0) → b ≡ false → 0 < n
-not_empty n b e f = grind (arith, nat_tests)
-
-pub nothing_is : (text : List ℕ) (b : Bool) → b ≡ (length text == 0) → b ≡ true → text ≡ []
-nothing_is text b e f = nil_from_length text (eqb-true (length text) 0 (sym e ∙ f))
-
-pub shorter : (x : LineValue) (s t : List LineValue) → s ≡ x ∷ t → length t < length s
-shorter x s t e = rw e (omega arith)

@@ -209,16 +209,7 @@ sitemaps_change_nothing_else = same_kept (λ line. not (is_sitemap line)) sitema
 
 pub agent_case : (agent other : List ℕ) (lines : List LineValue)
     → str_to_ascii_lowercase agent ≡ str_to_ascii_lowercase other → Same agent lines other lines
-agent_case agent other lines same =
-    let low = λ (n : List ℕ). cond (list_any (is_agent_named n) lines) n (codes "*") in
-    let name : group_name agent lines ≡ group_name other lines = ap low same in
-    let delays = λ (n : List ℕ). filter_map (λ p. delay_in p.1) (captured_lines n lines) in
-    let stray = delay_before_agents lines in (
-      same_from agent lines other lines
-          (ap (λ n. unplaced (filter_map placed_in (captured_lines n lines))) name)
-          (ap (λ n. option_or (slice_get (delays n) 0) stray) name),
-      refl,
-    )
+agent_case agent other lines same = (same_from agent lines other lines (rw same refl) (rw same refl), refl)
 
 -- ---- another value in a line that isn't captured
 

@@ -1,14 +1,16 @@
-use Rattle.std.proofs.Common.{◌∙◌, sym, ap}
+use Rattle.std.proofs.Common.{◌∙◌, sym, ap, arith}
+use Rattle.std.proofs.lemmas.Bool.Decides.{nat_tests}
+use Rattle.std.proofs.lemmas.List.{nil_from_length}
 use Rattle.texting_robots.specs.Steps.Cut.{read_as}
 use Rattle.texting_robots.specs.Steps.Line.{lines_of}
-use Rattle.texting_robots.proofs.CutFromFront.{lines_nil, next_line, not_empty, nothing_is, shorter}
+use Rattle.texting_robots.proofs.CutFromFront.{lines_nil, next_line}
 use Rattle.texting_robots.proofs.parser.UnreadLinesIterator.next.Goals as goal
 
 pub returns-then-is_empty-clause-steps : goal.returns-then-is_empty-clause-steps
 returns-then-is_empty-clause-steps c =
     let none = sym c.self.view_is
     ∙ ap (λ text. lines_of (read_as c.self.inside.nul_ends text))
-    (nothing_is _ _ c.is_empty.ensures c.if-is_empty.true)
+    (nil_from_length _ (grind (arith, nat_tests, c.is_empty.ensures, c.if-is_empty.true)))
     ∙ lines_nil in
     (none, none)
 
@@ -22,9 +24,8 @@ returns-clause-steps c =
       c.body_len.ensures.value,
     )
     (next_line c.self.inside.nul_ends c.self.inside.rest.now
-    (not_empty _ _ c.is_empty.ensures c.if-is_empty.false))
+    (grind (arith, nat_tests, c.is_empty.ensures, c.if-is_empty.false)))
 
 pub returns-clause-goes : goal.returns-clause-goes
 returns-clause-goes c =
-    let falls = shorter _ _ _ (returns-clause-steps c) in
-    record { on = λ _. (tt, tt, falls); keeps = tt; rests = λ _. tt }
+    record { on = λ _. (tt, tt, rw (returns-clause-steps c) (omega arith)); keeps = tt; rests = λ _. tt }
