@@ -1,5 +1,5 @@
 -- The walk along the lines says what the definition by places says.
-use Rattle.std.proofs.Common.{◌≡◌, ◌≤◌, ◌⊎◌, inl, inr, ℕ, zero, suc}
+use Rattle.std.proofs.Common.{◌≡◌, ◌≤◌, inl, inr, ℕ, zero, suc}
 use Rattle.std.proofs.Common.{◌+◌, ◌<◌, nat_lt, Bool, true, false, not, ◌&&◌}
 use Rattle.std.proofs.Common.{◌||◌, List, [], ◌∷◌, Option, Some, None, slice_get}
 use Rattle.std.proofs.Common.{drop, cond, add-one, map, ap, sym, refl, ◌∙◌, arith}
@@ -9,8 +9,10 @@ use Rattle.std.proofs.Math.Bool.{and-true, and-false, or-false}
 use Rattle.std.specs.List.{list_any, cons_option, filter_map, enumerate_from}
 use Rattle.std.proofs.lemmas.Bool.Decides.{Decides-below_or, Decides-and, Decides-or}
 use Rattle.std.proofs.lemmas.Bool.Decides.{Decides-not, Decides-ltb, Decides-like}
-use Rattle.std.proofs.lemmas.Bool.{cases_Bool, or_cases, or_left, or_right, and_left}
+use Rattle.std.proofs.lemmas.Bool.{cases_Bool, or_left, or_right, and_left}
 use Rattle.std.proofs.lemmas.Bool.{and_right, le-ltb, lt-ltb, false≢true}
+use Rattle.std.proofs.lemmas.List.Folds.{Any-from_list_any}
+use Rattle.std.proofs.lemmas.Option.{slice_get-get_or}
 use Rattle.texting_robots.specs.declared.groups.Walk.{Walk}
 use Rattle.texting_robots.specs.Line.{LineValue, UserAgent}
 use Rattle.texting_robots.specs.Group.{IsCaptured, group_name, is_agent, is_agent_named, is_group}
@@ -55,20 +57,17 @@ SomePasses test lines = (k : ℕ) × (passes_at test lines k ≡ true)
 
 some_passes : (test : LineValue → Bool) (lines : List LineValue)
     → Decides (list_any test lines) (SomePasses test lines)
-some_passes test [] = (λ h. absurd (false≢true h), λ (k, h). absurd (false≢true h))
-some_passes test (line ∷ lines) =
-    (λ h. found (some_passes test lines).0 (or_cases _ _ h), λ (k, h). at (some_passes test lines).1 k h)
+some_passes test lines = (
+  λ h.
+      let (k, line, below, at, is) = Any-from_list_any test lines h in
+      (k, rw (slice_get-get_or lines k line below, at) is),
+  λ (k, h). passing lines k h,
+)
   where
-    found : (list_any test lines ≡ true → SomePasses test lines)
-        → (test line ≡ true) ⊎ (list_any test lines ≡ true) → SomePasses test (line ∷ lines)
-    found later (inl here) = (0, here)
-    found later (inr some) = let (k, passes) = later some in (suc k, passes)
-
-    at : (SomePasses test lines → list_any test lines ≡ true)
-        → (k : ℕ) → passes_at test (line ∷ lines) k ≡ true
-        → list_any test (line ∷ lines) ≡ true
-    at later zero passes = or_left _ _ passes
-    at later (suc k) passes = or_right _ _ (later (k, passes))
+    passing : (lines : List LineValue) (k : ℕ) → passes_at test lines k ≡ true → list_any test lines ≡ true
+    passing [] k h = absurd (false≢true h)
+    passing (line ∷ lines) zero h = or_left _ _ h
+    passing (line ∷ lines) (suc k) h = or_right _ _ (passing lines k h)
 
 no_agent_decides : (lines : List LineValue)
     → Decides (not (list_any is_agent lines)) ((k : ℕ) → ¬ IsTrue (passes_at is_agent lines k))

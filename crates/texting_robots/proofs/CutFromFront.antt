@@ -5,9 +5,8 @@ use Rattle.std.proofs.Common.{take, drop, get_or, map, sym, refl, ap, ◌∙◌,
 use Rattle.std.proofs.Common.{if◌then◌else◌, map-id, Option, Some, None, MatchOption, bit_or}
 use Rattle.std.specs.List.{position_or_len}
 use Rattle.std.proofs.lemmas.Bool.{cases_Bool, cond-true, cond-false, eq-eqb, eqb-true, ne_eqb}
-use Rattle.std.proofs.lemmas.Bool.Decides.{nat_tests}
 use Rattle.std.proofs.lemmas.List.{drop-map, get_or-take, take-append-drop, take-map, length-map}
-use Rattle.std.proofs.lemmas.List.{length-take, length-take-le, nil_from_length}
+use Rattle.std.proofs.lemmas.List.{length-take, length-take-le}
 use Rattle.std.proofs.lemmas.List.Folds.{map_fixed, prefix_len-append}
 use Rattle.std.proofs.lemmas.List.Recursion.{is_position_or_len}
 use Rattle.std.proofs.lemmas.List.Sums.{fails_before_first, prefix_len-le-length}
@@ -18,11 +17,10 @@ use Rattle.std.proofs.Math.Bool.{or_assoc, or_comm, or_self, or-false}
 use Rattle.memchr.specs.Find.{is_byte2, is_byte3, IsFirstByte}
 use Rattle.texting_robots.proofs.RegionLemmas.{place_is, end_is}
 use Rattle.texting_robots.specs.Cut.{Pair, cr, lf}
-use Rattle.texting_robots.specs.Steps.Cut.{cut, before_body, before_end, body_len, end_len, read_byte}
+use Rattle.texting_robots.specs.Steps.Cut.{cut, body_len, end_len, read_byte}
 use Rattle.texting_robots.specs.Steps.Cut.{read_as}
-use Rattle.texting_robots.specs.Line.{LineValue}
 use Rattle.texting_robots.specs.Steps.Line.{line_of, lines_of}
-use Rattle.texting_robots.proofs.CutLemmas.{at_other, byte_cases, cut_cons, cut_nil, pair_of}
+use Rattle.texting_robots.proofs.CutLemmas.{byte_cases, cut_cons, cut_nil, pair_of}
 
 -- ---- the first pair
 

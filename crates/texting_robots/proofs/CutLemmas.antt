@@ -2,11 +2,11 @@
 use Rattle.std.proofs.Common.{◌≡◌, ◌≢◌, ◌⊎◌, ℕ, zero, suc, ◌+◌, ◌<◌, inl, inr, List, [], ◌∷◌}
 use Rattle.std.proofs.Common.{◌++◌, All, replicate, length, get_or, take, drop, append_assoc}
 use Rattle.std.proofs.Common.{sym, refl, ap, ◌∙◌, subst, arith}
-use Rattle.std.specs.List.{AllByRecursion as Each, Contains}
+use Rattle.std.specs.List.{AllByRecursion as Each}
 use Rattle.std.proofs.lemmas.Bool.{cases_eq, ne_eqb}
 use Rattle.std.proofs.lemmas.List.{append-nil, drop_more, get_or_at, length-append, length-replicate}
 use Rattle.std.proofs.lemmas.List.{take-append-drop}
-use Rattle.std.proofs.lemmas.List.Elements.{All-contains, All-from_recursion, All-replicate}
+use Rattle.std.proofs.lemmas.List.Elements.{All-from_recursion, All-head, All-replicate, All-tail}
 use Rattle.std.proofs.lemmas.List.Elements.{recursion_from_All}
 use Rattle.texting_robots.specs.Cut.{IsBodyByte, IsCut, IsEnding, Pair, cr, joined, lf}
 use Rattle.texting_robots.specs.Steps.Cut.{before_body, before_byte, before_end, cut}
@@ -101,41 +101,35 @@ standing_cut pairs are =
 
 -- ---- and the pairs of a cut stand so
 
-are_standing : (pairs : List Pair)
-    → ((front back : List Pair) (pair : Pair) → pairs ≡ front ++ pair ∷ back → Stands pair back)
-    → AreStanding pairs
-are_standing [] at = tt
-are_standing (pair ∷ later) at = (
-  at [] later pair refl,
-  are_standing later (λ front back p e. at (pair ∷ front) back p (ap (λ l. pair ∷ l) e)),
-)
-
 ends_by : (body ending : List ℕ) (later : List Pair) → IsEnding ending
     → (ending ≡ [] → (later ≡ []) × (body ≢ []))
-    → (All (λ byte. byte ≢ lf) ending → BeginWithBody later) → EndsBy body ending later
+    → ((next : Pair) (more : List Pair) → later ≡ next ∷ more → All (λ byte. byte ≢ lf) ending → next.body ≢ [])
+    → EndsBy body ending later
 ends_by [] ending later (zero, inl e) last begin = absurd ((last e).1 refl)
 ends_by (b ∷ body) ending later (zero, inl e) last begin = rw (e, (last e).0) nothing
-ends_by body ending later (suc k, inl e) last begin =
-    rw e (returns k (begin (rw e (All-replicate (λ byte. byte ≢ lf) (suc k) cr (λ is. omega arith)))))
+ends_by body ending [] (suc k, inl e) last begin = rw e (returns k tt)
+ends_by body ending (next ∷ more) (suc k, inl e) last begin = rw e (returns k (begin next more refl
+    (rw e (All-replicate (λ byte. byte ≢ lf) (suc k) cr (λ is. omega arith)))))
 ends_by body ending later (k, inr e) last begin = rw e (feed k)
 
-module _ (pairs : List Pair) (text : List ℕ) (is : IsCut pairs text) where
-  begins : (front back : List Pair) (pair : Pair) → pairs ≡ front ++ pair ∷ back
-      → All (λ byte. byte ≢ lf) pair.ending → BeginWithBody back
-  begins front [] pair e none = tt
-  begins front (next ∷ back) pair e none = is.open_ending front back pair next e none
-
-  cut_stands : AreStanding pairs
-  cut_stands = are_standing pairs (λ front back pair e.
-      let there : Contains pairs pair = rw e
-      (length front, simp length-append (omega arith), get_or_at front pair back pair (length front) refl) in
-      record {
-        body = recursion_from_All IsBodyByte pair.body
-            (All-contains (λ p. All IsBodyByte p.body) pairs pair is.bodies there);
-        ends = ends_by pair.body pair.ending back
-            (All-contains (λ p. IsEnding p.ending) pairs pair is.endings there)
-            (is.empty_ending front back pair e) (begins front back pair e);
-      })
+cut_stands : (pairs : List Pair) (text : List ℕ) → IsCut pairs text → AreStanding pairs
+cut_stands [] text is = tt
+cut_stands (pair ∷ later) text is = (
+  record {
+    body = recursion_from_All IsBodyByte pair.body
+        (All-head (λ p. All IsBodyByte p.body) pair later is.bodies);
+    ends = ends_by pair.body pair.ending later (All-head (λ p. IsEnding p.ending) pair later is.endings)
+        (is.empty_ending [] later pair refl)
+        (λ next more e. is.open_ending [] more pair next (ap (λ l. pair ∷ l) e));
+  },
+  cut_stands later (joined later) (record {
+    whole = refl;
+    bodies = All-tail (λ p. All IsBodyByte p.body) pair later is.bodies;
+    endings = All-tail (λ p. IsEnding p.ending) pair later is.endings;
+    empty_ending = λ front back p e. is.empty_ending (pair ∷ front) back p (ap (λ l. pair ∷ l) e);
+    open_ending = λ front back p next e. is.open_ending (pair ∷ front) back p next (ap (λ l. pair ∷ l) e);
+  }),
+)
 
 -- ---- the walk gives a cut
 

@@ -1,9 +1,8 @@
 -- What a change of the lines leaves as it was.
 use Rattle.std.proofs.Common.{◌≡◌, ◌↔◌, inl, inr, ℕ, suc, ◌+◌, Bool, true, false, not}
-use Rattle.std.proofs.Common.{◌||◌, List, [], ◌∷◌, ◌++◌, Option, None, slice_get, length, drop}
+use Rattle.std.proofs.Common.{◌||◌, List, [], ◌∷◌, ◌++◌, Option, None, length, drop}
 use Rattle.std.proofs.Common.{filter, cond, codes, zero-add, add-zero, arith, sym, refl, ap, ◌∙◌, subst}
 use Rattle.std.specs.List.{Any, cons_option, filter_map, list_any}
-use Rattle.std.specs.Option.{option_or}
 use Rattle.std.specs.Str.{str_to_ascii_lowercase}
 use Rattle.std.proofs.lemmas.Bool.{cases_Bool, false≢true, false_from_ne_true}
 use Rattle.std.proofs.lemmas.List.Elements.{filter_map-append}
@@ -13,8 +12,8 @@ use Rattle.texting_robots.specs.Line.{LineValue, Allow, Disallow, Sitemap, Crawl
 use Rattle.texting_robots.specs.Line.{delay_in, is_raw, is_sitemap}
 use Rattle.texting_robots.specs.Group.{group_name, is_agent}
 use Rattle.texting_robots.specs.Group.{is_agent_named, is_group}
-use Rattle.texting_robots.specs.Rules.{Rule, captured_lines, delay_before_agents, delay_for, placed_in}
-use Rattle.texting_robots.specs.Rules.{rule_in, rules_for, sitemap_in, sitemaps_in, unplaced}
+use Rattle.texting_robots.specs.Rules.{Rule, delay_for}
+use Rattle.texting_robots.specs.Rules.{rule_in, rules_for, sitemap_in, sitemaps_in}
 use Rattle.texting_robots.specs.Pattern.{IsOverlong}
 use Rattle.texting_robots.specs.Verdict.{IsVerdict}
 use Rattle.texting_robots.specs.Steps.Group.{start_of, step}
