@@ -4,6 +4,7 @@ use Rattle.std.proofs.Common.{◌<◌, ◌==◌, Any, IsUtf8}
 use Rattle.std.proofs.Common.{Result, Ok, Err, List, [], ◌∷◌, ◌++◌}
 use Rattle.std.proofs.Common.{length, map, sym, refl, ap, subst, ◌∙◌, arith}
 use Rattle.std.specs.List.{AllByRecursion as Each, AllZip, Contains}
+use Rattle.std.specs.Io.BufRead.{strip_last}
 use Rattle.std.specs.Str.{is_utf8}
 use Rattle.std.proofs.lemmas.Bool.{cases_Bool, cases_lt, eqb-false, eqb-true, false≢true}
 use Rattle.std.proofs.lemmas.Str.{IsUtf8-from_is_utf8, is_utf8-from_IsUtf8}
@@ -16,9 +17,8 @@ use Rattle.texting_robots.proofs.BestLemmas.{Either, each_text_answered}
 use Rattle.robots_verdict.specs.declared.fault.Fault.{Fault}
 use Rattle.robots_verdict.specs.declared.fault.Fault.TheVariants.{HeaderNotUtf8, InvalidRule, NoEmptyLine}
 use Rattle.robots_io.specs.Lines.{delay_line, ended, lf, verdict_line}
-use Rattle.robots_verdict.specs.Input.{IsInput, IsOneLine, without_cr}
+use Rattle.robots_verdict.specs.Input.{BeginsWithLine, IsInput, IsOneLine, cr}
 use Rattle.robots_verdict.specs.Report.{IsReport, IsReportText, IsVerdictLine, sitemap_line}
-use Rattle.robots_verdict.specs.Steps.{BeginsWithLine}
 use Rattle.robots_verdict.proofs.InputLemmas.{GoesOn, goes_first, goes_more, no_split, no_split_first}
 use Rattle.robots_verdict.proofs.InputLemmas.{rest_shorter, split_found}
 
@@ -41,7 +41,7 @@ first_line (b ∷ input) = elim (cases_Bool (b == lf)) [
   )
   | inr other ↦ elim (first_line input) [
     | inl (text, rest, is) ↦ inl (
-      without_cr (b ∷ is.line),
+      strip_last cr (b ∷ is.line),
       rest,
       record {
         line = b ∷ is.line;

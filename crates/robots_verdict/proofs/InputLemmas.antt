@@ -1,25 +1,22 @@
 -- How an input is split, line by line, and that there is one way at most.
-use Rattle.std.proofs.Common.{◌≡◌, ◌≢◌, inl, inr, ℕ, zero, suc, ◌+◌, ◌<◌}
+use Rattle.std.proofs.Common.{◌≡◌, ◌≢◌, inl, inr, ℕ, zero, suc, ◌+◌, ◌-◌, ◌<◌, nat_lt}
 use Rattle.std.proofs.Common.{◌==◌, true, false, slice_index_or, Any, Bor, IfErr, IsUtf8, Result}
 use Rattle.std.proofs.Common.{Ok, Err, List, [], ◌∷◌, ◌++◌, length, map, slice_index, sym}
 use Rattle.std.proofs.Common.{refl, ap, subst, ◌∙◌, arith, append_assoc, take, drop}
 use Rattle.std.specs.List.{AllByRecursion as Each}
 use Rattle.std.specs.Result.{IsErrAnd}
+use Rattle.std.specs.Io.BufRead.{ends_with_byte, strip_last}
+use Rattle.std.proofs.lemmas.Bool.{cond-true, cond-false, eq-eqb, lt-ltb, ne_eqb}
 use Rattle.std.proofs.lemmas.Bool.Decides.{nat_tests}
+use Rattle.std.proofs.Math.Seq.{take-append_seam}
 use Rattle.std.proofs.lemmas.List.{append-nil, drop_more, get_or-map}
 use Rattle.std.proofs.lemmas.List.{length-append, length-map, take-append-drop}
 use Rattle.robots_verdict.specs.declared.fault.Fault.{Fault}
 use Rattle.robots_verdict.specs.declared.fault.Fault.TheVariants.{HeaderNotUtf8, Memory}
-use Rattle.robots_io.specs.Lines.{ended, lf}
+use Rattle.robots_io.specs.Lines.{lf}
 use Rattle.robots_verdict.specs.Input.{AreUtf8, HoldNotUtf8}
-use Rattle.robots_verdict.specs.Input.{IsInput, IsOneLine, cr, without_cr}
-use Rattle.robots_verdict.specs.Steps.{BeginsWithLine, IsFirstFeed}
-
--- the input is a line for each URL, a line with an empty text, and the file
-abbrev pub AreUrlLines : List ℕ → List (List ℕ) → List ℕ → Type 0
-AreUrlLines input [] file = BeginsWithLine input [] file
-AreUrlLines input (url ∷ urls) file = (rest : List ℕ) × BeginsWithLine input url rest × (url ≢ [])
-    × AreUrlLines rest urls file
+use Rattle.robots_verdict.specs.Input.{AreUrlLines, BeginsWithLine, IsInput, IsOneLine, cr}
+use Rattle.robots_verdict.specs.Steps.{IsFirstFeed}
 
 -- the same splits go on from the rest, behind these URLs
 pub record GoesOn (input : List ℕ) (urls : List (List ℕ)) (rest : List ℕ) : Type 0 where
@@ -30,25 +27,30 @@ pub record GoesOn (input : List ℕ) (urls : List (List ℕ)) (rest : List ℕ) 
 
 -- ---- the text of a line
 
-taken : (text : List ℕ) → without_cr (text ++ cr ∷ []) ≡ text
-taken [] = refl
-taken (b ∷ []) = refl
-taken (b ∷ d ∷ text) = ap (λ (rest : List ℕ). b ∷ rest) (taken (d ∷ text))
+at_end : (text : List ℕ) (last : ℕ) → slice_index (text ++ last ∷ []) (length text) ≡ last
+at_end [] last = refl
+at_end (b ∷ text) last = at_end text last
 
-kept : (text : List ℕ) (last : ℕ) → last ≢ cr
-    → without_cr (text ++ last ∷ []) ≡ text ++ last ∷ []
-kept [] last apart = grind (arith, nat_tests)
-kept (b ∷ []) last apart = ap (λ (rest : List ℕ). b ∷ rest) (kept [] last apart)
-kept (b ∷ d ∷ text) last apart = ap (λ (rest : List ℕ). b ∷ rest) (kept (d ∷ text) last apart)
+all_but_last : (text : List ℕ) (last : ℕ) → length (text ++ last ∷ []) - 1 ≡ length text
+all_but_last text last = omega (arith, length-append text (last ∷ []))
 
-pub without_cr_taken : (line text : List ℕ) (last : ℕ) → line ≡ text ++ last ∷ [] → last ≡ cr
-    → text ≡ without_cr line
-without_cr_taken line text last whole is =
-    sym (ap without_cr (whole ∙ ap (λ b. text ++ b ∷ []) is) ∙ taken text)
+ends_with_last : (text : List ℕ) (last : ℕ) → ends_with_byte cr (text ++ last ∷ []) ≡ (last == cr)
+ends_with_last text last =
+    let some : nat_lt 0 (length (text ++ last ∷ [])) ≡ true =
+    lt-ltb 0 (length (text ++ last ∷ [])) (omega (arith, length-append text (last ∷ []))) in
+    rw (some, all_but_last text last, at_end text last) refl
 
-pub without_cr_kept : (line text : List ℕ) (last : ℕ) → line ≡ text ++ last ∷ [] → last ≢ cr
-    → line ≡ without_cr line
-without_cr_kept line text last whole apart = whole ∙ sym (ap without_cr whole ∙ kept text last apart)
+pub text_taken : (line text : List ℕ) (last : ℕ) → line ≡ text ++ last ∷ [] → last ≡ cr
+    → text ≡ strip_last cr line
+text_taken line text last whole is =
+    sym (ap (strip_last cr) whole ∙ cond-true _ _ _ (ends_with_last text last ∙ eq-eqb last cr is)
+    ∙ ap (λ n. take n (text ++ last ∷ [])) (all_but_last text last) ∙ take-append_seam text (last ∷ []))
+
+pub text_kept : (line text : List ℕ) (last : ℕ) → line ≡ text ++ last ∷ [] → last ≢ cr
+    → line ≡ strip_last cr line
+text_kept line text last whole apart =
+    whole ∙ sym (ap (strip_last cr) whole
+    ∙ cond-false _ _ _ (ends_with_last text last ∙ ne_eqb last cr apart))
 
 -- ---- the first line
 
@@ -60,10 +62,10 @@ one_before (b ∷ input) zero before = tt
 one_before (b ∷ input) (suc place) before =
     (before 0 (omega arith), one_before input place (λ k below. before (suc k) (omega arith)))
 
-pub line_before : (input text line rest : List ℕ) (place : ℕ) → IsFirstFeed input place
-    → line ≡ take place input → text ≡ without_cr line → rest ≡ drop (place + 1) input
+pub line_before : (input text rest : List ℕ) (place : ℕ) → IsFirstFeed input place
+    → text ≡ strip_last cr (take place input) → rest ≡ drop (place + 1) input
     → BeginsWithLine input text rest
-line_before input text line rest place first is of after = record {
+line_before input text rest place first is after = record {
   line = take place input;
   whole =
       sym (take-append-drop place input)
@@ -71,7 +73,7 @@ line_before input text line rest place first is of after = record {
       (drop_more input place 0 first.within ∙ ap (λ b. b ∷ drop (place + 1) input) first.feed
       ∙ ap (λ t. lf ∷ t) (sym after));
   one = one_before input place first.before;
-  text_of = of ∙ ap without_cr is;
+  text_of = is;
 }
 
 same_cut : (line other rest more : List ℕ) → IsOneLine line → IsOneLine other
@@ -89,7 +91,7 @@ line_once : (input text other rest more : List ℕ) → BeginsWithLine input tex
     → BeginsWithLine input other more → (text ≡ other) × (rest ≡ more)
 line_once input text other rest more one two =
     let same = same_cut one.line two.line rest more one.one two.one (sym one.whole ∙ two.whole) in
-    (one.text_of ∙ ap without_cr same.0 ∙ sym two.text_of, same.1)
+    (one.text_of ∙ ap (strip_last cr) same.0 ∙ sym two.text_of, same.1)
 
 no_feed : (line rest : List ℕ) → IsOneLine (line ++ lf ∷ rest) → ⊥
 no_feed [] rest one = one.0 refl
@@ -153,142 +155,39 @@ same_lines (url ∷ urls) (other ∷ others) input file rest one two =
 
 -- ---- whole inputs
 
-line_first : (line front back : List ℕ)
-    → ((line ++ lf ∷ []) ++ front) ++ back ≡ line ++ lf ∷ (front ++ back)
-line_first line front back = append_assoc (line ++ lf ∷ []) front back
-    ∙ append_assoc line (lf ∷ []) (front ++ back)
-
--- what an input is behind the agent's line
-record Behind (input : List ℕ) (urls : List (List ℕ)) (file : List ℕ) : Type 0 where
-  url_lines : List (List ℕ)
-  empty_line : List ℕ
-  whole : input ≡ ended (url_lines ++ empty_line ∷ []) ++ file
-  lines : Each IsOneLine (url_lines ++ empty_line ∷ [])
-  url_texts : urls ≡ map without_cr url_lines
-  filled : Each (λ url. url ≢ []) urls
-  empty_text : without_cr empty_line ≡ []
-
-to_lines : (url_lines : List (List ℕ)) (empty_line file input : List ℕ)
-    → input ≡ ended (url_lines ++ empty_line ∷ []) ++ file
-    → Each IsOneLine (url_lines ++ empty_line ∷ [])
-    → Each (λ url. url ≢ []) (map without_cr url_lines) → without_cr empty_line ≡ []
-    → AreUrlLines input (map without_cr url_lines) file
-to_lines [] empty_line file input whole lines filled empty =
-    record {
-      line = empty_line;
-      whole = whole ∙ line_first empty_line [] file;
-      one = lines.0;
-      text_of = sym empty;
-    }
-to_lines (line ∷ url_lines) empty_line file input whole lines filled empty = (
-  ended (url_lines ++ empty_line ∷ []) ++ file,
-  record {
-    line = line;
-    whole = whole ∙ line_first line (ended (url_lines ++ empty_line ∷ [])) file;
-    one = lines.0;
-    text_of = refl;
-  },
-  filled.0,
-  to_lines url_lines empty_line file (ended (url_lines ++ empty_line ∷ []) ++ file)
-      refl lines.1 filled.1 empty,
-)
-
-from_lines : (urls : List (List ℕ)) (input file : List ℕ) → AreUrlLines input urls file
-    → Behind input urls file
-from_lines [] input file is = record {
-  url_lines = [];
-  empty_line = is.line;
-  whole = is.whole ∙ sym (line_first is.line [] file);
-  lines = (is.one, tt);
-  url_texts = refl;
-  filled = tt;
-  empty_text = sym is.text_of;
-}
-from_lines (url ∷ urls) input file is =
-    let line = is.1 in
-    let later = from_lines urls is.0 file is.3 in
-    record {
-      url_lines = line.line ∷ later.url_lines;
-      empty_line = later.empty_line;
-      whole = line.whole ∙ ap (λ t. line.line ++ lf ∷ t) later.whole
-          ∙ sym (line_first line.line (ended (later.url_lines ++ later.empty_line ∷ [])) file);
-      lines = (line.one, later.lines);
-      url_texts = ap (λ u. u ∷ urls) line.text_of
-          ∙ ap (λ t. without_cr line.line ∷ t) later.url_texts;
-      filled = (is.2, later.filled);
-      empty_text = later.empty_text;
-    }
-
-lines_are_input : (input agent rest : List ℕ) (urls : List (List ℕ)) (file : List ℕ)
-    → BeginsWithLine input agent rest → AreUrlLines rest urls file → IsInput input agent urls file
-lines_are_input input agent rest urls file line are =
-    let behind = from_lines urls rest file are in
-    record {
-      agent_line = line.line;
-      url_lines = behind.url_lines;
-      empty_line = behind.empty_line;
-      whole = line.whole ∙ ap (λ t. line.line ++ lf ∷ t) behind.whole
-          ∙ sym (line_first line.line (ended (behind.url_lines ++ behind.empty_line ∷ [])) file);
-      lines = (line.one, behind.lines);
-      agent_text = line.text_of;
-      url_texts = behind.url_texts;
-      no_url_is_empty = behind.filled;
-      empty_text = behind.empty_text;
-    }
-
-input_lines : (input agent : List ℕ) (urls : List (List ℕ)) (file : List ℕ)
-    → IsInput input agent urls file → (rest : List ℕ) × BeginsWithLine input agent rest
-    × AreUrlLines rest urls file
-input_lines input agent urls file is =
-    let rest : List ℕ = ended (is.url_lines ++ is.empty_line ∷ []) ++ file in (
-      rest,
-      record {
-        line = is.agent_line;
-        whole = is.whole
-            ∙ line_first is.agent_line (ended (is.url_lines ++ is.empty_line ∷ [])) file;
-        one =
-            is.lines.0;
-        text_of = is.agent_text;
-      },
-      subst (λ all. AreUrlLines rest all file) (sym is.url_texts)
-          (to_lines is.url_lines is.empty_line file rest refl is.lines.1
-          (subst (λ all. Each (λ url. url ≢ []) all) is.url_texts is.no_url_is_empty) is.empty_text),
-    )
-
 -- the split that was found
 pub split_found : (input agent start rest url file : List ℕ) (urls : List (List ℕ))
     → BeginsWithLine input agent start → GoesOn start urls rest → BeginsWithLine rest url file
     → url ≡ [] → IsInput input agent urls file
 split_found input agent start rest url file urls line goes end empty =
-    lines_are_input input agent start urls file line
-    (subst (λ all. AreUrlLines start all file) (append-nil urls)
-    (goes.from_rest [] file (subst (λ t. BeginsWithLine rest t file) empty end)))
+    record {
+      rest = start;
+      agent_line = line;
+      url_lines = subst (λ all. AreUrlLines start all file) (append-nil urls)
+          (goes.from_rest [] file (subst (λ t. BeginsWithLine rest t file) empty end));
+    }
 
 -- there is none: the first line isn't ended
 pub no_split_first : (input : List ℕ) → IsOneLine input → (agent : List ℕ) (urls : List (List ℕ))
     (file : List ℕ) → ¬ IsInput input agent urls file
-no_split_first input one agent urls file is = let lines = input_lines input agent urls file is in
-    no_line input agent lines.0 one lines.1
+no_split_first input one agent urls file is = no_line input agent is.rest one is.agent_line
 
 -- there is none: a later line isn't ended
 pub no_split : (input agent start rest : List ℕ) (urls : List (List ℕ))
     → BeginsWithLine input agent start → GoesOn start urls rest → IsOneLine rest
     → (other : List ℕ) (all : List (List ℕ)) (file : List ℕ) → ¬ IsInput input other all file
 no_split input agent start rest urls line goes one other all file is =
-    let lines = input_lines input other all file is in
-    let same = line_once input agent other start lines.0 line lines.1 in
-    let back = goes.to_rest all file (subst (λ t. AreUrlLines t all file) (sym same.1) lines.2) in
+    let same = line_once input agent other start is.rest line is.agent_line in
+    let back = goes.to_rest all file (subst (λ t. AreUrlLines t all file) (sym same.1) is.url_lines) in
     no_lines rest back.0 file one back.2
 
 pub one_split : (input agent other : List ℕ) (urls others : List (List ℕ)) (file rest : List ℕ)
     → IsInput input agent urls file → IsInput input other others rest
     → (agent ≡ other) × (urls ≡ others) × (file ≡ rest)
-one_split input agent other urls others file rest is is_too =
-    let one = input_lines input agent urls file is in
-    let two = input_lines input other others rest is_too in
-    let first = line_once input agent other one.0 two.0 one.1 two.1 in
-    let later =
-    same_lines urls others two.0 file rest (subst (λ t. AreUrlLines t urls file) first.1 one.2) two.2 in
+one_split input agent other urls others file rest one two =
+    let first = line_once input agent other one.rest two.rest one.agent_line two.agent_line in
+    let url_lines = subst (λ t. AreUrlLines t urls file) first.1 one.url_lines in
+    let later = same_lines urls others two.rest file rest url_lines two.url_lines in
     (first.0, later.0, later.1)
 
 -- ---- empty and other texts

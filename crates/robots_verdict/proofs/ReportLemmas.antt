@@ -1,6 +1,6 @@
 -- How a report is made, and that an input has one at most.
 use Rattle.std.proofs.Common.{◌≡◌, ◌≢◌, ℕ, ◌+◌, ◌<◌, length, take, slice_index_or}
-use Rattle.std.proofs.Common.{Bor, Bool, true, false, List, [], ◌∷◌, ◌++◌, Option, Some, None}
+use Rattle.std.proofs.Common.{Bor, Bool, List, [], ◌∷◌, ◌++◌, Option, Some, None}
 use Rattle.std.proofs.Common.{Result, Ok, Err, IfSome, map, sym, refl, ap, subst, ◌∙◌}
 use Rattle.std.specs.Io.KnownBytes.{Appends}
 use Rattle.std.specs.List.{AllZip}
@@ -10,7 +10,7 @@ use Rattle.texting_robots.specs.Decision.{IsDecidingLine}
 use Rattle.texting_robots.specs.Line.{LineValue}
 use Rattle.texting_robots.specs.Prepared.{prepared}
 use Rattle.texting_robots.specs.Robot.{IsRobotOf, RobotValue, lines_read}
-use Rattle.texting_robots.specs.Rules.{IsRefused, PlacedRule, Rule, delay_for}
+use Rattle.texting_robots.specs.Rules.{IsRefused, PlacedRule, delay_for}
 use Rattle.texting_robots.specs.Rules.{placed_rules, sitemaps_in, unplaced}
 use Rattle.texting_robots.specs.Verdict.{IsVerdict}
 use Rattle.texting_robots.proofs.VerdictLemmas.{one_line_decides, one_verdict}

@@ -1,8 +1,7 @@
 -- What an input of the program is made of.
-use Rattle.std.specs.Prelude.{◌≡◌, ◌≢◌, ◌⊎◌, ℕ, ◌==◌, List, []}
-use Rattle.std.specs.Prelude.{◌∷◌, ◌++◌, Any, IsUtf8, if◌then◌else◌, map}
-use Rattle.std.specs.List.{AllByRecursion as Each}
-use Rattle.robots_io.specs.Lines.{ended, lf}
+use Rattle.std.specs.Prelude.{◌≡◌, ◌≢◌, ◌⊎◌, ℕ, List, [], ◌∷◌, ◌++◌, Any, IsUtf8}
+use Rattle.std.specs.{List.AllByRecursion as Each, Io.BufRead.strip_last}
+use Rattle.robots_io.specs.Lines.{lf}
 
 abbrev pub cr : ℕ
 cr = 13
@@ -11,24 +10,24 @@ cr = 13
 abbrev pub IsOneLine : List ℕ → Type 0
 IsOneLine line = Each (λ byte. byte ≢ lf) line
 
--- the text of a line: all but one CR at its end
-abbrev pub without_cr : List ℕ → List ℕ
-without_cr [] = []
-without_cr (byte ∷ []) = if byte == cr then [] else byte ∷ []
-without_cr (byte ∷ next ∷ line) = byte ∷ without_cr (next ∷ line)
+-- the input is a line, its LF and the rest; the text of the line is all of it but one CR at its end
+pub record BeginsWithLine (input text rest : List ℕ) : Type 0 where
+  pub line : List ℕ
+  pub whole : input ≡ line ++ lf ∷ rest
+  pub one : IsOneLine line
+  pub text_of : text ≡ strip_last cr line
 
--- the input is the agent's line, the lines of the URLs, a line with an empty text, and the file;
--- no URL is empty, so it is the first such line behind the agent's
+-- the input is a line for each URL, none of them empty, a line with an empty text, and the file
+abbrev pub AreUrlLines : List ℕ → List (List ℕ) → List ℕ → Type 0
+AreUrlLines input [] file = BeginsWithLine input [] file
+AreUrlLines input (url ∷ urls) file =
+    (rest : List ℕ) × BeginsWithLine input url rest × (url ≢ []) × AreUrlLines rest urls file
+
+-- the input is the agent's line, and then the lines of the URLs and the file
 pub record IsInput (input agent : List ℕ) (urls : List (List ℕ)) (file : List ℕ) : Type 0 where
-  pub agent_line : List ℕ
-  pub url_lines : List (List ℕ)
-  pub empty_line : List ℕ
-  pub whole : input ≡ ended (agent_line ∷ (url_lines ++ empty_line ∷ [])) ++ file
-  pub lines : Each IsOneLine (agent_line ∷ (url_lines ++ empty_line ∷ []))
-  pub agent_text : agent ≡ without_cr agent_line
-  pub url_texts : urls ≡ map without_cr url_lines
-  pub no_url_is_empty : Each (λ url. url ≢ []) urls
-  pub empty_text : without_cr empty_line ≡ []
+  pub rest : List ℕ
+  pub agent_line : BeginsWithLine input agent rest
+  pub url_lines : AreUrlLines rest urls file
 
 -- the agent and each URL are UTF-8
 abbrev pub AreUtf8 : List ℕ → List (List ℕ) → Type 0

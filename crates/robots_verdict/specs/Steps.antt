@@ -1,10 +1,9 @@
 -- What the steps of the program do.
 use Rattle.std.specs.Prelude.{◌≡◌, ◌≢◌, ℕ, ◌<◌, List}
-use Rattle.std.specs.Prelude.{◌∷◌, ◌++◌, length, slice_index}
+use Rattle.std.specs.Prelude.{◌++◌, length, slice_index}
 use Rattle.std.specs.List.{AllZip}
 use Rattle.texting_robots.specs.Rules.{PlacedRule}
 use Rattle.robots_io.specs.Lines.{ended, lf}
-use Rattle.robots_verdict.specs.Input.{IsOneLine, without_cr}
 use Rattle.robots_verdict.specs.Report.{IsVerdictLine}
 
 -- the first LF of the input stands at this place
@@ -12,13 +11,6 @@ pub record IsFirstFeed (input : List ℕ) (place : ℕ) : Type 0 where
   pub within : place < length input
   pub feed : slice_index input place ≡ lf
   pub before : (k : ℕ) → k < place → slice_index input k ≢ lf
-
--- the input is a line with this text, its LF, and the rest
-pub record BeginsWithLine (input text rest : List ℕ) : Type 0 where
-  pub line : List ℕ
-  pub whole : input ≡ line ++ lf ∷ rest
-  pub one : IsOneLine line
-  pub text_of : text ≡ without_cr line
 
 -- the verdict on each URL was added, a line each
 pub record AddsVerdicts (rules : List PlacedRule) (urls : List (List ℕ)) (old new : List ℕ) : Type 0 where

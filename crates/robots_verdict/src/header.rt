@@ -1,9 +1,10 @@
 //! The header of an input: the crawler's name and the URLs.
 ghost use Rattle.std.specs.Prelude.{◌≡◌, ◌≢◌, Any, IfErr, IfOk, IsUtf8, MatchOption, map};
+ghost use Rattle.std.specs.Io.BufRead.{strip_last};
 ghost use Rattle.std.specs.List.{AllByRecursion as Each};
-ghost use Rattle.robots_verdict.specs.Input.{AreUtf8, IsInput, IsOneLine, without_cr};
+ghost use Rattle.robots_verdict.specs.Input.{AreUtf8, BeginsWithLine, IsInput, IsOneLine, cr};
 ghost use Rattle.robots_verdict.specs.Report.{HasFault};
-ghost use Rattle.robots_verdict.specs.Steps.{BeginsWithLine, IsFirstFeed};
+ghost use Rattle.robots_verdict.specs.Steps.{IsFirstFeed};
 
 use crate::fault::Fault;
 use std::alloc::Global;
@@ -25,9 +26,9 @@ struct Parts<'a> {
 }
 
 /// A line without one CR at its end.
-#[tactic(auto, using(crate::proofs::InputLemmas::without_cr_taken, crate::proofs::InputLemmas::without_cr_kept))]
+#[tactic(auto, using(crate::proofs::InputLemmas::text_taken, crate::proofs::InputLemmas::text_kept))]
 fn without_cr<'a>(line: &'a [u8]) -> &'a [u8]
-    ensures { result.now ≡ without_cr line.now }
+    ensures { result.now ≡ strip_last cr line.now }
 {
     let Some((last, text)) = line.split_last() else {
         return line;
@@ -43,7 +44,6 @@ fn first_feed(input: &[u8]) -> Option<usize>
 }
 
 /// The text of the first line and what follows its LF, if there is an LF.
-#[tactic(auto, using(crate::proofs::InputLemmas::line_before))]
 fn first_line<'a>(input: &'a [u8]) -> Option<(&'a [u8], &'a [u8])>
     ensures { MatchOption result (IsOneLine input.now)
         (λ found. BeginsWithLine input.now found.0.now found.1.now) }
