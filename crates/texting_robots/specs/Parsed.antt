@@ -1,6 +1,5 @@
--- The lines of a text and of a file as lists. The clauses of public calls cite them, and some
--- `AreLinesOf` and `AreFileLinesOf` beside them: the laws `each_text_has_its_lines` and
--- `each_file_has_its_lines` say that both are the same.
+-- The lines of a text and of a file as lists. The laws `each_text_has_its_lines` and
+-- `each_file_has_its_lines` say that they are those of `AreLinesOf` and `AreFileLinesOf`.
 use Rattle.std.specs.Prelude.{ℕ, List, map}
 use Rattle.texting_robots.specs.{Line.LineValue, Line.nul_as_lf, Line.without_front, Steps.Line.lines_of}
 

@@ -52,14 +52,12 @@ rules_for agent lines = unplaced (placed_rules agent lines)
 
 -- the captured delays, in order
 abbrev pub captured_delays : List ℕ → List LineValue → List ℕ
-captured_delays agent lines =
-    filter_map (λ p. delay_in p.1) (captured_lines (group_name agent lines) lines)
+captured_delays agent lines = filter_map (λ p. delay_in p.1) (captured_lines (group_name agent lines) lines)
 
 -- where there is an agent line, the last delay before the first one
 abbrev pub delay_before_agents : List LineValue → Option ℕ
 delay_before_agents lines =
-    if list_any is_agent lines then last_or None (filter_map delay_in (before_first is_agent lines))
-    else None
+    if list_any is_agent lines then last_or None (filter_map delay_in (before_first is_agent lines)) else None
 
 -- the first captured delay, else that before the agents
 abbrev pub delay_for : List ℕ → List LineValue → Option ℕ

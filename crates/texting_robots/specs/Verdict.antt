@@ -8,8 +8,7 @@ robots_file = codes "/robots.txt"
 -- the text isn't the robots file, and some matching Disallow rule is longer than every matching Allow rule
 abbrev pub IsDenied : List Rule → List ℕ → Type 0
 IsDenied rules text =
-    (text ≢ robots_file)
-    × (p : List ℕ) × Contains rules (p, false) × Matches p text
+    (text ≢ robots_file) × (p : List ℕ) × Contains rules (p, false) × Matches p text
     × ((q : List ℕ) → Contains rules (q, true) → Matches q text → length q < length p)
 
 -- the answer is no exactly where the text is denied
