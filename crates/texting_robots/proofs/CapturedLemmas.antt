@@ -21,8 +21,8 @@ use Rattle.texting_robots.specs.Steps.Captured.{is_captured, some_below}
 use Rattle.texting_robots.specs.Line.{delay_in}
 use Rattle.texting_robots.specs.Rules.{PlacedRule, Rule, captured_delays, placed_in, placed_rules}
 use Rattle.texting_robots.specs.Rules.{rule_in, rules_for, sitemap_in, sitemaps_in, unplaced}
-use Rattle.texting_robots.specs.Marks.{Mark, marks_of}
-use Rattle.texting_robots.specs.Steps.Group.{in_captured, marks_from, placed, rule_at}
+use Rattle.texting_robots.specs.Steps.Group.{Passed, by_test, in_captured, passed_from, passed_of}
+use Rattle.texting_robots.specs.Steps.Group.{placed, rule_at}
 use Rattle.texting_robots.specs.Steps.Group.{sitemap_at, start_of, step}
 
 -- ---- tests of places: of agent lines, group lines and agent lines of the name
@@ -244,25 +244,26 @@ at_front (x ∷ lines) zero line rest h =
 at_front (x ∷ lines) (suc n) line rest h =
     let (at, next) = at_front lines n line rest h in (at, rw add-one (rw add-one at next))
 
--- the line at a place, marked by a test of places
-abbrev pub by_test : (ℕ → Bool) → ℕ × LineValue → Mark
-by_test test p = record { number = p.0 + 1; captured = test p.0; line = p.1 }
-
-marks_are : (name : List ℕ) (all : List LineValue) (walk : Walk) (place : ℕ) (lines : List LineValue)
+passed_are : (name : List ℕ) (all : List LineValue) (walk : Walk) (place : ℕ) (lines : List LineValue)
     → Stands name all place walk → drop place all ≡ lines
-    → map (by_test (is_captured name all)) (enumerate_from place lines) ≡ marks_from name walk place lines
-marks_are name all walk place [] stands left = refl
-marks_are name all walk place (line ∷ lines) stands left =
+    → map (by_test (is_captured name all)) (enumerate_from place lines) ≡ passed_from name walk place lines
+passed_are name all walk place [] stands left = refl
+passed_are name all walk place (line ∷ lines) stands left =
     let (at, next) = at_front all place line lines left in
     let stands_there = stands_next name all place walk line at stands in
-    rw (stands.captured, marks_are name all (step name walk line) (place + 1) lines stands_there next) refl
+    let later = passed_are name all (step name walk line) (place + 1) lines stands_there next in
+    rw (stands.captured, stands_there.captured, later) refl
 
--- the walk from the start marks the lines as the definition does
-pub marks_are_walked : (name : List ℕ) (lines : List LineValue)
-    → marks_of name lines ≡ marks_from name (start_of lines) 0 lines
-marks_are_walked name lines = marks_are name lines (start_of lines) 0 lines (stands_first name lines) refl
+-- the walk from the start passes the lines as the definition has them
+pub passed_are_walked : (name : List ℕ) (lines : List LineValue)
+    → passed_of name lines ≡ passed_from name (start_of lines) 0 lines
+passed_are_walked name lines = passed_are name lines (start_of lines) 0 lines (stands_first name lines) refl
 
 -- ---- what lines give
+
+pub cond_same : {X : Type 0} (b : Bool) (x : X) → cond b x x ≡ x
+cond_same true x = refl
+cond_same false x = refl
 
 -- the rules without their lines are what the captured lines give
 unplaced_next : (number : ℕ) (found : Option Rule) (rest : List PlacedRule) (rules : List Rule)
@@ -271,27 +272,27 @@ unplaced_next : (number : ℕ) (found : Option Rule) (rest : List PlacedRule) (r
 unplaced_next number None rest rules same = same
 unplaced_next number (Some rule) rest rules same = ap (λ (all : List Rule). rule ∷ all) same
 
-unplaced_found : (marks : List Mark) → unplaced (filter_map rule_at marks) ≡ filter_map
-    (in_captured rule_in) marks
+unplaced_found : (all : List Passed) → unplaced (filter_map rule_at all) ≡ filter_map
+    (in_captured rule_in) all
 unplaced_found [] = refl
-unplaced_found (mark ∷ marks) =
-    unplaced_next mark.number (in_captured rule_in mark) (filter_map rule_at marks) _ (unplaced_found marks)
+unplaced_found (passed ∷ all) =
+    unplaced_next passed.number (in_captured rule_in passed) (filter_map rule_at all) _ (unplaced_found all)
 
 -- what `given` finds in the captured lines, in order
 abbrev pub from_captured : {X : Type 0} → (LineValue → Option X) → List ℕ
     → List LineValue → List X
-from_captured given name lines = filter_map (in_captured given) (marks_of name lines)
+from_captured given name lines = filter_map (in_captured given) (passed_of name lines)
 
--- what is found in the captured lines is found in the marked ones
-found_marked : {X : Type 0} (at : Mark → Option X) (of : ℕ × LineValue → Option X)
+-- what is found in the captured lines is found in those that were passed
+found_passed : {X : Type 0} (at : Passed → Option X) (of : ℕ × LineValue → Option X)
     (test : ℕ → Bool)
     → ((p : ℕ × LineValue) → at (by_test test p) ≡ cond (test p.0) (of p) None)
     → (ps : List (ℕ × LineValue))
     → filter_map of (filter (λ p. test p.0) ps) ≡ filter_map at (map (by_test test) ps)
-found_marked at of test same [] = refl
-found_marked at of test same (p ∷ ps) = elim (cases_Bool (test p.0)) [
-  | inl is ↦ rw (same p, is) (ap (λ found. cons_option (of p) found) (found_marked at of test same ps))
-  | inr isnt ↦ rw (same p, isnt) (found_marked at of test same ps)
+found_passed at of test same [] = refl
+found_passed at of test same (p ∷ ps) = elim (cases_Bool (test p.0)) [
+  | inl is ↦ rw (same p, is) (ap (λ found. cons_option (of p) found) (found_passed at of test same ps))
+  | inr isnt ↦ rw (same p, isnt) (found_passed at of test same ps)
 ]
 
 placed_under : (number : ℕ) (captured : Bool) (found : Option Rule)
@@ -299,23 +300,23 @@ placed_under : (number : ℕ) (captured : Bool) (found : Option Rule)
 placed_under number true found = refl
 placed_under number false found = refl
 
-pub rules_marked : (agent : List ℕ) (lines : List LineValue)
-    → placed_rules agent lines ≡ filter_map rule_at (marks_of (group_name agent lines) lines)
-rules_marked agent lines =
+pub rules_passed : (agent : List ℕ) (lines : List LineValue)
+    → placed_rules agent lines ≡ filter_map rule_at (passed_of (group_name agent lines) lines)
+rules_passed agent lines =
     let test = is_captured (group_name agent lines) lines in
-    found_marked rule_at placed_in test (λ p. placed_under (p.0 + 1) (test p.0) (rule_in p.1))
+    found_passed rule_at placed_in test (λ p. placed_under (p.0 + 1) (test p.0) (rule_in p.1))
     (enumerate_from 0 lines)
 
-pub delays_marked : (agent : List ℕ) (lines : List LineValue)
+pub delays_passed : (agent : List ℕ) (lines : List LineValue)
     → captured_delays agent lines ≡ from_captured delay_in (group_name agent lines) lines
-delays_marked agent lines =
-    found_marked (in_captured delay_in) (λ p. delay_in p.1) (is_captured (group_name agent lines) lines)
+delays_passed agent lines =
+    found_passed (in_captured delay_in) (λ p. delay_in p.1) (is_captured (group_name agent lines) lines)
     (λ p. refl) (enumerate_from 0 lines)
 
 pub rules_are : (agent : List ℕ) (lines : List LineValue)
     → rules_for agent lines ≡ from_captured rule_in (group_name agent lines) lines
 rules_are agent lines =
-    ap unplaced (rules_marked agent lines) ∙ unplaced_found (marks_of (group_name agent lines) lines)
+    ap unplaced (rules_passed agent lines) ∙ unplaced_found (passed_of (group_name agent lines) lines)
 
 sitemaps_from : (test : ℕ → Bool) (n : ℕ) (lines : List LineValue)
     → sitemaps_in lines ≡ filter_map sitemap_at (map (by_test test) (enumerate_from n lines))
@@ -323,17 +324,17 @@ sitemaps_from test n [] = refl
 sitemaps_from test n (line ∷ lines) =
     ap (λ found. cons_option (sitemap_in line) found) (sitemaps_from test (n + 1) lines)
 
--- the sitemaps of all marked lines are those of the lines
+-- the sitemaps of all lines that were passed are those of the lines
 pub sitemaps_are : (name : List ℕ) (lines : List LineValue)
-    → sitemaps_in lines ≡ filter_map sitemap_at (marks_of name lines)
+    → sitemaps_in lines ≡ filter_map sitemap_at (passed_of name lines)
 sitemaps_are name lines = sitemaps_from (is_captured name lines) 0 lines
 
 -- what the walk finds in the lines that are left
 abbrev pub caught : {X : Type 0} → (LineValue → Option X) → List ℕ → Walk → ℕ
     → List LineValue → List X
-caught given name walk place lines = filter_map (in_captured given) (marks_from name walk place lines)
+caught given name walk place lines = filter_map (in_captured given) (passed_from name walk place lines)
 
 -- the walk from the start finds what the captured lines give
 pub caught_all : {X : Type 0} (given : LineValue → Option X) (name : List ℕ) (lines : List LineValue)
     → from_captured given name lines ≡ caught given name (start_of lines) 0 lines
-caught_all given name lines = ap (filter_map (in_captured given)) (marks_are_walked name lines)
+caught_all given name lines = ap (filter_map (in_captured given)) (passed_are_walked name lines)

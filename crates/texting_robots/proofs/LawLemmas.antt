@@ -19,7 +19,7 @@ use Rattle.texting_robots.specs.Verdict.{IsVerdict}
 use Rattle.texting_robots.specs.Steps.Group.{start_of, step}
 use Rattle.texting_robots.specs.Laws.{IsSameKind, Same, SameButSitemaps}
 use Rattle.texting_robots.proofs.CapturedLemmas.{Stands, at_front, caught, caught_all, from_captured}
-use Rattle.texting_robots.proofs.CapturedLemmas.{delays_marked, is_captured_decides}
+use Rattle.texting_robots.proofs.CapturedLemmas.{delays_passed, is_captured_decides}
 use Rattle.texting_robots.proofs.RulesLemmas.{before_agent, before_agents}
 use Rattle.texting_robots.proofs.CapturedLemmas.{only_agents, rules_are, stands_first, stands_next}
 use Rattle.texting_robots.specs.Group.{IsCaptured}
@@ -73,8 +73,8 @@ same_alike : (agent : List ℕ) (lines others : List LineValue) → AreAlike age
 same_alike agent lines others are = same_from agent lines agent others
     (rules_are agent lines ∙ found rule_in are.rules ∙ sym (rules_are agent others))
     (rw (
-      delays_marked agent lines,
-      delays_marked agent others,
+      delays_passed agent lines,
+      delays_passed agent others,
       found delay_in are.delays,
       before_agents lines,
       before_agents others,

@@ -11,6 +11,7 @@ pub mod LineLemmas
 pub mod CountLemmas
 pub mod NameLemmas
 pub mod CapturedLemmas
+pub mod StandingLemmas
 pub mod RulesLemmas
 pub mod LawLemmas
 pub mod Rfc9309

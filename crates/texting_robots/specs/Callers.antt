@@ -9,7 +9,7 @@ pub use Rattle.texting_robots.specs.Rules.{GivesNothing, IsRefused, PlacedRule, 
 pub use Rattle.texting_robots.specs.Rules.{rules_for, sitemaps_in, unplaced}
 pub use Rattle.texting_robots.specs.Group.{IsCaptured, group_name, is_agent_named}
 pub use Rattle.texting_robots.specs.Robot.{RobotValue, IsRobotOf, file_limit, lines_read}
-pub use Rattle.texting_robots.specs.Marks.{Mark, is_named, mark_by_value, marks_of}
+pub use Rattle.texting_robots.specs.Marks.{Mark, is_named, is_own, mark_by_value, marks_of, standing_of}
 -- URLs, texts and patterns
 pub use Rattle.texting_robots.specs.Pattern.{Matches, MatchesStars, IsOverlong, collapsed}
 pub use Rattle.texting_robots.specs.{Address.robots_address, Address.robots_address_of, Escape.escaped}

@@ -1,12 +1,11 @@
 //! Whose lines are whose: the group of a file that an agent gets, and the file's lines, each marked by it.
-ghost use Rattle.std.specs.Prelude.{◌≡◌, ◌<◌, ◌^◌, length};
+ghost use Rattle.std.specs.Prelude.{◌≡◌, ◌<◌, ◌^◌, false, length};
 ghost use Rattle.std.specs.Iterator.{YieldsFirstBy, item_count};
 ghost use Rattle.std.specs.List.{list_any};
 ghost use Rattle.std.specs.Str.{str_to_ascii_lowercase};
 ghost use Rattle.texting_robots.specs.Group.{group_name, is_agent};
-ghost use Rattle.texting_robots.specs.Marks.{marks_of};
 ghost use Rattle.texting_robots.specs.Rules.{delay_before_agents};
-ghost use Rattle.texting_robots.specs.Steps.Group.{mark_of, step};
+ghost use Rattle.texting_robots.specs.Steps.Group.{captured_ahead, passed_by, passed_of, step};
 
 use crate::parser::{Unread, UnreadLines};
 use std::marker::Model;
@@ -83,6 +82,8 @@ pub(crate) struct Marked<'a> {
     pub(crate) number: usize,
     /// Whether it is captured, if it is a group line.
     pub(crate) is_captured: bool,
+    /// Whether a group line right behind it is captured.
+    pub(crate) is_captured_behind: bool,
     /// The line itself.
     pub(crate) line: Unread<'a>,
 }
@@ -99,12 +100,11 @@ pub(crate) struct MarkedLines<'a> {
 impl<'a> Model for MarkedLines<'a> {
     ghost use Rattle.std.specs.Prelude.{List, length, ◌+◌, ◌<◌, ◌^◌};
     ghost use Rattle.std.specs.Str.{str_to_ascii_lowercase};
-    ghost use Rattle.texting_robots.specs.Marks.{Mark};
-    ghost use Rattle.texting_robots.specs.Steps.Group.{marks_from};
+    ghost use Rattle.texting_robots.specs.Steps.Group.{Passed, passed_from};
 
-    ghost Value = { List Mark };
+    ghost Value = { List Passed };
 
-    ghost view = { λ s. marks_from (str_to_ascii_lowercase s.name.now) s.walk s.place s.lines };
+    ghost view = { λ s. passed_from (str_to_ascii_lowercase s.name.now) s.walk s.place s.lines };
 
     ghost invariant = { λ s. s.place + length s.lines < 2 ^ 64 };
 }
@@ -113,7 +113,7 @@ impl<'a> Model for MarkedLines<'a> {
 pub(crate) fn marked_lines<'a>(group: &Group<'a>, lines: UnreadLines<'a>) -> MarkedLines<'a>
     requires agents { group.now.has_agents ≡ list_any is_agent lines }
     requires count { length lines < 2 ^ 64 }
-    ensures { result ≡ marks_of (str_to_ascii_lowercase group.now.name.now) lines.entry }
+    ensures { result ≡ passed_of (str_to_ascii_lowercase group.now.name.now) lines.entry }
 {
     MarkedLines {
         name: group.name,
@@ -129,7 +129,7 @@ pub(crate) fn marked_lines<'a>(group: &Group<'a>, lines: UnreadLines<'a>) -> Mar
 impl<'a> Iterator for MarkedLines<'a> {
     type Item = Marked<'a>;
 
-    ghost next_gives = { YieldsFirstBy mark_of (λ s. s) };
+    ghost next_gives = { YieldsFirstBy passed_by (λ s. s) };
 
     ghost remaining = { item_count (λ s. s) };
 
@@ -141,7 +141,28 @@ impl<'a> Iterator for MarkedLines<'a> {
         Some(Marked {
             number: self.place,
             is_captured,
+            is_captured_behind: self.walk.captured,
             line,
         })
+    }
+}
+
+impl MarkedLines<'_> {
+    /// Whether the first group line that is left is captured; where none is left, whether one behind the last line would be.
+    pub(crate) fn ahead(&self) -> bool
+        ensures { result ≡ captured_ahead false self.now }
+    {
+        let left = MarkedLines {
+            lines: self.lines.again(),
+            ..*self
+        };
+        let mut captured = false;
+        for marked in left {
+            if marked.line.is_group() {
+                return marked.is_captured;
+            }
+            captured = marked.is_captured_behind;
+        }
+        captured
     }
 }

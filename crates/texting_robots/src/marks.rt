@@ -3,19 +3,33 @@ ghost use Rattle.std.specs.Prelude.{◌≡◌, ◌≤◌, length};
 ghost use Rattle.std.specs.Iterator.{YieldsFirstBy, item_count};
 ghost use Rattle.texting_robots.specs.Group.{group_name};
 ghost use Rattle.texting_robots.specs.Marks.{is_named, mark_by_value, marks_of};
+ghost use Rattle.texting_robots.specs.Line.{by_value};
 ghost use Rattle.texting_robots.specs.Parsed.{file_lines};
+ghost use Rattle.texting_robots.specs.Steps.Group.{stands};
 
 use crate::groups::{self, MarkedLines, group_for};
 use crate::parser::{Line, unread_file_lines};
 use std::marker::Model;
 
-/// A line of a file with its number and its mark.
+/// Where a line of a file stands to an agent.
+#[derive(Clone, Copy, PartialEq, Eq, Debug)]
+pub enum Standing {
+    /// A rule or a delay that the agent gets, or a user-agent line that leads to such lines.
+    Own,
+    /// A rule or a delay of another agent, or a user-agent line that leads to such lines.
+    Other,
+    /// A line in no group: one that is neither a user-agent line nor a rule nor a delay, or a rule or a delay before the first
+    /// user-agent line. In a file with no user-agent line every rule and every delay is `Own`.
+    Outside,
+}
+
+/// A line of a file with its number and where it stands.
 #[derive(Clone, Copy, PartialEq, Eq, Debug)]
 pub struct MarkedLine<'a> {
     /// Its number, counted from 1 among all lines of the file, as in `Decision`.
     pub number: usize,
-    /// Whether an Allow, a Disallow or a delay in this line is captured. Of another line it says nothing.
-    pub is_captured: bool,
+    /// Where it stands to the agent.
+    pub standing: Standing,
     /// The line.
     pub line: Line<'a>,
 }
@@ -24,15 +38,35 @@ pub struct MarkedLine<'a> {
 #[derive(Drop)]
 pub struct MarkedLineIter<'a> {
     marked: MarkedLines<'a>,
+    /// A user-agent line was passed.
+    begun: bool,
+    /// Whether the first group line that is left, or one at the end, is captured, where that is known.
+    ahead: Option<bool>,
 }
 
 impl<'a> Model for MarkedLineIter<'a> {
-    ghost use Rattle.std.specs.Prelude.{List};
+    ghost use Rattle.std.specs.Prelude.{◌≡◌, List};
+    ghost use Rattle.std.specs.Option.{IfSome};
     ghost use Rattle.texting_robots.specs.Marks.{Mark};
+    ghost use Rattle.texting_robots.specs.Steps.Group.{captured_ahead, marks_from};
 
     ghost Value = { List Mark };
 
-    ghost view = { λ s. s.marked };
+    ghost view = { λ s. marks_from s.begun s.marked };
+
+    ghost invariant = { λ s. IfSome s.ahead (λ known. captured_ahead known s.marked ≡ known) };
+}
+
+/// Where a line stands, by whether the next group line is captured and whether a user-agent line stood here or before.
+fn standing_of(captured: bool, begun: bool, line: Line<'_>) -> Standing
+    ensures { result ≡ stands captured begun (by_value line.entry) }
+{
+    match line {
+        Line::Sitemap(_) | Line::Raw(_) => Standing::Outside,
+        _ if captured => Standing::Own,
+        _ if begun => Standing::Other,
+        _ => Standing::Outside,
+    }
 }
 
 impl<'a> Iterator for MarkedLineIter<'a> {
@@ -43,16 +77,27 @@ impl<'a> Iterator for MarkedLineIter<'a> {
     ghost remaining = { item_count (λ s. s) };
 
     fn next(&mut self) -> Option<MarkedLine<'a>> {
+        let captured = match self.ahead {
+            Some(known) => known,
+            None => self.marked.ahead(),
+        };
         let marked = self.marked.next()?;
+        let line = marked.line.read();
+        self.ahead = Some(captured);
+        match line {
+            Line::UserAgent(_) => self.begun = true,
+            Line::Allow(_) | Line::Disallow(_) | Line::CrawlDelay(_) => self.ahead = None,
+            Line::Sitemap(_) | Line::Raw(_) => {}
+        }
         Some(MarkedLine {
             number: marked.number,
-            is_captured: marked.is_captured,
-            line: marked.line.read(),
+            standing: standing_of(captured, self.begun, line),
+            line,
         })
     }
 }
 
-/// The lines of the file `txt`, all of its bytes, each with its number and its mark for the crawler that calls itself
+/// The lines of the file `txt`, all of its bytes, each with its number and its standing to the crawler that calls itself
 /// `agent`. It takes no memory, and there are no more lines than bytes.
 pub fn marked_lines<'a>(agent: &'a str, txt: &'a [u8]) -> MarkedLineIter<'a>
     ensures marks { result ≡ marks_of (group_name agent.now (file_lines txt.now)) (file_lines txt.now) }
@@ -61,6 +106,8 @@ pub fn marked_lines<'a>(agent: &'a str, txt: &'a [u8]) -> MarkedLineIter<'a>
     let group = group_for(agent.as_bytes(), unread_file_lines(txt));
     MarkedLineIter {
         marked: groups::marked_lines(&group, unread_file_lines(txt)),
+        begun: false,
+        ahead: None,
     }
 }
 

@@ -125,6 +125,18 @@ impl<'a> Model for UnreadLines<'a> {
     ghost view = { λ s. lines_of (read_as s.nul_ends s.rest.now) };
 }
 
+impl<'a> UnreadLines<'a> {
+    /// The lines that are left, once more.
+    pub(crate) fn again(&self) -> Self
+        ensures { result ≡ self.now }
+    {
+        UnreadLines {
+            rest: self.rest,
+            nul_ends: self.nul_ends,
+        }
+    }
+}
+
 impl<'a> Iterator for UnreadLines<'a> {
     type Item = Unread<'a>;
 

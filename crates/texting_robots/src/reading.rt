@@ -5,7 +5,7 @@ ghost use Rattle.texting_robots.specs.Steps.Entries.{AreEntries, rules_in};
 ghost use Rattle.texting_robots.specs.Error.{IsMemoryOr};
 ghost use Rattle.texting_robots.specs.Pattern.{IsOverlong};
 ghost use Rattle.texting_robots.specs.Rules.{rule_with};
-ghost use Rattle.texting_robots.specs.Steps.Group.{delay_at, mark_of, placed, rule_at, sitemap_at, text_from};
+ghost use Rattle.texting_robots.specs.Steps.Group.{delay_at, passed_by, placed, rule_at, sitemap_at, text_from};
 
 use crate::error::Error;
 use crate::groups::Marked;
@@ -78,15 +78,15 @@ impl Reading {
         requires { AreEntries self.old.rules }
         ensures known { OnOk result (AreEntries self.new.rules) }
         ensures rules { OnOk result (rules_in self.new.rules
-            ≡ rules_in self.old.rules ++ option_to_list (rule_at (mark_of marked.entry))) }
+            ≡ rules_in self.old.rules ++ option_to_list (rule_at (passed_by marked.entry))) }
         ensures sitemaps { OnOk result (map string_bytes self.new.sitemaps.items
-            ≡ map string_bytes self.old.sitemaps.items ++ option_to_list (sitemap_at (mark_of marked.entry))) }
-        ensures delay { OnOk result (self.new.delay ≡ option_or self.old.delay (delay_at (mark_of marked.entry))) }
-        ensures accepted { OnOk result (IfSome (rule_at (mark_of marked.entry)) (λ placed. ¬ IsOverlong placed.rule.0)) }
+            ≡ map string_bytes self.old.sitemaps.items ++ option_to_list (sitemap_at (passed_by marked.entry))) }
+        ensures delay { OnOk result (self.new.delay ≡ option_or self.old.delay (delay_at (passed_by marked.entry))) }
+        ensures accepted { OnOk result (IfSome (rule_at (passed_by marked.entry)) (λ placed. ¬ IsOverlong placed.rule.0)) }
         ensures refused { IfErr result (IsMemoryOr
-            (IsSomeAnd (rule_at (mark_of marked.entry)) (λ placed. IsOverlong placed.rule.0))) }
-        ensures unasked { rule_at (mark_of marked.entry) ≡ None
-            → sitemap_at (mark_of marked.entry) ≡ None → IsOk result }
+            (IsSomeAnd (rule_at (passed_by marked.entry)) (λ placed. IsOverlong placed.rule.0))) }
+        ensures unasked { rule_at (passed_by marked.entry) ≡ None
+            → sitemap_at (passed_by marked.entry) ≡ None → IsOk result }
     {
         if !marked.is_captured && !marked.line.is_sitemap() {
             return Ok(());

@@ -8,8 +8,8 @@ use Rattle.texting_robots.specs.Parsed.{file_lines}
 use Rattle.texting_robots.specs.Group.{group_name}
 use Rattle.texting_robots.specs.Pattern.{IsOverlong}
 use Rattle.texting_robots.specs.Rules.{PlacedRule, Rule, delay_before_agents}
-use Rattle.texting_robots.specs.Marks.{marks_of}
-use Rattle.texting_robots.proofs.CapturedLemmas.{delays_marked, rules_marked, sitemaps_are}
+use Rattle.texting_robots.specs.Steps.Group.{delay_at, passed_of, rule_at, sitemap_at}
+use Rattle.texting_robots.proofs.CapturedLemmas.{delays_passed, rules_passed, sitemaps_are}
 use Rattle.texting_robots.proofs.RulesLemmas.{all_added, any_unplaced, first_more, given_any}
 use Rattle.texting_robots.proofs.RulesLemmas.{given_more, given_none, no_rules, none_unplaced}
 use Rattle.texting_robots.proofs.RulesLemmas.{option_or_none, passed_on, refused_wider}
@@ -36,15 +36,15 @@ loop-marked-init c =
     let name = group_name c.args.agent.now lines in
     let group_is =
     rw (c.unread_file_lines.ensures.value, c.as_bytes.ensures.value) at c.group_for-group.ensures.name in
-    let marks : c.into_iter-marked-iterator.result ≡ marks_of name lines
+    let passed : c.into_iter-marked-iterator.result ≡ passed_of name lines
     = c.into_iter-marked-iterator.ensures.into_iter_gives
     ∙ (rw (group_is, c.unread_file_lines-2.ensures.value) at c.marked_lines-marked-items.ensures) in
     let empty = c.new-reading.ensures in
-    rw (empty.rules, empty.sitemaps, empty.delay, marks) (record {
+    rw (empty.rules, empty.sitemaps, empty.delay, passed) (record {
       known = empty.known;
-      rules = sym (rules_marked c.args.agent.now lines);
+      rules = sym (rules_passed c.args.agent.now lines);
       sitemaps = sym (sitemaps_are name lines);
-      delay = ap (λ (delays : List ℕ). slice_get delays 0) (sym (delays_marked c.args.agent.now lines));
+      delay = ap (λ (delays : List ℕ). slice_get delays 0) (sym (delays_passed c.args.agent.now lines));
       accepted = λ k d below. absurd (omega arith);
     })
 
