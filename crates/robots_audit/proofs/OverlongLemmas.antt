@@ -8,9 +8,11 @@ use Rattle.std.specs.Option.{IsSomeAnd}
 use Rattle.std.proofs.lemmas.List.{append-nil}
 use Rattle.texting_robots.specs.declared.error.Error.{Error}
 use Rattle.texting_robots.specs.declared.error.Error.TheVariants.{InvalidRule}
-use Rattle.texting_robots.specs.Callers.{IsMemoryOr, IsOverlong, Mark, PlacedRule, Rule, unplaced}
+use Rattle.texting_robots.specs.Callers.{IsMemoryOr, IsOverlong, Mark, PlacedRule, Rule, is_own, unplaced}
 use Rattle.texting_robots.specs.Rules.{rule_in}
-use Rattle.texting_robots.specs.Steps.Group.{placed, rule_at}
+use Rattle.texting_robots.specs.declared.marks.Standing.{Standing}
+use Rattle.texting_robots.specs.declared.marks.Standing.TheVariants.{Own}
+use Rattle.texting_robots.specs.Steps.Group.{placed, own_rule_at}
 use Rattle.robots_audit.specs.Report.{IsFirstOverlong}
 use Rattle.robots_audit.specs.Steps.{GivesOverlong}
 
@@ -20,10 +22,10 @@ IsAccepted placed = ¬ IsOverlong placed.rule.0
 -- the rules are some that aren't overlong, and then those of these marks
 pub record AreLeft (rules : List PlacedRule) (marks : List Mark) : Type 0 where
   pub front : List PlacedRule
-  pub whole : rules ≡ front ++ filter_map rule_at marks
+  pub whole : rules ≡ front ++ filter_map own_rule_at marks
   pub accepted : Each IsAccepted front
 
-pub all_left : (rules : List PlacedRule) (marks : List Mark) → rules ≡ filter_map rule_at marks
+pub all_left : (rules : List PlacedRule) (marks : List Mark) → rules ≡ filter_map own_rule_at marks
     → AreLeft rules marks
 all_left rules marks whole = record { front = []; whole = whole; accepted = tt }
 
@@ -46,9 +48,10 @@ less true (Some rule) number all rest front whole are not =
 pub left_next : (all : List PlacedRule) (mark : Mark) (marks : List Mark) → AreLeft all (mark ∷ marks)
     → ¬ GivesOverlong mark → AreLeft all marks
 left_next all mark marks left not =
-    let later = filter_map rule_at marks in
+    let later = filter_map own_rule_at marks in
+    let is_its = is_own mark.standing in
     let next =
-    less mark.captured (rule_in mark.line) mark.number all later left.front left.whole left.accepted not in
+    less is_its (rule_in mark.line) mark.number all later left.front left.whole left.accepted not in
     record { front = next.0; whole = next.1; accepted = next.2 }
 
 first : (captured : Bool) (rule : Option Rule) (number : ℕ) (all rest front : List PlacedRule)
@@ -70,8 +73,9 @@ first true (Some rule) number all rest front whole are is = record {
 pub first_found : (all : List PlacedRule) (mark : Mark) (marks : List Mark) → AreLeft all (mark ∷ marks)
     → GivesOverlong mark → IsFirstOverlong all mark.number
 first_found all mark marks left is =
-    let later = filter_map rule_at marks in
-    first mark.captured (rule_in mark.line) mark.number all later left.front left.whole left.accepted is
+    let later = filter_map own_rule_at marks in
+    let is_its = is_own mark.standing in
+    first is_its (rule_in mark.line) mark.number all later left.front left.whole left.accepted is
 
 none_overlong : (all : List PlacedRule) → Each IsAccepted all → (k : ℕ) (rule : Rule)
     → k < length (unplaced all) → slice_index_or (unplaced all) k rule ≡ rule
@@ -96,8 +100,8 @@ pub refused_is : {T : Type 0} (r : Result T Error) (P : Type 0) → r ≡ Err In
     → IfErr r (IsMemoryOr P) → P
 refused_is r P is refused = rw is at refused
 
-pub captured_answer : {E : Type 0} (r : Result Bool E) (captured : Bool) (P : Type 0) → captured ≡ true
+pub own_answer : {E : Type 0} (r : Result Bool E) (standing : Standing) (P : Type 0) → standing ≡ Own
     → IfOk r (λ answer. IsTrue answer ↔ P)
-    → IfOk r (λ answer. IsTrue answer ↔ (IsTrue captured × P))
-captured_answer (Err e) captured P is h = tt
-captured_answer (Ok answer) captured P is h = (λ yes. (search rules, h.0 yes), λ both. h.1 both.1)
+    → IfOk r (λ answer. IsTrue answer ↔ (IsTrue (is_own standing) × P))
+own_answer (Err e) standing P is h = tt
+own_answer (Ok answer) standing P is h = (λ yes. (rw is (search rules), h.0 yes), λ both. h.1 both.1)

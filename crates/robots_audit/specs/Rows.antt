@@ -1,9 +1,11 @@
 -- The rows of a report: a line on each line of a file.
-use Rattle.std.specs.Prelude.{ℕ, ◌-◌, ◌==◌, Bool, true, false, ◌||◌}
+use Rattle.std.specs.Prelude.{ℕ, ◌-◌, ◌==◌, Bool, true, ◌||◌}
 use Rattle.std.specs.Prelude.{◌&&◌, List, [], ◌∷◌, ◌++◌, Some, None, codes}
 use Rattle.std.specs.Prelude.{decimal, if◌then◌else◌, length, map, replicate}
 use Rattle.texting_robots.specs.Callers.{Allow, CrawlDelay, Disallow, LineValue, Mark, Raw, Sitemap}
-use Rattle.texting_robots.specs.Callers.{UserAgent, escaped, group_name, is_agent_named, marks_of}
+use Rattle.texting_robots.specs.Callers.{UserAgent, escaped, group_name, marks_of}
+use Rattle.texting_robots.specs.declared.marks.Standing.{Standing}
+use Rattle.texting_robots.specs.declared.marks.Standing.TheVariants.{Other, Outside, Own}
 
 -- ---- columns
 
@@ -31,20 +33,11 @@ word_and_value word (byte ∷ value) = word ++ replicate (word_width - length wo
 
 -- ---- a line of a file
 
--- `+` in the agent's group, `-` in another
-abbrev pub sign : Bool → List ℕ
-sign true = codes "+"
-sign false = codes "-"
-
--- A User-Agent line is the agent's where it has the name of the agent's group, a rule or a delay where it is
--- captured. Other lines belong to no group.
-abbrev pub mark_text : List ℕ → Bool → LineValue → List ℕ
-mark_text name captured (UserAgent value) = sign (is_agent_named name (UserAgent value))
-mark_text name captured (Allow value) = sign captured
-mark_text name captured (Disallow value) = sign captured
-mark_text name captured (CrawlDelay delay) = sign captured
-mark_text name captured (Sitemap value) = codes " "
-mark_text name captured (Raw body) = codes " "
+-- `+` in the agent's group, `-` in another, and a blank in none
+abbrev pub mark_text : Standing → List ℕ
+mark_text Own = codes "+"
+mark_text Other = codes "-"
+mark_text Outside = codes " "
 
 -- nothing but blanks, or blanks and a comment
 abbrev pub is_blank : List ℕ → Bool
@@ -71,13 +64,12 @@ value_text (Sitemap value) = escaped value
 value_text (Raw body) = escaped body
 
 -- its number, its mark, what it was read as, and its value
-abbrev pub row : ℕ → List ℕ → Mark → List ℕ
-row width name mark =
-    right_aligned width (decimal mark.number) ++ codes " " ++ mark_text name mark.captured mark.line
-    ++ codes " " ++ word_and_value (kind_text mark.line) (value_text mark.line)
+abbrev pub row : ℕ → Mark → List ℕ
+row width mark =
+    right_aligned width (decimal mark.number) ++ codes " " ++ mark_text mark.standing ++ codes " "
+    ++ word_and_value (kind_text mark.line) (value_text mark.line)
 
 -- a row for each line, the numbers as wide as the last
 abbrev pub rows : List ℕ → List LineValue → List (List ℕ)
 rows agent lines =
-    map (row (length (decimal (length lines))) (group_name agent lines))
-    (marks_of (group_name agent lines) lines)
+    map (row (length (decimal (length lines)))) (marks_of (group_name agent lines) lines)

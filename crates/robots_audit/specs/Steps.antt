@@ -2,7 +2,7 @@
 use Rattle.std.specs.Prelude.{◌≡◌, ℕ, Bool, IsTrue, List, ◌++◌}
 use Rattle.std.specs.List.{AllZip}
 use Rattle.std.specs.Option.{IsSomeAnd}
-use Rattle.texting_robots.specs.Callers.{IsOverlong, Mark, PlacedRule, Rule, unplaced}
+use Rattle.texting_robots.specs.Callers.{IsOverlong, Mark, PlacedRule, Rule, is_own, unplaced}
 use Rattle.texting_robots.specs.Rules.{rule_in}
 use Rattle.robots_io.specs.Lines.{ended}
 use Rattle.robots_audit.specs.Report.{AreAllowed, IsVerdictLine}
@@ -18,4 +18,4 @@ pub record AddsVerdicts (rules : List PlacedRule) (urls : List (List ℕ)) (all_
 -- the line gives a captured rule that is overlong
 abbrev pub GivesOverlong : Mark → Type 0
 GivesOverlong mark =
-    IsTrue mark.captured × IsSomeAnd (rule_in mark.line) (λ (rule : Rule). IsOverlong rule.0)
+    IsTrue (is_own mark.standing) × IsSomeAnd (rule_in mark.line) (λ (rule : Rule). IsOverlong rule.0)

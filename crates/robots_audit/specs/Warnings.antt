@@ -3,7 +3,7 @@ use Rattle.std.specs.Prelude.{ℕ, ◌==◌, nat_eq, Bool, false, not, ◌||◌,
 use Rattle.std.specs.Prelude.{◌++◌, codes, decimal, flat_map, if◌then◌else◌, reverse}
 use Rattle.std.specs.List.{list_any, starts_with}
 use Rattle.texting_robots.specs.Callers.{Allow, CrawlDelay, Disallow, LineValue, Mark, Raw}
-use Rattle.texting_robots.specs.Callers.{Sitemap, UserAgent, escaped, group_name, marks_of}
+use Rattle.texting_robots.specs.Callers.{Sitemap, UserAgent, escaped, group_name, is_own, marks_of}
 use Rattle.robots_audit.specs.Rows.{space, tab}
 
 abbrev pub slash : ℕ
@@ -99,7 +99,7 @@ rule_warnings captured number (Sitemap value) = []
 rule_warnings captured number (Raw body) = []
 
 abbrev pub mark_warnings : Mark → List (List ℕ)
-mark_warnings mark = rule_warnings mark.captured mark.number mark.line
+mark_warnings mark = rule_warnings (is_own mark.standing) mark.number mark.line
 
 -- ---- all
 

@@ -8,7 +8,7 @@ ghost use Rattle.robots_audit.specs.Steps.{GivesOverlong};
 
 use crate::file::counted;
 use std::alloc::{AllocError, Global};
-use texting_robots::marks::{MarkedLine, marked_lines};
+use texting_robots::marks::{MarkedLine, Standing, marked_lines};
 use texting_robots::minregex::MinRegex;
 use texting_robots::parser::Line;
 use texting_robots::{Error, push_escaped_bytes};
@@ -41,7 +41,7 @@ fn is_overlong(alloc: Global, value: &[u8], is_allow: bool) -> Result<bool, Allo
 fn gives_overlong(alloc: Global, marked: MarkedLine<'_>) -> Result<bool, AllocError>
     ensures { IfOk result (λ answer. IsTrue answer ↔ GivesOverlong (mark_by_value marked.entry)) }
 {
-    if !marked.is_captured {
+    if marked.standing != Standing::Own {
         return Ok(false);
     }
     match marked.line {

@@ -1,12 +1,11 @@
 //! The rows of a report: a line on each line of a file.
 ghost use Rattle.std.specs.Prelude.{◌≡◌, ◌++◌, ◌∷◌, [], IfOk, OnOk, codes, decimal, length, replicate, string_bytes};
-ghost use Rattle.std.specs.Str.{str_to_ascii_lowercase};
-ghost use Rattle.texting_robots.specs.Callers.{by_value, file_lines, group_name, mark_by_value};
+ghost use Rattle.texting_robots.specs.Callers.{by_value, file_lines, mark_by_value};
 ghost use Rattle.robots_io.specs.Lines.{ended};
-ghost use Rattle.robots_audit.specs.Rows.{is_blank, kind_text, mark_text, right_aligned, row, rows, sign, space, value_text, word_and_value};
+ghost use Rattle.robots_audit.specs.Rows.{is_blank, kind_text, mark_text, right_aligned, row, rows, space, value_text, word_and_value};
 
 use std::alloc::{AllocError, Global};
-use texting_robots::marks::{MarkedLine, is_named, marked_lines};
+use texting_robots::marks::{MarkedLine, Standing, marked_lines};
 use texting_robots::parser::{Line, file_lines};
 use texting_robots::push_escaped_bytes;
 
@@ -44,28 +43,14 @@ fn push_word_and_value(text: &mut String, word: &str, value: &str) -> Result<(),
     Ok(())
 }
 
-/// The name whose groups the agent gets, but for its letter case: its own where a line names it, else a star.
-pub(crate) fn group_name<'a>(agent: &'a str, file: &[u8]) -> &'a str
-    ensures { str_to_ascii_lowercase result.now ≡ group_name agent.now (file_lines file.now) }
+/// The mark of a line.
+fn mark_text(standing: Standing) -> &'static str
+    ensures { result.now ≡ mark_text standing }
 {
-    if is_named(agent, file) { agent } else { "*" }
-}
-
-/// `+` in the agent's group, `-` in another.
-fn sign(is_its: bool) -> &'static str
-    ensures { result.now ≡ sign is_its }
-{
-    if is_its { "+" } else { "-" }
-}
-
-/// The mark of a line, where the agent's group has this name.
-fn mark_text(name: &str, captured: bool, line: Line<'_>) -> &'static str
-    ensures { result.now ≡ mark_text (str_to_ascii_lowercase name.now) captured (by_value line.entry) }
-{
-    match line {
-        Line::UserAgent(value) => sign(value.eq_ignore_ascii_case(name.as_bytes())),
-        Line::Allow(_) | Line::Disallow(_) | Line::CrawlDelay(_) => sign(captured),
-        Line::Sitemap(_) | Line::Raw(_) => " ",
+    match standing {
+        Standing::Own => "+",
+        Standing::Other => "-",
+        Standing::Outside => " ",
     }
 }
 
@@ -121,17 +106,15 @@ fn push_front(
     alloc: Global,
     text: &mut String,
     width: usize,
-    name: &str,
     marked: &MarkedLine<'_>,
 ) -> Result<(), AllocError>
     ensures { OnOk result (string_bytes text.new ≡ string_bytes text.old
         ++ (right_aligned width (decimal marked.now.number) ++ codes " "
-        ++ mark_text (str_to_ascii_lowercase name.now) marked.now.is_captured (by_value marked.now.line)
-        ++ codes " ")) }
+        ++ mark_text marked.now.standing ++ codes " ")) }
 {
     push_right(text, width, &marked.number.to_string(alloc)?)?;
     text.push(' ')?;
-    text.push_str(mark_text(name, marked.is_captured, marked.line))?;
+    text.push_str(mark_text(marked.standing))?;
     text.push(' ')
 }
 
@@ -140,13 +123,12 @@ fn push_row(
     alloc: Global,
     text: &mut String,
     width: usize,
-    name: &str,
     marked: MarkedLine<'_>,
 ) -> Result<(), AllocError>
     ensures { OnOk result (string_bytes text.new ≡ string_bytes text.old
-        ++ ended (row width (str_to_ascii_lowercase name.now) (mark_by_value marked.entry) ∷ [])) }
+        ++ ended (row width (mark_by_value marked.entry) ∷ [])) }
 {
-    push_front(alloc, text, width, name, &marked)?;
+    push_front(alloc, text, width, &marked)?;
     let value = value_text(alloc, marked.line)?;
     push_word_and_value(text, kind_text(marked.line), &value)?;
     text.push('\n')
@@ -170,9 +152,8 @@ pub(crate) fn push_rows(
         ++ ended (rows agent.now (file_lines file.now))) }
 {
     let width = number_width(alloc, file)?;
-    let name = group_name(agent, file);
     for marked in marked_lines(agent, file) {
-        push_row(alloc, text, width, name, marked)?;
+        push_row(alloc, text, width, marked)?;
     }
     Ok(())
 }

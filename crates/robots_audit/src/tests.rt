@@ -44,7 +44,7 @@ fn quiet(alloc: Global, all_allowed: bool) -> Outcome {
 
 #[test]
 fn reports(rt: HostRuntime) -> Result<(), Fail> {
-    let rows: [(&str, &str, &[u8], &str, &str, bool); 8] = [
+    let rows: [(&str, &str, &[u8], &str, &str, bool); 12] = [
         ("every kind of line", "", FILE, REPORT, "", true),
         (
             "a URL is denied",
@@ -82,7 +82,7 @@ fn reports(rt: HostRuntime) -> Result<(), Fail> {
             "the star's group",
             "/a",
             b"User-agent: Other\nUser-agent: *\nDisallow: /a\nCrawl-delay: nan",
-            "1 - user-agent  Other\n2 + user-agent  *\n3 + disallow    /a\n4   unread      Crawl-delay:%20nan\ngroup *, as the agent isn't named in the file\ndelay none\n",
+            "1 + user-agent  Other\n2 + user-agent  *\n3 + disallow    /a\n4   unread      Crawl-delay:%20nan\ngroup *, as the agent isn't named in the file\ndelay none\n",
             "deny 3 /a\n",
             false,
         ),
@@ -98,8 +98,40 @@ fn reports(rt: HostRuntime) -> Result<(), Fail> {
             "a delay before the agents",
             "",
             b"Crawl-delay: 1\nUser-agent: ferris",
-            "1 - crawl-delay 1000000\n2 + user-agent  ferris\ngroup Ferris, named in the file\ndelay 1000000\n",
+            "1   crawl-delay 1000000\n2 + user-agent  ferris\ngroup Ferris, named in the file\ndelay 1000000\n",
             "",
+            true,
+        ),
+        (
+            "a rule before the agents",
+            "/a",
+            b"Disallow: /a\nSitemap: s\nUser-agent: Ferris\nDisallow: /b",
+            "1   disallow    /a\n2   sitemap     s\n3 + user-agent  Ferris\n4 + disallow    /b\ngroup Ferris, named in the file\ndelay none\n",
+            "allow - /a\n",
+            true,
+        ),
+        (
+            "a group of several agents",
+            "/a",
+            b"User-agent: other\nUser-agent: ferris\n\nUser-agent: third\nDisallow: /a\nUser-agent: fourth\nAllow: /a",
+            "1 + user-agent  other\n2 + user-agent  ferris\n3   blank\n4 + user-agent  third\n5 + disallow    /a\n6 - user-agent  fourth\n7 - allow       /a\ngroup Ferris, named in the file\ndelay none\n",
+            "deny 5 /a\n",
+            false,
+        ),
+        (
+            "a delay parts two groups",
+            "/a",
+            b"User-agent: Ferris\nCrawl-delay: 1\nUser-agent: other\nDisallow: /a",
+            "1 + user-agent  Ferris\n2 + crawl-delay 1000000\n3 - user-agent  other\n4 - disallow    /a\ngroup Ferris, named in the file\ndelay 1000000\n",
+            "allow - /a\n",
+            true,
+        ),
+        (
+            "agents at the end",
+            "/a",
+            b"User-agent: other\nDisallow: /a\nUser-agent: Ferris\nUser-agent: third",
+            "1 - user-agent  other\n2 - disallow    /a\n3 + user-agent  Ferris\n4 + user-agent  third\ngroup Ferris, named in the file\ndelay none\n",
+            "allow - /a\n",
             true,
         ),
     ];

@@ -10,7 +10,7 @@ ghost use Rattle.robots_audit.specs.Warnings.{url_warnings, value_warnings, warn
 
 use robots_io::lines::push_line;
 use std::alloc::{AllocError, Global};
-use texting_robots::marks::marked_lines;
+use texting_robots::marks::{Standing, marked_lines};
 use texting_robots::parser::Line;
 use texting_robots::push_escaped_bytes;
 
@@ -249,7 +249,8 @@ fn warn_of_rules(
         (marks_of (group_name agent.now (file_lines file.now)) (file_lines file.now)))) }
 {
     for marked in marked_lines(agent, file) {
-        warn_of_line(alloc, text, marked.is_captured, marked.number, marked.line)?;
+        let is_own = marked.standing == Standing::Own;
+        warn_of_line(alloc, text, is_own, marked.number, marked.line)?;
     }
     Ok(())
 }

@@ -2,7 +2,7 @@
 use crate::calls::{Asked, PAGE, PAGE_LINES, make_asked};
 use std::alloc::Global;
 use std::cmp::Ordering;
-use texting_robots::marks::{MarkedLine, is_named, marked_lines};
+use texting_robots::marks::{MarkedLine, Standing, is_named, marked_lines};
 use texting_robots::minregex::MinRegex;
 use texting_robots::parser::{Line, LineIter, file_lines, lines, read_delay};
 use texting_robots::view::View;
@@ -140,7 +140,7 @@ fn marks_page() -> bool {
     let _ = marked.next();
     let rule = MarkedLine {
         number: 2,
-        is_captured: true,
+        standing: Standing::Own,
         line: Line::Disallow(b"/path"),
     };
     marked.next() == Some(rule) && marked.count() == 4

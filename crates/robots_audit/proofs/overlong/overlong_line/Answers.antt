@@ -1,8 +1,8 @@
 use Rattle.std.proofs.Common.{◌≡◌, IsTrue, ap, rules, sym, ◌∙◌}
 use Rattle.std.specs.List.{filter_map}
 use Rattle.texting_robots.specs.Callers.{group_name, lines_read, mark_by_value, marks_of}
-use Rattle.texting_robots.specs.Steps.Group.{rule_at}
-use Rattle.texting_robots.proofs.CapturedLemmas.{rules_marked}
+use Rattle.texting_robots.specs.Steps.Group.{own_rule_at}
+use Rattle.texting_robots.proofs.StandingLemmas.{own_rules}
 use Rattle.robots_audit.proofs.OverlongLemmas.{all_left, first_found, left_next, none_left, not_so}
 use Rattle.robots_audit.proofs.overlong.overlong_line.Goals as goal
 
@@ -12,7 +12,7 @@ loop-marked-init c =
     let marks : c.into_iter-marked-iterator.result ≡ marks_of (group_name c.args.agent.now lines) lines
     = c.into_iter-marked-iterator.ensures.into_iter_gives
     ∙ (rw c.counted.ensures at c.marked_lines-marked-items.ensures.marks) in
-    all_left _ _ (rules_marked c.args.agent.now lines ∙ ap (λ all. filter_map rule_at all) (sym marks))
+    all_left _ _ (own_rules c.args.agent.now lines ∙ ap (λ all. filter_map own_rule_at all) (sym marks))
 
 pub loop-marked-preserved : goal.loop-marked-preserved
 loop-marked-preserved c =
