@@ -8,7 +8,7 @@ use Rattle.texting_robots.specs.Parsed.{file_lines}
 use Rattle.texting_robots.specs.Group.{group_name}
 use Rattle.texting_robots.specs.Pattern.{IsOverlong}
 use Rattle.texting_robots.specs.Rules.{PlacedRule, Rule, delay_before_agents}
-use Rattle.texting_robots.specs.Steps.Group.{delay_at, passed_of, rule_at, sitemap_at}
+use Rattle.texting_robots.specs.Steps.Group.{passed_of}
 use Rattle.texting_robots.proofs.CapturedLemmas.{delays_passed, rules_passed, sitemaps_are}
 use Rattle.texting_robots.proofs.RulesLemmas.{all_added, any_unplaced, first_more, given_any}
 use Rattle.texting_robots.proofs.RulesLemmas.{given_more, given_none, no_rules, none_unplaced}
