@@ -25,11 +25,11 @@ use Rattle.texting_robots.specs.Steps.Statement.{skip_blanks, kind_with, kind_by
 use Rattle.texting_robots.specs.Steps.Statement.{after_blanks, after_separator, tail_of, tail_as}
 use Rattle.texting_robots.specs.Steps.Statement.{parts_of, region_of, trimmed, value_of, statement_of}
 use Rattle.texting_robots.specs.Trim.{IsTrimOf}
-use Rattle.texting_robots.proofs.TrimLemmas.{trimmed_is_trim, one_trim, blank_skipped}
+use Rattle.texting_robots.proofs.TrimLemmas.{trimmed_is_trim, is_trimmed, blanks_skipped}
 
 -- ---- blanks
 
-pub blank_decides : (b : ℕ) → Decides (b == space || b == tab) (IsBlank b)
+blank_decides : (b : ℕ) → Decides (b == space || b == tab) (IsBlank b)
 blank_decides b = Decides-or (b == space) (b == tab) (Decides-eqb b space) (Decides-eqb b tab)
 
 -- the blanks at the front are skipped, whatever follows them
@@ -40,11 +40,11 @@ skip_front (b ∷ blanks) left all = cond-true _ _ _ ((blank_decides b).1 all.0)
     ∙ skip_front blanks left all.1
 
 -- no blank stands first, so nothing is skipped
-abbrev NoBlank : List ℕ → Type 0
+abbrev pub NoBlank : List ℕ → Type 0
 NoBlank [] = Unit {0}
 NoBlank (b ∷ text) = ¬ IsBlank b
 
-kept : (text : List ℕ) → NoBlank text → skip_blanks text ≡ text
+pub kept : (text : List ℕ) → NoBlank text → skip_blanks text ≡ text
 kept [] plain = refl
 kept (b ∷ text) plain =
     cond-false _ _ _ (false_from_ne_true (b == space || b == tab) (λ is. plain ((blank_decides b).0 is)))
@@ -109,7 +109,14 @@ key_found kind key rest is =
     let reads = All-contains (IsRead kind) (spellings kind) small
     (All-from_recursion (IsRead kind) (spellings kind) (each_read kind)) is
     (map to_ascii_lowercase rest) (key ++ rest) in
-    rw (kind_small (key ++ rest), any_small (spellings kind) (key ++ rest), map-append, reads.0, reads.1, drop_at key rest _ (sym (length-map key to_ascii_lowercase))) (refl, refl)
+    rw (
+      kind_small (key ++ rest),
+      any_small (spellings kind) (key ++ rest),
+      map-append,
+      reads.0,
+      reads.1,
+      drop_at key rest _ (sym (length-map key to_ascii_lowercase)),
+    ) (refl, refl)
 
 -- the text is a key and the rest
 found_key : (list : List (List ℕ)) (text rest : List ℕ) → after_any list text ≡ Some rest
@@ -159,7 +166,8 @@ blanks_found rest left found (blanks, all, whole, _) plain is =
       | inr short ↦ let none : None ≡ Some found = rw short at is in cc
       | inl more ↦
           let less = ltb-true (length left) (length rest) more in
-          let some : blanks ≢ [] = λ none. omega (arith, less, ap length (whole ∙ ap (λ t. t ++ left) none)) in
+          let some : blanks ≢ []
+          = λ none. omega (arith, less, ap length (whole ∙ ap (λ t. t ++ left) none)) in
           let same : left ≡ found = same_Some _ _ (rw more at is) in
           (left, (blanks, all, inr (whole, some, plain)), sym same ∙ sym (spaced rest left plain).0)
     ]
@@ -205,17 +213,19 @@ region_is (b ∷ region) comment plain is =
 
 -- blanks before the value change nothing
 value_skipped : (tail : List ℕ) → value_of (skip_blanks tail) ≡ value_of tail
-value_skipped tail = let (blanks, all, whole, _) = skipped tail in sym (ap value_of whole ∙ at blanks all)
+value_skipped tail =
+    let (blanks, all, whole, _) = skipped tail in
+    let left = region_of (skip_blanks tail) in
+    sym (ap value_of whole ∙ ap trimmed (at blanks all) ∙ blanks_skipped blanks left all)
   where
     first : (b : ℕ) (text : List ℕ) → IsBlank b → region_of (b ∷ text) ≡ b ∷ region_of text
     first b text (inl is) = rw is (region_step 32 text)
     first b text (inr is) = rw is (region_step 9 text)
 
     at : (blanks : List ℕ) → Each IsBlank blanks
-        → value_of (blanks ++ skip_blanks tail) ≡ value_of (skip_blanks tail)
+        → region_of (blanks ++ skip_blanks tail) ≡ blanks ++ region_of (skip_blanks tail)
     at [] all = refl
-    at (b ∷ blanks) all = ap trimmed (first b (blanks ++ skip_blanks tail) all.0)
-        ∙ blank_skipped b (region_of (blanks ++ skip_blanks tail)) all.0 ∙ at blanks all.1
+    at (b ∷ blanks) all = first b (blanks ++ skip_blanks tail) all.0 ∙ ap (λ t. b ∷ t) (at blanks all.1)
 
 -- ---- the statement
 
@@ -226,12 +236,13 @@ statement_found kind value body s =
     let text = s.key ++ s.rest in
     let key = key_found kind s.key s.rest s.is_key in
     let reads : skip_blanks body ≡ text
-    = ap skip_blanks s.whole ∙ skip_front s.margin text s.margin_blank ∙ kept text (plain_by kind text key.0) in
+    = ap skip_blanks s.whole ∙ skip_front s.margin text s.margin_blank
+    ∙ kept text (plain_by kind text key.0) in
     let region : region_of s.tail ≡ s.region
     = ap region_of s.parted ∙ region_is s.region s.comment s.no_hash s.is_comment in
     let is : value_of (skip_blanks s.tail) ≡ value
     = value_skipped s.tail ∙ ap trimmed region
-    ∙ one_trim s.region (trimmed s.region) value (trimmed_is_trim s.region) s.trimmed in
+    ∙ is_trimmed s.region value s.trimmed in
     rw (reads, key.0, key.1, tail_found s.tail s.rest s.separated, is) refl
 
 -- a key of the kind, a separator and a tail
@@ -270,7 +281,8 @@ found_statement kind value body found =
     option_and_then_some _ (kind_by text) parts is (λ k by is.
     option_and_then_some _ (tail_as k text) parts is (λ tail is paired.
     option_and_then_some tail_of (after_any (spellings k) text) tail is (λ rest keyed tailed.
-    let same = ap (λ (p : Kind × List ℕ). (p.0, value_of p.1)) (same_Some _ _ paired) ∙ same_Some _ _ valued in
+    let same = ap (λ (p : Kind × List ℕ). (p.0, value_of p.1)) (same_Some _ _ paired)
+    ∙ same_Some _ _ valued in
     subst (λ (p : Kind × List ℕ). IsStatement p.0 p.1 body) same (stated k body rest tail keyed tailed)))))
 
 -- the walk's last step

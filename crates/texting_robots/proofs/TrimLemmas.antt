@@ -1,15 +1,17 @@
 -- What `trim` leaves is the trim of its text, and there is no other.
 use Rattle.std.proofs.Common.{◌≡◌, ℕ, zero, suc, ◌+◌, ◌≤◌, ◌<◌, ◌-◌, Bool, true, false, cond, inl, inr}
-use Rattle.std.proofs.Common.{List, [], ◌∷◌, ◌++◌, length, take, drop, sym, refl, ap, ◌∙◌, append_assoc}
-use Rattle.std.proofs.Common.{append-nil, arith, IsTrue, Option, Some, None, length-append, slice_get, get_or}
+use Rattle.std.proofs.Common.{List, [], ◌∷◌, ◌++◌, length, take, drop, sym, refl, ap, ap₂, subst, ◌∙◌}
+use Rattle.std.proofs.Common.{append_assoc, append-nil, arith, IsTrue, Option, Some, None, length-append}
+use Rattle.std.proofs.Common.{slice_get, get_or}
 use Rattle.std.proofs.Math.Seq.{drop-nil}
 use Rattle.std.specs.List.{AllByRecursion as Each}
 use Rattle.std.specs.Char.{is_ascii_graphic, is_whitespace, encode_utf8}
 use Rattle.std.specs.Str.{encode_utf8_all}
 use Rattle.std.proofs.lemmas.Bool.{cases_Bool, cond-true, cond-false}
 use Rattle.std.proofs.lemmas.Bool.Decides.{nat_tests}
-use Rattle.std.proofs.lemmas.List.{append_cancel_right, drop_all, drop_at, drop-append-le, drop-drop, length-drop, length-take}
-use Rattle.std.proofs.lemmas.List.{take-append-drop, take_all, take_at, take_more}
+use Rattle.std.proofs.lemmas.List.{append_cancel_right, drop_all, drop_at, drop-append-le, drop-drop}
+use Rattle.std.proofs.lemmas.List.{length-drop, length-take, take-append-drop, take-append-le, take_all}
+use Rattle.std.proofs.lemmas.List.{take_at, take_more}
 use Rattle.std.proofs.lemmas.Option.{same_Some, slice_get-get_or}
 use Rattle.std.proofs.lemmas.Str.{encode_ascii, encodes-append, IsUtf8-encode, IsCharBoundary-start}
 use Rattle.bstr.specs.Utf8.{Decoded, decoded, good, or_replacement, pieces, spans_from, IsLastPiece}
@@ -48,7 +50,7 @@ by_pieces P none more bytes = at (length bytes) bytes (omega arith)
         more (b ∷ rest) (omega arith) (at n _ (simp length-drop (omega arith)))
 
 -- a space is read as itself
-white_scalar : (c : ℕ) → is_whitespace c ≡ true → scalar c ≡ true
+pub white_scalar : (c : ℕ) → is_whitespace c ≡ true → scalar c ≡ true
 white_scalar c white = low_scalar c (grind (arith, nat_tests))
 
 -- and what is read as a space is one
@@ -210,9 +212,11 @@ ended = by_pieces (λ bytes. (text : List ℕ) (end : ℕ) → Ended text end
     (λ bytes some later text end e.
     let n = (decoded bytes).size in
     let bounds = piece-bounds bytes some in
-    let long : length (text ++ take n bytes) ≡ length text + n = simp (length-append, length-take) (omega arith) in
+    let long : length (text ++ take n bytes) ≡ length text + n
+    = simp (length-append, length-take) (omega arith) in
     rw (spans-first bytes (length text) some)
-    (rw (append_assoc, take-append-drop, long) at (later (text ++ take n bytes) _ (ended_next bytes text end some e))))
+    (rw (append_assoc, take-append-drop, long) at
+    (later (text ++ take n bytes) _ (ended_next bytes text end some e))))
 
 -- ---- the trim
 
@@ -247,24 +251,52 @@ trimmed_is_trim region =
           omega (arith, same, within, length-drop (end_of rest) rest);
     }
 
-pub one_trim : (region value value' : List ℕ) → IsTrimOf value region → IsTrimOf value' region
-    → value ≡ value'
-one_trim region value value' t u =
-    let below = u.front_longest t.front (value ++ t.back) t.whole t.front_spaces in
-    let above = t.front_longest u.front (value' ++ u.back) u.whole u.front_spaces in
+-- and there is no other
+pub is_trimmed : (region value : List ℕ) → IsTrimOf value region → trimmed region ≡ value
+is_trimmed region value u =
+    let t = trimmed_is_trim region in
     let n = length u.front in
-    let rest : value ++ t.back ≡ value' ++ u.back
-    = sym (drop_at t.front _ n (omega arith)) ∙ ap (drop n) (sym t.whole ∙ u.whole) ∙ drop_at u.front _ n refl in
-    let within = u.back_longest value t.back (sym rest) t.back_spaces in
-    let over = t.back_longest value' u.back rest u.back_spaces in
-    let long : length value ≡ length value' = omega (arith, simp length-append at (ap length rest)) in
-    sym (take_at value t.back _ long) ∙ ap (take (length value')) rest ∙ take_at value' u.back _ refl
+    let below = u.front_longest t.front (trimmed region ++ t.back) t.whole t.front_spaces in
+    let above = t.front_longest u.front (value ++ u.back) u.whole u.front_spaces in
+    let rest : trimmed region ++ t.back ≡ value ++ u.back
+    = sym (drop_at t.front _ n (omega arith)) ∙ ap (drop n) (sym t.whole ∙ u.whole)
+    ∙ drop_at u.front _ n refl in
+    let within = u.back_longest (trimmed region) t.back (sym rest) t.back_spaces in
+    let over = t.back_longest value u.back rest u.back_spaces in
+    let long : length (trimmed region) ≡ length value
+    = omega (arith, simp length-append at (ap length rest)) in
+    sym (take_at (trimmed region) t.back _ long) ∙ ap (take (length value)) rest ∙ take_at value u.back _ refl
 
--- a blank at the front changes no trim
-pub blank_skipped : (b : ℕ) (region : List ℕ) → IsBlank b → trimmed (b ∷ region) ≡ trimmed region
+pub same_trim : (text region value : List ℕ) → trimmed text ≡ trimmed region → IsTrimOf value region
+    → IsTrimOf value text
+same_trim text region value same t =
+    subst (λ v. IsTrimOf v text) (same ∙ is_trimmed region value t) (trimmed_is_trim text)
+
+-- ---- blanks
+
+-- blanks are spaces
+blank_spaces : (blanks : List ℕ) → Each IsBlank blanks
+    → AllWhite blanks × (encode_utf8_all blanks ≡ blanks)
 unfolding encode_utf8
-blank_skipped b region (inl is) = rw is (ap (trim_end_by is_whitespace) (start_spaces (32 ∷ []) region (refl, tt)))
-blank_skipped b region (inr is) = rw is (ap (trim_end_by is_whitespace) (start_spaces (9 ∷ []) region (refl, tt)))
+blank_spaces [] all = (tt, refl)
+blank_spaces (b ∷ blanks) (is, all) =
+    let (white, same) = blank_spaces blanks all in
+    let (is_white, one) = at is in
+    ((is_white, white), ap₂ (λ s t. s ++ t) one same)
+  where
+    at : IsBlank b → (is_whitespace b ≡ true) × (encode_utf8 b ≡ b ∷ [])
+    at (inl e) = rw e (refl, refl)
+    at (inr e) = rw e (refl, refl)
+
+-- at the front they change no trim
+pub blanks_skipped : (blanks region : List ℕ) → Each IsBlank blanks
+    → trimmed (blanks ++ region) ≡ trimmed region
+blanks_skipped blanks region all =
+    let (white, same) = blank_spaces blanks all in
+    ap (trim_end_by is_whitespace)
+    (ap (λ t. from_start (t ++ region)) (sym same) ∙ start_spaces blanks region white)
+
+-- ---- visible ends
 
 -- a visible byte is a character that is no space
 graphic_char : (b : ℕ) → is_ascii_graphic b ≡ true
@@ -273,24 +305,48 @@ graphic_char b is =
     let low : b < 128 = grind (arith, nat_tests) in
     (low_scalar b (omega arith), grind (arith, nat_tests), encode_ascii b low)
 
+-- at the front it stays
+graphic_first : (b : ℕ) (rest : List ℕ) → is_ascii_graphic b ≡ true
+    → from_start (b ∷ rest) ≡ b ∷ rest
+graphic_first b rest is =
+    let (scalar_b, dark, one) = graphic_char b is in
+    (rw one at (start_char b rest scalar_b)) ∙ cond-false _ _ _ dark
+
+-- and blanks behind what begins with it change no trim
+pub blanks_behind : (b : ℕ) (rest blanks : List ℕ) → is_ascii_graphic b ≡ true → Each IsBlank blanks
+    → trimmed (b ∷ (rest ++ blanks)) ≡ trimmed (b ∷ rest)
+blanks_behind b rest blanks is all =
+    let text = b ∷ rest in
+    let (white, same) = blank_spaces blanks all in
+    let end : end_of (text ++ blanks) ≡ end_of text
+    = ap (λ t. end_of (text ++ t)) (sym same) ∙ end_spaces blanks text white in
+    ap (trim_end_by is_whitespace) (graphic_first b (rest ++ blanks) is)
+    ∙ ap (λ k. take k (text ++ blanks)) end
+    ∙ take-append-le (end_of text) text blanks (ended text [] 0 (omega arith, ([], tt, refl))).0
+    ∙ sym (ap (trim_end_by is_whitespace) (graphic_first b rest is))
+
 -- a text whose ends are visible is its own trim
+pub graphic_trim : (b : ℕ) (rest : List ℕ) → is_ascii_graphic b ≡ true
+    → is_ascii_graphic (get_or (b ∷ rest) (length rest) 0) ≡ true → trimmed (b ∷ rest) ≡ b ∷ rest
+graphic_trim b rest first_is last_is =
+    let text = b ∷ rest in
+    let front = take (length rest) text in
+    let last = get_or text (length rest) 0 in
+    let (scalar_l, dark, one) = graphic_char last last_is in
+    let whole : front ++ last ∷ [] ≡ text
+    = sym (take_more text (length rest) 0 (omega arith)) ∙ take_all (length rest + 1) text (omega arith) in
+    let end : end_of text ≡ length text
+    = (rw (one, whole) at (end_char front last scalar_l)) ∙ cond-false _ _ _ dark in
+    ap (trim_end_by is_whitespace) (graphic_first b rest first_is) ∙ ap (λ k. take k text) end
+    ∙ take_all (length text) text (omega arith)
+
 pub graphic_ends : (text : List ℕ) (first last : ℕ) → Some first ≡ slice_get text 0
     → Some last ≡ slice_get text (length text - 1) → is_ascii_graphic first ≡ true
     → is_ascii_graphic last ≡ true
     → trimmed text ≡ text
 graphic_ends [] first last here there first_is last_is = cc
 graphic_ends (b ∷ rest) first last here there first_is last_is =
-    let text = b ∷ rest in
-    let n = length text - 1 in
-    let (scalar_b, dark_b, one_b) = graphic_char b (rw (same_Some first b here) at first_is) in
-    let (scalar_l, dark_l, one_l) = graphic_char last last_is in
-    let start : from_start text ≡ text = (rw one_b at (start_char b rest scalar_b)) ∙ cond-false _ _ _ dark_b in
-    let same : last ≡ get_or text n 0
-    = same_Some _ _ (there ∙ slice_get-get_or text n 0 (omega arith)) in
-    let whole : text ≡ take n text ++ last ∷ []
-    = sym (take_all (n + 1) text (omega arith)) ∙ take_more text n 0 (omega arith)
-    ∙ ap (λ x. take n text ++ x ∷ []) (sym same) in
-    let end : end_of text ≡ length text
-    = ap end_of whole ∙ (rw one_l at (end_char (take n text) last scalar_l)) ∙ cond-false _ _ _ dark_l
-    ∙ ap length (sym whole) in
-    ap (trim_end_by is_whitespace) start ∙ ap (λ k. take k text) end ∙ take_all (length text) text (omega arith)
+    let n : length (b ∷ rest) - 1 ≡ length rest = omega arith in
+    let same = slice_get-get_or (b ∷ rest) (length rest) 0 (omega arith) in
+    graphic_trim b rest (rw (same_Some first b here) at first_is)
+    (rw (same_Some last _ (there ∙ ap (slice_get (b ∷ rest)) n ∙ same)) at last_is)

@@ -11,14 +11,13 @@ use Rattle.texting_robots.specs.Statement.{IsBlank, IsStatement, spellings}
 use Rattle.texting_robots.specs.Steps.Statement.{IsComment, colon, hash}
 use Rattle.texting_robots.specs.Trim.{IsTrimOf}
 use Rattle.texting_robots.specs.Steps.Line.{line_of, line_with}
-use Rattle.texting_robots.specs.Steps.Statement.{trimmed}
 use Rattle.texting_robots.specs.Rfc9309 as rfc
 use Rattle.texting_robots.proofs.LineLemmas.{line_stated}
 use Rattle.texting_robots.proofs.StatementLemmas.{statement_found}
-use Rattle.texting_robots.proofs.TrimLemmas.{blank_skipped, one_trim, trimmed_is_trim}
+use Rattle.texting_robots.proofs.TrimLemmas.{blanks_skipped, same_trim}
 use Rattle.texting_robots.proofs.Rfc9309.CharLemmas.{IsCharByte, char_text, each_append}
 use Rattle.texting_robots.proofs.Rfc9309.ReadLemmas.{BeginsLow, IsBare, low_append}
-use Rattle.texting_robots.proofs.Rfc9309.ValueLemmas.{IsVisible, blanks_behind, visible_trim}
+use Rattle.texting_robots.proofs.Rfc9309.ValueLemmas.{IsVisible, blanks_after, visible_trim}
 use Rattle.texting_robots.proofs.Rfc9309.Told.{between_gone, no_blank, written, written_is}
 
 -- ---- bytes
@@ -232,19 +231,15 @@ keyed_line kind read body is = line_stated body kind read (statement_found kind 
 -- blanks before a region change no trim
 blanks_before : (blanks region value : List ℕ) → Each IsBlank blanks → IsTrimOf value region
     → IsTrimOf value (blanks ++ region)
-blanks_before [] region value all t = t
-blanks_before (b ∷ blanks) region value all t =
-    let text = blanks ++ region in
-    let later = blanks_before blanks region value all.1 t in
-    let same = one_trim text (trimmed text) value (trimmed_is_trim text) later in
-    subst (λ v. IsTrimOf v (b ∷ text)) (blank_skipped b text all.0 ∙ same) (trimmed_is_trim (b ∷ text))
+blanks_before blanks region value all =
+    same_trim (blanks ++ region) region value (blanks_skipped blanks region all)
 
 -- blanks around a value that begins with a visible byte change no trim
 pub between_blanks : (gap behind : List ℕ) (x : ℕ) (value read : List ℕ)
     → Each IsBlank gap × Each IsBlank behind → IsVisible x → IsTrimOf read (x ∷ value)
     → IsTrimOf read (gap ++ (x ∷ value ++ behind))
 between_blanks gap behind x value read (before, after) visible t =
-    blanks_before gap (x ∷ value ++ behind) read before (blanks_behind behind x value read after visible t)
+    blanks_before gap (x ∷ value ++ behind) read before (blanks_after behind x value read after visible t)
 
 -- blanks alone leave nothing
 pub only_blanks : (blanks : List ℕ) → Each IsBlank blanks → IsTrimOf [] blanks

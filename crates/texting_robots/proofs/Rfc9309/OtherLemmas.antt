@@ -1,10 +1,9 @@
 -- Empty lines, comments and records that aren't read.
 use Rattle.std.proofs.Common.{◌≡◌, ◌≢◌, inl, inr, ℕ, List, [], ◌∷◌}
 use Rattle.std.proofs.Common.{◌++◌, Option, Some, None, map, get_or, sym, refl, ap}
-use Rattle.std.proofs.Common.{◌∙◌, ◌==◌, ◌||◌, subst, append_assoc, arith}
+use Rattle.std.proofs.Common.{◌∙◌, subst, append_assoc, arith}
 use Rattle.std.specs.List.{AllByRecursion as Each, Contains}
 use Rattle.std.specs.Char.{to_ascii_lowercase}
-use Rattle.std.proofs.lemmas.Bool.{cond-false, false_from_ne_true}
 use Rattle.std.proofs.lemmas.Bool.Decides.{nat_tests}
 use Rattle.std.proofs.lemmas.List.{map-append}
 use Rattle.texting_robots.specs.declared.parser.statement.Kind.{Kind}
@@ -14,7 +13,7 @@ use Rattle.texting_robots.specs.Steps.Statement.{IsComment, space, tab}
 use Rattle.texting_robots.specs.Steps.Statement.{kind_by, parts_of, skip_blanks, statement_of}
 use Rattle.texting_robots.specs.Rfc9309 as rfc
 use Rattle.texting_robots.proofs.LineLemmas.{line_raw}
-use Rattle.texting_robots.proofs.StatementLemmas.{blank_decides, found_statement, valued_parts, skip_front}
+use Rattle.texting_robots.proofs.StatementLemmas.{NoBlank, found_statement, kept, valued_parts, skip_front}
 use Rattle.texting_robots.proofs.Rfc9309.CharLemmas.{each_append}
 use Rattle.texting_robots.proofs.Rfc9309.KeyedLemmas.{blanks_bare, blanks_low, comment_is, comment_text}
 use Rattle.texting_robots.proofs.Rfc9309.KeyedLemmas.{each_weaker, end_bare}
@@ -47,17 +46,6 @@ empty_line text eol =
     (reads_line (Raw body, written body) body eol.nl
     (ap (λ line. (line, written body)) (line_raw body (valued_parts body no_part)))
     (end_bare text eol) low eol.is_nl)
-
--- ---- a text that begins with no blank
-
-abbrev StartsPlain : List ℕ → Type 0
-StartsPlain [] = Unit {0}
-StartsPlain (byte ∷ text) = ¬ IsBlank byte
-
-skip_plain : (text : List ℕ) → StartsPlain text → skip_blanks text ≡ text
-skip_plain [] plain = refl
-skip_plain (b ∷ text) plain =
-    cond-false _ _ _ (false_from_ne_true (b == space || b == tab) (λ is. plain ((blank_decides b).0 is)))
 
 -- ---- a text in small letters
 
@@ -96,7 +84,7 @@ colon_no_identifier letter = (identifier_bounds 58 letter).2 refl
 
 -- a word begins with no blank
 word_plain : (word rest : List ℕ) → word ≢ [] → Each rfc.IsIdentifierByte word
-    → StartsPlain (word ++ rest)
+    → NoBlank (word ++ rest)
 word_plain [] rest some all = absurd (some refl)
 word_plain (b ∷ word) rest some all = λ blank. blank_no_identifier b blank all.0
 
@@ -157,7 +145,7 @@ module _ (text : List ℕ) (o : rfc.IsOtherLine text) where
       map-append to_ascii_lowercase o.name behind_name
       ∙ ap (λ t. low o.name ++ t) (low_colon o.blanks o.value o.blanks_blank)))
       ∙ skip_front o.margin (low o.name ++ rest) o.margin_blank
-      ∙ skip_plain (low o.name ++ rest)
+      ∙ kept (low o.name ++ rest)
       (word_plain (low o.name) rest (low_some o.name name.0) (low_identifier o.name name.1))
 
   -- the key of a statement in small letters, and what follows
@@ -173,7 +161,7 @@ module _ (text : List ℕ) (o : rfc.IsOtherLine text) where
       map-append to_ascii_lowercase s.key s.rest ∙ ap (λ t. t ++ low s.rest) key.whole
       ∙ append_assoc key.word key.behind (low s.rest)))
       ∙ skip_front s.margin (key.word ++ rest) s.margin_blank
-      ∙ skip_plain (key.word ++ rest) (word_plain key.word rest key.some key.is_word)
+      ∙ kept (key.word ++ rest) (word_plain key.word rest key.some key.is_word)
 
   unstated : (kind : Kind) (value : List ℕ) → IsStatement kind value body → ⊥
   unstated kind value s =
