@@ -1,6 +1,6 @@
 -- How an input is split, line by line, and that there is one way at most.
-use Rattle.std.proofs.Common.{◌≡◌, ◌≢◌, inl, inr, ℕ, zero, suc, ◌+◌, ◌-◌, ◌<◌, nat_lt}
-use Rattle.std.proofs.Common.{◌==◌, true, false, slice_index_or, Any, Bor, IfErr, IsUtf8, Result}
+use Rattle.std.proofs.Common.{◌≡◌, ◌≢◌, inl, inr, ℕ, zero, suc, ◌+◌, ◌-◌, ◌<◌}
+use Rattle.std.proofs.Common.{◌==◌, nat_lt, true, false, slice_index_or, Any, Bor, IfErr, IsUtf8, Result}
 use Rattle.std.proofs.Common.{Ok, Err, List, [], ◌∷◌, ◌++◌, length, map, slice_index, sym}
 use Rattle.std.proofs.Common.{refl, ap, subst, ◌∙◌, arith, append_assoc, take, drop}
 use Rattle.std.specs.List.{AllByRecursion as Each}
@@ -44,7 +44,8 @@ pub text_taken : (line text : List ℕ) (last : ℕ) → line ≡ text ++ last �
     → text ≡ strip_last cr line
 text_taken line text last whole is =
     sym (ap (strip_last cr) whole ∙ cond-true _ _ _ (ends_with_last text last ∙ eq-eqb last cr is)
-    ∙ ap (λ n. take n (text ++ last ∷ [])) (all_but_last text last) ∙ take-append_seam text (last ∷ []))
+    ∙ ap (λ n. take n (text ++ last ∷ [])) (all_but_last text last)
+    ∙ take-append_seam text (last ∷ []))
 
 pub text_kept : (line text : List ℕ) (last : ℕ) → line ≡ text ++ last ∷ [] → last ≢ cr
     → line ≡ strip_last cr line

@@ -1,6 +1,6 @@
 -- What an input of the program is made of.
-use Rattle.std.specs.Prelude.{◌≡◌, ◌≢◌, ◌⊎◌, ℕ, List, [], ◌∷◌, ◌++◌, Any, IsUtf8}
-use Rattle.std.specs.{List.AllByRecursion as Each, Io.BufRead.strip_last}
+use Rattle.std.specs.Prelude.{◌≡◌, ◌≢◌, ◌⊎◌, ℕ, List, [], ◌∷◌, ◌++◌, Any}
+use Rattle.std.specs.{Prelude.IsUtf8, List.AllByRecursion as Each, Io.BufRead.strip_last}
 use Rattle.robots_io.specs.Lines.{lf}
 
 abbrev pub cr : ℕ
