@@ -9,7 +9,7 @@ use Rattle.std.proofs.lemmas.List.{map-append}
 use Rattle.texting_robots.specs.declared.parser.statement.Kind.{Kind}
 use Rattle.texting_robots.specs.Line.{Raw}
 use Rattle.texting_robots.specs.Statement.{IsBlank, IsStatement, IsTailOf}
-use Rattle.texting_robots.specs.Steps.Statement.{IsComment, space, tab}
+use Rattle.texting_robots.specs.Steps.Statement.{IsComment}
 use Rattle.texting_robots.specs.Steps.Statement.{kind_by, parts_of, skip_blanks, statement_of}
 use Rattle.texting_robots.specs.Rfc9309 as rfc
 use Rattle.texting_robots.proofs.LineLemmas.{line_raw}
