@@ -1,14 +1,19 @@
--- A file has one report at most.
+-- A file has a report, and no other.
 use Rattle.std.proofs.Common.{◌≡◌, ℕ, zero, suc, ◌<◌, Bool, true, false, List, [], ◌∷◌}
-use Rattle.std.proofs.Common.{◌++◌, ap, arith, length, refl, slice_index_or, subst, sym, ◌∙◌}
+use Rattle.std.proofs.Common.{◌++◌, ◌&&◌, ap, append_assoc, arith, length, refl, slice_index_or, subst, sym, ◌∙◌}
+use Rattle.std.proofs.lemmas.List.{append-nil}
 use Rattle.std.specs.List.{AllByRecursion as Each, AllZip}
-use Rattle.texting_robots.specs.Callers.{IsVerdict, PlacedRule, Rule}
+use Rattle.texting_robots.specs.Callers.{IsRefused, IsVerdict, PlacedRule, Rule}
 use Rattle.texting_robots.specs.Callers.{delay_for, escaped, lines_read, placed_rules, prepared, unplaced}
 use Rattle.texting_robots.proofs.VerdictLemmas.{one_line_decides, one_verdict}
+use Rattle.texting_robots.proofs.BestLemmas.{each_text_answered}
+use Rattle.robots_io.proofs.LinesLemmas.{lines_added}
 use Rattle.robots_io.specs.Lines.{delay_line, ended, verdict_line}
-use Rattle.robots_audit.specs.Report.{AreAllowed, EachFileHasOneReport, IsReportText}
+use Rattle.robots_audit.specs.Report.{AreAllowed, IsReport, IsReportText}
 use Rattle.robots_audit.specs.Report.{IsVerdictLine, group_line, note_lines}
 use Rattle.robots_audit.specs.Rows.{rows}
+use Rattle.robots_audit.specs.Steps.{AddsVerdicts}
+use Rattle.robots_audit.proofs.ReportLemmas.{adds_more, adds_one}
 
 lines_once : (rules : List PlacedRule) (urls lines others : List (List ℕ))
     → AllZip (IsVerdictLine rules) urls lines
@@ -58,8 +63,49 @@ allowed_once rules urls false true are too =
     absurd (allowed are.2)
 allowed_once rules urls false false are too = refl
 
-pub one_report : EachFileHasOneReport
+pub one_report : (agent : List ℕ) (urls : List (List ℕ)) (file text other : List ℕ) (answer another : Bool)
+    → IsReport agent urls file text answer → IsReport agent urls file other another
+    → (text ≡ other) × (answer ≡ another)
 one_report agent urls file text other answer another one two = (
   text_once agent urls file text other one.whole two.whole,
   allowed_once _ urls answer another one.answer two.answer,
 )
+
+-- ---- there is one
+
+verdicts_of : (rules : List PlacedRule) (urls : List (List ℕ)) (old : List ℕ)
+    → (answer : Bool) × (new : List ℕ) × AddsVerdicts rules urls answer old new
+verdicts_of rules [] old =
+    (true, old, record { lines = []; verdicts = tt; answer = tt; whole = sym (append-nil old) })
+verdicts_of rules (url ∷ urls) old =
+    let first = each_text_answered rules (prepared url) in
+    let mid = old ++ ended (verdict_line first.allowed first.number (escaped url) ∷ []) in
+    let one : AddsVerdicts rules (url ∷ []) first.allowed old mid =
+    adds_one rules url (escaped url) old mid first.allowed first.number (first.verdict, first.deciding)
+    refl refl in
+    let (answer, new, more) = verdicts_of rules urls mid in
+    (first.allowed && answer, new, adds_more rules (url ∷ []) urls first.allowed answer old mid new one more)
+
+pub some_report : (agent : List ℕ) (urls : List (List ℕ)) (file : List ℕ)
+    → ¬ IsRefused agent (lines_read file)
+    → (text : List ℕ) × (answer : Bool) × IsReport agent urls file text answer
+some_report agent urls file accepted =
+    let lines = lines_read file in
+    let back : List (List ℕ) =
+    group_line agent lines ∷ delay_line (delay_for agent lines) ∷ note_lines file in
+    let front = ended (rows agent lines ++ back) in
+    let (answer, text, added) = verdicts_of (placed_rules agent lines) urls front in (
+      text,
+      answer,
+      record {
+        accepted = accepted;
+        whole = record {
+          verdict_lines = added.lines;
+          verdicts = added.verdicts;
+          whole =
+              lines_added [] front text (rows agent lines ++ back) added.lines refl added.whole
+              ∙ ap ended (append_assoc (rows agent lines) back added.lines);
+        };
+        answer = added.answer;
+      },
+    )

@@ -1,3 +1,4 @@
+pub mod AnswerLemmas
 pub mod LawLemmas
 pub mod OverlongLemmas
 pub mod ReportLemmas

@@ -59,7 +59,8 @@ adds_one rules url shown old new allowed number (verdict, deciding) is whole = r
   whole = whole;
 }
 
-adds_more : (rules : List PlacedRule) (urls others : List (List ℕ))
+-- two lists of URLs, one behind the other
+pub adds_more : (rules : List PlacedRule) (urls others : List (List ℕ))
     (one two : Bool) (old mid new : List ℕ)
     → AddsVerdicts rules urls one old mid → AddsVerdicts rules others two mid new
     → AddsVerdicts rules (urls ++ others) (one && two) old new

@@ -3,4 +3,5 @@ pub mod Fault
 pub mod Rows
 pub mod Report
 pub mod Warnings
+pub mod Answer
 pub mod Steps

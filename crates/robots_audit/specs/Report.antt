@@ -58,13 +58,6 @@ pub record IsReport (agent : List ℕ) (urls : List (List ℕ)) (file text : Lis
   pub whole : IsReportText agent urls file text
   pub answer : AreAllowed (rules_for agent (lines_read file)) urls all_allowed
 
--- a file has one report at most for an agent and URLs
-abbrev pub EachFileHasOneReport : Type 0
-EachFileHasOneReport =
-    (agent : List ℕ) (urls : List (List ℕ)) (file text other : List ℕ) (answer another : Bool)
-    → IsReport agent urls file text answer → IsReport agent urls file other another
-    → (text ≡ other) × (answer ≡ another)
-
 -- ---- faults
 
 -- the first of the rules that is overlong stands in the line with this number

@@ -6,8 +6,8 @@ use robots_io::ends::{ReadFault, WriteFault};
 use std::alloc::{AllocError, AllocFailed};
 use std::fmt;
 
-/// How the program is called.
-pub const USAGE: &str = "usage: robots_audit AGENT [URL..] < robots.txt";
+/// How the program is called, as a line.
+pub const USAGE: &str = "usage: robots_audit AGENT [URL..] < robots.txt\n";
 
 /// What a run that wrote its report found.
 #[derive(Debug, PartialEq, Eq, Drop)]
@@ -37,24 +37,22 @@ pub enum Fault {
 
 impl fmt::Display for Fault {
     ghost use Rattle.std.specs.Prelude.{Some};
-    ghost use Rattle.robots_audit.specs.Fault.{text_of};
+    ghost use Rattle.robots_audit.specs.Fault.{reason_of};
 
-    ghost output = { λ fault. Some (text_of fault) };
+    ghost output = { λ fault. Some (reason_of fault) };
 
     fn fmt<W: fmt::Write>(&self, f: &mut fmt::Formatter<W>) -> fmt::Result {
-        f.write_str("robots_audit: ")?;
         match self {
-            Fault::Usage => f.write_str("no agent was given")?,
-            Fault::NotUtf8 => f.write_str("an argument isn't UTF-8")?,
-            Fault::Read => f.write_str("reading the file failed")?,
-            Fault::Write => f.write_str("writing the report failed")?,
+            Fault::Usage => f.write_str("no agent was given"),
+            Fault::NotUtf8 => f.write_str("an argument isn't UTF-8"),
+            Fault::Read => f.write_str("reading the file failed"),
+            Fault::Write => f.write_str("writing the report failed"),
             Fault::InvalidRule(line) => write!(
                 f,
                 "the rule in line {line} holds $ and is too long, so a crawler can't use the file"
-            )?,
-            Fault::Memory => f.write_str("out of memory")?,
+            ),
+            Fault::Memory => f.write_str("out of memory"),
         }
-        write!(f, "; {USAGE}")
     }
 }
 
@@ -102,6 +100,26 @@ impl From<WriteFault> for Fault {
 
     fn from(_: WriteFault) -> Fault {
         Fault::Write
+    }
+}
+
+/// What the process says on standard error after a run that answered this. Whoever prints it asks for no memory.
+#[derive(Drop)]
+pub struct Said<'a> {
+    pub outcome: &'a Result<Outcome, Fault>,
+}
+
+impl<'a> fmt::Display for Said<'a> {
+    ghost use Rattle.std.specs.Prelude.{Some};
+    ghost use Rattle.robots_audit.specs.Fault.{said_after};
+
+    ghost output = { λ said. Some (said_after said.outcome.now) };
+
+    fn fmt<W: fmt::Write>(&self, f: &mut fmt::Formatter<W>) -> fmt::Result {
+        match self.outcome {
+            Ok(outcome) => f.write_str(&outcome.warnings),
+            Err(fault) => write!(f, "robots_audit: {fault}; {USAGE}"),
+        }
     }
 }
 

@@ -1,7 +1,17 @@
-//! A law over the definitions, the contract of a function that computes nothing.
-ghost use Rattle.robots_audit.specs.Report.{EachFileHasOneReport};
+//! Laws over the definitions, each the contract of a function that computes nothing.
+ghost use Rattle.std.specs.Prelude.{◌≡◌, ℕ, Bool, List};
+ghost use Rattle.texting_robots.specs.Callers.{IsRefused, lines_read};
+ghost use Rattle.robots_audit.specs.Report.{IsReport};
 
 /// A file has one report at most for an agent and URLs, and it says one thing of whether all of them are allowed.
 pub fn each_file_has_one_report()
-    ensures { EachFileHasOneReport }
+    ensures { (agent : List ℕ) (urls : List (List ℕ)) (file text other : List ℕ) (answer another : Bool)
+        → IsReport agent urls file text answer → IsReport agent urls file other another
+        → (text ≡ other) × (answer ≡ another) }
+{}
+
+/// A file has a report for an agent, if it isn't refused for it, and URLs.
+pub fn each_file_has_a_report()
+    ensures { (agent : List ℕ) (urls : List (List ℕ)) (file : List ℕ) → ¬ IsRefused agent (lines_read file)
+        → (text : List ℕ) × (answer : Bool) × IsReport agent urls file text answer }
 {}

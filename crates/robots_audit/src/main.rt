@@ -19,10 +19,8 @@ mod rows;
 mod tests;
 mod warnings;
 
-use command::{Command, command_of};
-use fault::{Fault, Outcome, USAGE, status_after};
-use program::run;
-use robots_io::ends::write_out;
+use fault::{Fault, Outcome, Said, status_after};
+use program::answer;
 use std::alloc::Global;
 use std::env;
 use std::io::ErrorKind;
@@ -40,36 +38,14 @@ fn words(rt: &HostRuntime) -> Result<Vec<String>, Fault> {
     }
 }
 
-/// Writes how the program is called.
-fn help(rt: &HostRuntime) -> Result<Outcome, Fault> {
-    let text = format!(in rt.alloc(); "{USAGE}\n")?;
-    write_out(&mut rt.stdout(), text.as_bytes())?;
-    Ok(Outcome {
-        all_allowed: true,
-        warnings: String::new(rt.alloc()),
-    })
-}
-
-/// Does what the words ask for.
+/// Does what the words behind the program's name ask for.
 fn outcome(rt: &HostRuntime) -> Result<Outcome, Fault> {
     let words = words(rt)?;
-    match command_of(&words)? {
-        Command::Help => help(rt),
-        Command::Audit(agent, urls) => run(
-            rt.alloc(),
-            agent,
-            urls,
-            &mut rt.stdin(),
-            &mut rt.stdout(),
-        ),
-    }
+    answer(rt.alloc(), &words, &mut rt.stdin(), &mut rt.stdout())
 }
 
 fn main(rt: HostRuntime) -> ExitCode {
     let outcome = outcome(&rt);
-    let _ = match &outcome {
-        Ok(outcome) => rt.eprint(&outcome.warnings),
-        Err(fault) => rt.eprintln(fault),
-    };
+    let _ = rt.eprint(Said { outcome: &outcome });
     ExitCode::from(status_after(&outcome))
 }

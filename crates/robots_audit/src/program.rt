@@ -1,12 +1,9 @@
 //! The program over a reader and a writer.
-ghost use Rattle.std.specs.Prelude.{◌≡◌, ◌≢◌, IfErr, IfOk, IfSome, IsErrOf, map, string_bytes};
-ghost use Rattle.std.specs.Io.KnownBytes.{Keeps};
-ghost use Rattle.texting_robots.specs.Callers.{lines_read};
-ghost use Rattle.robots_io.specs.Lines.{ended};
-ghost use Rattle.robots_audit.specs.Report.{AppendsReport, AppendsReportBeginning, MayFail};
-ghost use Rattle.robots_audit.specs.Warnings.{warnings};
+ghost use Rattle.std.specs.Prelude.{map, string_bytes};
+ghost use Rattle.robots_audit.specs.Answer.{Answers, Audits, Helps};
 
-use crate::fault::{Fault, Outcome};
+use crate::command::{Command, command_of};
+use crate::fault::{Fault, Outcome, USAGE};
 use crate::file::counted;
 use crate::report::report_of;
 use crate::warnings::warnings;
@@ -27,17 +24,8 @@ pub fn run<R: Read, W: Write>(
     reader: &mut R,
     writer: &mut W,
 ) -> Result<Outcome, Fault>
-    ensures ok { IfOk result (λ outcome. IfSome (R.remaining reader.old)
-        (AppendsReport agent.now (map string_bytes urls.now) outcome.all_allowed
-        (W.contents writer.old) (W.contents writer.new))) }
-    ensures warnings { IfOk result (λ outcome. IfSome (R.remaining reader.old) (λ file.
-        string_bytes outcome.warnings
-        ≡ ended (warnings agent.now (map string_bytes urls.now) (lines_read file)))) }
-    ensures fault { IfErr result (λ fault. IfSome (R.remaining reader.old) (MayFail agent.now fault)) }
-    ensures nothing_written { IfErr result (λ fault. fault ≢ Fault.Write
-        → Keeps (W.contents writer.old) (W.contents writer.new)) }
-    ensures beginning { IsErrOf result Fault.Write → IfSome (R.remaining reader.old)
-        (AppendsReportBeginning agent.now (map string_bytes urls.now) (W.contents writer.old) (W.contents writer.new)) }
+    ensures { Audits agent.now (map string_bytes urls.now) (R.remaining reader.old)
+        (W.contents writer.old) (W.contents writer.new) result }
 {
     let file = read_all(alloc, reader)?;
     let report = report_of(alloc, agent, urls, &file)?;
@@ -47,4 +35,31 @@ pub fn run<R: Read, W: Write>(
         all_allowed: report.all_allowed,
         warnings,
     })
+}
+
+/// Writes how the program is called.
+fn help<W: Write>(alloc: Global, writer: &mut W) -> Result<Outcome, Fault>
+    ensures { Helps (W.contents writer.old) (W.contents writer.new) result }
+{
+    write_out(writer, USAGE.as_bytes())?;
+    Ok(Outcome {
+        all_allowed: true,
+        warnings: String::new(alloc),
+    })
+}
+
+/// Does what the words behind the program's name ask for.
+pub fn answer<R: Read, W: Write>(
+    alloc: Global,
+    words: &[String],
+    reader: &mut R,
+    writer: &mut W,
+) -> Result<Outcome, Fault>
+    ensures { Answers (map string_bytes words.now) (R.remaining reader.old)
+        (W.contents writer.old) (W.contents writer.new) result }
+{
+    match command_of(words)? {
+        Command::Help => help(alloc, writer),
+        Command::Audit(agent, urls) => run(alloc, agent, urls, reader, writer),
+    }
 }

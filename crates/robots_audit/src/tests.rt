@@ -1,7 +1,7 @@
-//! Rows on `run`, on what the words ask for, and on what the process ends with.
+//! Rows on `run`, on what the words ask for, and on what the process says and ends with.
 use crate::command::{Command, command_of};
-use crate::fault::{Fault, Outcome, status_after};
-use crate::program::run;
+use crate::fault::{Fault, Outcome, Said, status_after};
+use crate::program::{answer, run};
 use robots_io::fakes::{Sink, Source};
 use std::alloc::{AllocError, Global};
 use std::test::Fail;
@@ -312,12 +312,55 @@ fn endings(rt: HostRuntime) -> Result<(), Fail> {
         (Fault::Memory, "out of memory"),
     ];
     for (fault, reason) in rows {
-        let said = format!(in rt.alloc(); "{fault}")?;
+        let outcome = Err(fault);
+        let said = format!(in rt.alloc(); "{}", Said { outcome: &outcome })?;
         let text = format!(in rt.alloc();
-            "robots_audit: {reason}; usage: robots_audit AGENT [URL..] < robots.txt"
+            "robots_audit: {reason}; usage: robots_audit AGENT [URL..] < robots.txt\n"
         )?;
         assert_eq!(rt; said, text);
-        assert_eq!(rt; status_after(&Err(fault)), 2);
+        assert_eq!(rt; status_after(&outcome), 2);
     }
+    let warned = Ok(Outcome {
+        all_allowed: true,
+        warnings: String::from_str(rt.alloc(), "one\ntwo\n")?,
+    });
+    let said = format!(in rt.alloc(); "{}", Said { outcome: &warned })?;
+    assert_eq!(rt; said.as_str(), "one\ntwo\n");
+    Ok(())
+}
+
+#[test]
+fn answers(rt: HostRuntime) -> Result<(), Fail> {
+    let rows: [(&str, Result<bool, Fault>, &str); 3] = [
+        ("", Err(Fault::Usage), ""),
+        (
+            "--help\n/a",
+            Ok(true),
+            "usage: robots_audit AGENT [URL..] < robots.txt\n",
+        ),
+        (
+            "Ferris\n/a",
+            Ok(false),
+            "1 + disallow    /a\ngroup *, as the agent isn't named in the file\ndelay none\ndeny 1 /a\n",
+        ),
+    ];
+    for (words, ending, written) in rows {
+        let words = line_strings(rt.alloc(), words)?;
+        let mut sink = Sink::new(rt.alloc(), WHOLE);
+        let outcome = answer(
+            rt.alloc(),
+            &words,
+            &mut Source::new(b"Disallow: /a", WHOLE),
+            &mut sink,
+        );
+        assert_eq!(rt; sink.held.as_slice(), written.as_bytes());
+        assert_eq!(rt; outcome.map(|outcome| outcome.all_allowed), ending);
+    }
+    let words = strings(rt.alloc(), &["--help"])?;
+    let mut full = Sink::new(rt.alloc(), 7);
+    full.good_calls = Some(1);
+    let outcome = answer(rt.alloc(), &words, &mut Source::new(b"", WHOLE), &mut full);
+    assert_eq!(rt; outcome, Err(Fault::Write));
+    assert_eq!(rt; full.held.as_slice(), b"usage: ".as_slice());
     Ok(())
 }

@@ -1,4 +1,4 @@
-use Rattle.std.proofs.Common.{◌≡◌, ap, codes, not, ◌∙◌}
+use Rattle.std.proofs.Common.{ap, codes, not, ◌∙◌}
 use Rattle.robots_audit.specs.Warnings.{begins_as_rule, rule_text}
 use Rattle.robots_audit.proofs.WarningLemmas.{warned_same}
 use Rattle.robots_audit.proofs.warnings.warn_of_start.Goals as goal
