@@ -1,10 +1,11 @@
 -- What the program warns of: what silently means something else than it seems.
-use Rattle.std.specs.Prelude.{ℕ, ◌==◌, nat_eq, Bool, false, not, ◌||◌, List, [], ◌∷◌}
-use Rattle.std.specs.Prelude.{◌++◌, codes, decimal, flat_map, if◌then◌else◌, reverse}
+use Rattle.std.specs.Prelude.{ℕ, ◌==◌, nat_eq, Bool, true, false, not, ◌||◌, List, [], ◌∷◌}
+use Rattle.std.specs.Prelude.{◌++◌, bytes_eq, codes, decimal, flat_map, if◌then◌else◌}
 use Rattle.std.specs.List.{list_any, starts_with}
+use Rattle.std.specs.Str.{is_utf8, str_to_ascii_lowercase, trim}
 use Rattle.texting_robots.specs.Callers.{Allow, CrawlDelay, Disallow, LineValue, Mark, Raw}
 use Rattle.texting_robots.specs.Callers.{Sitemap, UserAgent, escaped, group_name, is_own, marks_of}
-use Rattle.robots_audit.specs.Rows.{space, tab}
+use Rattle.robots_audit.specs.Rows.{tab}
 
 abbrev pub slash : ℕ
 slash = 47
@@ -18,20 +19,13 @@ warned cause text = if cause then (codes "robots_audit: warning: " ++ text) ∷ 
 
 -- ---- the agent
 
-abbrev pub is_blank_byte : ℕ → Bool
-is_blank_byte byte = byte == space || byte == tab
+-- white space, as Unicode has it, stands first or last in the text
+abbrev pub has_space_around : List ℕ → Bool
+has_space_around text = not (bytes_eq (trim text) text)
 
-abbrev pub begins_blank : List ℕ → Bool
-begins_blank [] = false
-begins_blank (byte ∷ text) = is_blank_byte byte
-
--- a blank stands first or last in the text
-abbrev pub has_blanks_around : List ℕ → Bool
-has_blanks_around text = begins_blank text || begins_blank (reverse text)
-
-abbrev pub blank_warnings : List ℕ → List (List ℕ)
-blank_warnings agent =
-    warned (has_blanks_around agent) (codes "the agent has blanks around it, so no line names it")
+abbrev pub space_warnings : List ℕ → List (List ℕ)
+space_warnings agent =
+    warned (has_space_around agent) (codes "the agent has white space around it, so no line names it")
 
 abbrev pub slash_warnings : List ℕ → List (List ℕ)
 slash_warnings agent =
@@ -39,12 +33,15 @@ slash_warnings agent =
     (codes "the agent has a / in it: a name is compared whole, and a version isn't taken off")
 
 abbrev pub agent_warnings : List ℕ → List (List ℕ)
-agent_warnings agent = blank_warnings agent ++ slash_warnings agent
+agent_warnings agent = space_warnings agent ++ slash_warnings agent
 
 -- ---- URLs
 
+-- the text begins as a URL of a site does, with its scheme in any letter case
 abbrev pub is_url : List ℕ → Bool
-is_url url = starts_with nat_eq url (codes "http://") || starts_with nat_eq url (codes "https://")
+is_url url =
+    let lowered = str_to_ascii_lowercase url in
+    starts_with nat_eq lowered (codes "http://") || starts_with nat_eq lowered (codes "https://")
 
 abbrev pub is_url_or_path : List ℕ → Bool
 is_url_or_path url = is_url url || starts_with nat_eq url (codes "/")
@@ -61,16 +58,18 @@ abbrev pub begins_as_rule : List ℕ → Bool
 begins_as_rule [] = false
 begins_as_rule (byte ∷ value) = byte == slash || byte == star
 
--- a byte that a rule keeps and a whole URL escapes: `^`, `{` or `}` in its path, `'` in its query
-abbrev pub is_escaped_in_urls : Bool → ℕ → Bool
-is_escaped_in_urls in_query byte =
-    if in_query then byte == 39 else (byte == 94 || (byte == 123 || byte == 125))
+-- A byte that a URL of a site has otherwise than a rule in which it stands: it is escaped in the one alone, or taken for
+-- `/`, or taken out. These are the tab, `\`, `^`, `{` and `}` in a path, and the tab, `'` and the backquote in a query.
+abbrev pub is_spelled_otherwise : Bool → ℕ → Bool
+is_spelled_otherwise in_query byte =
+    if in_query then (byte == tab || (byte == 39 || byte == 96))
+    else (byte == tab || (byte == 92 || (byte == 94 || (byte == 123 || byte == 125))))
 
 -- the value holds such a byte; what follows a `?` is a query
-abbrev pub holds_escaped : Bool → List ℕ → Bool
-holds_escaped in_query [] = false
-holds_escaped in_query (byte ∷ value) =
-    is_escaped_in_urls in_query byte || holds_escaped (in_query || byte == 63) value
+abbrev pub holds_otherwise : Bool → List ℕ → Bool
+holds_otherwise in_query [] = false
+holds_otherwise in_query (byte ∷ value) =
+    is_spelled_otherwise in_query byte || holds_otherwise (in_query || byte == 63) value
 
 -- what is said of the rule in the line with this number
 abbrev pub rule_text : ℕ → List ℕ → List ℕ
@@ -82,14 +81,20 @@ start_warnings number value =
 
 abbrev pub byte_warnings : ℕ → List ℕ → List (List ℕ)
 byte_warnings number value =
-    warned (holds_escaped false value)
-    (rule_text number
-    (codes "has a byte that a whole URL has escaped: ^, { or } in its path, ' in its query"))
+    warned (holds_otherwise false value)
+    (rule_text number (codes "has a byte that a whole URL spells otherwise: "
+    ++ codes "^, {, } or \\ in its path, ' or ` in its query, or a tab"))
 
+abbrev pub text_warnings : ℕ → List ℕ → List (List ℕ)
+text_warnings number value = start_warnings number value ++ byte_warnings number value
+
+-- of a value that isn't UTF-8 nothing else is said
 abbrev pub value_warnings : ℕ → List ℕ → List (List ℕ)
-value_warnings number value = start_warnings number value ++ byte_warnings number value
+value_warnings number value =
+    if is_utf8 value then text_warnings number value
+    else warned true (rule_text number (codes "isn't UTF-8, so it is no rule"))
 
--- of a line: only a captured Allow or Disallow is warned of, even one whose value is not UTF-8
+-- of a line: only a captured Allow or Disallow is warned of
 abbrev pub rule_warnings : Bool → ℕ → LineValue → List (List ℕ)
 rule_warnings captured number (Allow value) = if captured then value_warnings number value else []
 rule_warnings captured number (Disallow value) = if captured then value_warnings number value else []

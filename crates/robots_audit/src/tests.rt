@@ -145,7 +145,11 @@ fn reports(rt: HostRuntime) -> Result<(), Fail> {
             &mut Source::new(file, WHOLE),
             &mut sink,
         );
-        assert_eq!(rt; outcome, Ok(quiet(rt.alloc(), all_allowed)), "{name}");
+        assert_eq!(rt;
+            outcome.map(|outcome| outcome.all_allowed),
+            Ok(all_allowed),
+            "{name}"
+        );
         let text = format!(in rt.alloc(); "{front}{back}")?;
         assert_eq!(rt; sink.held.as_slice(), text.as_bytes(), "{name}");
     }
@@ -226,18 +230,24 @@ fn faults(rt: HostRuntime) -> Result<(), Fail> {
 
 #[test]
 fn warnings(rt: HostRuntime) -> Result<(), Fail> {
-    let rows: [(&str, &str, &[u8], &str); 6] = [
+    let rows: [(&str, &str, &[u8], &str); 8] = [
         (
             "Ferris",
-            "https://example.com/",
-            b"Disallow: /a\nAllow: *b\nDisallow: /c'?{^",
+            "HTTP://example.com/\nHttps://example.com/\n/",
+            b"Disallow: /a\nAllow: *b\nDisallow: /c'`?{^}\\",
             "",
         ),
         (
-            " Ferris",
+            "\u{3000}Ferris",
             "/",
             b"",
-            "robots_audit: warning: the agent has blanks around it, so no line names it\n",
+            "robots_audit: warning: the agent has white space around it, so no line names it\n",
+        ),
+        (
+            "Ferris\u{B}",
+            "/",
+            b"",
+            "robots_audit: warning: the agent has white space around it, so no line names it\n",
         ),
         (
             "Ferris/1.0",
@@ -247,26 +257,32 @@ fn warnings(rt: HostRuntime) -> Result<(), Fail> {
         ),
         (
             "Ferris",
-            "example.com/\n",
+            "httpx://example.com/\u{7}",
             b"",
-            "robots_audit: warning: a URL begins with neither http:// nor https:// nor /: example.com/%0A\n",
+            "robots_audit: warning: a URL begins with neither http:// nor https:// nor /: httpx://example.com/%07\n",
         ),
         (
             "Ferris",
             "/",
-            b"User-agent: *\nDisallow: a\nUser-agent: other\nDisallow: b",
+            b"User-agent: *\nDisallow: a\nUser-agent: other\nDisallow: b\nDisallow: /\xFF",
             "robots_audit: warning: the rule in line 2 begins with neither / nor *\n",
         ),
         (
             "Ferris",
             "/",
+            b"\nAllow: a^\xFF\nDisallow: \xC3\xA9",
+            "robots_audit: warning: the rule in line 2 isn't UTF-8, so it is no rule\nrobots_audit: warning: the rule in line 3 begins with neither / nor *\n",
+        ),
+        (
+            "Ferris",
+            "/",
             b"\nAllow: /^\nDisallow: /a?'",
-            "robots_audit: warning: the rule in line 2 has a byte that a whole URL has escaped: ^, { or } in its path, ' in its query\nrobots_audit: warning: the rule in line 3 has a byte that a whole URL has escaped: ^, { or } in its path, ' in its query\n",
+            "robots_audit: warning: the rule in line 2 has a byte that a whole URL spells otherwise: ^, {, } or \\ in its path, ' or ` in its query, or a tab\nrobots_audit: warning: the rule in line 3 has a byte that a whole URL spells otherwise: ^, {, } or \\ in its path, ' or ` in its query, or a tab\n",
         ),
     ];
-    for (agent, url, file, text) in rows {
+    for (agent, urls, file, text) in rows {
         let mut sink = Sink::new(rt.alloc(), WHOLE);
-        let urls = strings(rt.alloc(), &[url])?;
+        let urls = line_strings(rt.alloc(), urls)?;
         let outcome = run(
             rt.alloc(),
             agent,
@@ -276,6 +292,36 @@ fn warnings(rt: HostRuntime) -> Result<(), Fail> {
         );
         let warnings = outcome.map_err(|_| "a fault")?.warnings;
         assert_eq!(rt; warnings.as_str(), text);
+    }
+    Ok(())
+}
+
+/// Whether the file's one rule, for these bytes, is warned of for how they are spelled, and whether it denies their URL.
+fn spelled(alloc: Global, front: &str, byte: char) -> Result<(bool, bool), Fail> {
+    let rule = format!(in alloc; "{front}{byte}c")?;
+    let file = format!(in alloc; "Disallow: {rule}")?;
+    let url = format!(in alloc; "http://example.com{rule}")?;
+    let urls = strings(alloc, &[url.as_str()])?;
+    let mut sink = Sink::new(alloc, WHOLE);
+    let mut source = Source::new(file.as_bytes(), WHOLE);
+    let outcome = run(alloc, "Ferris", &urls, &mut source, &mut sink).map_err(|_| "a fault")?;
+    Ok((
+        outcome.warnings.contains("spells otherwise"),
+        !outcome.all_allowed,
+    ))
+}
+
+/// Of the bytes that can stand in a rule and mean themselves, those are warned of whose rule misses the very URL.
+#[test]
+fn a_rule_misses_its_url(rt: HostRuntime) -> Result<(), Fail> {
+    for front in ["/a", "/a?x"] {
+        for byte in 1..128u8 {
+            if matches!(byte, b'\n' | b'\r' | b'*' | b'$' | b'#') {
+                continue;
+            }
+            let (is_warned_of, is_denied) = spelled(rt.alloc(), front, char::from(byte))?;
+            assert_eq!(rt; is_warned_of, !is_denied, "{front}, then {byte}");
+        }
     }
     Ok(())
 }

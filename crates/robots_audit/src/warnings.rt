@@ -1,12 +1,12 @@
 //! What the program warns of: what silently means something else than it seems.
-ghost use Rattle.std.specs.Prelude.{◌≡◌, ◌++◌, ◌==◌, IfOk, OnOk, false, flat_map, map, reverse, string_bytes};
+ghost use Rattle.std.specs.Prelude.{◌≡◌, ◌++◌, ◌==◌, IfOk, OnOk, false, flat_map, map, string_bytes};
 ghost use Rattle.std.specs.List.{list_any};
 ghost use Rattle.texting_robots.specs.Callers.{by_value, file_lines, group_name, marks_of};
 ghost use Rattle.robots_io.specs.Lines.{ended};
-ghost use Rattle.robots_audit.specs.Warnings.{agent_warnings, begins_as_rule, begins_blank, blank_warnings, byte_warnings};
-ghost use Rattle.robots_audit.specs.Warnings.{has_blanks_around, holds_escaped, is_blank_byte, is_escaped_in_urls, is_url, is_url_or_path};
-ghost use Rattle.robots_audit.specs.Warnings.{mark_warnings, rule_text, rule_warnings, slash, slash_warnings, start_warnings};
-ghost use Rattle.robots_audit.specs.Warnings.{url_warnings, value_warnings, warned, warnings};
+ghost use Rattle.robots_audit.specs.Warnings.{agent_warnings, begins_as_rule, byte_warnings, has_space_around};
+ghost use Rattle.robots_audit.specs.Warnings.{holds_otherwise, is_spelled_otherwise, is_url, is_url_or_path, mark_warnings};
+ghost use Rattle.robots_audit.specs.Warnings.{rule_text, rule_warnings, slash, slash_warnings, space_warnings};
+ghost use Rattle.robots_audit.specs.Warnings.{start_warnings, text_warnings, url_warnings, value_warnings, warned, warnings};
 
 use robots_io::lines::push_line;
 use std::alloc::{AllocError, Global};
@@ -24,42 +24,21 @@ fn warn(text: &mut String, cause: bool, warning: &str) -> Result<(), AllocError>
     Ok(())
 }
 
-/// Whether the byte is a space or a tab.
-fn is_blank_byte(byte: u8) -> bool
-    ensures { result ≡ is_blank_byte byte }
+/// Whether white space stands around the text.
+fn has_space_around(text: &str) -> bool
+    ensures { result ≡ has_space_around text.now }
 {
-    byte == b' ' || byte == b'\t'
+    text.trim() != text
 }
 
-/// Whether a blank stands last.
-#[tactic(auto, using(crate::proofs::WarningLemmas::last_of_reverse))]
-fn ends_blank(text: &[u8]) -> bool
-    ensures { result ≡ begins_blank (reverse text.now) }
-{
-    match text.split_last() {
-        Some((last, _)) => is_blank_byte(*last),
-        None => false,
-    }
-}
-
-/// Whether blanks stand around the text.
-fn has_blanks_around(text: &[u8]) -> bool
-    ensures { result ≡ has_blanks_around text.now }
-{
-    match text {
-        [first, ..] if is_blank_byte(*first) => true,
-        _ => ends_blank(text),
-    }
-}
-
-/// Adds the warning of an agent with blanks around it.
-fn warn_of_blanks(text: &mut String, agent: &str) -> Result<(), AllocError>
-    ensures { OnOk result (string_bytes text.new ≡ string_bytes text.old ++ ended (blank_warnings agent.now)) }
+/// Adds the warning of an agent with white space around it.
+fn warn_of_space(text: &mut String, agent: &str) -> Result<(), AllocError>
+    ensures { OnOk result (string_bytes text.new ≡ string_bytes text.old ++ ended (space_warnings agent.now)) }
 {
     warn(
         text,
-        has_blanks_around(agent.as_bytes()),
-        "the agent has blanks around it, so no line names it",
+        has_space_around(agent),
+        "the agent has white space around it, so no line names it",
     )
 }
 
@@ -85,23 +64,24 @@ fn warn_of_slash(text: &mut String, agent: &str) -> Result<(), AllocError>
 fn warn_of_agent(text: &mut String, agent: &str) -> Result<(), AllocError>
     ensures { OnOk result (string_bytes text.new ≡ string_bytes text.old ++ ended (agent_warnings agent.now)) }
 {
-    warn_of_blanks(text, agent)?;
+    warn_of_space(text, agent)?;
     warn_of_slash(text, agent)?;
     Ok(())
 }
 
 /// Whether the text begins as a URL of a site does.
-fn is_url(url: &str) -> bool
-    ensures { result ≡ is_url url.now }
+fn is_url(alloc: Global, url: &str) -> Result<bool, AllocError>
+    ensures { IfOk result (λ answer. answer ≡ is_url url.now) }
 {
-    url.starts_with("http://") || url.starts_with("https://")
+    let lowered = url.to_ascii_lowercase(alloc)?;
+    Ok(lowered.starts_with("http://") || lowered.starts_with("https://"))
 }
 
 /// Whether the text begins as a URL of a site or a path does.
-fn is_url_or_path(url: &str) -> bool
-    ensures { result ≡ is_url_or_path url.now }
+fn is_url_or_path(alloc: Global, url: &str) -> Result<bool, AllocError>
+    ensures { IfOk result (λ answer. answer ≡ is_url_or_path url.now) }
 {
-    is_url(url) || url.starts_with("/")
+    Ok(is_url(alloc, url)? || url.starts_with("/"))
 }
 
 /// Adds the warning of a URL, if there is one.
@@ -113,7 +93,8 @@ fn warn_of_url(alloc: Global, text: &mut String, url: &str) -> Result<(), AllocE
         "a URL begins with neither http:// nor https:// nor /: ",
     )?;
     push_escaped_bytes(&mut warning, url.as_bytes())?;
-    warn(text, !is_url_or_path(url), &warning)?;
+    let is_clear = is_url_or_path(alloc, url)?;
+    warn(text, !is_clear, &warning)?;
     Ok(())
 }
 
@@ -124,25 +105,25 @@ fn begins_as_rule(value: &[u8]) -> bool
     matches!(value, [b'/' | b'*', ..])
 }
 
-/// Whether a rule keeps the byte and a whole URL escapes it, in its query or in its path.
-fn is_escaped_in_urls(in_query: bool, byte: u8) -> bool
-    ensures { result ≡ is_escaped_in_urls in_query byte }
+/// Whether a whole URL has the byte otherwise than a rule, in its query or in its path.
+fn is_spelled_otherwise(in_query: bool, byte: u8) -> bool
+    ensures { result ≡ is_spelled_otherwise in_query byte }
 {
     if in_query {
-        byte == b'\''
+        matches!(byte, b'\t' | b'\'' | b'`')
     } else {
-        byte == b'^' || byte == b'{' || byte == b'}'
+        matches!(byte, b'\t' | b'\\' | b'^' | b'{' | b'}')
     }
 }
 
-/// Whether the value has a byte that a rule keeps and a whole URL escapes.
-#[tactic(auto, using(crate::proofs::WarningLemmas::escaped_at))]
-fn holds_escaped(value: &[u8]) -> bool
-    ensures { result ≡ holds_escaped false value.now }
+/// Whether the value has a byte that a whole URL has otherwise.
+#[tactic(auto, using(crate::proofs::WarningLemmas::otherwise_at))]
+fn holds_otherwise(value: &[u8]) -> bool
+    ensures { result ≡ holds_otherwise false value.now }
 {
     let mut in_query = false;
     for byte in value {
-        if is_escaped_in_urls(in_query, *byte) {
+        if is_spelled_otherwise(in_query, *byte) {
             return true;
         }
         in_query = in_query || *byte == b'?';
@@ -161,6 +142,22 @@ fn rule_text(alloc: Global, number: usize, said: &str) -> Result<String, AllocEr
     Ok(text)
 }
 
+/// Adds a warning of the rule in the line with this number, if there is cause for it.
+fn warn_of_rule(
+    alloc: Global,
+    text: &mut String,
+    number: usize,
+    cause: bool,
+    said: &str,
+) -> Result<(), AllocError>
+    ensures { OnOk result (string_bytes text.new ≡ string_bytes text.old
+        ++ ended (warned cause (rule_text number said.now))) }
+{
+    let warning = rule_text(alloc, number, said)?;
+    warn(text, cause, &warning)?;
+    Ok(())
+}
+
 /// Adds the warning of a rule that begins with neither a slash nor a star.
 fn warn_of_start(
     alloc: Global,
@@ -170,12 +167,11 @@ fn warn_of_start(
 ) -> Result<(), AllocError>
     ensures { OnOk result (string_bytes text.new ≡ string_bytes text.old ++ ended (start_warnings number value.now)) }
 {
-    let warning = rule_text(alloc, number, "begins with neither / nor *")?;
-    warn(text, !begins_as_rule(value), &warning)?;
-    Ok(())
+    let said = "begins with neither / nor *";
+    warn_of_rule(alloc, text, number, !begins_as_rule(value), said)
 }
 
-/// Adds the warning of a rule with a byte that whole URLs have escaped.
+/// Adds the warning of a rule with a byte that whole URLs have otherwise.
 fn warn_of_bytes(
     alloc: Global,
     text: &mut String,
@@ -184,16 +180,26 @@ fn warn_of_bytes(
 ) -> Result<(), AllocError>
     ensures { OnOk result (string_bytes text.new ≡ string_bytes text.old ++ ended (byte_warnings number value.now)) }
 {
-    let warning = rule_text(
-        alloc,
-        number,
-        "has a byte that a whole URL has escaped: ^, { or } in its path, ' in its query",
-    )?;
-    warn(text, holds_escaped(value), &warning)?;
-    Ok(())
+    let said =
+        "has a byte that a whole URL spells otherwise: ^, {, } or \\ in its path, ' or ` in its query, or a tab";
+    warn_of_rule(alloc, text, number, holds_otherwise(value), said)
 }
 
 /// Adds the warnings of a captured rule.
+fn warn_of_text(
+    alloc: Global,
+    text: &mut String,
+    number: usize,
+    value: &[u8],
+) -> Result<(), AllocError>
+    ensures { OnOk result (string_bytes text.new ≡ string_bytes text.old ++ ended (text_warnings number value.now)) }
+{
+    warn_of_start(alloc, text, number, value)?;
+    warn_of_bytes(alloc, text, number, value)?;
+    Ok(())
+}
+
+/// Adds the warnings of a captured line with this value.
 fn warn_of_value(
     alloc: Global,
     text: &mut String,
@@ -202,9 +208,10 @@ fn warn_of_value(
 ) -> Result<(), AllocError>
     ensures { OnOk result (string_bytes text.new ≡ string_bytes text.old ++ ended (value_warnings number value.now)) }
 {
-    warn_of_start(alloc, text, number, value)?;
-    warn_of_bytes(alloc, text, number, value)?;
-    Ok(())
+    match std::str::from_utf8(value) {
+        Ok(_) => warn_of_text(alloc, text, number, value),
+        Err(_) => warn_of_rule(alloc, text, number, true, "isn't UTF-8, so it is no rule"),
+    }
 }
 
 /// Adds the warnings of a line.

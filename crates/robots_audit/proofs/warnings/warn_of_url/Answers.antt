@@ -11,5 +11,5 @@ returns c =
     c.deref.ensures ∙ c.in_ok-push_escaped_bytes.ensures
     ∙ ap (λ (t : List ℕ). t ++ escaped c.as_bytes.result.now) c.in_ok-warning.ensures.ok
     ∙ ap (λ (t : List ℕ). said ++ escaped t) c.as_bytes.ensures.value in
-    warned_same _ _ c.deref.result.now (said ++ escaped c.args.url.now) (not c.is_url_or_path.result)
-    (not (is_url_or_path c.args.url.now)) c.in_ok-warn.ensures (ap not c.is_url_or_path.ensures) same
+    warned_same _ _ c.deref.result.now (said ++ escaped c.args.url.now) (not c.in_ok-is_clear.is_clear)
+    (not (is_url_or_path c.args.url.now)) c.in_ok-warn.ensures (ap not c.in_ok-is_clear.ensures) same

@@ -1,10 +1,15 @@
-use Rattle.robots_io.proofs.LinesLemmas.{lines_added}
-use Rattle.robots_audit.specs.Warnings.{byte_warnings, start_warnings}
+use Rattle.std.proofs.Common.{◌≡◌, false}
+use Rattle.std.proofs.lemmas.Bool.{false_from_ne_true}
+use Rattle.std.proofs.lemmas.Str.{IsUtf8-from_is_utf8, is_utf8-from_IsUtf8}
+use Rattle.std.specs.Str.{is_utf8}
 use Rattle.robots_audit.proofs.warnings.warn_of_value.Goals as goal
 
-pub returns : goal.returns
-returns c =
-    let number = c.args.number in
+pub returns-in-Ok : goal.returns-in-Ok
+returns-in-Ok c = rw (is_utf8-from_IsUtf8 c.args.value.now c.in-Ok.ensures.cases.1) c.warn_of_text.ensures
+
+pub returns-in-Err : goal.returns-in-Err
+returns-in-Err c =
     let value = c.args.value.now in
-    lines_added _ _ _ (start_warnings number value) (byte_warnings number value) c.in_ok-warn_of_start.ensures
-    c.in_ok-warn_of_bytes.ensures
+    let fails : is_utf8 value ≡ false =
+    false_from_ne_true _ (λ is. c.in-Err.ensures.cases.0 (IsUtf8-from_is_utf8 value is)) in
+    rw fails c.warn_of_rule.ensures
