@@ -1,11 +1,12 @@
 -- What the program writes of a file.
 use Rattle.std.specs.Prelude.{◌≡◌, ℕ, Bool, true, false, nat_lt, List, [], ◌∷◌}
 use Rattle.std.specs.Prelude.{◌++◌, Option, ⊤, Contains, codes, if◌then◌else◌, length}
-use Rattle.std.specs.List.{AllByRecursion as Each, AllZip}
+use Rattle.std.specs.List.{AllByRecursion as Each, AllZip, list_any}
 use Rattle.std.specs.Io.KnownBytes.{Appends}
 use Rattle.texting_robots.specs.Callers.{IsDecidingLine, IsOverlong, IsRefused, IsVerdict, LineValue}
 use Rattle.texting_robots.specs.Callers.{PlacedRule, Rule, delay_for, escaped, file_limit, is_named}
 use Rattle.texting_robots.specs.Callers.{lines_read, placed_rules, prepared, rules_for, unplaced}
+use Rattle.texting_robots.specs.Group.{is_agent}
 use Rattle.robots_io.specs.Ends.{AppendsBeginning}
 use Rattle.robots_io.specs.Lines.{delay_line, ended, verdict_line}
 use Rattle.robots_audit.specs.declared.fault.Fault.{Fault}
@@ -15,11 +16,18 @@ use Rattle.robots_audit.specs.Rows.{rows}
 
 -- ---- the lines behind the rows
 
+-- the group of an agent that the file doesn't name, and why
+abbrev pub unnamed_group : List LineValue → List ℕ
+unnamed_group lines =
+    if is_named (codes "*") lines then codes "*, as the agent isn't named in the file"
+    else (if list_any is_agent lines then codes "none, as neither the agent nor * is named in the file"
+    else codes "none: the file has no user-agent line, so its rules are for every agent")
+
 -- the group that the agent gets, and why
 abbrev pub group_line : List ℕ → List LineValue → List ℕ
 group_line agent lines =
     if is_named agent lines then codes "group " ++ escaped agent ++ codes ", named in the file"
-    else codes "group *, as the agent isn't named in the file"
+    else codes "group " ++ unnamed_group lines
 
 -- a note, if the file has more bytes than count
 abbrev pub note_lines : List ℕ → List (List ℕ)

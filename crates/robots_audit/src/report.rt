@@ -1,8 +1,10 @@
 //! The report of a file.
 ghost use Rattle.std.specs.Prelude.{◌≡◌, ◌≢◌, ◌++◌, ◌∷◌, ◌&&◌, [], IfErr, IfOk, OnOk, codes, map, string_bytes};
-ghost use Rattle.texting_robots.specs.Callers.{IsRobotOf, escaped, file_lines, lines_read};
+ghost use Rattle.std.specs.List.{list_any};
+ghost use Rattle.texting_robots.specs.Callers.{IsRobotOf, by_value, escaped, file_lines, lines_read};
+ghost use Rattle.texting_robots.specs.Group.{is_agent};
 ghost use Rattle.robots_io.specs.Lines.{delay_line, ended};
-ghost use Rattle.robots_audit.specs.Report.{IsReport, MayFail, group_line, note_lines};
+ghost use Rattle.robots_audit.specs.Report.{IsReport, MayFail, group_line, note_lines, unnamed_group};
 ghost use Rattle.robots_audit.specs.Rows.{rows};
 ghost use Rattle.robots_audit.specs.Steps.{AddsVerdicts};
 
@@ -13,6 +15,7 @@ use crate::rows::push_rows;
 use robots_io::lines::{push_delay, push_line, push_verdict_line};
 use std::alloc::{AllocError, Global};
 use texting_robots::marks::is_named;
+use texting_robots::parser::{Line, file_lines};
 use texting_robots::robot::FILE_LIMIT;
 use texting_robots::view::View;
 use texting_robots::{Error, Robot, push_escaped_bytes};
@@ -35,6 +38,38 @@ fn push_named(text: &mut String, agent: &str) -> Result<(), AllocError>
     Ok(())
 }
 
+/// Whether the line is a user-agent line.
+fn is_agent(line: Line<'_>) -> bool
+    ensures { result ≡ is_agent (by_value line.entry) }
+{
+    matches!(line, Line::UserAgent(_))
+}
+
+/// Whether the file has a user-agent line.
+fn has_agent_line(file: &[u8]) -> bool
+    ensures { result ≡ list_any is_agent (file_lines file.now) }
+{
+    for line in file_lines(file) {
+        if is_agent(line) {
+            return true;
+        }
+    }
+    false
+}
+
+/// The group of an agent that the file doesn't name, and why.
+fn unnamed_group(file: &[u8]) -> &'static str
+    ensures { result.now ≡ unnamed_group (file_lines file.now) }
+{
+    if is_named("*", file) {
+        "*, as the agent isn't named in the file"
+    } else if has_agent_line(file) {
+        "none, as neither the agent nor * is named in the file"
+    } else {
+        "none: the file has no user-agent line, so its rules are for every agent"
+    }
+}
+
 /// Adds the line of the group that the agent gets.
 fn push_group(text: &mut String, agent: &str, file: &[u8]) -> Result<(), AllocError>
     ensures { OnOk result (string_bytes text.new ≡ string_bytes text.old
@@ -43,7 +78,7 @@ fn push_group(text: &mut String, agent: &str, file: &[u8]) -> Result<(), AllocEr
     if is_named(agent, file) {
         push_named(text, agent)
     } else {
-        push_line(text, "group *, ", "as the agent isn't named in the file")
+        push_line(text, "group ", unnamed_group(file))
     }
 }
 

@@ -44,7 +44,7 @@ fn quiet(alloc: Global, all_allowed: bool) -> Outcome {
 
 #[test]
 fn reports(rt: HostRuntime) -> Result<(), Fail> {
-    let rows: [(&str, &str, &[u8], &str, &str, bool); 12] = [
+    let rows: [(&str, &str, &[u8], &str, &str, bool); 13] = [
         ("every kind of line", "", FILE, REPORT, "", true),
         (
             "a URL is denied",
@@ -67,14 +67,14 @@ fn reports(rt: HostRuntime) -> Result<(), Fail> {
             "",
             b"",
             "",
-            "group *, as the agent isn't named in the file\ndelay none\n",
+            "group none: the file has no user-agent line, so its rules are for every agent\ndelay none\n",
             true,
         ),
         (
             "no agent line",
             "/a",
             b"Disallow: /a",
-            "1 + disallow    /a\ngroup *, as the agent isn't named in the file\ndelay none\n",
+            "1 + disallow    /a\ngroup none: the file has no user-agent line, so its rules are for every agent\ndelay none\n",
             "deny 1 /a\n",
             false,
         ),
@@ -87,10 +87,18 @@ fn reports(rt: HostRuntime) -> Result<(), Fail> {
             false,
         ),
         (
+            "neither is named",
+            "/a",
+            b"Disallow: /a\nUser-agent: Other\nDisallow: /",
+            "1   disallow    /a\n2 - user-agent  Other\n3 - disallow    /\ngroup none, as neither the agent nor * is named in the file\ndelay none\n",
+            "allow - /a\n",
+            true,
+        ),
+        (
             "a terminal isn't steered",
             "/\u{1b}[2J",
             b"\x1b[31m\nUser-agent: ferris\x07",
-            "1   unread      %1B[31m\n2 - user-agent  ferris%07\ngroup *, as the agent isn't named in the file\ndelay none\n",
+            "1   unread      %1B[31m\n2 - user-agent  ferris%07\ngroup none, as neither the agent nor * is named in the file\ndelay none\n",
             "allow - /%1B[2J\n",
             true,
         ),
@@ -174,9 +182,9 @@ fn only_the_first_bytes_count(rt: HostRuntime) -> Result<(), Fail> {
         let outcome = run(rt.alloc(), "Ferris", &urls, &mut file.as_slice(), &mut sink);
         assert_eq!(rt; outcome, Ok(quiet(rt.alloc(), is_noted)));
         let end: &[u8] = if is_noted {
-            b"#\ngroup *, as the agent isn't named in the file\ndelay none\nnote: only the file's first 512000 bytes count\nallow - /a\n"
+            b"#\ngroup none: the file has no user-agent line, so its rules are for every agent\ndelay none\nnote: only the file's first 512000 bytes count\nallow - /a\n"
         } else {
-            b"#\n2 + disallow    /a\ngroup *, as the agent isn't named in the file\ndelay none\ndeny 2 /a\n"
+            b"#\n2 + disallow    /a\ngroup none: the file has no user-agent line, so its rules are for every agent\ndelay none\ndeny 2 /a\n"
         };
         assert!(rt; sink.held.as_slice().ends_with(end));
     }
@@ -387,7 +395,7 @@ fn answers(rt: HostRuntime) -> Result<(), Fail> {
         (
             "Ferris\n/a",
             Ok(false),
-            "1 + disallow    /a\ngroup *, as the agent isn't named in the file\ndelay none\ndeny 1 /a\n",
+            "1 + disallow    /a\ngroup none: the file has no user-agent line, so its rules are for every agent\ndelay none\ndeny 1 /a\n",
         ),
     ];
     for (words, ending, written) in rows {
