@@ -103,7 +103,8 @@ standing_cut pairs are =
 
 ends_by : (body ending : List ℕ) (later : List Pair) → IsEnding ending
     → (ending ≡ [] → (later ≡ []) × (body ≢ []))
-    → ((next : Pair) (more : List Pair) → later ≡ next ∷ more → All (λ byte. byte ≢ lf) ending → next.body ≢ [])
+    → ((next : Pair) (more : List Pair) → later ≡ next ∷ more → All (λ byte. byte ≢ lf) ending
+    → next.body ≢ [])
     → EndsBy body ending later
 ends_by [] ending later (zero, inl e) last begin = absurd ((last e).1 refl)
 ends_by (b ∷ body) ending later (zero, inl e) last begin = rw (e, (last e).0) nothing

@@ -98,10 +98,12 @@ module _ (all : Gathered) (known : AreEntries all) where
           let best = first_line.is_longest.longest rule listed fits in
           let within = found.0 in
           mul-le-mul_left (2 * length text)
-          (count_front (λ (r : PlacedRule). leb (length rule.rule.0) (length r.rule.0)) (rules_in all) (at + 1)
-          (rw length-map (omega arith)) (λ k d below. rw (rule_is k d (omega arith))
+          (count_front (λ (r : PlacedRule). leb (length rule.rule.0) (length r.rule.0)) (rules_in all)
+          (at + 1) (rw length-map (omega arith)) (λ k d below. rw (rule_is k d (omega arith))
           (le-leb (length rule.rule.0) (length (placed k).rule.0) (elim (cases_lt k at) [
-            | inl early ↦ let more = longer (placed k) (placed at) (preferred k at early within) in omega arith
+            | inl early ↦
+                let more = longer (placed k) (placed at) (preferred k at early within) in
+                omega arith
             | inr late ↦ let same : k ≡ at = omega arith in rw same best
           ]))))
 

@@ -41,7 +41,8 @@ caught_reached given name walk place (line ∷ lines) =
 -- from the start it reaches what the captured lines give
 pub all_reached : {X : Type 0} (given : LineValue → Option X) (name : List ℕ) (lines : List LineValue)
     → from_captured given name lines ≡ reached given name (start_of lines) lines
-all_reached given name lines = caught_all given name lines ∙ caught_reached given name (start_of lines) 0 lines
+all_reached given name lines =
+    caught_all given name lines ∙ caught_reached given name (start_of lines) 0 lines
 
 -- ---- lists that give the same
 
@@ -254,7 +255,8 @@ reached_behind given name walk (line ∷ front) back others same =
 
 before_behind : (front back others : List LineValue)
     → filter_map delay_in (before_agent back) ≡ filter_map delay_in (before_agent others)
-    → filter_map delay_in (before_agent (front ++ back)) ≡ filter_map delay_in (before_agent (front ++ others))
+    → filter_map delay_in (before_agent (front ++ back))
+    ≡ filter_map delay_in (before_agent (front ++ others))
 before_behind [] back others same = same
 before_behind (line ∷ front) back others same = elim (cases_Bool (is_agent line)) [
   | inl agent ↦ rw agent refl
