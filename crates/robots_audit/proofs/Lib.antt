@@ -1,6 +1,7 @@
 pub mod AnswerLemmas
 pub mod LawLemmas
 pub mod OverlongLemmas
+pub mod PlainLemmas
 pub mod ReportLemmas
 pub mod RowLemmas
 pub mod WarningLemmas

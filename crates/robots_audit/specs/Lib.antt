@@ -4,4 +4,5 @@ pub mod Rows
 pub mod Report
 pub mod Warnings
 pub mod Answer
+pub mod Laws
 pub mod Steps

@@ -1,7 +1,10 @@
 //! Laws over the definitions, each the contract of a function that computes nothing.
 ghost use Rattle.std.specs.Prelude.{◌≡◌, ℕ, Bool, List};
-ghost use Rattle.texting_robots.specs.Callers.{IsRefused, lines_read};
+ghost use Rattle.texting_robots.specs.Callers.{IsRefused, LineValue, lines_read};
+ghost use Rattle.robots_io.specs.Lines.{ended};
+ghost use Rattle.robots_audit.specs.Laws.{IsPlain};
 ghost use Rattle.robots_audit.specs.Report.{IsReport};
+ghost use Rattle.robots_audit.specs.Warnings.{warnings};
 
 /// A file has one report at most for an agent and URLs, and it says one thing of whether all of them are allowed.
 pub fn each_file_has_one_report()
@@ -14,4 +17,12 @@ pub fn each_file_has_one_report()
 pub fn each_file_has_a_report()
     ensures { (agent : List ℕ) (urls : List (List ℕ)) (file : List ℕ) → ¬ IsRefused agent (lines_read file)
         → (text : List ℕ) × (answer : Bool) × IsReport agent urls file text answer }
+{}
+
+/// No report steers a terminal, and no warnings do, whatever the bytes of the agent, the URLs and the file.
+pub fn no_terminal_is_steered()
+    ensures report { (agent : List ℕ) (urls : List (List ℕ)) (file text : List ℕ) (answer : Bool)
+        → IsReport agent urls file text answer → IsPlain text }
+    ensures warnings { (agent : List ℕ) (urls : List (List ℕ)) (lines : List LineValue)
+        → IsPlain (ended (warnings agent urls lines)) }
 {}
