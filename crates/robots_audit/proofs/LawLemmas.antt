@@ -1,6 +1,7 @@
 -- A file has a report, and no other.
 use Rattle.std.proofs.Common.{◌≡◌, ℕ, zero, suc, ◌<◌, Bool, true, false, List, [], ◌∷◌}
-use Rattle.std.proofs.Common.{◌++◌, ◌&&◌, ap, append_assoc, arith, length, refl, slice_index_or, subst, sym, ◌∙◌}
+use Rattle.std.proofs.Common.{◌++◌, ◌&&◌, ap, append_assoc, arith}
+use Rattle.std.proofs.Common.{length, refl, slice_index_or, subst, sym, ◌∙◌}
 use Rattle.std.proofs.lemmas.List.{append-nil}
 use Rattle.std.specs.List.{AllByRecursion as Each, AllZip}
 use Rattle.texting_robots.specs.Callers.{IsRefused, IsVerdict, PlacedRule, Rule}

@@ -9,7 +9,8 @@ use Rattle.std.specs.Fmt.{digit_glyph, digits, digits_onto}
 use Rattle.std.specs.Str.{is_utf8}
 use Rattle.std.specs.List.{AllByRecursion as Each, AllZip, list_any}
 use Rattle.texting_robots.specs.Callers.{Allow, CrawlDelay, Disallow, LineValue, Mark, PlacedRule, Raw}
-use Rattle.texting_robots.specs.Callers.{Sitemap, UserAgent, escaped, group_name, lines_read, marks_of, placed_rules}
+use Rattle.texting_robots.specs.Callers.{Sitemap, UserAgent, escaped}
+use Rattle.texting_robots.specs.Callers.{group_name, lines_read, marks_of, placed_rules}
 use Rattle.texting_robots.specs.Callers.{delay_for, file_limit, is_named}
 use Rattle.texting_robots.specs.Group.{is_agent}
 use Rattle.texting_robots.specs.Escape.{escape_byte, is_escaped}
@@ -18,7 +19,8 @@ use Rattle.robots_audit.specs.Laws.{IsPlain, is_plain}
 use Rattle.robots_audit.specs.Report.{IsReport, IsVerdictLine, group_line, note_lines, unnamed_group}
 use Rattle.robots_audit.specs.Rows.{kind_text, mark_text, right_aligned, row, rows, sign}
 use Rattle.robots_audit.specs.Rows.{space, value_text, word_and_value, word_width}
-use Rattle.robots_audit.specs.Warnings.{agent_warnings, byte_warnings, mark_warnings, rule_text, rule_warnings}
+use Rattle.robots_audit.specs.Warnings.{agent_warnings, byte_warnings}
+use Rattle.robots_audit.specs.Warnings.{mark_warnings, rule_text, rule_warnings}
 use Rattle.robots_audit.specs.Warnings.{begins_as_rule, holds_otherwise, space_warnings, start_warnings}
 use Rattle.robots_audit.specs.Warnings.{url_warnings, value_warnings, warned, warnings}
 
@@ -146,7 +148,8 @@ row_plain width name mark =
     let aligned : IsPlain front =
     both (replicate (width - length digits_of) space) digits_of (blanks (width - length digits_of))
     (number mark.number) in
-    both (front ++ codes " " ++ sign_of ++ codes " ") (word_and_value (kind_text mark.line) (value_text mark.line))
+    both (front ++ codes " " ++ sign_of ++ codes " ")
+    (word_and_value (kind_text mark.line) (value_text mark.line))
     (of_four front (codes " ") sign_of (codes " ") aligned refl (marked name mark.captured mark.line) refl)
     (in_column (kind_text mark.line) (value_text mark.line) (kind mark.line) (value_shown mark.line))
 
@@ -192,7 +195,8 @@ line_plain (Some n) = number n
 verdict_plain : (allowed : Bool) (line : Option ℕ) (url : List ℕ) → IsPlain url
     → IsPlain (verdict_line allowed line url)
 verdict_plain allowed line url is =
-    of_four (verdict_word allowed) (line_text line) (codes " ") url (word_plain allowed) (line_plain line) refl is
+    of_four (verdict_word allowed) (line_text line) (codes " ") url (word_plain allowed)
+    (line_plain line) refl is
 
 verdicts_plain : (rules : List PlacedRule) (urls lines : List (List ℕ))
     → AllZip (IsVerdictLine rules) urls lines → Each IsPlain lines
@@ -211,7 +215,8 @@ report_plain agent urls file text answer is =
     let said = is.whole.verdict_lines in
     let delay = delay_for agent lines in
     let back : List (List ℕ) = group_line agent lines ∷ delay_line delay ∷ (note_lines file ++ said) in
-    let verdicts : Each IsPlain said = verdicts_plain (placed_rules agent lines) urls said is.whole.verdicts in
+    let verdicts : Each IsPlain said = verdicts_plain (placed_rules agent lines) urls said
+    is.whole.verdicts in
     let ending = each_both (note_lines file) said (notes_plain file) verdicts in
     let all : Each IsPlain (rows agent lines ++ back) =
     each_both (rows agent lines) back (rows_plain agent lines)
@@ -224,7 +229,8 @@ warned_plain : (cause : Bool) (text : List ℕ) → IsPlain text → Each IsPlai
 warned_plain true text is = (is, tt)
 warned_plain false text is = tt
 
-rule_plain : (cause : Bool) (n : ℕ) (said : List ℕ) → IsPlain said → Each IsPlain (warned cause (rule_text n said))
+rule_plain : (cause : Bool) (n : ℕ) (said : List ℕ) → IsPlain said
+    → Each IsPlain (warned cause (rule_text n said))
 rule_plain cause n said is =
     warned_plain cause (rule_text n said)
     (of_four (codes "the rule in line ") (decimal n) (codes " ") said refl (number n) refl is)
@@ -259,5 +265,6 @@ pub warnings_plain : (agent : List ℕ) (urls : List (List ℕ)) (lines : List L
 warnings_plain agent urls lines =
     in_lines _ (each_both (agent_warnings agent) _
     (each_both (space_warnings agent) _ (warned_plain _ _ refl) (warned_plain _ _ refl))
-    (each_both (flat_map url_warnings urls) _ (each_flat url_warnings (λ url. warned_plain _ _ (shown url)) urls)
+    (each_both (flat_map url_warnings urls) _
+    (each_flat url_warnings (λ url. warned_plain _ _ (shown url)) urls)
     (each_flat mark_warnings mark_plain (marks_of (group_name agent lines) lines))))

@@ -1,5 +1,5 @@
--- What comes of the words behind the program's name, with a reader that has these bytes left, if it tells them, and a
--- writer that held the old bytes before and holds the new ones after.
+-- What comes of the words behind the program's name, with a reader that has these bytes left, if it tells
+-- them, and a writer that held the old bytes before and holds the new ones after.
 use Rattle.std.specs.Prelude.{◌≡◌, ◌≢◌, ℕ, true, List, [], Option, Result, Ok, Err}
 use Rattle.std.specs.Prelude.{IfErr, IfOk, IfSome, IsErrOf, map, string_bytes}
 use Rattle.std.specs.Io.KnownBytes.{Appends, Keeps}
@@ -23,8 +23,8 @@ pub record Helps (old new : Option (List ℕ)) (result : Result Outcome Fault) :
   pub fault : IfErr result (λ fault. fault ≡ Write)
   pub beginning : AppendsBeginning old new usage
 
--- the report of what is left is written, and its warnings are given; or there is a fault, and nothing is written but,
--- where writing failed, a beginning of the report
+-- the report of what is left is written, and its warnings are given; or there is a fault, and nothing is
+-- written but, where writing failed, a beginning of the report
 pub record Audits (agent : List ℕ) (urls : List (List ℕ)) (left old new : Option (List ℕ))
     (result : Result Outcome Fault) : Type 0 where
   pub ok : IfOk result (λ outcome. IfSome left (AppendsReport agent urls outcome.all_allowed old new))

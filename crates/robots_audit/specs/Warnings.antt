@@ -58,8 +58,9 @@ abbrev pub begins_as_rule : List ℕ → Bool
 begins_as_rule [] = false
 begins_as_rule (byte ∷ value) = byte == slash || byte == star
 
--- A byte that a URL of a site has otherwise than a rule in which it stands: it is escaped in the one alone, or taken for
--- `/`, or taken out. These are the tab, `\`, `^`, `{` and `}` in a path, and the tab, `'` and the backquote in a query.
+-- A byte that a URL of a site has otherwise than a rule in which it stands: it is escaped in the one alone,
+-- or taken for `/`, or taken out. These are the tab, `\`, `^`, `{` and `}` in a path, and the tab, `'` and
+-- the backquote in a query.
 abbrev pub is_spelled_otherwise : Bool → ℕ → Bool
 is_spelled_otherwise in_query byte =
     if in_query then (byte == tab || (byte == 39 || byte == 96))
