@@ -213,7 +213,8 @@ none_denies rules text none (other, p, stands, matches, longest) =
 
 abbrev Found : List PlacedRule → List ℕ → Type 0
 Found rules text =
-    ((placed : PlacedRule) × IsBest rules text placed) ⊎ All (λ placed. ¬ Matches placed.rule.0 text) rules
+    ((placed : PlacedRule) × IsBest rules text placed)
+    ⊎ All (λ placed. ¬ Matches placed.rule.0 text) rules
 
 best_or_none : (text : List ℕ) (rules : List PlacedRule) → Found rules text
 best_or_none text [] = inr (All-nil (λ placed. ¬ Matches placed.rule.0 text))
@@ -240,8 +241,11 @@ best_or_none text (rule ∷ rules) = at (matches_or_not true rule.rule.0 text) (
     at (inr isnt) (inl (placed, is)) = inl (placed, later placed (λ here. absurd (isnt here)) is)
     at (inl here) (inr none) = inl (rule, first here (λ k d below fits. absurd (none k d below fits)))
     at (inl here) (inl (placed, is)) = elim (one_preferred rule placed) [
-      | inl before ↦ inl (rule, first here (λ k d below fits.
-          preferred_trans rule placed _ before (is.best k d below fits)))
+      | inl before ↦ inl (
+        rule,
+        first here (λ k d below fits.
+            preferred_trans rule placed _ before (is.best k d below fits)),
+      )
       | inr after ↦ inl (placed, later placed (λ _. after) is)
     ]
 

@@ -64,7 +64,8 @@ some_passes test lines = (
   λ (k, h). passing lines k h,
 )
   where
-    passing : (lines : List LineValue) (k : ℕ) → passes_at test lines k ≡ true → list_any test lines ≡ true
+    passing : (lines : List LineValue) (k : ℕ) → passes_at test lines k ≡ true
+        → list_any test lines ≡ true
     passing [] k h = absurd (false≢true h)
     passing (line ∷ lines) zero h = or_left _ _ h
     passing (line ∷ lines) (suc k) h = or_right _ _ (passing lines k h)
@@ -246,7 +247,8 @@ at_front (x ∷ lines) (suc n) line rest h =
 
 passed_are : (name : List ℕ) (all : List LineValue) (walk : Walk) (place : ℕ) (lines : List LineValue)
     → Stands name all place walk → drop place all ≡ lines
-    → map (by_test (is_captured name all)) (enumerate_from place lines) ≡ passed_from name walk place lines
+    → map (by_test (is_captured name all)) (enumerate_from place lines)
+    ≡ passed_from name walk place lines
 passed_are name all walk place [] stands left = refl
 passed_are name all walk place (line ∷ lines) stands left =
     let (at, next) = at_front all place line lines left in

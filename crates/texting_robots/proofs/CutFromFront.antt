@@ -1,6 +1,7 @@
 -- The cut read from the front: the first line of a text, and the lines of the rest.
 use Rattle.std.proofs.Common.{◌≡◌, ◌≢◌, ℕ, suc, ◌+◌, ◌%◌, ◌^◌, ◌<◌, ◌≤◌}
-use Rattle.std.proofs.Common.{Bool, true, false, not, ◌==◌, ◌||◌, inl, inr, List, [], ◌∷◌, length}
+use Rattle.std.proofs.Common.{Bool, true, false, not, ◌==◌, ◌||◌, inl, inr, List, [], ◌∷◌}
+use Rattle.std.proofs.Common.{length}
 use Rattle.std.proofs.Common.{take, drop, get_or, map, sym, refl, ap, ◌∙◌, arith, cond}
 use Rattle.std.proofs.Common.{if◌then◌else◌, map-id, Option, Some, None, MatchOption, bit_or}
 use Rattle.std.specs.List.{position_or_len}
@@ -207,7 +208,8 @@ body_plain n text =
     rw (get_or-take len text i d before)
     (as_is n (get_or text i d) (fails_before_first test text i d (rw is before))))
   where
-    as_is : (n : Bool) (b : ℕ) → (read_byte n b == lf || read_byte n b == cr) ≡ false → read_byte n b ≡ b
+    as_is : (n : Bool) (b : ℕ) → (read_byte n b == lf || read_byte n b == cr) ≡ false
+        → read_byte n b ≡ b
     as_is false b plain = refl
     as_is true b plain = elim (cases_Bool (b == 0)) [
       | inl nul ↦ (let wrong : true ≡ false = rw nul at plain in cc)

@@ -1,5 +1,6 @@
 -- Each text has one cut, the one that the walk gives.
-use Rattle.std.proofs.Common.{◌≡◌, ◌≢◌, ◌⊎◌, ℕ, zero, suc, ◌+◌, ◌<◌, inl, inr, List, [], ◌∷◌}
+use Rattle.std.proofs.Common.{◌≡◌, ◌≢◌, ◌⊎◌, ℕ, zero, suc, ◌+◌, ◌<◌, inl, inr}
+use Rattle.std.proofs.Common.{List, [], ◌∷◌}
 use Rattle.std.proofs.Common.{◌++◌, All, replicate, length, get_or, take, drop, append_assoc}
 use Rattle.std.proofs.Common.{sym, refl, ap, ◌∙◌, subst, arith}
 use Rattle.std.specs.List.{AllByRecursion as Each}
@@ -96,7 +97,8 @@ standing_cut pairs are =
       bodies = λ k d below. All-from_recursion IsBodyByte (get_or pairs k d).body (at k d below).body;
       endings = λ k d below. is_ending (at k d below).ends;
       empty_ending = λ front back pair e. is_last (stands_at pairs are front back pair e).ends;
-      open_ending = λ front back pair next e. goes_on (stands_at pairs are front (next ∷ back) pair e).ends;
+      open_ending =
+          λ front back pair next e. goes_on (stands_at pairs are front (next ∷ back) pair e).ends;
     }
 
 -- ---- and the pairs of a cut stand so
@@ -128,7 +130,8 @@ cut_stands (pair ∷ later) text is = (
     bodies = All-tail (λ p. All IsBodyByte p.body) pair later is.bodies;
     endings = All-tail (λ p. IsEnding p.ending) pair later is.endings;
     empty_ending = λ front back p e. is.empty_ending (pair ∷ front) back p (ap (λ l. pair ∷ l) e);
-    open_ending = λ front back p next e. is.open_ending (pair ∷ front) back p next (ap (λ l. pair ∷ l) e);
+    open_ending =
+        λ front back p next e. is.open_ending (pair ∷ front) back p next (ap (λ l. pair ∷ l) e);
   }),
 )
 

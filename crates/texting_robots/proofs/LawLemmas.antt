@@ -26,7 +26,8 @@ use Rattle.texting_robots.specs.Group.{IsCaptured}
 
 -- ---- what the walk reaches, whatever the lines' places are
 
-abbrev pub reached : {X : Type 0} → (LineValue → Option X) → List ℕ → Walk → List LineValue → List X
+abbrev pub reached : {X : Type 0} → (LineValue → Option X) → List ℕ → Walk → List LineValue
+    → List X
 reached given name walk [] = []
 reached given name walk (line ∷ lines) =
     cons_option (cond walk.captured (given line) None) (reached given name (step name walk line) lines)
@@ -120,8 +121,10 @@ found_kept given keep drops (line ∷ lines) = elim (cases_Bool (keep line)) [
   | inr dropped ↦ rw (dropped, drops line dropped) (found_kept given keep drops lines)
 ]
 
-module _ (keep : LineValue → Bool) (neutral : (line : LineValue) → keep line ≡ false → IsNeutral line) where
-  any_kept : (test : LineValue → Bool) → ((line : LineValue) → is_agent line ≡ false → test line ≡ false)
+module _ (keep : LineValue → Bool)
+    (neutral : (line : LineValue) → keep line ≡ false → IsNeutral line) where
+  any_kept : (test : LineValue → Bool)
+      → ((line : LineValue) → is_agent line ≡ false → test line ≡ false)
       → (lines : List LineValue) → list_any test lines ≡ list_any test (filter keep lines)
   any_kept test drops [] = refl
   any_kept test drops (line ∷ lines) = elim (cases_Bool (keep line)) [
@@ -139,8 +142,14 @@ module _ (keep : LineValue → Bool) (neutral : (line : LineValue) → keep line
         (reached_kept given drops name (step name walk line) lines))
     | inr dropped ↦
         let is = neutral line dropped in
-        rw (dropped, drops line is.group, nothing walk.captured, is.agent, is.group,
-        only_agents name line is.agent) (reached_kept given drops name walk lines)
+        rw (
+          dropped,
+          drops line is.group,
+          nothing walk.captured,
+          is.agent,
+          is.group,
+          only_agents name line is.agent,
+        ) (reached_kept given drops name walk lines)
   ]
     where
       nothing : (b : Bool) → ◌≡◌ {A = Option X} (cond b None None) None
@@ -246,7 +255,8 @@ stands_walked name all walk place (line ∷ front) back stands left =
 -- what is the same behind these lines is the same with them
 reached_behind : {X : Type 0} (given : LineValue → Option X) (name : List ℕ) (walk : Walk)
     (front back others : List LineValue)
-    → reached given name (walked name walk front) back ≡ reached given name (walked name walk front) others
+    → reached given name (walked name walk front) back
+    ≡ reached given name (walked name walk front) others
     → reached given name walk (front ++ back) ≡ reached given name walk (front ++ others)
 reached_behind given name walk [] back others same = same
 reached_behind given name walk (line ∷ front) back others same =
@@ -298,7 +308,8 @@ uncaptured_reaches_nothing agent front back line other kind uncaptured =
         ∙ ap (λ b. list_any test front || (b || list_any test back)) same
         ∙ sym (list_any-append test front (other ∷ back))
 
-    apart : {X : Type 0} (given : LineValue → Option X) (name : List ℕ) (walk : Walk) → IsAlike line other
+    apart : {X : Type 0} (given : LineValue → Option X) (name : List ℕ) (walk : Walk)
+        → IsAlike line other
         → walk.captured ≡ false
         → reached given name walk (line ∷ back) ≡ reached given name walk (other ∷ back)
     apart given name walk alike free = rw (free, alike.agent, alike.named name, alike.group) refl

@@ -101,7 +101,8 @@ first_more (Some x) None new xs added = rw added refl
 first_more o (Some z) new xs added = rw added refl
 
 -- an item gives nothing where all of them give nothing
-pub given_none : {X : Type 0} (o : Option X) (xs old : List X) → old ++ cons_option o xs ≡ [] → o ≡ None
+pub given_none : {X : Type 0} (o : Option X) (xs old : List X) → old ++ cons_option o xs ≡ []
+    → o ≡ None
 given_none None xs old none = refl
 given_none (Some x) xs [] none = absurd (let k : x ∷ xs ≡ [] = none in cc)
 given_none (Some x) xs (z ∷ old) none = absurd (let k : z ∷ (old ++ (x ∷ xs)) ≡ [] = none in cc)

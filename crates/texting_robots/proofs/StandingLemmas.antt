@@ -39,7 +39,8 @@ begun_next (x ∷ all) (suc n) line at =
 
 marks_left : (name : List ℕ) (all : List LineValue) (place : ℕ) (lines : List LineValue)
     → drop place all ≡ lines
-    → map (mark_at name all) (enumerate_from place lines) ≡ marks_from (list_any is_agent (take place all))
+    → map (mark_at name all) (enumerate_from place lines)
+    ≡ marks_from (list_any is_agent (take place all))
     (map (by_test (is_captured name all)) (enumerate_from place lines))
 marks_left name all place [] left = refl
 marks_left name all place (line ∷ lines) left =
@@ -59,7 +60,8 @@ known_first captured [] is = refl
 known_first captured (passed ∷ rest) is = sym is
 
 pub known_next : (known : Bool) (passed : Passed) (left rest : List Passed) → left ≡ passed ∷ rest
-    → is_group passed.line ≡ false → captured_ahead known left ≡ known → captured_ahead known rest ≡ known
+    → is_group passed.line ≡ false → captured_ahead known left ≡ known
+    → captured_ahead known rest ≡ known
 known_next known passed left [] next isnt is = refl
 known_next known passed left (other ∷ rest) next isnt is = rw isnt at (rw next at is)
 

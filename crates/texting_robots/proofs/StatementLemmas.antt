@@ -1,6 +1,8 @@
 -- A body is a statement of one kind with one value at most: the one that the walk gives.
-use Rattle.std.proofs.Common.{◌≡◌, ◌≢◌, ℕ, ◌<◌, ◌==◌, not, ◌||◌, inl, inr, List, [], ◌∷◌, ◌++◌, length}
-use Rattle.std.proofs.Common.{take, drop, map, sym, refl, ap, ◌∙◌, arith, rules, cond, if◌then◌else◌, subst}
+use Rattle.std.proofs.Common.{◌≡◌, ◌≢◌, ℕ, ◌<◌, ◌==◌, not, ◌||◌, inl, inr, List, []}
+use Rattle.std.proofs.Common.{◌∷◌, ◌++◌, length}
+use Rattle.std.proofs.Common.{take, drop, map, sym, refl, ap, ◌∙◌, arith, rules, cond}
+use Rattle.std.proofs.Common.{if◌then◌else◌, subst}
 use Rattle.std.proofs.Common.{Option, Some, None, option_and_then, length-append, nat_lt, Bor, MatchOption}
 use Rattle.std.specs.Bool.{Decides}
 use Rattle.std.specs.List.{AllByRecursion as Each, Contains}
@@ -151,7 +153,8 @@ tail_found tail rest (b ∷ blanks, all, inr (whole, some, plain)) =
     let (same, blanks_alone) = spaced rest tail plain in
     let less : length tail < length rest = omega (arith, ap length whole, length-append blanks tail) in
     let short = lt-ltb (length tail) (length rest) less in
-    let reads : skip_blanks rest ≡ tail = ap skip_blanks whole ∙ skip_front (b ∷ blanks) tail all ∙ same in
+    let reads : skip_blanks rest ≡ tail =
+    ap skip_blanks whole ∙ skip_front (b ∷ blanks) tail all ∙ same in
     rw (reads, blanks_alone, short, same) refl
 
 -- the rest has a tail, and the walk found it, without the blanks at its front
@@ -225,7 +228,8 @@ value_skipped tail =
     at : (blanks : List ℕ) → Each IsBlank blanks
         → region_of (blanks ++ skip_blanks tail) ≡ blanks ++ region_of (skip_blanks tail)
     at [] all = refl
-    at (b ∷ blanks) all = first b (blanks ++ skip_blanks tail) all.0 ∙ ap (λ t. b ∷ t) (at blanks all.1)
+    at (b ∷ blanks) all =
+        first b (blanks ++ skip_blanks tail) all.0 ∙ ap (λ t. b ∷ t) (at blanks all.1)
 
 -- ---- the statement
 
@@ -283,7 +287,8 @@ found_statement kind value body found =
     option_and_then_some tail_of (after_any (spellings k) text) tail is (λ rest keyed tailed.
     let same = ap (λ (p : Kind × List ℕ). (p.0, value_of p.1)) (same_Some _ _ paired)
     ∙ same_Some _ _ valued in
-    subst (λ (p : Kind × List ℕ). IsStatement p.0 p.1 body) same (stated k body rest tail keyed tailed)))))
+    subst (λ (p : Kind × List ℕ). IsStatement p.0 p.1 body) same
+    (stated k body rest tail keyed tailed)))))
 
 -- the walk's last step
 pub valued_parts : (body : List ℕ) {parts : Option (Kind × List ℕ)} → parts_of body ≡ parts

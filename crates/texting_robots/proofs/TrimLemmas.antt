@@ -1,6 +1,8 @@
 -- What `trim` leaves is the trim of its text, and there is no other.
-use Rattle.std.proofs.Common.{◌≡◌, ℕ, zero, suc, ◌+◌, ◌≤◌, ◌<◌, ◌-◌, Bool, true, false, cond, inl, inr}
-use Rattle.std.proofs.Common.{List, [], ◌∷◌, ◌++◌, length, take, drop, sym, refl, ap, ap₂, subst, ◌∙◌}
+use Rattle.std.proofs.Common.{◌≡◌, ℕ, zero, suc, ◌+◌, ◌≤◌, ◌<◌, ◌-◌, Bool, true}
+use Rattle.std.proofs.Common.{false, cond, inl, inr}
+use Rattle.std.proofs.Common.{List, [], ◌∷◌, ◌++◌, length, take, drop, sym, refl, ap, ap₂, subst}
+use Rattle.std.proofs.Common.{◌∙◌}
 use Rattle.std.proofs.Common.{append_assoc, append-nil, arith, IsTrue, Option, Some, None, length-append}
 use Rattle.std.proofs.Common.{slice_get, get_or}
 use Rattle.std.proofs.Math.Seq.{drop-nil}
@@ -58,7 +60,8 @@ spelled : (bytes : List ℕ) → is_whitespace (first_char bytes) ≡ true
     → bytes ≡ encode_utf8 (first_char bytes) ++ behind bytes
 spelled bytes = at (decoded bytes).char refl
   where
-    at : (char : Option ℕ) → (decoded bytes).char ≡ char → is_whitespace (or_replacement char) ≡ true
+    at : (char : Option ℕ) → (decoded bytes).char ≡ char
+        → is_whitespace (or_replacement char) ≡ true
         → bytes ≡ encode_utf8 (first_char bytes) ++ behind bytes
     at None is white = absurd (grind (arith, nat_tests))
     at (Some c) is white = rw is (SpellsChar-decoded bytes c is).bytes
@@ -167,7 +170,8 @@ end_char rest c is =
     let whole : 0 + (length bytes - n) + n ≡ length bytes = omega arith in
     rw (spans-last bytes (good c n) 0 last, kept_end-snoc is_whitespace 0, front, whole) refl
 
-end_spaces : (chars rest : List ℕ) → AllWhite chars → end_of (rest ++ encode_utf8_all chars) ≡ end_of rest
+end_spaces : (chars rest : List ℕ) → AllWhite chars
+    → end_of (rest ++ encode_utf8_all chars) ≡ end_of rest
 end_spaces [] rest all = ap end_of (append-nil rest)
 end_spaces (c ∷ cs) rest all =
     ap end_of (sym (append_assoc rest (encode_utf8 c) (encode_utf8_all cs)))
@@ -189,7 +193,8 @@ ended_next bytes text end some (within, (chars, all, spaces)) =
     let bounds = piece-bounds bytes some in
     let long : length (text ++ piece) ≡ length text + n = simp (length-append, length-take) (omega arith) in
     elim (cases_Bool (is_whitespace c)) [
-      | inr other ↦ rw other (omega arith, ([], tt, drop_all (length text + n) (text ++ piece) (omega arith)))
+      | inr other ↦
+          rw other (omega arith, ([], tt, drop_all (length text + n) (text ++ piece) (omega arith)))
       | inl white ↦
           let same : piece ≡ encode_utf8 c
           = append_cancel_right _ _ (behind bytes) (take-append-drop n bytes ∙ spelled bytes white) in
@@ -247,7 +252,8 @@ trimmed_is_trim region =
           let same : end_of rest ≡ end_of r
           = ap end_of (sym whole ∙ e ∙ ap (λ t. r ++ t) is.2) ∙ end_spaces is.0 r is.1 in
           let within = (ended r [] 0 (omega arith, ([], tt, refl))).0 in
-          let long : length rest ≡ length r + length s = ap length (sym whole ∙ e) ∙ length-append r s in
+          let long : length rest ≡ length r + length s =
+          ap length (sym whole ∙ e) ∙ length-append r s in
           omega (arith, same, within, length-drop (end_of rest) rest);
     }
 
@@ -265,7 +271,8 @@ is_trimmed region value u =
     let over = t.back_longest value u.back rest u.back_spaces in
     let long : length (trimmed region) ≡ length value
     = omega (arith, simp length-append at (ap length rest)) in
-    sym (take_at (trimmed region) t.back _ long) ∙ ap (take (length value)) rest ∙ take_at value u.back _ refl
+    sym (take_at (trimmed region) t.back _ long) ∙ ap (take (length value)) rest
+    ∙ take_at value u.back _ refl
 
 pub same_trim : (text region value : List ℕ) → trimmed text ≡ trimmed region → IsTrimOf value region
     → IsTrimOf value text
@@ -327,7 +334,8 @@ blanks_behind b rest blanks is all =
 
 -- a text whose ends are visible is its own trim
 pub graphic_trim : (b : ℕ) (rest : List ℕ) → is_ascii_graphic b ≡ true
-    → is_ascii_graphic (get_or (b ∷ rest) (length rest) 0) ≡ true → trimmed (b ∷ rest) ≡ b ∷ rest
+    → is_ascii_graphic (get_or (b ∷ rest) (length rest) 0) ≡ true → trimmed (b ∷ rest) ≡ b
+    ∷ rest
 graphic_trim b rest first_is last_is =
     let text = b ∷ rest in
     let front = take (length rest) text in

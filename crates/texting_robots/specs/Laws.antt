@@ -1,5 +1,6 @@
 -- Words of the laws, which stand as the contracts of `laws`.
-use Rattle.std.specs.Prelude.{◌≡◌, ◌+◌, ◌↔◌, ℕ, Bool, true, false, ◌==◌, ◌&&◌, List, []}
+use Rattle.std.specs.Prelude.{◌≡◌, ◌+◌, ◌↔◌, ℕ, Bool, true, false, ◌==◌, ◌&&◌, List}
+use Rattle.std.specs.Prelude.{[]}
 use Rattle.std.specs.Prelude.{◌∷◌, Some, IsTrue, codes, slice_get, slice_index, if◌then◌else◌}
 use Rattle.std.specs.Str.{is_utf8}
 use Rattle.texting_robots.specs.Rules.{IsRefused, Rule, delay_for, rules_for, sitemaps_in}
