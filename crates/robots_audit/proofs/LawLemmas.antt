@@ -64,7 +64,8 @@ allowed_once rules urls false true are too =
     absurd (allowed are.2)
 allowed_once rules urls false false are too = refl
 
-pub one_report : (agent : List ℕ) (urls : List (List ℕ)) (file text other : List ℕ) (answer another : Bool)
+pub one_report : (agent : List ℕ) (urls : List (List ℕ)) (file text other : List ℕ)
+    (answer another : Bool)
     → IsReport agent urls file text answer → IsReport agent urls file other another
     → (text ≡ other) × (answer ≡ another)
 one_report agent urls file text other answer another one two = (
@@ -84,8 +85,12 @@ verdicts_of rules (url ∷ urls) old =
     let one : AddsVerdicts rules (url ∷ []) first.allowed old mid =
     adds_one rules url (escaped url) old mid first.allowed first.number (first.verdict, first.deciding)
     refl refl in
-    let (answer, new, more) = verdicts_of rules urls mid in
-    (first.allowed && answer, new, adds_more rules (url ∷ []) urls first.allowed answer old mid new one more)
+    let (answer, new, more) = verdicts_of rules urls mid in (
+      first.allowed && answer,
+      new,
+      adds_more rules
+          (url ∷ []) urls first.allowed answer old mid new one more,
+    )
 
 pub some_report : (agent : List ℕ) (urls : List (List ℕ)) (file : List ℕ)
     → ¬ IsRefused agent (lines_read file)

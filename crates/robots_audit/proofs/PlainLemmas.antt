@@ -1,6 +1,8 @@
 -- A report and its warnings steer no terminal.
-use Rattle.std.proofs.Common.{◌≡◌, ℕ, zero, suc, ◌<◌, ◌%◌, ◌/◌, ◌-◌, ◌==◌, Bool, true, false}
-use Rattle.std.proofs.Common.{List, [], ◌∷◌, ◌++◌, Option, Some, None, arith, codes, cond, decimal, flat_map}
+use Rattle.std.proofs.Common.{◌≡◌, ℕ, zero, suc, ◌<◌, ◌%◌, ◌/◌, ◌-◌, ◌==◌, Bool}
+use Rattle.std.proofs.Common.{true, false}
+use Rattle.std.proofs.Common.{List, [], ◌∷◌, ◌++◌, Option, Some, None, arith, codes, cond, decimal}
+use Rattle.std.proofs.Common.{flat_map}
 use Rattle.std.proofs.Common.{inl, inr, length, map, nat_lt, not, refl, replicate, subst, sym}
 use Rattle.std.proofs.lemmas.Bool.{cases_Bool}
 use Rattle.std.proofs.lemmas.Bool.Decides.{nat_tests}
@@ -9,6 +11,7 @@ use Rattle.std.specs.Fmt.{digit_glyph, digits, digits_onto}
 use Rattle.std.specs.Str.{is_utf8}
 use Rattle.std.specs.List.{AllByRecursion as Each, AllZip, list_any}
 use Rattle.texting_robots.specs.Callers.{Allow, CrawlDelay, Disallow, LineValue, Mark, PlacedRule, Raw}
+use Rattle.texting_robots.specs.Callers.{is_own}
 use Rattle.texting_robots.specs.Callers.{Sitemap, UserAgent, escaped}
 use Rattle.texting_robots.specs.Callers.{group_name, lines_read, marks_of, placed_rules}
 use Rattle.texting_robots.specs.Callers.{delay_for, file_limit, is_named}
@@ -17,7 +20,9 @@ use Rattle.texting_robots.specs.Escape.{escape_byte, is_escaped}
 use Rattle.robots_io.specs.Lines.{delay_line, ended, lf, line_text, verdict_line, verdict_word}
 use Rattle.robots_audit.specs.Laws.{IsPlain, is_plain}
 use Rattle.robots_audit.specs.Report.{IsReport, IsVerdictLine, group_line, note_lines, unnamed_group}
-use Rattle.robots_audit.specs.Rows.{kind_text, mark_text, right_aligned, row, rows, sign}
+use Rattle.texting_robots.specs.declared.marks.Standing.{Standing}
+use Rattle.texting_robots.specs.declared.marks.Standing.TheVariants.{Own, Other, Outside}
+use Rattle.robots_audit.specs.Rows.{kind_text, mark_text, right_aligned, row, rows}
 use Rattle.robots_audit.specs.Rows.{space, value_text, word_and_value, word_width}
 use Rattle.robots_audit.specs.Warnings.{agent_warnings, byte_warnings}
 use Rattle.robots_audit.specs.Warnings.{mark_warnings, rule_text, rule_warnings}
@@ -33,7 +38,8 @@ blanks : (n : ℕ) → IsPlain (replicate n space)
 blanks zero = refl
 blanks (suc n) = blanks n
 
-of_four : (a b c d : List ℕ) → IsPlain a → IsPlain b → IsPlain c → IsPlain d → IsPlain (a ++ b ++ c ++ d)
+of_four : (a b c d : List ℕ) → IsPlain a → IsPlain b → IsPlain c → IsPlain d
+    → IsPlain (a ++ b ++ c ++ d)
 of_four a b c d one two three four =
     both (a ++ b ++ c) d (both (a ++ b) c (both a b one two) three) four
 
@@ -84,7 +90,8 @@ in_lines [] are = refl
 in_lines (line ∷ lines) (first, later) =
     both (line ++ lf ∷ []) (ended lines) (both line (lf ∷ []) first refl) (in_lines lines later)
 
-each_both : (one two : List (List ℕ)) → Each IsPlain one → Each IsPlain two → Each IsPlain (one ++ two)
+each_both : (one two : List (List ℕ)) → Each IsPlain one → Each IsPlain two
+    → Each IsPlain (one ++ two)
 each_both [] two are too = too
 each_both (line ∷ one) two (first, later) too = (first, each_both one two later too)
 
@@ -100,17 +107,10 @@ each_flat f are (x ∷ xs) = each_both (f x) (flat_map f xs) (are x) (each_flat 
 
 -- ---- a report
 
-signed : (b : Bool) → IsPlain (sign b)
-signed true = refl
-signed false = refl
-
-marked : (name : List ℕ) (captured : Bool) (line : LineValue) → IsPlain (mark_text name captured line)
-marked name captured (UserAgent value) = signed _
-marked name captured (Allow value) = signed captured
-marked name captured (Disallow value) = signed captured
-marked name captured (CrawlDelay delay) = signed captured
-marked name captured (Sitemap value) = refl
-marked name captured (Raw body) = refl
+marked : (standing : Standing) → IsPlain (mark_text standing)
+marked Own = refl
+marked Other = refl
+marked Outside = refl
 
 one_of : (b : Bool) (x y : List ℕ) → IsPlain x → IsPlain y → IsPlain (cond b x y)
 one_of true x y is other = is
@@ -140,24 +140,23 @@ in_column word (byte ∷ value) is value_is =
     both (word ++ replicate wide space) (byte ∷ value) (both word (replicate wide space) is (blanks wide))
     value_is
 
-row_plain : (width : ℕ) (name : List ℕ) (mark : Mark) → IsPlain (row width name mark)
-row_plain width name mark =
+row_plain : (width : ℕ) (mark : Mark) → IsPlain (row width mark)
+row_plain width mark =
     let digits_of = decimal mark.number in
     let front = right_aligned width digits_of in
-    let sign_of = mark_text name mark.captured mark.line in
+    let sign_of = mark_text mark.standing in
     let aligned : IsPlain front =
     both (replicate (width - length digits_of) space) digits_of (blanks (width - length digits_of))
     (number mark.number) in
     both (front ++ codes " " ++ sign_of ++ codes " ")
     (word_and_value (kind_text mark.line) (value_text mark.line))
-    (of_four front (codes " ") sign_of (codes " ") aligned refl (marked name mark.captured mark.line) refl)
+    (of_four front (codes " ") sign_of (codes " ") aligned refl (marked mark.standing) refl)
     (in_column (kind_text mark.line) (value_text mark.line) (kind mark.line) (value_shown mark.line))
 
 rows_plain : (agent : List ℕ) (lines : List LineValue) → Each IsPlain (rows agent lines)
 rows_plain agent lines =
-    each_mapped (row (length (decimal (length lines))) (group_name agent lines))
-    (row_plain (length (decimal (length lines))) (group_name agent lines))
-    (marks_of (group_name agent lines) lines)
+    let width = length (decimal (length lines)) in
+    each_mapped (row width) (row_plain width) (marks_of (group_name agent lines) lines)
 
 unnamed_plain : (lines : List LineValue) → IsPlain (unnamed_group lines)
 unnamed_plain lines = elim (cases_Bool (is_named (codes "*") lines)) [
@@ -250,7 +249,7 @@ value_plain true n value = elim (cases_Bool (is_utf8 value)) [
 ]
 
 mark_plain : (mark : Mark) → Each IsPlain (mark_warnings mark)
-mark_plain mark = of_line mark.captured mark.number mark.line
+mark_plain mark = of_line (is_own mark.standing) mark.number mark.line
   where
     of_line : (captured : Bool) (n : ℕ) (line : LineValue) → Each IsPlain (rule_warnings captured n line)
     of_line captured n (UserAgent value) = tt

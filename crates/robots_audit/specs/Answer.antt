@@ -19,7 +19,8 @@ use Rattle.robots_audit.specs.Warnings.{warnings}
 -- the usage is written, and nothing is warned of; or writing failed, and a beginning of it is written
 pub record Helps (old new : Option (List ℕ)) (result : Result Outcome Fault) : Type 0 where
   pub ok : IfOk result (λ outcome. Appends old new usage)
-  pub quiet : IfOk result (λ outcome. (outcome.all_allowed ≡ true) × (string_bytes outcome.warnings ≡ []))
+  pub quiet : IfOk result
+      (λ outcome. (outcome.all_allowed ≡ true) × (string_bytes outcome.warnings ≡ []))
   pub fault : IfErr result (λ fault. fault ≡ Write)
   pub beginning : AppendsBeginning old new usage
 
