@@ -2,16 +2,9 @@
 use Rattle.std.specs.Prelude.{ℕ, ◌==◌, nat_eq, Bool, true, false, not, ◌||◌, List, [], ◌∷◌}
 use Rattle.std.specs.Prelude.{◌++◌, bytes_eq, codes, decimal, flat_map, if◌then◌else◌}
 use Rattle.std.specs.List.{list_any, starts_with}
-use Rattle.std.specs.Str.{is_utf8, str_to_ascii_lowercase, trim}
+use Rattle.std.specs.Str.{byte, is_utf8, str_to_ascii_lowercase, trim}
 use Rattle.texting_robots.specs.Callers.{Allow, CrawlDelay, Disallow, LineValue, Mark, Raw}
 use Rattle.texting_robots.specs.Callers.{Sitemap, UserAgent, escaped, group_name, is_own, marks_of}
-use Rattle.robots_audit.specs.Rows.{tab}
-
-abbrev pub slash : ℕ
-slash = 47
-
-abbrev pub star : ℕ
-star = 42
 
 -- the warning, if there is cause for it
 abbrev pub warned : Bool → List ℕ → List (List ℕ)
@@ -29,7 +22,7 @@ space_warnings agent =
 
 abbrev pub slash_warnings : List ℕ → List (List ℕ)
 slash_warnings agent =
-    warned (list_any (λ byte. byte == slash) agent)
+    warned (list_any (λ b. b == byte "/") agent)
     (codes "the agent has a / in it: a name is compared whole, and a version isn't taken off")
 
 abbrev pub agent_warnings : List ℕ → List (List ℕ)
@@ -56,21 +49,21 @@ url_warnings url =
 -- the value begins with a slash or a star
 abbrev pub begins_as_rule : List ℕ → Bool
 begins_as_rule [] = false
-begins_as_rule (byte ∷ value) = byte == slash || byte == star
+begins_as_rule (b ∷ value) = b == byte "/" || b == byte "*"
 
 -- A byte that a URL of a site has otherwise than a rule in which it stands: it is escaped in the one alone,
 -- or taken for `/`, or taken out. These are the tab, `\`, `^`, `{` and `}` in a path, and the tab, `'` and
 -- the backquote in a query.
 abbrev pub is_spelled_otherwise : Bool → ℕ → Bool
-is_spelled_otherwise in_query byte =
-    if in_query then (byte == tab || (byte == 39 || byte == 96))
-    else (byte == tab || (byte == 92 || (byte == 94 || (byte == 123 || byte == 125))))
+is_spelled_otherwise in_query b =
+    if in_query then (b == byte "\t" || (b == byte "'" || b == byte "`"))
+    else (b == byte "\t" || (b == byte "\\" || (b == byte "^" || (b == byte "{" || b == byte "}"))))
 
 -- the value holds such a byte; what follows a `?` is a query
 abbrev pub holds_otherwise : Bool → List ℕ → Bool
 holds_otherwise in_query [] = false
-holds_otherwise in_query (byte ∷ value) =
-    is_spelled_otherwise in_query byte || holds_otherwise (in_query || byte == 63) value
+holds_otherwise in_query (b ∷ value) =
+    is_spelled_otherwise in_query b || holds_otherwise (in_query || b == byte "?") value
 
 -- what is said of the rule in the line with this number
 abbrev pub rule_text : ℕ → List ℕ → List ℕ

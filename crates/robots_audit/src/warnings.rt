@@ -1,11 +1,12 @@
 //! What the program warns of: what silently means something else than it seems.
 ghost use Rattle.std.specs.Prelude.{◌≡◌, ◌++◌, ◌==◌, IfOk, OnOk, false, flat_map, map, string_bytes};
 ghost use Rattle.std.specs.List.{list_any};
+ghost use Rattle.std.specs.Str.{byte};
 ghost use Rattle.texting_robots.specs.Callers.{by_value, file_lines, group_name, marks_of};
 ghost use Rattle.robots_io.specs.Lines.{ended};
 ghost use Rattle.robots_audit.specs.Warnings.{agent_warnings, begins_as_rule, byte_warnings, has_space_around};
 ghost use Rattle.robots_audit.specs.Warnings.{holds_otherwise, is_spelled_otherwise, is_url, is_url_or_path, mark_warnings};
-ghost use Rattle.robots_audit.specs.Warnings.{rule_text, rule_warnings, slash, slash_warnings, space_warnings};
+ghost use Rattle.robots_audit.specs.Warnings.{rule_text, rule_warnings, slash_warnings, space_warnings};
 ghost use Rattle.robots_audit.specs.Warnings.{start_warnings, text_warnings, url_warnings, value_warnings, warned, warnings};
 
 use robots_io::lines::push_line;
@@ -44,7 +45,7 @@ fn warn_of_space(text: &mut String, agent: &str) -> Result<(), AllocError>
 
 /// Whether the bytes have a slash among them.
 fn has_slash(bytes: &[u8]) -> bool
-    ensures { result ≡ list_any (λ byte. byte == slash) bytes.now }
+    ensures { result ≡ list_any (λ b. b == byte "/") bytes.now }
 {
     bytes.iter().any(|byte| *byte == b'/')
 }
