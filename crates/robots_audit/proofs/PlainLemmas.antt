@@ -245,7 +245,7 @@ value_plain false n value = tt
 value_plain true n value = elim (cases_Bool (is_utf8 value)) [
   | inl is ↦ rw is (each_both (start_warnings n value) (byte_warnings n value) (start_plain n value)
       (bytes_plain n value))
-  | inr isnt ↦ rw isnt (rule_plain true n (codes "isn't UTF-8, so it is no rule") refl)
+  | inr isnt ↦ rw isnt (rule_plain true n (codes "isn't UTF-8, so it is left out") refl)
 ]
 
 mark_plain : (mark : Mark) → Each IsPlain (mark_warnings mark)

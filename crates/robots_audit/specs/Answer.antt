@@ -16,7 +16,8 @@ use Rattle.robots_audit.specs.Fault.{usage}
 use Rattle.robots_audit.specs.Report.{AppendsReport, AppendsReportBeginning, MayFail}
 use Rattle.robots_audit.specs.Warnings.{warnings}
 
--- the usage is written, and nothing is warned of; or writing failed, and a beginning of it is written
+-- the usage is written, nothing is warned of, and the status is that of URLs which are all allowed; or
+-- writing failed, and a beginning of the usage is written
 pub record Helps (old new : Option (List ℕ)) (result : Result Outcome Fault) : Type 0 where
   pub ok : IfOk result (λ outcome. Appends old new usage)
   pub quiet : IfOk result

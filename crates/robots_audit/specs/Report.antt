@@ -21,7 +21,7 @@ abbrev pub unnamed_group : List LineValue → List ℕ
 unnamed_group lines =
     if is_named (codes "*") lines then codes "*, as the agent isn't named in the file"
     else (if list_any is_agent lines then codes "none, as neither the agent nor * is named in the file"
-    else codes "none: the file has no user-agent line, so its rules are for every agent")
+    else codes "of every agent, as the file has no user-agent line")
 
 -- the group that the agent gets, and why
 abbrev pub group_line : List ℕ → List LineValue → List ℕ

@@ -1,4 +1,4 @@
--- What the program warns of: what silently means something else than it seems.
+-- What the program warns of: what silently means something other than it seems.
 use Rattle.std.specs.Prelude.{ℕ, ◌==◌, nat_eq, Bool, true, false, not, ◌||◌, List, [], ◌∷◌}
 use Rattle.std.specs.Prelude.{◌++◌, bytes_eq, codes, decimal, flat_map, if◌then◌else◌}
 use Rattle.std.specs.List.{list_any, starts_with}
@@ -51,15 +51,15 @@ abbrev pub begins_as_rule : List ℕ → Bool
 begins_as_rule [] = false
 begins_as_rule (b ∷ value) = b == byte "/" || b == byte "*"
 
--- A byte that a URL of a site has otherwise than a rule in which it stands: it is escaped in the one alone,
--- or taken for `/`, or taken out. These are the tab, `\`, `^`, `{` and `}` in a path, and the tab, `'` and
--- the backquote in a query.
+-- a byte that, inside a rule, a URL of a site has otherwise: escaped in only one of the two, taken for `/`,
+-- or taken out
 abbrev pub is_spelled_otherwise : Bool → ℕ → Bool
 is_spelled_otherwise in_query b =
     if in_query then (b == byte "\t" || (b == byte "'" || b == byte "`"))
     else (b == byte "\t" || (b == byte "\\" || (b == byte "^" || (b == byte "{" || b == byte "}"))))
 
--- the value holds such a byte; what follows a `?` is a query
+-- the value holds such a byte; what follows a `?` is a query, and that a star may reach into one isn't
+-- looked at
 abbrev pub holds_otherwise : Bool → List ℕ → Bool
 holds_otherwise in_query [] = false
 holds_otherwise in_query (b ∷ value) =
@@ -86,7 +86,7 @@ text_warnings number value = start_warnings number value ++ byte_warnings number
 abbrev pub value_warnings : ℕ → List ℕ → List (List ℕ)
 value_warnings number value =
     if is_utf8 value then text_warnings number value
-    else warned true (rule_text number (codes "isn't UTF-8, so it is no rule"))
+    else warned true (rule_text number (codes "isn't UTF-8, so it is left out"))
 
 -- of a line: only a captured Allow or Disallow is warned of
 abbrev pub rule_warnings : Bool → ℕ → LineValue → List (List ℕ)

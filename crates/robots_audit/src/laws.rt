@@ -13,7 +13,7 @@ pub fn each_file_has_one_report()
         → (text ≡ other) × (answer ≡ another) }
 {}
 
-/// A file has a report for an agent, if it isn't refused for it, and URLs.
+/// A file has a report for all URLs and every agent for which it isn't refused.
 pub fn each_file_has_a_report()
     ensures { (agent : List ℕ) (urls : List (List ℕ)) (file : List ℕ) → ¬ IsRefused agent (lines_read file)
         → (text : List ℕ) × (answer : Bool) × IsReport agent urls file text answer }

@@ -66,7 +66,7 @@ fn unnamed_group(file: &[u8]) -> &'static str
     } else if has_agent_line(file) {
         "none, as neither the agent nor * is named in the file"
     } else {
-        "none: the file has no user-agent line, so its rules are for every agent"
+        "of every agent, as the file has no user-agent line"
     }
 }
 

@@ -67,14 +67,14 @@ fn reports(rt: HostRuntime) -> Result<(), Fail> {
             "",
             b"",
             "",
-            "group none: the file has no user-agent line, so its rules are for every agent\ndelay none\n",
+            "group of every agent, as the file has no user-agent line\ndelay none\n",
             true,
         ),
         (
             "no agent line",
             "/a",
             b"Disallow: /a",
-            "1 + disallow    /a\ngroup none: the file has no user-agent line, so its rules are for every agent\ndelay none\n",
+            "1 + disallow    /a\ngroup of every agent, as the file has no user-agent line\ndelay none\n",
             "deny 1 /a\n",
             false,
         ),
@@ -182,9 +182,9 @@ fn only_the_first_bytes_count(rt: HostRuntime) -> Result<(), Fail> {
         let outcome = run(rt.alloc(), "Ferris", &urls, &mut file.as_slice(), &mut sink);
         assert_eq!(rt; outcome, Ok(quiet(rt.alloc(), is_noted)));
         let end: &[u8] = if is_noted {
-            b"#\ngroup none: the file has no user-agent line, so its rules are for every agent\ndelay none\nnote: only the file's first 512000 bytes count\nallow - /a\n"
+            b"#\ngroup of every agent, as the file has no user-agent line\ndelay none\nnote: only the file's first 512000 bytes count\nallow - /a\n"
         } else {
-            b"#\n2 + disallow    /a\ngroup none: the file has no user-agent line, so its rules are for every agent\ndelay none\ndeny 2 /a\n"
+            b"#\n2 + disallow    /a\ngroup of every agent, as the file has no user-agent line\ndelay none\ndeny 2 /a\n"
         };
         assert!(rt; sink.held.as_slice().ends_with(end));
     }
@@ -279,7 +279,7 @@ fn warnings(rt: HostRuntime) -> Result<(), Fail> {
             "Ferris",
             "/",
             b"\nAllow: a^\xFF\nDisallow: \xC3\xA9",
-            "robots_audit: warning: the rule in line 2 isn't UTF-8, so it is no rule\nrobots_audit: warning: the rule in line 3 begins with neither / nor *\n",
+            "robots_audit: warning: the rule in line 2 isn't UTF-8, so it is left out\nrobots_audit: warning: the rule in line 3 begins with neither / nor *\n",
         ),
         (
             "Ferris",
@@ -395,7 +395,7 @@ fn answers(rt: HostRuntime) -> Result<(), Fail> {
         (
             "Ferris\n/a",
             Ok(false),
-            "1 + disallow    /a\ngroup none: the file has no user-agent line, so its rules are for every agent\ndelay none\ndeny 1 /a\n",
+            "1 + disallow    /a\ngroup of every agent, as the file has no user-agent line\ndelay none\ndeny 1 /a\n",
         ),
     ];
     for (words, ending, written) in rows {

@@ -1,4 +1,4 @@
-//! What the program warns of: what silently means something else than it seems.
+//! What the program warns of: what silently means something other than it seems.
 ghost use Rattle.std.specs.Prelude.{◌≡◌, ◌++◌, ◌==◌, IfOk, OnOk, false, flat_map, map, string_bytes};
 ghost use Rattle.std.specs.List.{list_any};
 ghost use Rattle.std.specs.Str.{byte};
@@ -211,7 +211,7 @@ fn warn_of_value(
 {
     match std::str::from_utf8(value) {
         Ok(_) => warn_of_text(alloc, text, number, value),
-        Err(_) => warn_of_rule(alloc, text, number, true, "isn't UTF-8, so it is no rule"),
+        Err(_) => warn_of_rule(alloc, text, number, true, "isn't UTF-8, so it is left out"),
     }
 }
 

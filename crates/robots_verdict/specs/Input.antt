@@ -17,7 +17,7 @@ pub record BeginsWithLine (input text rest : List ℕ) : Type 0 where
   pub one : IsOneLine line
   pub text_of : text ≡ strip_last cr line
 
--- the input is a line for each URL, none of them empty, a line with an empty text, and the file
+-- the input is a line for each URL, none with an empty text, then a line with an empty text, and the file
 abbrev pub AreUrlLines : List ℕ → List (List ℕ) → List ℕ → Type 0
 AreUrlLines input [] file = BeginsWithLine input [] file
 AreUrlLines input (url ∷ urls) file =

@@ -1,4 +1,5 @@
--- The borders of three pieces, of which a table keeps all but the last, to see what the definition comes to.
+-- The longest borders of all beginnings of three pieces, to see what the definition comes to. The whole piece
+-- is among them, which a table leaves out.
 use Rattle.std.proofs.Common.{◌≡◌, ℕ, zero, suc, ◌+◌, ◌-◌, ◌<◌, nat_lt, ◌==◌, Bool}
 use Rattle.std.proofs.Common.{true, not, ◌&&◌, ◌||◌, inl, inr, List, [], ◌∷◌, length}
 use Rattle.std.proofs.Common.{codes, refl, arith}

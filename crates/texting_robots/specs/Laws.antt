@@ -8,7 +8,7 @@ use Rattle.texting_robots.specs.{Cut.cr, Cut.lf, Escape.escaped, Group.IsCapture
 use Rattle.texting_robots.specs.{Line.Allow, Line.Disallow, Line.LineValue, Trim.IsTrimOf, Verdict.IsVerdict}
 use Rattle.texting_robots.specs.Rfc9309 as rfc
 
--- LF in place of each CR LF: the text without each CR that LF follows
+-- LF in place of each CR LF: the text without each CR that LF follows (`slice_index` is 0 past the end)
 abbrev pub feeds_alone : List ℕ → List ℕ
 feeds_alone [] = []
 feeds_alone (b ∷ text) =

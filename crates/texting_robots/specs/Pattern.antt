@@ -39,6 +39,7 @@ abbrev pub MatchesStars : List ℕ → List ℕ → Type 0
 MatchesStars pattern text = MatchesWith false pattern text
 
 -- the pattern with one star in place of each run of stars: without each star that another one follows
+-- (`slice_index` is 0 past the end)
 unfoldable pub collapsed : List ℕ → List ℕ
 collapsed [] = []
 collapsed (b ∷ q) = if (b == star) && (slice_index q 0 == star) then collapsed q else b ∷ collapsed q

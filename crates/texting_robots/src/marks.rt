@@ -14,12 +14,14 @@ use std::marker::Model;
 /// Where a line of a file stands to an agent.
 #[derive(Clone, Copy, PartialEq, Eq, Debug)]
 pub enum Standing {
-    /// A rule or a delay that the agent gets, or a user-agent line that leads to such lines.
+    /// In the agent's group: a rule or a delay that is captured, or a user-agent line of a run in which one has the group's
+    /// name, even where no rule follows.
     Own,
-    /// A rule or a delay of another agent, or a user-agent line that leads to such lines.
+    /// In another group: any other rule or delay behind a user-agent line, or a user-agent line of any other run.
     Other,
-    /// A line in no group: one that is neither a user-agent line nor a rule nor a delay, or a rule or a delay before the first
-    /// user-agent line. In a file with no user-agent line every rule and every delay is `Own`.
+    /// In no group: a line that is neither a user-agent line nor a rule nor a delay, or a rule or a delay before the first
+    /// user-agent line. Such a delay may still be the one that the agent gets. In a file with no user-agent line every rule and
+    /// every delay is `Own`.
     Outside,
 }
 
