@@ -10,7 +10,7 @@ use std::fmt;
 pub const USAGE: &str = "usage: robots_audit AGENT [URL..] < robots.txt\n";
 
 /// What a run that wrote its report found.
-#[derive(Debug, PartialEq, Eq, Drop)]
+#[derive(Drop)]
 pub struct Outcome {
     /// Whether the agent may fetch every URL that was asked for.
     pub all_allowed: bool,
@@ -19,7 +19,7 @@ pub struct Outcome {
 }
 
 /// Why the program stopped.
-#[derive(Debug, PartialEq, Eq, Drop)]
+#[derive(Drop)]
 pub enum Fault {
     /// No agent was given.
     Usage,

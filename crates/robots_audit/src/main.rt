@@ -15,8 +15,6 @@ mod overlong;
 mod program;
 mod report;
 mod rows;
-#[cfg(test)]
-mod tests;
 mod warnings;
 
 use fault::{Fault, Outcome, Said, status_after};
