@@ -4,7 +4,9 @@ use crate::fault::Fault;
 use crate::program::run;
 use robots_io::fakes::{Sink, Source};
 use std::alloc::{AllocError, Global};
-use std::test::Fail;
+use std::fmt::Display;
+use std::io::Read;
+use std::process::Abort;
 
 const INPUT: &[u8] =
     b"FerrisCrawler\nhttps://www.rust-lang.org/ocean\n/ocean\n/ocean/reef.html\n/rust\n/forest/tree/snake.py\n\nUser-Agent: FerrisCrawler\nAllow: /ocean\nDisallow: /rust\nDisallow: /forest*.py\nCrawl-Delay: 10\nUser-Agent: *\nDisallow: /\nSitemap: https://www.example.com/site.xml\n";
@@ -15,281 +17,385 @@ const OUTPUT: &[u8] =
 /// What all pieces fit into.
 const WHOLE: usize = 65_536;
 
-/// A header, and a file whose one rule is too long.
-fn before_overlong(alloc: Global, header: &[u8]) -> Result<Vec<u8>, AllocError> {
-    let mut input = Vec::new(alloc);
-    input.extend_from_slice(header)?;
-    input.extend_from_slice(b"Disallow: /")?;
-    for _ in 0..4_095 {
-        input.push(b'a')?;
-    }
-    input.push(b'$')?;
-    Ok(input)
+/// Inputs, and what is answered and written.
+const INPUTS: &[(&str, &[u8], Result<(), Fault>, &[u8])] = &[
+    ("crawler example", INPUT, Ok(()), OUTPUT),
+    (
+        "the robots file",
+        b"B\n/robots.txt\n/x\n\nDisallow: /",
+        Ok(()),
+        b"delay none\nallow - /robots.txt\ndeny 1 /x\n",
+    ),
+    (
+        "all lines are counted",
+        b"B\n/x\n\n\0\r\n# nothing\nDisallow: /",
+        Ok(()),
+        b"delay none\ndeny 4 /x\n",
+    ),
+    (
+        "two rules",
+        b"Ferris\n/secret\n/everything-else\n\nDisallow: /secret",
+        Ok(()),
+        b"delay none\ndeny 1 /secret\nallow - /everything-else\n",
+    ),
+    (
+        "line ends with CR",
+        b"BobBot\r\n/a\r\n\r\nDisallow: /a",
+        Ok(()),
+        b"delay none\ndeny 1 /a\n",
+    ),
+    ("empty agent, no URL", b"\n\n", Ok(()), b"delay none\n"),
+    (
+        "empty agent and a URL",
+        b"\n/x\n\nUser-Agent:\nDisallow: /",
+        Ok(()),
+        b"delay none\ndeny 2 /x\n",
+    ),
+    (
+        "empty sitemap",
+        b"B\n\nSitemap:",
+        Ok(()),
+        b"delay none\nsitemap \n",
+    ),
+    ("one CR of two", b"B\r\r\n\n", Ok(()), b"delay none\n"),
+    (
+        "the other CR stays",
+        b"B\r\r\n/x\n\nUser-Agent: B\nDisallow: /",
+        Ok(()),
+        b"delay none\nallow - /x\n",
+    ),
+    ("nothing", b"", Err(Fault::NoEmptyLine), b""),
+    (
+        "no empty line",
+        b"BobBot\n/a\n",
+        Err(Fault::NoEmptyLine),
+        b"",
+    ),
+    (
+        "a CR that isn't ended",
+        b"B\n/a\n\r",
+        Err(Fault::NoEmptyLine),
+        b"",
+    ),
+    ("one line", b"\xFF\n", Err(Fault::NoEmptyLine), b""),
+    (
+        "no empty line and no text",
+        b"B\n\xFF\n",
+        Err(Fault::NoEmptyLine),
+        b"",
+    ),
+    ("agent", b"\xFF\n\n", Err(Fault::HeaderNotUtf8), b""),
+];
+
+/// An input by its parts, each with how often it stands, and what is answered and written.
+struct LongCase {
+    name: &'static str,
+    parts: &'static [(&'static [u8], usize)],
+    answer: Result<(), Fault>,
+    output: &'static [u8],
 }
 
-#[test]
-fn reports(rt: HostRuntime) -> Result<(), Fail> {
-    let rows: [(&str, &[u8], &[u8]); 10] = [
-        ("crawler example", INPUT, OUTPUT),
-        (
-            "the robots file",
-            b"B\n/robots.txt\n/x\n\nDisallow: /",
-            b"delay none\nallow - /robots.txt\ndeny 1 /x\n",
-        ),
-        (
-            "all lines are counted",
-            b"B\n/x\n\n\0\r\n# nothing\nDisallow: /",
-            b"delay none\ndeny 4 /x\n",
-        ),
-        (
-            "two rules",
-            b"Ferris\n/secret\n/everything-else\n\nDisallow: /secret",
-            b"delay none\ndeny 1 /secret\nallow - /everything-else\n",
-        ),
-        (
-            "line ends with CR",
-            b"BobBot\r\n/a\r\n\r\nDisallow: /a",
-            b"delay none\ndeny 1 /a\n",
-        ),
-        ("empty agent, no URL", b"\n\n", b"delay none\n"),
-        (
-            "empty agent and a URL",
-            b"\n/x\n\nUser-Agent:\nDisallow: /",
-            b"delay none\ndeny 2 /x\n",
-        ),
-        ("empty sitemap", b"B\n\nSitemap:", b"delay none\nsitemap \n"),
-        ("one CR of two", b"B\r\r\n\n", b"delay none\n"),
-        (
-            "the other CR stays",
-            b"B\r\r\n/x\n\nUser-Agent: B\nDisallow: /",
-            b"delay none\nallow - /x\n",
-        ),
-    ];
-    for (name, input, output) in rows {
-        let mut reader = input;
-        let mut sink = Sink::new(rt.alloc(), WHOLE);
-        assert_eq!(rt; run(rt.alloc(), &mut reader, &mut sink), Ok(()), "{name}");
-        assert_eq!(rt; sink.held.as_slice(), output, "{name}");
-    }
-    Ok(())
+/// Files with a rule that is too long.
+const OVERLONG: &[LongCase] = &[
+    LongCase {
+        name: "URL, and an overlong rule",
+        parts: &[(b"B\n\xFF\n\nDisallow: /", 1), (b"a", 4_095), (b"$", 1)],
+        answer: Err(Fault::HeaderNotUtf8),
+        output: b"",
+    },
+    LongCase {
+        name: "overlong rule",
+        parts: &[(b"B\n\nDisallow: /", 1), (b"a", 4_095), (b"$", 1)],
+        answer: Err(Fault::InvalidRule),
+        output: b"",
+    },
+    LongCase {
+        name: "overlong rule before the limit",
+        parts: &[
+            (b"B\n\n", 1),
+            (b"#", 500_000),
+            (b"\nDisallow: /", 1),
+            (b"a", 4_095),
+            (b"$", 1),
+        ],
+        answer: Err(Fault::InvalidRule),
+        output: b"",
+    },
+    LongCase {
+        name: "overlong rule past the limit",
+        parts: &[
+            (b"B\n\n", 1),
+            (b"#", 511_999),
+            (b"\nDisallow: /", 1),
+            (b"a", 4_095),
+            (b"$", 1),
+        ],
+        answer: Ok(()),
+        output: b"delay none\n",
+    },
+];
+
+/// So many LF that are read one by one, perhaps over and over, and what is answered and written.
+struct ReadCase {
+    name: &'static str,
+    feeds: usize,
+    endless: bool,
+    answer: Result<(), Fault>,
+    output: &'static [u8],
 }
 
-/// An input with an empty header whose file is so many bytes of a comment, LF, and then this line.
-fn behind_comment(alloc: Global, bytes: usize, line: &[u8]) -> Result<Vec<u8>, AllocError> {
-    let mut input = Vec::new(alloc);
-    input.extend_from_slice(b"B\n\n")?;
-    for _ in 0..bytes {
-        input.push(b'#')?;
-    }
-    input.push(b'\n')?;
-    input.extend_from_slice(line)?;
-    Ok(input)
+/// Inputs that take all of the reads that are made.
+const MOST_READS: &[ReadCase] = &[
+    ReadCase {
+        name: "the last read is the end",
+        feeds: 1_048_575,
+        endless: false,
+        answer: Ok(()),
+        output: b"delay none\n",
+    },
+    ReadCase {
+        name: "one byte more",
+        feeds: 1_048_576,
+        endless: false,
+        answer: Err(Fault::Read),
+        output: b"",
+    },
+    ReadCase {
+        name: "without an end",
+        feeds: 1,
+        endless: true,
+        answer: Err(Fault::Read),
+        output: b"",
+    },
+];
+
+/// Answers of a run, and what the process ends with.
+const ENDINGS: &[(Result<(), Fault>, Ending)] = &[
+    (
+        Ok(()),
+        Ending {
+            status: 0,
+            text: None,
+        },
+    ),
+    (
+        Err(Fault::Read),
+        Ending {
+            status: 1,
+            text: Some("robots_verdict: reading the input failed"),
+        },
+    ),
+    (
+        Err(Fault::Write),
+        Ending {
+            status: 1,
+            text: Some("robots_verdict: writing the output failed"),
+        },
+    ),
+    (
+        Err(Fault::NoEmptyLine),
+        Ending {
+            status: 2,
+            text: Some("robots_verdict: no empty line after the URLs"),
+        },
+    ),
+    (
+        Err(Fault::HeaderNotUtf8),
+        Ending {
+            status: 2,
+            text: Some("robots_verdict: a header line isn't UTF-8"),
+        },
+    ),
+    (
+        Err(Fault::InvalidRule),
+        Ending {
+            status: 3,
+            text: Some("robots_verdict: a captured rule with $ is too long"),
+        },
+    ),
+    (
+        Err(Fault::Memory),
+        Ending {
+            status: 4,
+            text: Some("robots_verdict: out of memory"),
+        },
+    ),
+];
+
+/// The answer of a run is the one that is wanted.
+fn check_answer(
+    rt: &impl Abort,
+    name: &impl Display,
+    answer: &Result<(), Fault>,
+    want: &Result<(), Fault>,
+) {
+    assert!(rt; answer == want, "{name}: {answer:?}");
 }
 
-#[test]
-fn bytes_past_the_limit_count_for_nothing(rt: HostRuntime) -> Result<(), Fail> {
-    let overlong = before_overlong(rt.alloc(), b"")?;
-    let inside = behind_comment(rt.alloc(), 500_000, &overlong)?;
+/// The sink took this text and no more.
+fn check_written(rt: &impl Abort, name: &impl Display, sink: &Sink, output: &[u8]) {
+    let written = sink.held.as_slice();
+    assert!(rt; written == output, "{name}: {}", written.escape_ascii());
+}
+
+/// Runs the program, and looks at what it answers and at all that it has written.
+fn check_run<R: Read>(
+    rt: &(impl Abort + AllocGlobal),
+    name: &impl Display,
+    reader: &mut R,
+    sink: &mut Sink,
+    want: &Result<(), Fault>,
+    output: &[u8],
+) {
+    let answer = run(rt.alloc(), reader, sink);
+    check_answer(rt, name, &answer, want);
+    check_written(rt, name, sink, output);
+}
+
+/// The same with a sink that takes all of the output at once.
+fn check_reader<R: Read>(
+    rt: &(impl Abort + AllocGlobal),
+    name: &impl Display,
+    reader: &mut R,
+    want: &Result<(), Fault>,
+    output: &[u8],
+) {
     let mut sink = Sink::new(rt.alloc(), WHOLE);
-    let fault = run(rt.alloc(), &mut inside.as_slice(), &mut sink);
-    assert_eq!(rt; fault, Err(Fault::InvalidRule));
-    let past = behind_comment(rt.alloc(), 511_999, &overlong)?;
-    let mut sink = Sink::new(rt.alloc(), WHOLE);
-    assert_eq!(rt; run(rt.alloc(), &mut past.as_slice(), &mut sink), Ok(()));
-    assert_eq!(rt; sink.held.as_slice(), b"delay none\n".as_slice());
-    Ok(())
+    check_run(rt, name, reader, &mut sink, want, output);
+}
+
+/// The same with the example, and a sink that fails.
+fn check_sink(
+    rt: &(impl Abort + AllocGlobal),
+    name: &impl Display,
+    sink: &mut Sink,
+    output: &[u8],
+) {
+    let mut source = Source::new(INPUT, WHOLE);
+    check_run(rt, name, &mut source, sink, &Err(Fault::Write), output);
 }
 
 #[test]
-fn faults_of_inputs(rt: HostRuntime) -> Result<(), Fail> {
-    let not_utf8 = before_overlong(rt.alloc(), b"B\n\xFF\n\n")?;
-    let invalid = before_overlong(rt.alloc(), b"B\n\n")?;
-    let rows: [(&str, &[u8], Fault); 8] = [
-        ("nothing", b"", Fault::NoEmptyLine),
-        ("no empty line", b"BobBot\n/a\n", Fault::NoEmptyLine),
-        ("a CR that isn't ended", b"B\n/a\n\r", Fault::NoEmptyLine),
-        ("one line", b"\xFF\n", Fault::NoEmptyLine),
-        (
-            "no empty line and no text",
-            b"B\n\xFF\n",
-            Fault::NoEmptyLine,
-        ),
-        ("agent", b"\xFF\n\n", Fault::HeaderNotUtf8),
-        (
-            "URL, and an overlong rule",
-            not_utf8.as_slice(),
-            Fault::HeaderNotUtf8,
-        ),
-        ("overlong rule", invalid.as_slice(), Fault::InvalidRule),
-    ];
-    for (name, input, fault) in rows {
-        let mut reader = input;
-        let mut sink = Sink::new(rt.alloc(), WHOLE);
-        assert_eq!(rt;
-            run(rt.alloc(), &mut reader, &mut sink),
-            Err(fault),
-            "{name}"
-        );
-        assert!(rt; sink.held.is_empty(), "{name}");
+fn inputs(rt: HostRuntime) {
+    for (name, input, want, output) in INPUTS {
+        let mut reader = *input;
+        check_reader(&rt, name, &mut reader, want, output);
     }
-    Ok(())
+}
+
+/// Each part as often as its number says, one after the other.
+fn long_bytes(alloc: Global, parts: &[(&[u8], usize)]) -> Result<Vec<u8>, AllocError> {
+    let mut bytes = Vec::new(alloc);
+    for (part, count) in parts {
+        bytes.extend_from_slice(&part.repeat(alloc, *count)?)?;
+    }
+    Ok(bytes)
+}
+
+#[test]
+fn overlong_rules(rt: HostRuntime) {
+    for case in OVERLONG {
+        let input = long_bytes(rt.alloc(), case.parts).expect(&rt, case.name);
+        let mut reader = input.as_slice();
+        check_reader(&rt, &case.name, &mut reader, &case.answer, case.output);
+    }
+}
+
+/// What the process ends with by what the fault says of itself.
+fn ending_by(fault: &Fault) -> Ending {
+    Ending {
+        status: fault.status(),
+        text: Some(fault.text()),
+    }
+}
+
+/// The answer has this ending.
+fn check_ending(rt: &impl Abort, answer: &Result<(), Fault>, ending: &Ending, want: &Ending) {
+    assert!(rt; ending == want, "{answer:?}: {ending:?}");
 }
 
 #[test]
 fn endings(rt: HostRuntime) {
-    let rows = [
-        (Fault::Read, 1, "robots_verdict: reading the input failed"),
-        (Fault::Write, 1, "robots_verdict: writing the output failed"),
-        (
-            Fault::NoEmptyLine,
-            2,
-            "robots_verdict: no empty line after the URLs",
-        ),
-        (
-            Fault::HeaderNotUtf8,
-            2,
-            "robots_verdict: a header line isn't UTF-8",
-        ),
-        (
-            Fault::InvalidRule,
-            3,
-            "robots_verdict: a captured rule with $ is too long",
-        ),
-        (Fault::Memory, 4, "robots_verdict: out of memory"),
-    ];
-    for (fault, status, text) in rows {
-        assert_eq!(rt; fault.status(), status, "{text}");
-        assert_eq!(rt; fault.text(), text);
-        let ending = Ending {
-            status,
-            text: Some(text),
-        };
-        assert_eq!(rt; ending_of(&Err(fault)), ending);
+    for (answer, want) in ENDINGS {
+        check_ending(&rt, answer, &ending_of(answer), want);
+        if let Err(fault) = answer {
+            check_ending(&rt, answer, &ending_by(fault), want);
+        }
     }
-    let ending = Ending {
-        status: 0,
-        text: None,
-    };
-    assert_eq!(rt; ending_of(&Ok(())), ending);
 }
 
-#[test]
-fn reads_byte_by_byte(rt: HostRuntime) -> Result<(), Fail> {
+/// The example byte by byte, where the read with this number fails.
+fn check_failing_read(rt: &(impl Abort + AllocGlobal), call: u32) {
     let mut source = Source::new(INPUT, 1);
-    let mut sink = Sink::new(rt.alloc(), WHOLE);
-    assert_eq!(rt; run(rt.alloc(), &mut source, &mut sink), Ok(()));
-    assert_eq!(rt; sink.held.as_slice(), OUTPUT);
+    source.good_calls = Some(call);
+    check_reader(rt, &call, &mut source, &Err(Fault::Read), b"");
+}
+
+#[test]
+fn reads_byte_by_byte(rt: HostRuntime) {
+    let mut source = Source::new(INPUT, 1);
+    check_reader(&rt, &"byte by byte", &mut source, &Ok(()), OUTPUT);
     for call in 0..source.calls {
-        let mut failing = Source::new(INPUT, 1);
-        failing.good_calls = Some(call);
-        let mut empty = Sink::new(rt.alloc(), WHOLE);
-        assert_eq!(rt;
-            run(rt.alloc(), &mut failing, &mut empty),
-            Err(Fault::Read),
-            "call {call}"
-        );
-        assert!(rt; empty.held.is_empty(), "call {call}");
+        check_failing_read(&rt, call);
     }
-    Ok(())
 }
 
-/// So many LF.
-fn feeds(alloc: Global, count: usize) -> Result<Vec<u8>, AllocError> {
-    vec![in alloc; b'\n'; count]
+/// All of the reads were made, and none of them of more than one piece.
+fn check_reads(rt: &impl Abort, name: &impl Display, source: &Source) {
+    let (calls, asked) = (source.calls, source.most_asked);
+    let is_right = calls == 1_048_576 && asked <= 65_536;
+    assert!(rt; is_right, "{name}: {calls} reads, of {asked} bytes at most");
+}
+
+/// Reads the case's text byte by byte.
+fn check_read_case(rt: &(impl Abort + AllocGlobal), case: &ReadCase) {
+    let text = b"\n".repeat(rt.alloc(), case.feeds).expect(rt, case.name);
+    let mut source = Source::new(&text, 1);
+    source.endless = case.endless;
+    check_reader(rt, &case.name, &mut source, &case.answer, case.output);
+    check_reads(rt, &case.name, &source);
 }
 
 #[test]
-fn most_reads(rt: HostRuntime) -> Result<(), Fail> {
-    let most = feeds(rt.alloc(), 1_048_575)?;
-    let one_more = feeds(rt.alloc(), 1_048_576)?;
-    let rows: [(&str, &[u8], bool, Result<(), Fault>, &[u8], u32); 3] = [
-        (
-            "the last read is the end",
-            most.as_slice(),
-            false,
-            Ok(()),
-            b"delay none\n",
-            1_048_576,
-        ),
-        (
-            "one byte more",
-            one_more.as_slice(),
-            false,
-            Err(Fault::Read),
-            b"",
-            1_048_576,
-        ),
-        (
-            "without an end",
-            b"\n",
-            true,
-            Err(Fault::Read),
-            b"",
-            1_048_576,
-        ),
-    ];
-    for (name, text, endless, result, output, calls) in rows {
-        let mut source = Source::new(text, 1);
-        source.endless = endless;
-        let mut sink = Sink::new(rt.alloc(), WHOLE);
-        assert_eq!(rt; run(rt.alloc(), &mut source, &mut sink), result, "{name}");
-        assert_eq!(rt; sink.held.as_slice(), output, "{name}");
-        assert_eq!(rt; source.calls, calls, "{name}");
-        assert!(rt; source.most_asked <= 65_536, "{name}");
+fn most_reads(rt: HostRuntime) {
+    for case in MOST_READS {
+        check_read_case(&rt, case);
     }
-    Ok(())
 }
 
-#[test]
-fn writes_byte_by_byte(rt: HostRuntime) -> Result<(), Fail> {
+/// The example, where the write with this number fails, and each one before took a byte.
+fn check_failing_write(rt: &(impl Abort + AllocGlobal), call: u32) {
+    let output = OUTPUT.get(..call as usize).expect(rt, "too many writes");
     let mut sink = Sink::new(rt.alloc(), 1);
-    assert_eq!(rt;
-        run(rt.alloc(), &mut Source::new(INPUT, WHOLE), &mut sink),
-        Ok(())
+    sink.good_calls = Some(call);
+    check_sink(rt, &call, &mut sink, output);
+}
+
+#[test]
+fn writes_byte_by_byte(rt: HostRuntime) {
+    let mut source = Source::new(INPUT, WHOLE);
+    let mut sink = Sink::new(rt.alloc(), 1);
+    check_run(
+        &rt,
+        &"byte by byte",
+        &mut source,
+        &mut sink,
+        &Ok(()),
+        OUTPUT,
     );
-    assert_eq!(rt; sink.held.as_slice(), OUTPUT);
     for call in 0..sink.calls {
-        let mut failing = Sink::new(rt.alloc(), 1);
-        failing.good_calls = Some(call);
-        assert_eq!(rt;
-            run(rt.alloc(), &mut Source::new(INPUT, WHOLE), &mut failing),
-            Err(Fault::Write),
-            "call {call}"
-        );
-        let written = usize::try_from(call)?;
-        assert_eq!(rt;
-            OUTPUT.get(..written),
-            Some(failing.held.as_slice()),
-            "call {call}"
-        );
+        check_failing_write(&rt, call);
     }
-    Ok(())
 }
 
 #[test]
 fn writes_that_fail(rt: HostRuntime) {
     let mut taking_nothing = Sink::new(rt.alloc(), 0);
-    assert_eq!(rt;
-        run(
-            rt.alloc(),
-            &mut Source::new(INPUT, WHOLE),
-            &mut taking_nothing
-        ),
-        Err(Fault::Write)
-    );
-    assert!(rt; taking_nothing.held.is_empty());
-    assert_eq!(rt; taking_nothing.calls, 1);
+    check_sink(&rt, &"taking nothing", &mut taking_nothing, b"");
+    assert!(rt; taking_nothing.calls == 1);
     let mut not_flushing = Sink::new(rt.alloc(), WHOLE);
     not_flushing.flush_fails = true;
-    assert_eq!(rt;
-        run(
-            rt.alloc(),
-            &mut Source::new(INPUT, WHOLE),
-            &mut not_flushing
-        ),
-        Err(Fault::Write)
-    );
-    assert_eq!(rt; not_flushing.held.as_slice(), OUTPUT);
+    check_sink(&rt, &"not flushing", &mut not_flushing, OUTPUT);
 }
 
 /// The text with this number out of `/`, `a`, `*` and `$`: the empty one is 0, and shorter ones come first.
@@ -312,44 +418,63 @@ fn small_text(alloc: Global, number: u32) -> Result<String, AllocError> {
     Ok(text)
 }
 
-#[test]
-fn small_inputs(rt: HostRuntime) -> Result<(), Fail> {
-    // all texts of at most six bytes
-    for number in 0..5_461 {
-        let text = small_text(rt.alloc(), number)?;
-        let input = format!(in rt.alloc(); "B\n/{text}\n\nAllow: {text}")?;
-        let by_rule = format!(in rt.alloc(); "delay none\nallow 1 /{text}\n")?;
-        let by_none = format!(in rt.alloc(); "delay none\nallow - /{text}\n")?;
-        let mut reader = input.as_bytes();
-        let mut sink = Sink::new(rt.alloc(), WHOLE);
-        assert_eq!(rt; run(rt.alloc(), &mut reader, &mut sink), Ok(()), "{text}");
-        let written = sink.held.as_slice();
-        assert!(rt;
-            written == by_rule.as_bytes() || written == by_none.as_bytes(),
-            "{text}"
-        );
-    }
-    Ok(())
+/// What is written for the text behind a `/` as the one URL, and the text as the one rule.
+fn small_sink(rt: &(impl Abort + AllocGlobal), text: &str) -> Sink {
+    let input = format!(in rt.alloc(); "B\n/{text}\n\nAllow: {text}").expect(rt, text);
+    let mut sink = Sink::new(rt.alloc(), WHOLE);
+    let answer = run(rt.alloc(), &mut input.as_bytes(), &mut sink);
+    check_answer(rt, &text, &answer, &Ok(()));
+    sink
+}
+
+/// The rule allows the URL, or says nothing of it.
+fn check_small(rt: &(impl Abort + AllocGlobal), text: &str) {
+    let sink = small_sink(rt, text);
+    let line = if sink.held.contains(&b'1') { '1' } else { '-' };
+    let output = format!(in rt.alloc(); "delay none\nallow {line} /{text}\n").expect(rt, text);
+    check_written(rt, &text, &sink, output.as_bytes());
 }
 
 #[test]
-fn many_urls(rt: HostRuntime) -> Result<(), Fail> {
-    let mut input = String::from_str(rt.alloc(), "BobBot\n")?;
-    let mut output = String::from_str(rt.alloc(), "delay none\n")?;
-    for number in 0..10_000 {
-        let url = format!(in rt.alloc(); "https://www.example.com/archive/page-number-{number}")?;
-        for (folder, word) in [("/open", "allow -"), ("/closed", "deny 1")] {
-            input.push_str(&format!(in rt.alloc(); "{url}{folder}\n")?)?;
-            output.push_str(&format!(in rt.alloc(); "{word} {url}{folder}\n")?)?;
-        }
+fn small_inputs(rt: HostRuntime) {
+    // all texts of at most six bytes
+    for number in 0..5_461 {
+        let text = small_text(rt.alloc(), number).expect(&rt, "a small text");
+        check_small(&rt, text.as_str());
     }
-    input.push_str("\nDisallow: /archive/*/closed\n")?;
+}
+
+const PAGE: &str = "https://www.example.com/archive/page-number-";
+
+/// The lines of a page's two URLs, each behind one of the words.
+fn page(alloc: Global, number: u32, open: &str, closed: &str) -> Result<String, AllocError> {
+    format!(in alloc; "{open}{PAGE}{number}/open\n{closed}{PAGE}{number}/closed\n")
+}
+
+/// A beginning, and the lines of 10,000 pages.
+fn pages(alloc: Global, front: &str, open: &str, closed: &str) -> Result<String, AllocError> {
+    let mut text = String::from_str(alloc, front)?;
+    for number in 0..10_000 {
+        text.push_str(&page(alloc, number, open, closed)?)?;
+    }
+    Ok(text)
+}
+
+/// The input takes several reads, and its output is long.
+fn check_many(rt: &(impl Abort + AllocGlobal), input: &[u8], output: &[u8]) {
     assert!(rt; output.len() > 1_048_576);
-    let mut source = Source::new(input.as_bytes(), WHOLE);
-    let mut sink = Sink::new(rt.alloc(), WHOLE);
-    assert_eq!(rt; run(rt.alloc(), &mut source, &mut sink), Ok(()));
-    assert_eq!(rt; sink.held.as_slice(), output.as_bytes());
+    let mut source = Source::new(input, WHOLE);
+    check_reader(rt, &"many URLs", &mut source, &Ok(()), output);
     assert!(rt; source.calls > 2, "the input takes several reads");
     assert!(rt; source.most_asked <= 65_536);
-    Ok(())
+}
+
+#[test]
+fn many_urls(rt: HostRuntime) {
+    let mut input = pages(rt.alloc(), "BobBot\n", "", "").expect(&rt, "URLs");
+    input
+        .push_str("\nDisallow: /archive/*/closed\n")
+        .expect(&rt, "a rule");
+    let output = pages(rt.alloc(), "delay none\n", "allow - ", "deny 1 ").expect(&rt, "verdicts");
+    check_many(&rt, input.as_bytes(), output.as_bytes());
 }
