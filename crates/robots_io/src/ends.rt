@@ -102,64 +102,100 @@ pub fn write_out<W: Write>(writer: &mut W, text: &[u8]) -> Result<(), WriteFault
 mod tests {
     use super::*;
     use crate::fakes::{Sink, Source};
-    use std::test::Fail;
+    use std::process::Abort;
 
     const TEXT: &[u8] = b"User-agent: *\nDisallow: /\n";
 
-    #[test]
-    fn all_is_read(rt: HostRuntime) -> Result<(), Fail> {
-        for piece in [1, 7, 65_536] {
-            let mut source = Source::new(TEXT, piece);
-            assert_eq!(rt;
-                read_all(rt.alloc(), &mut source)
-                    .map_err(|_| "fault")?
-                    .as_slice(),
-                TEXT
-            );
-            for call in 0..source.calls {
-                let mut failing = Source::new(TEXT, piece);
-                failing.good_calls = Some(call);
-                assert!(rt;
-                    matches!(read_all(rt.alloc(), &mut failing), Err(ReadFault::Read)),
-                    "call {call}"
-                );
-            }
-        }
-        Ok(())
+    /// How many bytes a read gives at most, or a write takes.
+    const PIECES: &[usize] = &[1, 7, 65_536];
+
+    /// The source can't be read to its end.
+    fn check_read_fault(rt: &(impl Abort + AllocGlobal), source: &mut Source) {
+        let answer = read_all(rt.alloc(), source);
+        let (piece, calls) = (source.piece, source.calls);
+        let is_fault = matches!(answer, Err(ReadFault::Read));
+        assert!(rt; is_fault, "pieces of {piece}, read {calls}: {answer:?}");
+    }
+
+    /// Reads the text in pieces of so many bytes, and says how often it read.
+    fn check_read(rt: &(impl Abort + AllocGlobal), piece: usize) -> u32 {
+        let mut source = Source::new(TEXT, piece);
+        let all = read_all(rt.alloc(), &mut source).expect(rt, "all is read");
+        assert!(rt;
+            all.as_slice() == TEXT,
+            "pieces of {piece}: {}",
+            all.escape_ascii()
+        );
+        source.calls
     }
 
     #[test]
-    fn reads_run_out(rt: HostRuntime) -> Result<(), Fail> {
+    fn all_is_read(rt: HostRuntime) {
+        for piece in PIECES {
+            for call in 0..check_read(&rt, *piece) {
+                let mut failing = Source::new(TEXT, *piece);
+                failing.good_calls = Some(call);
+                check_read_fault(&rt, &mut failing);
+            }
+        }
+    }
+
+    #[test]
+    fn reads_run_out(rt: HostRuntime) {
         let mut endless = Source::new(TEXT, 1);
         endless.endless = true;
-        assert!(rt; matches!(read_all(rt.alloc(), &mut endless), Err(ReadFault::Read)));
-        assert_eq!(rt; endless.calls, 1_048_576);
+        check_read_fault(&rt, &mut endless);
+        assert!(rt; endless.calls == 1_048_576);
         assert!(rt; endless.most_asked <= 65_536);
-        Ok(())
+    }
+
+    /// The sink doesn't take all of the text, or can't be flushed.
+    fn check_write_fault(rt: &impl Abort, sink: &mut Sink) {
+        let answer = write_out(sink, TEXT);
+        let (piece, calls) = (sink.piece, sink.calls);
+        assert!(rt;
+            answer == Err(WriteFault),
+            "pieces of {piece}, write {calls}"
+        );
+        assert!(rt;
+            TEXT.starts_with(&sink.held),
+            "pieces of {piece}, write {calls}"
+        );
+    }
+
+    /// Writes the text in pieces of so many bytes, and says how often it wrote.
+    fn check_write(rt: &(impl Abort + AllocGlobal), piece: usize) -> u32 {
+        let mut sink = Sink::new(rt.alloc(), piece);
+        write_out(&mut sink, TEXT).expect(rt, "all is written");
+        let written = sink.held.as_slice();
+        assert!(rt;
+            written == TEXT,
+            "pieces of {piece}: {}",
+            written.escape_ascii()
+        );
+        sink.calls
     }
 
     #[test]
-    fn all_is_written(rt: HostRuntime) -> Result<(), Fail> {
-        for piece in [1, 7, 65_536] {
-            let mut sink = Sink::new(rt.alloc(), piece);
-            assert_eq!(rt; write_out(&mut sink, TEXT), Ok(()));
-            assert_eq!(rt; sink.held.as_slice(), TEXT);
-            for call in 0..sink.calls {
-                let mut failing = Sink::new(rt.alloc(), piece);
+    fn all_is_written(rt: HostRuntime) {
+        for piece in PIECES {
+            for call in 0..check_write(&rt, *piece) {
+                let mut failing = Sink::new(rt.alloc(), *piece);
                 failing.good_calls = Some(call);
-                assert_eq!(rt;
-                    write_out(&mut failing, TEXT),
-                    Err(WriteFault),
-                    "call {call}"
-                );
-                assert!(rt; TEXT.starts_with(failing.held.as_slice()), "call {call}");
+                check_write_fault(&rt, &mut failing);
             }
         }
-        let mut taking_nothing = Sink::new(rt.alloc(), 0);
-        assert_eq!(rt; write_out(&mut taking_nothing, TEXT), Err(WriteFault));
+    }
+
+    #[test]
+    fn writes_may_take_nothing(rt: HostRuntime) {
+        check_write_fault(&rt, &mut Sink::new(rt.alloc(), 0));
+    }
+
+    #[test]
+    fn flushes_may_fail(rt: HostRuntime) {
         let mut not_flushing = Sink::new(rt.alloc(), 7);
         not_flushing.flush_fails = true;
-        assert_eq!(rt; write_out(&mut not_flushing, TEXT), Err(WriteFault));
-        Ok(())
+        check_write_fault(&rt, &mut not_flushing);
     }
 }
