@@ -232,10 +232,11 @@ fn check_answer(
     assert!(rt; answer == want, "{name}: {answer:?}");
 }
 
-/// The sink took this text and no more.
+/// The sink took this text and no more. Where it didn't, the beginning of what it took is said.
 fn check_written(rt: &impl Abort, name: &impl Display, sink: &Sink, output: &[u8]) {
     let written = sink.held.as_slice();
-    assert!(rt; written == output, "{name}: {}", written.escape_ascii());
+    let shown = written.get(..1_000).unwrap_or(written);
+    assert!(rt; written == output, "{name}: {}", shown.escape_ascii());
 }
 
 /// Runs the program, and looks at what it answers and at all that it has written.
