@@ -8,7 +8,7 @@ use head::Head;
 use pairs::Pairs;
 
 /// How a text has to begin, and the pairs of neighbouring bytes that have to stand in it.
-#[derive(Clone, Copy, Debug)]
+#[derive(Clone, Copy)]
 pub(crate) struct Needs {
     pub(crate) head: Head,
     pub(crate) pairs: Pairs,

@@ -26,7 +26,7 @@ const DOLLAR: u8 = b'$';
 const LONGEST_WITH_DOLLAR: usize = 4096;
 
 /// A range of a list.
-#[derive(Clone, Copy, Debug)]
+#[derive(Clone, Copy)]
 pub(crate) struct Span {
     pub(crate) start: usize,
     pub(crate) end: usize,
@@ -42,14 +42,14 @@ impl Span {
 }
 
 /// A piece that may stand anywhere behind the one before, and where its table begins among the tables.
-#[derive(Clone, Copy, Debug)]
+#[derive(Clone, Copy)]
 pub(crate) struct Piece {
     pub(crate) span: Span,
     pub(crate) table: usize,
 }
 
 /// What has to follow the searched pieces.
-#[derive(Clone, Copy, Debug)]
+#[derive(Clone, Copy)]
 pub(crate) enum Ending {
     /// Anything: the pattern has no dollar.
     Open,
@@ -62,7 +62,7 @@ pub(crate) enum Ending {
 }
 
 /// How many bytes stand before the first star or dollar, and what has to follow the searched pieces.
-#[derive(Clone, Copy, Debug)]
+#[derive(Clone, Copy)]
 pub(crate) struct Ends {
     pub(crate) first_len: usize,
     pub(crate) ending: Ending,

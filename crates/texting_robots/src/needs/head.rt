@@ -3,7 +3,7 @@ ghost use Rattle.std.specs.Prelude.{◌≡◌, ◌≤◌, ◌↔◌, IsTrue, len
 ghost use Rattle.texting_robots.specs.Steps.Needs.{Fits, IsHeadOf, front_of, ones_below};
 
 /// The first bytes of a piece, up to eight, and ones where they stand.
-#[derive(Clone, Copy, Debug)]
+#[derive(Clone, Copy)]
 pub(crate) struct Head {
     bytes: u64,
     mask: u64,

@@ -3,7 +3,7 @@ ghost use Rattle.std.specs.Prelude.{◌≡◌, ◌↔◌, IsTrue, bit_or};
 ghost use Rattle.texting_robots.specs.Steps.Needs.{AreWithin, pair_bit, pair_set};
 
 /// A set of pairs of bytes. Each pair has one of 64 bits, and some share one.
-#[derive(Clone, Copy, Debug)]
+#[derive(Clone, Copy)]
 pub(crate) struct Pairs {
     pub(crate) bits: u64,
 }

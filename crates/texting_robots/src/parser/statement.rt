@@ -11,7 +11,7 @@ use bstr::ByteSlice;
 use memchr::memchr;
 
 /// What a statement is about.
-#[derive(Clone, Copy, PartialEq, Eq, Debug)]
+#[derive(Clone, Copy, PartialEq, Eq)]
 pub(crate) enum Kind {
     UserAgent,
     Allow,
