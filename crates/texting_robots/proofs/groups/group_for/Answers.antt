@@ -1,3 +1,4 @@
+use Rattle.std.proofs.Common.{rules}
 use Rattle.std.proofs.Common.{List, None, ap, cond, refl, sym}
 use Rattle.std.specs.List.{filter_map, last_or, list_any}
 use Rattle.texting_robots.specs.Group.{is_agent}
@@ -12,3 +13,6 @@ loop-line-init c =
     (last_or None (filter_map delay_in front)) None in
     rw c.into_iter-line-iterator.ensures.into_iter_gives
     (record { named = refl; agents = refl; stray = ap last (sym (before_agents lines)) })
+
+pub loop-line-preserved-then-not-has_agents : goal.loop-line-preserved-then-not-has_agents
+loop-line-preserved-then-not-has_agents c = search rules
