@@ -65,26 +65,28 @@ mod tests {
     use super::*;
     use std::test::Fail;
 
+    const FILE: &[u8] =
+        b"# hello\nUser-agent: *\nDisallow: /a # no\n\nNoindex: /x\nCrawl-delay: 1\nSitemap: s";
+
+    const KINDS: &[Kind] = &[
+        Kind::Other,
+        Kind::Agent,
+        Kind::Rule,
+        Kind::Other,
+        Kind::Other,
+        Kind::Delay,
+        Kind::Sitemap,
+    ];
+
     #[test]
     fn each_line_has_a_row(rt: HostRuntime) -> Result<(), Fail> {
-        let file =
-            b"# hello\nUser-agent: *\nDisallow: /a # no\n\nNoindex: /x\nCrawl-delay: 1\nSitemap: s";
-        let kinds = [
-            Kind::Other,
-            Kind::Agent,
-            Kind::Rule,
-            Kind::Other,
-            Kind::Other,
-            Kind::Delay,
-            Kind::Sitemap,
-        ];
-        let rows = audit(rt.alloc(), file)?;
-        assert_eq!(rt; rows.len(), kinds.len());
+        let rows = audit(rt.alloc(), FILE)?;
+        assert!(rt; rows.len() == KINDS.len());
         for (place, row) in rows.iter().enumerate() {
-            assert_eq!(rt; Some(row.number), place.checked_add(1));
-            assert_eq!(rt; Some(&row.kind), kinds.get(place));
+            assert!(rt; place.checked_add(1) == Some(row.number));
+            assert!(rt; KINDS.get(place) == Some(&row.kind));
         }
-        assert_eq!(rt; rows.as_slice()[2].line, Line::Disallow(b"/a"));
+        assert!(rt; rows.as_slice()[2].line == Line::Disallow(b"/a"));
         Ok(())
     }
 }

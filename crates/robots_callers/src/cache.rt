@@ -114,31 +114,56 @@ mod tests {
 
     const FILE: &[u8] = b"User-agent: *\nDisallow: /a\n";
 
+    /// A cache with the robot of example.com.
+    fn cached(alloc: Global) -> Result<Cache, CacheError> {
+        let mut cache = Cache::new(alloc);
+        cache.put(alloc, "Bot", "https://example.com/a/b", FILE)?;
+        Ok(cache)
+    }
+
+    /// What the robot that is kept for the site of a page says of a URL, where one is kept.
+    fn verdict(alloc: Global, cache: &Cache, page: &str, url: &str) -> Result<Option<bool>, Fail> {
+        match cache.find(alloc, page)? {
+            Some(robot) => Ok(Some(robot.allowed(alloc, url)?)),
+            None => Ok(None),
+        }
+    }
+
+    /// Whether example.com's robot is kept, and none of example.org.
+    fn has_one_robot(alloc: Global, cache: &Cache) -> Result<bool, Fail> {
+        let page = "https://example.com/c?d";
+        Ok(
+            verdict(alloc, cache, page, "https://example.com/a")? == Some(false)
+                && verdict(alloc, cache, page, "https://example.com/b")? == Some(true)
+                && verdict(alloc, cache, "https://example.org/", "/b")?.is_none(),
+        )
+    }
+
     #[test]
     fn a_site_has_one_robot(rt: HostRuntime) -> Result<(), Fail> {
-        let mut cache = Cache::new(rt.alloc());
-        cache.put(rt.alloc(), "Bot", "https://example.com/a/b", FILE)?;
-        assert!(rt; cache.find(rt.alloc(), "https://example.org/")?.is_none());
-        let Some(robot) = cache.find(rt.alloc(), "https://example.com/c?d")? else {
-            return Err(Fail::from("nothing is kept"));
-        };
-        assert!(rt; !robot.allowed(rt.alloc(), "https://example.com/a")?);
-        assert!(rt; robot.allowed(rt.alloc(), "https://example.com/b")?);
+        let mut cache = cached(rt.alloc())?;
+        assert!(rt; has_one_robot(rt.alloc(), &cache)?);
         let refused = cache.put(rt.alloc(), "Bot", "mailto:a@example.com", b"");
         assert!(rt; matches!(refused, Err(CacheError::Url(_))));
         Ok(())
     }
 
+    /// Keeps the robots of so many sites.
+    fn put_sites(alloc: Global, cache: &mut Cache, count: usize) -> Result<(), Fail> {
+        for site in 0..count {
+            let url = format!(in alloc; "https://s{site}.example.com/")?;
+            cache.put(alloc, "Bot", &url, b"")?;
+        }
+        Ok(())
+    }
+
     #[test]
     fn the_oldest_robot_goes(rt: HostRuntime) -> Result<(), Fail> {
-        let mut cache = Cache::new(rt.alloc());
-        cache.put(rt.alloc(), "Bot", "https://example.com/", FILE)?;
-        for site in 0..MOST {
-            let url = format!(in rt.alloc(); "https://s{site}.example.com/")?;
-            cache.put(rt.alloc(), "Bot", &url, b"")?;
-        }
-        assert_eq!(rt; cache.robots.len(), MOST);
-        assert!(rt; cache.find(rt.alloc(), "https://example.com/")?.is_none());
+        let mut cache = cached(rt.alloc())?;
+        put_sites(rt.alloc(), &mut cache, MOST)?;
+        assert!(rt; cache.robots.len() == MOST);
+        let oldest = verdict(rt.alloc(), &cache, "https://example.com/", "/")?;
+        assert!(rt; oldest.is_none());
         Ok(())
     }
 }

@@ -1,7 +1,7 @@
 //! A polite crawler's plan for a site.
 ghost use Rattle.std.specs.Prelude.{◌≡◌, ◌+◌, IfErr, IfOk, IfSome, map, min, unwrap_or};
 ghost use Rattle.robots_callers.specs.Crawler.{AreAllowed};
-ghost use Rattle.texting_robots.specs.Callers.{IsMemoryOr, IsRefused, delay_for, lines_read, rules_for};
+ghost use Rattle.texting_robots.specs.Callers.{IsMemoryOr, IsRefused, delay_for, lines_read, rules_for, unplaced};
 
 use std::alloc::Global;
 use texting_robots::{Error, Robot};
@@ -24,6 +24,21 @@ pub struct Plan<'a> {
     pub wait: u64,
 }
 
+/// Those of the URLs that a robot allows.
+fn allowed_of<'a>(alloc: Global, robot: &Robot, urls: &[&'a str]) -> Result<Vec<&'a str>, Error>
+    ensures urls { IfOk result (λ allowed. AreAllowed (unplaced robot.now.rules)
+        (map (λ url. url.now) urls.now) (map (λ url. url.now) allowed.items)) }
+    ensures memory { IfErr result (λ e. e ≡ Error.Memory) }
+{
+    let mut allowed = Vec::new(alloc);
+    for url in urls {
+        if robot.allowed(alloc, url)? {
+            allowed.push(*url)?;
+        }
+    }
+    Ok(allowed)
+}
+
 /// What the crawler that calls itself `agent` does with these URLs of the site with this robots.txt file.
 pub fn plan_for<'a>(
     alloc: Global,
@@ -39,16 +54,9 @@ pub fn plan_for<'a>(
     ensures refused { IfErr result (IsMemoryOr (IsRefused agent.now (lines_read file.now))) }
 {
     let robot = Robot::new(alloc, agent, file)?;
-    let mut allowed = Vec::new(alloc);
-    for url in urls {
-        if robot.allowed(alloc, url)? {
-            allowed.push(*url)?;
-        }
-    }
-    Ok(Plan {
-        urls: allowed,
-        wait: robot.delay.unwrap_or(waits.usual).min(waits.longest),
-    })
+    let wait = robot.delay.unwrap_or(waits.usual).min(waits.longest);
+    let urls = allowed_of(alloc, &robot, urls)?;
+    Ok(Plan { urls, wait })
 }
 
 #[cfg(test)]
@@ -64,30 +72,31 @@ mod tests {
         longest: 60_000_000,
     };
 
+    const URLS: &[&str] = &[
+        "https://example.com/",
+        "https://example.com/private/a",
+        "/private/open?x=1",
+        "/b",
+    ];
+
+    /// Whether a crawler waits so long, and fetches these of the URLs.
+    fn is_plan(alloc: Global, agent: &str, wait: u64, urls: &[&str]) -> Result<bool, Error> {
+        let plan = plan_for(alloc, agent, FILE, URLS, WAITS)?;
+        Ok(plan.wait == wait && plan.urls.as_slice() == urls)
+    }
+
     #[test]
     fn allowed_urls_are_fetched(rt: HostRuntime) -> Result<(), Fail> {
-        let urls = [
-            "https://example.com/",
-            "https://example.com/private/a",
-            "/private/open?x=1",
-            "/b",
-        ];
-        let ferris = plan_for(rt.alloc(), "FERRIS", FILE, &urls, WAITS)?;
-        assert_eq!(rt; ferris.wait, 2_500_000);
-        assert_eq!(rt;
-            ferris.urls.as_slice(),
-            ["https://example.com/", "/private/open?x=1", "/b"].as_slice()
-        );
-        let other = plan_for(rt.alloc(), "Other", FILE, &urls, WAITS)?;
-        assert_eq!(rt; other.wait, 1_000_000);
-        assert!(rt; other.urls.is_empty());
+        let ferris = &["https://example.com/", "/private/open?x=1", "/b"];
+        assert!(rt; is_plan(rt.alloc(), "FERRIS", 2_500_000, ferris)?);
+        assert!(rt; is_plan(rt.alloc(), "Other", 1_000_000, &[])?);
         Ok(())
     }
 
     #[test]
     fn an_endless_delay_is_capped(rt: HostRuntime) -> Result<(), Fail> {
         let plan = plan_for(rt.alloc(), "Ferris", b"Crawl-delay: inf", &[], WAITS)?;
-        assert_eq!(rt; plan.wait, 60_000_000);
+        assert!(rt; plan.wait == 60_000_000);
         Ok(())
     }
 }
