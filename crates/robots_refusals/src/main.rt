@@ -27,27 +27,26 @@ fn is_chosen(line: &[u8], name: &str) -> bool {
     line.is_empty() || line.strip_suffix(b"\n") == Some(name.as_bytes())
 }
 
-fn main(rt: HostRuntime) -> ExitCode {
-    let alloc = rt.alloc();
-    let mut buffer = [0; 80];
-    let Ok(count) = rt.stdin().read(&mut buffer) else {
-        return ExitCode::FAILURE;
-    };
-    let line = &buffer[..count];
+/// Makes the calls that the line on standard input chooses, and tells whether what came of each may be.
+fn makes_calls(rt: &HostRuntime, line: &[u8]) -> bool {
     let mut well = true;
-    for name in calls::NAMES {
+    for (name, call) in calls::CALLS {
         if is_chosen(line, name) {
-            well &= tell(&rt, name, calls::answer(alloc, name));
+            well &= tell(rt, name, calls::answer(rt.alloc(), call));
         }
     }
-    for name in quiet::NAMES {
+    for (name, call) in quiet::CALLS {
         if is_chosen(line, name) {
-            well &= tell(&rt, name, quiet::answer(alloc, name));
+            well &= tell(rt, name, quiet::answer(rt.alloc(), call));
         }
     }
-    if well {
-        ExitCode::SUCCESS
-    } else {
-        ExitCode::FAILURE
+    well
+}
+
+fn main(rt: HostRuntime) -> ExitCode {
+    let mut buffer = [0; 80];
+    match rt.stdin().read(&mut buffer) {
+        Ok(count) if makes_calls(&rt, &buffer[..count]) => ExitCode::SUCCESS,
+        _ => ExitCode::FAILURE,
     }
 }

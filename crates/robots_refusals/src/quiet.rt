@@ -1,5 +1,5 @@
 //! Calls that take no memory. Each is asked of a robot, two patterns and a URL that were made before it.
-use crate::calls::{Asked, PAGE, PAGE_LINES, make_asked};
+use crate::calls::{PAGE, PAGE_LINES, PATTERN, ferris, is_right_robot, parsed};
 use std::alloc::Global;
 use std::cmp::Ordering;
 use texting_robots::marks::{MarkedLine, Standing, is_named, marked_lines};
@@ -7,60 +7,137 @@ use texting_robots::minregex::MinRegex;
 use texting_robots::parser::{Line, LineIter, file_lines, lines, read_delay};
 use texting_robots::view::View;
 use texting_robots::{Decision, Error, Robot};
+use url::Url;
 
-/// The names of the calls, in the order in which they are made.
-pub(crate) const NAMES: &[&str] = &[
-    "Robot::allowed_prepared without memory",
-    "Robot::allowed_url without memory",
-    "Robot::allowed of a plain path without memory",
-    "Robot::allowed_view without memory",
-    "Robot::decision without memory",
-    "MinRegex::is_match without memory",
-    "MinRegex::matches_view without memory",
-    "MinRegex::match_stars without memory",
-    "MinRegex::as_str without memory",
-    "comparisons without memory",
-    "View without memory",
-    "parser::lines without memory",
-    "parser::file_lines without memory",
-    "parser::read_delay without memory",
-    "marks::marked_lines without memory",
-    "marks::is_named without memory",
-    LINE_ENDS,
-];
-
-/// The name of `Robot::new` on a file of line ends alone.
-const LINE_ENDS: &str = "Robot::new on line ends without memory";
-
-/// Makes what is asked, and then the call of this name.
-pub(crate) fn answer(alloc: Global, name: &str) -> Result<bool, Error> {
-    let asked = make_asked(alloc)?;
-    asks(alloc, &asked, name)
+/// A call that takes no memory.
+pub(crate) enum Call {
+    /// None but those that make what is asked, which take memory.
+    MakeAsked,
+    AllowedPrepared,
+    AllowedUrl,
+    AllowedPath,
+    AllowedView,
+    Decision,
+    IsMatch,
+    MatchesView,
+    MatchStars,
+    AsStr,
+    Comparisons,
+    View,
+    Lines,
+    FileLines,
+    ReadDelay,
+    MarkedLines,
+    IsNamed,
+    /// It makes a robot of a file of line ends alone.
+    NewRobot,
 }
 
-/// Makes the call of this name.
-fn asks(alloc: Global, asked: &Asked, name: &str) -> Result<bool, Error> {
-    match name {
-        "Robot::allowed_prepared without memory" => Ok(asks_prepared(&asked.robot)),
-        "Robot::allowed_url without memory" => Ok(!asked.robot.allowed_url(&asked.url)),
-        "Robot::allowed of a plain path without memory" => asks_paths(alloc, &asked.robot),
-        "Robot::allowed_view without memory" => Ok(asks_view(&asked.robot)),
-        "Robot::decision without memory" => Ok(asks_decision(&asked.robot)),
-        "MinRegex::is_match without memory" => Ok(asks_match(&asked.pattern)),
-        "MinRegex::matches_view without memory" => Ok(asks_match_of_view(&asked.pattern)),
-        "MinRegex::match_stars without memory" => Ok(asks_match_of_stars(&asked.pattern)),
-        "MinRegex::as_str without memory" => Ok(asked.pattern.as_str() == "/*ab*ba$"),
-        "comparisons without memory" => Ok(compares(asked)),
-        "View without memory" => Ok(looks()),
-        "parser::lines without memory" => Ok(gives_page(lines(PAGE))),
-        "parser::file_lines without memory" => Ok(gives_page(file_lines(PAGE))),
-        "parser::read_delay without memory" => Ok(reads_delays()),
-        "marks::marked_lines without memory" => Ok(marks_page()),
-        "marks::is_named without memory" => Ok(
-            is_named("smerbot", PAGE) && !is_named("BobBot", PAGE),
-        ),
-        LINE_ENDS => reads_line_ends(alloc),
-        _ => Ok(false),
+/// The calls by their names, in the order in which they are made.
+pub(crate) const CALLS: &[(&str, Call)] = &[
+    ("a robot, two patterns and a URL", Call::MakeAsked),
+    (
+        "Robot::allowed_prepared without memory",
+        Call::AllowedPrepared,
+    ),
+    ("Robot::allowed_url without memory", Call::AllowedUrl),
+    (
+        "Robot::allowed of a plain path without memory",
+        Call::AllowedPath,
+    ),
+    ("Robot::allowed_view without memory", Call::AllowedView),
+    ("Robot::decision without memory", Call::Decision),
+    ("MinRegex::is_match without memory", Call::IsMatch),
+    ("MinRegex::matches_view without memory", Call::MatchesView),
+    ("MinRegex::match_stars without memory", Call::MatchStars),
+    ("MinRegex::as_str without memory", Call::AsStr),
+    ("comparisons without memory", Call::Comparisons),
+    ("View without memory", Call::View),
+    ("parser::lines without memory", Call::Lines),
+    ("parser::file_lines without memory", Call::FileLines),
+    ("parser::read_delay without memory", Call::ReadDelay),
+    ("marks::marked_lines without memory", Call::MarkedLines),
+    ("marks::is_named without memory", Call::IsNamed),
+    ("Robot::new on line ends without memory", Call::NewRobot),
+];
+
+/// What the calls are asked of.
+#[derive(Drop)]
+struct Asked<'a> {
+    robot: &'a Robot,
+    patterns: &'a Patterns,
+    url: &'a Url,
+}
+
+/// Two patterns, of which the longer comes first in their order.
+#[derive(Drop)]
+struct Patterns {
+    longer: MinRegex,
+    shorter: MinRegex,
+}
+
+fn make_patterns(alloc: Global) -> Result<Patterns, Error> {
+    Ok(Patterns {
+        longer: MinRegex::new(alloc, PATTERN)?,
+        shorter: MinRegex::new(alloc, "/*")?,
+    })
+}
+
+/// Makes the robot, the patterns and the URL that are asked, and then a call.
+pub(crate) fn answer(alloc: Global, call: &Call) -> Result<bool, Error> {
+    answer_of(alloc, &ferris(alloc)?, call)
+}
+
+/// Makes the patterns and the URL, and then a call.
+fn answer_of(alloc: Global, robot: &Robot, call: &Call) -> Result<bool, Error> {
+    answer_with(alloc, robot, &make_patterns(alloc)?, call)
+}
+
+/// Makes the URL, and then a call.
+fn answer_with(
+    alloc: Global,
+    robot: &Robot,
+    patterns: &Patterns,
+    call: &Call,
+) -> Result<bool, Error> {
+    let url = &parsed(alloc, "https://www.rust-lang.org/rust")?;
+    let asked = Asked {
+        robot,
+        patterns,
+        url,
+    };
+    asks(alloc, &asked, call)
+}
+
+/// Makes a call. Only two are passed the allocator.
+fn asks(alloc: Global, asked: &Asked, call: &Call) -> Result<bool, Error> {
+    match call {
+        Call::AllowedPath => asks_paths(alloc, asked.robot),
+        Call::NewRobot => reads_line_ends(alloc),
+        _ => Ok(is_right(asked, call)),
+    }
+}
+
+/// Whether the answer to a call is right that isn't passed the allocator.
+fn is_right(asked: &Asked, call: &Call) -> bool {
+    match call {
+        Call::MakeAsked => is_right_robot(asked.robot),
+        Call::AllowedPrepared => asks_prepared(asked.robot),
+        Call::AllowedUrl => !asked.robot.allowed_url(asked.url),
+        Call::AllowedView => asks_view(asked.robot),
+        Call::Decision => asks_decision(asked.robot),
+        Call::IsMatch => asks_match(&asked.patterns.longer),
+        Call::MatchesView => asks_match_of_view(&asked.patterns.longer),
+        Call::MatchStars => asks_match_of_stars(&asked.patterns.longer),
+        Call::AsStr => asked.patterns.longer.as_str() == "/*ab*ba$",
+        Call::Comparisons => compares(asked.patterns),
+        Call::View => looks(),
+        Call::Lines => gives_page(lines(PAGE)),
+        Call::FileLines => gives_page(file_lines(PAGE)),
+        Call::ReadDelay => reads_delays(),
+        Call::MarkedLines => marks_page(),
+        Call::IsNamed => is_named("smerbot", PAGE) && !is_named("BobBot", PAGE),
+        Call::AllowedPath | Call::NewRobot => false,
     }
 }
 
@@ -87,7 +164,7 @@ fn asks_decision(robot: &Robot) -> bool {
         line: Some(4),
     };
     robot.decision(&mut View::new("/forest/tree/snake.py")) == refused
-        && robot.decision(&mut View::new("/robots.txt")).line == None
+        && robot.decision(&mut View::new("/robots.txt")).line.is_none()
 }
 
 fn asks_match(pattern: &MinRegex) -> bool {
@@ -104,14 +181,17 @@ fn asks_match_of_stars(pattern: &MinRegex) -> bool {
         && !pattern.match_stars(b"b*c", b"*abc")
 }
 
-fn compares(asked: &Asked) -> bool {
-    let (longer, shorter) = (&asked.pattern, &asked.shorter);
+fn compares(patterns: &Patterns) -> bool {
+    compares_patterns(&patterns.longer, &patterns.shorter)
+        && PAGE_LINES.first() == Some(&Line::UserAgent(b"SmerBot"))
+}
+
+fn compares_patterns(longer: &MinRegex, shorter: &MinRegex) -> bool {
     longer != shorter
         && longer == longer
         && longer.cmp(shorter) == Ordering::Less
         && shorter.cmp(longer) == Ordering::Greater
         && longer.partial_cmp(longer) == Some(Ordering::Equal)
-        && PAGE_LINES[0] == Line::UserAgent(b"SmerBot")
 }
 
 fn looks() -> bool {
@@ -127,11 +207,11 @@ fn looks() -> bool {
 /// Whether these are the lines of the page.
 fn gives_page(mut given: LineIter<'_>) -> bool {
     for line in PAGE_LINES {
-        if given.next() != Some(line) {
+        if given.next() != Some(*line) {
             return false;
         }
     }
-    given.next() == None && given.next() == None
+    given.next().is_none() && given.next().is_none()
 }
 
 /// Whether the page's lines are marked for the agent that it names.
@@ -149,10 +229,13 @@ fn marks_page() -> bool {
 fn reads_delays() -> bool {
     read_delay(b"3.14") == Some(3_140_000)
         && read_delay(b"1e999999999999999999999") == Some(18_446_744_073_709_551_615)
-        && read_delay(b"nan") == None
+        && read_delay(b"nan").is_none()
 }
 
 fn reads_line_ends(alloc: Global) -> Result<bool, Error> {
-    let robot = Robot::new(alloc, "BobBot", &[b'\n'; 65_536])?;
-    Ok(robot.delay == None && robot.sitemaps.is_empty() && robot.allowed_prepared("/x"))
+    Ok(is_without_rules(&Robot::new(alloc, "BobBot", &[b'\n'; 65_536])?))
+}
+
+fn is_without_rules(robot: &Robot) -> bool {
+    robot.delay.is_none() && robot.sitemaps.is_empty() && robot.allowed_prepared("/x")
 }
