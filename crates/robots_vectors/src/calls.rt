@@ -1,39 +1,45 @@
 //! The small calls of a line and a view, and the example of the library's documentation.
+use crate::helpers::{check, check_equal};
 use std::alloc::Global;
-use std::test::Fail;
+use std::process::Abort;
 use texting_robots::parser::{Line, robots_txt_parse};
 use texting_robots::view::View;
 use texting_robots::{Error, Robot};
 
-#[test]
-fn a_line_has_the_bytes_that_it_holds(rt: HostRuntime) -> Result<(), Fail> {
-    let text =
-        b"User-agent: A\nAllow: /b\nDisallow: /c\nDisallow:\nSitemap: d\nCrawl-delay: 1\nNoindex: /e";
-    let values: [Option<&[u8]>; 7] = [
-        Some(b"A"),
-        Some(b"/b"),
-        Some(b"/c"),
-        Some(b"/"),
-        Some(b"d"),
-        None,
-        Some(b"Noindex: /e"),
-    ];
-    let lines = robots_txt_parse(rt.alloc(), text)?;
-    assert_eq!(rt; lines.len(), values.len());
-    for (place, line) in lines.iter().enumerate() {
-        assert_eq!(rt; Some(&line.value()), values.get(place));
-    }
-    assert_eq!(rt; Line::CrawlDelay(None).value(), None);
-    Ok(())
+const LINES: &[u8] =
+    b"User-agent: A\nAllow: /b\nDisallow: /c\nDisallow:\nSitemap: d\nCrawl-delay: 1\nNoindex: /e";
+
+// what each of the lines holds
+const VALUES: &[Option<&[u8]>] = &[
+    Some(b"A"),
+    Some(b"/b"),
+    Some(b"/c"),
+    Some(b"/"),
+    Some(b"d"),
+    None,
+    Some(b"Noindex: /e"),
+];
+
+/// The line holds these bytes.
+fn check_value<'a>(rt: &impl Abort, line: Line<'a>, want: Option<&'a [u8]>) {
+    check_equal(rt, "value", &line.value(), &want);
 }
 
 #[test]
-fn an_empty_text_has_an_empty_view(rt: HostRuntime) -> Result<(), Fail> {
-    assert!(rt; View::new("").is_empty());
+fn a_line_has_the_bytes_that_it_holds(rt: HostRuntime) {
+    let lines = robots_txt_parse(rt.alloc(), LINES).expect(&rt, "lines");
+    check_equal(&rt, "lines", &lines.len(), &VALUES.len());
+    for (line, want) in lines.iter().zip(VALUES) {
+        check_value(&rt, *line, *want);
+    }
+    check_value(&rt, Line::CrawlDelay(None), None);
+}
+
+#[test]
+fn an_empty_text_has_an_empty_view(rt: HostRuntime) {
+    check(&rt, "empty", View::new("").is_empty());
     let view = View::new("/");
-    assert!(rt; !view.is_empty());
-    assert_eq!(rt; view.seen(), 0);
-    Ok(())
+    check(&rt, "slash", !view.is_empty() && view.seen() == 0);
 }
 
 /// Whether the crawler `FerrisBot` may fetch a page, and how many microseconds it waits before the next.
@@ -47,14 +53,19 @@ fn may_fetch(alloc: Global, file: &[u8], page: &str) -> Result<Option<u64>, Erro
     }
 }
 
+const REEF: &[u8] = b"User-agent: FerrisBot\nDisallow: /reef\nCrawl-delay: inf";
+
+// a file, a page, and when it may be fetched
+const PAGES: &[(&[u8], &str, Option<u64>)] = &[
+    (REEF, "https://example.com/reef", None),
+    (REEF, "https://example.com/open", Some(60_000_000)),
+    (b"", "https://example.com/", Some(1_000_000)),
+];
+
 #[test]
-fn the_documented_example_answers(rt: HostRuntime) -> Result<(), Fail> {
-    let file = b"User-agent: FerrisBot\nDisallow: /reef\nCrawl-delay: inf";
-    let reef = may_fetch(rt.alloc(), file, "https://example.com/reef")?;
-    assert_eq!(rt; reef, None);
-    let open = may_fetch(rt.alloc(), file, "https://example.com/open")?;
-    assert_eq!(rt; open, Some(60_000_000));
-    let usual = may_fetch(rt.alloc(), b"", "https://example.com/")?;
-    assert_eq!(rt; usual, Some(1_000_000));
-    Ok(())
+fn the_documented_example_answers(rt: HostRuntime) {
+    for (file, page, want) in PAGES {
+        let answer = may_fetch(rt.alloc(), file, page).expect(&rt, page);
+        check_equal(&rt, page, &answer, want);
+    }
 }

@@ -1,7 +1,7 @@
 //! Which line of a file decides on a text.
 use crate::files::{CRAWLER_EXAMPLE, MERGED_GROUPS};
-use crate::helpers::{BOB, Decisions, check_decisions, forms_of, robot_of};
-use std::test::Fail;
+use crate::helpers::{BOB, Decisions, check_decisions, indented, robot_of};
+use std::process::Abort;
 
 /// A file, and what decides for an agent. Its lines are counted from 1, empty ones too.
 struct DecisionCase {
@@ -11,7 +11,7 @@ struct DecisionCase {
     decisions: Decisions,
 }
 
-const FILES: &[DecisionCase] = &[
+const GROUPS: &[DecisionCase] = &[
     DecisionCase {
         name: "crawler_example",
         agent: "FerrisCrawler",
@@ -52,6 +52,9 @@ const FILES: &[DecisionCase] = &[
         file: MERGED_GROUPS,
         decisions: &[("/z/d", true, Some(14)), ("/foo/bar/", false, Some(15))],
     },
+];
+
+const RULES: &[DecisionCase] = &[
     DecisionCase {
         name: "tie_goes_to_allow",
         agent: BOB,
@@ -96,13 +99,22 @@ const FILES: &[DecisionCase] = &[
     },
 ];
 
-#[test]
-fn decisions_name_their_line(rt: HostRuntime) -> Result<(), Fail> {
-    for case in FILES {
-        for file in &forms_of(rt.alloc(), case.file)? {
-            let robot = robot_of(&rt, case.name, case.agent, file);
-            check_decisions(&rt, case.name, &robot, case.decisions);
-        }
+/// Asks for the lines that decide in a form of the case's file.
+fn check_form(rt: &(impl Abort + AllocGlobal), case: &DecisionCase, file: &[u8]) {
+    let robot = robot_of(rt, case.name, case.agent, file);
+    check_decisions(rt, case.name, &robot, case.decisions);
+}
+
+/// Asks for the lines that decide in each case's file, as it stands and indented.
+fn check_cases(rt: &(impl Abort + AllocGlobal), cases: &[DecisionCase]) {
+    for case in cases {
+        check_form(rt, case, case.file);
+        check_form(rt, case, &indented(rt, case.name, case.file));
     }
-    Ok(())
+}
+
+#[test]
+fn decisions_name_their_line(rt: HostRuntime) {
+    check_cases(&rt, GROUPS);
+    check_cases(&rt, RULES);
 }

@@ -2,9 +2,8 @@
 use crate::files::{
     BROKEN_VALUES, CRAWLER_EXAMPLE, MANY_LINE_ENDS, NEWS_SITE, NO_AGENT_LINES, NUL_AS_LF,
 };
-use crate::helpers::{BOB, forms_of, robot_of};
+use crate::helpers::{BOB, check_equal, indented, robot_of};
 use std::process::Abort;
-use std::test::Fail;
 use texting_robots::parser::read_delay;
 
 /// A file, and the delay that each of some agents gets of it.
@@ -44,27 +43,8 @@ const NO_DELAYS: &[&str] = &[
     "", ".", "nan", "1e", " 5", "-inf", "-1e-99", "+", "e5", ".e5", "1_0", "infin", "-nan", "-.5",
 ];
 
-const DELAYS: &[DelayCase] = &[
-    DelayCase {
-        name: "crawler_example",
-        file: CRAWLER_EXAMPLE,
-        delays: &[("FerrisCrawler", Some(10_000_000))],
-    },
-    DelayCase {
-        name: "fallback_delay",
-        file: b"Crawl-Delay: 1\nCrawl-Delay: 2\nUser-Agent: *\nDisallow: /x",
-        delays: &[(BOB, Some(2_000_000))],
-    },
-    DelayCase {
-        name: "refused_delay_keeps_the_run",
-        file: b"User-Agent: D\nCrawl-Delay: -1.25\nUser-Agent: E\nCrawl-Delay: 8",
-        delays: &[("D", Some(8_000_000))],
-    },
-    DelayCase {
-        name: "first_captured",
-        file: b"Crawl-Delay: 5\nCrawl-Delay: 6",
-        delays: &[(BOB, Some(5_000_000))],
-    },
+// what several agents get
+const AGENTS: &[DelayCase] = &[
     DelayCase {
         name: "agent_names",
         file: b"User-Agent: a\nCrawl-Delay: 3\nUser-Agent: *\nCrawl-Delay: 4",
@@ -81,11 +61,6 @@ const DELAYS: &[DelayCase] = &[
         delays: &[(BOB, Some(42_000_000)), ("SpecialFriend", Some(1_000_000))],
     },
     DelayCase {
-        name: "nul_as_lf",
-        file: NUL_AS_LF,
-        delays: &[(BOB, Some(42_000_000))],
-    },
-    DelayCase {
         name: "shared_group",
         file: b"User-Agent: A\nCrawl-Delay: 42\n# A B\nUser-Agent: B\nUser-Agent: C\nCrawl-Delay: 420\n\
             User-Agent: *\nCRAWL-Delay : 3600\nUser-Agent: Zero\nCrawl-Delay: 0",
@@ -95,6 +70,35 @@ const DELAYS: &[DelayCase] = &[
             ("C", Some(420_000_000)),
             ("Zero", Some(0)),
         ],
+    },
+    DelayCase {
+        name: "spellings",
+        file: b"user-agent: FooBot\ncrawl-delay: 42\nuser agent: BobBot\ncrawl delay: 420\n\
+            useragent: EveBot\ncrawldelay: 360",
+        delays: &[
+            ("FooBot", Some(42_000_000)),
+            (BOB, Some(420_000_000)),
+            ("EveBot", Some(360_000_000)),
+        ],
+    },
+];
+
+// which of a file's delays is taken
+const READINGS: &[DelayCase] = &[
+    DelayCase {
+        name: "fallback_delay",
+        file: b"Crawl-Delay: 1\nCrawl-Delay: 2\nUser-Agent: *\nDisallow: /x",
+        delays: &[(BOB, Some(2_000_000))],
+    },
+    DelayCase {
+        name: "refused_delay_keeps_the_run",
+        file: b"User-Agent: D\nCrawl-Delay: -1.25\nUser-Agent: E\nCrawl-Delay: 8",
+        delays: &[("D", Some(8_000_000))],
+    },
+    DelayCase {
+        name: "first_captured",
+        file: b"Crawl-Delay: 5\nCrawl-Delay: 6",
+        delays: &[(BOB, Some(5_000_000))],
     },
     DelayCase {
         name: "broken_text",
@@ -107,14 +111,23 @@ const DELAYS: &[DelayCase] = &[
         delays: &[(BOB, Some(u64::MAX))],
     },
     DelayCase {
-        name: "spellings",
-        file: b"user-agent: FooBot\ncrawl-delay: 42\nuser agent: BobBot\ncrawl delay: 420\n\
-            useragent: EveBot\ncrawldelay: 360",
-        delays: &[
-            ("FooBot", Some(42_000_000)),
-            (BOB, Some(420_000_000)),
-            ("EveBot", Some(360_000_000)),
-        ],
+        name: "empty_file",
+        file: b"",
+        delays: &[(BOB, None)],
+    },
+];
+
+// files that other tests read too
+const FILES: &[DelayCase] = &[
+    DelayCase {
+        name: "crawler_example",
+        file: CRAWLER_EXAMPLE,
+        delays: &[("FerrisCrawler", Some(10_000_000))],
+    },
+    DelayCase {
+        name: "nul_as_lf",
+        file: NUL_AS_LF,
+        delays: &[(BOB, Some(42_000_000))],
     },
     DelayCase {
         name: "broken_values",
@@ -136,41 +149,37 @@ const DELAYS: &[DelayCase] = &[
         file: NEWS_SITE,
         delays: &[(BOB, Some(30_000_000))],
     },
-    DelayCase {
-        name: "empty_file",
-        file: b"",
-        delays: &[(BOB, None)],
-    },
 ];
 
 /// Each agent of the case gets its delay of a form of the file.
-fn check_delays(rt: &(impl Abort + AllocGlobal), case: &DelayCase, file: &[u8]) {
-    let name = case.name;
+fn check_form(rt: &(impl Abort + AllocGlobal), case: &DelayCase, file: &[u8]) {
     for (agent, want) in case.delays {
-        let delay = robot_of(rt, name, agent, file).delay;
-        assert!(rt; delay == *want, "{name}: {agent}: {delay:?}");
+        let delay = robot_of(rt, case.name, agent, file).delay;
+        check_equal(rt, case.name, &(*agent, delay), &(*agent, *want));
+    }
+}
+
+/// Each agent gets its delay of each case's file, as it stands and indented.
+fn check_cases(rt: &(impl Abort + AllocGlobal), cases: &[DelayCase]) {
+    for case in cases {
+        check_form(rt, case, case.file);
+        check_form(rt, case, &indented(rt, case.name, case.file));
     }
 }
 
 #[test]
-fn texts_are_read_as_microseconds(rt: HostRuntime) -> Result<(), Fail> {
+fn texts_are_read_as_microseconds(rt: HostRuntime) {
     for (text, want) in NUMBERS {
-        let delay = read_delay(text.as_bytes());
-        assert!(rt; delay == Some(*want), "{text}: {delay:?}");
+        check_equal(&rt, text, &read_delay(text.as_bytes()), &Some(*want));
     }
     for text in NO_DELAYS {
-        let delay = read_delay(text.as_bytes());
-        assert!(rt; delay.is_none(), "{text}: {delay:?}");
+        check_equal(&rt, text, &read_delay(text.as_bytes()), &None);
     }
-    Ok(())
 }
 
 #[test]
-fn each_agent_gets_its_delay(rt: HostRuntime) -> Result<(), Fail> {
-    for case in DELAYS {
-        for file in &forms_of(rt.alloc(), case.file)? {
-            check_delays(&rt, case, file);
-        }
-    }
-    Ok(())
+fn each_agent_gets_its_delay(rt: HostRuntime) {
+    check_cases(&rt, AGENTS);
+    check_cases(&rt, READINGS);
+    check_cases(&rt, FILES);
 }

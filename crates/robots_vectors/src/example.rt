@@ -1,6 +1,6 @@
 //! The README's example: what a crawler asks before it fetches a page.
+use crate::helpers::{check, check_equal, check_text};
 use std::alloc::Global;
-use std::test::Fail;
 use texting_robots::{Error, Robot, get_robots_url};
 use url::ParseError;
 
@@ -39,17 +39,32 @@ fn visit(alloc: Global, file: &[u8], page: &str) -> Result<Plan, Error> {
     Ok(Plan::Fetch(delay))
 }
 
+const PAGE: &str = "https://example.com/ocean/reef.html";
+
+const FILE: &[u8] = b"User-agent: FerrisBot\nDisallow: /forest\nCrawl-delay: 2.5\n";
+
+// a file, a page, and what the crawler does about it
+const VISITS: &[(&[u8], &str, Plan)] = &[
+    (FILE, PAGE, Plan::Fetch(2_500_000)),
+    (FILE, "https://example.com/forest/tree", Plan::Leave),
+    (b"Crawl-delay: inf", PAGE, Plan::Fetch(60_000_000)),
+    (b"", PAGE, Plan::Fetch(1_000_000)),
+];
+
 #[test]
-fn a_crawler_plans_its_visit(rt: HostRuntime) -> Result<(), Fail> {
-    let alloc = rt.alloc();
-    let page = "https://example.com/ocean/reef.html";
-    let address = file_address(alloc, page)?;
-    assert!(rt; address.is_some_and(|text| text.as_str() == "https://example.com/robots.txt"));
-    assert!(rt; file_address(alloc, "mailto:ferris@example.com")?.is_none());
-    let file = b"User-agent: FerrisBot\nDisallow: /forest\nCrawl-delay: 2.5\n";
-    assert!(rt; visit(alloc, file, page)? == Plan::Fetch(2_500_000));
-    assert!(rt; visit(alloc, file, "https://example.com/forest/tree")? == Plan::Leave);
-    assert!(rt; visit(alloc, b"Crawl-delay: inf", page)? == Plan::Fetch(60_000_000));
-    assert!(rt; visit(alloc, b"", page)? == Plan::Fetch(1_000_000));
-    Ok(())
+fn a_crawler_plans_its_visit(rt: HostRuntime) {
+    let address = file_address(rt.alloc(), PAGE).expect(&rt, PAGE);
+    let address = address.expect(&rt, PAGE);
+    check_text(
+        &rt,
+        PAGE,
+        address.as_str(),
+        "https://example.com/robots.txt",
+    );
+    let none = file_address(rt.alloc(), "mailto:ferris@example.com").expect(&rt, "mail");
+    check(&rt, "mail", none.is_none());
+    for (file, page, want) in VISITS {
+        let plan = visit(rt.alloc(), file, page).expect(&rt, page);
+        check_equal(&rt, page, &plan, want);
+    }
 }

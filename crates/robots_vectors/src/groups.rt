@@ -1,8 +1,9 @@
 //! Which groups of a file an agent gets, and the sitemaps that every agent gets.
 use crate::files::{BROKEN_VALUES, CRAWLER_EXAMPLE, MANY_LINE_ENDS, MERGED_GROUPS, NUL_AS_LF};
-use crate::helpers::{BOB, FileCase, check_file, check_file_at, check_nothing, forms_of, robot_of};
+use crate::helpers::{
+    BOB, FileCase, NO_HOST, check_equal, check_files, check_nothing, check_text, indented, robot_of,
+};
 use std::process::Abort;
-use std::test::Fail;
 
 /// A file and its sitemaps, for an agent.
 struct SitemapCase {
@@ -16,19 +17,8 @@ const OLD_BOTS: &[u8] =
     b"User-agent: unhipbot\nDisallow: /\n\nUser-agent: webcrawler\nUser-agent: excite\nDisallow:\n\n\
     User-agent: *\nDisallow: /org/plans.html\nAllow: /org/\nAllow: /serv\nAllow: /~mak\nDisallow: /";
 
-const GROUPS: &[FileCase] = &[
-    FileCase {
-        name: "crawler_example",
-        agent: "FerrisCrawler",
-        file: CRAWLER_EXAMPLE,
-        verdicts: &[
-            ("https://www.rust-lang.org/ocean", true),
-            ("/ocean", true),
-            ("/ocean/reef.html", true),
-            ("/rust", false),
-            ("/forest/tree/snake.py", false),
-        ],
-    },
+// how an agent is named
+const NAMES: &[FileCase] = &[
     FileCase {
         name: "separators",
         agent: "FooBot",
@@ -62,6 +52,22 @@ const GROUPS: &[FileCase] = &[
             false,
         )],
     },
+];
+
+// files that other tests read too, and NUL at a line's end
+const FILES: &[FileCase] = &[
+    FileCase {
+        name: "crawler_example",
+        agent: "FerrisCrawler",
+        file: CRAWLER_EXAMPLE,
+        verdicts: &[
+            ("https://www.rust-lang.org/ocean", true),
+            ("/ocean", true),
+            ("/ocean/reef.html", true),
+            ("/rust", false),
+            ("/forest/tree/snake.py", false),
+        ],
+    },
     FileCase {
         name: "nul_as_lf",
         agent: BOB,
@@ -92,6 +98,10 @@ const GROUPS: &[FileCase] = &[
         file: MANY_LINE_ENDS,
         verdicts: &[("/en", false)],
     },
+];
+
+// three agents of one file
+const OLD: &[FileCase] = &[
     FileCase {
         name: "old_bots_of_all",
         agent: "anything",
@@ -192,49 +202,41 @@ const SITEMAPS: &[SitemapCase] = &[
 ];
 
 /// The case's agent gets these sitemaps of a form of the file.
-fn check_sitemaps(rt: &(impl Abort + AllocGlobal), case: &SitemapCase, file: &[u8]) {
-    let name = case.name;
-    let sitemaps = robot_of(rt, name, case.agent, file).sitemaps;
-    assert!(rt;
-        sitemaps.len() == case.sitemaps.len(),
-        "{name}: {sitemaps:?}"
-    );
-    for (sitemap, want) in sitemaps.iter().zip(case.sitemaps) {
-        assert!(rt; sitemap.as_str() == *want, "{name}: {sitemap:?}");
+fn check_form(rt: &(impl Abort + AllocGlobal), case: &SitemapCase, file: &[u8]) {
+    let robot = robot_of(rt, case.name, case.agent, file);
+    check_sitemaps(rt, case.name, &robot.sitemaps, case.sitemaps);
+}
+
+/// These are the wanted sitemaps.
+pub fn check_sitemaps(rt: &impl Abort, name: &str, sitemaps: &[String], want: &[&str]) {
+    check_equal(rt, name, &sitemaps.len(), &want.len());
+    for (sitemap, want) in sitemaps.iter().zip(want) {
+        check_text(rt, name, sitemap.as_str(), want);
     }
 }
 
 #[test]
-fn agents_get_the_rules_of_their_groups(rt: HostRuntime) -> Result<(), Fail> {
-    for case in GROUPS {
-        check_file(&rt, case);
-    }
-    Ok(())
+fn agents_get_the_rules_of_their_groups(rt: HostRuntime) {
+    check_files(&rt, NAMES, NO_HOST);
+    check_files(&rt, FILES, NO_HOST);
+    check_files(&rt, OLD, NO_HOST);
 }
 
 #[test]
-fn a_group_without_lines_gives_nothing(rt: HostRuntime) -> Result<(), Fail> {
-    for agent in ["A", BOB] {
-        check_nothing(&rt, agent, &robot_of(&rt, agent, agent, b"User-Agent: A"));
-    }
-    Ok(())
+fn a_group_without_lines_gives_nothing(rt: HostRuntime) {
+    check_nothing(&rt, "A", &robot_of(&rt, "A", "A", b"User-Agent: A"));
+    check_nothing(&rt, BOB, &robot_of(&rt, BOB, BOB, b"User-Agent: A"));
 }
 
 #[test]
-fn groups_of_one_agent_are_merged(rt: HostRuntime) -> Result<(), Fail> {
-    for case in MERGED {
-        check_file(&rt, case);
-        check_file_at(&rt, case, "http://foo.bar");
-    }
-    Ok(())
+fn groups_of_one_agent_are_merged(rt: HostRuntime) {
+    check_files(&rt, MERGED, &["", "http://foo.bar"]);
 }
 
 #[test]
-fn every_agent_gets_the_sitemaps(rt: HostRuntime) -> Result<(), Fail> {
+fn every_agent_gets_the_sitemaps(rt: HostRuntime) {
     for case in SITEMAPS {
-        for file in &forms_of(rt.alloc(), case.file)? {
-            check_sitemaps(&rt, case, file);
-        }
+        check_form(&rt, case, case.file);
+        check_form(&rt, case, &indented(&rt, case.name, case.file));
     }
-    Ok(())
 }

@@ -1,5 +1,6 @@
-//! What the tests share: the forms of a file, long texts, and the questions that a robot is asked.
-use std::alloc::{AllocError, Global};
+//! What the tests share: assertions, calls that succeed, the forms of a file, long texts, and the questions that a robot is
+//! asked.
+use std::fmt::Debug;
 use std::process::Abort;
 use texting_robots::view::View;
 use texting_robots::{Decision, Robot};
@@ -7,8 +8,8 @@ use texting_robots::{Decision, Robot};
 /// The agent of the cases that name none.
 pub const BOB: &str = "BobBot";
 
-/// A file by its parts, each with how often it stands.
-pub type FileParts = &'static [(&'static [u8], usize)];
+/// The texts of a file's cases as they stand.
+pub const NO_HOST: &[&str] = &[""];
 
 /// A text by its parts, each with how often it stands.
 pub type TextParts = &'static [(&'static str, usize)];
@@ -37,44 +38,47 @@ pub const ALL_ALLOWED: Verdicts = &[
     ("https://example.com/a?b#c", true),
 ];
 
-/// The file with eight spaces before each line after the first.
-fn indented(alloc: Global, file: &[u8]) -> Result<Vec<u8>, AllocError> {
-    let mut text = Vec::new(alloc);
-    for (place, byte) in file.iter().enumerate() {
-        text.push(*byte)?;
-        if *byte == b'\n' && place < file.len() - 1 {
-            text.extend_from_slice(b"        ")?;
-        }
-    }
-    Ok(text)
+/// The case's question has the answer yes.
+pub fn check(rt: &impl Abort, name: &str, holds: bool) {
+    assert!(rt; holds, "{name}");
 }
 
-/// The file as it stands and, where it has several lines and no CR spells them, indented.
-pub fn forms_of(alloc: Global, file: &[u8]) -> Result<Vec<Vec<u8>>, AllocError> {
-    let mut forms = Vec::new(alloc);
-    forms.push(file.to_vec(alloc)?)?;
-    if file.contains(&b'\n') && !file.contains(&b'\r') {
-        forms.push(indented(alloc, file)?)?;
+/// The case's answer is the wanted one.
+pub fn check_equal<T: PartialEq + Debug>(rt: &impl Abort, name: &str, answer: &T, want: &T) {
+    assert!(rt; *answer == *want, "{name}: {answer:?}");
+}
+
+/// The case's text is the wanted one.
+pub fn check_text(rt: &impl Abort, name: &str, text: &str, want: &str) {
+    assert!(rt; text == want, "{name}: {text:.60}");
+}
+
+/// The verdict on the text is the wanted one.
+pub fn check_verdict(rt: &impl Abort, name: &str, text: &str, answer: bool, want: bool) {
+    assert!(rt; answer == want, "{name}: {text:.60}: {answer}");
+}
+
+/// The file with eight spaces before each line after the first, or as it stands if a CR spells its lines.
+pub fn indented(rt: &(impl Abort + AllocGlobal), name: &str, file: &[u8]) -> Vec<u8> {
+    let is_spelled_by_cr = file.contains(&b'\r');
+    let mut text = Vec::new(rt.alloc());
+    for (place, byte) in file.iter().enumerate() {
+        text.push(*byte).expect(rt, name);
+        if *byte == b'\n' && place < file.len() - 1 && !is_spelled_by_cr {
+            text.extend_from_slice(b"        ").expect(rt, name);
+        }
     }
-    Ok(forms)
+    text
 }
 
 /// Each part as often as its number says, one after the other.
-pub fn long_text(alloc: Global, parts: &[(&str, usize)]) -> Result<String, AllocError> {
-    let mut text = String::new(alloc);
+pub fn long_text(rt: &(impl Abort + AllocGlobal), name: &str, parts: &[(&str, usize)]) -> String {
+    let mut text = String::new(rt.alloc());
     for (part, count) in parts {
-        text.push_str(&part.repeat(alloc, *count)?)?;
+        let repeated = part.repeat(rt.alloc(), *count).expect(rt, name);
+        text.push_str(&repeated).expect(rt, name);
     }
-    Ok(text)
-}
-
-/// The same of bytes.
-pub fn long_bytes(alloc: Global, parts: &[(&[u8], usize)]) -> Result<Vec<u8>, AllocError> {
-    let mut bytes = Vec::new(alloc);
-    for (part, count) in parts {
-        bytes.extend_from_slice(&part.repeat(alloc, *count)?)?;
-    }
-    Ok(bytes)
+    text
 }
 
 /// The robot of a file that is accepted.
@@ -82,14 +86,24 @@ pub fn robot_of(rt: &(impl Abort + AllocGlobal), name: &str, agent: &str, file: 
     Robot::new(rt.alloc(), agent, file).expect(rt, name)
 }
 
-/// Asks the robot for a prepared text by each of its calls.
+/// The text that the URL is prepared to.
+pub fn prepared(rt: &(impl Abort + AllocGlobal), name: &str, url: &str) -> String {
+    Robot::prepare_url(rt.alloc(), url).expect(rt, name)
+}
+
+/// The Debug text of the robot.
+pub fn shown(rt: &(impl Abort + AllocGlobal), name: &str, robot: &Robot) -> String {
+    format!(in rt.alloc(); "{robot:?}").expect(rt, name)
+}
+
+/// Asks the robot for a prepared text by itself, by a view, and with its line.
 pub fn check_prepared(rt: &impl Abort, name: &str, robot: &Robot, text: &str, want: bool) {
-    let answer = robot.allowed_prepared(text);
-    assert!(rt; answer == want, "{name}: {text:.60}, prepared");
-    let answer = robot.allowed_view(&mut View::new(text));
-    assert!(rt; answer == want, "{name}: {text:.60}, by a view");
-    let answer = robot.decision(&mut View::new(text)).allowed;
-    assert!(rt; answer == want, "{name}: {text:.60}, with its line");
+    let answers = [
+        robot.allowed_prepared(text),
+        robot.allowed_view(&mut View::new(text)),
+        robot.decision(&mut View::new(text)).allowed,
+    ];
+    assert!(rt; answers == [want; 3], "{name}: {text:.60}: {answers:?}");
 }
 
 /// Asks the robot for a URL, and for its prepared text.
@@ -101,36 +115,42 @@ pub fn check_url(
     want: bool,
 ) {
     let answer = robot.allowed(rt.alloc(), url).expect(rt, name);
-    assert!(rt; answer == want, "{name}: {url:.60}");
-    let text = Robot::prepare_url(rt.alloc(), url).expect(rt, name);
-    check_prepared(rt, name, robot, text.as_str(), want);
+    check_verdict(rt, name, url, answer, want);
+    check_prepared(rt, name, robot, prepared(rt, name, url).as_str(), want);
 }
 
-/// Asks the robot for each URL, with the host before it.
-fn check_verdicts(
+/// Asks the robot of a form of the case's file, with the host before each text.
+fn check_form(rt: &(impl Abort + AllocGlobal), case: &FileCase, file: &[u8], host: &str) {
+    let name = case.name;
+    let robot = robot_of(rt, name, case.agent, file);
+    for (text, want) in case.verdicts {
+        let url = format!(in rt.alloc(); "{host}{text}").expect(rt, name);
+        check_url(rt, name, &robot, url.as_str(), *want);
+    }
+}
+
+/// Reads each case's file as it stands and indented, and asks for its texts with each of the hosts before them.
+pub fn check_files(rt: &(impl Abort + AllocGlobal), cases: &[FileCase], hosts: &[&str]) {
+    for case in cases {
+        let other = indented(rt, case.name, case.file);
+        for host in hosts {
+            check_form(rt, case, case.file, host);
+            check_form(rt, case, &other, host);
+        }
+    }
+}
+
+/// The line of the file that decides on a URL's prepared text.
+fn check_decision(
     rt: &(impl Abort + AllocGlobal),
     name: &str,
     robot: &Robot,
-    host: &str,
-    verdicts: &[(&str, bool)],
+    url: &str,
+    want: Decision,
 ) {
-    for (text, want) in verdicts {
-        let url = format!(in rt.alloc(); "{host}{text}").expect(rt, name);
-        check_url(rt, name, robot, url.as_str(), *want);
-    }
-}
-
-/// Reads the forms of the case's file, and asks with the host before each text.
-pub fn check_file_at(rt: &(impl Abort + AllocGlobal), case: &FileCase, host: &str) {
-    for file in &forms_of(rt.alloc(), case.file).expect(rt, case.name) {
-        let robot = robot_of(rt, case.name, case.agent, file);
-        check_verdicts(rt, case.name, &robot, host, case.verdicts);
-    }
-}
-
-/// The same with the texts as they stand.
-pub fn check_file(rt: &(impl Abort + AllocGlobal), case: &FileCase) {
-    check_file_at(rt, case, "");
+    let text = prepared(rt, name, url);
+    let decision = robot.decision(&mut View::new(text.as_str()));
+    check_equal(rt, name, &(url, decision), &(url, want));
 }
 
 /// Asks the robot for each URL, and for the line that decides on its prepared text.
@@ -142,25 +162,25 @@ pub fn check_decisions(
 ) {
     for (url, allowed, line) in decisions {
         check_url(rt, name, robot, url, *allowed);
-        let text = Robot::prepare_url(rt.alloc(), url).expect(rt, name);
-        let decision = robot.decision(&mut View::new(text.as_str()));
         let want = Decision {
             allowed: *allowed,
             line: *line,
         };
-        assert!(rt; decision == want, "{name}: {url}: {decision:?}");
+        check_decision(rt, name, robot, url, want);
     }
-}
-
-/// The Debug text of the robot.
-pub fn shown(rt: &(impl Abort + AllocGlobal), name: &str, robot: &Robot) -> String {
-    format!(in rt.alloc(); "{robot:?}").expect(rt, name)
 }
 
 /// The robot has no rule, no delay and no sitemap: it shows as that of an empty file does, and allows every text.
 pub fn check_nothing(rt: &(impl Abort + AllocGlobal), name: &str, robot: &Robot) {
-    let text = shown(rt, name, robot);
     let empty = shown(rt, name, &robot_of(rt, name, BOB, b""));
-    assert!(rt; text.as_str() == empty.as_str(), "{name}: {text:.60}");
-    check_verdicts(rt, name, robot, "", ALL_ALLOWED);
+    check_text(rt, name, shown(rt, name, robot).as_str(), empty.as_str());
+    for (url, want) in ALL_ALLOWED {
+        check_url(rt, name, robot, url, *want);
+    }
+}
+
+/// The robot has no delay and no sitemap.
+pub fn check_no_delay_or_sitemap(rt: &impl Abort, name: &str, robot: &Robot) {
+    check_equal(rt, name, &robot.delay, &None);
+    check(rt, name, robot.sitemaps.is_empty());
 }

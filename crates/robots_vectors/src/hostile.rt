@@ -1,43 +1,42 @@
 //! Long files, long texts and long numbers: each is answered, and no call wants memory.
 use crate::helpers::{
-    BOB, FileParts, TextParts, check_nothing, check_prepared, check_url, forms_of, long_bytes,
-    long_text, robot_of,
+    BOB, TextParts, check, check_equal, check_no_delay_or_sitemap, check_nothing, check_prepared,
+    check_text, check_url, indented, long_text, prepared, robot_of,
 };
 use crate::lines::check_lines;
+use crate::patterns::{check_looks, check_match, regex_of};
+use crate::urls::address_of;
 use std::process::Abort;
-use std::test::Fail;
-use texting_robots::minregex::MinRegex;
 use texting_robots::parser::{Line, read_delay, robots_txt_parse};
 use texting_robots::view::View;
-use texting_robots::{Robot, get_robots_url};
 
 /// A file and texts, and whether each may be fetched.
 struct LongCase {
     name: &'static str,
-    file: FileParts,
+    file: TextParts,
     texts: &'static [(TextParts, bool)],
 }
 
 /// A file and a text, whether it may be fetched, and how many looks at most say so.
 struct LookCase {
     name: &'static str,
-    file: FileParts,
+    file: TextParts,
     text: TextParts,
     allowed: bool,
     most: u64,
 }
 
 // a name, a text, and its only line
-const ONE_LINE: &[(&str, FileParts, Line<'static>)] = &[
-    ("many_cr", &[(b"\r", 1_000_000)], Line::Raw(b"")),
+const ONE_LINE: &[(&str, TextParts, Line<'static>)] = &[
+    ("many_cr", &[("\r", 1_000_000)], Line::Raw(b"")),
     (
         "many_cr_and_lf",
-        &[(b"\r", 1_000_000), (b"\n", 1)],
+        &[("\r", 1_000_000), ("\n", 1)],
         Line::Raw(b""),
     ),
     (
         "many_spaces",
-        &[(b"Disallow:", 1), (b" ", 1_000_000)],
+        &[("Disallow:", 1), (" ", 1_000_000)],
         Line::Allow(b"/"),
     ),
 ];
@@ -45,12 +44,12 @@ const ONE_LINE: &[(&str, FileParts, Line<'static>)] = &[
 const LONG: &[LongCase] = &[
     LongCase {
         name: "many_stars",
-        file: &[(b"Disallow: ", 1), (b"*", 400_000), (b"\nAllow: /x", 1)],
+        file: &[("Disallow: ", 1), ("*", 400_000), ("\nAllow: /x", 1)],
         texts: &[(&[("/x", 1)], false), (&[("/robots.txt", 1)], true)],
     },
     LongCase {
         name: "long_rule",
-        file: &[(b"Disallow: /", 1), (b"A", 1_000_000)],
+        file: &[("Disallow: /", 1), ("A", 1_000_000)],
         texts: &[
             (&[("/A", 1)], true),
             (&[("/", 1), ("A", 1_000_000)], false),
@@ -63,28 +62,28 @@ const LONG: &[LongCase] = &[
 const LOOKS: &[LookCase] = &[
     LookCase {
         name: "look_count",
-        file: &[(b"Disallow: /*aaaab", 1)],
+        file: &[("Disallow: /*aaaab", 1)],
         text: &[("/", 1), ("a", 1000)],
         allowed: true,
         most: 2_002,
     },
     LookCase {
         name: "long_piece",
-        file: &[(b"Disallow: /*", 1), (b"a", 2000), (b"b", 1)],
+        file: &[("Disallow: /*", 1), ("a", 2000), ("b", 1)],
         text: &[("/", 1), ("a", 100_000)],
         allowed: true,
         most: 200_002,
     },
     LookCase {
         name: "many_rules",
-        file: &[(b"Disallow: /*aaaab\n", 1000)],
+        file: &[("Disallow: /*aaaab\n", 1000)],
         text: &[("/", 1), ("a", 1000)],
         allowed: true,
         most: 2_002_000,
     },
     LookCase {
         name: "shorter_rules_are_passed_over",
-        file: &[(b"Allow: /*b\n", 1000), (b"Disallow: /aaaa", 1)],
+        file: &[("Allow: /*b\n", 1000), ("Disallow: /aaaa", 1)],
         text: &[("/", 1), ("a", 1004)],
         allowed: false,
         most: 2_010,
@@ -114,141 +113,156 @@ const DELAYS: &[(&str, TextParts, u64)] = &[
     ("long_exponent_of_zero", &[("0e", 1), ("9", 1_000_000)], 0),
 ];
 
+// texts that stars match
+const STARRED: &[&str] = &["", "/", "/x", "$", "/robots.txt"];
+
+// a file, and whether it lets a URL of 100,000 bytes be fetched
+const LONG_URL: &[(&str, bool)] = &[
+    ("Disallow: /*a$", false),
+    ("Disallow: /*a$\nAllow: /aaaaaa", true),
+    ("Disallow: /*ab", true),
+];
+
 /// Asks the robot of a form of the case's file for each of its texts.
 fn check_long(rt: &(impl Abort + AllocGlobal), case: &LongCase, file: &[u8]) {
     let name = case.name;
     let robot = robot_of(rt, name, BOB, file);
     for (parts, want) in case.texts {
-        let text = long_text(rt.alloc(), parts).expect(rt, name);
+        let text = long_text(rt, name, parts);
         check_url(rt, name, &robot, text.as_str(), *want);
     }
 }
 
 /// Asks the robot of a form of the case's file by views, and counts the looks.
-fn check_looks(rt: &(impl Abort + AllocGlobal), case: &LookCase, file: &[u8]) {
-    let name = case.name;
-    let text = long_text(rt.alloc(), case.text).expect(rt, name);
-    let robot = robot_of(rt, name, BOB, file);
-    check_prepared(rt, name, &robot, text.as_str(), case.allowed);
-    let mut view = View::new(text.as_str());
+fn check_case(rt: &(impl Abort + AllocGlobal), case: &LookCase, text: &str, file: &[u8]) {
+    let robot = robot_of(rt, case.name, BOB, file);
+    check_prepared(rt, case.name, &robot, text, case.allowed);
+    let mut view = View::new(text);
     robot.allowed_view(&mut view);
-    let seen = view.seen();
-    assert!(rt; seen <= case.most, "{name}: {seen} looks");
-    let mut view = View::new(text.as_str());
+    check_looks(rt, case.name, &view, case.most);
+    let mut view = View::new(text);
     robot.decision(&mut view);
-    let seen = view.seen();
-    assert!(rt; seen <= case.most, "{name}: {seen} looks, with its line");
+    check_looks(rt, case.name, &view, case.most);
 }
 
 #[test]
-fn long_texts_have_their_lines(rt: HostRuntime) -> Result<(), Fail> {
+fn long_texts_have_their_lines(rt: HostRuntime) {
     for (name, parts, want) in ONE_LINE {
-        let text = long_bytes(rt.alloc(), parts)?;
-        check_lines(&rt, name, &text, &[*want]);
+        let text = long_text(&rt, name, parts);
+        check_lines(&rt, name, text.as_bytes(), &[*want]);
     }
-    let text = long_bytes(rt.alloc(), &[(b"\0", 1_000_000)])?;
-    check_lines(&rt, "many_nul", &text, &[Line::Raw(&text)]);
-    Ok(())
+    let text = long_text(&rt, "many_nul", &[("\0", 1_000_000)]);
+    check_lines(
+        &rt,
+        "many_nul",
+        text.as_bytes(),
+        &[Line::Raw(text.as_bytes())],
+    );
 }
 
 #[test]
-fn long_files_are_read(rt: HostRuntime) -> Result<(), Fail> {
+fn long_files_are_read(rt: HostRuntime) {
     for case in LONG {
-        let file = long_bytes(rt.alloc(), case.file)?;
-        for file in &forms_of(rt.alloc(), &file)? {
-            check_long(&rt, case, file);
-        }
+        let file = long_text(&rt, case.name, case.file);
+        check_long(&rt, case, file.as_bytes());
+        check_long(&rt, case, &indented(&rt, case.name, file.as_bytes()));
     }
-    Ok(())
+}
+
+/// The text has as many lines, each of them this one.
+fn check_all_lines(rt: &(impl Abort + AllocGlobal), text: &[u8], count: usize, want: Line<'_>) {
+    let lines = robots_txt_parse(rt.alloc(), text).expect(rt, "lines");
+    check_equal(rt, "lines", &lines.len(), &count);
+    for line in &lines {
+        check(rt, "line", *line == want);
+    }
 }
 
 #[test]
-fn five_megabytes(rt: HostRuntime) -> Result<(), Fail> {
-    let line: &[u8] = b"Disallow: /private/folder # nothing to see\n";
+fn five_megabytes(rt: HostRuntime) {
+    let line = "Disallow: /private/folder # nothing to see\n";
     let count = 5_000_000usize.div_ceil(line.len());
-    let file = long_bytes(rt.alloc(), &[(line, count)])?;
-    assert!(rt; file.len() >= 5_000_000);
-    let lines = robots_txt_parse(rt.alloc(), &file)?;
-    assert!(rt; lines.len() == count);
-    let want = Line::Disallow(b"/private/folder");
-    assert!(rt; lines.iter().all(|line| *line == want));
-    let robot = robot_of(&rt, "five_megabytes", BOB, &file);
-    check_url(&rt, "five_megabytes", &robot, "/private/folder/x", false);
-    check_url(&rt, "five_megabytes", &robot, "/public", true);
-    Ok(())
+    let file = long_text(&rt, "file", &[(line, count)]);
+    check(&rt, "length", file.len() >= 5_000_000);
+    check_all_lines(
+        &rt,
+        file.as_bytes(),
+        count,
+        Line::Disallow(b"/private/folder"),
+    );
+    let robot = robot_of(&rt, "robot", BOB, file.as_bytes());
+    check_url(&rt, "refused", &robot, "/private/folder/x", false);
+    check_url(&rt, "allowed", &robot, "/public", true);
 }
 
 #[test]
-fn long_urls(rt: HostRuntime) -> Result<(), Fail> {
-    let path = long_text(rt.alloc(), &[("/", 1), ("a", 99_976)])?;
-    let url = format!(in rt.alloc(); "https://www.example.com{path}")?;
-    assert!(rt; url.len() == 100_000);
-    let prepared = Robot::prepare_url(rt.alloc(), url.as_str())?;
-    assert!(rt; prepared.as_str() == path.as_str());
-    let address = get_robots_url(rt.alloc(), url.as_str())?;
-    assert!(rt; address.as_str() == "https://www.example.com/robots.txt");
-    let cases: [(&[u8], bool); 3] = [
-        (b"Disallow: /*a$", false),
-        (b"Disallow: /*a$\nAllow: /aaaaaa", true),
-        (b"Disallow: /*ab", true),
-    ];
-    for (file, want) in cases {
-        let robot = robot_of(&rt, "long_url", BOB, file);
-        let answer = robot.allowed(rt.alloc(), url.as_str())?;
-        assert!(rt; answer == want, "{robot:?}");
+fn long_urls(rt: HostRuntime) {
+    let host = "https://www.example.com";
+    let url = long_text(&rt, "url", &[(host, 1), ("/", 1), ("a", 99_976)]);
+    check_equal(&rt, "length", &url.len(), &100_000);
+    let path = long_text(&rt, "path", &[("/", 1), ("a", 99_976)]);
+    check_text(
+        &rt,
+        "path",
+        prepared(&rt, "path", url.as_str()).as_str(),
+        path.as_str(),
+    );
+    let address = address_of(&rt, "address", url.as_str());
+    check_text(
+        &rt,
+        "address",
+        address.as_str(),
+        "https://www.example.com/robots.txt",
+    );
+    for (file, want) in LONG_URL {
+        let robot = robot_of(&rt, file, BOB, file.as_bytes());
+        check_url(&rt, file, &robot, url.as_str(), *want);
     }
-    Ok(())
 }
 
 #[test]
-fn looks_are_bounded(rt: HostRuntime) -> Result<(), Fail> {
+fn looks_are_bounded(rt: HostRuntime) {
     for case in LOOKS {
-        let file = long_bytes(rt.alloc(), case.file)?;
-        for file in &forms_of(rt.alloc(), &file)? {
-            check_looks(&rt, case, file);
-        }
-    }
-    Ok(())
-}
-
-#[test]
-fn a_million_stars_are_one(rt: HostRuntime) -> Result<(), Fail> {
-    let pattern = long_text(rt.alloc(), &[("*", 1_000_000), ("$", 1)])?;
-    let regex = MinRegex::new(rt.alloc(), pattern.as_str())?;
-    assert!(rt; regex.as_str() == "*$");
-    for text in ["", "/", "/x", "$", "/robots.txt"] {
-        assert!(rt; regex.is_match(text), "{text}");
-        assert!(rt;
-            regex.matches_view(&mut View::new(text)),
-            "{text}, by a view"
+        let text = long_text(&rt, case.name, case.text);
+        let file = long_text(&rt, case.name, case.file);
+        check_case(&rt, case, text.as_str(), file.as_bytes());
+        check_case(
+            &rt,
+            case,
+            text.as_str(),
+            &indented(&rt, case.name, file.as_bytes()),
         );
     }
-    Ok(())
 }
 
 #[test]
-fn long_delays_are_exact(rt: HostRuntime) -> Result<(), Fail> {
-    for (name, parts, want) in DELAYS {
-        let text = long_text(rt.alloc(), parts)?;
-        let delay = read_delay(text.as_bytes());
-        assert!(rt; delay == Some(*want), "{name}: {delay:?}");
+fn a_million_stars_are_one(rt: HostRuntime) {
+    let pattern = long_text(&rt, "stars", &[("*", 1_000_000), ("$", 1)]);
+    let regex = regex_of(&rt, "stars", pattern.as_str());
+    check_text(&rt, "stars", regex.as_str(), "*$");
+    for text in STARRED {
+        check_match(&rt, text, &regex, text, true);
     }
-    Ok(())
 }
 
 #[test]
-fn a_million_nul_give_nothing(rt: HostRuntime) -> Result<(), Fail> {
+fn long_delays_are_exact(rt: HostRuntime) {
+    for (name, parts, want) in DELAYS {
+        let text = long_text(&rt, name, parts);
+        check_equal(&rt, name, &read_delay(text.as_bytes()), &Some(*want));
+    }
+}
+
+#[test]
+fn a_million_nul_give_nothing(rt: HostRuntime) {
     let name = "many_nul";
-    let file = long_bytes(rt.alloc(), &[(b"\0", 1_000_000)])?;
-    check_nothing(&rt, name, &robot_of(&rt, name, BOB, &file));
-    Ok(())
+    let file = long_text(&rt, name, &[("\0", 1_000_000)]);
+    check_nothing(&rt, name, &robot_of(&rt, name, BOB, file.as_bytes()));
 }
 
 /// Nothing here asks for memory, so it passes in `rt try --test --fail-alloc 1` too, where the first request is refused.
 #[test]
-fn many_lf_give_nothing(rt: HostRuntime) -> Result<(), Fail> {
-    let robot = Robot::new(rt.alloc(), BOB, &[b'\n'; 65_536])?;
-    assert_eq!(rt; robot.delay, None);
-    assert!(rt; robot.sitemaps.is_empty());
-    Ok(())
+fn many_lf_give_nothing(rt: HostRuntime) {
+    let robot = robot_of(&rt, "many_lf", BOB, &[b'\n'; 65_536]);
+    check_no_delay_or_sitemap(&rt, "many_lf", &robot);
 }

@@ -1,8 +1,7 @@
 //! How a text is cut into lines, and what each line is.
 use crate::files::NUL_AS_LF;
-use crate::helpers::forms_of;
+use crate::helpers::{check_equal, indented};
 use std::process::Abort;
-use std::test::Fail;
 use texting_robots::parser::{Line, LineIter, file_lines, lines, robots_txt_parse};
 
 /// A text and its lines.
@@ -25,20 +24,8 @@ const MARKED: &[Line<'static>] = &[Line::UserAgent(b"foo"), Line::Allow(b"/AnyVa
 
 const CR_NUL: &[u8] = b"Disallow: /a\r\0Allow: /b";
 
-const TEXTS: &[LinesCase] = &[
-    LinesCase {
-        name: "slow_delay",
-        text: b"User-Agent: SmerBot\nDisallow: /path\nAllow:    /path/exception   # ONLY THIS IS ALLOWED\n\
-            Crawl-delay : 60 # Very slow delay\n\nsitemap: https://example.com/sitemap.xml",
-        lines: &[
-            Line::UserAgent(b"SmerBot"),
-            Line::Disallow(b"/path"),
-            Line::Allow(b"/path/exception"),
-            Line::CrawlDelay(Some(60_000_000)),
-            Line::Raw(b""),
-            Line::Sitemap(b"https://example.com/sitemap.xml"),
-        ],
-    },
+// what ends a line
+const ENDS: &[LinesCase] = &[
     LinesCase {
         name: "line_ends",
         text: b"a\r\r\nb\n\nc",
@@ -65,6 +52,39 @@ const TEXTS: &[LinesCase] = &[
         lines: &[],
     },
     LinesCase {
+        name: "cr_nul",
+        text: CR_NUL,
+        lines: &[Line::Disallow(b"/a"), Line::Raw(b"\0Allow: /b")],
+    },
+];
+
+// the same lines with several ends
+const SIX_LINES: &[LinesCase] = &[
+    LinesCase {
+        name: "six_lines",
+        text: b"User-Agent: foo\nAllow: /some/path\nUser-Agent: bar\n\n\nDisallow: /",
+        lines: SIX,
+    },
+    LinesCase {
+        name: "six_lines_and_a_last_lf",
+        text: b"User-Agent: foo\nAllow: /some/path\nUser-Agent: bar\n\n\nDisallow: /\n",
+        lines: SIX,
+    },
+    LinesCase {
+        name: "six_lines_with_cr",
+        text: b"User-Agent: foo\r\nAllow: /some/path\r\nUser-Agent: bar\r\n\r\n\r\nDisallow: /",
+        lines: SIX,
+    },
+    LinesCase {
+        name: "six_lines_with_cr_and_a_last_one",
+        text: b"User-Agent: foo\r\nAllow: /some/path\r\nUser-Agent: bar\r\n\r\n\r\nDisallow: /\r\n",
+        lines: SIX,
+    },
+];
+
+// a byte order mark, whole or in part
+const MARKS: &[LinesCase] = &[
+    LinesCase {
         name: "partial_front",
         text: b"\xBBAllow: /",
         lines: &[Line::Allow(b"/")],
@@ -83,19 +103,36 @@ const TEXTS: &[LinesCase] = &[
         ],
     },
     LinesCase {
-        name: "cr_nul",
-        text: CR_NUL,
-        lines: &[Line::Disallow(b"/a"), Line::Raw(b"\0Allow: /b")],
+        name: "whole_mark",
+        text: b"\xEF\xBB\xBFUser-Agent: foo\nAllow: /AnyValue",
+        lines: MARKED,
     },
     LinesCase {
-        name: "tabs_and_capitals",
-        text: b"DISALLAW\t:\t/a\t# x",
-        lines: &[Line::Disallow(b"/a")],
+        name: "two_bytes_of_a_mark",
+        text: b"\xEF\xBBUser-Agent: foo\nAllow: /AnyValue",
+        lines: MARKED,
     },
     LinesCase {
-        name: "no_break_space_behind",
-        text: b"Allow: /a\xC2\xA0",
-        lines: &[Line::Allow(b"/a")],
+        name: "one_byte_of_a_mark",
+        text: b"\xEFUser-Agent: foo\nAllow: /AnyValue",
+        lines: MARKED,
+    },
+];
+
+// lines of each kind, and keys without a value
+const KEYS: &[LinesCase] = &[
+    LinesCase {
+        name: "slow_delay",
+        text: b"User-Agent: SmerBot\nDisallow: /path\nAllow:    /path/exception   # ONLY THIS IS ALLOWED\n\
+            Crawl-delay : 60 # Very slow delay\n\nsitemap: https://example.com/sitemap.xml",
+        lines: &[
+            Line::UserAgent(b"SmerBot"),
+            Line::Disallow(b"/path"),
+            Line::Allow(b"/path/exception"),
+            Line::CrawlDelay(Some(60_000_000)),
+            Line::Raw(b""),
+            Line::Sitemap(b"https://example.com/sitemap.xml"),
+        ],
     },
     LinesCase {
         name: "key_of_two_words_alone",
@@ -106,6 +143,35 @@ const TEXTS: &[LinesCase] = &[
         name: "key_alone",
         text: b"Disallow",
         lines: &[Line::Raw(b"Disallow")],
+    },
+    LinesCase {
+        name: "empty_agent",
+        text: b"user-agent:",
+        lines: &[Line::UserAgent(b"")],
+    },
+    LinesCase {
+        name: "agent_without_colon",
+        text: b"user-agent FooBot",
+        lines: &[Line::UserAgent(b"FooBot")],
+    },
+    LinesCase {
+        name: "empty_sitemap",
+        text: b"Sitemap:",
+        lines: &[Line::Sitemap(b"")],
+    },
+];
+
+// what is no part of a value
+const VALUES: &[LinesCase] = &[
+    LinesCase {
+        name: "tabs_and_capitals",
+        text: b"DISALLAW\t:\t/a\t# x",
+        lines: &[Line::Disallow(b"/a")],
+    },
+    LinesCase {
+        name: "no_break_space_behind",
+        text: b"Allow: /a\xC2\xA0",
+        lines: &[Line::Allow(b"/a")],
     },
     LinesCase {
         name: "blank_and_comment",
@@ -122,16 +188,10 @@ const TEXTS: &[LinesCase] = &[
         text: b"Disallow:/a:b",
         lines: &[Line::Disallow(b"/a:b")],
     },
-    LinesCase {
-        name: "empty_agent",
-        text: b"user-agent:",
-        lines: &[Line::UserAgent(b"")],
-    },
-    LinesCase {
-        name: "agent_without_colon",
-        text: b"user-agent FooBot",
-        lines: &[Line::UserAgent(b"FooBot")],
-    },
+];
+
+// delays
+const DELAYS: &[LinesCase] = &[
     LinesCase {
         name: "delay_with_fraction",
         text: b"    crawl-delay  : 3.14",
@@ -156,46 +216,6 @@ const TEXTS: &[LinesCase] = &[
         name: "refused_delay",
         text: b"Crawl-delay: wait # x",
         lines: &[Line::Raw(b"Crawl-delay: wait # x")],
-    },
-    LinesCase {
-        name: "empty_sitemap",
-        text: b"Sitemap:",
-        lines: &[Line::Sitemap(b"")],
-    },
-    LinesCase {
-        name: "six_lines",
-        text: b"User-Agent: foo\nAllow: /some/path\nUser-Agent: bar\n\n\nDisallow: /",
-        lines: SIX,
-    },
-    LinesCase {
-        name: "six_lines_and_a_last_lf",
-        text: b"User-Agent: foo\nAllow: /some/path\nUser-Agent: bar\n\n\nDisallow: /\n",
-        lines: SIX,
-    },
-    LinesCase {
-        name: "six_lines_with_cr",
-        text: b"User-Agent: foo\r\nAllow: /some/path\r\nUser-Agent: bar\r\n\r\n\r\nDisallow: /",
-        lines: SIX,
-    },
-    LinesCase {
-        name: "six_lines_with_cr_and_a_last_one",
-        text: b"User-Agent: foo\r\nAllow: /some/path\r\nUser-Agent: bar\r\n\r\n\r\nDisallow: /\r\n",
-        lines: SIX,
-    },
-    LinesCase {
-        name: "whole_mark",
-        text: b"\xEF\xBB\xBFUser-Agent: foo\nAllow: /AnyValue",
-        lines: MARKED,
-    },
-    LinesCase {
-        name: "two_bytes_of_a_mark",
-        text: b"\xEF\xBBUser-Agent: foo\nAllow: /AnyValue",
-        lines: MARKED,
-    },
-    LinesCase {
-        name: "one_byte_of_a_mark",
-        text: b"\xEFUser-Agent: foo\nAllow: /AnyValue",
-        lines: MARKED,
     },
 ];
 
@@ -230,70 +250,86 @@ const NUL_TEXTS: &[LinesCase] = &[
     },
 ];
 
-/// Whether it is the wanted line, which has eight spaces before it if it is raw and indented.
-fn is_line(line: Line<'_>, want: Line<'_>, indented: bool) -> bool {
-    match (line, want) {
-        (Line::Raw(body), Line::Raw(want)) if indented => {
-            body.strip_prefix(b"        ") == Some(want)
-        }
+/// The line is the wanted one, with these blanks before it if it is raw.
+fn check_line(rt: &impl Abort, name: &str, line: Line<'_>, want: Line<'_>, blanks: &[u8]) {
+    let is_wanted = match (line, want) {
+        (Line::Raw(body), Line::Raw(want)) => body.strip_prefix(blanks) == Some(want),
         _ => line == want,
-    }
-}
-
-/// Whether these are the wanted lines, which have eight spaces before each raw line after the first if they are indented.
-fn are_lines(lines: &[Line<'_>], want: &[Line<'_>], indented: bool) -> bool {
-    let mut pairs = lines.iter().zip(want).enumerate();
-    lines.len() == want.len()
-        && pairs.all(|(place, (line, want))| is_line(*line, *want, indented && place > 0))
+    };
+    assert!(rt; is_wanted, "{name}: {line:?}");
 }
 
 /// The iterator gives these lines, and then nothing more.
-fn check_each(rt: &impl Abort, name: &str, lines: LineIter<'_>, want: &[Line<'_>]) {
+fn check_each<'a>(rt: &impl Abort, name: &str, lines: LineIter<'a>, want: &[Line<'a>]) {
     let mut lines = lines;
     for line in want {
-        let next = lines.next().expect(rt, name);
-        assert!(rt; next == *line, "{name}: {next:?}");
+        check_equal(rt, name, &lines.next(), &Some(*line));
     }
-    assert!(rt; lines.next().is_none(), "{name}: one line too many");
-    assert!(rt; lines.next().is_none(), "{name}: a line after the end");
+    check_equal(rt, name, &lines.next(), &None);
+    check_equal(rt, name, &lines.next(), &None);
 }
 
 /// The vector of the text's lines, and the lines one by one. Where no NUL is in the text, those of the file are the same.
-pub fn check_lines(rt: &(impl Abort + AllocGlobal), name: &str, text: &[u8], want: &[Line<'_>]) {
+pub fn check_lines<'a>(
+    rt: &(impl Abort + AllocGlobal),
+    name: &str,
+    text: &'a [u8],
+    want: &[Line<'a>],
+) {
     let parsed = robots_txt_parse(rt.alloc(), text).expect(rt, name);
-    assert!(rt; parsed.as_slice() == want, "{name}: {parsed:?}");
+    check_shifted(rt, name, &parsed, want, b"");
     check_each(rt, name, lines(text), want);
     if !text.contains(&b'\0') {
         check_each(rt, name, file_lines(text), want);
     }
 }
 
-/// The lines of a form of the case's text, where only raw lines differ.
-fn check_form(rt: &(impl Abort + AllocGlobal), case: &LinesCase, text: &[u8]) {
-    let name = case.name;
-    let parsed = robots_txt_parse(rt.alloc(), text).expect(rt, name);
-    let indented = text.len() > case.text.len();
-    assert!(rt;
-        are_lines(&parsed, case.lines, indented),
-        "{name}: {parsed:?}"
-    );
-}
-
-#[test]
-fn texts_have_their_lines(rt: HostRuntime) -> Result<(), Fail> {
-    for case in TEXTS {
-        check_lines(&rt, case.name, case.text, case.lines);
-        for text in &forms_of(rt.alloc(), case.text)? {
-            check_form(&rt, case, text);
-        }
+/// The lines are the wanted ones, with these blanks before each raw one after the first.
+fn check_shifted(
+    rt: &impl Abort,
+    name: &str,
+    lines: &[Line<'_>],
+    want: &[Line<'_>],
+    blanks: &[u8],
+) {
+    check_equal(rt, name, &lines.len(), &want.len());
+    let mut before: &[u8] = b"";
+    for (line, want) in lines.iter().zip(want) {
+        check_line(rt, name, *line, *want, before);
+        before = blanks;
     }
-    Ok(())
+}
+
+/// The lines of the case's text when it is indented, where only raw lines differ.
+fn check_indented(rt: &(impl Abort + AllocGlobal), case: &LinesCase) {
+    let text = indented(rt, case.name, case.text);
+    let is_longer = text.len() > case.text.len();
+    let blanks: &[u8] = if is_longer { b"        " } else { b"" };
+    let lines = robots_txt_parse(rt.alloc(), &text).expect(rt, case.name);
+    check_shifted(rt, case.name, &lines, case.lines, blanks);
+}
+
+/// The lines of each case's text, as it stands and indented.
+fn check_texts(rt: &(impl Abort + AllocGlobal), cases: &[LinesCase]) {
+    for case in cases {
+        check_lines(rt, case.name, case.text, case.lines);
+        check_indented(rt, case);
+    }
 }
 
 #[test]
-fn nul_ends_a_line_of_a_file(rt: HostRuntime) -> Result<(), Fail> {
+fn texts_have_their_lines(rt: HostRuntime) {
+    check_texts(&rt, ENDS);
+    check_texts(&rt, SIX_LINES);
+    check_texts(&rt, MARKS);
+    check_texts(&rt, KEYS);
+    check_texts(&rt, VALUES);
+    check_texts(&rt, DELAYS);
+}
+
+#[test]
+fn nul_ends_a_line_of_a_file(rt: HostRuntime) {
     for case in NUL_TEXTS {
         check_each(&rt, case.name, file_lines(case.text), case.lines);
     }
-    Ok(())
 }

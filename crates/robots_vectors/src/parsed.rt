@@ -1,7 +1,7 @@
 //! Calls that take a URL that is parsed already.
-use crate::helpers::{BOB, robot_of};
-use std::test::Fail;
-use texting_robots::robots_url_of;
+use crate::helpers::{BOB, check_equal, check_text, check_verdict, robot_of};
+use std::process::Abort;
+use texting_robots::{Robot, robots_url_of};
 use url::{ParseError, Url};
 
 // a name, a file, and its answers for URLs
@@ -54,27 +54,39 @@ const ADDRESSES: &[(&str, &str, &str)] = &[
     ),
 ];
 
-#[test]
-fn verdicts_on_parsed_urls(rt: HostRuntime) -> Result<(), Fail> {
-    for (name, file, answers) in VERDICTS {
-        let robot = robot_of(&rt, name, BOB, file);
-        for (url, want) in *answers {
-            let parsed = Url::parse(rt.alloc(), url).expect(&rt, name);
-            assert!(rt; robot.allowed_url(&parsed) == *want, "{name}: {url}");
-        }
+/// The URL, which can be parsed.
+fn parsed(rt: &(impl Abort + AllocGlobal), name: &str, url: &str) -> Url {
+    Url::parse(rt.alloc(), url).expect(rt, name)
+}
+
+/// Asks the robot for each parsed URL.
+fn check_answers(
+    rt: &(impl Abort + AllocGlobal),
+    name: &str,
+    robot: &Robot,
+    answers: &[(&str, bool)],
+) {
+    for (url, want) in answers {
+        let answer = robot.allowed_url(&parsed(rt, name, url));
+        check_verdict(rt, name, url, answer, *want);
     }
-    Ok(())
 }
 
 #[test]
-fn robots_addresses_of_parsed_urls(rt: HostRuntime) -> Result<(), Fail> {
-    for (name, url, want) in ADDRESSES {
-        let parsed = Url::parse(rt.alloc(), url).expect(&rt, name);
-        let address = robots_url_of(rt.alloc(), &parsed).expect(&rt, name);
-        assert!(rt; address.as_str() == *want, "{name}: {address}");
+fn verdicts_on_parsed_urls(rt: HostRuntime) {
+    for (name, file, answers) in VERDICTS {
+        let robot = robot_of(&rt, name, BOB, file);
+        check_answers(&rt, name, &robot, answers);
     }
-    let parsed = Url::parse(rt.alloc(), "ipfs://etc/").expect(&rt, "ipfs");
-    let error = robots_url_of(rt.alloc(), &parsed).expect_err(&rt, "ipfs");
-    assert_eq!(rt; error, ParseError::EmptyHost);
-    Ok(())
+}
+
+#[test]
+fn robots_addresses_of_parsed_urls(rt: HostRuntime) {
+    for (name, url, want) in ADDRESSES {
+        let address = robots_url_of(rt.alloc(), &parsed(&rt, name, url)).expect(&rt, name);
+        check_text(&rt, name, address.as_str(), want);
+    }
+    let answer = robots_url_of(rt.alloc(), &parsed(&rt, "ipfs", "ipfs://etc/"));
+    let error = answer.expect_err(&rt, "ipfs");
+    check_equal(&rt, "ipfs", &error, &ParseError::EmptyHost);
 }

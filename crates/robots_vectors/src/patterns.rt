@@ -1,8 +1,7 @@
 //! What a pattern matches, with how many looks, and how patterns are ordered.
-use crate::helpers::long_text;
+use crate::helpers::{check, check_equal, check_text, long_text};
 use std::cmp::Ordering;
 use std::process::Abort;
-use std::test::Fail;
 use texting_robots::minregex::MinRegex;
 use texting_robots::view::View;
 
@@ -55,70 +54,94 @@ const ORDERS: &[(&str, &str, &str, Ordering)] = &[
 ];
 
 /// The pattern, which isn't refused.
-fn regex_of(rt: &(impl Abort + AllocGlobal), name: &str, pattern: &str) -> MinRegex {
+pub fn regex_of(rt: &(impl Abort + AllocGlobal), name: &str, pattern: &str) -> MinRegex {
     MinRegex::new(rt.alloc(), pattern).expect(rt, name)
 }
 
-/// Matches a text and a view of it, and counts the looks.
-fn check_match(rt: &impl Abort, name: &str, regex: &MinRegex, text: &str, want: bool) {
-    assert!(rt; regex.is_match(text) == want, "{name}");
-    let mut view = View::new(text);
-    assert!(rt; regex.matches_view(&mut view) == want, "{name}, by a view");
-    let most = (text.len() as u64).saturating_mul(2);
+/// The pattern's copy.
+fn copy_of(rt: &(impl Abort + AllocGlobal), name: &str, regex: &MinRegex) -> MinRegex {
+    regex.clone(rt.alloc()).expect(rt, name)
+}
+
+/// The pattern's copy is equal to it, and shows as it does.
+pub fn check_copy(rt: &(impl Abort + AllocGlobal), name: &str, regex: &MinRegex) {
+    let copy = copy_of(rt, name, regex);
+    check(rt, name, copy == *regex);
+    check_text(rt, name, copy.as_str(), regex.as_str());
+}
+
+/// The text was looked at so often at most.
+pub fn check_looks(rt: &impl Abort, name: &str, view: &View<'_>, most: u64) {
     let seen = view.seen();
     assert!(rt; seen <= most, "{name}: {seen} looks");
 }
 
-#[test]
-fn patterns_match_with_few_looks(rt: HostRuntime) -> Result<(), Fail> {
-    for (name, pattern, text, want) in MATCHES {
-        let regex = regex_of(&rt, name, pattern);
-        check_match(&rt, name, &regex, text, *want);
-        let copy = regex.clone(rt.alloc()).expect(&rt, name);
-        check_match(&rt, name, &copy, text, *want);
+/// Matches a text by itself and by a view, and counts the looks.
+pub fn check_match(rt: &impl Abort, name: &str, regex: &MinRegex, text: &str, want: bool) {
+    let mut view = View::new(text);
+    let answers = [regex.is_match(text), regex.matches_view(&mut view)];
+    check_equal(rt, name, &answers, &[want; 2]);
+    let most = (text.len() as u64).saturating_mul(2);
+    check_looks(rt, name, &view, most);
+}
+
+/// Matches each text by its pattern and by the pattern's copy.
+fn check_matches(rt: &(impl Abort + AllocGlobal), cases: &[(&str, &str, &str, bool)]) {
+    for (name, pattern, text, want) in cases {
+        let regex = regex_of(rt, name, pattern);
+        check_match(rt, name, &regex, text, *want);
+        check_match(rt, name, &copy_of(rt, name, &regex), text, *want);
     }
-    let text = long_text(
-        rt.alloc(),
-        &[("/", 1), ("a", 500), ("b", 1), ("a", 500), ("b", 1)],
-    )?;
+}
+
+#[test]
+fn patterns_match_with_few_looks(rt: HostRuntime) {
+    check_matches(&rt, MATCHES);
     let name = "two_searched_pieces";
     let regex = regex_of(&rt, name, "/*aab*aab$");
-    check_match(&rt, name, &regex, text.as_str(), true);
-    Ok(())
+    let parts = &[("/", 1), ("a", 500), ("b", 1), ("a", 500), ("b", 1)];
+    check_match(
+        &rt,
+        name,
+        &regex,
+        long_text(&rt, name, parts).as_str(),
+        true,
+    );
 }
 
 #[test]
-fn dollar_is_an_ordinary_byte_for_stars(rt: HostRuntime) -> Result<(), Fail> {
-    let regex = MinRegex::new(rt.alloc(), "")?;
+fn dollar_is_an_ordinary_byte_for_stars(rt: HostRuntime) {
+    let regex = regex_of(&rt, "empty", "");
     for (name, pattern, text, want) in STARS {
-        assert!(rt; regex.match_stars(pattern, text) == *want, "{name}");
+        check(&rt, name, regex.match_stars(pattern, text) == *want);
     }
-    Ok(())
 }
 
 #[test]
-fn each_run_of_stars_shows_as_one(rt: HostRuntime) -> Result<(), Fail> {
+fn each_run_of_stars_shows_as_one(rt: HostRuntime) {
     for (name, pattern, want) in COLLAPSED {
         let regex = regex_of(&rt, name, pattern);
-        assert!(rt; regex.as_str() == *want, "{name}");
-        let copy = regex.clone(rt.alloc()).expect(&rt, name);
-        assert!(rt; copy.as_str() == *want && copy == regex, "{name}, copied");
+        check_text(&rt, name, regex.as_str(), want);
+        check_copy(&rt, name, &regex);
     }
-    Ok(())
+}
+
+/// How the first pattern compares with the other one, and the other with it.
+fn check_order(rt: &impl Abort, name: &str, left: &MinRegex, right: &MinRegex, want: Ordering) {
+    check_equal(
+        rt,
+        name,
+        &[left.cmp(right), right.cmp(left)],
+        &[want, want.reverse()],
+    );
+    check_equal(rt, name, &left.partial_cmp(right), &Some(want));
+    check_equal(rt, name, &(*left == *right), &(want == Ordering::Equal));
 }
 
 #[test]
-fn longer_patterns_come_first_and_then_bytes_decide(rt: HostRuntime) -> Result<(), Fail> {
+fn longer_patterns_come_first_and_then_bytes_decide(rt: HostRuntime) {
     for (name, left, right, want) in ORDERS {
         let left = regex_of(&rt, name, left);
-        let right = regex_of(&rt, name, right);
-        assert!(rt; left.cmp(&right) == *want, "{name}");
-        assert!(rt; left.partial_cmp(&right) == Some(*want), "{name}, in part");
-        assert!(rt; right.cmp(&left) == want.reverse(), "{name}, turned");
-        assert!(rt;
-            (left == right) == (*want == Ordering::Equal),
-            "{name}, equal or not"
-        );
+        check_order(&rt, name, &left, &regex_of(&rt, name, right), *want);
     }
-    Ok(())
 }

@@ -1,75 +1,84 @@
 //! Printed texts.
-use crate::helpers::{BOB, forms_of, long_text, robot_of, shown};
-use std::test::Fail;
+use crate::helpers::{BOB, check, check_text, indented, long_text, robot_of, shown};
+use crate::patterns::regex_of;
+use std::process::Abort;
 use texting_robots::Error;
-use texting_robots::minregex::MinRegex;
+
+const ERRORS: &[(Error, &str)] = &[
+    (Error::InvalidRobots, "Failed to parse robots.txt"),
+    (Error::InvalidRule, "Rule with $ is too long"),
+    (Error::Memory, "Out of memory"),
+];
 
 #[test]
-fn errors_have_their_texts(rt: HostRuntime) -> Result<(), Fail> {
-    for (error, want) in [
-        (Error::InvalidRobots, "Failed to parse robots.txt"),
-        (Error::InvalidRule, "Rule with $ is too long"),
-        (Error::Memory, "Out of memory"),
-    ] {
-        let text = error.to_string(rt.alloc())?;
-        assert!(rt; text.as_str() == want, "{text}");
+fn errors_have_their_texts(rt: HostRuntime) {
+    for (error, want) in ERRORS {
+        let text = error.to_string(rt.alloc()).expect(&rt, want);
+        check_text(&rt, want, text.as_str(), want);
     }
-    Ok(())
+}
+
+/// Whether the text holds the part.
+fn check_holds(rt: &impl Abort, text: &str, part: &str, want: bool) {
+    assert!(rt; text.contains(part) == want, "{part}: {text}");
+}
+
+/// The text of the file's robot.
+fn text_of(rt: &(impl Abort + AllocGlobal), file: &[u8]) -> String {
+    shown(rt, "text", &robot_of(rt, "robot", BOB, file))
+}
+
+/// The robot shows its rule and its delay.
+fn check_rule_and_delay(rt: &(impl Abort + AllocGlobal), file: &[u8]) {
+    let text = text_of(rt, file);
+    check_holds(rt, text.as_str(), "/allow/", true);
+    check_holds(rt, text.as_str(), "Some(42000000)", true);
 }
 
 #[test]
-fn a_robot_shows_its_rules_and_delay(rt: HostRuntime) -> Result<(), Fail> {
-    for file in &forms_of(rt.alloc(), b"Allow: /allow/\nCrawl-Delay: 42")? {
-        let text = shown(
-            &rt,
-            "rule_and_delay",
-            &robot_of(&rt, "rule_and_delay", BOB, file),
-        );
-        assert!(rt; text.contains("/allow/"), "{text}");
-        assert!(rt; text.contains("Some(42000000)"), "{text}");
-    }
-    Ok(())
+fn a_robot_shows_its_rules_and_delay(rt: HostRuntime) {
+    let file = b"Allow: /allow/\nCrawl-Delay: 42";
+    check_rule_and_delay(&rt, file);
+    check_rule_and_delay(&rt, &indented(&rt, "file", file));
 }
 
 #[test]
-fn a_robot_shows_what_a_rule_allows(rt: HostRuntime) -> Result<(), Fail> {
-    let allowing = shown(&rt, "allow", &robot_of(&rt, "allow", BOB, b"Allow: /open*"));
-    assert!(rt; allowing.contains("/open*"), "{allowing}");
-    assert!(rt; allowing.contains("true"), "{allowing}");
-    assert!(rt; !allowing.contains("false"), "{allowing}");
-    let refusing = shown(
+fn a_robot_shows_what_a_rule_allows(rt: HostRuntime) {
+    let text = text_of(&rt, b"Allow: /open*");
+    check_holds(&rt, text.as_str(), "/open*", true);
+    check_holds(&rt, text.as_str(), "true", true);
+    check_holds(&rt, text.as_str(), "false", false);
+    let text = text_of(&rt, b"Disallow: /shut$");
+    check_holds(&rt, text.as_str(), "/shut$", true);
+    check_holds(&rt, text.as_str(), "false", true);
+    check_holds(&rt, text.as_str(), "true", false);
+}
+
+#[test]
+fn a_robot_shows_a_longer_rule_first_with_all_its_stars(rt: HostRuntime) {
+    let text = text_of(&rt, b"Allow: /\nDisallow: /x***y/");
+    check_holds(
         &rt,
-        "disallow",
-        &robot_of(&rt, "disallow", BOB, b"Disallow: /shut$"),
+        text.as_str(),
+        "[(\"/x***y/\", false, 2), (\"/\", true, 1)]",
+        true,
     );
-    assert!(rt; refusing.contains("/shut$"), "{refusing}");
-    assert!(rt; refusing.contains("false"), "{refusing}");
-    assert!(rt; !refusing.contains("true"), "{refusing}");
-    Ok(())
+}
+
+/// The text holds the pattern. With a table, which has a number for each byte of a searched piece, it were more than twice
+/// as long.
+fn check_without_table(rt: &impl Abort, text: &str, pattern: &str) {
+    check_holds(rt, text, pattern, true);
+    check(rt, text, text.len() < 2 * pattern.len());
 }
 
 #[test]
-fn a_robot_shows_a_longer_rule_first_with_all_its_stars(rt: HostRuntime) -> Result<(), Fail> {
-    let robot = robot_of(&rt, "longer", BOB, b"Allow: /\nDisallow: /x***y/");
-    let text = shown(&rt, "longer", &robot);
-    let rules = "[(\"/x***y/\", false, 2), (\"/\", true, 1)]";
-    assert!(rt; text.contains(rules), "{text}");
-    Ok(())
-}
-
-/// A table has a number for each byte of a searched piece, so with one the text were more than twice as long.
-#[test]
-fn patterns_show_without_tables(rt: HostRuntime) -> Result<(), Fail> {
-    let pattern = long_text(rt.alloc(), &[("/*", 1), ("ab", 1000), ("*", 1)])?;
-    let regex = MinRegex::new(rt.alloc(), pattern.as_str())?;
-    let file = format!(in rt.alloc(); "Disallow: {pattern}")?;
-    let robot = robot_of(&rt, "long_piece", BOB, file.as_bytes());
-    for text in [
-        format!(in rt.alloc(); "{regex:?}")?,
-        shown(&rt, "long_piece", &robot),
-    ] {
-        assert!(rt; text.contains(pattern.as_str()), "{text}");
-        assert!(rt; text.len() < 2 * pattern.len(), "{text}");
-    }
-    Ok(())
+fn patterns_show_without_tables(rt: HostRuntime) {
+    let pattern = long_text(&rt, "pattern", &[("/*", 1), ("ab", 1000), ("*", 1)]);
+    let regex = regex_of(&rt, "pattern", pattern.as_str());
+    let text = format!(in rt.alloc(); "{regex:?}").expect(&rt, "pattern");
+    check_without_table(&rt, text.as_str(), pattern.as_str());
+    let file = format!(in rt.alloc(); "Disallow: {pattern}").expect(&rt, "rule");
+    let text = text_of(&rt, file.as_bytes());
+    check_without_table(&rt, text.as_str(), pattern.as_str());
 }

@@ -1,142 +1,123 @@
 //! Which rules with `$` are too long.
-use crate::helpers::{BOB, FileParts, forms_of, long_bytes, long_text};
+use crate::helpers::{BOB, TextParts, check, check_equal, check_text, indented, long_text};
+use crate::patterns::regex_of;
 use std::process::Abort;
-use std::test::Fail;
 use texting_robots::minregex::MinRegex;
 use texting_robots::{Error, Robot};
 
-/// A file, and whether the agent's robot is refused for an overlong rule.
-struct RefusalCase {
-    name: &'static str,
-    agent: &'static str,
-    file: FileParts,
-    refused: bool,
-}
+// a name, a file, and whether the robot is refused for an overlong rule
+const DISALLOWED: &[(&str, TextParts, bool)] = &[
+    (
+        "longest",
+        &[("Disallow: /", 1), ("a", 4094), ("$", 1)],
+        false,
+    ),
+    (
+        "one_byte_more",
+        &[("Disallow: /", 1), ("a", 4095), ("$", 1)],
+        true,
+    ),
+    (
+        "two_stars_as_one",
+        &[("Disallow: /", 1), ("a", 4093), ("**$", 1)],
+        false,
+    ),
+    (
+        "escaped",
+        &[("Disallow: /", 1), ("é", 682), ("$", 1)],
+        false,
+    ),
+    (
+        "escaped_one_more",
+        &[("Disallow: /", 1), ("é", 683), ("$", 1)],
+        true,
+    ),
+    ("without_dollar", &[("Disallow: /", 1), ("a", 4095)], false),
+];
 
-const FILES: &[RefusalCase] = &[
-    RefusalCase {
-        name: "longest",
-        agent: BOB,
-        file: &[(b"Disallow: /", 1), (b"a", 4094), (b"$", 1)],
-        refused: false,
-    },
-    RefusalCase {
-        name: "one_byte_more",
-        agent: BOB,
-        file: &[(b"Disallow: /", 1), (b"a", 4095), (b"$", 1)],
-        refused: true,
-    },
-    RefusalCase {
-        name: "two_stars_as_one",
-        agent: BOB,
-        file: &[(b"Disallow: /", 1), (b"a", 4093), (b"**$", 1)],
-        refused: false,
-    },
-    RefusalCase {
-        name: "escaped",
-        agent: BOB,
-        file: &[(b"Disallow: /", 1), (b"\xC3\xA9", 682), (b"$", 1)],
-        refused: false,
-    },
-    RefusalCase {
-        name: "escaped_one_more",
-        agent: BOB,
-        file: &[(b"Disallow: /", 1), (b"\xC3\xA9", 683), (b"$", 1)],
-        refused: true,
-    },
-    RefusalCase {
-        name: "of_another_agent",
-        agent: BOB,
-        file: &[(b"User-Agent: x\nDisallow: /", 1), (b"a", 4095), (b"$", 1)],
-        refused: false,
-    },
-    RefusalCase {
-        name: "broken_text",
-        agent: BOB,
-        file: &[(b"Disallow: /", 1), (b"a", 4095), (b"\xFF$", 1)],
-        refused: false,
-    },
-    RefusalCase {
-        name: "without_dollar",
-        agent: BOB,
-        file: &[(b"Disallow: /", 1), (b"a", 4095)],
-        refused: false,
-    },
-    RefusalCase {
-        name: "allow",
-        agent: BOB,
-        file: &[(b"Allow: /", 1), (b"a", 4095), (b"$", 1)],
-        refused: true,
-    },
-    RefusalCase {
-        name: "allow_of_another_agent",
-        agent: BOB,
-        file: &[(b"User-Agent: x\nAllow: /", 1), (b"a", 4095), (b"$", 1)],
-        refused: false,
-    },
-    RefusalCase {
-        name: "allow_of_broken_text",
-        agent: BOB,
-        file: &[(b"Allow: /", 1), (b"a", 4095), (b"\xFF$", 1)],
-        refused: false,
-    },
-    RefusalCase {
-        name: "many_stars",
-        agent: BOB,
-        file: &[
-            (b"Disallow:**", 1),
-            (b"A", 19),
-            (b"*", 1),
-            (b"A", 4075),
-            (b"*$", 1),
+const OTHERS: &[(&str, TextParts, bool)] = &[
+    (
+        "of_another_agent",
+        &[("User-Agent: x\nDisallow: /", 1), ("a", 4095), ("$", 1)],
+        false,
+    ),
+    ("allow", &[("Allow: /", 1), ("a", 4095), ("$", 1)], true),
+    (
+        "allow_of_another_agent",
+        &[("User-Agent: x\nAllow: /", 1), ("a", 4095), ("$", 1)],
+        false,
+    ),
+    (
+        "many_stars",
+        &[
+            ("Disallow:**", 1),
+            ("A", 19),
+            ("*", 1),
+            ("A", 4075),
+            ("*$", 1),
         ],
-        refused: true,
-    },
-    RefusalCase {
-        name: "many_stars_apart",
-        agent: BOB,
-        file: &[
-            (b"Allow:*AAA*", 1),
-            (b"A", 19),
-            (b"*", 1),
-            (b"A", 4072),
-            (b"*$", 1),
+        true,
+    ),
+    (
+        "many_stars_apart",
+        &[
+            ("Allow:*AAA*", 1),
+            ("A", 19),
+            ("*", 1),
+            ("A", 4072),
+            ("*$", 1),
         ],
-        refused: true,
-    },
+        true,
+    ),
+];
+
+// a name, and the beginning of a rule that isn't UTF-8: letters, a byte 255 and `$` stand behind it
+const BROKEN: &[(&str, &str)] = &[
+    ("broken_text", "Disallow: /"),
+    ("allow_of_broken_text", "Allow: /"),
 ];
 
 /// Whether the robot is refused for an overlong rule.
-fn is_refused(rt: &(impl Abort + AllocGlobal), name: &str, agent: &str, file: &[u8]) -> bool {
-    match Robot::new(rt.alloc(), agent, file) {
+pub fn is_refused(rt: &impl Abort, name: &str, answer: Result<Robot, Error>) -> bool {
+    match answer {
         Ok(_) => false,
         Err(Error::InvalidRule) => true,
         Err(error) => panic!(rt; "{name}: {error}"),
     }
 }
 
-#[test]
-fn robots_are_refused_for_overlong_rules(rt: HostRuntime) -> Result<(), Fail> {
-    for case in FILES {
-        let name = case.name;
-        let file = long_bytes(rt.alloc(), case.file)?;
-        for file in &forms_of(rt.alloc(), &file)? {
-            assert!(rt;
-                is_refused(&rt, name, case.agent, file) == case.refused,
-                "{name}"
-            );
-        }
+/// The robot of a form of the file is refused or not.
+fn check_form(rt: &(impl Abort + AllocGlobal), name: &str, file: &[u8], want: bool) {
+    let answer = Robot::new(rt.alloc(), BOB, file);
+    check_equal(rt, name, &is_refused(rt, name, answer), &want);
+}
+
+/// The same of each file, as it stands and indented.
+fn check_refusals(rt: &(impl Abort + AllocGlobal), cases: &[(&str, TextParts, bool)]) {
+    for (name, parts, want) in cases {
+        let file = long_text(rt, name, parts);
+        check_form(rt, name, file.as_bytes(), *want);
+        check_form(rt, name, &indented(rt, name, file.as_bytes()), *want);
     }
-    Ok(())
 }
 
 #[test]
-fn overlong_patterns_are_refused(rt: HostRuntime) -> Result<(), Fail> {
-    let pattern = long_text(rt.alloc(), &[("/", 1), ("a", 4095), ("$", 1)])?;
+fn robots_are_refused_for_overlong_rules(rt: HostRuntime) {
+    check_refusals(&rt, DISALLOWED);
+    check_refusals(&rt, OTHERS);
+    for (name, start) in BROKEN {
+        let mut file = long_text(&rt, name, &[(*start, 1), ("a", 4095)]).into_bytes();
+        file.extend_from_slice(b"\xFF$").expect(&rt, name);
+        check_form(&rt, name, &file, false);
+    }
+}
+
+#[test]
+fn overlong_patterns_are_refused(rt: HostRuntime) {
+    let pattern = long_text(&rt, "letters", &[("/", 1), ("a", 4095), ("$", 1)]);
     let answer = MinRegex::new(rt.alloc(), pattern.as_str());
-    assert!(rt; matches!(answer, Err(Error::InvalidRule)));
-    let pattern = long_text(rt.alloc(), &[("$", 1), ("*", 4096)])?;
-    let regex = MinRegex::new(rt.alloc(), pattern.as_str())?;
-    assert!(rt; regex.as_str() == "$*");
-    Ok(())
+    check(&rt, "letters", matches!(answer, Err(Error::InvalidRule)));
+    let pattern = long_text(&rt, "stars", &[("$", 1), ("*", 4096)]);
+    let regex = regex_of(&rt, "stars", pattern.as_str());
+    check_text(&rt, "stars", regex.as_str(), "$*");
 }

@@ -1,7 +1,7 @@
 //! What RFC 9309 answers: its two examples, and what its sections on groups, matching and other records say; and where
 //! this library departs from it on purpose, each departure with a smallest file.
-use crate::helpers::{FileCase, check_file, check_file_at, robot_of};
-use std::test::Fail;
+use crate::groups::check_sitemaps;
+use crate::helpers::{FileCase, NO_HOST, check_files, robot_of};
 
 /// The example of section 5.1.
 const SIMPLE: &[u8] =
@@ -86,7 +86,8 @@ const EXAMPLES: &[FileCase] = &[
     },
 ];
 
-const SECTIONS: &[FileCase] = &[
+// which groups an agent gets
+const GROUPS: &[FileCase] = &[
     FileCase {
         name: "groups_of_one_name_are_one",
         agent: "ExampleBot",
@@ -124,6 +125,10 @@ const SECTIONS: &[FileCase] = &[
         file: b"disallow: /foo\nuser-agent: ExampleBot\ndisallow: /bar\n",
         verdicts: &[("/foo", true), ("/bar", false)],
     },
+];
+
+// patterns, comments and other records
+const RULES: &[FileCase] = &[
     FileCase {
         name: "matching_minds_the_case",
         agent: "ExampleBot",
@@ -247,39 +252,34 @@ const DEPARTURES_OF_URLS: &[FileCase] = &[
     },
 ];
 
+/// The host of whole URLs.
+const HOST: &str = "https://example.com";
+
 #[test]
-fn standard_examples(rt: HostRuntime) -> Result<(), Fail> {
-    for case in EXAMPLES {
-        check_file(&rt, case);
-        check_file_at(&rt, case, "https://example.com");
-    }
-    Ok(())
+fn standard_examples(rt: HostRuntime) {
+    check_files(&rt, EXAMPLES, &["", HOST]);
 }
 
 #[test]
-fn standard_sections(rt: HostRuntime) -> Result<(), Fail> {
-    for case in SECTIONS {
-        check_file(&rt, case);
-        check_file_at(&rt, case, "https://example.com");
-    }
-    Ok(())
+fn standard_sections(rt: HostRuntime) {
+    check_files(&rt, GROUPS, &["", HOST]);
+    check_files(&rt, RULES, &["", HOST]);
 }
 
 #[test]
-fn standard_sitemaps(rt: HostRuntime) -> Result<(), Fail> {
+fn standard_sitemaps(rt: HostRuntime) {
     let file = b"user-agent: a\nsitemap: https://example.com/s.xml\nuser-agent: b\ndisallow: /\n";
     let robot = robot_of(&rt, "sitemaps", "c", file);
-    assert!(rt; robot.sitemaps.len() == 1, "{:?}", robot.sitemaps);
-    Ok(())
+    check_sitemaps(
+        &rt,
+        "sitemaps",
+        &robot.sitemaps,
+        &["https://example.com/s.xml"],
+    );
 }
 
 #[test]
-fn standard_departures(rt: HostRuntime) -> Result<(), Fail> {
-    for case in DEPARTURES {
-        check_file(&rt, case);
-    }
-    for case in DEPARTURES_OF_URLS {
-        check_file_at(&rt, case, "https://example.com");
-    }
-    Ok(())
+fn standard_departures(rt: HostRuntime) {
+    check_files(&rt, DEPARTURES, NO_HOST);
+    check_files(&rt, DEPARTURES_OF_URLS, &[HOST]);
 }

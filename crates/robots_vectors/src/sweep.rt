@@ -1,11 +1,10 @@
 //! Every small text and every small input: with ample memory each call answers, and no call for want of it.
-use crate::helpers::BOB;
-use std::alloc::{AllocError, Global};
+use crate::helpers::{BOB, check, check_no_delay_or_sitemap, check_text, prepared, robot_of};
+use crate::lines::check_lines;
+use crate::patterns::{check_copy, regex_of};
+use crate::urls::address_of;
 use std::process::Abort;
-use std::test::Fail;
-use texting_robots::minregex::MinRegex;
 use texting_robots::parser::{Line, robots_txt_parse};
-use texting_robots::{Robot, get_robots_url};
 
 /// How many texts of at most six bytes there are out of `/`, `a`, `*` and `$`.
 const SMALL_TEXTS: u32 = 5_461;
@@ -14,104 +13,109 @@ const SMALL_TEXTS: u32 = 5_461;
 const SMALL_INPUTS: u32 = 65_793;
 
 /// The text with this number out of `/`, `a`, `*` and `$`: the empty one is 0, and shorter ones come first.
-fn small_text(alloc: Global, number: u32) -> Result<String, AllocError> {
-    let mut text = String::new(alloc);
+fn small_text(rt: &(impl Abort + AllocGlobal), number: u32) -> String {
+    let mut text = String::new(rt.alloc());
     let mut left = number;
     for _ in 0..6 {
         if left == 0 {
             break;
         }
         left -= 1;
-        text.push(match left % 4 {
+        let letter = match left % 4 {
             0 => '/',
             1 => 'a',
             2 => '*',
             _ => '$',
-        })?;
+        };
+        text.push(letter).expect(rt, "letter");
         left /= 4;
     }
-    Ok(text)
+    text
 }
 
 /// The input with this number, in the same order.
-fn small_input(alloc: Global, number: u32) -> Result<Vec<u8>, AllocError> {
-    let mut input = Vec::new(alloc);
+fn small_input(rt: &(impl Abort + AllocGlobal), number: u32) -> Vec<u8> {
+    let mut input = Vec::new(rt.alloc());
     let mut left = number;
     for _ in 0..2 {
         if left == 0 {
             break;
         }
         left -= 1;
-        input.push((left % 256) as u8)?;
+        input.push((left % 256) as u8).expect(rt, "byte");
         left /= 256;
     }
-    Ok(input)
-}
-
-/// The text as a pattern, and its copy.
-fn check_pattern(rt: &(impl Abort + AllocGlobal), text: &str) {
-    let regex = MinRegex::new(rt.alloc(), text).expect(rt, text);
-    let copy = regex.clone(rt.alloc()).expect(rt, text);
-    assert!(rt; copy == regex, "{text}");
-    assert!(rt; copy.as_str() == regex.as_str(), "{text}");
+    input
 }
 
 /// The text as a URL, which it isn't by itself.
 fn check_url(rt: &(impl Abort + AllocGlobal), text: &str) {
-    let prepared = Robot::prepare_url(rt.alloc(), text).expect(rt, text);
     let want = if text.is_empty() { "/" } else { text };
-    assert!(rt; prepared.as_str() == want, "{text}");
+    check_text(rt, text, prepared(rt, text, text).as_str(), want);
     let url = format!(in rt.alloc(); "http://a/{text}").expect(rt, text);
-    let address = get_robots_url(rt.alloc(), url.as_str()).expect(rt, text);
-    assert!(rt; address.as_str() == "http://a/robots.txt", "{text}");
+    check_text(
+        rt,
+        text,
+        address_of(rt, text, url.as_str()).as_str(),
+        "http://a/robots.txt",
+    );
 }
 
-/// The text as a file, and as the value of its one rule.
+/// The text as a file.
 fn check_file(rt: &(impl Abort + AllocGlobal), text: &str) {
-    let lines = robots_txt_parse(rt.alloc(), text.as_bytes()).expect(rt, text);
-    match lines.as_slice() {
-        [] => assert!(rt; text.is_empty(), "{text}"),
-        [line] => assert!(rt;
-            *line == Line::Raw(text.as_bytes()) && !text.is_empty(),
-            "{text}"
-        ),
-        _ => panic!(rt; "{text}"),
-    }
+    let lines = [Line::Raw(text.as_bytes())];
+    let count = if text.is_empty() { 0 } else { 1 };
+    check_lines(rt, text, text.as_bytes(), &lines[..count]);
+}
+
+/// The text as the value of a file's one rule.
+fn check_rule(rt: &(impl Abort + AllocGlobal), text: &str) {
     let file = format!(in rt.alloc(); "Disallow: {text}").expect(rt, text);
-    let robot = Robot::new(rt.alloc(), BOB, file.as_bytes()).expect(rt, text);
-    assert!(rt; robot.delay == None && robot.sitemaps.is_empty(), "{text}");
+    let robot = robot_of(rt, text, BOB, file.as_bytes());
+    check_no_delay_or_sitemap(rt, text, &robot);
     let answer = robot.allowed(rt.alloc(), text).expect(rt, text);
     // a pattern without `$` matches itself, since its stars may stand for stars; one of no bytes allows
     let is_sure = !text.contains('$');
-    assert!(rt; !is_sure || answer == text.is_empty(), "{text}");
+    check(rt, text, !is_sure || answer == text.is_empty());
 }
 
 #[test]
-fn small_texts(rt: HostRuntime) -> Result<(), Fail> {
+fn small_texts(rt: HostRuntime) {
     for number in 0..SMALL_TEXTS {
-        let text = small_text(rt.alloc(), number)?;
-        check_pattern(&rt, text.as_str());
+        let text = small_text(&rt, number);
+        check_copy(
+            &rt,
+            text.as_str(),
+            &regex_of(&rt, text.as_str(), text.as_str()),
+        );
         check_url(&rt, text.as_str());
         check_file(&rt, text.as_str());
+        check_rule(&rt, text.as_str());
     }
-    assert!(rt; small_text(rt.alloc(), SMALL_TEXTS - 1)?.as_str() == "$$$$$$");
-    Ok(())
+    check_text(
+        &rt,
+        "last",
+        small_text(&rt, SMALL_TEXTS - 1).as_str(),
+        "$$$$$$",
+    );
+}
+
+/// The input as a file, of which each line is raw.
+fn check_input(rt: &(impl Abort + AllocGlobal), input: &[u8]) {
+    let lines = robots_txt_parse(rt.alloc(), input).expect(rt, "lines");
+    for line in &lines {
+        assert!(rt; matches!(line, Line::Raw(_)), "{line:?}");
+    }
+    let robot = robot_of(rt, "robot", BOB, input);
+    check_no_delay_or_sitemap(rt, "robot", &robot);
+    assert!(rt; robot.allowed_prepared("/"), "{input:?}");
 }
 
 #[test]
-fn small_inputs(rt: HostRuntime) -> Result<(), Fail> {
+fn small_inputs(rt: HostRuntime) {
     for number in 0..SMALL_INPUTS {
-        let input = small_input(rt.alloc(), number)?;
-        let lines = robots_txt_parse(rt.alloc(), &input)?;
-        let all_raw = lines.iter().all(|line| matches!(line, Line::Raw(_)));
-        assert!(rt; all_raw, "{input:?}");
-        let robot = Robot::new(rt.alloc(), BOB, &input)?;
-        assert!(rt;
-            robot.delay == None && robot.sitemaps.is_empty(),
-            "{input:?}"
-        );
-        assert!(rt; robot.allowed_prepared("/"), "{input:?}");
+        check_input(&rt, &small_input(&rt, number));
     }
-    assert!(rt; small_input(rt.alloc(), SMALL_INPUTS - 1)?.as_slice() == b"\xFF\xFF".as_slice());
-    Ok(())
+    let last = small_input(&rt, SMALL_INPUTS - 1);
+    check(&rt, "last", last.as_slice() == b"\xFF\xFF".as_slice());
 }

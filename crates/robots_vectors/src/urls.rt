@@ -1,6 +1,7 @@
 //! Prepared texts, and the addresses of robots files.
-use std::test::Fail;
-use texting_robots::{Robot, get_robots_url};
+use crate::helpers::{check_equal, check_text, prepared};
+use std::process::Abort;
+use texting_robots::get_robots_url;
 use url::{ParseError, Url};
 
 // a name, a URL or a path, and its prepared text
@@ -170,42 +171,49 @@ const NO_URLS: &[(&str, &str, &str, ParseError)] = &[
     ),
 ];
 
+/// The address of the robots file of a URL that has one.
+pub fn address_of(rt: &(impl Abort + AllocGlobal), name: &str, url: &str) -> String {
+    get_robots_url(rt.alloc(), url).expect(rt, name)
+}
+
+/// The URL has no robots file, for this cause.
+fn check_no_address(rt: &(impl Abort + AllocGlobal), name: &str, url: &str, want: ParseError) {
+    let error = get_robots_url(rt.alloc(), url).expect_err(rt, name);
+    check_equal(rt, name, &error, &want);
+}
+
+/// The text is no URL, for this cause.
+fn check_no_url(rt: &(impl Abort + AllocGlobal), name: &str, text: &str, want: ParseError) {
+    let error = Url::parse(rt.alloc(), text).expect_err(rt, name);
+    check_equal(rt, name, &error, &want);
+}
+
 #[test]
-fn urls_have_their_prepared_texts(rt: HostRuntime) -> Result<(), Fail> {
+fn urls_have_their_prepared_texts(rt: HostRuntime) {
     for (name, url, want) in PREPARED {
-        let text = Robot::prepare_url(rt.alloc(), url).expect(&rt, name);
-        assert!(rt; text.as_str() == *want, "{name}: {text}");
+        check_text(&rt, name, prepared(&rt, name, url).as_str(), want);
     }
-    Ok(())
 }
 
 #[test]
-fn urls_have_their_robots_addresses(rt: HostRuntime) -> Result<(), Fail> {
+fn urls_have_their_robots_addresses(rt: HostRuntime) {
     for (name, url, want) in ADDRESSES {
-        let address = get_robots_url(rt.alloc(), url).expect(&rt, name);
-        assert!(rt; address.as_str() == *want, "{name}: {address}");
+        check_text(&rt, name, address_of(&rt, name, url).as_str(), want);
     }
-    Ok(())
 }
 
 #[test]
-fn urls_without_a_web_host_have_no_address(rt: HostRuntime) -> Result<(), Fail> {
+fn urls_without_a_web_host_have_no_address(rt: HostRuntime) {
     for (name, url, want) in NO_ADDRESS {
-        let error = get_robots_url(rt.alloc(), url).expect_err(&rt, name);
-        assert!(rt; error == *want, "{name}: {error}");
+        check_no_address(&rt, name, url, *want);
     }
-    Ok(())
 }
 
 #[test]
-fn texts_that_are_no_urls_are_escaped_and_have_no_address(rt: HostRuntime) -> Result<(), Fail> {
+fn texts_that_are_no_urls_are_escaped_and_have_no_address(rt: HostRuntime) {
     for (name, text, want, cause) in NO_URLS {
-        let own = Url::parse(rt.alloc(), text).expect_err(&rt, name);
-        assert!(rt; own == *cause, "{name}: {own}");
-        let error = get_robots_url(rt.alloc(), text).expect_err(&rt, name);
-        assert!(rt; error == *cause, "{name}: {error}");
-        let prepared = Robot::prepare_url(rt.alloc(), text).expect(&rt, name);
-        assert!(rt; prepared.as_str() == *want, "{name}: {prepared}");
+        check_no_url(&rt, name, text, *cause);
+        check_no_address(&rt, name, text, *cause);
+        check_text(&rt, name, prepared(&rt, name, text).as_str(), want);
     }
-    Ok(())
 }

@@ -1,11 +1,9 @@
 //! Which texts a robot may fetch by its rules.
 use crate::files::{NEWS_SITE, NO_AGENT_LINES};
-use crate::helpers::{
-    ALL_ALLOWED, BOB, FileCase, check_file, check_file_at, check_prepared, robot_of,
-};
-use std::test::Fail;
+use crate::helpers::{ALL_ALLOWED, BOB, FileCase, NO_HOST, check_files, check_prepared, robot_of};
 
-const RULES: &[FileCase] = &[
+// of two rules the longer decides, and Allow if they are as long
+const TIES: &[FileCase] = &[
     FileCase {
         name: "allow_first",
         agent: BOB,
@@ -18,6 +16,28 @@ const RULES: &[FileCase] = &[
         file: b"Disallow: /a\nAllow: /a",
         verdicts: &[("/ab", true)],
     },
+    FileCase {
+        name: "tie_and_anchor",
+        agent: BOB,
+        file: b"Disallow: /*b\nAllow: /ab\nDisallow: b*c",
+        verdicts: &[("/ab", true), ("*abc", true)],
+    },
+    FileCase {
+        name: "tie_behind_a_shorter_rule",
+        agent: BOB,
+        file: b"Disallow: /ab\nAllow: /*b\nAllow: /",
+        verdicts: &[("/ab", true)],
+    },
+    FileCase {
+        name: "length_before_collapsing",
+        agent: BOB,
+        file: b"Disallow: /***b\nAllow: /aab",
+        verdicts: &[("/aab", false)],
+    },
+];
+
+// `$`, and stars before it
+const ENDS: &[FileCase] = &[
     FileCase {
         name: "star_behind_dollar",
         agent: BOB,
@@ -43,49 +63,18 @@ const RULES: &[FileCase] = &[
         verdicts: &[("/a", true), ("/aa", false)],
     },
     FileCase {
-        name: "tie_and_anchor",
+        name: "fragment_stays",
         agent: BOB,
-        file: b"Disallow: /*b\nAllow: /ab\nDisallow: b*c",
-        verdicts: &[("/ab", true), ("*abc", true)],
-    },
-    FileCase {
-        name: "tie_behind_a_shorter_rule",
-        agent: BOB,
-        file: b"Disallow: /ab\nAllow: /*b\nAllow: /",
-        verdicts: &[("/ab", true)],
-    },
-    FileCase {
-        name: "length_before_collapsing",
-        agent: BOB,
-        file: b"Disallow: /***b\nAllow: /aab",
-        verdicts: &[("/aab", false)],
-    },
-    FileCase {
-        name: "robots_file",
-        agent: BOB,
-        file: b"Disallow: /",
+        file: b"Disallow: /a$",
         verdicts: &[
-            ("/robots.txt", true),
-            ("/robots.txt?x", false),
-            ("https://example.com/robots.txt#a", false),
+            ("https://example.com/a", false),
+            ("https://example.com/a#b", true),
         ],
     },
-    FileCase {
-        name: "braces",
-        agent: BOB,
-        file: b"Disallow: /{x} y",
-        verdicts: &[("/{x} y", false)],
-    },
-    FileCase {
-        name: "escaped_rules",
-        agent: BOB,
-        file: b"Disallow: /a b",
-        verdicts: &[
-            ("https://example.com/a b", false),
-            ("/a b", false),
-            ("/a%20b", false),
-        ],
-    },
+];
+
+// empty rules, an empty file, and the one text that no rule refuses
+const EMPTY: &[FileCase] = &[
     FileCase {
         name: "empty_rules",
         agent: BOB,
@@ -111,12 +100,43 @@ const RULES: &[FileCase] = &[
         verdicts: ALL_ALLOWED,
     },
     FileCase {
-        name: "fragment_stays",
+        name: "robots_file",
         agent: BOB,
-        file: b"Disallow: /a$",
+        file: b"Disallow: /",
         verdicts: &[
-            ("https://example.com/a", false),
-            ("https://example.com/a#b", true),
+            ("/robots.txt", true),
+            ("/robots.txt?x", false),
+            ("https://example.com/robots.txt#a", false),
+        ],
+    },
+];
+
+// escapes, and stars
+const BYTES: &[FileCase] = &[
+    FileCase {
+        name: "braces",
+        agent: BOB,
+        file: b"Disallow: /{x} y",
+        verdicts: &[("/{x} y", false)],
+    },
+    FileCase {
+        name: "escaped_rules",
+        agent: BOB,
+        file: b"Disallow: /a b",
+        verdicts: &[
+            ("https://example.com/a b", false),
+            ("/a b", false),
+            ("/a%20b", false),
+        ],
+    },
+    FileCase {
+        name: "beyond_ascii",
+        agent: BOB,
+        file: b"Disallow: /\nAllow: /foo/bar/\xE3\x83\x84",
+        verdicts: &[
+            ("/foo/bar/ツ", true),
+            ("/foo/bar/%E3%83%84", true),
+            ("http://foo.bar/foo/bar/ツ", true),
         ],
     },
     FileCase {
@@ -150,16 +170,6 @@ const RULES: &[FileCase] = &[
         verdicts: &[
             ("http://foo.bar/x/page.html", true),
             ("http://foo.bar/x/y.html", false),
-        ],
-    },
-    FileCase {
-        name: "beyond_ascii",
-        agent: BOB,
-        file: b"Disallow: /\nAllow: /foo/bar/\xE3\x83\x84",
-        verdicts: &[
-            ("/foo/bar/ツ", true),
-            ("/foo/bar/%E3%83%84", true),
-            ("http://foo.bar/foo/bar/ツ", true),
         ],
     },
 ];
@@ -267,34 +277,27 @@ const HOSTED: &[FileCase] = &[
 ];
 
 #[test]
-fn the_longest_matching_rule_decides(rt: HostRuntime) -> Result<(), Fail> {
-    for case in RULES {
-        check_file(&rt, case);
-    }
-    Ok(())
+fn the_longest_matching_rule_decides(rt: HostRuntime) {
+    check_files(&rt, TIES, NO_HOST);
+    check_files(&rt, ENDS, NO_HOST);
+    check_files(&rt, EMPTY, NO_HOST);
+    check_files(&rt, BYTES, NO_HOST);
 }
 
 #[test]
-fn rules_of_sites_decide(rt: HostRuntime) -> Result<(), Fail> {
-    for case in SITES {
-        check_file(&rt, case);
-    }
-    Ok(())
+fn rules_of_sites_decide(rt: HostRuntime) {
+    check_files(&rt, SITES, NO_HOST);
 }
 
 #[test]
-fn rules_decide_on_urls_with_a_host(rt: HostRuntime) -> Result<(), Fail> {
-    for case in HOSTED {
-        check_file_at(&rt, case, "http://foo.bar");
-    }
-    Ok(())
+fn rules_decide_on_urls_with_a_host(rt: HostRuntime) {
+    check_files(&rt, HOSTED, &["http://foo.bar"]);
 }
 
 #[test]
-fn a_lone_dollar_refuses_the_empty_prepared_text(rt: HostRuntime) -> Result<(), Fail> {
+fn a_lone_dollar_refuses_the_empty_prepared_text(rt: HostRuntime) {
     let name = "lone_dollar";
     let robot = robot_of(&rt, name, BOB, b"Disallow: $");
     check_prepared(&rt, name, &robot, "", false);
     check_prepared(&rt, name, &robot, "/", true);
-    Ok(())
 }
