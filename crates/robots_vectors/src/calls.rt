@@ -1,8 +1,7 @@
 //! The small calls of a line and a view, and the example of the library's documentation.
 use crate::helpers::{check, check_equal};
 use std::alloc::Global;
-use std::process::Abort;
-use texting_robots::parser::{Line, robots_txt_parse};
+use texting_robots::parser::{Line, lines};
 use texting_robots::view::View;
 use texting_robots::{Error, Robot};
 
@@ -20,19 +19,15 @@ const VALUES: &[Option<&[u8]>] = &[
     Some(b"Noindex: /e"),
 ];
 
-/// The line holds these bytes.
-fn check_value<'a>(rt: &impl Abort, line: Line<'a>, want: Option<&'a [u8]>) {
-    check_equal(rt, "value", &line.value(), &want);
-}
-
 #[test]
 fn a_line_has_the_bytes_that_it_holds(rt: HostRuntime) {
-    let lines = robots_txt_parse(rt.alloc(), LINES).expect(&rt, "lines");
-    check_equal(&rt, "lines", &lines.len(), &VALUES.len());
-    for (line, want) in lines.iter().zip(VALUES) {
-        check_value(&rt, *line, *want);
+    let mut lines = lines(LINES);
+    for want in VALUES {
+        let line = lines.next().expect(&rt, "line");
+        check_equal(&rt, "value", &line.value(), &(*want));
     }
-    check_value(&rt, Line::CrawlDelay(None), None);
+    check(&rt, "end", lines.next().is_none());
+    check_equal(&rt, "delay", &Line::CrawlDelay(None).value(), &None);
 }
 
 #[test]

@@ -1,6 +1,7 @@
 //! The README's example: what a crawler asks before it fetches a page.
 use crate::helpers::{check, check_equal, check_text};
 use std::alloc::Global;
+use std::process::Abort;
 use texting_robots::{Error, Robot, get_robots_url};
 use url::ParseError;
 
@@ -43,13 +44,11 @@ const PAGE: &str = "https://example.com/ocean/reef.html";
 
 const FILE: &[u8] = b"User-agent: FerrisBot\nDisallow: /forest\nCrawl-delay: 2.5\n";
 
-// a file, a page, and what the crawler does about it
-const VISITS: &[(&[u8], &str, Plan)] = &[
-    (FILE, PAGE, Plan::Fetch(2_500_000)),
-    (FILE, "https://example.com/forest/tree", Plan::Leave),
-    (b"Crawl-delay: inf", PAGE, Plan::Fetch(60_000_000)),
-    (b"", PAGE, Plan::Fetch(1_000_000)),
-];
+/// The crawler does this about the page.
+fn check_visit(rt: &(impl Abort + AllocGlobal), file: &[u8], page: &str, want: &Plan) {
+    let plan = visit(rt.alloc(), file, page).expect(rt, page);
+    check_equal(rt, page, &plan, want);
+}
 
 #[test]
 fn a_crawler_plans_its_visit(rt: HostRuntime) {
@@ -63,8 +62,8 @@ fn a_crawler_plans_its_visit(rt: HostRuntime) {
     );
     let none = file_address(rt.alloc(), "mailto:ferris@example.com").expect(&rt, "mail");
     check(&rt, "mail", none.is_none());
-    for (file, page, want) in VISITS {
-        let plan = visit(rt.alloc(), file, page).expect(&rt, page);
-        check_equal(&rt, page, &plan, want);
-    }
+    check_visit(&rt, FILE, PAGE, &Plan::Fetch(2_500_000));
+    check_visit(&rt, FILE, "https://example.com/forest/tree", &Plan::Leave);
+    check_visit(&rt, b"Crawl-delay: inf", PAGE, &Plan::Fetch(60_000_000));
+    check_visit(&rt, b"", PAGE, &Plan::Fetch(1_000_000));
 }

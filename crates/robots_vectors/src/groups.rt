@@ -201,6 +201,9 @@ const SITEMAPS: &[SitemapCase] = &[
     },
 ];
 
+// the agent of a group, and another
+const AGENTS: &[&str] = &["A", BOB];
+
 /// The case's agent gets these sitemaps of a form of the file.
 fn check_form(rt: &(impl Abort + AllocGlobal), case: &SitemapCase, file: &[u8]) {
     let robot = robot_of(rt, case.name, case.agent, file);
@@ -224,8 +227,9 @@ fn agents_get_the_rules_of_their_groups(rt: HostRuntime) {
 
 #[test]
 fn a_group_without_lines_gives_nothing(rt: HostRuntime) {
-    check_nothing(&rt, "A", &robot_of(&rt, "A", "A", b"User-Agent: A"));
-    check_nothing(&rt, BOB, &robot_of(&rt, BOB, BOB, b"User-Agent: A"));
+    for agent in AGENTS {
+        check_nothing(&rt, agent, &robot_of(&rt, agent, agent, b"User-Agent: A"));
+    }
 }
 
 #[test]

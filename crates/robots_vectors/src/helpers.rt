@@ -86,6 +86,11 @@ pub fn robot_of(rt: &(impl Abort + AllocGlobal), name: &str, agent: &str, file: 
     Robot::new(rt.alloc(), agent, file).expect(rt, name)
 }
 
+/// The robot of a long file that is accepted.
+pub fn long_robot(rt: &(impl Abort + AllocGlobal), name: &str, parts: &[(&str, usize)]) -> Robot {
+    robot_of(rt, name, BOB, long_text(rt, name, parts).as_bytes())
+}
+
 /// The text that the URL is prepared to.
 pub fn prepared(rt: &(impl Abort + AllocGlobal), name: &str, url: &str) -> String {
     Robot::prepare_url(rt.alloc(), url).expect(rt, name)
@@ -96,13 +101,18 @@ pub fn shown(rt: &(impl Abort + AllocGlobal), name: &str, robot: &Robot) -> Stri
     format!(in rt.alloc(); "{robot:?}").expect(rt, name)
 }
 
-/// Asks the robot for a prepared text by itself, by a view, and with its line.
-pub fn check_prepared(rt: &impl Abort, name: &str, robot: &Robot, text: &str, want: bool) {
-    let answers = [
+/// The robot's answers for a prepared text: by itself, by a view, and with its line.
+fn answers(robot: &Robot, text: &str) -> [bool; 3] {
+    [
         robot.allowed_prepared(text),
         robot.allowed_view(&mut View::new(text)),
         robot.decision(&mut View::new(text)).allowed,
-    ];
+    ]
+}
+
+/// Asks the robot for a prepared text by each of its calls.
+pub fn check_prepared(rt: &impl Abort, name: &str, robot: &Robot, text: &str, want: bool) {
+    let answers = answers(robot, text);
     assert!(rt; answers == [want; 3], "{name}: {text:.60}: {answers:?}");
 }
 
@@ -119,14 +129,24 @@ pub fn check_url(
     check_prepared(rt, name, robot, prepared(rt, name, url).as_str(), want);
 }
 
+/// Asks the robot for each text with the host before it.
+fn check_urls(
+    rt: &(impl Abort + AllocGlobal),
+    name: &str,
+    robot: &Robot,
+    host: &str,
+    verdicts: &[(&str, bool)],
+) {
+    for (text, want) in verdicts {
+        let url = format!(in rt.alloc(); "{host}{text}").expect(rt, name);
+        check_url(rt, name, robot, url.as_str(), *want);
+    }
+}
+
 /// Asks the robot of a form of the case's file, with the host before each text.
 fn check_form(rt: &(impl Abort + AllocGlobal), case: &FileCase, file: &[u8], host: &str) {
-    let name = case.name;
-    let robot = robot_of(rt, name, case.agent, file);
-    for (text, want) in case.verdicts {
-        let url = format!(in rt.alloc(); "{host}{text}").expect(rt, name);
-        check_url(rt, name, &robot, url.as_str(), *want);
-    }
+    let robot = robot_of(rt, case.name, case.agent, file);
+    check_urls(rt, case.name, &robot, host, case.verdicts);
 }
 
 /// Reads each case's file as it stands and indented, and asks for its texts with each of the hosts before them.
@@ -174,9 +194,7 @@ pub fn check_decisions(
 pub fn check_nothing(rt: &(impl Abort + AllocGlobal), name: &str, robot: &Robot) {
     let empty = shown(rt, name, &robot_of(rt, name, BOB, b""));
     check_text(rt, name, shown(rt, name, robot).as_str(), empty.as_str());
-    for (url, want) in ALL_ALLOWED {
-        check_url(rt, name, robot, url, *want);
-    }
+    check_urls(rt, name, robot, "", ALL_ALLOWED);
 }
 
 /// The robot has no delay and no sitemap.

@@ -1,12 +1,13 @@
 //! Long files, long texts and long numbers: each is answered, and no call wants memory.
 use crate::helpers::{
     BOB, TextParts, check, check_equal, check_no_delay_or_sitemap, check_nothing, check_prepared,
-    check_text, check_url, indented, long_text, prepared, robot_of,
+    check_text, check_url, indented, long_robot, long_text, robot_of,
 };
 use crate::lines::check_lines;
 use crate::patterns::{check_looks, check_match, regex_of};
-use crate::urls::address_of;
+use crate::urls::{check_address, check_prepared_text};
 use std::process::Abort;
+use texting_robots::Robot;
 use texting_robots::parser::{Line, read_delay, robots_txt_parse};
 use texting_robots::view::View;
 
@@ -133,16 +134,26 @@ fn check_long(rt: &(impl Abort + AllocGlobal), case: &LongCase, file: &[u8]) {
     }
 }
 
-/// Asks the robot of a form of the case's file by views, and counts the looks.
+/// How many looks at the text the robot's verdict takes.
+fn looks_of_verdict(robot: &Robot, text: &str) -> u64 {
+    let mut view = View::new(text);
+    robot.allowed_view(&mut view);
+    view.seen()
+}
+
+/// How many looks at the text the verdict with its line takes.
+fn looks_of_decision(robot: &Robot, text: &str) -> u64 {
+    let mut view = View::new(text);
+    robot.decision(&mut view);
+    view.seen()
+}
+
+/// Asks the robot of a form of the case's file, and counts the looks.
 fn check_case(rt: &(impl Abort + AllocGlobal), case: &LookCase, text: &str, file: &[u8]) {
     let robot = robot_of(rt, case.name, BOB, file);
     check_prepared(rt, case.name, &robot, text, case.allowed);
-    let mut view = View::new(text);
-    robot.allowed_view(&mut view);
-    check_looks(rt, case.name, &view, case.most);
-    let mut view = View::new(text);
-    robot.decision(&mut view);
-    check_looks(rt, case.name, &view, case.most);
+    check_looks(rt, case.name, looks_of_verdict(&robot, text), case.most);
+    check_looks(rt, case.name, looks_of_decision(&robot, text), case.most);
 }
 
 #[test]
@@ -181,13 +192,12 @@ fn check_all_lines(rt: &(impl Abort + AllocGlobal), text: &[u8], count: usize, w
 #[test]
 fn five_megabytes(rt: HostRuntime) {
     let line = "Disallow: /private/folder # nothing to see\n";
-    let count = 5_000_000usize.div_ceil(line.len());
-    let file = long_text(&rt, "file", &[(line, count)]);
+    let file = long_text(&rt, "file", &[(line, 116_280)]);
     check(&rt, "length", file.len() >= 5_000_000);
     check_all_lines(
         &rt,
         file.as_bytes(),
-        count,
+        116_280,
         Line::Disallow(b"/private/folder"),
     );
     let robot = robot_of(&rt, "robot", BOB, file.as_bytes());
@@ -195,29 +205,28 @@ fn five_megabytes(rt: HostRuntime) {
     check_url(&rt, "allowed", &robot, "/public", true);
 }
 
+/// Asks the robots of some files for the URL.
+fn check_long_url(rt: &(impl Abort + AllocGlobal), url: &str) {
+    for (file, want) in LONG_URL {
+        let robot = robot_of(rt, file, BOB, file.as_bytes());
+        check_url(rt, file, &robot, url, *want);
+    }
+}
+
 #[test]
 fn long_urls(rt: HostRuntime) {
-    let host = "https://www.example.com";
-    let url = long_text(&rt, "url", &[(host, 1), ("/", 1), ("a", 99_976)]);
-    check_equal(&rt, "length", &url.len(), &100_000);
     let path = long_text(&rt, "path", &[("/", 1), ("a", 99_976)]);
-    check_text(
-        &rt,
-        "path",
-        prepared(&rt, "path", url.as_str()).as_str(),
-        path.as_str(),
-    );
-    let address = address_of(&rt, "address", url.as_str());
-    check_text(
+    let parts = [("https://www.example.com", 1), (path.as_str(), 1)];
+    let url = long_text(&rt, "url", &parts);
+    check_equal(&rt, "length", &url.len(), &100_000);
+    check_prepared_text(&rt, "path", url.as_str(), path.as_str());
+    check_address(
         &rt,
         "address",
-        address.as_str(),
+        url.as_str(),
         "https://www.example.com/robots.txt",
     );
-    for (file, want) in LONG_URL {
-        let robot = robot_of(&rt, file, BOB, file.as_bytes());
-        check_url(&rt, file, &robot, url.as_str(), *want);
-    }
+    check_long_url(&rt, url.as_str());
 }
 
 #[test]
@@ -255,9 +264,8 @@ fn long_delays_are_exact(rt: HostRuntime) {
 
 #[test]
 fn a_million_nul_give_nothing(rt: HostRuntime) {
-    let name = "many_nul";
-    let file = long_text(&rt, name, &[("\0", 1_000_000)]);
-    check_nothing(&rt, name, &robot_of(&rt, name, BOB, file.as_bytes()));
+    let robot = long_robot(&rt, "many_nul", &[("\0", 1_000_000)]);
+    check_nothing(&rt, "many_nul", &robot);
 }
 
 /// Nothing here asks for memory, so it passes in `rt try --test --fail-alloc 1` too, where the first request is refused.

@@ -1,8 +1,8 @@
 //! How many bytes of a file are read.
 use crate::groups::check_sitemaps;
 use crate::helpers::{
-    BOB, Decisions, TextParts, check, check_decisions, check_equal, check_nothing, long_text,
-    robot_of,
+    BOB, Decisions, TextParts, check, check_decisions, check_equal, check_nothing, long_robot,
+    long_text,
 };
 use crate::refusals::is_refused;
 use std::process::Abort;
@@ -90,15 +90,20 @@ const BEHIND: &[(&str, TextParts)] = &[
 ];
 
 /// The robot of the file's beginning.
-fn limited(rt: &(impl Abort + AllocGlobal), name: &str, file: &str, limit: usize) -> Robot {
+fn limited(
+    rt: &(impl Abort + AllocGlobal),
+    name: &str,
+    parts: &[(&str, usize)],
+    limit: usize,
+) -> Robot {
+    let file = long_text(rt, name, parts);
     Robot::with_limit(rt.alloc(), BOB, file.as_bytes(), limit).expect(rt, name)
 }
 
 #[test]
 fn lines_are_cut_at_the_limit(rt: HostRuntime) {
     for case in CUT {
-        let file = long_text(&rt, case.name, case.file);
-        let robot = limited(&rt, case.name, file.as_str(), case.limit);
+        let robot = limited(&rt, case.name, case.file, case.limit);
         check_decisions(&rt, case.name, &robot, case.decisions);
     }
 }
@@ -106,7 +111,7 @@ fn lines_are_cut_at_the_limit(rt: HostRuntime) {
 #[test]
 fn a_cut_may_leave_nothing(rt: HostRuntime) {
     for (name, file, limit) in NOTHING {
-        check_nothing(&rt, name, &limited(&rt, name, file, *limit));
+        check_nothing(&rt, name, &limited(&rt, name, &[(*file, 1)], *limit));
     }
 }
 
@@ -114,8 +119,7 @@ fn a_cut_may_leave_nothing(rt: HostRuntime) {
 fn new_reads_the_first_512_000_bytes(rt: HostRuntime) {
     check_equal(&rt, "limit", &FILE_LIMIT, &512_000);
     for (name, parts) in BEHIND {
-        let file = long_text(&rt, name, parts);
-        check_nothing(&rt, name, &robot_of(&rt, name, BOB, file.as_bytes()));
+        check_nothing(&rt, name, &long_robot(&rt, name, parts));
     }
 }
 
@@ -124,7 +128,6 @@ fn a_greater_limit_reads_on(rt: HostRuntime) {
     let file = long_text(&rt, "rule", OVERLONG_RULE_BEHIND);
     let answer = Robot::with_limit(rt.alloc(), BOB, file.as_bytes(), 600_000);
     check(&rt, "rule", is_refused(&rt, "rule", answer));
-    let file = long_text(&rt, "sitemap", SITEMAP_BEHIND);
-    let robot = limited(&rt, "sitemap", file.as_str(), 600_000);
+    let robot = limited(&rt, "sitemap", SITEMAP_BEHIND, 600_000);
     check_sitemaps(&rt, "sitemap", &robot.sitemaps, &["/s"]);
 }

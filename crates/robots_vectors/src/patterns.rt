@@ -71,8 +71,7 @@ pub fn check_copy(rt: &(impl Abort + AllocGlobal), name: &str, regex: &MinRegex)
 }
 
 /// The text was looked at so often at most.
-pub fn check_looks(rt: &impl Abort, name: &str, view: &View<'_>, most: u64) {
-    let seen = view.seen();
+pub fn check_looks(rt: &impl Abort, name: &str, seen: u64, most: u64) {
     assert!(rt; seen <= most, "{name}: {seen} looks");
 }
 
@@ -82,7 +81,7 @@ pub fn check_match(rt: &impl Abort, name: &str, regex: &MinRegex, text: &str, wa
     let answers = [regex.is_match(text), regex.matches_view(&mut view)];
     check_equal(rt, name, &answers, &[want; 2]);
     let most = (text.len() as u64).saturating_mul(2);
-    check_looks(rt, name, &view, most);
+    check_looks(rt, name, view.seen(), most);
 }
 
 /// Matches each text by its pattern and by the pattern's copy.

@@ -72,13 +72,17 @@ fn check_without_table(rt: &impl Abort, text: &str, pattern: &str) {
     check(rt, text, text.len() < 2 * pattern.len());
 }
 
+/// The rule of the pattern shows without a table.
+fn check_rule(rt: &(impl Abort + AllocGlobal), pattern: &str) {
+    let file = format!(in rt.alloc(); "Disallow: {pattern}").expect(rt, "rule");
+    check_without_table(rt, text_of(rt, file.as_bytes()).as_str(), pattern);
+}
+
 #[test]
 fn patterns_show_without_tables(rt: HostRuntime) {
     let pattern = long_text(&rt, "pattern", &[("/*", 1), ("ab", 1000), ("*", 1)]);
     let regex = regex_of(&rt, "pattern", pattern.as_str());
     let text = format!(in rt.alloc(); "{regex:?}").expect(&rt, "pattern");
     check_without_table(&rt, text.as_str(), pattern.as_str());
-    let file = format!(in rt.alloc(); "Disallow: {pattern}").expect(&rt, "rule");
-    let text = text_of(&rt, file.as_bytes());
-    check_without_table(&rt, text.as_str(), pattern.as_str());
+    check_rule(&rt, pattern.as_str());
 }

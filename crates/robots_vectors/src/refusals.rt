@@ -71,12 +71,6 @@ const OTHERS: &[(&str, TextParts, bool)] = &[
     ),
 ];
 
-// a name, and the beginning of a rule that isn't UTF-8: letters, a byte 255 and `$` stand behind it
-const BROKEN: &[(&str, &str)] = &[
-    ("broken_text", "Disallow: /"),
-    ("allow_of_broken_text", "Allow: /"),
-];
-
 /// Whether the robot is refused for an overlong rule.
 pub fn is_refused(rt: &impl Abort, name: &str, answer: Result<Robot, Error>) -> bool {
     match answer {
@@ -101,15 +95,19 @@ fn check_refusals(rt: &(impl Abort + AllocGlobal), cases: &[(&str, TextParts, bo
     }
 }
 
+/// A rule that begins so, and isn't UTF-8, is passed over.
+fn check_broken(rt: &(impl Abort + AllocGlobal), name: &str, start: &str) {
+    let mut file = long_text(rt, name, &[(start, 1), ("a", 4095)]).into_bytes();
+    file.extend_from_slice(b"\xFF$").expect(rt, name);
+    check_form(rt, name, &file, false);
+}
+
 #[test]
 fn robots_are_refused_for_overlong_rules(rt: HostRuntime) {
     check_refusals(&rt, DISALLOWED);
     check_refusals(&rt, OTHERS);
-    for (name, start) in BROKEN {
-        let mut file = long_text(&rt, name, &[(*start, 1), ("a", 4095)]).into_bytes();
-        file.extend_from_slice(b"\xFF$").expect(&rt, name);
-        check_form(&rt, name, &file, false);
-    }
+    check_broken(&rt, "broken_text", "Disallow: /");
+    check_broken(&rt, "allow_of_broken_text", "Allow: /");
 }
 
 #[test]

@@ -1,8 +1,8 @@
 //! Every small text and every small input: with ample memory each call answers, and no call for want of it.
-use crate::helpers::{BOB, check, check_no_delay_or_sitemap, check_text, prepared, robot_of};
+use crate::helpers::{BOB, check, check_no_delay_or_sitemap, check_text, robot_of};
 use crate::lines::check_lines;
 use crate::patterns::{check_copy, regex_of};
-use crate::urls::address_of;
+use crate::urls::{check_address, check_prepared_text};
 use std::process::Abort;
 use texting_robots::parser::{Line, robots_txt_parse};
 
@@ -50,15 +50,9 @@ fn small_input(rt: &(impl Abort + AllocGlobal), number: u32) -> Vec<u8> {
 
 /// The text as a URL, which it isn't by itself.
 fn check_url(rt: &(impl Abort + AllocGlobal), text: &str) {
-    let want = if text.is_empty() { "/" } else { text };
-    check_text(rt, text, prepared(rt, text, text).as_str(), want);
+    check_prepared_text(rt, text, text, if text.is_empty() { "/" } else { text });
     let url = format!(in rt.alloc(); "http://a/{text}").expect(rt, text);
-    check_text(
-        rt,
-        text,
-        address_of(rt, text, url.as_str()).as_str(),
-        "http://a/robots.txt",
-    );
+    check_address(rt, text, url.as_str(), "http://a/robots.txt");
 }
 
 /// The text as a file.
@@ -79,36 +73,39 @@ fn check_rule(rt: &(impl Abort + AllocGlobal), text: &str) {
     check(rt, text, !is_sure || answer == text.is_empty());
 }
 
+/// The text in each of these places.
+fn check_small(rt: &(impl Abort + AllocGlobal), text: &str) {
+    check_copy(rt, text, &regex_of(rt, text, text));
+    check_url(rt, text);
+    check_file(rt, text);
+    check_rule(rt, text);
+}
+
 #[test]
 fn small_texts(rt: HostRuntime) {
     for number in 0..SMALL_TEXTS {
-        let text = small_text(&rt, number);
-        check_copy(
-            &rt,
-            text.as_str(),
-            &regex_of(&rt, text.as_str(), text.as_str()),
-        );
-        check_url(&rt, text.as_str());
-        check_file(&rt, text.as_str());
-        check_rule(&rt, text.as_str());
+        check_small(&rt, small_text(&rt, number).as_str());
     }
-    check_text(
-        &rt,
-        "last",
-        small_text(&rt, SMALL_TEXTS - 1).as_str(),
-        "$$$$$$",
-    );
+    let last = small_text(&rt, SMALL_TEXTS - 1);
+    check_text(&rt, "last", last.as_str(), "$$$$$$");
 }
 
-/// The input as a file, of which each line is raw.
+/// Whether each line is raw.
+fn are_raw(lines: &[Line<'_>]) -> bool {
+    for line in lines {
+        if !matches!(line, Line::Raw(_)) {
+            return false;
+        }
+    }
+    true
+}
+
+/// The input as a file: its lines are raw, and its robot has nothing.
 fn check_input(rt: &(impl Abort + AllocGlobal), input: &[u8]) {
     let lines = robots_txt_parse(rt.alloc(), input).expect(rt, "lines");
-    for line in &lines {
-        assert!(rt; matches!(line, Line::Raw(_)), "{line:?}");
-    }
     let robot = robot_of(rt, "robot", BOB, input);
-    check_no_delay_or_sitemap(rt, "robot", &robot);
-    assert!(rt; robot.allowed_prepared("/"), "{input:?}");
+    let is_bare = robot.delay == None && robot.sitemaps.is_empty() && robot.allowed_prepared("/");
+    assert!(rt; is_bare && are_raw(&lines), "{input:?}");
 }
 
 #[test]

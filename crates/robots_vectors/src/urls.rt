@@ -171,9 +171,15 @@ const NO_URLS: &[(&str, &str, &str, ParseError)] = &[
     ),
 ];
 
-/// The address of the robots file of a URL that has one.
-pub fn address_of(rt: &(impl Abort + AllocGlobal), name: &str, url: &str) -> String {
-    get_robots_url(rt.alloc(), url).expect(rt, name)
+/// The URL or path has this prepared text.
+pub fn check_prepared_text(rt: &(impl Abort + AllocGlobal), name: &str, url: &str, want: &str) {
+    check_text(rt, name, prepared(rt, name, url).as_str(), want);
+}
+
+/// The URL's robots file has this address.
+pub fn check_address(rt: &(impl Abort + AllocGlobal), name: &str, url: &str, want: &str) {
+    let address = get_robots_url(rt.alloc(), url).expect(rt, name);
+    check_text(rt, name, address.as_str(), want);
 }
 
 /// The URL has no robots file, for this cause.
@@ -191,14 +197,14 @@ fn check_no_url(rt: &(impl Abort + AllocGlobal), name: &str, text: &str, want: P
 #[test]
 fn urls_have_their_prepared_texts(rt: HostRuntime) {
     for (name, url, want) in PREPARED {
-        check_text(&rt, name, prepared(&rt, name, url).as_str(), want);
+        check_prepared_text(&rt, name, url, want);
     }
 }
 
 #[test]
 fn urls_have_their_robots_addresses(rt: HostRuntime) {
     for (name, url, want) in ADDRESSES {
-        check_text(&rt, name, address_of(&rt, name, url).as_str(), want);
+        check_address(&rt, name, url, want);
     }
 }
 
@@ -214,6 +220,6 @@ fn texts_that_are_no_urls_are_escaped_and_have_no_address(rt: HostRuntime) {
     for (name, text, want, cause) in NO_URLS {
         check_no_url(&rt, name, text, *cause);
         check_no_address(&rt, name, text, *cause);
-        check_text(&rt, name, prepared(&rt, name, text).as_str(), want);
+        check_prepared_text(&rt, name, text, want);
     }
 }
