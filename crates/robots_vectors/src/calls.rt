@@ -8,7 +8,7 @@ use texting_robots::{Error, Robot};
 const LINES: &[u8] =
     b"User-agent: A\nAllow: /b\nDisallow: /c\nDisallow:\nSitemap: d\nCrawl-delay: 1\nNoindex: /e";
 
-// what each of the lines holds
+/// What each of the lines holds.
 const VALUES: &[Option<&[u8]>] = &[
     Some(b"A"),
     Some(b"/b"),
@@ -50,7 +50,7 @@ fn may_fetch(alloc: Global, file: &[u8], page: &str) -> Result<Option<u64>, Erro
 
 const REEF: &[u8] = b"User-agent: FerrisBot\nDisallow: /reef\nCrawl-delay: inf";
 
-// a file, a page, and when it may be fetched
+/// A file, a page, and when it may be fetched.
 const PAGES: &[(&[u8], &str, Option<u64>)] = &[
     (REEF, "https://example.com/reef", None),
     (REEF, "https://example.com/open", Some(60_000_000)),

@@ -13,7 +13,7 @@ struct DelayCase {
     delays: &'static [(&'static str, Option<u64>)],
 }
 
-// a delay text, and how many microseconds it says
+/// A delay text, and how many microseconds it says.
 const NUMBERS: &[(&str, u64)] = &[
     ("3.14", 3_140_000),
     (".5", 500_000),
@@ -38,12 +38,12 @@ const NUMBERS: &[(&str, u64)] = &[
     ("INFINITY", u64::MAX),
 ];
 
-// texts that say no delay
+/// Texts that say no delay.
 const NO_DELAYS: &[&str] = &[
     "", ".", "nan", "1e", " 5", "-inf", "-1e-99", "+", "e5", ".e5", "1_0", "infin", "-nan", "-.5",
 ];
 
-// what several agents get
+/// What several agents get.
 const AGENTS: &[DelayCase] = &[
     DelayCase {
         name: "agent_names",
@@ -83,7 +83,7 @@ const AGENTS: &[DelayCase] = &[
     },
 ];
 
-// which of a file's delays is taken
+/// Which of a file's delays is taken.
 const READINGS: &[DelayCase] = &[
     DelayCase {
         name: "fallback_delay",
@@ -117,7 +117,7 @@ const READINGS: &[DelayCase] = &[
     },
 ];
 
-// files that other tests read too
+/// Files that other tests read too.
 const FILES: &[DelayCase] = &[
     DelayCase {
         name: "crawler_example",

@@ -17,7 +17,7 @@ const OLD_BOTS: &[u8] =
     b"User-agent: unhipbot\nDisallow: /\n\nUser-agent: webcrawler\nUser-agent: excite\nDisallow:\n\n\
     User-agent: *\nDisallow: /org/plans.html\nAllow: /org/\nAllow: /serv\nAllow: /~mak\nDisallow: /";
 
-// how an agent is named
+/// How an agent is named.
 const NAMES: &[FileCase] = &[
     FileCase {
         name: "separators",
@@ -54,7 +54,7 @@ const NAMES: &[FileCase] = &[
     },
 ];
 
-// files that other tests read too, and NUL at a line's end
+/// Files that other tests read too, and NUL at a line's end.
 const FILES: &[FileCase] = &[
     FileCase {
         name: "crawler_example",
@@ -100,7 +100,7 @@ const FILES: &[FileCase] = &[
     },
 ];
 
-// three agents of one file
+/// Three agents of one file.
 const OLD: &[FileCase] = &[
     FileCase {
         name: "old_bots_of_all",
@@ -201,7 +201,7 @@ const SITEMAPS: &[SitemapCase] = &[
     },
 ];
 
-// the agent of a group, and another
+/// The agent of a group, and another.
 const AGENTS: &[&str] = &["A", BOB];
 
 /// The case's agent gets these sitemaps of a form of the file.

@@ -27,7 +27,7 @@ struct LookCase {
     most: u64,
 }
 
-// a name, a text, and its only line
+/// A name, a text, and its only line.
 const ONE_LINE: &[(&str, TextParts, Line<'static>)] = &[
     ("many_cr", &[("\r", 1_000_000)], Line::Raw(b"")),
     (
@@ -91,7 +91,7 @@ const LOOKS: &[LookCase] = &[
     },
 ];
 
-// a name, a delay text, and the delay
+/// A name, a delay text, and the delay.
 const DELAYS: &[(&str, TextParts, u64)] = &[
     ("many_nines", &[("9", 1_000_000)], u64::MAX),
     (
@@ -114,10 +114,10 @@ const DELAYS: &[(&str, TextParts, u64)] = &[
     ("long_exponent_of_zero", &[("0e", 1), ("9", 1_000_000)], 0),
 ];
 
-// texts that stars match
+/// Texts that stars match.
 const STARRED: &[&str] = &["", "/", "/x", "$", "/robots.txt"];
 
-// a file, and whether it lets a URL of 100,000 bytes be fetched
+/// A file, and whether it lets a URL of 100,000 bytes be fetched.
 const LONG_URL: &[(&str, bool)] = &[
     ("Disallow: /*a$", false),
     ("Disallow: /*a$\nAllow: /aaaaaa", true),

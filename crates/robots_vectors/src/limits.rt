@@ -63,14 +63,14 @@ const CUT: &[LimitCase] = &[
     },
 ];
 
-// a name, a file, and a limit before which it gives nothing
+/// A name, a file, and a limit before which it gives nothing.
 const NOTHING: &[(&str, &str, usize)] = &[
     ("in_the_key", "Disallow: /abc", 8),
     ("at_the_beginning", "Disallow: /abc", 0),
     ("in_a_character", "Disallow: /é", 12),
 ];
 
-// files whose first 512,000 bytes are a comment and its LF
+/// Files whose first 512,000 bytes are a comment and its LF.
 const RULE_BEHIND: TextParts = &[("#", 511_999), ("\nDisallow: /a", 1)];
 
 const OVERLONG_RULE_BEHIND: TextParts = &[
@@ -82,7 +82,7 @@ const OVERLONG_RULE_BEHIND: TextParts = &[
 
 const SITEMAP_BEHIND: TextParts = &[("#", 511_999), ("\nSitemap: /s", 1)];
 
-// a name, and a file that gives nothing in its first 512,000 bytes
+/// A name, and a file that gives nothing in its first 512,000 bytes.
 const BEHIND: &[(&str, TextParts)] = &[
     ("rule", RULE_BEHIND),
     ("overlong_rule", OVERLONG_RULE_BEHIND),

@@ -24,7 +24,7 @@ const MARKED: &[Line<'static>] = &[Line::UserAgent(b"foo"), Line::Allow(b"/AnyVa
 
 const CR_NUL: &[u8] = b"Disallow: /a\r\0Allow: /b";
 
-// what ends a line
+/// What ends a line.
 const ENDS: &[LinesCase] = &[
     LinesCase {
         name: "line_ends",
@@ -58,7 +58,7 @@ const ENDS: &[LinesCase] = &[
     },
 ];
 
-// the same lines with several ends
+/// The same lines with several ends.
 const SIX_LINES: &[LinesCase] = &[
     LinesCase {
         name: "six_lines",
@@ -82,7 +82,7 @@ const SIX_LINES: &[LinesCase] = &[
     },
 ];
 
-// a byte order mark, whole or in part
+/// A byte order mark, whole or in part.
 const MARKS: &[LinesCase] = &[
     LinesCase {
         name: "partial_front",
@@ -119,7 +119,7 @@ const MARKS: &[LinesCase] = &[
     },
 ];
 
-// lines of each kind, and keys without a value
+/// Lines of each kind, and keys without a value.
 const KEYS: &[LinesCase] = &[
     LinesCase {
         name: "slow_delay",
@@ -161,7 +161,7 @@ const KEYS: &[LinesCase] = &[
     },
 ];
 
-// what is no part of a value
+/// What is no part of a value.
 const VALUES: &[LinesCase] = &[
     LinesCase {
         name: "tabs_and_capitals",
@@ -190,7 +190,7 @@ const VALUES: &[LinesCase] = &[
     },
 ];
 
-// delays
+/// Delays.
 const DELAYS: &[LinesCase] = &[
     LinesCase {
         name: "delay_with_fraction",
@@ -219,7 +219,7 @@ const DELAYS: &[LinesCase] = &[
     },
 ];
 
-// texts with NUL, which ends a line of a file
+/// Texts with NUL, which ends a line of a file.
 const NUL_TEXTS: &[LinesCase] = &[
     LinesCase {
         name: "cr_nul",

@@ -52,7 +52,7 @@ fn lines_are_marked_for_an_agent(rt: HostRuntime) {
     check_equal(&rt, "end", &lines.next(), &None);
 }
 
-// an agent, a file, and a sign for each line: `+` in the agent's group, `-` in another, a blank in none
+/// An agent, a file, and a sign for each line: `+` in the agent's group, `-` in another, a blank in none.
 const GROUPS: &[(&str, &[u8], &[u8])] = &[
     // a group of several agents, seen from each of its names and from others
     ("a", FILE, b" +++--"),

@@ -4,7 +4,7 @@ use std::process::Abort;
 use texting_robots::{Robot, robots_url_of};
 use url::{ParseError, Url};
 
-// a name, a file, and its answers for URLs
+/// A name, a file, and its answers for URLs.
 const VERDICTS: &[(&str, &[u8], &[(&str, bool)])] = &[
     (
         "fragment_stays",
@@ -40,7 +40,7 @@ const VERDICTS: &[(&str, &[u8], &[(&str, bool)])] = &[
     ),
 ];
 
-// a name, a URL, and the address of its robots file
+/// A name, a URL, and the address of its robots file.
 const ADDRESSES: &[(&str, &str, &str)] = &[
     (
         "host_alone",

@@ -5,7 +5,7 @@ use std::process::Abort;
 use texting_robots::minregex::MinRegex;
 use texting_robots::view::View;
 
-// a name, a pattern, a text, and whether the pattern matches it
+/// A name, a pattern, a text, and whether the pattern matches it.
 const MATCHES: &[(&str, &str, &str, bool)] = &[
     ("empty_pattern", "", "/x", true),
     ("star_on_empty_text", "*", "", true),
@@ -27,14 +27,14 @@ const MATCHES: &[(&str, &str, &str, bool)] = &[
     ("few_looks", "/*aab", "/aaab", true),
 ];
 
-// a name, a pattern, a text, and whether it matches with `$` as an ordinary byte
+/// A name, a pattern, a text, and whether it matches with `$` as an ordinary byte.
 const STARS: &[(&str, &[u8], &[u8], bool)] = &[
     ("dollar_stands_for_itself", b"/a$", b"/a$b", true),
     ("dollar_is_no_end", b"/a$", b"/a", false),
     ("first_piece_is_anchored", b"b*c", b"*abc", false),
 ];
 
-// a name, a pattern, and its text with each run of stars as one star
+/// A name, a pattern, and its text with each run of stars as one star.
 const COLLAPSED: &[(&str, &str, &str)] = &[
     ("three_stars", "/x***y/", "/x*y/"),
     ("stars_alone", "**", "*"),
@@ -44,7 +44,7 @@ const COLLAPSED: &[(&str, &str, &str)] = &[
     ("one_star_at_the_end", "/a*", "/a*"),
 ];
 
-// a name, a pattern, another, and how the first compares with it
+/// A name, a pattern, another, and how the first compares with it.
 const ORDERS: &[(&str, &str, &str, Ordering)] = &[
     ("longer_first", "/ab", "/a", Ordering::Less),
     ("by_bytes", "/a", "/b", Ordering::Less),

@@ -5,7 +5,7 @@ use std::process::Abort;
 use texting_robots::minregex::MinRegex;
 use texting_robots::{Error, Robot};
 
-// a name, a file, and whether the robot is refused for an overlong rule
+/// A name, a file, and whether the robot is refused for an overlong rule.
 const DISALLOWED: &[(&str, TextParts, bool)] = &[
     (
         "longest",

@@ -86,7 +86,7 @@ const EXAMPLES: &[FileCase] = &[
     },
 ];
 
-// which groups an agent gets
+/// Which groups an agent gets.
 const GROUPS: &[FileCase] = &[
     FileCase {
         name: "groups_of_one_name_are_one",
@@ -127,7 +127,7 @@ const GROUPS: &[FileCase] = &[
     },
 ];
 
-// patterns, comments and other records
+/// Patterns, comments and other records.
 const RULES: &[FileCase] = &[
     FileCase {
         name: "matching_minds_the_case",

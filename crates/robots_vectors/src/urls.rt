@@ -4,7 +4,7 @@ use std::process::Abort;
 use texting_robots::get_robots_url;
 use url::{ParseError, Url};
 
-// a name, a URL or a path, and its prepared text
+/// A name, a URL or a path, and its prepared text.
 const PREPARED: &[(&str, &str, &str)] = &[
     ("empty_text", "", "/"),
     ("host_alone", "https://example.com", "/"),
@@ -28,7 +28,7 @@ const PREPARED: &[(&str, &str, &str)] = &[
     ),
 ];
 
-// a name, a URL, and the address of its robots file
+/// A name, a URL, and the address of its robots file.
 const ADDRESSES: &[(&str, &str, &str)] = &[
     (
         "path",
@@ -77,7 +77,7 @@ const ADDRESSES: &[(&str, &str, &str)] = &[
     ),
 ];
 
-// a name, a URL that has no robots file, and why
+/// A name, a URL that has no robots file, and why.
 const NO_ADDRESS: &[(&str, &str, ParseError)] = &[
     (
         "other_scheme",
@@ -95,7 +95,7 @@ const NO_ADDRESS: &[(&str, &str, ParseError)] = &[
     ),
 ];
 
-// a name, a text that is no URL, its prepared text, and why it is none
+/// A name, a text that is no URL, its prepared text, and why it is none.
 const NO_URLS: &[(&str, &str, &str, ParseError)] = &[
     (
         "path_alone",

@@ -2,7 +2,7 @@
 use crate::files::{NEWS_SITE, NO_AGENT_LINES};
 use crate::helpers::{ALL_ALLOWED, BOB, FileCase, NO_HOST, check_files, check_prepared, robot_of};
 
-// of two rules the longer decides, and Allow if they are as long
+/// Of two rules the longer decides, and Allow if they are as long.
 const TIES: &[FileCase] = &[
     FileCase {
         name: "allow_first",
@@ -36,7 +36,7 @@ const TIES: &[FileCase] = &[
     },
 ];
 
-// `$`, and stars before it
+/// `$`, and stars before it.
 const ENDS: &[FileCase] = &[
     FileCase {
         name: "star_behind_dollar",
@@ -73,7 +73,7 @@ const ENDS: &[FileCase] = &[
     },
 ];
 
-// empty rules, an empty file, and the one text that no rule refuses
+/// Empty rules, an empty file, and the one text that no rule refuses.
 const EMPTY: &[FileCase] = &[
     FileCase {
         name: "empty_rules",
@@ -111,7 +111,7 @@ const EMPTY: &[FileCase] = &[
     },
 ];
 
-// escapes, and stars
+/// Escapes, and stars.
 const BYTES: &[FileCase] = &[
     FileCase {
         name: "braces",
