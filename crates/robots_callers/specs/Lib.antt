@@ -1,3 +1,4 @@
 pub mod Crawler
 pub mod LinkCheck
 pub mod Audit
+pub mod Cache

@@ -1,6 +1,9 @@
 //! A cache of robots, by the addresses of their files.
-ghost use Rattle.std.specs.Prelude.{◌≡◌, ◌+◌, ◌-◌, ◌≤◌, ℕ, if◌then◌else◌, is_some, IfOk, IsSomeAnd, List, Ok, OnOk, Some, option_copied, string_bytes};
-ghost use Rattle.indexmap.specs.IndexMap.{get_by_text, index_map_len};
+ghost use Rattle.std.specs.Prelude.{◌≡◌, ◌⊎◌, ◌+◌, ◌-◌, ◌≤◌, ℕ, if◌then◌else◌, is_some, IfErr, IfOk, IsSomeAnd, List, Ok, OnErr, OnOk, Some, option_copied, remove, string_bytes};
+ghost use Rattle.std.specs.String.{string_eq};
+ghost use Rattle.indexmap.specs.IndexMap.{get_by_text, index_map_len, insert_entry};
+ghost use Rattle.robots_callers.specs.Cache.{HasNoAddress, IsNotKept, with_room};
+ghost use Rattle.robots_callers.specs.declared.cache.CacheError.TheVariants.{Memory};
 ghost use Rattle.robots_callers.specs.declared.cache.TheConstants.{MOST};
 ghost use Rattle.texting_robots.specs.Callers.{IsRobotOf, lines_read, robots_address};
 
@@ -18,18 +21,40 @@ pub const MOST: usize = 64;
 pub enum CacheError {
     /// The URL has no robots.txt file.
     #[error("No address of a robots.txt file: {0}")]
-    Url(#[from] ParseError),
+    Url(#[source] ParseError),
     /// The file gives no robot.
     #[error("No robot: {0}")]
-    File(#[from] texting_robots::Error),
+    File(#[source] texting_robots::Error),
     /// Memory was refused.
     #[error("Out of memory")]
     Memory,
 }
 
+impl From<ParseError> for CacheError {
+    ghost use Rattle.std.specs.Prelude.{◌≡◌};
+    ghost use Rattle.robots_callers.specs.declared.cache.CacheError.TheVariants.{Url};
+
+    ghost from_gives = { λ error own. own ≡ Url error };
+
+    fn from(error: ParseError) -> Self {
+        CacheError::Url(error)
+    }
+}
+
+impl From<texting_robots::Error> for CacheError {
+    ghost use Rattle.std.specs.Prelude.{◌≡◌};
+    ghost use Rattle.robots_callers.specs.declared.cache.CacheError.TheVariants.{File};
+
+    ghost from_gives = { λ error own. own ≡ File error };
+
+    fn from(error: texting_robots::Error) -> Self {
+        CacheError::File(error)
+    }
+}
+
 /// Takes the oldest robot out, if there is one.
 fn forget_oldest(robots: &mut IndexMap<String, Robot>)
-    ensures { index_map_len robots.new ≡ index_map_len robots.old - 1 }
+    ensures { robots.new.entries ≡ remove robots.old.entries 0 }
 {
     robots.shift_remove_index(0);
 }
@@ -37,7 +62,9 @@ fn forget_oldest(robots: &mut IndexMap<String, Robot>)
 /// Makes room for the robot of an address.
 fn make_room(robots: &mut IndexMap<String, Robot>, address: &str)
     requires { index_map_len robots.old ≤ MOST }
-    ensures { index_map_len robots.new + (if is_some (get_by_text robots.new address.now) then 0 else 1) ≤ MOST }
+    ensures room { index_map_len robots.new + (if is_some (get_by_text robots.new address.now) then 0 else 1) ≤ MOST }
+    ensures entries { robots.new.entries
+        ≡ with_room (is_some (get_by_text robots.old address.now)) robots.old.entries }
 {
     if robots.len() < MOST || robots.contains_key(address) {
         return;
@@ -54,6 +81,10 @@ fn add(
     requires { index_map_len robots.old + (if is_some (get_by_text robots.old (string_bytes address)) then 0 else 1) ≤ MOST }
     ensures bounded { index_map_len robots.new ≤ MOST }
     ensures kept { OnOk result (get_by_text robots.new (string_bytes address) ≡ Some robot) }
+    ensures entries { OnOk result (robots.new.entries
+        ≡ insert_entry string_eq robots.old.entries address robot) }
+    ensures refused { OnErr result (robots.new.entries ≡ robots.old.entries) }
+    ensures memory { IfErr result (λ error. error ≡ Memory) }
 {
     match robots.insert(address, robot) {
         Ok(_) => Ok(()),
@@ -79,7 +110,8 @@ impl Cache {
         }
     }
 
-    /// Keeps the robot of the site that a URL is on, which has this file.
+    /// Keeps the robot of the site that a URL is on, which has this file. Where memory is refused once room was made,
+    /// the oldest robot is gone all the same.
     pub fn put(
         &mut self,
         alloc: Global,
@@ -89,6 +121,14 @@ impl Cache {
     ) -> Result<(), CacheError>
         ensures kept { OnOk result ((address : List ℕ) × (robots_address url.now ≡ Ok address)
             × IsSomeAnd (get_by_text self.new.robots address) (IsRobotOf agent.now (lines_read file.now))) }
+        ensures entries { OnOk result ((address : _) × (robot : _) × (robots_address url.now ≡ Ok (string_bytes address))
+            × IsRobotOf agent.now (lines_read file.now) robot
+            × (self.new.robots.entries ≡ insert_entry string_eq
+            (with_room (is_some (get_by_text self.old.robots (string_bytes address))) self.old.robots.entries)
+            address robot)) }
+        ensures lost { OnErr result ((self.new.robots.entries ≡ self.old.robots.entries)
+            ⊎ (self.new.robots.entries ≡ remove self.old.robots.entries 0)) }
+        ensures refused { IfErr result (IsNotKept agent.now url.now file.now) }
     {
         let address = get_robots_url(alloc, url)?;
         let robot = Robot::new(alloc, agent, file)?;
@@ -99,8 +139,9 @@ impl Cache {
 
     /// The robot that is kept for the site that a URL is on.
     pub fn find(&self, alloc: Global, url: &str) -> Result<Option<&Robot>, ParseError>
-        ensures { IfOk result (λ found. (address : List ℕ) × (robots_address url.now ≡ Ok address)
+        ensures found { IfOk result (λ found. (address : List ℕ) × (robots_address url.now ≡ Ok address)
             × (option_copied found ≡ get_by_text self.now.robots address)) }
+        ensures refused { IfErr result (HasNoAddress url.now) }
     {
         let address = get_robots_url(alloc, url)?;
         Ok(self.robots.get(address.as_str()))
