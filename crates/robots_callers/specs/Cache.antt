@@ -1,5 +1,5 @@
--- What a cache keeps, and why it doesn't.
-use Rattle.std.specs.Prelude.{◌≡◌, ◌⊎◌, ◌||◌, ⊤, Bool, Err, List, ℕ}
+-- What a cache keeps, and why it refuses.
+use Rattle.std.specs.Prelude.{◌≡◌, ◌⊎◌, ◌||◌, Bool, false, Err, IsOk, List, ℕ}
 use Rattle.std.specs.Prelude.{if◌then◌else◌, length, nat_lt, remove}
 use Rattle.url.specs.Parser.{IsOutOfRoom}
 use Rattle.url.specs.declared.error.ParseError.{ParseError}
@@ -8,16 +8,23 @@ use Rattle.robots_callers.specs.declared.cache.CacheError.{CacheError}
 use Rattle.robots_callers.specs.declared.cache.TheConstants.{MOST}
 use Rattle.robots_callers.specs.declared.cache.CacheError.TheVariants.{Url, File, Memory}
 
--- the error by which the URL has no address, or want of memory
-abbrev pub HasNoAddress : List ℕ → ParseError → Type 0
-HasNoAddress url error = (robots_address url ≡ Err error) ⊎ IsOutOfRoom error
+-- the error for which the URL has no address, or want of memory
+abbrev pub IsNoAddressOrMemory : List ℕ → ParseError → Type 0
+IsNoAddressOrMemory url error = (robots_address url ≡ Err error) ⊎ IsOutOfRoom error
 
--- the URL has no address, the file is refused for the agent, or want of memory
-abbrev pub IsNotKept : List ℕ → List ℕ → List ℕ → CacheError → Type 0
-IsNotKept agent url file (Url error) = HasNoAddress url error
-IsNotKept agent url file (File error) = IsMemoryOr (IsRefused agent (lines_read file)) error
-IsNotKept agent url file Memory = ⊤
+-- the error says why: the URL has no address, the file is refused for the agent, or want of memory
+abbrev pub IsWhyNotKept : List ℕ → List ℕ → List ℕ → CacheError → Type 0
+IsWhyNotKept agent url file (Url error) = IsNoAddressOrMemory url error
+IsWhyNotKept agent url file (File error) =
+    IsOk (robots_address url) × IsMemoryOr (IsRefused agent (lines_read file)) error
+IsWhyNotKept agent url file Memory = IsOk (robots_address url) × (¬ IsRefused agent (lines_read file))
 
--- the entries, without the oldest where there is no room for one more and the address isn't among theirs
+-- the entries; where there are `MOST` and none has the address, without the first
 abbrev pub with_room : {E : Type 0} → Bool → List E → List E
 with_room is_known entries = if nat_lt (length entries) MOST || is_known then entries else remove entries 0
+
+-- the entries that are left after this error: all, but room was made where memory for one more was refused
+abbrev pub left_after : {E : Type 0} → CacheError → List E → List E
+left_after (Url error) entries = entries
+left_after (File error) entries = entries
+left_after Memory entries = with_room false entries

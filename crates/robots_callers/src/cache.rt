@@ -1,8 +1,8 @@
 //! A cache of robots, by the addresses of their files.
-ghost use Rattle.std.specs.Prelude.{◌≡◌, ◌⊎◌, ◌+◌, ◌-◌, ◌≤◌, ℕ, if◌then◌else◌, is_some, IfErr, IfOk, IsSomeAnd, List, Ok, OnErr, OnOk, Some, option_copied, remove, string_bytes};
+ghost use Rattle.std.specs.Prelude.{◌≡◌, ◌+◌, ◌-◌, ◌≤◌, ℕ, if◌then◌else◌, is_some, IfErr, IfOk, IsSomeAnd, List, None, Ok, OnErr, OnOk, Some, option_copied, remove, string_bytes};
 ghost use Rattle.std.specs.String.{string_eq};
 ghost use Rattle.indexmap.specs.IndexMap.{get_by_text, index_map_len, insert_entry};
-ghost use Rattle.robots_callers.specs.Cache.{HasNoAddress, IsNotKept, with_room};
+ghost use Rattle.robots_callers.specs.Cache.{IsNoAddressOrMemory, IsWhyNotKept, left_after, with_room};
 ghost use Rattle.robots_callers.specs.declared.cache.CacheError.TheVariants.{Memory};
 ghost use Rattle.robots_callers.specs.declared.cache.TheConstants.{MOST};
 ghost use Rattle.texting_robots.specs.Callers.{IsRobotOf, lines_read, robots_address};
@@ -19,13 +19,13 @@ pub const MOST: usize = 64;
 /// Why a robot isn't kept.
 #[derive(Debug, Drop, Error)]
 pub enum CacheError {
-    /// The URL has no robots.txt file.
+    /// The URL has no address of a robots.txt file, or memory for it was refused.
     #[error("No address of a robots.txt file: {0}")]
     Url(#[source] ParseError),
-    /// The file gives no robot.
+    /// The file is refused for the agent, or memory for the robot was.
     #[error("No robot: {0}")]
     File(#[source] texting_robots::Error),
-    /// Memory was refused.
+    /// Memory for one more entry was refused.
     #[error("Out of memory")]
     Memory,
 }
@@ -52,7 +52,7 @@ impl From<texting_robots::Error> for CacheError {
     }
 }
 
-/// Takes the oldest robot out, if there is one.
+/// Takes the robot of the site that came first out, if there is one.
 fn forget_oldest(robots: &mut IndexMap<String, Robot>)
     ensures { robots.new.entries ≡ remove robots.old.entries 0 }
 {
@@ -83,8 +83,9 @@ fn add(
     ensures kept { OnOk result (get_by_text robots.new (string_bytes address) ≡ Some robot) }
     ensures entries { OnOk result (robots.new.entries
         ≡ insert_entry string_eq robots.old.entries address robot) }
-    ensures refused { OnErr result (robots.new.entries ≡ robots.old.entries) }
-    ensures memory { IfErr result (λ error. error ≡ Memory) }
+    ensures unchanged { OnErr result (robots.new.entries ≡ robots.old.entries) }
+    ensures absent { OnErr result (get_by_text robots.old (string_bytes address) ≡ None) }
+    ensures refused { IfErr result (λ error. error ≡ Memory) }
 {
     match robots.insert(address, robot) {
         Ok(_) => Ok(()),
@@ -92,7 +93,8 @@ fn add(
     }
 }
 
-/// The robots of at most [`MOST`] sites for one crawler. Where one more comes, the oldest goes.
+/// The robots of at most [`MOST`] sites for one crawler, whose name each call is given. Where one more comes, the site that came
+/// first goes; a robot that is put again keeps its site's place.
 #[derive(Drop)]
 pub struct Cache {
     /// By the address of the file.
@@ -110,8 +112,9 @@ impl Cache {
         }
     }
 
-    /// Keeps the robot of the site that a URL is on, which has this file. Where memory is refused once room was made,
-    /// the oldest robot is gone all the same.
+    /// Keeps the robot that this file gives the agent, for the site that a URL is on, in place of one that is kept for it. For a
+    /// new site, where [`MOST`] are kept, the site that came first goes. After `Memory` it may be gone; after any other error all
+    /// is as before.
     pub fn put(
         &mut self,
         alloc: Global,
@@ -126,9 +129,8 @@ impl Cache {
             × (self.new.robots.entries ≡ insert_entry string_eq
             (with_room (is_some (get_by_text self.old.robots (string_bytes address))) self.old.robots.entries)
             address robot)) }
-        ensures lost { OnErr result ((self.new.robots.entries ≡ self.old.robots.entries)
-            ⊎ (self.new.robots.entries ≡ remove self.old.robots.entries 0)) }
-        ensures refused { IfErr result (IsNotKept agent.now url.now file.now) }
+        ensures left { IfErr result (λ error. self.new.robots.entries ≡ left_after error self.old.robots.entries) }
+        ensures refused { IfErr result (IsWhyNotKept agent.now url.now file.now) }
     {
         let address = get_robots_url(alloc, url)?;
         let robot = Robot::new(alloc, agent, file)?;
@@ -141,7 +143,7 @@ impl Cache {
     pub fn find(&self, alloc: Global, url: &str) -> Result<Option<&Robot>, ParseError>
         ensures found { IfOk result (λ found. (address : List ℕ) × (robots_address url.now ≡ Ok address)
             × (option_copied found ≡ get_by_text self.now.robots address)) }
-        ensures refused { IfErr result (HasNoAddress url.now) }
+        ensures refused { IfErr result (IsNoAddressOrMemory url.now) }
     {
         let address = get_robots_url(alloc, url)?;
         Ok(self.robots.get(address.as_str()))

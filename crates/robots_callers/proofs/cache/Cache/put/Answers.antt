@@ -9,3 +9,6 @@ returns-clause-entries c = (
   c.in_ok-robot.ensures.robot,
   search rules,
 )
+
+pub returns-in_err-robot-clause-left : goal.returns-in_err-robot-clause-left
+returns-in_err-robot-clause-left c = search rules
