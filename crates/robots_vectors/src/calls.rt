@@ -3,7 +3,7 @@ use crate::helpers::{check, check_equal};
 use std::alloc::Global;
 use texting_robots::parser::{Line, lines};
 use texting_robots::view::View;
-use texting_robots::{Error, Robot};
+use texting_robots::{Error, Robot, one_agent_allowed};
 
 const LINES: &[u8] =
     b"User-agent: A\nAllow: /b\nDisallow: /c\nDisallow:\nSitemap: d\nCrawl-delay: 1\nNoindex: /e";
@@ -62,5 +62,21 @@ fn the_documented_example_answers(rt: HostRuntime) {
     for (file, page, want) in PAGES {
         let answer = may_fetch(rt.alloc(), file, page).expect(&rt, page);
         check_equal(&rt, page, &answer, want);
+    }
+}
+
+/// A file, a prepared text, and whether it may be fetched.
+const TEXTS: &[(&[u8], &str, bool)] = &[
+    (REEF, "/reef", false),
+    (REEF, "/open", true),
+    (b"", "/", true),
+];
+
+#[test]
+fn one_call_reads_a_file_and_answers(rt: HostRuntime) {
+    for (file, text, want) in TEXTS {
+        let mut view = View::new(text);
+        let answer = one_agent_allowed(rt.alloc(), "FerrisBot", file, &mut view).expect(&rt, text);
+        check_equal(&rt, text, &answer, want);
     }
 }

@@ -9,10 +9,11 @@ use Rattle.std.proofs.lemmas.List.{append-nil, map-append, take_more}
 use Rattle.texting_robots.specs.Decision.{IsDecidingLine}
 use Rattle.texting_robots.specs.Line.{LineValue}
 use Rattle.texting_robots.specs.Prepared.{prepared}
-use Rattle.texting_robots.specs.Robot.{IsRobotOf, RobotValue, lines_read}
+use Rattle.texting_robots.specs.Robot.{AnswersFor, IsRobotOf, RobotValue, lines_read}
 use Rattle.texting_robots.specs.Rules.{IsRefused, PlacedRule, delay_for}
 use Rattle.texting_robots.specs.Rules.{placed_rules, sitemaps_in, unplaced}
 use Rattle.texting_robots.specs.Verdict.{IsVerdict}
+use Rattle.texting_robots.proofs.HeadlineLemmas.{answers_for}
 use Rattle.texting_robots.proofs.VerdictLemmas.{one_line_decides, one_verdict}
 use Rattle.robots_verdict.specs.declared.fault.Fault.{Fault}
 use Rattle.robots_verdict.specs.declared.fault.Fault.TheVariants.{HeaderNotUtf8, InvalidRule}
@@ -65,7 +66,7 @@ adds_at rules urls place url old mid new below one two =
     ((slice_index_or urls place url).now ∷ []) old mid new one two)
 
 -- a robot's verdicts are those of its file
-lines_like : (agent : List ℕ) (lines : List LineValue) (robot : RobotValue) → IsRobotOf agent lines robot
+lines_like : (agent : List ℕ) (lines : List LineValue) (robot : RobotValue) → AnswersFor agent lines robot
     → (urls texts : List (List ℕ)) → AllZip (IsVerdictLine robot.rules) urls texts
     → AllZip (IsVerdictLine (placed_rules agent lines)) urls texts
 lines_like agent lines robot is [] [] are = tt
@@ -96,7 +97,7 @@ text_made agent urls file one two text robot is first second last =
     let sitemaps : List (List ℕ) = map sitemap_line (sitemaps_in lines) in
     record {
       verdict_lines = last.lines;
-      verdicts = lines_like agent lines robot is urls last.lines last.verdicts;
+      verdicts = lines_like agent lines robot (answers_for agent lines robot is) urls last.lines last.verdicts;
       whole = lines_added one two text sitemaps last.lines (rw is.sitemaps at second) last.whole
           ∙ ap (λ t. t ++ ended (sitemaps ++ last.lines)) (rw is.delay at first)
           ∙ sym (ended-append delay (sitemaps ++ last.lines));

@@ -31,4 +31,6 @@ pub mod SharingLemmas
 pub mod FirstLemmas
 pub mod VerdictLemmas
 pub mod PlacedLemmas
+pub mod HeldLemmas
+pub mod HeadlineLemmas
 pub mod BestLemmas

@@ -1,4 +1,4 @@
--- The line that decides holds the rule that decides.
+-- Each rule that is computed of lines stands on its line.
 use Rattle.std.proofs.Common.{◌≡◌, ℕ, zero, suc, ◌+◌, ◌<◌, Bool, true, false}
 use Rattle.std.proofs.Common.{cond, List, [], ◌∷◌, Option, Some, None}
 use Rattle.std.proofs.Common.{get_or, length, refl, sym, ap, ◌∙◌, arith, zero-add}
@@ -10,12 +10,11 @@ use Rattle.std.specs.Str.{is_utf8}
 use Rattle.texting_robots.specs.Escape.{escaped}
 use Rattle.texting_robots.specs.Group.{group_name}
 use Rattle.texting_robots.specs.Steps.Captured.{is_captured}
-use Rattle.texting_robots.specs.Laws.{HoldsRule}
+use Rattle.texting_robots.specs.Held.{HoldsRule}
 use Rattle.texting_robots.specs.Line.{LineValue, Allow, Disallow}
 use Rattle.texting_robots.specs.Rules.{PlacedRule, captured_lines, placed_in, placed_rules, rule_in}
 use Rattle.texting_robots.specs.Steps.Group.{placed}
 use Rattle.texting_robots.proofs.CapturedLemmas.{is_captured_decides}
-use Rattle.texting_robots.specs.Decision.{IsDecidingRule, IsDecidingLine}
 
 -- what is found in a list comes from one of its elements
 abbrev ComesFrom : {X Y : Type 0} → (X → Option Y) → List X → Y → Type 0
@@ -86,12 +85,3 @@ rule_on_line agent lines found has =
       utf8 = gives.utf8;
       pattern = gives.pattern;
     }
-
-pub deciding_line_holds_its_rule : (agent : List ℕ) (lines : List LineValue)
-    (text : List ℕ) (number : ℕ)
-    → IsDecidingLine (placed_rules agent lines) text (Some number)
-    → (placed : PlacedRule) × IsDecidingRule (placed_rules agent lines) text placed
-    × (placed.line ≡ number)
-    × HoldsRule agent lines number placed.rule
-deciding_line_holds_its_rule agent lines text number (differs, found, decides, at) =
-    (found, decides, at, rw at at (rule_on_line agent lines found decides.is_longest.listed))

@@ -8,7 +8,8 @@ pub use Rattle.texting_robots.specs.{Line.value_in, Delay.IsDelay, Parsed.file_l
 pub use Rattle.texting_robots.specs.Rules.{GivesNothing, IsRefused, PlacedRule, Rule, delay_for, placed_rules}
 pub use Rattle.texting_robots.specs.Rules.{rules_for, sitemaps_in, unplaced}
 pub use Rattle.texting_robots.specs.Group.{IsCaptured, group_name, is_agent_named}
-pub use Rattle.texting_robots.specs.Robot.{RobotValue, IsRobotOf, file_limit, lines_read}
+pub use Rattle.texting_robots.specs.Held.{AreRulesFor, HasOverlong, HoldsRule}
+pub use Rattle.texting_robots.specs.Robot.{RobotValue, AnswersFor, IsRobotOf, file_limit, lines_read}
 pub use Rattle.texting_robots.specs.Marks.{Mark, is_named, is_own, mark_by_value, marks_of, standing_of}
 -- URLs, texts and patterns
 pub use Rattle.texting_robots.specs.Pattern.{Matches, MatchesStars, IsOverlong, collapsed}
@@ -18,6 +19,7 @@ pub use Rattle.texting_robots.specs.{Prepared.prepared, Prepared.target_of, Orde
 pub use Rattle.texting_robots.specs.Verdict.{IsDenied, IsVerdict, robots_file}
 pub use Rattle.texting_robots.specs.Decision.{IsDecidingRule, IsDecidingLine, IsLongestMatch, LooksForRules}
 pub use Rattle.texting_robots.specs.{Decision.as_long_as, View.LooksAtMost, View.ViewValue, View.seen_of}
+pub use Rattle.texting_robots.specs.Headline.{IsAnswerOf}
 -- errors
 pub use Rattle.url.specs.Parser.{GivesBy}
 pub use Rattle.texting_robots.specs.Error.{IsMemoryOr}

@@ -1,10 +1,9 @@
 -- Words of the laws, which stand as the contracts of `laws`.
-use Rattle.std.specs.Prelude.{◌≡◌, ◌+◌, ◌↔◌, ℕ, Bool, true, false, ◌==◌, ◌&&◌, List}
+use Rattle.std.specs.Prelude.{◌≡◌, ◌↔◌, ℕ, Bool, true, false, ◌==◌, ◌&&◌, List}
 use Rattle.std.specs.Prelude.{[]}
-use Rattle.std.specs.Prelude.{◌∷◌, Some, IsTrue, codes, slice_get, slice_index, if◌then◌else◌}
-use Rattle.std.specs.Str.{is_utf8}
+use Rattle.std.specs.Prelude.{◌∷◌, codes, slice_index, if◌then◌else◌}
 use Rattle.texting_robots.specs.Rules.{IsRefused, Rule, delay_for, rules_for, sitemaps_in}
-use Rattle.texting_robots.specs.{Cut.cr, Cut.lf, Escape.escaped, Group.IsCaptured, Group.group_name}
+use Rattle.texting_robots.specs.{Cut.cr, Cut.lf, Escape.escaped}
 use Rattle.texting_robots.specs.{Line.Allow, Line.Disallow, Line.LineValue, Trim.IsTrimOf, Verdict.IsVerdict}
 use Rattle.texting_robots.specs.Rfc9309 as rfc
 
@@ -33,17 +32,6 @@ abbrev pub IsSameKind : LineValue → LineValue → Type 0
 IsSameKind (Allow value) (Allow other) = Unit {0}
 IsSameKind (Disallow value) (Disallow other) = Unit {0}
 IsSameKind line other = ⊥
-
--- the line with this number, counted from 1, is captured, and is an Allow or a Disallow whose escaped value
--- is the pattern
-pub record HoldsRule (agent : List ℕ) (lines : List LineValue) (number : ℕ) (rule : Rule) : Type 0 where
-  pub place : ℕ
-  pub value : List ℕ
-  pub is_number : number ≡ place + 1
-  pub captured : IsCaptured (group_name agent lines) lines place
-  pub line : slice_get lines place ≡ Some (if rule.1 then Allow value else Disallow value)
-  pub utf8 : IsTrue (is_utf8 value)
-  pub pattern : rule.0 ≡ escaped value
 
 -- What a rule that a file of the standard's syntax spells becomes: its pattern, without the Unicode white
 -- space at its end, escaped. An empty Disallow is an Allow of `/`.

@@ -14,10 +14,12 @@ pub mod Verdict
 pub mod Decision
 pub mod Order
 pub mod View
+pub mod Held
 pub mod Robot
 pub mod Prepared
 pub mod Address
 pub mod Rfc9309
 pub mod Laws
+pub mod Headline
 pub mod Callers
 pub mod Steps

@@ -1,6 +1,6 @@
 //! Laws over the definitions, each the contract of a function that computes nothing.
 ghost use Rattle.std.specs.Prelude.{◌≡◌, ◌≢◌, ◌<◌, ◌↔◌, ◌⊎◌, ℕ, Bool, true, false, not, List, [], ◌∷◌, ◌++◌};
-ghost use Rattle.std.specs.Prelude.{Option, Some, IsTrue, IsPermutation, filter, length};
+ghost use Rattle.std.specs.Prelude.{Option, Some, None, IsTrue, IsPermutation, filter, length};
 ghost use Rattle.std.specs.declared.cmp.Ordering.TheVariants.{Less, Equal};
 ghost use Rattle.std.specs.List.{AllZip};
 ghost use Rattle.std.specs.Str.{str_to_ascii_lowercase};
@@ -9,14 +9,15 @@ ghost use Rattle.texting_robots.specs.Cut.{IsCut, Pair};
 ghost use Rattle.texting_robots.specs.Decision.{IsDecidingRule, IsDecidingLine};
 ghost use Rattle.texting_robots.specs.Delay.{IsDelay};
 ghost use Rattle.texting_robots.specs.Group.{IsCaptured, group_name};
-ghost use Rattle.texting_robots.specs.Laws.{HoldsRule, IsReadAs, IsSameKind, Same, SameButSitemaps, feeds_alone};
+ghost use Rattle.texting_robots.specs.Held.{AreRulesFor, HoldsRule};
+ghost use Rattle.texting_robots.specs.Laws.{IsReadAs, IsSameKind, Same, SameButSitemaps, feeds_alone};
 ghost use Rattle.texting_robots.specs.Line.{AreFileLinesOf, AreLinesOf, HoldRangesOf, LineValue, is_raw, is_sitemap};
 ghost use Rattle.texting_robots.specs.Order.{IsBefore, pattern_cmp};
 ghost use Rattle.texting_robots.specs.Parsed.{file_lines, parsed};
 ghost use Rattle.texting_robots.specs.Pattern.{Matches, MatchesWith, collapsed};
 ghost use Rattle.texting_robots.specs.Rfc9309 as rfc;
-ghost use Rattle.texting_robots.specs.Robot.{IsRobotOf, RobotValue};
-ghost use Rattle.texting_robots.specs.Rules.{PlacedRule, Rule, placed_rules, rules_for};
+ghost use Rattle.texting_robots.specs.Robot.{AnswersFor, IsRobotOf, RobotValue};
+ghost use Rattle.texting_robots.specs.Rules.{PlacedRule, Rule, placed_rules, rules_for, unplaced};
 ghost use Rattle.texting_robots.specs.Statement.{IsStatement};
 ghost use Rattle.texting_robots.specs.Steps.Captured.{is_captured};
 ghost use Rattle.texting_robots.specs.Steps.Cut.{cut};
@@ -160,10 +161,34 @@ pub fn one_line_decides()
 /// The line that decides is captured, and is an Allow or a Disallow whose escaped value is the deciding pattern.
 /// Whoever shows a site owner why a URL is allowed or not relies on it.
 pub fn deciding_line_holds_its_rule()
-    ensures { (agent : List ℕ) (lines : List LineValue) (text : List ℕ) (number : ℕ)
-        → IsDecidingLine (placed_rules agent lines) text (Some number)
-        → (placed : PlacedRule) × IsDecidingRule (placed_rules agent lines) text placed × (placed.line ≡ number)
+    ensures { (agent : List ℕ) (lines : List LineValue) (rules : List PlacedRule) (text : List ℕ) (number : ℕ)
+        → AreRulesFor agent lines rules → IsDecidingLine rules text (Some number)
+        → (placed : PlacedRule) × IsDecidingRule rules text placed × (placed.line ≡ number)
         × HoldsRule agent lines number placed.rule }
+{}
+
+/// Each list of lines has its rules for an agent, in any order, those that `placed_rules` computes. Whoever reads the contract
+/// of `one_agent_allowed` relies on it.
+pub fn each_agent_has_its_rules()
+    ensures { (agent : List ℕ) (lines : List LineValue) (rules : List PlacedRule)
+        → AreRulesFor agent lines rules ↔ IsPermutation (placed_rules agent lines) rules }
+{}
+
+/// A robot answers as the rules that are computed of its lines. Whoever keeps a robot, and knows by `IsRobotOf` what it is, relies
+/// on it.
+pub fn robots_answer_for_their_lines()
+    ensures { (agent : List ℕ) (lines : List LineValue) (robot : RobotValue) → IsRobotOf agent lines robot
+        → AnswersFor agent lines robot }
+{}
+
+/// The line that decides gives the verdict: an Allow a yes, a Disallow a no; and where none decides, it is yes.
+/// Whoever shows a site owner why a URL is allowed or not relies on it.
+pub fn deciding_line_gives_the_verdict()
+    ensures line { (agent : List ℕ) (lines : List LineValue) (rules : List PlacedRule) (text : List ℕ) (number : ℕ)
+        (rule : Rule) → AreRulesFor agent lines rules → IsDecidingLine rules text (Some number)
+        → HoldsRule agent lines number rule → IsVerdict (unplaced rules) text rule.1 }
+    ensures none { (rules : List PlacedRule) (text : List ℕ) → IsDecidingLine rules text None
+        → IsVerdict (unplaced rules) text true }
 {}
 
 /// Of a file of the standard's syntax an agent gets, in order and each as often, the rules that the file spells for it; and

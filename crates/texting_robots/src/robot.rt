@@ -4,7 +4,7 @@ ghost use Rattle.texting_robots.specs.Parsed.{file_lines};
 ghost use Rattle.texting_robots.specs.Decision.{IsDecidingLine, LooksForRules};
 ghost use Rattle.texting_robots.specs.Error.{IsMemoryOr};
 ghost use Rattle.texting_robots.specs.Prepared.{prepared, target_of};
-ghost use Rattle.texting_robots.specs.Robot.{IsRobotOf, lines_read};
+ghost use Rattle.texting_robots.specs.Robot.{AnswersFor, IsRobotOf, lines_read};
 ghost use Rattle.texting_robots.specs.Rules.{GivesNothing, IsRefused, unplaced};
 ghost use Rattle.texting_robots.specs.Verdict.{IsVerdict};
 
@@ -56,6 +56,7 @@ impl Robot {
     /// `Error::Memory` where memory is refused.
     pub fn new(alloc: Global, agent: &str, txt: &[u8]) -> Result<Self, Error>
         ensures robot { IfOk result (IsRobotOf agent.now (lines_read txt.now)) }
+        ensures answers { IfOk result (AnswersFor agent.now (lines_read txt.now)) }
         ensures refused { IfErr result (IsMemoryOr (IsRefused agent.now (lines_read txt.now))) }
         ensures without_memory { GivesNothing agent.now (lines_read txt.now) → IsOk result }
     {
@@ -72,6 +73,7 @@ impl Robot {
     /// As [`Robot::new`].
     pub fn with_limit(alloc: Global, agent: &str, txt: &[u8], limit: usize) -> Result<Self, Error>
         ensures robot { IfOk result (IsRobotOf agent.now (file_lines (take limit txt.now))) }
+        ensures answers { IfOk result (AnswersFor agent.now (file_lines (take limit txt.now))) }
         ensures refused { IfErr result (IsMemoryOr (IsRefused agent.now (file_lines (take limit txt.now)))) }
         ensures without_memory { GivesNothing agent.now (file_lines (take limit txt.now)) → IsOk result }
     {
@@ -81,6 +83,7 @@ impl Robot {
     /// Reads a whole file, in two passes: for the agent's group, and for what the group's lines give.
     fn read(alloc: Global, agent: &str, txt: &[u8]) -> Result<Self, Error>
         ensures robot { IfOk result (IsRobotOf agent.now (file_lines txt.now)) }
+        ensures answers { IfOk result (AnswersFor agent.now (file_lines txt.now)) }
         ensures refused { IfErr result (IsMemoryOr (IsRefused agent.now (file_lines txt.now))) }
         ensures without_memory { GivesNothing agent.now (file_lines txt.now) → IsOk result }
     {

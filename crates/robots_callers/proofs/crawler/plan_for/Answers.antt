@@ -13,5 +13,5 @@ by_same_verdicts these those (url ∷ urls) kept same (allowed, rest, is, are, e
 
 pub returns-clause-urls : goal.returns-clause-urls
 returns-clause-urls c =
-    by_same_verdicts _ _ _ _ (λ text answer is. (c.in_ok-robot.ensures.robot.verdicts text answer).0 is)
+    by_same_verdicts _ _ _ _ (λ text answer is. (c.in_ok-robot.ensures.answers.verdicts text answer).0 is)
     c.in_ok-urls.ensures.urls

@@ -25,7 +25,7 @@ returns-clause-ok c =
       header.file.now,
       c.in_ok-header.ensures.input,
       c.in_ok-header.ensures.texts,
-      c.in_ok-robot.ensures.robot.accepted,
+      c.in_ok-robot.ensures.answers.accepted,
       text_made header.agent.now (map (λ url. url.now) header.urls.items) header.file.now _ _ _ robot
           c.in_ok-robot.ensures.robot delayed listed judged,
     )

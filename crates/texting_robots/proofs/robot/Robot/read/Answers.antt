@@ -11,9 +11,10 @@ use Rattle.texting_robots.specs.Rules.{PlacedRule, Rule, delay_before_agents}
 use Rattle.texting_robots.specs.Steps.Group.{passed_of}
 use Rattle.texting_robots.proofs.CapturedLemmas.{delays_passed, rules_passed, sitemaps_are}
 use Rattle.texting_robots.proofs.RulesLemmas.{all_added, any_unplaced, first_more, given_any}
-use Rattle.texting_robots.proofs.RulesLemmas.{given_more, given_none, no_rules, none_unplaced}
+use Rattle.texting_robots.proofs.RulesLemmas.{given_more, given_none, no_rules}
 use Rattle.texting_robots.proofs.RulesLemmas.{option_or_none, passed_on, refused_wider}
-use Rattle.texting_robots.proofs.VerdictLemmas.{same_lines, same_verdicts}
+use Rattle.texting_robots.proofs.HeadlineLemmas.{answers_for, none_overlong}
+use Rattle.texting_robots.proofs.HeldLemmas.{rules_are_computed}
 use Rattle.texting_robots.proofs.robot.Robot.read.Goals as goal
 
 pub loop-marked-preserved : goal.loop-marked-preserved
@@ -76,13 +77,14 @@ returns-clause-robot c =
     subst (λ (all : List PlacedRule). IsPermutation all c.sorted.result) rules c.sorted.ensures in
     let first = rw end at so_far.delay in
     let stray = rw c.unread_file_lines.ensures.value at c.group_for-group.ensures.stray_delay in
-    let none = none_unplaced (λ (rule : Rule). IsOverlong rule.0) _ so_far.accepted in
     record {
       delay = c.or.ensures ∙ ap (λ last. option_or c.loop-marked.reading.delay last) stray
           ∙ ap (λ delay. option_or delay (delay_before_agents lines)) (sym (option_or_none _) ∙ first);
       sitemaps = rw (end, append-nil) at so_far.sitemaps;
-      rules = sorted;
-      verdicts = same_verdicts _ _ sorted;
-      deciding = same_lines _ _ sorted;
-      accepted = rw rules at none;
+      rules = (rules_are_computed c.args.agent.now lines _).1 sorted;
+      accepted = none_overlong _ _ c.sorted.ensures so_far.accepted;
     }
+
+pub returns-clause-answers : goal.returns-clause-answers
+returns-clause-answers c =
+    answers_for c.args.agent.now (file_lines c.args.txt.now) _ (returns-clause-robot c)

@@ -1,0 +1,34 @@
+//! One question about one file, for one crawler.
+ghost use Rattle.std.specs.Prelude.{◌≡◌, ℕ, IfErr, List, take};
+ghost use Rattle.texting_robots.specs.Headline.{IsAnswerOf};
+ghost use Rattle.texting_robots.specs.Held.{AreRulesFor};
+ghost use Rattle.texting_robots.specs.Line.{AreFileLinesOf, LineValue};
+ghost use Rattle.texting_robots.specs.Robot.{file_limit};
+ghost use Rattle.texting_robots.specs.Rules.{PlacedRule};
+
+use crate::error::Error;
+use crate::robot::Robot;
+use crate::view::View;
+use std::alloc::Global;
+
+/// Whether the crawler that calls itself `agent` may fetch what a view's prepared text stands for, by the first
+/// [`FILE_LIMIT`](crate::robot::FILE_LIMIT) bytes of the file `txt`.
+///
+/// It is [`Robot::new`] and [`Robot::allowed_view`] in one call; who asks more than once keeps the robot.
+///
+/// # Errors
+///
+/// As [`Robot::new`].
+pub fn one_agent_allowed(
+    alloc: Global,
+    agent: &str,
+    txt: &[u8],
+    view: &mut View<'_>,
+) -> Result<bool, Error>
+    ensures answer { (lines : List LineValue) (rules : List PlacedRule) → AreFileLinesOf lines (take file_limit txt.now)
+        → AreRulesFor agent.now lines rules → IsAnswerOf rules view.old view.new result }
+    ensures untouched { IfErr result (λ _. view.new ≡ view.old) }
+{
+    let robot = Robot::new(alloc, agent, txt)?;
+    Ok(robot.allowed_view(view))
+}
