@@ -9,7 +9,7 @@ use Rattle.std.proofs.lemmas.List.{append-nil}
 use Rattle.texting_robots.specs.declared.error.Error.{Error}
 use Rattle.texting_robots.specs.declared.error.Error.TheVariants.{InvalidRule}
 use Rattle.texting_robots.specs.Callers.{IsMemoryOr, IsOverlong, Mark, PlacedRule, Rule, is_own, unplaced}
-use Rattle.texting_robots.specs.Rules.{rule_in}
+use Rattle.texting_robots.specs.Computed.{rule_in}
 use Rattle.texting_robots.specs.declared.marks.Standing.{Standing}
 use Rattle.texting_robots.specs.declared.marks.Standing.TheVariants.{Own}
 use Rattle.texting_robots.specs.Steps.Group.{placed, own_rule_at}

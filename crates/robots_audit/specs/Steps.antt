@@ -3,7 +3,7 @@ use Rattle.std.specs.Prelude.{◌≡◌, ℕ, Bool, IsTrue, List, ◌++◌}
 use Rattle.std.specs.List.{AllZip}
 use Rattle.std.specs.Option.{IsSomeAnd}
 use Rattle.texting_robots.specs.Callers.{IsOverlong, Mark, PlacedRule, Rule, is_own, unplaced}
-use Rattle.texting_robots.specs.Rules.{rule_in}
+use Rattle.texting_robots.specs.Computed.{rule_in}
 use Rattle.robots_io.specs.Lines.{ended}
 use Rattle.robots_audit.specs.Report.{AreAllowed, IsVerdictLine}
 

@@ -2,7 +2,7 @@
 ghost use Rattle.std.specs.Prelude.{◌↔◌, IfOk, IsTrue};
 ghost use Rattle.std.specs.Option.{IsSomeAnd};
 ghost use Rattle.texting_robots.specs.Callers.{IsOverlong, IsRefused, escaped, lines_read, mark_by_value, placed_rules};
-ghost use Rattle.texting_robots.specs.Rules.{rule_with};
+ghost use Rattle.texting_robots.specs.Computed.{rule_with};
 ghost use Rattle.robots_audit.specs.Report.{IsFirstOverlong};
 ghost use Rattle.robots_audit.specs.Steps.{GivesOverlong};
 

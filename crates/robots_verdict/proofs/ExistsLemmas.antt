@@ -10,9 +10,10 @@ use Rattle.std.proofs.lemmas.Bool.{cases_Bool, cases_lt, eqb-false, eqb-true, fa
 use Rattle.std.proofs.lemmas.Str.{IsUtf8-from_is_utf8, is_utf8-from_IsUtf8}
 use Rattle.texting_robots.specs.Pattern.{IsOverlong, collapsed, dollar}
 use Rattle.texting_robots.specs.Prepared.{prepared}
-use Rattle.texting_robots.specs.Robot.{lines_read}
-use Rattle.texting_robots.specs.Rules.{PlacedRule, Rule, delay_for, placed_rules, rules_for}
-use Rattle.texting_robots.specs.Rules.{sitemaps_in}
+use Rattle.texting_robots.specs.Computed.{lines_read}
+use Rattle.texting_robots.specs.Computed.{delay_for, placed_rules, rules_for}
+use Rattle.texting_robots.specs.Rules.{PlacedRule, Rule}
+use Rattle.texting_robots.specs.Computed.{sitemaps_in}
 use Rattle.texting_robots.proofs.BestLemmas.{Either, each_text_answered}
 use Rattle.robots_verdict.specs.declared.fault.Fault.{Fault}
 use Rattle.robots_verdict.specs.declared.fault.Fault.TheVariants.{HeaderNotUtf8, InvalidRule, NoEmptyLine}

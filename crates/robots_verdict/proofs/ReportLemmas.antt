@@ -9,9 +9,12 @@ use Rattle.std.proofs.lemmas.List.{append-nil, map-append, take_more}
 use Rattle.texting_robots.specs.Decision.{IsDecidingLine}
 use Rattle.texting_robots.specs.Line.{LineValue}
 use Rattle.texting_robots.specs.Prepared.{prepared}
-use Rattle.texting_robots.specs.Robot.{AnswersFor, IsRobotOf, RobotValue, lines_read}
-use Rattle.texting_robots.specs.Rules.{IsRefused, PlacedRule, delay_for}
-use Rattle.texting_robots.specs.Rules.{placed_rules, sitemaps_in, unplaced}
+use Rattle.texting_robots.specs.Computed.{lines_read}
+use Rattle.texting_robots.specs.Robot.{AnswersFor, IsRobotOf, RobotValue}
+use Rattle.texting_robots.specs.Computed.{delay_for}
+use Rattle.texting_robots.specs.Rules.{IsRefused, PlacedRule}
+use Rattle.texting_robots.specs.Computed.{placed_rules, sitemaps_in}
+use Rattle.texting_robots.specs.Rules.{unplaced}
 use Rattle.texting_robots.specs.Verdict.{IsVerdict}
 use Rattle.texting_robots.proofs.HeadlineLemmas.{answers_for}
 use Rattle.texting_robots.proofs.VerdictLemmas.{one_line_decides, one_verdict}

@@ -5,9 +5,10 @@ use Rattle.std.specs.List.{AllZip}
 use Rattle.std.specs.Io.KnownBytes.{Appends}
 use Rattle.texting_robots.specs.Decision.{IsDecidingLine}
 use Rattle.texting_robots.specs.Prepared.{prepared}
-use Rattle.texting_robots.specs.Rules.{IsRefused, PlacedRule, delay_for, placed_rules, sitemaps_in, unplaced}
+use Rattle.texting_robots.specs.Computed.{delay_for, placed_rules, sitemaps_in}
+use Rattle.texting_robots.specs.Rules.{IsRefused, PlacedRule, unplaced}
 use Rattle.texting_robots.specs.Verdict.{IsVerdict}
-use Rattle.texting_robots.specs.Robot.{lines_read}
+use Rattle.texting_robots.specs.Computed.{lines_read}
 use Rattle.robots_io.specs.Ends.{AppendsBeginning}
 use Rattle.robots_io.specs.Lines.{delay_line, ended, verdict_line}
 use Rattle.robots_verdict.specs.declared.fault.Fault.{Fault}

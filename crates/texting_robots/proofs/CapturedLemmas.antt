@@ -19,8 +19,10 @@ use Rattle.texting_robots.specs.Group.{IsCaptured, group_name, is_agent, is_agen
 use Rattle.texting_robots.specs.Group.{passes_at}
 use Rattle.texting_robots.specs.Steps.Captured.{is_captured, some_below}
 use Rattle.texting_robots.specs.Line.{delay_in}
-use Rattle.texting_robots.specs.Rules.{PlacedRule, Rule, captured_delays, placed_in, placed_rules}
-use Rattle.texting_robots.specs.Rules.{rule_in, rules_for, sitemap_in, sitemaps_in, unplaced}
+use Rattle.texting_robots.specs.Computed.{captured_delays, placed_in, placed_rules}
+use Rattle.texting_robots.specs.Rules.{PlacedRule, Rule}
+use Rattle.texting_robots.specs.Computed.{rule_in, rules_for, sitemap_in, sitemaps_in}
+use Rattle.texting_robots.specs.Rules.{unplaced}
 use Rattle.texting_robots.specs.Steps.Group.{Passed, by_test, in_captured, passed_from, passed_of}
 use Rattle.texting_robots.specs.Steps.Group.{placed, rule_at}
 use Rattle.texting_robots.specs.Steps.Group.{sitemap_at, start_of, step}
@@ -55,7 +57,7 @@ itself b = (λ h. h, λ h. h)
 abbrev SomePasses : (LineValue → Bool) → List LineValue → Type 0
 SomePasses test lines = (k : ℕ) × (passes_at test lines k ≡ true)
 
-some_passes : (test : LineValue → Bool) (lines : List LineValue)
+pub some_passes : (test : LineValue → Bool) (lines : List LineValue)
     → Decides (list_any test lines) (SomePasses test lines)
 some_passes test lines = (
   λ h.

@@ -5,7 +5,7 @@ use Rattle.std.proofs.lemmas.Bool.{cases_Bool, cond-true, cond-false, and_parts,
 use Rattle.texting_robots.specs.Cut.{Pair, cr, lf}
 use Rattle.texting_robots.specs.Steps.Cut.{before_body, before_byte, before_end, cut}
 use Rattle.texting_robots.specs.Line.{without, without_front}
-use Rattle.texting_robots.specs.Parsed.{parsed}
+use Rattle.texting_robots.specs.Computed.{parsed}
 use Rattle.texting_robots.specs.Steps.Line.{line_of, lines_of}
 use Rattle.texting_robots.specs.Laws.{feeds_alone}
 use Rattle.texting_robots.proofs.CutLemmas.{at_other, byte_cases, cut_cons, pair_of}

@@ -2,7 +2,7 @@
 use Rattle.std.proofs.Common.{◌≡◌, ◌≢◌, ◌⊎◌, inl, inr, ℕ, zero, suc, ◌+◌, ◌<◌, Bool, true, false}
 use Rattle.std.proofs.Common.{cond, List, [], ◌∷◌, Option, Some, None, AllPairs, IsPermutation}
 use Rattle.std.proofs.Common.{get_or, length, refl, sym, ap, subst, ◌∙◌, ◌↔◌, arith, swap, zero-add}
-use Rattle.std.specs.List.{All, Contains, cons_option, enumerate_from, filter_map}
+use Rattle.std.specs.List.{All, Any, Contains, cons_option, enumerate_from, filter_map}
 use Rattle.std.specs.Prelude.{filter}
 use Rattle.std.proofs.lemmas.Bool.{cases_Bool, cases_eq}
 use Rattle.std.proofs.lemmas.List.Edits.{Swapped, swapped_from_swap, length-swap}
@@ -10,20 +10,26 @@ use Rattle.std.proofs.lemmas.List.Elements.{All-cons, All-nil, All-weaker}
 use Rattle.std.proofs.lemmas.List.Kept.{AllPairs-cons}
 use Rattle.std.proofs.lemmas.List.Sorted.{Contains-permutation, IsPermutation-cons, IsPermutation-keeps}
 use Rattle.std.proofs.lemmas.List.Sorted.{IsPermutation-refl, IsPermutation-remove, IsPermutation-sym, IsPermutation-trans}
-use Rattle.texting_robots.specs.Rules.{PlacedRule, Rule, placed_in, placed_rules, rule_in}
+use Rattle.texting_robots.specs.Computed.{placed_in, placed_rules, rule_in}
+use Rattle.texting_robots.specs.Rules.{PlacedRule, Rule}
 use Rattle.texting_robots.specs.Line.{LineValue, Allow, Disallow}
-use Rattle.texting_robots.specs.Held.{AreRulesFor}
+use Rattle.texting_robots.specs.Rules.{AreRulesFor}
 use Rattle.std.proofs.lemmas.Option.{get_or_from_slice_get, slice_get_within}
 use Rattle.std.specs.Prelude.{IsTrue}
 use Rattle.std.specs.Str.{is_utf8}
 use Rattle.std.proofs.lemmas.List.FromFn.{get_or-enumerate_from, length-enumerate_from}
 use Rattle.texting_robots.specs.Escape.{escaped}
 use Rattle.texting_robots.specs.Group.{group_name}
-use Rattle.texting_robots.specs.Held.{HoldsRule}
+use Rattle.texting_robots.specs.Rules.{HoldsRule}
 use Rattle.texting_robots.specs.Steps.Captured.{is_captured}
 use Rattle.texting_robots.specs.Steps.Group.{placed}
 use Rattle.texting_robots.proofs.CapturedLemmas.{is_captured_decides}
 use Rattle.texting_robots.proofs.PlacedLemmas.{rule_on_line}
+use Rattle.texting_robots.proofs.RulesLemmas.{any_unplaced}
+use Rattle.texting_robots.proofs.BestLemmas.{placed_of}
+use Rattle.texting_robots.specs.Pattern.{IsOverlong}
+use Rattle.texting_robots.specs.Computed.{rules_for}
+use Rattle.texting_robots.specs.Rules.{IsRefused}
 
 -- ---- lists in which no line stands twice
 
@@ -183,37 +189,38 @@ rule_given value true text = rw text refl
 rule_given value false text = rw text refl
 
 -- a rule that a line holds is among those that are computed
-rule_computed : (agent : List ℕ) (lines : List LineValue) (found : PlacedRule)
-    → HoldsRule agent lines found.line found.rule → Contains (placed_rules agent lines) found
-rule_computed agent lines found holds =
+rule_computed : (agent : List ℕ) (lines : List LineValue) (place : ℕ) (rule : Rule)
+    → HoldsRule agent lines place rule
+    → Contains (placed_rules agent lines) (record { rule = rule; line = place + 1 })
+rule_computed agent lines place rule holds =
     let name = group_name agent lines in
-    let line = cond found.rule.1 (Allow holds.value) (Disallow holds.value) in
-    let within = slice_get_within lines holds.place line holds.line in
-    let at = get_or_from_slice_get lines holds.place line line holds.line in
+    let line = cond rule.1 (Allow holds.value) (Disallow holds.value) in
+    let within = slice_get_within lines place line holds.line.0 in
+    let at = get_or_from_slice_get lines place line line holds.line.0 in
     let numbered : List (ℕ × LineValue) = enumerate_from 0 lines in
-    let there : Contains numbered (holds.place, line) = (
-      holds.place,
+    let there : Contains numbered (place, line) = (
+      place,
       rw length-enumerate_from within,
-      get_or-enumerate_from 0 lines holds.place (holds.place, line) within
+      get_or-enumerate_from 0 lines place (place, line) within
           ∙ rw (zero-add, at) refl,
     ) in
-    let captured = (is_captured_decides name lines holds.place).1 holds.captured in
-    let rule : ◌≡◌ {A = Rule} (escaped holds.value, found.rule.1) found.rule
-    = ap (λ p. (p, found.rule.1)) (sym holds.pattern) in
-    let gives : placed_in (holds.place, line) ≡ Some found =
-    rw (rule_given holds.value found.rule.1 holds.utf8) (made rule (sym holds.is_number)) in
-    found_of placed_in _ (holds.place, line) found
-    (kept (λ (p : ℕ × LineValue). is_captured name lines p.0) numbered (holds.place, line) there captured)
-    gives
-  where
-    made : {rule : Rule} → rule ≡ found.rule → {line : ℕ} → line ≡ found.line
-        → ◌≡◌ {A = Option PlacedRule} (Some (record { rule = rule; line = line })) (Some found)
-    made {rule} same {line} there = rw (same, there) refl
+    let captured = (is_captured_decides name lines place).1 holds.line.1 in
+    let same : ◌≡◌ {A = Rule} (escaped holds.value, rule.1) rule = ap (λ p. (p, rule.1)) (sym holds.pattern) in
+    found_of placed_in _ (place, line) _
+    (kept (λ (p : ℕ × LineValue). is_captured name lines p.0) numbered (place, line) there captured)
+    (rw (rule_given holds.value rule.1 holds.utf8, same) refl)
+
+-- a rule with its line is computed where the line holds it
+computed_held : (agent : List ℕ) (lines : List LineValue) (found : PlacedRule)
+    → (place : ℕ) × (found.line ≡ place + 1) × HoldsRule agent lines place found.rule
+    → Contains (placed_rules agent lines) found
+computed_held agent lines found (place, at, holds) =
+    rw at (rule_computed agent lines place found.rule holds)
 
 pub computed_are : (agent : List ℕ) (lines : List LineValue)
     → AreRulesFor agent lines (placed_rules agent lines)
 computed_are agent lines = record {
-  held = λ placed. (rule_on_line agent lines placed, rule_computed agent lines placed);
+  held = λ placed. (rule_on_line agent lines placed, computed_held agent lines placed);
   once = rules_apart agent lines;
 }
 
@@ -239,4 +246,18 @@ pub rules_are_computed : (agent : List ℕ) (lines : List LineValue) (rules : Li
 rules_are_computed agent lines rules = (
   λ are. one_list agent lines _ rules (computed_are agent lines) are,
   λ moved. permuted_are agent lines _ rules moved (computed_are agent lines),
+)
+
+-- a file is refused where one of these is overlong
+pub refusal_is_computed : (agent : List ℕ) (lines : List LineValue)
+    → IsRefused agent lines ↔ Any (λ (rule : Rule). IsOverlong rule.0) (rules_for agent lines)
+refusal_is_computed agent lines = (
+  λ (place, rule, holds, overlong).
+      let (k, below, at) = rule_computed agent lines place rule holds in
+      any_unplaced (λ (rule : Rule). IsOverlong rule.0) (placed_rules agent lines)
+      (k, record { rule = rule; line = place + 1 }, below, at, overlong),
+  λ (k, rule, below, at, overlong).
+      let (found, has, same) = placed_of (placed_rules agent lines) rule (k, below, at) in
+      let (place, number, holds) = rule_on_line agent lines found has in
+      (place, found.rule, holds, subst (λ (r : Rule). IsOverlong r.0) (sym same) overlong),
 )

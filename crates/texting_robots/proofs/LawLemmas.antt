@@ -12,8 +12,9 @@ use Rattle.texting_robots.specs.Line.{LineValue, Allow, Disallow, Sitemap, Crawl
 use Rattle.texting_robots.specs.Line.{delay_in, is_raw, is_sitemap}
 use Rattle.texting_robots.specs.Group.{group_name, is_agent}
 use Rattle.texting_robots.specs.Group.{is_agent_named, is_group}
-use Rattle.texting_robots.specs.Rules.{Rule, delay_for}
-use Rattle.texting_robots.specs.Rules.{rule_in, rules_for, sitemap_in, sitemaps_in}
+use Rattle.texting_robots.specs.Computed.{delay_for}
+use Rattle.texting_robots.specs.Rules.{Rule}
+use Rattle.texting_robots.specs.Computed.{rule_in, rules_for, sitemap_in, sitemaps_in}
 use Rattle.texting_robots.specs.Pattern.{IsOverlong}
 use Rattle.texting_robots.specs.Verdict.{IsVerdict}
 use Rattle.texting_robots.specs.Steps.Group.{start_of, step}
@@ -23,6 +24,7 @@ use Rattle.texting_robots.proofs.CapturedLemmas.{delays_passed, is_captured_deci
 use Rattle.texting_robots.proofs.RulesLemmas.{before_agent, before_agents}
 use Rattle.texting_robots.proofs.CapturedLemmas.{only_agents, rules_are, stands_first, stands_next}
 use Rattle.texting_robots.specs.Group.{IsCaptured}
+use Rattle.texting_robots.proofs.HeldLemmas.{refusal_is_computed}
 
 -- ---- what the walk reaches, whatever the lines' places are
 
@@ -57,7 +59,11 @@ same_from agent lines other others rules delay = record {
   rules = rules;
   verdict = λ text answer. along (λ (r : List Rule). IsVerdict r text answer) _ _ rules;
   delay = delay;
-  refusal = along (λ (r : List Rule). Any (λ (rule : Rule). IsOverlong rule.0) r) _ _ rules;
+  refusal =
+      let one = refusal_is_computed agent lines in
+      let two = refusal_is_computed other others in
+      let same = along (λ (r : List Rule). Any (λ (rule : Rule). IsOverlong rule.0) r) _ _ rules in
+      (λ is. two.1 (same.0 (one.0 is)), λ is. one.1 (same.1 (two.0 is)));
 }
 
 -- the same agents are named, and the walk reaches the same

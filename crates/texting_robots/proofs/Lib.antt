@@ -32,5 +32,6 @@ pub mod FirstLemmas
 pub mod VerdictLemmas
 pub mod PlacedLemmas
 pub mod HeldLemmas
+pub mod GivenLemmas
 pub mod HeadlineLemmas
 pub mod BestLemmas

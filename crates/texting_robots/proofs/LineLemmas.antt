@@ -15,7 +15,7 @@ use Rattle.texting_robots.specs.Group.{is_agent}
 use Rattle.texting_robots.specs.Line.{AreLinesOf, HoldRangesOf, HoldsRangeOf}
 use Rattle.texting_robots.specs.Line.{IsLineOf, IsLineWith, IsRangeOf, LineValue, Raw}
 use Rattle.texting_robots.specs.Line.{UserAgent, delay_in, is_sitemap, without, without_front}
-use Rattle.texting_robots.specs.Parsed.{parsed}
+use Rattle.texting_robots.specs.Computed.{parsed}
 use Rattle.texting_robots.specs.Steps.Line.{delay_or_raw, line_by, line_of, line_with}
 use Rattle.texting_robots.specs.Steps.Delay.{delay_of}
 use Rattle.texting_robots.specs.Delay.{IsDelay}

@@ -10,9 +10,10 @@ use Rattle.std.specs.Str.{is_utf8}
 use Rattle.texting_robots.specs.Escape.{escaped}
 use Rattle.texting_robots.specs.Group.{group_name}
 use Rattle.texting_robots.specs.Steps.Captured.{is_captured}
-use Rattle.texting_robots.specs.Held.{HoldsRule}
+use Rattle.texting_robots.specs.Rules.{HoldsRule}
 use Rattle.texting_robots.specs.Line.{LineValue, Allow, Disallow}
-use Rattle.texting_robots.specs.Rules.{PlacedRule, captured_lines, placed_in, placed_rules, rule_in}
+use Rattle.texting_robots.specs.Computed.{captured_lines, placed_in, placed_rules, rule_in}
+use Rattle.texting_robots.specs.Rules.{PlacedRule}
 use Rattle.texting_robots.specs.Steps.Group.{placed}
 use Rattle.texting_robots.proofs.CapturedLemmas.{is_captured_decides}
 
@@ -62,7 +63,8 @@ line_gives number _ found is = absurd (let k : ◌≡◌ {A = Option PlacedRule}
 
 -- each rule stands on its line
 pub rule_on_line : (agent : List ℕ) (lines : List LineValue) (found : PlacedRule)
-    → Contains (placed_rules agent lines) found → HoldsRule agent lines found.line found.rule
+    → Contains (placed_rules agent lines) found
+    → (place : ℕ) × (found.line ≡ place + 1) × HoldsRule agent lines place found.rule
 rule_on_line agent lines found has =
     let name = group_name agent lines in
     let test = λ (p : ℕ × LineValue). is_captured name lines p.0 in
@@ -76,12 +78,12 @@ rule_on_line agent lines found has =
     let same : p ≡ (place, line) = sym at ∙ get_or-enumerate_from 0 lines place p within
     ∙ ap (λ n. (n, line)) (zero-add place) in
     let gives = line_gives (place + 1) line found (rw same at is) in
-    record {
-      place = place;
+    (place, gives.is_number, record {
       value = gives.value;
-      is_number = gives.is_number;
-      captured = (is_captured_decides name lines place).0 (rw same at captured);
-      line = slice_get-get_or lines place p.1 within ∙ ap (λ l. Some l) gives.is_line;
+      line = (
+        slice_get-get_or lines place p.1 within ∙ ap (λ l. Some l) gives.is_line,
+        (is_captured_decides name lines place).0 (rw same at captured),
+      );
       utf8 = gives.utf8;
       pattern = gives.pattern;
-    }
+    })

@@ -13,8 +13,10 @@ use Rattle.std.proofs.lemmas.Str.{IsUtf8-from_is_utf8, is_utf8-from_IsUtf8}
 use Rattle.texting_robots.specs.declared.error.Error.{Error}
 use Rattle.texting_robots.specs.declared.error.Error.TheVariants as mine
 use Rattle.texting_robots.specs.Line.{LineValue, Sitemap, delay_in, is_sitemap}
-use Rattle.texting_robots.specs.Rules.{PlacedRule, Rule, sitemap_in, unplaced}
+use Rattle.texting_robots.specs.Computed.{sitemap_in}
+use Rattle.texting_robots.specs.Rules.{PlacedRule, Rule, unplaced}
 use Rattle.texting_robots.specs.Error.{IsMemoryOr}
+use Rattle.texting_robots.proofs.BestLemmas.{placed_of}
 use Rattle.texting_robots.specs.Group.{is_agent}
 
 -- ---- what lines give
@@ -135,6 +137,13 @@ any_unplaced P rules (k, placed, below, at, is) =
           ∙ ap rule at,
       is,
     )
+
+pub none_unplaced : (P : Rule → Type 0) (rules : List PlacedRule)
+    → All (λ placed. ¬ (P placed.rule)) rules
+    → ¬ (Any P (unplaced rules))
+none_unplaced P rules none (k, rule, below, at, is) =
+    let (placed, (n, less, here), same) = placed_of rules rule (k, below, at) in
+    none n placed less (subst P (sym (rw here same)) is)
 
 pub no_rules : (rules : List PlacedRule) → unplaced rules ≡ [] → rules ≡ []
 no_rules [] none = refl

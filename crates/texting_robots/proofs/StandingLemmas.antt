@@ -10,7 +10,7 @@ use Rattle.texting_robots.specs.declared.marks.Standing.TheVariants.{Own, Other,
 use Rattle.texting_robots.specs.Group.{group_name, is_agent, is_group}
 use Rattle.texting_robots.specs.Line.{Allow, Disallow, LineValue}
 use Rattle.texting_robots.specs.Marks.{is_own, mark_at, marks_of}
-use Rattle.texting_robots.specs.Rules.{placed_rules, rule_in}
+use Rattle.texting_robots.specs.Computed.{placed_rules, rule_in}
 use Rattle.texting_robots.specs.Steps.Captured.{is_captured}
 use Rattle.texting_robots.specs.Steps.Group.{Passed, captured_ahead, by_test, marks_from, own_rule_at}
 use Rattle.texting_robots.specs.Steps.Group.{passed_of, placed, rule_at, stands}

@@ -3,13 +3,16 @@
 -- the lines of a file
 pub use Rattle.texting_robots.specs.Line.{LineValue, UserAgent, Allow, Disallow, Sitemap, CrawlDelay, Raw}
 pub use Rattle.texting_robots.specs.Line.{AreFileLinesOf, AreLinesOf, HoldRangesOf, by_value, nul_as_lf}
-pub use Rattle.texting_robots.specs.{Line.value_in, Delay.IsDelay, Parsed.file_lines, Parsed.parsed}
+pub use Rattle.texting_robots.specs.{Line.value_in, Delay.IsDelay, Computed.file_lines, Computed.parsed}
 -- what an agent gets of them
-pub use Rattle.texting_robots.specs.Rules.{GivesNothing, IsRefused, PlacedRule, Rule, delay_for, placed_rules}
-pub use Rattle.texting_robots.specs.Rules.{rules_for, sitemaps_in, unplaced}
+pub use Rattle.texting_robots.specs.Computed.{delay_for, placed_rules}
+pub use Rattle.texting_robots.specs.Rules.{GivesNothing, IsRefused, PlacedRule, Rule}
+pub use Rattle.texting_robots.specs.Computed.{rules_for, sitemaps_in}
+pub use Rattle.texting_robots.specs.Rules.{unplaced}
 pub use Rattle.texting_robots.specs.Group.{IsCaptured, group_name, is_agent_named}
-pub use Rattle.texting_robots.specs.Held.{AreRulesFor, HasOverlong, HoldsRule}
-pub use Rattle.texting_robots.specs.Robot.{RobotValue, AnswersFor, IsRobotOf, file_limit, lines_read}
+pub use Rattle.texting_robots.specs.Rules.{AreRulesFor, HoldsRule}
+pub use Rattle.texting_robots.specs.Computed.{lines_read}
+pub use Rattle.texting_robots.specs.Robot.{RobotValue, AnswerAlike, IsRobotOf, file_limit}
 pub use Rattle.texting_robots.specs.Marks.{Mark, is_named, is_own, mark_by_value, marks_of, standing_of}
 -- URLs, texts and patterns
 pub use Rattle.texting_robots.specs.Pattern.{Matches, MatchesStars, IsOverlong, collapsed}

@@ -2,7 +2,8 @@
 use Rattle.std.specs.Prelude.{◌≡◌, ◌↔◌, ℕ, Bool, true, false, ◌==◌, ◌&&◌, List}
 use Rattle.std.specs.Prelude.{[]}
 use Rattle.std.specs.Prelude.{◌∷◌, codes, slice_index, if◌then◌else◌}
-use Rattle.texting_robots.specs.Rules.{IsRefused, Rule, delay_for, rules_for, sitemaps_in}
+use Rattle.texting_robots.specs.Computed.{delay_for, rules_for, sitemaps_in}
+use Rattle.texting_robots.specs.Rules.{IsRefused, Rule}
 use Rattle.texting_robots.specs.{Cut.cr, Cut.lf, Escape.escaped}
 use Rattle.texting_robots.specs.{Line.Allow, Line.Disallow, Line.LineValue, Trim.IsTrimOf, Verdict.IsVerdict}
 use Rattle.texting_robots.specs.Rfc9309 as rfc

@@ -4,7 +4,6 @@ pub mod Trim
 pub mod Statement
 pub mod Delay
 pub mod Line
-pub mod Parsed
 pub mod Group
 pub mod Marks
 pub mod Escape
@@ -14,12 +13,12 @@ pub mod Verdict
 pub mod Decision
 pub mod Order
 pub mod View
-pub mod Held
 pub mod Robot
 pub mod Prepared
 pub mod Address
 pub mod Rfc9309
 pub mod Laws
 pub mod Headline
+pub mod Computed
 pub mod Callers
 pub mod Steps

@@ -1,11 +1,18 @@
--- What an agent gets of a file.
-use Rattle.std.specs.Prelude.{◌≡◌, ◌+◌, ℕ, Bool, true, false, List, [], Option, Some, None, Any}
-use Rattle.std.specs.Prelude.{filter, map, option_map, slice_get, if◌then◌else◌}
-use Rattle.std.specs.List.{before_first, enumerate_from, filter_map, last_or, list_any}
-use Rattle.std.specs.{Option.option_or, Str.is_utf8}
-use Rattle.texting_robots.specs.Group.{group_name, is_agent}
-use Rattle.texting_robots.specs.Line.{LineValue, Allow, Disallow, Sitemap, delay_in}
-use Rattle.texting_robots.specs.{Escape.escaped, Pattern.IsOverlong, Steps.Captured.is_captured}
+-- What an agent gets of the lines of a file, by the places of the lines, counted from 0.
+use Rattle.std.specs.Prelude.{◌≡◌, ◌≢◌, ◌⊎◌, ◌↔◌, ℕ, ◌+◌, ◌<◌, ◌≤◌, Bool, List, [], ◌∷◌}
+use Rattle.std.specs.Prelude.{Option, Some, None, AllPairs, Contains, IsTrue, map, slice_get}
+use Rattle.std.specs.Prelude.{if◌then◌else◌}
+use Rattle.std.specs.Str.{is_utf8}
+use Rattle.texting_robots.specs.{Escape.escaped, Group.IsCaptured, Group.group_name, Group.is_agent}
+use Rattle.texting_robots.specs.{Group.passes_at, Pattern.IsOverlong}
+use Rattle.texting_robots.specs.Line.{Allow, CrawlDelay, Disallow, LineValue, Sitemap}
+
+-- the line stands at the place, and is captured for the agent
+abbrev pub IsCapturedAt : List ℕ → List LineValue → ℕ → LineValue → Type 0
+IsCapturedAt agent lines place line =
+    (slice_get lines place ≡ Some line) × IsCaptured (group_name agent lines) lines place
+
+-- ---- rules
 
 -- a pattern, and whether it allows
 abbrev pub Rule : Type 0
@@ -20,56 +27,71 @@ pub record PlacedRule : Type 0 where
 abbrev pub unplaced : List PlacedRule → List Rule
 unplaced rules = map (λ (placed : PlacedRule). placed.rule) rules
 
--- the rule that a value gives
-abbrev pub rule_with : List ℕ → Bool → Option Rule
-rule_with value is_allow = if is_utf8 value then Some (escaped value, is_allow) else None
+-- the line at the place is captured, and is an Allow or a Disallow with a value that is UTF-8 and, escaped,
+-- the pattern
+pub record HoldsRule (agent : List ℕ) (lines : List LineValue) (place : ℕ) (rule : Rule) : Type 0 where
+  pub value : List ℕ
+  pub line : IsCapturedAt agent lines place (if rule.1 then Allow value else Disallow value)
+  pub utf8 : IsTrue (is_utf8 value)
+  pub pattern : rule.0 ≡ escaped value
 
-abbrev pub rule_in : LineValue → Option Rule
-rule_in (Allow value) = rule_with value true
-rule_in (Disallow value) = rule_with value false
-rule_in _ = None
+-- these are the rules that the lines hold for the agent, each with its line, and no line twice
+pub record AreRulesFor (agent : List ℕ) (lines : List LineValue) (rules : List PlacedRule) : Type 0 where
+  pub held : (placed : PlacedRule) → Contains rules placed
+      ↔ ((place : ℕ) × (placed.line ≡ place + 1) × HoldsRule agent lines place placed.rule)
+  pub once : AllPairs (λ (one other : PlacedRule). one.line ≢ other.line) rules
 
-abbrev pub sitemap_in : LineValue → Option (List ℕ)
-sitemap_in (Sitemap value) = if is_utf8 value then Some value else None
-sitemap_in _ = None
-
--- the lines at captured places, in order, each with its place, counted from 0; of these only an Allow, a
--- Disallow or a delay gives something
-abbrev pub captured_lines : List ℕ → List LineValue → List (ℕ × LineValue)
-captured_lines name lines = filter (λ p. is_captured name lines p.0) (enumerate_from 0 lines)
-
--- the rule of the line at a place, if it gives one, with the line's number
-abbrev pub placed_in : ℕ × LineValue → Option PlacedRule
-placed_in p = option_map (λ (r : Rule). record { rule = r; line = p.0 + 1 }) (rule_in p.1)
-
--- the captured rules with their lines, in order
-abbrev pub placed_rules : List ℕ → List LineValue → List PlacedRule
-placed_rules agent lines = filter_map placed_in (captured_lines (group_name agent lines) lines)
-
--- the captured rules, in order
-abbrev pub rules_for : List ℕ → List LineValue → List Rule
-rules_for agent lines = unplaced (placed_rules agent lines)
-
--- the captured delays, in order
-abbrev pub captured_delays : List ℕ → List LineValue → List ℕ
-captured_delays agent lines = filter_map (λ p. delay_in p.1) (captured_lines (group_name agent lines) lines)
-
--- where there is an agent line, the last delay before the first one
-abbrev pub delay_before_agents : List LineValue → Option ℕ
-delay_before_agents lines =
-    if list_any is_agent lines then last_or None (filter_map delay_in (before_first is_agent lines)) else None
-
--- the first captured delay, else that before the agents
-abbrev pub delay_for : List ℕ → List LineValue → Option ℕ
-delay_for agent lines = option_or (slice_get (captured_delays agent lines) 0) (delay_before_agents lines)
-
-abbrev pub sitemaps_in : List LineValue → List (List ℕ)
-sitemaps_in lines = filter_map sitemap_in lines
-
--- some captured rule is overlong
+-- some line holds an overlong rule for the agent
 abbrev pub IsRefused : List ℕ → List LineValue → Type 0
-IsRefused agent lines = Any (λ (rule : Rule). IsOverlong rule.0) (rules_for agent lines)
+IsRefused agent lines =
+    (place : ℕ) × (rule : Rule) × HoldsRule agent lines place rule × IsOverlong rule.0
 
--- the agent gets no rule, and no sitemap is listed
+-- ---- delays
+
+-- P holds of the number at a place, and at no place before it of any
+abbrev pub IsFirst : (ℕ → ℕ → Type 0) → ℕ → Type 0
+IsFirst P number = (place : ℕ) × P place number × ((other n : ℕ) → P other n → place ≤ other)
+
+-- P holds of the number at a place, and at no place behind it of any
+abbrev pub IsLast : (ℕ → ℕ → Type 0) → ℕ → Type 0
+IsLast P number = (place : ℕ) × P place number × ((other n : ℕ) → P other n → other ≤ place)
+
+-- P holds nowhere of any number
+abbrev pub Nowhere : (ℕ → ℕ → Type 0) → Type 0
+Nowhere P = (place n : ℕ) → ¬ P place n
+
+-- the line at the place is a captured delay, of so many microseconds
+abbrev pub IsCapturedDelay : List ℕ → List LineValue → ℕ → ℕ → Type 0
+IsCapturedDelay agent lines place delay = IsCapturedAt agent lines place (CrawlDelay (Some delay))
+
+-- the line at the place is a delay, and the first user-agent line stands behind it
+abbrev pub IsEarlyDelay : List LineValue → ℕ → ℕ → Type 0
+IsEarlyDelay lines place delay =
+    (slice_get lines place ≡ Some (CrawlDelay (Some delay)))
+    × ((k : ℕ) → k < place → ¬ IsTrue (passes_at is_agent lines k))
+    × (k : ℕ) × (place < k) × IsTrue (passes_at is_agent lines k)
+
+-- the agent's delay: the first that is captured; where none is, the last before the first user-agent line
+abbrev pub IsDelayFor : List ℕ → List LineValue → Option ℕ → Type 0
+IsDelayFor agent lines (Some delay) =
+    IsFirst (IsCapturedDelay agent lines) delay
+    ⊎ (Nowhere (IsCapturedDelay agent lines) × IsLast (IsEarlyDelay lines) delay)
+IsDelayFor agent lines None = Nowhere (IsCapturedDelay agent lines) × Nowhere (IsEarlyDelay lines)
+
+-- ---- sitemaps
+
+-- the line is a sitemap line with this value, which is UTF-8
+abbrev pub ListsSitemap : LineValue → List ℕ → Type 0
+ListsSitemap line sitemap = (line ≡ Sitemap sitemap) × IsTrue (is_utf8 sitemap)
+
+-- these are the sitemaps that the lines list, in order
+abbrev pub AreSitemapsOf : List LineValue → List (List ℕ) → Type 0
+AreSitemapsOf [] sitemaps = sitemaps ≡ []
+AreSitemapsOf (line ∷ lines) sitemaps =
+    ((first : List ℕ) × (later : List (List ℕ)) × ListsSitemap line first × AreSitemapsOf lines later
+    × (sitemaps ≡ first ∷ later))
+    ⊎ (((sitemap : List ℕ) → ¬ ListsSitemap line sitemap) × AreSitemapsOf lines sitemaps)
+
+-- the lines hold no rule for the agent, and list no sitemap
 abbrev pub GivesNothing : List ℕ → List LineValue → Type 0
-GivesNothing agent lines = (rules_for agent lines ≡ []) × (sitemaps_in lines ≡ [])
+GivesNothing agent lines = AreRulesFor agent lines [] × AreSitemapsOf lines []

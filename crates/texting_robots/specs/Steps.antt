@@ -1,6 +1,6 @@
--- The definitions again, as functions that take the steps of the code. Contracts of private functions cite
--- them, and of the definitions `Parsed`, `Rules` and `Marks`; each is tied to its definition by a theorem, so
--- nobody has to believe them.
+-- The definitions again, as functions that take the steps of the code, and what the code keeps on the way.
+-- Contracts of private functions cite them, and so do `Computed` and `Marks`. What a public contract rests on
+-- is tied to its definition by a law; `Border`, `Entries`, `Needs` and `Pieces` are words of proofs alone.
 pub mod Cut
 pub mod Statement
 pub mod Delay
@@ -13,3 +13,4 @@ pub mod Pieces
 pub mod Entries
 pub mod Needs
 pub mod Prepared
+pub mod Robot

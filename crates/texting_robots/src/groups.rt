@@ -4,7 +4,7 @@ ghost use Rattle.std.specs.Iterator.{YieldsFirstBy, item_count};
 ghost use Rattle.std.specs.List.{list_any};
 ghost use Rattle.std.specs.Str.{str_to_ascii_lowercase};
 ghost use Rattle.texting_robots.specs.Group.{group_name, is_agent};
-ghost use Rattle.texting_robots.specs.Rules.{delay_before_agents};
+ghost use Rattle.texting_robots.specs.Computed.{delay_before_agents};
 ghost use Rattle.texting_robots.specs.Steps.Group.{captured_ahead, passed_by, passed_of, step};
 
 use crate::parser::{Unread, UnreadLines};

@@ -1,6 +1,6 @@
 //! Laws over the definitions, each the contract of a function that computes nothing.
 ghost use Rattle.std.specs.Prelude.{◌≡◌, ◌≢◌, ◌<◌, ◌↔◌, ◌⊎◌, ℕ, Bool, true, false, not, List, [], ◌∷◌, ◌++◌};
-ghost use Rattle.std.specs.Prelude.{Option, Some, None, IsTrue, IsPermutation, filter, length};
+ghost use Rattle.std.specs.Prelude.{Any, ◌+◌, Option, Some, None, IsTrue, IsPermutation, filter, length};
 ghost use Rattle.std.specs.declared.cmp.Ordering.TheVariants.{Less, Equal};
 ghost use Rattle.std.specs.List.{AllZip};
 ghost use Rattle.std.specs.Str.{str_to_ascii_lowercase};
@@ -9,15 +9,14 @@ ghost use Rattle.texting_robots.specs.Cut.{IsCut, Pair};
 ghost use Rattle.texting_robots.specs.Decision.{IsDecidingRule, IsDecidingLine};
 ghost use Rattle.texting_robots.specs.Delay.{IsDelay};
 ghost use Rattle.texting_robots.specs.Group.{IsCaptured, group_name};
-ghost use Rattle.texting_robots.specs.Held.{AreRulesFor, HoldsRule};
 ghost use Rattle.texting_robots.specs.Laws.{IsReadAs, IsSameKind, Same, SameButSitemaps, feeds_alone};
 ghost use Rattle.texting_robots.specs.Line.{AreFileLinesOf, AreLinesOf, HoldRangesOf, LineValue, is_raw, is_sitemap};
 ghost use Rattle.texting_robots.specs.Order.{IsBefore, pattern_cmp};
-ghost use Rattle.texting_robots.specs.Parsed.{file_lines, parsed};
-ghost use Rattle.texting_robots.specs.Pattern.{Matches, MatchesWith, collapsed};
+ghost use Rattle.texting_robots.specs.Computed.{delay_for, file_lines, parsed, placed_rules, rules_for, sitemaps_in};
+ghost use Rattle.texting_robots.specs.Pattern.{IsOverlong, Matches, MatchesWith, collapsed};
 ghost use Rattle.texting_robots.specs.Rfc9309 as rfc;
-ghost use Rattle.texting_robots.specs.Robot.{AnswersFor, IsRobotOf, RobotValue};
-ghost use Rattle.texting_robots.specs.Rules.{PlacedRule, Rule, placed_rules, rules_for, unplaced};
+ghost use Rattle.texting_robots.specs.Robot.{AnswerAlike, IsRobotOf, RobotValue};
+ghost use Rattle.texting_robots.specs.Rules.{AreRulesFor, AreSitemapsOf, HoldsRule, IsDelayFor, IsRefused, PlacedRule, Rule, unplaced};
 ghost use Rattle.texting_robots.specs.Statement.{IsStatement};
 ghost use Rattle.texting_robots.specs.Steps.Captured.{is_captured};
 ghost use Rattle.texting_robots.specs.Steps.Cut.{cut};
@@ -164,31 +163,44 @@ pub fn deciding_line_holds_its_rule()
     ensures { (agent : List ℕ) (lines : List LineValue) (rules : List PlacedRule) (text : List ℕ) (number : ℕ)
         → AreRulesFor agent lines rules → IsDecidingLine rules text (Some number)
         → (placed : PlacedRule) × IsDecidingRule rules text placed × (placed.line ≡ number)
-        × HoldsRule agent lines number placed.rule }
-{}
-
-/// Each list of lines has its rules for an agent, in any order, those that `placed_rules` computes. Whoever reads the contract
-/// of `one_agent_allowed` relies on it.
-pub fn each_agent_has_its_rules()
-    ensures { (agent : List ℕ) (lines : List LineValue) (rules : List PlacedRule)
-        → AreRulesFor agent lines rules ↔ IsPermutation (placed_rules agent lines) rules }
-{}
-
-/// A robot answers as the rules that are computed of its lines. Whoever keeps a robot, and knows by `IsRobotOf` what it is, relies
-/// on it.
-pub fn robots_answer_for_their_lines()
-    ensures { (agent : List ℕ) (lines : List LineValue) (robot : RobotValue) → IsRobotOf agent lines robot
-        → AnswersFor agent lines robot }
+        × (place : ℕ) × (number ≡ place + 1) × HoldsRule agent lines place placed.rule }
 {}
 
 /// The line that decides gives the verdict: an Allow a yes, a Disallow a no; and where none decides, it is yes.
 /// Whoever shows a site owner why a URL is allowed or not relies on it.
 pub fn deciding_line_gives_the_verdict()
-    ensures line { (agent : List ℕ) (lines : List LineValue) (rules : List PlacedRule) (text : List ℕ) (number : ℕ)
-        (rule : Rule) → AreRulesFor agent lines rules → IsDecidingLine rules text (Some number)
-        → HoldsRule agent lines number rule → IsVerdict (unplaced rules) text rule.1 }
+    ensures line { (agent : List ℕ) (lines : List LineValue) (rules : List PlacedRule) (text : List ℕ) (place : ℕ)
+        (rule : Rule) → AreRulesFor agent lines rules → IsDecidingLine rules text (Some (place + 1))
+        → HoldsRule agent lines place rule → IsVerdict (unplaced rules) text rule.1 }
     ensures none { (rules : List PlacedRule) (text : List ℕ) → IsDecidingLine rules text None
         → IsVerdict (unplaced rules) text true }
+{}
+
+/// Lines hold one list of rules for an agent, in any order, and each order gives the same answers. `placed_rules` computes it, and
+/// from it whether the lines are refused. Whoever reads the contract of `one_agent_allowed` or `Robot::new` relies on it.
+pub fn each_agent_has_its_rules()
+    ensures some { (agent : List ℕ) (lines : List LineValue) → (rules : List PlacedRule) × AreRulesFor agent lines rules }
+    ensures one { (agent : List ℕ) (lines : List LineValue) (rules others : List PlacedRule)
+        → AreRulesFor agent lines rules → AreRulesFor agent lines others → IsPermutation rules others }
+    ensures alike { (agent : List ℕ) (lines : List LineValue) (rules others : List PlacedRule)
+        → AreRulesFor agent lines rules → AreRulesFor agent lines others → AnswerAlike rules others }
+    ensures computed { (agent : List ℕ) (lines : List LineValue) (rules : List PlacedRule)
+        → AreRulesFor agent lines rules ↔ IsPermutation (placed_rules agent lines) rules }
+    ensures refused { (agent : List ℕ) (lines : List LineValue)
+        → IsRefused agent lines ↔ Any (λ (rule : Rule). IsOverlong rule.0) (rules_for agent lines) }
+{}
+
+/// Lines give an agent one delay or none, the one that `delay_for` computes. Whoever reads the contract of `Robot::new` relies on
+/// it.
+pub fn each_agent_has_its_delay()
+    ensures { (agent : List ℕ) (lines : List LineValue) (delay : Option ℕ)
+        → IsDelayFor agent lines delay ↔ delay ≡ delay_for agent lines }
+{}
+
+/// Lines list the sitemaps that `sitemaps_in` computes, and no others. Whoever reads the contract of `Robot::new` relies on it.
+pub fn each_file_has_its_sitemaps()
+    ensures { (lines : List LineValue) (sitemaps : List (List ℕ))
+        → AreSitemapsOf lines sitemaps ↔ sitemaps ≡ sitemaps_in lines }
 {}
 
 /// Of a file of the standard's syntax an agent gets, in order and each as often, the rules that the file spells for it; and

@@ -4,7 +4,7 @@ ghost use Rattle.std.specs.Iterator.{YieldsFirstBy, item_count};
 ghost use Rattle.texting_robots.specs.Group.{group_name};
 ghost use Rattle.texting_robots.specs.Marks.{is_named, mark_by_value, marks_of};
 ghost use Rattle.texting_robots.specs.Line.{by_value};
-ghost use Rattle.texting_robots.specs.Parsed.{file_lines};
+ghost use Rattle.texting_robots.specs.Computed.{file_lines};
 ghost use Rattle.texting_robots.specs.Steps.Group.{stands};
 
 use crate::groups::{self, MarkedLines, group_for};

@@ -1,7 +1,7 @@
 //! One question about one file, for one crawler.
 ghost use Rattle.std.specs.Prelude.{◌≡◌, ℕ, IfErr, List, take};
 ghost use Rattle.texting_robots.specs.Headline.{IsAnswerOf};
-ghost use Rattle.texting_robots.specs.Held.{AreRulesFor};
+ghost use Rattle.texting_robots.specs.Rules.{AreRulesFor};
 ghost use Rattle.texting_robots.specs.Line.{AreFileLinesOf, LineValue};
 ghost use Rattle.texting_robots.specs.Robot.{file_limit};
 ghost use Rattle.texting_robots.specs.Rules.{PlacedRule};
@@ -26,7 +26,7 @@ pub fn one_agent_allowed(
     view: &mut View<'_>,
 ) -> Result<bool, Error>
     ensures answer { (lines : List LineValue) (rules : List PlacedRule) → AreFileLinesOf lines (take file_limit txt.now)
-        → AreRulesFor agent.now lines rules → IsAnswerOf rules view.old view.new result }
+        → AreRulesFor agent.now lines rules → IsAnswerOf agent.now lines rules view.old view.new result }
     ensures untouched { IfErr result (λ _. view.new ≡ view.old) }
 {
     let robot = Robot::new(alloc, agent, txt)?;

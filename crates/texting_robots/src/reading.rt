@@ -1,16 +1,18 @@
-//! The second pass over a file: what its marked lines give.
-ghost use Rattle.std.specs.Prelude.{◌≡◌, ◌++◌, [], IfErr, IsOk, None, OnOk, map, string_bytes};
+//! What one crawler gets of a whole file: what its marked lines give.
+ghost use Rattle.std.specs.Prelude.{◌≡◌, ◌++◌, [], IfErr, IfOk, IsOk, None, OnOk, map, string_bytes};
 ghost use Rattle.std.specs.Option.{IfSome, IsSomeAnd, option_or, option_to_list};
 ghost use Rattle.texting_robots.specs.Steps.Entries.{AreEntries, rules_in};
 ghost use Rattle.texting_robots.specs.Error.{IsMemoryOr};
 ghost use Rattle.texting_robots.specs.Pattern.{IsOverlong};
-ghost use Rattle.texting_robots.specs.Rules.{rule_with};
+ghost use Rattle.texting_robots.specs.Computed.{file_lines, placed_rules, rule_with, sitemaps_in};
 ghost use Rattle.texting_robots.specs.Steps.Group.{delay_at, passed_by, placed, rule_at, sitemap_at, text_from};
+ghost use Rattle.texting_robots.specs.Steps.Robot.{IsComputedRobot, SomeOverlong};
 
 use crate::error::Error;
-use crate::groups::Marked;
-use crate::parser::Line;
-use crate::rules::Gathered;
+use crate::groups::{Marked, group_for, marked_lines};
+use crate::parser::{Line, unread_file_lines};
+use crate::robot::Robot;
+use crate::rules::{Gathered, Rules};
 use std::alloc::{AllocError, Global};
 
 /// What the lines gave so far.
@@ -103,4 +105,23 @@ impl Reading {
             Line::UserAgent(_) | Line::Raw(_) => Ok(()),
         }
     }
+}
+
+/// Reads a whole file, in two passes: for the agent's group, and for what the group's lines give.
+pub(crate) fn read_file(alloc: Global, agent: &str, txt: &[u8]) -> Result<Robot, Error>
+    ensures robot { IfOk result (IsComputedRobot agent.now (file_lines txt.now)) }
+    ensures refused { IfErr result (IsMemoryOr (SomeOverlong agent.now (file_lines txt.now))) }
+    ensures without_memory { placed_rules agent.now (file_lines txt.now) ≡ []
+        → sitemaps_in (file_lines txt.now) ≡ [] → IsOk result }
+{
+    let group = group_for(agent.as_bytes(), unread_file_lines(txt));
+    let mut reading = Reading::new(alloc);
+    for marked in marked_lines(&group, unread_file_lines(txt)) {
+        reading.take(alloc, marked)?;
+    }
+    Ok(Robot {
+        delay: reading.delay.or(group.stray_delay),
+        sitemaps: reading.sitemaps,
+        rules: Rules::sorted(reading.rules),
+    })
 }

@@ -1,19 +1,17 @@
 //! What one crawler gets of a robots.txt file.
-ghost use Rattle.std.specs.Prelude.{◌≡◌, IfErr, IfOk, IsOk, string_bytes, take};
-ghost use Rattle.texting_robots.specs.Parsed.{file_lines};
+ghost use Rattle.std.specs.Prelude.{◌≡◌, IfErr, IfOk, IsOk, List, string_bytes, take};
 ghost use Rattle.texting_robots.specs.Decision.{IsDecidingLine, LooksForRules};
 ghost use Rattle.texting_robots.specs.Error.{IsMemoryOr};
+ghost use Rattle.texting_robots.specs.Line.{AreFileLinesOf, LineValue};
 ghost use Rattle.texting_robots.specs.Prepared.{prepared, target_of};
-ghost use Rattle.texting_robots.specs.Robot.{AnswersFor, IsRobotOf, lines_read};
+ghost use Rattle.texting_robots.specs.Robot.{IsRobotOf, file_limit};
 ghost use Rattle.texting_robots.specs.Rules.{GivesNothing, IsRefused, unplaced};
 ghost use Rattle.texting_robots.specs.Verdict.{IsVerdict};
 
 pub use crate::decision::Decision;
 use crate::error::Error;
-use crate::groups::{group_for, marked_lines};
-use crate::parser::unread_file_lines;
 use crate::prepared::{Prepared, target};
-use crate::reading::Reading;
+use crate::reading::read_file;
 use crate::rules::Rules;
 use crate::view::View;
 use std::alloc::Global;
@@ -31,7 +29,7 @@ pub struct Robot {
     pub delay: Option<u64>,
     /// The sitemaps that the file lists, for every crawler, in the file's order.
     pub sitemaps: Vec<String>,
-    rules: Rules,
+    pub(crate) rules: Rules,
 }
 
 impl Model for Robot {
@@ -55,10 +53,12 @@ impl Robot {
     /// counted as one. There is no robot then: the caller treats the file as one that it can't use, as its own policy says.
     /// `Error::Memory` where memory is refused.
     pub fn new(alloc: Global, agent: &str, txt: &[u8]) -> Result<Self, Error>
-        ensures robot { IfOk result (IsRobotOf agent.now (lines_read txt.now)) }
-        ensures answers { IfOk result (AnswersFor agent.now (lines_read txt.now)) }
-        ensures refused { IfErr result (IsMemoryOr (IsRefused agent.now (lines_read txt.now))) }
-        ensures without_memory { GivesNothing agent.now (lines_read txt.now) → IsOk result }
+        ensures robot { (lines : List LineValue) → AreFileLinesOf lines (take file_limit txt.now)
+            → IfOk result (IsRobotOf agent.now lines) }
+        ensures refused { (lines : List LineValue) → AreFileLinesOf lines (take file_limit txt.now)
+            → IfErr result (IsMemoryOr (IsRefused agent.now lines)) }
+        ensures without_memory { (lines : List LineValue) → AreFileLinesOf lines (take file_limit txt.now)
+            → GivesNothing agent.now lines → IsOk result }
     {
         Robot::with_limit(alloc, agent, txt, FILE_LIMIT)
     }
@@ -72,31 +72,14 @@ impl Robot {
     ///
     /// As [`Robot::new`].
     pub fn with_limit(alloc: Global, agent: &str, txt: &[u8], limit: usize) -> Result<Self, Error>
-        ensures robot { IfOk result (IsRobotOf agent.now (file_lines (take limit txt.now))) }
-        ensures answers { IfOk result (AnswersFor agent.now (file_lines (take limit txt.now))) }
-        ensures refused { IfErr result (IsMemoryOr (IsRefused agent.now (file_lines (take limit txt.now)))) }
-        ensures without_memory { GivesNothing agent.now (file_lines (take limit txt.now)) → IsOk result }
+        ensures robot { (lines : List LineValue) → AreFileLinesOf lines (take limit txt.now)
+            → IfOk result (IsRobotOf agent.now lines) }
+        ensures refused { (lines : List LineValue) → AreFileLinesOf lines (take limit txt.now)
+            → IfErr result (IsMemoryOr (IsRefused agent.now lines)) }
+        ensures without_memory { (lines : List LineValue) → AreFileLinesOf lines (take limit txt.now)
+            → GivesNothing agent.now lines → IsOk result }
     {
-        Robot::read(alloc, agent, &txt[..limit.min(txt.len())])
-    }
-
-    /// Reads a whole file, in two passes: for the agent's group, and for what the group's lines give.
-    fn read(alloc: Global, agent: &str, txt: &[u8]) -> Result<Self, Error>
-        ensures robot { IfOk result (IsRobotOf agent.now (file_lines txt.now)) }
-        ensures answers { IfOk result (AnswersFor agent.now (file_lines txt.now)) }
-        ensures refused { IfErr result (IsMemoryOr (IsRefused agent.now (file_lines txt.now))) }
-        ensures without_memory { GivesNothing agent.now (file_lines txt.now) → IsOk result }
-    {
-        let group = group_for(agent.as_bytes(), unread_file_lines(txt));
-        let mut reading = Reading::new(alloc);
-        for marked in marked_lines(&group, unread_file_lines(txt)) {
-            reading.take(alloc, marked)?;
-        }
-        Ok(Robot {
-            delay: reading.delay.or(group.stray_delay),
-            sitemaps: reading.sitemaps,
-            rules: Rules::sorted(reading.rules),
-        })
+        read_file(alloc, agent, &txt[..limit.min(txt.len())])
     }
 
     /// The text that rules are matched with: of a URL its path, query and fragment, as the crate `url` writes them.

@@ -4,8 +4,8 @@ use Rattle.std.proofs.Common.{flat_map, sym, refl, ap, ◌∙◌, subst, append_
 use Rattle.std.specs.List.{AllZip, AllByRecursion as Each}
 use Rattle.std.proofs.lemmas.List.{map-append}
 use Rattle.texting_robots.specs.Line.{nul_as_lf, without_front}
-use Rattle.texting_robots.specs.Rules.{rules_for}
-use Rattle.texting_robots.specs.Parsed.{file_lines}
+use Rattle.texting_robots.specs.Computed.{rules_for}
+use Rattle.texting_robots.specs.Computed.{file_lines}
 use Rattle.texting_robots.specs.Rfc9309 as rfc
 use Rattle.texting_robots.proofs.Rfc9309.CharLemmas.{each_append}
 use Rattle.texting_robots.proofs.Rfc9309.GroupLemmas.{zip_append}

@@ -10,7 +10,8 @@ use Rattle.std.proofs.lemmas.List.Folds.{list_any-append}
 use Rattle.texting_robots.specs.declared.groups.Walk.{Walk}
 use Rattle.texting_robots.specs.Line.{LineValue, UserAgent, Allow, Disallow, Sitemap, CrawlDelay, Raw}
 use Rattle.texting_robots.specs.Group.{group_name, is_agent_named, is_group}
-use Rattle.texting_robots.specs.Rules.{Rule, rule_in, rules_for}
+use Rattle.texting_robots.specs.Computed.{rule_in, rules_for}
+use Rattle.texting_robots.specs.Rules.{Rule}
 use Rattle.texting_robots.specs.Steps.Group.{start_of, step}
 use Rattle.texting_robots.specs.Laws.{IsReadAs}
 use Rattle.texting_robots.specs.Rfc9309.{Group, Member, merged, is_rule, has_token, groups_for}

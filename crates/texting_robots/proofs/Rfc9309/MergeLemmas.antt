@@ -5,7 +5,8 @@ use Rattle.std.specs.List.{AllZip}
 use Rattle.std.proofs.lemmas.List.{map-append}
 use Rattle.texting_robots.specs.Group.{is_group}
 use Rattle.texting_robots.specs.Line.{LineValue, UserAgent}
-use Rattle.texting_robots.specs.Rules.{Rule, rule_in}
+use Rattle.texting_robots.specs.Computed.{rule_in}
+use Rattle.texting_robots.specs.Rules.{Rule}
 use Rattle.texting_robots.specs.Laws.{IsReadAs}
 use Rattle.texting_robots.specs.Rfc9309.{Group, Member, merged, put_before, is_rule}
 

@@ -9,7 +9,8 @@ use Rattle.texting_robots.specs.declared.parser.statement.Kind.{Kind}
 use Rattle.texting_robots.specs.declared.parser.statement.Kind.TheVariants as kind
 use Rattle.texting_robots.specs.Escape.{escaped}
 use Rattle.texting_robots.specs.Line.{UserAgent, Allow, Disallow}
-use Rattle.texting_robots.specs.Rules.{Rule, rule_with}
+use Rattle.texting_robots.specs.Computed.{rule_with}
+use Rattle.texting_robots.specs.Rules.{Rule}
 use Rattle.texting_robots.specs.Statement.{IsBlank, spellings}
 use Rattle.texting_robots.specs.Trim.{IsTrimOf}
 use Rattle.texting_robots.specs.Steps.Line.{line_with}

@@ -2,7 +2,7 @@
 use Rattle.std.proofs.Common.{sym, ap, ◌∙◌, subst}
 use Rattle.std.specs.List.{AllZip}
 use Rattle.std.proofs.lemmas.List.{map-append}
-use Rattle.texting_robots.specs.Rules.{rules_for}
+use Rattle.texting_robots.specs.Computed.{rules_for}
 use Rattle.texting_robots.specs.Laws.{IsReadAs}
 use Rattle.texting_robots.specs.Rfc9309 as rfc
 use Rattle.texting_robots.proofs.Rfc9309.EndLemmas.{lines_in}
@@ -11,7 +11,7 @@ use Rattle.texting_robots.proofs.Rfc9309.GroupLemmas.{rules_spelled}
 use Rattle.texting_robots.proofs.Rfc9309.Told.{Told}
 use Rattle.texting_robots.proofs.Rfc9309.ToldLemmas.{front_lines, group_lines, told_groups, told_once}
 use Rattle.std.proofs.Common.{◌≡◌, ℕ, List}
-use Rattle.texting_robots.specs.Parsed.{file_lines}
+use Rattle.texting_robots.specs.Computed.{file_lines}
 
 pub standard_files_are_read_so : (text : List ℕ) (groups : List rfc.Group) (agent : List ℕ)
     → rfc.IsFile groups text

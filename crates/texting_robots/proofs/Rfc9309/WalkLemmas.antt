@@ -9,7 +9,8 @@ use Rattle.std.proofs.lemmas.Bool.{false≢true}
 use Rattle.texting_robots.specs.declared.groups.Walk.{Walk}
 use Rattle.texting_robots.specs.Line.{LineValue, UserAgent, Allow, Disallow, Sitemap, CrawlDelay, Raw}
 use Rattle.texting_robots.specs.Group.{is_group}
-use Rattle.texting_robots.specs.Rules.{Rule, rule_in}
+use Rattle.texting_robots.specs.Computed.{rule_in}
+use Rattle.texting_robots.specs.Rules.{Rule}
 use Rattle.texting_robots.specs.Steps.Group.{step}
 use Rattle.texting_robots.specs.Rfc9309.{Member}
 use Rattle.texting_robots.proofs.LawLemmas.{reached}

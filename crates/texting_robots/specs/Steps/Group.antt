@@ -8,7 +8,8 @@ use Rattle.texting_robots.specs.{Line.LineValue, Line.delay_in, Steps.Captured.i
 use Rattle.texting_robots.specs.declared.marks.Standing.{Standing}
 use Rattle.texting_robots.specs.declared.marks.Standing.TheVariants.{Own, Other, Outside}
 use Rattle.texting_robots.specs.Marks.{Mark, is_own}
-use Rattle.texting_robots.specs.Rules.{PlacedRule, Rule, rule_in, sitemap_in}
+use Rattle.texting_robots.specs.Computed.{rule_in, sitemap_in}
+use Rattle.texting_robots.specs.Rules.{PlacedRule, Rule}
 
 -- before the first line
 abbrev pub start_of : List LineValue → Walk

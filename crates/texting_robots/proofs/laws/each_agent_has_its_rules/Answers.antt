@@ -1,5 +1,19 @@
-use Rattle.texting_robots.proofs.HeldLemmas.{rules_are_computed}
+use Rattle.texting_robots.specs.Computed.{placed_rules}
+use Rattle.texting_robots.proofs.HeadlineLemmas.{answer_alike}
+use Rattle.texting_robots.proofs.HeldLemmas.{computed_are, one_list, refusal_is_computed, rules_are_computed}
 use Rattle.texting_robots.proofs.laws.each_agent_has_its_rules.Goals as goal
 
-pub returns : goal.returns
-returns c = rules_are_computed
+pub returns-clause-some : goal.returns-clause-some
+returns-clause-some c = λ agent lines. (placed_rules agent lines, computed_are agent lines)
+
+pub returns-clause-one : goal.returns-clause-one
+returns-clause-one c = one_list
+
+pub returns-clause-alike : goal.returns-clause-alike
+returns-clause-alike c = answer_alike
+
+pub returns-clause-computed : goal.returns-clause-computed
+returns-clause-computed c = rules_are_computed
+
+pub returns-clause-refused : goal.returns-clause-refused
+returns-clause-refused c = refusal_is_computed

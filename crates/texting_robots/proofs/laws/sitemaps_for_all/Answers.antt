@@ -1,5 +1,11 @@
+use Rattle.std.proofs.Common.{sym, ◌∙◌}
+use Rattle.texting_robots.proofs.GivenLemmas.{sitemaps_are_computed}
 use Rattle.texting_robots.proofs.LawLemmas.{sitemaps_change_nothing_else}
 use Rattle.texting_robots.proofs.laws.sitemaps_for_all.Goals as goal
 
 pub returns-clause-others : goal.returns-clause-others
 returns-clause-others c = sitemaps_change_nothing_else
+
+pub returns-clause-sitemaps : goal.returns-clause-sitemaps
+returns-clause-sitemaps c = λ agent other lines robot another one two.
+    (sitemaps_are_computed lines _).0 one.sitemaps ∙ sym ((sitemaps_are_computed lines _).0 two.sitemaps)

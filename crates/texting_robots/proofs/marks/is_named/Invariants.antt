@@ -1,6 +1,6 @@
 use Rattle.std.proofs.Common.{◌≡◌}
 use Rattle.texting_robots.specs.Marks.{is_named}
-use Rattle.texting_robots.specs.Parsed.{file_lines}
+use Rattle.texting_robots.specs.Computed.{file_lines}
 use Rattle.texting_robots.proofs.marks.is_named.Given as goal
 
 abbrev pub invariant-loop-line : goal.invariant-loop-line

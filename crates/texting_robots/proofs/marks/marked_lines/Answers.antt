@@ -3,7 +3,7 @@ use Rattle.std.proofs.lemmas.List.{length-map}
 use Rattle.std.proofs.lemmas.List.FromFn.{length-enumerate_from}
 use Rattle.texting_robots.specs.Group.{group_name}
 use Rattle.texting_robots.specs.Marks.{marks_of}
-use Rattle.texting_robots.specs.Parsed.{file_lines}
+use Rattle.texting_robots.specs.Computed.{file_lines}
 use Rattle.texting_robots.specs.Steps.Group.{marks_from}
 use Rattle.texting_robots.proofs.StandingLemmas.{marks_are}
 use Rattle.texting_robots.proofs.marks.marked_lines.Goals as goal

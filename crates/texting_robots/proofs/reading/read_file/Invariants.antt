@@ -2,11 +2,12 @@ use Rattle.std.proofs.Common.{◌≡◌, ◌++◌, map, slice_get, string_bytes}
 use Rattle.std.specs.List.{All, filter_map}
 use Rattle.std.specs.Option.{option_or}
 use Rattle.texting_robots.specs.Steps.Entries.{AreEntries, rules_in}
-use Rattle.texting_robots.specs.Parsed.{file_lines}
+use Rattle.texting_robots.specs.Computed.{file_lines}
 use Rattle.texting_robots.specs.Pattern.{IsOverlong}
-use Rattle.texting_robots.specs.Rules.{PlacedRule, captured_delays, placed_rules, sitemaps_in}
+use Rattle.texting_robots.specs.Computed.{captured_delays, placed_rules, sitemaps_in}
+use Rattle.texting_robots.specs.Rules.{PlacedRule}
 use Rattle.texting_robots.specs.Steps.Group.{delay_at, rule_at, sitemap_at}
-use Rattle.texting_robots.proofs.robot.Robot.read.Given as goal
+use Rattle.texting_robots.proofs.reading.read_file.Given as goal
 
 -- what was read, and what the lines that are left give, is what the file gives
 abbrev pub invariant-loop-marked : goal.invariant-loop-marked

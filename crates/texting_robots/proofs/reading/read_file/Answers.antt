@@ -4,18 +4,17 @@ use Rattle.std.specs.List.{Any}
 use Rattle.std.specs.Option.{option_or}
 use Rattle.std.proofs.lemmas.List.{append-nil}
 use Rattle.std.proofs.lemmas.Bool.{false≢true}
-use Rattle.texting_robots.specs.Parsed.{file_lines}
+use Rattle.texting_robots.specs.Computed.{file_lines}
 use Rattle.texting_robots.specs.Group.{group_name}
 use Rattle.texting_robots.specs.Pattern.{IsOverlong}
-use Rattle.texting_robots.specs.Rules.{PlacedRule, Rule, delay_before_agents}
+use Rattle.texting_robots.specs.Computed.{delay_before_agents}
+use Rattle.texting_robots.specs.Rules.{PlacedRule, Rule}
 use Rattle.texting_robots.specs.Steps.Group.{passed_of}
 use Rattle.texting_robots.proofs.CapturedLemmas.{delays_passed, rules_passed, sitemaps_are}
 use Rattle.texting_robots.proofs.RulesLemmas.{all_added, any_unplaced, first_more, given_any}
-use Rattle.texting_robots.proofs.RulesLemmas.{given_more, given_none, no_rules}
+use Rattle.texting_robots.proofs.RulesLemmas.{given_more, given_none, none_unplaced}
 use Rattle.texting_robots.proofs.RulesLemmas.{option_or_none, passed_on, refused_wider}
-use Rattle.texting_robots.proofs.HeadlineLemmas.{answers_for, none_overlong}
-use Rattle.texting_robots.proofs.HeldLemmas.{rules_are_computed}
-use Rattle.texting_robots.proofs.robot.Robot.read.Goals as goal
+use Rattle.texting_robots.proofs.reading.read_file.Goals as goal
 
 pub loop-marked-preserved : goal.loop-marked-preserved
 loop-marked-preserved c =
@@ -60,11 +59,11 @@ returns-in_err-take-clause-refused c =
 
 -- a line that takes memory gives a rule or a sitemap
 pub returns-in_err-take-clause-without_memory : goal.returns-in_err-take-clause-without_memory
-returns-in_err-take-clause-without_memory c = λ (rules, sitemaps).
+returns-in_err-take-clause-without_memory c = λ rules sitemaps.
     let next = c.in-Some.ensures.steps in
     let so_far = c.loop-marked.invariant in
     absurd (false≢true (c.in_err-take.ensures.unasked
-    (given_none _ _ _ (rw next at so_far.rules ∙ no_rules _ rules))
+    (given_none _ _ _ (rw next at so_far.rules ∙ rules))
     (given_none _ _ _ (rw next at so_far.sitemaps ∙ sitemaps))))
 
 pub returns-clause-robot : goal.returns-clause-robot
@@ -77,14 +76,11 @@ returns-clause-robot c =
     subst (λ (all : List PlacedRule). IsPermutation all c.sorted.result) rules c.sorted.ensures in
     let first = rw end at so_far.delay in
     let stray = rw c.unread_file_lines.ensures.value at c.group_for-group.ensures.stray_delay in
+    let none = none_unplaced (λ (rule : Rule). IsOverlong rule.0) _ so_far.accepted in
     record {
       delay = c.or.ensures ∙ ap (λ last. option_or c.loop-marked.reading.delay last) stray
           ∙ ap (λ delay. option_or delay (delay_before_agents lines)) (sym (option_or_none _) ∙ first);
       sitemaps = rw (end, append-nil) at so_far.sitemaps;
-      rules = (rules_are_computed c.args.agent.now lines _).1 sorted;
-      accepted = none_overlong _ _ c.sorted.ensures so_far.accepted;
+      rules = sorted;
+      accepted = rw rules at none;
     }
-
-pub returns-clause-answers : goal.returns-clause-answers
-returns-clause-answers c =
-    answers_for c.args.agent.now (file_lines c.args.txt.now) _ (returns-clause-robot c)

@@ -1,0 +1,306 @@
+-- The delay and the sitemaps that lines give an agent are those that are computed of them.
+use Rattle.std.proofs.Common.{◌≡◌, ◌↔◌, inl, inr, ℕ, zero, suc, ◌+◌, ◌<◌, ◌≤◌, Bool, true, false}
+use Rattle.std.proofs.Common.{cond, List, [], ◌∷◌, Option, Some, None, slice_get}
+use Rattle.std.proofs.Common.{refl, sym, ap, ◌∙◌, arith, subst, add-zero, zero-add}
+use Rattle.std.specs.Prelude.{◌⊎◌, IsTrue, filter}
+use Rattle.std.specs.List.{cons_option, enumerate_from, filter_map, last_or, list_any}
+use Rattle.std.specs.Option.{option_or}
+use Rattle.std.specs.Str.{is_utf8}
+use Rattle.std.proofs.lemmas.Bool.{cases_Bool, false≢true}
+use Rattle.std.proofs.lemmas.Option.{slice_get_within}
+use Rattle.texting_robots.specs.Computed.{captured_delays, delay_before_agents, delay_for}
+use Rattle.texting_robots.specs.Computed.{sitemap_in, sitemaps_in}
+use Rattle.texting_robots.specs.Group.{group_name, is_agent, passes_at}
+use Rattle.texting_robots.specs.Line.{LineValue, Allow, CrawlDelay, Disallow, Raw, Sitemap, UserAgent}
+use Rattle.texting_robots.specs.Line.{delay_in}
+use Rattle.texting_robots.specs.Rules.{AreSitemapsOf, IsCapturedDelay, IsDelayFor, IsEarlyDelay, IsFirst}
+use Rattle.texting_robots.specs.Rules.{IsLast, ListsSitemap, Nowhere}
+use Rattle.texting_robots.specs.Steps.Captured.{is_captured}
+use Rattle.texting_robots.proofs.CapturedLemmas.{is_captured_decides, some_passes}
+use Rattle.texting_robots.proofs.RulesLemmas.{before_agent, before_agents, last_more}
+
+-- ---- the first and the last place at which a number is found
+
+-- the option is what is found first
+abbrev FirstAt : (ℕ → ℕ → Type 0) → Option ℕ → Type 0
+FirstAt P None = Nowhere P
+FirstAt P (Some n) = IsFirst P n
+
+-- the option is what is found last, or else what was found before
+abbrev LastAt : (ℕ → ℕ → Type 0) → Option ℕ → Option ℕ → Type 0
+LastAt P before None = (before ≡ None) × Nowhere P
+LastAt P before (Some n) = IsLast P n ⊎ ((before ≡ Some n) × Nowhere P)
+
+-- P finds this first, and then Q, one place on
+record Step (P Q : ℕ → ℕ → Type 0) (here : Option ℕ) : Type 0 where
+  at : (n : ℕ) → P 0 n ↔ here ≡ Some n
+  later : (k n : ℕ) → P (suc k) n ↔ Q k n
+
+nowhere_next : (P Q : ℕ → ℕ → Type 0) → Step P Q None → Nowhere Q → Nowhere P
+nowhere_next P Q step none zero n is = absurd (let k = (step.at n).0 is in cc)
+nowhere_next P Q step none (suc k) n is = none k n ((step.later k n).0 is)
+
+first_next : (P Q : ℕ → ℕ → Type 0) (here found : Option ℕ) → Step P Q here → FirstAt Q found
+    → FirstAt P (option_or here found)
+first_next P Q (Some n) found step is = (0, (step.at n).1 refl, λ other m has. omega arith)
+first_next P Q None None step is = nowhere_next P Q step is
+first_next P Q None (Some n) step (place, is, least) =
+    (suc place, (step.later place n).1 is, sooner)
+  where
+    sooner : (other m : ℕ) → P other m → suc place ≤ other
+    sooner zero m has = absurd (let k = (step.at m).0 has in cc)
+    sooner (suc other) m has = let k = least other m ((step.later other m).0 has) in omega arith
+
+last_behind : (P Q : ℕ → ℕ → Type 0) (here : Option ℕ) (n : ℕ) → Step P Q here → IsLast Q n → IsLast P n
+last_behind P Q here n step (place, is, greatest) = (suc place, (step.later place n).1 is, before)
+  where
+    before : (other m : ℕ) → P other m → other ≤ suc place
+    before zero m has = omega arith
+    before (suc other) m has = let k = greatest other m ((step.later other m).0 has) in omega arith
+
+last_next : (P Q : ℕ → ℕ → Type 0) (here before found : Option ℕ) → Step P Q here
+    → LastAt Q (option_or here before) found → LastAt P before found
+last_next P Q None before None step (is, none) = (is, nowhere_next P Q step none)
+last_next P Q None before (Some n) step (inl last) = inl (last_behind P Q None n step last)
+last_next P Q None before (Some n) step (inr (is, none)) = inr (is, nowhere_next P Q step none)
+last_next P Q (Some h) before None step (is, none) = absurd (cc)
+last_next P Q (Some h) before (Some n) step (inl last) = inl (last_behind P Q (Some h) n step last)
+last_next P Q (Some h) before (Some n) step (inr (is, none)) = inl (0, (step.at n).1 is, first)
+  where
+    first : (other m : ℕ) → P other m → other ≤ 0
+    first zero m has = omega arith
+    first (suc other) m has = absurd (none other m ((step.later other m).0 has))
+
+first_same : (P Q : ℕ → ℕ → Type 0) (found : Option ℕ) → ((k n : ℕ) → P k n ↔ Q k n) → FirstAt P found
+    → FirstAt Q found
+first_same P Q None same none = λ k n is. none k n ((same k n).1 is)
+first_same P Q (Some n) same (place, is, least) =
+    (place, (same place n).0 is, λ other m has. least other m ((same other m).1 has))
+
+-- ---- captured delays
+
+a_delay : (line : LineValue) (delay : ℕ) → delay_in line ≡ Some delay → line ≡ CrawlDelay (Some delay)
+a_delay (CrawlDelay (Some d)) delay is = ap (λ (o : Option ℕ). CrawlDelay o) is
+a_delay (CrawlDelay None) delay is = absurd (cc)
+a_delay _ delay is = absurd (let k : ◌≡◌ {A = Option ℕ} None (Some delay) = is in cc)
+
+-- the line at the place is a delay, and passes a test of places
+abbrev DelayAt : (ℕ → Bool) → ℕ → List LineValue → ℕ → ℕ → Type 0
+DelayAt test n lines k delay = (slice_get lines k ≡ Some (CrawlDelay (Some delay))) × (test (n + k) ≡ true)
+
+abbrev tested : (ℕ → Bool) → ℕ → LineValue → Option ℕ
+tested test n line = cond (test n) (delay_in line) None
+
+delay_step : (test : ℕ → Bool) (n : ℕ) (line : LineValue) (lines : List LineValue)
+    → Step (DelayAt test n (line ∷ lines)) (DelayAt test (n + 1) lines) (tested test n line)
+delay_step test n line lines = record {
+  at = λ delay. (
+    λ (is, passes).
+        let same : line ≡ CrawlDelay (Some delay) = cc in
+        rw (rw add-zero at passes, same) refl,
+    λ is. elim (cases_Bool (test n)) [
+      | inl passes ↦ (ap (λ l. Some l) (a_delay line delay (rw passes at is)), rw add-zero passes)
+      | inr fails ↦ absurd (let k : ◌≡◌ {A = Option ℕ} None (Some delay) = rw fails at is in cc)
+    ],
+  );
+  later = λ k delay. let same : n + suc k ≡ (n + 1) + k = omega arith in
+      (λ is. (is.0, rw same at is.1), λ is. (is.0, rw same is.1));
+}
+
+first_given : (o : Option ℕ) (rest : List ℕ) → slice_get (cons_option o rest) 0 ≡ option_or o (slice_get rest 0)
+first_given None rest = refl
+first_given (Some n) rest = refl
+
+delays_from : (test : ℕ → Bool) (n : ℕ) (lines : List LineValue) → FirstAt (DelayAt test n lines)
+    (slice_get (filter_map (λ p. delay_in p.1) (filter (λ p. test p.0) (enumerate_from n lines))) 0)
+delays_from test n [] = λ k delay (is, passes). let less = slice_get_within [] k _ is in absurd (omega arith)
+delays_from test n (line ∷ lines) =
+    let found = first_next _ _ _ _ (delay_step test n line lines) (delays_from test (n + 1) lines) in
+    elim (cases_Bool (test n)) [
+      | inl passes ↦ rw (passes, first_given) (rw passes at found)
+      | inr fails ↦ rw fails (rw fails at found)
+    ]
+
+captured_first : (agent : List ℕ) (lines : List LineValue)
+    → FirstAt (IsCapturedDelay agent lines) (slice_get (captured_delays agent lines) 0)
+captured_first agent lines =
+    let name = group_name agent lines in
+    first_same (DelayAt (is_captured name lines) 0 lines) _ _
+    (λ k delay. (
+      λ is. (is.0, (is_captured_decides name lines k).0 (rw zero-add at is.1)),
+      λ is. (is.0, rw zero-add ((is_captured_decides name lines k).1 is.1)),
+    ))
+    (delays_from (is_captured name lines) 0 lines)
+
+-- ---- delays before the first user-agent line
+
+abbrev BeforeAgents : List LineValue → ℕ → ℕ → Type 0
+BeforeAgents lines k delay =
+    (slice_get lines k ≡ Some (CrawlDelay (Some delay)))
+    × ((j : ℕ) → j < k → ¬ IsTrue (passes_at is_agent lines j))
+
+before_step : (line : LineValue) (lines : List LineValue) → is_agent line ≡ false
+    → Step (BeforeAgents (line ∷ lines)) (BeforeAgents lines) (delay_in line)
+before_step line lines isnt = record {
+  at = λ delay. (
+    λ (is, none). let same : line ≡ CrawlDelay (Some delay) = cc in rw same refl,
+    λ is. (ap (λ l. Some l) (a_delay line delay is), λ j less. absurd (omega arith)),
+  );
+  later = λ k delay. (
+    λ (is, none). (is, λ j less. none (suc j) (omega arith)),
+    λ (is, none). (is, behind none),
+  );
+}
+  where
+    behind : {k : ℕ} → ((j : ℕ) → j < k → ¬ IsTrue (passes_at is_agent lines j))
+        → (j : ℕ) → j < suc k → ¬ IsTrue (passes_at is_agent (line ∷ lines) j)
+    behind none zero less is = absurd (false≢true (sym isnt ∙ is))
+    behind none (suc j) less is = none j (omega arith) is
+
+last_before : (before : Option ℕ) (lines : List LineValue)
+    → LastAt (BeforeAgents lines) before (last_or before (filter_map delay_in (before_agent lines)))
+last_before before [] = nothing before
+  where
+    none : Nowhere (BeforeAgents [])
+    none k delay (is, early) = let less = slice_get_within [] k _ is in absurd (omega arith)
+
+    nothing : (o : Option ℕ) → LastAt (BeforeAgents []) o o
+    nothing None = (refl, none)
+    nothing (Some n) = inr (refl, none)
+last_before before (line ∷ lines) = elim (cases_Bool (is_agent line)) [
+  | inl agent ↦ rw agent (nothing agent before)
+  | inr other ↦ rw (other, last_more) (last_next _ _ _ _ _ (before_step line lines other)
+      (last_before (option_or (delay_in line) before) lines))
+]
+  where
+    none : is_agent line ≡ true → Nowhere (BeforeAgents (line ∷ lines))
+    none agent zero delay (is, early) =
+        let same : line ≡ CrawlDelay (Some delay) = cc in
+        absurd (false≢true (rw same at agent))
+    none agent (suc k) delay (is, early) = early 0 (omega arith) agent
+
+    nothing : is_agent line ≡ true → (o : Option ℕ) → LastAt (BeforeAgents (line ∷ lines)) o o
+    nothing agent None = (refl, none agent)
+    nothing agent (Some n) = inr (refl, none agent)
+
+-- the option is what is found last
+abbrev LastOf : (ℕ → ℕ → Type 0) → Option ℕ → Type 0
+LastOf P None = Nowhere P
+LastOf P (Some n) = IsLast P n
+
+-- a delay before all agent lines stands before the one at this place
+early : (lines : List LineValue) (at : ℕ) → passes_at is_agent lines at ≡ true → (k delay : ℕ)
+    → BeforeAgents lines k delay → IsEarlyDelay lines k delay
+early lines at agent k delay (is, none) =
+    let not_here : k ≡ at → ⊥ = λ here. false≢true (rw (rw here at is) at agent) in
+    let not_behind : at < k → ⊥ = λ less. none at less agent in
+    (is, none, at, omega arith, agent)
+
+last_early : (lines : List LineValue) → LastOf (IsEarlyDelay lines) (delay_before_agents lines)
+last_early lines = elim (cases_Bool (list_any is_agent lines)) [
+  | inl some ↦ rw (some, before_agents lines) (given ((some_passes is_agent lines).0 some) _ (last_before None lines))
+  | inr none ↦ rw none (λ k delay is.
+      absurd (false≢true (sym none ∙ (some_passes is_agent lines).1 (is.2, is.4))))
+]
+  where
+    given : (at : ℕ) × (passes_at is_agent lines at ≡ true) → (o : Option ℕ)
+        → LastAt (BeforeAgents lines) None o → LastOf (IsEarlyDelay lines) o
+    given agent None (is, none) = λ k delay has. none k delay (has.0, has.1)
+    given agent (Some n) (inl (place, is, greatest)) = (
+      place,
+      early lines agent.0 agent.1 place n is,
+      λ other m has. greatest other m (has.0, has.1),
+    )
+    given agent (Some n) (inr (is, none)) = absurd (cc)
+
+-- ---- the agent's delay
+
+is_delay_for : (agent : List ℕ) (lines : List LineValue) (first last : Option ℕ)
+    → FirstAt (IsCapturedDelay agent lines) first → LastOf (IsEarlyDelay lines) last
+    → IsDelayFor agent lines (option_or first last)
+is_delay_for agent lines (Some delay) last is early = inl is
+is_delay_for agent lines None (Some delay) none is = inr (none, is)
+is_delay_for agent lines None None none is = (none, is)
+
+one_delay : (lines : List LineValue) (place a b : ℕ) → slice_get lines place ≡ Some (CrawlDelay (Some a))
+    → slice_get lines place ≡ Some (CrawlDelay (Some b)) → ◌≡◌ {A = Option ℕ} (Some a) (Some b)
+one_delay lines place a b one two = cc
+
+one_first : (agent : List ℕ) (lines : List LineValue) (a b : ℕ) → IsFirst (IsCapturedDelay agent lines) a
+    → IsFirst (IsCapturedDelay agent lines) b → ◌≡◌ {A = Option ℕ} (Some a) (Some b)
+one_first agent lines a b (p, is, least) (q, has, lowest) =
+    let low = least q b has in
+    let high = lowest p a is in
+    let same : p ≡ q = omega arith in
+    one_delay lines q a b (rw same at is.0) has.0
+
+one_last : (lines : List LineValue) (a b : ℕ) → IsLast (IsEarlyDelay lines) a → IsLast (IsEarlyDelay lines) b
+    → ◌≡◌ {A = Option ℕ} (Some a) (Some b)
+one_last lines a b (p, is, greatest) (q, has, highest) =
+    let low = greatest q b has in
+    let high = highest p a is in
+    let same : p ≡ q = omega arith in
+    one_delay lines q a b (rw same at is.0) has.0
+
+one_delay_for : (agent : List ℕ) (lines : List LineValue) (one two : Option ℕ) → IsDelayFor agent lines one
+    → IsDelayFor agent lines two → one ≡ two
+one_delay_for agent lines (Some a) (Some b) (inl one) (inl two) = one_first agent lines a b one two
+one_delay_for agent lines (Some a) (Some b) (inl one) (inr two) = absurd (two.0 one.0 a one.1)
+one_delay_for agent lines (Some a) (Some b) (inr one) (inl two) = absurd (one.0 two.0 b two.1)
+one_delay_for agent lines (Some a) (Some b) (inr one) (inr two) = one_last lines a b one.1 two.1
+one_delay_for agent lines (Some a) None (inl one) two = absurd (two.0 one.0 a one.1)
+one_delay_for agent lines (Some a) None (inr one) two = absurd (two.1 one.1.0 a one.1.1)
+one_delay_for agent lines None (Some b) one (inl two) = absurd (one.0 two.0 b two.1)
+one_delay_for agent lines None (Some b) one (inr two) = absurd (one.1 two.1.0 b two.1.1)
+one_delay_for agent lines None None one two = refl
+
+pub delay_is_computed : (agent : List ℕ) (lines : List LineValue) (delay : Option ℕ)
+    → IsDelayFor agent lines delay ↔ delay ≡ delay_for agent lines
+delay_is_computed agent lines delay =
+    let is = is_delay_for agent lines _ _ (captured_first agent lines) (last_early lines) in
+    (λ has. one_delay_for agent lines _ _ has is, λ same. subst (IsDelayFor agent lines) (sym same) is)
+
+-- ---- sitemaps
+
+-- what a line lists
+abbrev Lists : LineValue → Option (List ℕ) → Type 0
+Lists line None = (sitemap : List ℕ) → ¬ ListsSitemap line sitemap
+Lists line (Some sitemap) = ListsSitemap line sitemap
+
+listed : (line : LineValue) → Lists line (sitemap_in line)
+listed (Sitemap value) = elim (cases_Bool (is_utf8 value)) [
+  | inl text ↦ rw text (refl, text)
+  | inr other ↦ rw other (λ sitemap is. false≢true (sym other ∙ let e : value ≡ sitemap = cc in rw e is.1))
+]
+listed (UserAgent value) = λ sitemap is. let k = is.0 in cc
+listed (Allow value) = λ sitemap is. let k = is.0 in cc
+listed (Disallow value) = λ sitemap is. let k = is.0 in cc
+listed (CrawlDelay delay) = λ sitemap is. let k = is.0 in cc
+listed (Raw body) = λ sitemap is. let k = is.0 in cc
+
+are_sitemaps : (lines : List LineValue) → AreSitemapsOf lines (sitemaps_in lines)
+are_sitemaps [] = refl
+are_sitemaps (line ∷ lines) = at (sitemap_in line) (listed line) (are_sitemaps lines)
+  where
+    at : (o : Option (List ℕ)) → Lists line o → AreSitemapsOf lines (sitemaps_in lines)
+        → AreSitemapsOf (line ∷ lines) (cons_option o (sitemaps_in lines))
+    at None none are = inr (none, are)
+    at (Some first) lists are = inl (first, sitemaps_in lines, lists, are, refl)
+
+one_sitemaps : (lines : List LineValue) (one two : List (List ℕ)) → AreSitemapsOf lines one
+    → AreSitemapsOf lines two → one ≡ two
+one_sitemaps [] one two is has = is ∙ sym has
+one_sitemaps (line ∷ lines) one two (inl (a, later, lists, are, is)) (inl (b, rest, other, have, has)) =
+    let tails = one_sitemaps lines later rest are have in
+    let same : a ≡ b = let k = sym lists.0 ∙ other.0 in cc in
+    is ∙ rw (same, tails) (sym has)
+one_sitemaps (line ∷ lines) one two (inl (a, later, lists, are, is)) (inr (none, have)) = absurd (none a lists)
+one_sitemaps (line ∷ lines) one two (inr (none, are)) (inl (b, rest, lists, have, has)) = absurd (none b lists)
+one_sitemaps (line ∷ lines) one two (inr (none, are)) (inr (nothing, have)) = one_sitemaps lines one two are have
+
+pub sitemaps_are_computed : (lines : List LineValue) (sitemaps : List (List ℕ))
+    → AreSitemapsOf lines sitemaps ↔ sitemaps ≡ sitemaps_in lines
+sitemaps_are_computed lines sitemaps = (
+  λ are. one_sitemaps lines _ _ are (are_sitemaps lines),
+  λ same. subst (AreSitemapsOf lines) (sym same) (are_sitemaps lines),
+)

@@ -1,0 +1,5 @@
+use Rattle.texting_robots.proofs.GivenLemmas.{delay_is_computed}
+use Rattle.texting_robots.proofs.laws.each_agent_has_its_delay.Goals as goal
+
+pub returns : goal.returns
+returns c = delay_is_computed
