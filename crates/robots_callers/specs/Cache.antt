@@ -1,9 +1,9 @@
 -- What a cache keeps, and why it refuses.
 use Rattle.std.specs.Prelude.{◌≡◌, ◌⊎◌, ◌||◌, Bool, false, Err, IsOk, List, ℕ}
-use Rattle.std.specs.Prelude.{if◌then◌else◌, length, nat_lt, remove}
+use Rattle.std.specs.Prelude.{if◌then◌else◌, length, nat_lt, remove, take}
 use Rattle.url.specs.Parser.{IsOutOfRoom}
 use Rattle.url.specs.declared.error.ParseError.{ParseError}
-use Rattle.texting_robots.specs.Callers.{IsMemoryOr, IsRefused, lines_read, robots_address}
+use Rattle.texting_robots.specs.Callers.{IsFileRefused, IsMemoryOr, file_limit, robots_address}
 use Rattle.robots_callers.specs.declared.cache.CacheError.{CacheError}
 use Rattle.robots_callers.specs.declared.cache.TheConstants.{MOST}
 use Rattle.robots_callers.specs.declared.cache.CacheError.TheVariants.{Url, File, Memory}
@@ -16,8 +16,8 @@ IsNoAddressOrMemory url error = (robots_address url ≡ Err error) ⊎ IsOutOfRo
 abbrev pub IsWhyNotKept : List ℕ → List ℕ → List ℕ → CacheError → Type 0
 IsWhyNotKept agent url file (Url error) = IsNoAddressOrMemory url error
 IsWhyNotKept agent url file (File error) =
-    IsOk (robots_address url) × IsMemoryOr (IsRefused agent (lines_read file)) error
-IsWhyNotKept agent url file Memory = IsOk (robots_address url) × (¬ IsRefused agent (lines_read file))
+    IsOk (robots_address url) × IsMemoryOr (IsFileRefused agent (take file_limit file)) error
+IsWhyNotKept agent url file Memory = IsOk (robots_address url) × (¬ IsFileRefused agent (take file_limit file))
 
 -- the entries; where there are `MOST` and none has the address, without the first
 abbrev pub with_room : {E : Type 0} → Bool → List E → List E

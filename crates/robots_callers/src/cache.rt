@@ -1,11 +1,11 @@
 //! A cache of robots, by the addresses of their files.
-ghost use Rattle.std.specs.Prelude.{◌≡◌, ◌+◌, ◌-◌, ◌≤◌, ℕ, if◌then◌else◌, is_some, IfErr, IfOk, IsSomeAnd, List, None, Ok, OnErr, OnOk, Some, option_copied, remove, string_bytes};
+ghost use Rattle.std.specs.Prelude.{◌≡◌, ◌+◌, ◌-◌, ◌≤◌, ℕ, if◌then◌else◌, is_some, IfErr, IfOk, IsSomeAnd, List, None, Ok, OnErr, OnOk, Some, option_copied, remove, string_bytes, take};
 ghost use Rattle.std.specs.String.{string_eq};
 ghost use Rattle.indexmap.specs.IndexMap.{get_by_text, index_map_len, insert_entry};
 ghost use Rattle.robots_callers.specs.Cache.{IsNoAddressOrMemory, IsWhyNotKept, left_after, with_room};
 ghost use Rattle.robots_callers.specs.declared.cache.CacheError.TheVariants.{Memory};
 ghost use Rattle.robots_callers.specs.declared.cache.TheConstants.{MOST};
-ghost use Rattle.texting_robots.specs.Callers.{IsRobotOf, lines_read, robots_address};
+ghost use Rattle.texting_robots.specs.Callers.{IsRobotOfFile, file_limit, robots_address};
 
 use indexmap::IndexMap;
 use std::alloc::Global;
@@ -123,9 +123,9 @@ impl Cache {
         file: &[u8],
     ) -> Result<(), CacheError>
         ensures kept { OnOk result ((address : List ℕ) × (robots_address url.now ≡ Ok address)
-            × IsSomeAnd (get_by_text self.new.robots address) (IsRobotOf agent.now (lines_read file.now))) }
+            × IsSomeAnd (get_by_text self.new.robots address) (IsRobotOfFile agent.now (take file_limit file.now))) }
         ensures entries { OnOk result ((address : _) × (robot : _) × (robots_address url.now ≡ Ok (string_bytes address))
-            × IsRobotOf agent.now (lines_read file.now) robot
+            × IsRobotOfFile agent.now (take file_limit file.now) robot
             × (self.new.robots.entries ≡ insert_entry string_eq
             (with_room (is_some (get_by_text self.old.robots (string_bytes address))) self.old.robots.entries)
             address robot)) }

@@ -1,7 +1,8 @@
 //! A polite crawler's plan for a site.
-ghost use Rattle.std.specs.Prelude.{◌≡◌, ◌+◌, IfErr, IfOk, IfSome, map, min, unwrap_or};
+ghost use Rattle.std.specs.Prelude.{◌≡◌, ◌+◌, IfErr, IfOk, IfSome, map, min, take, unwrap_or};
 ghost use Rattle.robots_callers.specs.Crawler.{AreAllowed};
-ghost use Rattle.texting_robots.specs.Callers.{IsMemoryOr, IsRefused, delay_for, lines_read, rules_for, unplaced};
+ghost use Rattle.texting_robots.specs.Callers.{IsFileRefused, IsMemoryOr, IsRobotOfFile, RobotValue};
+ghost use Rattle.texting_robots.specs.Callers.{file_limit, unplaced};
 
 use std::alloc::Global;
 use texting_robots::{Error, Robot};
@@ -47,11 +48,11 @@ pub fn plan_for<'a>(
     urls: &[&'a str],
     waits: Waits,
 ) -> Result<Plan<'a>, Error>
-    ensures urls { IfOk result (λ plan. AreAllowed (rules_for agent.now (lines_read file.now))
-        (map (λ url. url.now) urls.now) (map (λ url. url.now) plan.urls.items)) }
-    ensures wait { IfOk result (λ plan.
-        plan.wait ≡ min (unwrap_or (delay_for agent.now (lines_read file.now)) waits.usual) waits.longest) }
-    ensures refused { IfErr result (IsMemoryOr (IsRefused agent.now (lines_read file.now))) }
+    ensures plan { IfOk result (λ plan. (robot : RobotValue)
+        × IsRobotOfFile agent.now (take file_limit file.now) robot
+        × AreAllowed (unplaced robot.rules) (map (λ url. url.now) urls.now) (map (λ url. url.now) plan.urls.items)
+        × (plan.wait ≡ min (unwrap_or robot.delay waits.usual) waits.longest)) }
+    ensures refused { IfErr result (IsMemoryOr (IsFileRefused agent.now (take file_limit file.now))) }
 {
     let robot = Robot::new(alloc, agent, file)?;
     let wait = robot.delay.unwrap_or(waits.usual).min(waits.longest);

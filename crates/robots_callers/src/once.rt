@@ -1,18 +1,20 @@
 //! One question about one file.
-ghost use Rattle.std.specs.Prelude.{IfErr, IfOk};
-ghost use Rattle.texting_robots.specs.Callers.{IsMemoryOr, IsRefused, IsVerdict, lines_read, prepared, rules_for};
+ghost use Rattle.std.specs.Prelude.{IfErr, IfOk, take};
+ghost use Rattle.texting_robots.specs.Callers.{IsFileRefused, IsMemoryOr, IsRobotOfFile, IsVerdict};
+ghost use Rattle.texting_robots.specs.Callers.{RobotValue, file_limit, prepared, unplaced};
 
 use std::alloc::Global;
 use texting_robots::{Error, Robot};
 
 /// Whether the crawler that calls itself `agent` may fetch a URL of the site with this robots.txt file.
 pub fn may_fetch(alloc: Global, agent: &str, file: &[u8], url: &str) -> Result<bool, Error>
-    ensures verdict { IfOk result (λ answer.
-        IsVerdict (rules_for agent.now (lines_read file.now)) (prepared url.now) answer) }
-    ensures refused { IfErr result (IsMemoryOr (IsRefused agent.now (lines_read file.now))) }
+    ensures verdict { IfOk result (λ answer. (robot : RobotValue)
+        × IsRobotOfFile agent.now (take file_limit file.now) robot
+        × IsVerdict (unplaced robot.rules) (prepared url.now) answer) }
+    ensures refused { IfErr result (IsMemoryOr (IsFileRefused agent.now (take file_limit file.now))) }
 {
     let robot = Robot::new(alloc, agent, file)?;
-    robot.allowed(alloc, url)
+    Ok(robot.allowed(alloc, url)?)
 }
 
 #[cfg(test)]

@@ -1,17 +1,17 @@
 -- What the rules that lines hold answer, in whatever order they are listed.
 use Rattle.std.proofs.Common.{◌≡◌, inl, inr, ℕ, ◌+◌, ◌*◌, ◌≤◌, Bool, true, false, cond, List, Option, Some}
 use Rattle.std.proofs.Common.{[], ◌∷◌, None, IsPermutation, Result, Ok, Err, IfErr, IfOk, IsOk, length, map, slice_get, refl, sym}
-use Rattle.std.proofs.Common.{ap, subst, ◌∙◌, arith}
+use Rattle.std.proofs.Common.{ap, subst, take, ◌∙◌, arith}
 use Rattle.std.specs.Result.{IsErrAnd}
 use Rattle.std.proofs.lemmas.List.Sorted.{Contains-permutation, IsPermutation-sym}
 use Rattle.std.proofs.lemmas.List.Sorted.{length_permutation, sum_by-IsPermutation}
 use Rattle.texting_robots.specs.declared.error.Error.{Error}
-use Rattle.texting_robots.specs.Computed.{file_lines, placed_rules, sitemaps_in}
+use Rattle.texting_robots.specs.Computed.{file_lines, lines_read, placed_rules, sitemaps_in}
 use Rattle.texting_robots.specs.Decision.{IsDecidingLine, IsDecidingRule, LooksForRules, as_long_as}
 use Rattle.texting_robots.specs.Error.{IsMemoryOr}
 use Rattle.texting_robots.specs.Headline.{IsAnswerOf}
-use Rattle.texting_robots.specs.Line.{AreFileLinesOf, LineValue, Allow, Disallow, nul_as_lf}
-use Rattle.texting_robots.specs.Robot.{AnswerAlike, IsRobotOf, RobotValue}
+use Rattle.texting_robots.specs.Line.{AreFileLinesOf, HasLines, LineValue, Allow, Disallow, nul_as_lf}
+use Rattle.texting_robots.specs.Robot.{AnswerAlike, IsFileRefused, IsRobotOf, IsRobotOfFile, RobotValue, file_limit}
 use Rattle.texting_robots.specs.Rules.{AreRulesFor, GivesNothing, HoldsRule, IsRefused, PlacedRule, Rule}
 use Rattle.texting_robots.specs.Rules.{unplaced}
 use Rattle.texting_robots.specs.Steps.Robot.{IsComputedRobot, SomeOverlong}
@@ -19,7 +19,7 @@ use Rattle.texting_robots.specs.Verdict.{IsVerdict}
 use Rattle.texting_robots.specs.View.{LooksAtMost, ViewValue}
 use Rattle.texting_robots.proofs.BestLemmas.{none_denies, verdict_by}
 use Rattle.texting_robots.proofs.GivenLemmas.{delay_is_computed, sitemaps_are_computed}
-use Rattle.texting_robots.proofs.HeldLemmas.{one_list, refusal_is_computed, rules_are_computed}
+use Rattle.texting_robots.proofs.HeldLemmas.{computed_are, one_list, refusal_is_computed, rules_are_computed}
 use Rattle.texting_robots.proofs.LineLemmas.{each_text_has_its_lines}
 use Rattle.texting_robots.proofs.RulesLemmas.{refused_wider}
 use Rattle.texting_robots.proofs.VerdictLemmas.{same_lines, same_verdicts}
@@ -54,39 +54,59 @@ pub answer_alike : (agent : List ℕ) (lines : List LineValue) (rules others : L
 answer_alike agent lines rules others are have =
     permuted_alike rules others (one_list agent lines rules others are have)
 
+-- they answer as the rules that are computed
+pub answers_computed : (agent : List ℕ) (lines : List LineValue) (rules : List PlacedRule)
+    → AreRulesFor agent lines rules → AnswerAlike rules (placed_rules agent lines)
+answers_computed agent lines rules are =
+    answer_alike agent lines rules (placed_rules agent lines) are (computed_are agent lines)
+
 -- ---- a robot of a file
 
--- the lines of a file are those that are computed
-file_are : (lines : List LineValue) (file : List ℕ) → AreFileLinesOf lines file → lines ≡ file_lines file
-file_are lines file are = (each_text_has_its_lines (map nul_as_lf file) lines).0 are
+pub lines_are_read : (file : List ℕ) → AreFileLinesOf (lines_read file) (take file_limit file)
+lines_are_read file = (each_text_has_its_lines (map nul_as_lf (take file_limit file)) _).1 refl
+
+-- what holds of the lines that a file has holds of these
+pub of_lines : (file : List ℕ) (P : List LineValue → Type 0) → HasLines file P
+    → (lines : List LineValue) → AreFileLinesOf lines file → P lines
+of_lines file P (all, have, is) lines are =
+    let each = each_text_has_its_lines (map nul_as_lf file) in
+    subst P ((each all).0 have ∙ sym ((each lines).0 are)) is
+
+has_lines : (file : List ℕ) (P : List LineValue → Type 0) → P (file_lines file) → HasLines file P
+has_lines file P is = (file_lines file, (each_text_has_its_lines (map nul_as_lf file) _).1 refl, is)
 
 pub robot_of : (agent file : List ℕ) (result : Result RobotValue Error)
     → IfOk result (IsComputedRobot agent (file_lines file))
-    → (lines : List LineValue) → AreFileLinesOf lines file → IfOk result (IsRobotOf agent lines)
-robot_of agent file (Err error) is lines are = tt
-robot_of agent file (Ok robot) is lines are =
-    let all = file_lines file in
-    subst (λ (l : List LineValue). IsRobotOf agent l robot) (sym (file_are lines file are)) (record {
-      delay = (delay_is_computed agent all robot.delay).1 is.delay;
-      sitemaps = (sitemaps_are_computed all robot.sitemaps).1 is.sitemaps;
-      rules = (rules_are_computed agent all robot.rules).1 is.rules;
-      accepted = λ refused. is.accepted ((refusal_is_computed agent all).0 refused);
+    → IfOk result (IsRobotOfFile agent file)
+robot_of agent file (Err error) is = tt
+robot_of agent file (Ok robot) is =
+    let lines = file_lines file in
+    has_lines file (λ l. IsRobotOf agent l robot) (record {
+      delay = (delay_is_computed agent lines robot.delay).1 is.delay;
+      sitemaps = (sitemaps_are_computed lines robot.sitemaps).1 is.sitemaps;
+      rules = (rules_are_computed agent lines robot.rules).1 is.rules;
+      accepted = λ refused. is.accepted ((refusal_is_computed agent lines).0 refused);
     })
+
+-- a file that gives a robot isn't refused
+pub not_refused : (agent file : List ℕ) (robot : RobotValue) → IsRobotOfFile agent file robot
+    → ¬ IsFileRefused agent file
+not_refused agent file robot (lines, are, is) refused =
+    is.accepted (of_lines file (IsRefused agent) refused lines are)
 
 pub refused_of : (agent file : List ℕ) (result : Result RobotValue Error)
     → IfErr result (IsMemoryOr (SomeOverlong agent (file_lines file)))
-    → (lines : List LineValue) → AreFileLinesOf lines file → IfErr result (IsMemoryOr (IsRefused agent lines))
-refused_of agent file (Ok robot) refused lines are = tt
-refused_of agent file (Err error) refused lines are =
-    subst (λ (l : List LineValue). IsMemoryOr (IsRefused agent l) error) (sym (file_are lines file are))
-    (refused_wider _ _ error (refusal_is_computed agent (file_lines file)).1 refused)
+    → IfErr result (IsMemoryOr (IsFileRefused agent file))
+refused_of agent file (Ok robot) refused = tt
+refused_of agent file (Err error) refused =
+    refused_wider _ _ error
+    (λ some. has_lines file (IsRefused agent) ((refusal_is_computed agent (file_lines file)).1 some)) refused
 
 -- a file that gives nothing has no rule and no sitemap that are computed
-pub nothing_of : (agent file : List ℕ) (lines : List LineValue) → AreFileLinesOf lines file
-    → GivesNothing agent lines
+pub nothing_of : (agent file : List ℕ) → HasLines file (GivesNothing agent)
     → (placed_rules agent (file_lines file) ≡ []) × (sitemaps_in (file_lines file) ≡ [])
-nothing_of agent file lines are (rules, sitemaps) =
-    let same = file_are lines file are in
+nothing_of agent file (lines, are, (rules, sitemaps)) =
+    let same = (each_text_has_its_lines (map nul_as_lf file) lines).0 are in
     let moved = (rules_are_computed agent lines []).0 rules in
     let none = no_members (placed_rules agent lines) (sym (length_permutation _ _ moved)) in
     (rw same at none, rw same at (sym ((sitemaps_are_computed lines []).0 sitemaps)))
@@ -113,12 +133,12 @@ answered agent lines rules robot old new answer is are verdict looks =
       looks = (alike.looks old new).0 looks;
     }
 
-pub unanswered : (agent : List ℕ) (lines : List LineValue) (rules : List PlacedRule) (view : ViewValue)
-    (answer : Result Bool Error) (e : Error) → IsErrAnd answer (λ x. x ≡ e)
-    → IsMemoryOr (IsRefused agent lines) e → IsAnswerOf agent lines rules view view answer
-unanswered agent lines rules view (Ok answer) e same refused = absurd same
-unanswered agent lines rules view (Err x) e same refused = record {
-  refused = subst (λ (y : Error). IsMemoryOr (IsRefused agent lines) y) (sym same) refused;
+pub unanswered : (agent file : List ℕ) (lines : List LineValue) (rules : List PlacedRule) (view : ViewValue)
+    (answer : Result Bool Error) (e : Error) → AreFileLinesOf lines file → IsErrAnd answer (λ x. x ≡ e)
+    → IsMemoryOr (IsFileRefused agent file) e → IsAnswerOf agent lines rules view view answer
+unanswered agent file lines rules view (Ok answer) e are same refused = absurd same
+unanswered agent file lines rules view (Err x) e are same refused = record {
+  refused = refused_wider _ _ x (λ has. of_lines file (IsRefused agent) has lines are) (rw same refused);
   accepted = tt;
   verdict = tt;
   looks = record {

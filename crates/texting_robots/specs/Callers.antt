@@ -2,7 +2,7 @@
 
 -- the lines of a file
 pub use Rattle.texting_robots.specs.Line.{LineValue, UserAgent, Allow, Disallow, Sitemap, CrawlDelay, Raw}
-pub use Rattle.texting_robots.specs.Line.{AreFileLinesOf, AreLinesOf, HoldRangesOf, by_value, nul_as_lf}
+pub use Rattle.texting_robots.specs.Line.{AreFileLinesOf, AreLinesOf, HasLines, HoldRangesOf, by_value, nul_as_lf}
 pub use Rattle.texting_robots.specs.{Line.value_in, Delay.IsDelay, Computed.file_lines, Computed.parsed}
 -- what an agent gets of them
 pub use Rattle.texting_robots.specs.Computed.{delay_for, placed_rules}
@@ -12,7 +12,7 @@ pub use Rattle.texting_robots.specs.Rules.{unplaced}
 pub use Rattle.texting_robots.specs.Group.{IsCaptured, group_name, is_agent_named}
 pub use Rattle.texting_robots.specs.Rules.{AreRulesFor, HoldsRule}
 pub use Rattle.texting_robots.specs.Computed.{lines_read}
-pub use Rattle.texting_robots.specs.Robot.{RobotValue, AnswerAlike, IsRobotOf, file_limit}
+pub use Rattle.texting_robots.specs.Robot.{RobotValue, AnswerAlike, IsFileRefused, IsRobotOf, IsRobotOfFile, file_limit}
 pub use Rattle.texting_robots.specs.Marks.{Mark, is_named, is_own, mark_by_value, marks_of, standing_of}
 -- URLs, texts and patterns
 pub use Rattle.texting_robots.specs.Pattern.{Matches, MatchesStars, IsOverlong, collapsed}

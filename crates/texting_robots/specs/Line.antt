@@ -66,6 +66,10 @@ nul_as_lf byte = if byte == 0 then lf else byte
 abbrev pub AreFileLinesOf : List LineValue → List ℕ → Type 0
 AreFileLinesOf lines text = AreLinesOf lines (map nul_as_lf text)
 
+-- the file has lines, of which P holds
+abbrev pub HasLines : List ℕ → (List LineValue → Type 0) → Type 0
+HasLines file P = (lines : List LineValue) × AreFileLinesOf lines file × P lines
+
 -- ---- where a line's bytes stand
 
 -- the bytes that the line holds, where it holds some

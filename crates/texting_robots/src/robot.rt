@@ -1,11 +1,11 @@
 //! What one crawler gets of a robots.txt file.
-ghost use Rattle.std.specs.Prelude.{◌≡◌, IfErr, IfOk, IsOk, List, string_bytes, take};
+ghost use Rattle.std.specs.Prelude.{◌≡◌, IfErr, IfOk, IsOk, string_bytes, take};
 ghost use Rattle.texting_robots.specs.Decision.{IsDecidingLine, LooksForRules};
 ghost use Rattle.texting_robots.specs.Error.{IsMemoryOr};
-ghost use Rattle.texting_robots.specs.Line.{AreFileLinesOf, LineValue};
+ghost use Rattle.texting_robots.specs.Line.{HasLines};
 ghost use Rattle.texting_robots.specs.Prepared.{prepared, target_of};
-ghost use Rattle.texting_robots.specs.Robot.{IsRobotOf, file_limit};
-ghost use Rattle.texting_robots.specs.Rules.{GivesNothing, IsRefused, unplaced};
+ghost use Rattle.texting_robots.specs.Robot.{IsFileRefused, IsRobotOfFile, file_limit};
+ghost use Rattle.texting_robots.specs.Rules.{GivesNothing, unplaced};
 ghost use Rattle.texting_robots.specs.Verdict.{IsVerdict};
 
 pub use crate::decision::Decision;
@@ -53,12 +53,9 @@ impl Robot {
     /// counted as one. There is no robot then: the caller treats the file as one that it can't use, as its own policy says.
     /// `Error::Memory` where memory is refused.
     pub fn new(alloc: Global, agent: &str, txt: &[u8]) -> Result<Self, Error>
-        ensures robot { (lines : List LineValue) → AreFileLinesOf lines (take file_limit txt.now)
-            → IfOk result (IsRobotOf agent.now lines) }
-        ensures refused { (lines : List LineValue) → AreFileLinesOf lines (take file_limit txt.now)
-            → IfErr result (IsMemoryOr (IsRefused agent.now lines)) }
-        ensures without_memory { (lines : List LineValue) → AreFileLinesOf lines (take file_limit txt.now)
-            → GivesNothing agent.now lines → IsOk result }
+        ensures robot { IfOk result (IsRobotOfFile agent.now (take file_limit txt.now)) }
+        ensures refused { IfErr result (IsMemoryOr (IsFileRefused agent.now (take file_limit txt.now))) }
+        ensures without_memory { HasLines (take file_limit txt.now) (GivesNothing agent.now) → IsOk result }
     {
         Robot::with_limit(alloc, agent, txt, FILE_LIMIT)
     }
@@ -72,12 +69,9 @@ impl Robot {
     ///
     /// As [`Robot::new`].
     pub fn with_limit(alloc: Global, agent: &str, txt: &[u8], limit: usize) -> Result<Self, Error>
-        ensures robot { (lines : List LineValue) → AreFileLinesOf lines (take limit txt.now)
-            → IfOk result (IsRobotOf agent.now lines) }
-        ensures refused { (lines : List LineValue) → AreFileLinesOf lines (take limit txt.now)
-            → IfErr result (IsMemoryOr (IsRefused agent.now lines)) }
-        ensures without_memory { (lines : List LineValue) → AreFileLinesOf lines (take limit txt.now)
-            → GivesNothing agent.now lines → IsOk result }
+        ensures robot { IfOk result (IsRobotOfFile agent.now (take limit txt.now)) }
+        ensures refused { IfErr result (IsMemoryOr (IsFileRefused agent.now (take limit txt.now))) }
+        ensures without_memory { HasLines (take limit txt.now) (GivesNothing agent.now) → IsOk result }
     {
         read_file(alloc, agent, &txt[..limit.min(txt.len())])
     }

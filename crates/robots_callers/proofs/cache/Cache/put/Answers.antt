@@ -1,4 +1,6 @@
-use Rattle.std.proofs.Common.{rules}
+use Rattle.std.proofs.Common.{rules, take}
+use Rattle.texting_robots.specs.Callers.{file_limit}
+use Rattle.texting_robots.proofs.HeadlineLemmas.{not_refused}
 use Rattle.robots_callers.proofs.cache.Cache.put.Goals as goal
 
 pub returns-clause-entries : goal.returns-clause-entries
@@ -12,3 +14,8 @@ returns-clause-entries c = (
 
 pub returns-in_err-robot-clause-left : goal.returns-in_err-robot-clause-left
 returns-in_err-robot-clause-left c = search rules
+
+pub returns-in_err-add-clause-refused : goal.returns-in_err-add-clause-refused
+returns-in_err-add-clause-refused c =
+    let accepted = not_refused c.args.agent.now (take file_limit c.args.file.now) _ c.in_ok-robot.ensures.robot in
+    search rules

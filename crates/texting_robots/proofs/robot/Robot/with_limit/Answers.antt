@@ -14,6 +14,6 @@ pub returns-clause-refused : goal.returns-clause-refused
 returns-clause-refused c = refused_of _ _ _ (rw (read _ _ _ c.min.ensures) at c.read_file.ensures.refused)
 
 pub returns-clause-without_memory : goal.returns-clause-without_memory
-returns-clause-without_memory c = λ lines are nothing.
-    let (rules, sitemaps) = nothing_of c.args.agent.now _ lines are nothing in
+returns-clause-without_memory c = λ nothing.
+    let (rules, sitemaps) = nothing_of c.args.agent.now _ nothing in
     (rw (read _ _ _ c.min.ensures) at c.read_file.ensures.without_memory) rules sitemaps
