@@ -1,14 +1,15 @@
 -- How a report is made.
 use Rattle.std.proofs.Common.{◌≡◌, ℕ, Bool, true, false, ◌&&◌, List, [], ◌∷◌}
 use Rattle.std.proofs.Common.{◌++◌, Option, None, Some, IfSome, length, map, take, ◌+◌, ◌<◌}
-use Rattle.std.proofs.Common.{slice_index_or, refl, sym, ap, subst, ◌∙◌, append_assoc, lit<}
+use Rattle.std.proofs.Common.{take, slice_index_or, refl, sym, ap, subst, ◌∙◌, append_assoc, lit<}
 use Rattle.std.specs.List.{AllByRecursion as Each, AllZip}
 use Rattle.std.proofs.lemmas.List.{append-nil, map-append, take_more}
 use Rattle.std.proofs.lemmas.List.Elements.{Contains-append_left, Contains-append_right}
-use Rattle.texting_robots.specs.Callers.{AnswersFor, IsDecidingLine, IsRobotOf, IsVerdict, LineValue}
-use Rattle.texting_robots.specs.Callers.{PlacedRule, RobotValue, Rule, delay_for, escaped}
+use Rattle.texting_robots.specs.Callers.{AnswerAlike, IsDecidingLine, IsRobotOfFile, IsVerdict, LineValue}
+use Rattle.texting_robots.specs.Callers.{PlacedRule, RobotValue, Rule, delay_for, escaped, file_limit}
 use Rattle.texting_robots.specs.Callers.{lines_read, placed_rules, prepared, rules_for, unplaced}
-use Rattle.texting_robots.proofs.HeadlineLemmas.{answers_for}
+use Rattle.texting_robots.proofs.GivenLemmas.{delay_is_computed}
+use Rattle.texting_robots.proofs.HeadlineLemmas.{answers_computed, read_robot}
 use Rattle.robots_io.specs.Lines.{delay_line, ended, verdict_line}
 use Rattle.robots_io.proofs.LinesLemmas.{all_zip-append, lines_added}
 use Rattle.robots_audit.specs.Report.{AreAllowed, IsReport, IsVerdictLine, group_line, note_lines}
@@ -86,7 +87,8 @@ adds_at {rules = rules} {one = one} {two = two} {old = old} {mid = mid} {new = n
     (adds_more rules (map f (take place items)) here one two old mid new first then)
 
 -- a robot's verdicts are those of its file
-lines_like : (agent : List ℕ) (lines : List LineValue) (robot : RobotValue) → AnswersFor agent lines robot
+lines_like : (agent : List ℕ) (lines : List LineValue) (robot : RobotValue)
+    → AnswerAlike robot.rules (placed_rules agent lines)
     → (urls texts : List (List ℕ)) → AllZip (IsVerdictLine robot.rules) urls texts
     → AllZip (IsVerdictLine (placed_rules agent lines)) urls texts
 lines_like agent lines robot is [] [] are = tt
@@ -103,7 +105,8 @@ lines_like agent lines robot is (url ∷ urls) (text ∷ texts) (first, later) =
   lines_like agent lines robot is urls texts later,
 )
 
-each_like : (agent : List ℕ) (lines : List LineValue) (robot : RobotValue) → AnswersFor agent lines robot
+each_like : (agent : List ℕ) (lines : List LineValue) (robot : RobotValue)
+    → AnswerAlike robot.rules (placed_rules agent lines)
     → (urls : List (List ℕ)) → Each (λ url. IsVerdict (unplaced robot.rules) (prepared url) true) urls
     → Each (λ url. IsVerdict (rules_for agent lines) (prepared url) true) urls
 each_like agent lines robot is [] are = tt
@@ -111,7 +114,7 @@ each_like agent lines robot is (url ∷ urls) are =
     ((is.verdicts (prepared url) true).0 are.0, each_like agent lines robot is urls are.1)
 
 allowed_like : (agent : List ℕ) (lines : List LineValue) (robot : RobotValue)
-    → AnswersFor agent lines robot
+    → AnswerAlike robot.rules (placed_rules agent lines)
     → (urls : List (List ℕ)) (answer : Bool) → AreAllowed (unplaced robot.rules) urls answer
     → AreAllowed (rules_for agent lines) urls answer
 allowed_like agent lines robot is urls true are = each_like agent lines robot is urls are
@@ -123,25 +126,27 @@ allowed_like agent lines robot is urls false are =
 -- the front of a report and then the verdicts are the report
 pub report_made : (agent file front text : List ℕ) (urls : List (List ℕ))
     (answer : Bool) (robot : RobotValue)
-    → IsRobotOf agent (lines_read file) robot
+    → IsRobotOfFile agent (take file_limit file) robot
     → front ≡ ended (rows agent (lines_read file)
     ++ (group_line agent (lines_read file) ∷ delay_line robot.delay ∷ note_lines file))
     → AddsVerdicts robot.rules urls answer front text → IsReport agent urls file text answer
-report_made agent file front text urls answer robot is first last =
+report_made agent file front text urls answer robot of first last =
     let lines = lines_read file in
-    let answers = answers_for agent lines robot is in
+    let is = read_robot agent file robot of in
+    let delayed = (delay_is_computed agent lines robot.delay).0 is.delay in
+    let alike = answers_computed agent lines robot.rules is.rules in
     let delay = delay_line (delay_for agent lines) in
     let back : List (List ℕ) = group_line agent lines ∷ delay ∷ note_lines file in
     record {
-      accepted = answers.accepted;
+      accepted = is.accepted;
       whole = record {
         verdict_lines = last.lines;
-        verdicts = lines_like agent lines robot answers urls last.lines last.verdicts;
+        verdicts = lines_like agent lines robot alike urls last.lines last.verdicts;
         whole =
-            lines_added [] front text (rows agent lines ++ back) last.lines (rw is.delay at first) last.whole
+            lines_added [] front text (rows agent lines ++ back) last.lines (rw delayed at first) last.whole
             ∙ ap ended (append_assoc (rows agent lines) back last.lines);
       };
-      answer = allowed_like agent lines robot answers urls answer last.answer;
+      answer = allowed_like agent lines robot alike urls answer last.answer;
     }
 
 -- ---- a line, and a run

@@ -1,7 +1,7 @@
 //! The report of a file.
-ghost use Rattle.std.specs.Prelude.{◌≡◌, ◌≢◌, ◌++◌, ◌∷◌, ◌&&◌, [], IfErr, IfOk, OnOk, codes, map, string_bytes};
+ghost use Rattle.std.specs.Prelude.{◌≡◌, ◌≢◌, ◌++◌, ◌∷◌, ◌&&◌, [], IfErr, IfOk, OnOk, codes, map, string_bytes, take};
 ghost use Rattle.std.specs.List.{list_any};
-ghost use Rattle.texting_robots.specs.Callers.{IsRobotOf, by_value, escaped, file_lines, lines_read};
+ghost use Rattle.texting_robots.specs.Callers.{IsRobotOfFile, by_value, escaped, file_limit, file_lines, lines_read};
 ghost use Rattle.texting_robots.specs.Group.{is_agent};
 ghost use Rattle.robots_io.specs.Lines.{delay_line, ended};
 ghost use Rattle.robots_audit.specs.Report.{IsReport, MayFail, group_line, note_lines, unnamed_group};
@@ -135,7 +135,7 @@ fn push_verdicts(
 
 /// What the agent gets of a file, or why it can't use it.
 fn robot_for(alloc: Global, agent: &str, file: &[u8]) -> Result<Robot, Fault>
-    ensures ok { IfOk result (IsRobotOf agent.now (lines_read file.now)) }
+    ensures ok { IfOk result (IsRobotOfFile agent.now (take file_limit file.now)) }
     ensures fault { IfErr result (λ fault. (fault ≢ Fault.Write) × MayFail agent.now fault file.now) }
 {
     match Robot::new(alloc, agent, file) {

@@ -2,7 +2,7 @@
 use Rattle.std.proofs.Common.{◌≢◌, ◌⊎◌, inl, inr, ℕ, zero, suc}
 use Rattle.std.proofs.Common.{◌<◌, ◌==◌, Any, IsUtf8}
 use Rattle.std.proofs.Common.{Result, Ok, Err, List, [], ◌∷◌, ◌++◌}
-use Rattle.std.proofs.Common.{length, map, sym, refl, ap, subst, ◌∙◌, arith}
+use Rattle.std.proofs.Common.{length, map, sym, refl, ap, subst, take, ◌∙◌, arith}
 use Rattle.std.specs.List.{AllByRecursion as Each, AllZip, Contains}
 use Rattle.std.specs.Io.BufRead.{strip_last}
 use Rattle.std.specs.Str.{is_utf8}
@@ -14,6 +14,9 @@ use Rattle.texting_robots.specs.Computed.{lines_read}
 use Rattle.texting_robots.specs.Computed.{delay_for, placed_rules, rules_for}
 use Rattle.texting_robots.specs.Rules.{PlacedRule, Rule}
 use Rattle.texting_robots.specs.Computed.{sitemaps_in}
+use Rattle.texting_robots.specs.Robot.{IsFileRefused, file_limit}
+use Rattle.texting_robots.proofs.HeadlineLemmas.{lines_are_read, read_refused}
+use Rattle.texting_robots.proofs.HeldLemmas.{refusal_is_computed}
 use Rattle.texting_robots.proofs.BestLemmas.{Either, each_text_answered}
 use Rattle.robots_verdict.specs.declared.fault.Fault.{Fault}
 use Rattle.robots_verdict.specs.declared.fault.Fault.TheVariants.{HeaderNotUtf8, InvalidRule, NoEmptyLine}
@@ -181,9 +184,15 @@ some_report input = elim (split_of input) [
       | inl
           each ↦ elim (any_or_none (λ (rule : Rule). IsOverlong rule.0) overlong_or_not
           (rules_for agent (lines_read file))) [
-            | inl refused ↦ (Err InvalidRule, (agent, urls, file, is, (named, each), refused))
-            | inr accepted ↦
+            | inl some ↦
+                let lines = lines_read file in
+                let refused : IsFileRefused agent (take file_limit file) =
+                (lines, lines_are_read file, (refusal_is_computed agent lines).1 some) in
+                (Err InvalidRule, (agent, urls, file, is, (named, each), refused))
+            | inr none ↦
                 let (text, made) = text_of_report agent urls file in
+                let accepted : ¬ IsFileRefused agent (take file_limit file) =
+                λ is. none ((refusal_is_computed agent (lines_read file)).0 (read_refused agent file is)) in
                 (Ok text, (agent, urls, file, is, (named, each), accepted, made))
           ]
     ]

@@ -10,13 +10,14 @@ use Rattle.texting_robots.specs.Decision.{IsDecidingLine}
 use Rattle.texting_robots.specs.Line.{LineValue}
 use Rattle.texting_robots.specs.Prepared.{prepared}
 use Rattle.texting_robots.specs.Computed.{lines_read}
-use Rattle.texting_robots.specs.Robot.{AnswersFor, IsRobotOf, RobotValue}
+use Rattle.texting_robots.specs.Robot.{AnswerAlike, IsFileRefused, IsRobotOf, RobotValue, file_limit}
 use Rattle.texting_robots.specs.Computed.{delay_for}
-use Rattle.texting_robots.specs.Rules.{IsRefused, PlacedRule}
+use Rattle.texting_robots.specs.Rules.{PlacedRule}
 use Rattle.texting_robots.specs.Computed.{placed_rules, sitemaps_in}
 use Rattle.texting_robots.specs.Rules.{unplaced}
 use Rattle.texting_robots.specs.Verdict.{IsVerdict}
-use Rattle.texting_robots.proofs.HeadlineLemmas.{answers_for}
+use Rattle.texting_robots.proofs.GivenLemmas.{delay_is_computed, sitemaps_are_computed}
+use Rattle.texting_robots.proofs.HeadlineLemmas.{answers_computed}
 use Rattle.texting_robots.proofs.VerdictLemmas.{one_line_decides, one_verdict}
 use Rattle.robots_verdict.specs.declared.fault.Fault.{Fault}
 use Rattle.robots_verdict.specs.declared.fault.Fault.TheVariants.{HeaderNotUtf8, InvalidRule}
@@ -69,7 +70,8 @@ adds_at rules urls place url old mid new below one two =
     ((slice_index_or urls place url).now ∷ []) old mid new one two)
 
 -- a robot's verdicts are those of its file
-lines_like : (agent : List ℕ) (lines : List LineValue) (robot : RobotValue) → AnswersFor agent lines robot
+lines_like : (agent : List ℕ) (lines : List LineValue) (robot : RobotValue)
+    → AnswerAlike robot.rules (placed_rules agent lines)
     → (urls texts : List (List ℕ)) → AllZip (IsVerdictLine robot.rules) urls texts
     → AllZip (IsVerdictLine (placed_rules agent lines)) urls texts
 lines_like agent lines robot is [] [] are = tt
@@ -98,11 +100,14 @@ text_made agent urls file one two text robot is first second last =
     let lines = lines_read file in
     let delay : List (List ℕ) = delay_line (delay_for agent lines) ∷ [] in
     let sitemaps : List (List ℕ) = map sitemap_line (sitemaps_in lines) in
+    let delayed = (delay_is_computed agent lines robot.delay).0 is.delay in
+    let listed = (sitemaps_are_computed lines robot.sitemaps).0 is.sitemaps in
     record {
       verdict_lines = last.lines;
-      verdicts = lines_like agent lines robot (answers_for agent lines robot is) urls last.lines last.verdicts;
-      whole = lines_added one two text sitemaps last.lines (rw is.sitemaps at second) last.whole
-          ∙ ap (λ t. t ++ ended (sitemaps ++ last.lines)) (rw is.delay at first)
+      verdicts = lines_like agent lines robot (answers_computed agent lines robot.rules is.rules) urls
+          last.lines last.verdicts;
+      whole = lines_added one two text sitemaps last.lines (rw listed at second) last.whole
+          ∙ ap (λ t. t ++ ended (sitemaps ++ last.lines)) (rw delayed at first)
           ∙ sym (ended-append delay (sitemaps ++ last.lines));
     }
 
@@ -157,7 +162,7 @@ no_fault input text HeaderNotUtf8 report has =
     has.2 report.3 has.3 has.4)
 no_fault input text InvalidRule report has =
     report.5
-    (same_split (λ agent urls file. IsRefused agent (lines_read file)) input report.0 has.0 report.1
+    (same_split (λ agent urls file. IsFileRefused agent (take file_limit file)) input report.0 has.0 report.1
     has.1 report.2 has.2 report.3 has.3 has.5)
 no_fault input text Memory report has = has
 

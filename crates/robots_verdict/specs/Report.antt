@@ -1,12 +1,13 @@
 -- What the program writes of what it reads.
 use Rattle.std.specs.Prelude.{◌≡◌, ℕ, Bool, List, ◌∷◌}
-use Rattle.std.specs.Prelude.{◌++◌, Option, Result, Ok, Err, codes, map}
+use Rattle.std.specs.Prelude.{◌++◌, Option, Result, Ok, Err, codes, map, take}
 use Rattle.std.specs.List.{AllZip}
 use Rattle.std.specs.Io.KnownBytes.{Appends}
 use Rattle.texting_robots.specs.Decision.{IsDecidingLine}
 use Rattle.texting_robots.specs.Prepared.{prepared}
 use Rattle.texting_robots.specs.Computed.{delay_for, placed_rules, sitemaps_in}
-use Rattle.texting_robots.specs.Rules.{IsRefused, PlacedRule, unplaced}
+use Rattle.texting_robots.specs.Rules.{PlacedRule, unplaced}
+use Rattle.texting_robots.specs.Robot.{IsFileRefused, file_limit}
 use Rattle.texting_robots.specs.Verdict.{IsVerdict}
 use Rattle.texting_robots.specs.Computed.{lines_read}
 use Rattle.robots_io.specs.Ends.{AppendsBeginning}
@@ -48,14 +49,14 @@ HasFault input HeaderNotUtf8 = (agent : List ℕ) × (urls : List (List ℕ)) ×
     × IsInput input agent urls file × HoldNotUtf8 agent urls
 HasFault input InvalidRule =
     (agent : List ℕ) × (urls : List (List ℕ)) × (file : List ℕ) × IsInput input agent urls file
-    × AreUtf8 agent urls × IsRefused agent (lines_read file)
+    × AreUtf8 agent urls × IsFileRefused agent (take file_limit file)
 HasFault input Memory = ⊥
 
 -- the text of the report, or the fault of the input
 abbrev pub IsReport : List ℕ → Result (List ℕ) Fault → Type 0
 IsReport input (Ok text) =
     (agent : List ℕ) × (urls : List (List ℕ)) × (file : List ℕ)
-    × IsInput input agent urls file × AreUtf8 agent urls × (¬ IsRefused agent (lines_read file))
+    × IsInput input agent urls file × AreUtf8 agent urls × (¬ IsFileRefused agent (take file_limit file))
     × IsReportText agent urls file text
 IsReport input (Err fault) = HasFault input fault
 

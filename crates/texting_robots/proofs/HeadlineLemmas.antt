@@ -72,6 +72,16 @@ of_lines file P (all, have, is) lines are =
     let each = each_text_has_its_lines (map nul_as_lf file) in
     subst P ((each all).0 have ∙ sym ((each lines).0 are)) is
 
+-- by the lines that are computed
+pub read_robot : (agent file : List ℕ) (robot : RobotValue) → IsRobotOfFile agent (take file_limit file) robot
+    → IsRobotOf agent (lines_read file) robot
+read_robot agent file robot is =
+    of_lines _ (λ lines. IsRobotOf agent lines robot) is (lines_read file) (lines_are_read file)
+
+pub read_refused : (agent file : List ℕ) → IsFileRefused agent (take file_limit file)
+    → IsRefused agent (lines_read file)
+read_refused agent file is = of_lines _ (IsRefused agent) is (lines_read file) (lines_are_read file)
+
 has_lines : (file : List ℕ) (P : List LineValue → Type 0) → P (file_lines file) → HasLines file P
 has_lines file P is = (file_lines file, (each_text_has_its_lines (map nul_as_lf file) _).1 refl, is)
 

@@ -2,6 +2,7 @@ use Rattle.std.proofs.Common.{◌≡◌, IsTrue, ap, rules, sym, ◌∙◌}
 use Rattle.std.specs.List.{filter_map}
 use Rattle.texting_robots.specs.Callers.{group_name, lines_read, mark_by_value, marks_of}
 use Rattle.texting_robots.specs.Steps.Group.{own_rule_at}
+use Rattle.texting_robots.proofs.HeldLemmas.{refusal_is_computed}
 use Rattle.texting_robots.proofs.StandingLemmas.{own_rules}
 use Rattle.robots_audit.proofs.OverlongLemmas.{all_left, first_found, left_next, none_left, not_so}
 use Rattle.robots_audit.proofs.overlong.overlong_line.Goals as goal
@@ -26,4 +27,6 @@ returns-then-branch c =
     (c.in_ok-gives_overlong.ensures.0 yes)
 
 pub unreachable-requires : goal.unreachable-requires
-unreachable-requires c = none_left _ (rw c.in-None.ensures.steps.0 at c.loop-marked.invariant) c.requires
+unreachable-requires c =
+    none_left _ (rw c.in-None.ensures.steps.0 at c.loop-marked.invariant)
+    ((refusal_is_computed _ _).0 c.requires)

@@ -1,5 +1,6 @@
-use Rattle.std.proofs.Common.{◌≡◌, ◌++◌, ◌∷◌, [], ℕ, List, ap, map, string_bytes, ◌∙◌}
-use Rattle.texting_robots.specs.Robot.{RobotValue}
+use Rattle.std.proofs.Common.{◌≡◌, ◌++◌, ◌∷◌, [], ℕ, List, ap, map, string_bytes, take, ◌∙◌}
+use Rattle.texting_robots.specs.Robot.{RobotValue, file_limit}
+use Rattle.texting_robots.proofs.HeadlineLemmas.{not_refused, read_robot}
 use Rattle.robots_io.specs.Lines.{ended}
 use Rattle.robots_io.specs.Lines.{delay_line}
 use Rattle.robots_verdict.specs.Report.{sitemap_line}
@@ -19,13 +20,14 @@ returns-clause-ok c =
     c.in_ok-push_sitemaps.ensures
     ∙ ap (λ (t : List (List ℕ)). string_bytes c.push_delay.new.text ++ ended (map sitemap_line t))
     (ap (map string_bytes) c.deref.ensures.value ∙ ap (λ (r : RobotValue). r.sitemaps) c.robot.view_is) in
+    let is = read_robot header.agent.now header.file.now robot c.in_ok-robot.ensures.robot in
     let judged = rw c.deref-2.ensures.value at c.in_ok-push_verdicts.ensures.ok in (
       header.agent.now,
       map (λ url. url.now) header.urls.items,
       header.file.now,
       c.in_ok-header.ensures.input,
       c.in_ok-header.ensures.texts,
-      c.in_ok-robot.ensures.answers.accepted,
-      text_made header.agent.now (map (λ url. url.now) header.urls.items) header.file.now _ _ _ robot
-          c.in_ok-robot.ensures.robot delayed listed judged,
+      not_refused header.agent.now (take file_limit header.file.now) robot c.in_ok-robot.ensures.robot,
+      text_made header.agent.now (map (λ url. url.now) header.urls.items) header.file.now _ _ _ robot is
+          delayed listed judged,
     )
