@@ -2,7 +2,8 @@
 use std::alloc::Global;
 use texting_robots::minregex::MinRegex;
 use texting_robots::parser::{Line, robots_txt_parse};
-use texting_robots::{Error, Robot, get_robots_url, robots_url_of};
+use texting_robots::view::View;
+use texting_robots::{Error, Robot, get_robots_url, one_agent_allowed, robots_url_of};
 use url::{ParseError, Url};
 
 /// A call that takes memory.
@@ -11,6 +12,7 @@ pub(crate) enum Call {
     NewPattern,
     ClonePattern,
     NewRobot,
+    OneAgent,
     Allowed,
     PreparePath,
     PrepareUrl,
@@ -24,6 +26,7 @@ pub(crate) const CALLS: &[(&str, Call)] = &[
     ("MinRegex::new", Call::NewPattern),
     ("MinRegex::clone", Call::ClonePattern),
     ("Robot::new", Call::NewRobot),
+    ("one_agent_allowed", Call::OneAgent),
     ("Robot::allowed", Call::Allowed),
     ("Robot::prepare_url of a path", Call::PreparePath),
     ("Robot::prepare_url of a URL", Call::PrepareUrl),
@@ -72,6 +75,7 @@ pub(crate) fn answer(alloc: Global, call: &Call) -> Result<bool, Error> {
         Call::NewPattern => new_pattern(alloc),
         Call::ClonePattern => clone_pattern(alloc),
         Call::NewRobot => new_robot(alloc),
+        Call::OneAgent => one_agent(alloc),
         Call::Allowed => allowed(alloc),
         Call::PreparePath => prepare(alloc, "/á", "/%C3%A1"),
         Call::PrepareUrl => prepare(
@@ -107,6 +111,16 @@ fn clones(alloc: Global, pattern: &MinRegex) -> Result<bool, Error> {
     match copy {
         Ok(copy) => Ok(is_kept && is_right_pattern(&copy) && copy == *pattern),
         Err(error) if is_kept => Err(error),
+        Err(_) => Ok(false),
+    }
+}
+
+/// One question about the file; a refused one leaves the view as it was.
+fn one_agent(alloc: Global) -> Result<bool, Error> {
+    let mut view = View::new("/forest/tree/snake.py");
+    match one_agent_allowed(alloc, "FerrisCrawler", FILE, &mut view) {
+        Ok(allowed) => Ok(!allowed && view.seen() > 0),
+        Err(error) if view.seen() == 0 => Err(error),
         Err(_) => Ok(false),
     }
 }
