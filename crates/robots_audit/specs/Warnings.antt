@@ -30,7 +30,7 @@ agent_warnings agent = space_warnings agent ++ slash_warnings agent
 
 -- ---- URLs
 
--- the text begins as a URL of a site does, with its scheme in any letter case
+-- the text begins as a URL of a site does, ASCII letters of its scheme in any case
 abbrev pub is_url : List ℕ → Bool
 is_url url =
     let lowered = str_to_ascii_lowercase url in

@@ -31,8 +31,8 @@ IsTailOf tail rest =
     × ((rest ≡ blanks ++ byte ":" ∷ tail)
     ⊎ ((rest ≡ blanks ++ tail) × (blanks ≢ []) × BeginsPlain tail))
 
--- the body is a statement of this kind with this value: a spelling of the kind's key stands in it, in any
--- letter case, and behind a hash is a comment
+-- the body is a statement of this kind with this value: a spelling of the kind's key stands in it, ASCII
+-- letters in any case, and behind a hash is a comment
 pub record IsStatement (kind : Kind) (value body : List ℕ) : Type 0 where
   pub margin : List ℕ
   pub key : List ℕ

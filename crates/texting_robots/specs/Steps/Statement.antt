@@ -46,7 +46,7 @@ abbrev pub kind_by : List ℕ → Option Kind
 kind_by [] = None
 kind_by (byte ∷ text) = kind_with (to_ascii_lowercase byte)
 
--- the text begins with the spelling, which is in small letters, in any letter case
+-- the text begins with the spelling, which is in small letters, ASCII letters in any case
 abbrev pub begins : List ℕ → List ℕ → Bool
 begins spelling text = bytes_eq (map to_ascii_lowercase (take (length spelling) text)) spelling
 

@@ -180,7 +180,7 @@ impl Number<'_> {
     }
 }
 
-/// Whether the text is `inf` or `infinity`, in any letter case.
+/// Whether the text is `inf` or `infinity`, ASCII letters in any case.
 fn is_infinite(text: &[u8]) -> bool
     ensures { result ≡ steps.is_infinite text.now }
 {

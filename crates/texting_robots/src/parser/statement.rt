@@ -20,7 +20,7 @@ pub(crate) enum Kind {
     CrawlDelay,
 }
 
-/// How a key of this kind is spelled. Letter case doesn't count; the first is the usual one, as it is mostly written.
+/// How a key of this kind is spelled, ASCII letters in any case. The first is the usual one, as it is mostly written.
 fn spellings(kind: Kind) -> &'static [&'static str]
     ensures { map (λ spelling. str_to_ascii_lowercase spelling.now) result.now ≡ spellings kind }
 {
@@ -65,14 +65,14 @@ fn kind_by(text: &[u8]) -> Option<Kind>
     }
 }
 
-/// Whether the key is the spelling, in any letter case. One that is written alike is told sooner.
+/// Whether the key is the spelling, ASCII letters in any case. One that is written alike is told sooner.
 fn is_spelled(key: &[u8], spelling: &[u8]) -> bool
     ensures { IsTrue result ↔ (str_to_ascii_lowercase key.now ≡ str_to_ascii_lowercase spelling.now) }
 {
     key == spelling || key.eq_ignore_ascii_case(spelling)
 }
 
-/// What follows the spelling, if the text begins with it in any letter case.
+/// What follows the spelling, if the text begins with it, ASCII letters in any case.
 fn after_spelling<'a>(spelling: &str, text: &'a [u8]) -> Option<&'a [u8]>
     ensures { let small = str_to_ascii_lowercase spelling.now in MatchOption result
         (begins small text.now ≡ false)
