@@ -13,7 +13,7 @@ use std::marker::Model;
 /// What the first pass over a file finds out for an agent.
 #[derive(Drop)]
 pub(crate) struct Group<'a> {
-    /// The name whose groups the agent gets: its own where a line names it, else a star.
+    /// The name whose groups the agent gets, where there is an agent line: its own if a line names it, else a star.
     name: &'a [u8],
     /// Whether there is an agent line.
     has_agents: bool,

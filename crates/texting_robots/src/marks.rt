@@ -114,7 +114,8 @@ pub fn marked_lines<'a>(agent: &'a str, txt: &'a [u8]) -> MarkedLineIter<'a>
 }
 
 /// Whether a user-agent line of the file `txt` names the crawler that calls itself `agent`, ASCII letters in any case. A
-/// crawler that isn't named gets the groups of `*`. It takes no memory.
+/// crawler that isn't named gets the groups of `*`, or in a file with no user-agent line all rules and delays. It takes no
+/// memory.
 #[tactic(auto, using(crate::proofs::NameLemmas::tested_names))]
 pub fn is_named(agent: &str, txt: &[u8]) -> bool
     ensures { result ≡ is_named agent.now (file_lines txt.now) }
