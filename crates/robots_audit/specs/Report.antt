@@ -45,8 +45,8 @@ pub record IsVerdictLine (rules : List PlacedRule) (url line : List ℕ) : Type 
 
 -- ---- the report
 
--- the text is a row for each line of the file, the agent's group, its delay and the note, and the verdict on
--- each URL
+-- the text is a row for each line of those bytes of the file that count, the agent's group, its delay and the
+-- note, and the verdict on each URL
 pub record IsReportText (agent : List ℕ) (urls : List (List ℕ)) (file text : List ℕ) : Type 0 where
   pub verdict_lines : List (List ℕ)
   pub verdicts : AllZip (IsVerdictLine (placed_rules agent (lines_read file))) urls verdict_lines

@@ -1,6 +1,6 @@
-//! Shows a site owner what a crawler makes of a robots.txt file, which comes from standard input: each line with its
-//! number, whether it is in the crawler's group, and what it was read as; the group and the delay that the crawler gets;
-//! and for each URL whether the crawler may fetch it, and which line says so.
+//! Shows a site owner what a crawler makes of a robots.txt file, which comes from standard input: each line of its first
+//! 512,000 bytes with its number, whether it is in the crawler's group, and what it was read as; the group and the delay
+//! that the crawler gets; and for each URL whether the crawler may fetch it, and which line says so.
 //!
 //! `robots_audit AGENT [URL..] < robots.txt`
 //!
