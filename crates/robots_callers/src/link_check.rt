@@ -6,7 +6,7 @@ ghost use Rattle.texting_robots.specs.Callers.{IsVerdict, unplaced};
 use texting_robots::Robot;
 use texting_robots::view::View;
 
-/// How many links are denied, and how many bytes of them were looked at.
+/// How many links are denied, and how many looks at their texts were taken.
 #[derive(Clone, Copy, PartialEq, Eq, Debug)]
 pub struct Denied {
     pub count: usize,

@@ -90,8 +90,8 @@ impl MinRegex {
         })
     }
 
-    /// Whether the pattern matches the view's text, or a beginning of it. It takes no memory, and looks at bytes of the text
-    /// at most twice the text's length times.
+    /// Whether the pattern matches the view's text, or a beginning of it. It takes no memory, and at most twice the text's
+    /// length of looks.
     pub fn matches_view(&self, view: &mut View<'_>) -> bool
         ensures answer { IsTrue result ↔ Matches self.now view.old.text }
         ensures looks { LooksAtMost view.old view.new (2 * length view.old.text) }

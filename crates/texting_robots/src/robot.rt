@@ -119,9 +119,9 @@ impl Robot {
         self.rules.allow(text.as_bytes())
     }
 
-    /// Whether the crawler may fetch what a view's prepared text stands for. It takes no memory, and looks at bytes of the
-    /// text at most twice the text's length times for each rule. Where a rule matches, only the rules count that are at
-    /// least as long.
+    /// Whether the crawler may fetch what a view's prepared text stands for. It takes no memory, and for each rule at most
+    /// twice the text's length of looks; a look is one call of [`View::same`]. Where a rule matches, only the rules count
+    /// that are at least as long.
     pub fn allowed_view(&self, view: &mut View<'_>) -> bool
         ensures verdict { IsVerdict (unplaced self.now.rules) view.old.text result }
         ensures looks { LooksForRules self.now.rules view.old view.new }
@@ -129,8 +129,8 @@ impl Robot {
         self.decision(view).allowed
     }
 
-    /// The verdict on what a view's prepared text stands for, and the line that it follows from. It takes no memory, and
-    /// looks at bytes of the text as [`Robot::allowed_view`] does.
+    /// The verdict on what a view's prepared text stands for, and the line that it follows from. It takes no memory; the
+    /// bound on its looks is that of [`Robot::allowed_view`].
     pub fn decision(&self, view: &mut View<'_>) -> Decision
         ensures verdict { IsVerdict (unplaced self.now.rules) view.old.text result.allowed }
         ensures line { IsDecidingLine self.now.rules view.old.text result.line }
