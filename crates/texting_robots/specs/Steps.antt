@@ -1,6 +1,10 @@
--- The definitions again, as functions that take the steps of the code, and what the code keeps on the way.
--- Contracts of private functions cite them, and so do `Computed` and `Marks`. What a public contract rests on
--- is tied to its definition by a law; `Border`, `Entries`, `Needs` and `Pieces` are words of proofs alone.
+-- Words of the steps that the code takes, cited by contracts of private functions; nobody has to believe
+-- them. `Cut`, `Statement`, `Delay`, `Line` and `Captured` are definitions again, as functions, by which
+-- `Computed` and `Marks` compute. They are tied to the definitions by the laws `each_text_has_one_cut`,
+-- `each_text_has_one_delay`, `each_text_has_its_lines` and `captured_agrees`, and `Statement` by the lemmas
+-- `statement_found` and `found_statement`. `Group` has a walk along the lines, tied to captured lines by
+-- `passed_are_walked` and to `marks_of` by `marks_are`. The others are inner words of proofs, on which no
+-- public clause rests.
 pub mod Cut
 pub mod Statement
 pub mod Delay
