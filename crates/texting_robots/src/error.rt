@@ -9,7 +9,7 @@ use url::ParseError;
 /// Why a call was refused.
 #[derive(Debug, Drop, Error)]
 pub enum Error {
-    /// The file can't be parsed. No call answers this: every file can.
+    /// The file can't be parsed. No call answers this: every file has its lines.
     #[error("Failed to parse robots.txt")]
     InvalidRobots,
     /// A pattern with `$` has more than 4,096 bytes, each run of stars counted as one. `Robot::new` counts the escaped rule.

@@ -44,8 +44,9 @@ impl Model for Robot {
 impl Robot {
     /// Reads the first [`FILE_LIMIT`] bytes of the file `txt` for the crawler that calls itself `agent`.
     ///
-    /// The agent is compared whole with the file's user-agent lines, ASCII letters in any case; it isn't trimmed. Every
-    /// file can be read: lines that are no statement are passed over. Memory is taken only for rules and sitemaps.
+    /// The agent is compared whole with the file's user-agent lines, ASCII letters in any case; it isn't trimmed. Lines that
+    /// are no statement are passed over, and where memory is there a file is refused only for a rule of this crawler's that
+    /// is too long. Memory is taken only for rules and sitemaps.
     ///
     /// # Errors
     ///
