@@ -51,7 +51,8 @@ impl<'a> Line<'a> {
     }
 }
 
-/// A line that isn't read to its value: whoever looks for groups asks it, and nothing else is read.
+/// A line that is cut out and not read yet. `read` and `is_group` read it whole, and each other question only as much as its
+/// answer needs.
 #[derive(Drop)]
 pub(crate) struct Unread<'a> {
     body: &'a [u8],
