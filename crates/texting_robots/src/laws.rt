@@ -203,8 +203,9 @@ pub fn each_file_has_its_sitemaps()
         → AreSitemapsOf lines sitemaps ↔ sitemaps ≡ sitemaps_in lines }
 {}
 
-/// Of a file of the standard's syntax an agent gets, in order and each as often, the rules that the file spells for it; and
-/// however such a file is taken apart, it spells the same groups once they are merged.
+/// Of a file of the standard's syntax an agent gets, in order and each as often, the rules that the file spells for it, each
+/// as `IsReadAs` says: its pattern trimmed and escaped, and an empty Disallow an Allow of `/`. And however such a file is
+/// taken apart, it spells the same groups once they are merged.
 /// A site owner who writes by the standard relies on it.
 pub fn standard_files_are_read_so()
     ensures read { (text : List ℕ) (groups : List rfc.Group) (agent : List ℕ) → rfc.IsFile groups text
