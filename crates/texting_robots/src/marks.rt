@@ -101,6 +101,9 @@ impl<'a> Iterator for MarkedLineIter<'a> {
 
 /// The lines of the file `txt`, all of its bytes, each with its number and its standing to the crawler that calls itself
 /// `agent`. It takes no memory, and there are no more lines than bytes.
+///
+/// A robot reads the first [`FILE_LIMIT`](crate::robot::FILE_LIMIT) bytes: whoever sets these lines beside a robot's rules or
+/// decisions hands in the same beginning of the file.
 pub fn marked_lines<'a>(agent: &'a str, txt: &'a [u8]) -> MarkedLineIter<'a>
     ensures marks { result ≡ marks_of (group_name agent.now (file_lines txt.now)) (file_lines txt.now) }
     ensures count { length result ≤ length txt.now }
@@ -115,7 +118,7 @@ pub fn marked_lines<'a>(agent: &'a str, txt: &'a [u8]) -> MarkedLineIter<'a>
 
 /// Whether a user-agent line of the file `txt` names the crawler that calls itself `agent`, ASCII letters in any case. A
 /// crawler that isn't named gets the groups of `*`, or in a file with no user-agent line all rules and delays. It takes no
-/// memory.
+/// memory. All bytes are read, as by [`marked_lines`].
 #[tactic(auto, using(crate::proofs::NameLemmas::tested_names))]
 pub fn is_named(agent: &str, txt: &[u8]) -> bool
     ensures { result ≡ is_named agent.now (file_lines txt.now) }
