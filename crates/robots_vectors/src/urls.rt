@@ -20,7 +20,11 @@ const PREPARED: &[(&str, &str, &str)] = &[
     ("caret_in_a_url", "https://h/^", "/%5E"),
     ("label_that_is_no_punycode", "https://xn--a/b", "/b"),
     ("drive_letter_that_comes_second", "file:///a/C:/..", "/a/"),
+    ("drive_letter_of_no_file", "http://h/C:/..", "/"),
+    ("slashes_alone", "file:////", "//"),
+    ("label_without_its_punycode", "http://a.xn--/b", "/b"),
     ("space_before_a_fragment", "data:a #", "a%20#"),
+    ("space_before_a_query", "x: ?", "%20?"),
     (
         "url_in_the_query",
         "http://www.example.com/a/b?c=http://d.e/",
@@ -69,6 +73,11 @@ const ADDRESSES: &[(&str, &str, &str)] = &[
         "label_that_is_no_punycode",
         "https://xn--a/",
         "https://xn--a/robots.txt",
+    ),
+    (
+        "label_without_its_punycode",
+        "http://a.xn--/",
+        "http://a.xn--/robots.txt",
     ),
     (
         "capital_sharp_s",
@@ -162,6 +171,19 @@ const NO_URLS: &[(&str, &str, &str, ParseError)] = &[
         "https://a\u{200D}b/",
         "https://a%E2%80%8Db/",
         ParseError::IdnaError,
+    ),
+    (
+        "label_without_its_punycode",
+        "http://xn--.\u{e9}/",
+        "http://xn--.%C3%A9/",
+        ParseError::IdnaError,
+    ),
+    ("at_sign_alone", "x://@", "x://@", ParseError::EmptyHost),
+    (
+        "backslash_behind_a_port",
+        "x://h:1\\",
+        "x://h:1\\",
+        ParseError::InvalidPort,
     ),
     (
         "space_in_the_host",
