@@ -77,13 +77,16 @@ rule_on_line agent lines found has =
     let line = get_or lines place p.1 in
     let same : p ≡ (place, line) = sym at ∙ get_or-enumerate_from 0 lines place p within
     ∙ ap (λ n. (n, line)) (zero-add place) in
-    let gives = line_gives (place + 1) line found (rw same at is) in
-    (place, gives.is_number, record {
-      value = gives.value;
-      line = (
-        slice_get-get_or lines place p.1 within ∙ ap (λ l. Some l) gives.is_line,
-        (is_captured_decides name lines place).0 (rw same at captured),
-      );
-      utf8 = gives.utf8;
-      pattern = gives.pattern;
-    })
+    let gives = line_gives (place + 1) line found (rw same at is) in (
+      place,
+      gives.is_number,
+      record {
+        value = gives.value;
+        line = (
+          slice_get-get_or lines place p.1 within ∙ ap (λ l. Some l) gives.is_line,
+          (is_captured_decides name lines place).0 (rw same at captured),
+        );
+        utf8 = gives.utf8;
+        pattern = gives.pattern;
+      },
+    )

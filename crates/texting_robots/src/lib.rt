@@ -2,8 +2,9 @@
 //! between two requests, and which sitemaps the file lists. It has the behaviour of the Rust crate `texting_robots`, which
 //! follows Google's reading of the Robots Exclusion Protocol (RFC 9309); `docs/DIFFERENCES.md` lists where it departs.
 //!
-//! [`Robot`] is the way in: `Robot::new` reads a file for an agent, and `allowed` answers for a URL. [`get_robots_url`]
-//! says where the file of a site stands. [`parser`], [`minregex`] and [`view`] are the layers below.
+//! [`Robot`] is the way in: `Robot::new` reads a file for an agent, and `allowed` answers for a URL. [`one_agent_allowed`]
+//! reads a file and asks about one text, and its contract is the theorem that the library exists for. [`get_robots_url`] says
+//! where the file of a site stands. [`parser`], [`minregex`] and [`view`] are the layers below.
 //!
 //! ```
 //! use std::alloc::Global;
@@ -21,9 +22,9 @@
 //! }
 //! ```
 //!
-//! A call that may have to take memory is handed an allocator and answers a `Result`. 'Want of memory' is an allocation
-//! failure: the allocator refused, and the call answers `Error::Memory` in place of ending the process. Its other errors
-//! stand under 'Errors' at each call.
+//! A call that may have to take memory is handed an allocator, but for [`push_escaped_bytes`], and answers a `Result`. 'Want of
+//! memory' is an allocation failure: the allocator refused, and the call answers `Error::Memory` in place of ending the process.
+//! Its other errors stand under 'Errors' at each call.
 #![tactic(auto)]
 
 pub mod address;
