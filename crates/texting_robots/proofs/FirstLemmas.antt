@@ -2,7 +2,6 @@
 use Rattle.std.proofs.Common.{◌≡◌, ◌≢◌, inl, inr, ℕ, zero, suc, ◌-◌, ◌+◌, ◌*◌}
 use Rattle.std.proofs.Common.{◌<◌, ◌≤◌, count_by, cond, leb, Bool, true, List, [], ◌∷◌}
 use Rattle.std.proofs.Common.{AllPairs, length, get_or, string_bytes, refl, sym, arith}
-use Rattle.std.specs.List.{Contains}
 use Rattle.std.proofs.Math.Nat.{mul-le-mul_left}
 use Rattle.std.proofs.lemmas.Bool.{cases_lt, cases_order, le-leb}
 use Rattle.std.proofs.lemmas.List.{get_or-map, get_or_default, length-drop, length-map, length-take}
@@ -14,7 +13,7 @@ use Rattle.texting_robots.specs.declared.rules.Gathered.{Gathered}
 use Rattle.texting_robots.specs.Steps.Entries.{AreEntries, GoesBefore, IsEntryOf, IsFirstMatch, NoneMatches}
 use Rattle.texting_robots.specs.Steps.Entries.{no_entry, placed_at, rules_in}
 use Rattle.texting_robots.specs.Steps.Pieces.{IsSpan, part_of}
-use Rattle.texting_robots.specs.Decision.{IsDecidingRule, as_long_as}
+use Rattle.texting_robots.specs.Decision.{IsDecidingRule, IsLongestMatch, LooksForRules, as_long_as}
 use Rattle.texting_robots.specs.Pattern.{Matches}
 use Rattle.texting_robots.specs.Rules.{PlacedRule, unplaced}
 use Rattle.texting_robots.specs.Verdict.{IsVerdict, robots_file}
@@ -31,6 +30,16 @@ count_front p (x ∷ xs) (suc n) within passes =
     let rest : n ≤ count_by p xs =
     count_front p xs n (omega arith) (λ k d below. passes (suc k) d (omega arith)) in
     rw (sum_by-cons (λ (y : PlacedRule). cond (p y) 1 0) x xs, here) (omega arith)
+
+-- ---- looks
+
+at_most_more : (old new : ViewValue) (few many : ℕ) → few ≤ many → LooksAtMost old new few
+    → LooksAtMost old new many
+at_most_more old new few many more is =
+    let cost = is.cost in
+    record { text = is.text; looks = is.looks; cost = omega arith }
+
+-- ---- the first that matches
 
 part_length : {X : Type 0} (xs : List X) (span : Span) → IsSpan xs span
     → length (part_of xs span) ≡ span.end - span.start
@@ -91,11 +100,11 @@ module _ (all : Gathered) (known : AreEntries all) where
           → IsVerdict (unplaced (rules_in all)) text (entry_at at).is_allow
       first_decides = verdict_by (rules_in all) text (placed at) (entry_at at).is_allow first_line refl
 
-      -- all rules up to the first that matches are as long as any that matches
-      pub first_tried : (rule : PlacedRule) → Contains (rules_in all) rule → Matches rule.rule.0 text
+      -- all rules up to the first that matches are as long as the longest that matches
+      first_tried : (rule : PlacedRule) → IsLongestMatch (rules_in all) text rule
           → 2 * length text * (at + 1) ≤ 2 * length text * as_long_as rule (rules_in all)
-      first_tried rule listed fits =
-          let best = first_line.is_longest.longest rule listed fits in
+      first_tried rule is =
+          let best = first_line.is_longest.longest rule is.listed is.matches in
           let within = found.0 in
           mul-le-mul_left (2 * length text)
           (count_front (λ (r : PlacedRule). leb (length rule.rule.0) (length r.rule.0)) (rules_in all)
@@ -107,10 +116,12 @@ module _ (all : Gathered) (known : AreEntries all) where
             | inr late ↦ let same : k ≡ at = omega arith in rw same best
           ]))))
 
--- ---- looks
-
-pub at_most_more : (old new : ViewValue) (few many : ℕ) → few ≤ many → LooksAtMost old new few
-    → LooksAtMost old new many
-at_most_more old new few many more is =
-    let cost = is.cost in
-    record { text = is.text; looks = is.looks; cost = omega arith }
+    -- the looks up to the first that matches
+    pub first_looks : (old new : ViewValue) (at : ℕ) → IsFirstMatch all old.text at
+        → LooksAtMost old new (2 * length old.text * (at + 1)) → LooksForRules (rules_in all) old new
+    first_looks old new at found looks =
+        let below : at + 1 ≤ length (rules_in all) = let within = found.0 in rw length-map (omega arith) in
+        record {
+          all = at_most_more _ _ _ _ (mul-le-mul_left (2 * length old.text) below) looks;
+          tried = λ placed is. at_most_more _ _ _ _ (first_tried old.text at found placed is) looks;
+        }

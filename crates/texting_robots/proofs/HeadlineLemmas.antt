@@ -22,7 +22,7 @@ use Rattle.texting_robots.proofs.GivenLemmas.{delay_is_computed, sitemaps_are_co
 use Rattle.texting_robots.proofs.HeldLemmas.{computed_are, one_list, refusal_is_computed, rules_are_computed}
 use Rattle.texting_robots.proofs.LineLemmas.{each_text_has_its_lines}
 use Rattle.texting_robots.proofs.RulesLemmas.{refused_wider}
-use Rattle.texting_robots.proofs.VerdictLemmas.{same_lines, same_verdicts}
+use Rattle.texting_robots.proofs.VerdictLemmas.{longest_permuted, same_lines, same_verdicts}
 
 -- ---- in whatever order
 
@@ -31,10 +31,10 @@ looks_permuted : (rules others : List PlacedRule) (old new : ViewValue) → IsPe
 looks_permuted rules others old new moved looks = record {
   all = subst (λ n. LooksAtMost old new (2 * length old.text * n)) (sym (length_permutation rules others moved))
       looks.all;
-  tried = λ placed has matches.
-      let back = Contains-permutation others rules placed (IsPermutation-sym rules others moved) has in
+  tried = λ placed is.
+      let back = longest_permuted others rules old.text placed (IsPermutation-sym rules others moved) is in
       let same : as_long_as placed others ≡ as_long_as placed rules = sum_by-IsPermutation _ rules others moved in
-      subst (λ n. LooksAtMost old new (2 * length old.text * n)) (sym same) (looks.tried placed back matches);
+      subst (λ n. LooksAtMost old new (2 * length old.text * n)) (sym same) (looks.tried placed back);
 }
 
 pub permuted_alike : (rules others : List PlacedRule) → IsPermutation rules others → AnswerAlike rules others
@@ -153,7 +153,7 @@ unanswered agent file lines rules view (Err x) e are same refused = record {
   verdict = tt;
   looks = record {
     all = no_looks view _;
-    tried = λ placed has matches. no_looks view _;
+    tried = λ placed is. no_looks view _;
   };
 }
 

@@ -115,7 +115,7 @@ length_decides deny allow text other denies allows = (
 
 -- ---- the line that decides
 
-longest_permuted : (rules others : List PlacedRule) (text : List ℕ) (placed : PlacedRule)
+pub longest_permuted : (rules others : List PlacedRule) (text : List ℕ) (placed : PlacedRule)
     → IsPermutation rules others
     → IsLongestMatch rules text placed → IsLongestMatch others text placed
 longest_permuted rules others text placed same is = record {

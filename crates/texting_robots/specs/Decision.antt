@@ -33,9 +33,9 @@ abbrev pub as_long_as : PlacedRule → List PlacedRule → ℕ
 as_long_as placed rules =
     count_by (λ (other : PlacedRule). nat_le (length placed.rule.0) (length other.rule.0)) rules
 
--- the looks taken are at most twice the text's length, times the number of rules; and where a rule matches,
--- times the number of rules that are at least as long as that one
+-- the looks taken are at most twice the text's length, times the number of rules; and where some rule matches,
+-- times the number of rules that are at least as long as the longest that does
 pub record LooksForRules (rules : List PlacedRule) (old new : ViewValue) : Type 0 where
   pub all : LooksAtMost old new (2 * length old.text * length rules)
-  pub tried : (placed : PlacedRule) → Contains rules placed → Matches placed.rule.0 old.text
+  pub tried : (placed : PlacedRule) → IsLongestMatch rules old.text placed
       → LooksAtMost old new (2 * length old.text * as_long_as placed rules)

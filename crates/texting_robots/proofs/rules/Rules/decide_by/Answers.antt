@@ -1,14 +1,13 @@
 use Rattle.std.proofs.Common.{true, List, inr, slice_index_or, string_bytes, sym, ap, subst}
 use Rattle.std.specs.List.{Contains}
 use Rattle.std.proofs.lemmas.Bool.{iff_false}
-use Rattle.std.proofs.lemmas.List.{get_or_read}
+use Rattle.std.proofs.lemmas.List.{get_or_read, length-map}
 use Rattle.texting_robots.specs.declared.rules.Entry.{Entry}
 use Rattle.texting_robots.specs.Steps.Entries.{no_entry, placed_at, rules_in}
 use Rattle.texting_robots.specs.Decision.{IsDecidingRule}
 use Rattle.texting_robots.specs.Rules.{PlacedRule, unplaced}
 use Rattle.texting_robots.specs.Verdict.{IsVerdict}
-use Rattle.texting_robots.proofs.FirstLemmas.{at_most_more, first_decides, first_line}
-use Rattle.texting_robots.proofs.FirstLemmas.{first_tried, none_stands}
+use Rattle.texting_robots.proofs.FirstLemmas.{first_decides, first_line, first_looks, none_stands}
 use Rattle.texting_robots.proofs.BestLemmas.{none_denies}
 use Rattle.texting_robots.proofs.rules.Rules.decide_by.Goals as goal
 
@@ -39,15 +38,10 @@ returns-in-Some-clause-line g c =
       ap (λ (e : Entry). e.line) (sym is),
     )
 
-pub returns-in-Some-clause-tried : goal.returns-in-Some-clause-tried
-returns-in-Some-clause-tried g c = λ placed stands matches.
-    let all = c.self.inside.gathered in
-    let text = (g.A.Asked.seen c.args.asked.now).text in
-    let there = rw (← c.self.view_is) at stands in
-    let few =
-    first_tried all c.self.invariant.0 c.self.invariant.1 text c.in-Some.at c.in-Some.ensures.some placed
-    there matches in
-    rw (← c.self.view_is) (at_most_more _ _ _ _ few c.in-Some.ensures.looks)
+pub returns-in-Some-clause-looks : goal.returns-in-Some-clause-looks
+returns-in-Some-clause-looks g c =
+    rw (← c.self.view_is) (first_looks c.self.inside.gathered c.self.invariant.0 c.self.invariant.1 _ _
+    c.in-Some.at c.in-Some.ensures.some c.in-Some.ensures.looks)
 
 pub returns-in-None-clause-verdict : goal.returns-in-None-clause-verdict
 returns-in-None-clause-verdict g c =
@@ -63,8 +57,10 @@ returns-in-None-clause-line g c =
     none placed (subst (λ (rules : List PlacedRule). Contains rules placed) (sym c.self.view_is) stands)
     matches)
 
-pub returns-in-None-clause-tried : goal.returns-in-None-clause-tried
-returns-in-None-clause-tried g c = λ placed stands matches.
+pub returns-in-None-clause-looks : goal.returns-in-None-clause-looks
+returns-in-None-clause-looks g c =
     let none = none_stands c.self.inside.gathered c.self.invariant.0 _ c.in-None.ensures.none in
-    let there = subst (λ (rules : List PlacedRule). Contains rules placed) (sym c.self.view_is) stands in
-    absurd (none placed there matches)
+    rw (← c.self.view_is) (record {
+      all = rw length-map c.in-None.ensures.looks;
+      tried = λ placed is. absurd (none placed is.listed is.matches);
+    })
