@@ -8,7 +8,7 @@ use Rattle.std.proofs.lemmas.Bool.{cases_Bool, cases_lt, cases_order, eqb-false,
 use Rattle.std.proofs.lemmas.List.{get_or-map, length-map}
 use Rattle.std.proofs.lemmas.List.Elements.{All-cons, All-contains, All-nil}
 use Rattle.std.proofs.lemmas.Slice.Eq.{bytes_eq-Decides}
-use Rattle.texting_robots.specs.Decision.{IsDecidingRule, IsDecidingLine, IsLongestMatch}
+use Rattle.texting_robots.specs.Decision.{IsBetter, IsDecidingRule, IsDecidingLine}
 use Rattle.texting_robots.specs.Pattern.{IsSuffix, Matches, MatchesWith, dollar, star}
 use Rattle.texting_robots.specs.Rules.{PlacedRule, Rule, unplaced}
 use Rattle.texting_robots.specs.Steps.Entries.{rank}
@@ -135,11 +135,12 @@ pub longer : (first second : PlacedRule) → IsPreferred first second
     → length second.rule.0 ≤ length first.rule.0
 longer first second is = no_longer _ _ first.rule.1 second.rule.1 is.higher
 
--- and allows if the other does, where they are as long
-allows_too : (n : ℕ) (a b : Bool) → rank n b ≤ rank n a → b ≡ true → a ≡ true
-allows_too n true b h is = refl
-allows_too n false true h is = absurd (omega arith)
-allows_too n false false h is = is
+better_isnt_after : (first second : PlacedRule) → IsPreferred first second → ¬ IsBetter second first
+better_isnt_after first second is (inl more) = let most = longer first second is in omega arith
+better_isnt_after first second is (inr (same, inl (allows, denies))) =
+    let high = rw (allows, denies) at is.higher in omega arith
+better_isnt_after first second is (inr (same, inr (kinds, sooner))) =
+    let after = is.earlier (rw (same, kinds) refl) in omega arith
 
 -- this rule matches, and is preferred to each that matches
 abbrev pub IsAbove : List ℕ → PlacedRule → PlacedRule → Type 0
@@ -152,54 +153,46 @@ pub record IsBest (rules : List PlacedRule) (text : List ℕ) (placed : PlacedRu
 
 pub best_decides : (rules : List PlacedRule) (text : List ℕ) (placed : PlacedRule)
     → IsBest rules text placed → IsDecidingRule rules text placed
-best_decides rules text placed is =
-    let above = λ (other : PlacedRule) (listed : Contains rules other).
-    All-contains (IsAbove text placed) rules other is.best listed in
-    let long = λ (other : PlacedRule) (l : IsLongestMatch rules text other).
-    (let more = longer placed other (above other l.listed l.matches) in
-    let least = l.longest placed is.listed is.matches in
-    let same : length other.rule.0 ≡ length placed.rule.0 = omega arith in same) in
-    record {
-      is_longest = record {
-        listed = is.listed;
-        matches = is.matches;
-        longest = λ other listed matches. longer placed other (above other listed matches);
-      };
-      allows = λ other l. allows_too (length placed.rule.0) placed.rule.1 other.rule.1
-          (rw (long other l) at (above other l.listed l.matches).higher);
-      first = λ other l kinds.
-          (above other l.listed l.matches).earlier (rw (long other l, kinds) refl);
-    }
+best_decides rules text placed is = record {
+  listed = is.listed;
+  matches = is.matches;
+  best = λ other listed matches. better_isnt_after placed other
+      (All-contains (IsAbove text placed) rules other is.best listed matches);
+}
+
+-- the rule that decides is as long as each that matches
+pub deciding_longest : (rules : List PlacedRule) (text : List ℕ) (placed other : PlacedRule)
+    → IsDecidingRule rules text placed → Contains rules other → Matches other.rule.0 text
+    → length other.rule.0 ≤ length placed.rule.0
+deciding_longest rules text placed other decides listed matches =
+    elim (cases_lt (length placed.rule.0) (length other.rule.0)) [
+      | inl less ↦ absurd (decides.best other listed matches (inl less))
+      | inr most ↦ most
+    ]
 
 -- the rule that decides gives the verdict
 pub verdict_by : (rules : List PlacedRule) (text : List ℕ) (placed : PlacedRule) (answer : Bool)
     → IsDecidingRule rules text placed → placed.rule.1 ≡ answer → text ≢ robots_file
     → IsVerdict (unplaced rules) text answer
 verdict_by rules text placed true decides allow other = λ (_, p, stands, matches, longest).
-    let is = decides.is_longest in
     let (found, listed, rule) = placed_of rules (p, false) stands in
-    let most = rw rule at (is.longest found listed (rw rule matches)) in
-    let less = longest placed.rule.0 (rw (sym allow) (unplaced_of rules placed is.listed)) is.matches in
-    omega arith
-verdict_by rules text placed false decides deny other =
-    let is = decides.is_longest in (
-      other,
-      placed.rule.0,
-      rw (sym deny) (unplaced_of rules placed is.listed),
-      is.matches,
-      λ q stands matches.
-          let (found, listed, rule) = placed_of rules (q, true) stands in
-          let fits : Matches found.rule.0 text = rw rule matches in
-          let most = rw rule at (is.longest found listed fits) in
-          elim (cases_lt (length q) (length placed.rule.0)) [
-            | inl less ↦ less
-            | inr more ↦ absurd (false≢true (sym deny ∙ decides.allows found (record {
-              listed = listed;
-              matches = fits;
-              longest = λ third l m. rw rule (omega (arith, is.longest third l m));
-            }) (ap (λ (r : Rule). r.1) rule)))
-          ],
-    )
+    let less =
+    longest placed.rule.0 (rw (sym allow) (unplaced_of rules placed decides.listed)) decides.matches in
+    decides.best found listed (rw rule matches) (inl (rw rule less))
+verdict_by rules text placed false decides deny other = (
+  other,
+  placed.rule.0,
+  rw (sym deny) (unplaced_of rules placed decides.listed),
+  decides.matches,
+  λ q stands matches.
+      let (found, listed, rule) = placed_of rules (q, true) stands in
+      let worse = decides.best found listed (rw rule matches) in
+      elim (cases_order (length q) (length placed.rule.0)) [
+        | inl same ↦ absurd (worse (inr (rw rule same, inl (ap (λ (r : Rule). r.1) rule, deny))))
+        | inr (inl less) ↦ less
+        | inr (inr more) ↦ absurd (worse (inl (rw rule more)))
+      ],
+)
 
 -- where no rule matches, the answer is yes
 abbrev pub NoMatch : List PlacedRule → List ℕ → Type 0

@@ -14,12 +14,11 @@ use Rattle.texting_robots.specs.Steps.Entries.{AreEntries, GoesBefore, IsEntryOf
 use Rattle.texting_robots.specs.Steps.Entries.{no_entry, placed_at, rules_in}
 use Rattle.texting_robots.specs.Steps.Pieces.{IsSpan, part_of}
 use Rattle.texting_robots.specs.Decision.{IsDecidingRule, IsLongestMatch, LooksForRules, as_long_as}
-use Rattle.texting_robots.specs.Pattern.{Matches}
 use Rattle.texting_robots.specs.Rules.{PlacedRule, unplaced}
 use Rattle.texting_robots.specs.Verdict.{IsVerdict, robots_file}
 use Rattle.texting_robots.specs.View.{LooksAtMost, ViewValue}
-use Rattle.texting_robots.proofs.BestLemmas.{IsAbove, IsBest, IsPreferred, NoMatch, best_decides, longer}
-use Rattle.texting_robots.proofs.BestLemmas.{rank_of, verdict_by}
+use Rattle.texting_robots.proofs.BestLemmas.{IsAbove, IsBest, IsPreferred, NoMatch, best_decides}
+use Rattle.texting_robots.proofs.BestLemmas.{deciding_longest, longer, rank_of, verdict_by}
 
 count_front : (p : PlacedRule → Bool) (xs : List PlacedRule) (n : ℕ) → n ≤ length xs
     → ((k : ℕ) (d : PlacedRule) → k < n → p (get_or xs k d) ≡ true) → n ≤ count_by p xs
@@ -104,7 +103,7 @@ module _ (all : Gathered) (known : AreEntries all) where
       first_tried : (rule : PlacedRule) → IsLongestMatch (rules_in all) text rule
           → 2 * length text * (at + 1) ≤ 2 * length text * as_long_as rule (rules_in all)
       first_tried rule is =
-          let best = first_line.is_longest.longest rule is.listed is.matches in
+          let best = deciding_longest (rules_in all) text (placed at) rule first_line is.listed is.matches in
           let within = found.0 in
           mul-le-mul_left (2 * length text)
           (count_front (λ (r : PlacedRule). leb (length rule.rule.0) (length r.rule.0)) (rules_in all)

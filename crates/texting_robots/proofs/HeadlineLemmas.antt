@@ -165,7 +165,7 @@ pub deciding_line_holds_its_rule : (agent : List ℕ) (lines : List LineValue) (
     → (placed : PlacedRule) × IsDecidingRule rules text placed × (placed.line ≡ number)
     × (place : ℕ) × (number ≡ place + 1) × HoldsRule agent lines place placed.rule
 deciding_line_holds_its_rule agent lines rules text number are (differs, found, decides, at) =
-    let (place, is, holds) = (are.held found).0 decides.is_longest.listed in
+    let (place, is, holds) = (are.held found).0 decides.listed in
     (found, decides, at, place, sym at ∙ is, holds)
 
 -- a line holds rules of one kind
@@ -184,7 +184,7 @@ pub line_gives_verdict : (agent : List ℕ) (lines : List LineValue) (rules : Li
     (place : ℕ) (rule : Rule) → AreRulesFor agent lines rules → IsDecidingLine rules text (Some (place + 1))
     → HoldsRule agent lines place rule → IsVerdict (unplaced rules) text rule.1
 line_gives_verdict agent lines rules text place rule are (differs, found, decides, at) holds =
-    let (here, is, own) = (are.held found).0 decides.is_longest.listed in
+    let (here, is, own) = (are.held found).0 decides.listed in
     let same : here ≡ place = omega arith in
     verdict_by rules text found rule.1 decides (one_kind agent lines place found.rule rule (rw same at own) holds)
     differs

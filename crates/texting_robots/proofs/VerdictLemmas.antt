@@ -1,13 +1,13 @@
 -- The verdict knows members only.
 use Rattle.std.proofs.Common.{◌≡◌, ◌<◌, ◌⊎◌, zero, suc, length, subst, refl}
 use Rattle.std.proofs.Common.{inl, inr, ℕ, Bool, true, false, List, [], ◌∷◌, ◌++◌}
-use Rattle.std.proofs.Common.{◌↔◌, Option, Some, None, ap, sym, IsPermutation, arith}
+use Rattle.std.proofs.Common.{◌↔◌, Option, Some, None, ap, sym, ◌∙◌, IsPermutation, arith}
 use Rattle.std.specs.List.{Contains}
-use Rattle.std.proofs.lemmas.Bool.{false≢true}
+use Rattle.std.proofs.lemmas.Bool.{cases_Bool, cases_order, false≢true}
 use Rattle.std.proofs.lemmas.List.Elements.{Contains-append_left, Contains-append_right}
 use Rattle.std.proofs.lemmas.List.Elements.{Contains-append_cases, Contains-push_cases}
 use Rattle.std.proofs.lemmas.List.Sorted.{Contains-permutation, IsPermutation-map, IsPermutation-sym}
-use Rattle.texting_robots.specs.Decision.{IsDecidingLine, IsLongestMatch}
+use Rattle.texting_robots.specs.Decision.{IsBetter, IsDecidingLine, IsLongestMatch}
 use Rattle.texting_robots.specs.Rules.{PlacedRule, Rule, unplaced}
 use Rattle.texting_robots.specs.Verdict.{IsDenied, IsVerdict}
 use Rattle.std.proofs.Common.{◌≢◌}
@@ -133,18 +133,17 @@ deciding_permuted rules others text None same is = elim is [
   | inr none ↦ inr (λ placed listed.
       none placed (Contains-permutation others rules placed (IsPermutation-sym rules others same) listed))
 ]
-deciding_permuted rules others text (Some line) same (differs, placed, decides, at) =
-    let back = λ (other : PlacedRule). longest_permuted others rules text other
-    (IsPermutation-sym rules others same) in (
-      differs,
-      placed,
-      record {
-        is_longest = longest_permuted rules others text placed same decides.is_longest;
-        allows = λ other is. decides.allows other (back other is);
-        first = λ other is. decides.first other (back other is);
-      },
-      at,
-    )
+deciding_permuted rules others text (Some line) same (differs, placed, decides, at) = (
+  differs,
+  placed,
+  record {
+    listed = Contains-permutation rules others placed same decides.listed;
+    matches = decides.matches;
+    best = λ other listed. decides.best other
+        (Contains-permutation others rules other (IsPermutation-sym rules others same) listed);
+  },
+  at,
+)
 
 -- a robot with the rules of a file, in any order, gives the verdicts of the file, by the same lines
 pub same_verdicts : (rules others : List PlacedRule) → IsPermutation rules others
@@ -171,11 +170,33 @@ same_bool true b to back = sym (to refl)
 same_bool false true to back = back refl
 same_bool false false to back = refl
 
+kind_not_better : (one other : PlacedRule) → length one.rule.0 ≡ length other.rule.0 → ¬ IsBetter one other
+    → one.rule.1 ≡ true → other.rule.1 ≡ true
+kind_not_better one other same not allows = elim (cases_Bool other.rule.1) [
+  | inl too ↦ too
+  | inr denies ↦ absurd (not (inr (same, inl (allows, denies))))
+]
+
+-- of two rules, neither of which is better, one line is given
+same_line : (one other : PlacedRule) → ¬ IsBetter one other → ¬ IsBetter other one → one.line ≡ other.line
+same_line one other not nor = elim (cases_order (length one.rule.0) (length other.rule.0)) [
+  | inr (inl less) ↦ absurd (nor (inl less))
+  | inr (inr more) ↦ absurd (not (inl more))
+  | inl same ↦
+      let kinds = same_bool one.rule.1 other.rule.1 (kind_not_better one other same not)
+      (kind_not_better other one (sym same) nor) in
+      elim (cases_order one.line other.line) [
+        | inl at ↦ at
+        | inr (inl sooner) ↦ absurd (not (inr (same, inr (kinds, sooner))))
+        | inr (inr later) ↦ absurd (nor (inr (sym same, inr (sym kinds, later))))
+      ]
+]
+
 none_decides : (rules : List PlacedRule) (text : List ℕ) (line : ℕ) → IsDecidingLine rules text None
     → ¬ (IsDecidingLine rules text (Some line))
 none_decides rules text line none (differs, placed, decides, at) = elim none [
   | inl file ↦ differs file
-  | inr nothing ↦ nothing placed decides.is_longest.listed decides.is_longest.matches
+  | inr nothing ↦ nothing placed decides.listed decides.matches
 ]
 
 -- rules have one verdict on a text
@@ -192,9 +213,6 @@ one_line_decides rules text None None one two = refl
 one_line_decides rules text None (Some line) one two = absurd (none_decides rules text line one two)
 one_line_decides rules text (Some line) None one two = absurd (none_decides rules text line two one)
 one_line_decides rules text (Some line) (Some other) (_, a, first, at) (_, b, second, there) =
-    let kinds = same_bool a.rule.1 b.rule.1 (second.allows a first.is_longest)
-    (first.allows b second.is_longest) in
-    let less = first.first b second.is_longest (sym kinds) in
-    let more = second.first a first.is_longest kinds in
-    let same : line ≡ other = omega arith in
-    ap (λ n. Some n) same
+    let same = same_line a b (second.best a first.listed first.matches)
+    (first.best b second.listed second.matches) in
+    ap (λ n. Some n) (sym at ∙ same ∙ there)

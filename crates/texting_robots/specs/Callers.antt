@@ -20,8 +20,9 @@ pub use Rattle.texting_robots.specs.{Address.robots_address, Address.robots_addr
 pub use Rattle.texting_robots.specs.{Prepared.prepared, Prepared.target_of, Order.IsBefore, Order.pattern_cmp}
 -- verdicts
 pub use Rattle.texting_robots.specs.Verdict.{IsDenied, IsVerdict, robots_file}
-pub use Rattle.texting_robots.specs.Decision.{IsDecidingRule, IsDecidingLine, IsLongestMatch, LooksForRules}
-pub use Rattle.texting_robots.specs.{Decision.as_long_as, View.LooksAtMost, View.ViewValue, View.seen_of}
+pub use Rattle.texting_robots.specs.Decision.{IsBetter, IsDecidingRule, IsDecidingLine, IsLongestMatch}
+pub use Rattle.texting_robots.specs.Decision.{LooksForRules, as_long_as}
+pub use Rattle.texting_robots.specs.View.{LooksAtMost, ViewValue, seen_of}
 pub use Rattle.texting_robots.specs.Headline.{IsAnswerOf}
 -- errors
 pub use Rattle.url.specs.Parser.{GivesBy}

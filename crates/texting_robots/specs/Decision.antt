@@ -1,5 +1,5 @@
 -- Which line decides, and the looks that this takes.
-use Rattle.std.specs.Prelude.{◌≡◌, ◌≢◌, ◌⊎◌, ℕ, ◌*◌, ◌≤◌, nat_le, true, List}
+use Rattle.std.specs.Prelude.{◌≡◌, ◌≢◌, ◌⊎◌, ℕ, ◌*◌, ◌<◌, ◌≤◌, nat_le, true, false, List}
 use Rattle.std.specs.Prelude.{Option, Some, None, Contains, count_by, length}
 use Rattle.texting_robots.specs.View.{LooksAtMost, ViewValue}
 use Rattle.texting_robots.specs.{Pattern.Matches, Rules.PlacedRule, Verdict.robots_file}
@@ -11,13 +11,21 @@ pub record IsLongestMatch (rules : List PlacedRule) (text : List ℕ) (placed : 
   pub longest : (other : PlacedRule) → Contains rules other → Matches other.rule.0 text
       → length other.rule.0 ≤ length placed.rule.0
 
--- the first Allow among the longest rules that match, or the first Disallow where no Allow is among them
+-- the one rule is longer than the other; or as long, and an Allow against a Disallow; or as long and of the
+-- same kind, in an earlier line
+abbrev pub IsBetter : PlacedRule → PlacedRule → Type 0
+IsBetter one other =
+    (length other.rule.0 < length one.rule.0)
+    ⊎ ((length one.rule.0 ≡ length other.rule.0)
+    × (((one.rule.1 ≡ true) × (other.rule.1 ≡ false))
+    ⊎ ((one.rule.1 ≡ other.rule.1) × (one.line < other.line))))
+
+-- the rule matches the text, and no rule that matches is better
 pub record IsDecidingRule (rules : List PlacedRule) (text : List ℕ) (placed : PlacedRule) : Type 0 where
-  pub is_longest : IsLongestMatch rules text placed
-  pub allows : (other : PlacedRule) → IsLongestMatch rules text other → other.rule.1 ≡ true
-      → placed.rule.1 ≡ true
-  pub first : (other : PlacedRule) → IsLongestMatch rules text other → other.rule.1 ≡ placed.rule.1
-      → placed.line ≤ other.line
+  pub listed : Contains rules placed
+  pub matches : Matches placed.rule.0 text
+  pub best : (other : PlacedRule) → Contains rules other → Matches other.rule.0 text
+      → ¬ IsBetter other placed
 
 -- the line of the rule that decides, or `None` for the robots file and where no rule matches
 abbrev pub IsDecidingLine : List PlacedRule → List ℕ → Option ℕ → Type 0
