@@ -12,6 +12,7 @@ pub mod CountLemmas
 pub mod NameLemmas
 pub mod CapturedLemmas
 pub mod StandingLemmas
+pub mod MarkLemmas
 pub mod RulesLemmas
 pub mod LawLemmas
 pub mod Rfc9309

@@ -3,17 +3,17 @@
 -- the lines of a file
 pub use Rattle.texting_robots.specs.Line.{LineValue, UserAgent, Allow, Disallow, Sitemap, CrawlDelay, Raw}
 pub use Rattle.texting_robots.specs.Line.{AreFileLinesOf, AreLinesOf, HasLines, HoldRangesOf, by_value, nul_as_lf}
-pub use Rattle.texting_robots.specs.{Line.value_in, Delay.IsDelay, Computed.file_lines, Computed.parsed}
+pub use Rattle.texting_robots.specs.{Line.value_in, Delay.IsDelay}
 -- what an agent gets of them
-pub use Rattle.texting_robots.specs.Computed.{delay_for, placed_rules}
-pub use Rattle.texting_robots.specs.Rules.{GivesNothing, IsRefused, PlacedRule, Rule}
-pub use Rattle.texting_robots.specs.Computed.{rules_for, sitemaps_in}
-pub use Rattle.texting_robots.specs.Rules.{unplaced}
 pub use Rattle.texting_robots.specs.Group.{IsCaptured, group_name, is_agent_named}
-pub use Rattle.texting_robots.specs.Rules.{AreRulesFor, HoldsRule}
-pub use Rattle.texting_robots.specs.Computed.{lines_read}
-pub use Rattle.texting_robots.specs.Robot.{RobotValue, AnswerAlike, IsFileRefused, IsRobotOf, IsRobotOfFile, file_limit}
-pub use Rattle.texting_robots.specs.Marks.{Mark, is_named, is_own, mark_by_value, marks_of, standing_of}
+pub use Rattle.texting_robots.specs.Rules.{PlacedRule, Rule, unplaced, AreRulesFor, HoldsRule, IsRefused}
+pub use Rattle.texting_robots.specs.Rules.{AreSitemapsOf, GivesNothing, IsDelayFor}
+pub use Rattle.texting_robots.specs.Robot.{RobotValue, AnswerAlike, IsFileRefused, IsRobotOf, IsRobotOfFile}
+pub use Rattle.texting_robots.specs.Robot.{file_limit}
+pub use Rattle.texting_robots.specs.Marks.{AreMarksOf, Mark, StandsAs, is_named, is_own, mark_by_value, marks_of}
+-- the same, computed
+pub use Rattle.texting_robots.specs.Computed.{parsed, file_lines, lines_read, placed_rules, rules_for}
+pub use Rattle.texting_robots.specs.Computed.{delay_for, sitemaps_in}
 -- URLs, texts and patterns
 pub use Rattle.texting_robots.specs.Pattern.{Matches, MatchesStars, IsOverlong, collapsed}
 pub use Rattle.texting_robots.specs.{Address.robots_address, Address.robots_address_of, Escape.escaped}

@@ -41,8 +41,8 @@ abbrev pub as_long_as : PlacedRule → List PlacedRule → ℕ
 as_long_as placed rules =
     count_by (λ (other : PlacedRule). nat_le (length placed.rule.0) (length other.rule.0)) rules
 
--- the looks taken are at most twice the text's length, times the number of rules; and where some rule matches,
--- times the number of rules that are at least as long as the longest that does
+-- the looks taken are at most twice the text's length, times the number of rules; and where some rule
+-- matches, times the number of rules that are at least as long as the longest that does
 pub record LooksForRules (rules : List PlacedRule) (old new : ViewValue) : Type 0 where
   pub all : LooksAtMost old new (2 * length old.text * length rules)
   pub tried : (placed : PlacedRule) → IsLongestMatch rules old.text placed

@@ -1,11 +1,11 @@
 -- The lines of a file as an agent gets them, for callers.
-use Rattle.std.specs.Prelude.{ℕ, ◌+◌, Bool, true, false, not, ◌||◌, List}
-use Rattle.std.specs.Prelude.{drop, if◌then◌else◌, map, take}
+use Rattle.std.specs.Prelude.{◌≡◌, ◌⊎◌, ℕ, ◌+◌, ◌<◌, Bool, true, false, not, ◌||◌, List}
+use Rattle.std.specs.Prelude.{IsTrue, Some, drop, if◌then◌else◌, map, slice_get, take}
 use Rattle.std.specs.{List.enumerate_from, List.list_any, List.position_or_len, Str.str_to_ascii_lowercase}
 use Rattle.texting_robots.specs.declared.marks.MarkedLine.{MarkedLine}
 use Rattle.texting_robots.specs.declared.marks.Standing.{Standing}
 use Rattle.texting_robots.specs.declared.marks.Standing.TheVariants.{Own, Other, Outside}
-use Rattle.texting_robots.specs.{Group.is_agent, Group.is_agent_named, Group.is_group}
+use Rattle.texting_robots.specs.Group.{IsCaptured, is_agent, is_agent_named, is_group, passes_at}
 use Rattle.texting_robots.specs.{Line.LineValue, Line.by_value}
 use Rattle.texting_robots.specs.Steps.Captured.{is_captured}
 
@@ -15,13 +15,50 @@ pub record Mark : Type 0 where
   pub standing : Standing
   pub line : LineValue
 
+-- ---- where a line stands
+
+-- each rule and each delay stands before both places, or behind both
+abbrev pub AreOneRun : List LineValue → ℕ → ℕ → Type 0
+AreOneRun lines i j =
+    (k : ℕ) → IsTrue (passes_at is_group lines k) → ((k < i) × (k < j)) ⊎ ((i < k) × (j < k))
+
+-- the line at the place is a rule or a delay and is captured; or it is a user-agent line, and one of its run,
+-- with no rule and no delay between, holds the name
+abbrev pub IsInOwnGroup : List ℕ → List LineValue → ℕ → Type 0
+IsInOwnGroup name lines place =
+    (IsTrue (passes_at is_group lines place) × IsCaptured name lines place)
+    ⊎ (IsTrue (passes_at is_agent lines place)
+    × (j : ℕ) × IsTrue (passes_at (is_agent_named name) lines j) × AreOneRun lines place j)
+
+-- the line at the place is a user-agent line; or it is a rule or a delay, and a user-agent line stands before
+abbrev pub IsInGroup : List LineValue → ℕ → Type 0
+IsInGroup lines place =
+    IsTrue (passes_at is_agent lines place)
+    ⊎ (IsTrue (passes_at is_group lines place)
+    × (j : ℕ) × (j < place) × IsTrue (passes_at is_agent lines j))
+
+-- where the line at the place stands to an agent whose group has this name: in its own group, in another, or
+-- in none
+abbrev pub StandsAs : List ℕ → List LineValue → ℕ → Standing → Type 0
+StandsAs name lines place Own = IsInOwnGroup name lines place
+StandsAs name lines place Other = (¬ IsInOwnGroup name lines place) × IsInGroup lines place
+StandsAs name lines place Outside = (¬ IsInOwnGroup name lines place) × (¬ IsInGroup lines place)
+
+-- the marks are those of these lines, in order: each has the number of its line, counted from 1, and where
+-- that line stands
+pub record AreMarksOf (name : List ℕ) (lines : List LineValue) (marks : List Mark) : Type 0 where
+  pub lines_are : map (λ (mark : Mark). mark.line) marks ≡ lines
+  pub each : (place : ℕ) (mark : Mark) → slice_get marks place ≡ Some mark
+      → (mark.number ≡ place + 1) × StandsAs name lines place mark.standing
+
+-- ---- the marks as a list that is computed; the law `each_line_has_its_mark` says that it is the one of
+-- `AreMarksOf`
+
 -- the place of the first rule or delay from this place on, or the end
 abbrev pub next_group : List LineValue → ℕ → ℕ
 next_group lines at = at + position_or_len is_group (drop at lines)
 
--- Where a line, given with its place, stands to an agent whose group has this name. Its own group is the one
--- whose rules and delays are captured. A user-agent line stands in the group that it leads, and a rule or a
--- delay before the first user-agent line in none; nor does a line of another kind stand in a group.
+-- where a line stands, given with its place: a user-agent line stands where the next rule or delay would
 abbrev pub standing_of : List ℕ → List LineValue → ℕ × LineValue → Standing
 standing_of name lines p =
     if not (is_agent p.1 || is_group p.1) then Outside
@@ -35,6 +72,8 @@ mark_at name lines p = record { number = p.0 + 1; standing = standing_of name li
 -- all lines, in order
 abbrev pub marks_of : List ℕ → List LineValue → List Mark
 marks_of name lines = map (mark_at name lines) (enumerate_from 0 lines)
+
+-- ---- of marks and names
 
 -- a marked line by value, wherever its bytes lie
 abbrev pub mark_by_value : MarkedLine → Mark

@@ -11,6 +11,7 @@ ghost use Rattle.texting_robots.specs.Delay.{IsDelay};
 ghost use Rattle.texting_robots.specs.Group.{IsCaptured, group_name};
 ghost use Rattle.texting_robots.specs.Laws.{IsReadAs, IsSameKind, Same, SameButSitemaps, feeds_alone};
 ghost use Rattle.texting_robots.specs.Line.{AreFileLinesOf, AreLinesOf, HoldRangesOf, LineValue, is_raw, is_sitemap};
+ghost use Rattle.texting_robots.specs.Marks.{AreMarksOf, Mark, marks_of};
 ghost use Rattle.texting_robots.specs.Order.{IsBefore, pattern_cmp};
 ghost use Rattle.texting_robots.specs.Computed.{delay_for, file_lines, parsed, placed_rules, rules_for, sitemaps_in};
 ghost use Rattle.texting_robots.specs.Pattern.{IsOverlong, Matches, MatchesWith, collapsed};
@@ -142,6 +143,12 @@ pub fn each_file_has_its_lines()
 pub fn captured_agrees()
     ensures { (name : List ℕ) (lines : List LineValue) (i : ℕ)
         → IsTrue (is_captured name lines i) ↔ IsCaptured name lines i }
+{}
+
+/// Each line has its mark, the one that `marks_of` computes. Whoever reads the contract of `marks::marked_lines` relies on it.
+pub fn each_line_has_its_mark()
+    ensures { (name : List ℕ) (lines : List LineValue) (marks : List Mark)
+        → AreMarksOf name lines marks ↔ marks ≡ marks_of name lines }
 {}
 
 /// The comparison of patterns that `cmp` and `partial_cmp` make says what the order says. Ordered maps and sets of patterns
