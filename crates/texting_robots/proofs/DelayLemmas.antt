@@ -23,7 +23,7 @@ use Rattle.std.proofs.lemmas.List.Sums.{take_while-cons}
 use Rattle.std.proofs.lemmas.Str.Ascii.{lowercase_is}
 use Rattle.texting_robots.specs.Delay.{AtMost, Decimal, IsDelay, IsInfinite, IsNumeral, IsPoint, IsTail}
 use Rattle.texting_robots.specs.Delay.{NamesZero, NamesSeconds, Rounds, Spells, greatest_delay}
-use Rattle.texting_robots.specs.Steps.Delay.{negative_exponent, positive_exponent}
+use Rattle.texting_robots.specs.Delay.{negative_exponent, positive_exponent}
 use Rattle.texting_robots.specs.Steps.Delay.{HasDigits, behind_digits, behind_fraction, delay_behind}
 use Rattle.texting_robots.specs.Steps.Delay.{delay_of, digits_in_front, exponent_of, fraction_in_front}
 use Rattle.texting_robots.specs.Steps.Delay.{is_infinite, is_numeral, is_zero, zero_of, number_of}
@@ -226,15 +226,6 @@ has_digits text n e short =
 
 -- ---- a number's microseconds
 
--- the comparison with either side times a power of ten
-at_most_is : (d : ℕ) (n : Decimal) → AtMost d n
-    ↔ (d * 10 ^ length n.fraction * 10 ^ negative_exponent n
-    ≤ digits_value 10 (n.whole ++ n.fraction) * 10 ^ 6 * 10 ^ positive_exponent n)
-at_most_is d n = elim (cases_Bool (starts_with_minus n.exponent)) [
-  | inl minus ↦ rw minus (λ h. omega (arith, h), λ h. omega (arith, h))
-  | inr plus ↦ rw plus (λ h. omega (arith, h), λ h. omega (arith, h))
-]
-
 pub rounded_rounds : (n : Decimal) → Rounds n (rounded n)
 rounded_rounds n =
     let f = 10 ^ length n.fraction in
@@ -243,9 +234,9 @@ rounded_rounds n =
     let ten : (k : ℕ) → 0 < 10 ^ k = λ k. one-le-pow k 10 (omega arith) in
     let some : 0 < f * g = mul-pos (ten (length n.fraction)) (ten (negative_exponent n)) in
     let at : (d : ℕ) → d ≤ top / (f * g) → AtMost d n =
-    λ d l. (at_most_is d n).1 (rw (mul_assoc d f g) ((le-div_iff_mul-le some).0 l)) in
+    λ d l. rw (mul_assoc d f g) ((le-div_iff_mul-le some).0 l) in
     let back : (d : ℕ) → AtMost d n → d ≤ top / (f * g) =
-    λ d a. (le-div_iff_mul-le some).1 (rw (mul_assoc d f g) at ((at_most_is d n).0 a)) in
+    λ d a. (le-div_iff_mul-le some).1 (rw (mul_assoc d f g) at a) in
     record {
       bound = min-le_right (top / (f * g)) greatest_delay;
       at_most = at (rounded n) (min-le_left (top / (f * g)) greatest_delay);

@@ -14,8 +14,7 @@ use Rattle.std.proofs.lemmas.List.{drop_all, length-append, take-replicate, take
 use Rattle.std.proofs.lemmas.List.Elements.{All-append, All-get_or}
 use Rattle.std.proofs.lemmas.Nat.{div-mul-add, pow-add}
 use Rattle.std.proofs.lemmas.Str.{digit_value_digit}
-use Rattle.texting_robots.specs.Delay.{Decimal, greatest_delay}
-use Rattle.texting_robots.specs.Steps.Delay.{negative_exponent, positive_exponent}
+use Rattle.texting_robots.specs.Delay.{Decimal, greatest_delay, negative_exponent, positive_exponent}
 use Rattle.texting_robots.specs.Steps.Delay.{HasDigits, bounded, places, rounded}
 
 abbrev after : ℕ → List ℕ → ℕ

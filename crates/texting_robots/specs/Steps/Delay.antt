@@ -7,7 +7,7 @@ use Rattle.std.specs.List.{list_all, prefix_len, take_while}
 use Rattle.std.specs.Option.{option_and_then, option_map}
 use Rattle.std.specs.Str.{byte, str_eq_ignore_ascii_case}
 use Rattle.std.specs.Str.Parse.{digits_value, starts_with_minus, without_leading_sign}
-use Rattle.texting_robots.specs.Delay.{Decimal, greatest_delay}
+use Rattle.texting_robots.specs.Delay.{Decimal, greatest_delay, negative_exponent, positive_exponent}
 
 abbrev pub is_infinite : List ℕ → Bool
 is_infinite text = str_eq_ignore_ascii_case text (codes "inf") || str_eq_ignore_ascii_case text
@@ -58,16 +58,6 @@ pub record HasDigits (n : Decimal) : Type 0 where
 
 abbrev pub bounded : ℕ → ℕ
 bounded n = min n greatest_delay
-
--- the exponent where it has no minus, or 0; a number without one has the exponent 0
-abbrev pub positive_exponent : Decimal → ℕ
-positive_exponent n =
-    if starts_with_minus n.exponent then 0 else digits_value 10 (without_leading_sign n.exponent)
-
--- the exponent without its minus where it has one, or 0
-abbrev pub negative_exponent : Decimal → ℕ
-negative_exponent n =
-    if starts_with_minus n.exponent then digits_value 10 (without_leading_sign n.exponent) else 0
 
 -- how many digits, counted from the first, are whole microseconds
 abbrev pub places : Decimal → ℕ
