@@ -17,7 +17,8 @@ abbrev pub IsWhyNotKept : List ℕ → List ℕ → List ℕ → CacheError → 
 IsWhyNotKept agent url file (Url error) = IsNoAddressOrMemory url error
 IsWhyNotKept agent url file (File error) =
     IsOk (robots_address url) × IsMemoryOr (IsFileRefused agent (take file_limit file)) error
-IsWhyNotKept agent url file Memory = IsOk (robots_address url) × (¬ IsFileRefused agent (take file_limit file))
+IsWhyNotKept agent url file Memory = IsOk (robots_address url)
+    × (¬ IsFileRefused agent (take file_limit file))
 
 -- the entries; where there are `MOST` and none has the address, without the first
 abbrev pub with_room : {E : Type 0} → Bool → List E → List E

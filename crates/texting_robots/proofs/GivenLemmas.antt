@@ -1,5 +1,6 @@
 -- The delay and the sitemaps that lines give an agent are those that are computed of them.
-use Rattle.std.proofs.Common.{◌≡◌, ◌↔◌, inl, inr, ℕ, zero, suc, ◌+◌, ◌<◌, ◌≤◌, Bool, true, false}
+use Rattle.std.proofs.Common.{◌≡◌, ◌↔◌, inl, inr, ℕ, zero, suc, ◌+◌, ◌<◌, ◌≤◌}
+use Rattle.std.proofs.Common.{Bool, true, false}
 use Rattle.std.proofs.Common.{cond, List, [], ◌∷◌, Option, Some, None, slice_get}
 use Rattle.std.proofs.Common.{refl, sym, ap, ◌∙◌, arith, subst, add-zero, zero-add}
 use Rattle.std.specs.Prelude.{◌⊎◌, IsTrue, filter}
@@ -51,7 +52,8 @@ first_next P Q None (Some n) step (place, is, least) =
     sooner zero m has = absurd (let k = (step.at m).0 has in cc)
     sooner (suc other) m has = let k = least other m ((step.later other m).0 has) in omega arith
 
-last_behind : (P Q : ℕ → ℕ → Type 0) (here : Option ℕ) (n : ℕ) → Step P Q here → IsLast Q n → IsLast P n
+last_behind : (P Q : ℕ → ℕ → Type 0) (here : Option ℕ) (n : ℕ) → Step P Q here → IsLast Q n
+    → IsLast P n
 last_behind P Q here n step (place, is, greatest) = (suc place, (step.later place n).1 is, before)
   where
     before : (other m : ℕ) → P other m → other ≤ suc place
@@ -71,7 +73,8 @@ last_next P Q (Some h) before (Some n) step (inr (is, none)) = inl (0, (step.at 
     first zero m has = omega arith
     first (suc other) m has = absurd (none other m ((step.later other m).0 has))
 
-first_same : (P Q : ℕ → ℕ → Type 0) (found : Option ℕ) → ((k n : ℕ) → P k n ↔ Q k n) → FirstAt P found
+first_same : (P Q : ℕ → ℕ → Type 0) (found : Option ℕ) → ((k n : ℕ) → P k n ↔ Q k n)
+    → FirstAt P found
     → FirstAt Q found
 first_same P Q None same none = λ k n is. none k n ((same k n).1 is)
 first_same P Q (Some n) same (place, is, least) =
@@ -79,14 +82,16 @@ first_same P Q (Some n) same (place, is, least) =
 
 -- ---- captured delays
 
-a_delay : (line : LineValue) (delay : ℕ) → delay_in line ≡ Some delay → line ≡ CrawlDelay (Some delay)
+a_delay : (line : LineValue) (delay : ℕ) → delay_in line ≡ Some delay
+    → line ≡ CrawlDelay (Some delay)
 a_delay (CrawlDelay (Some d)) delay is = ap (λ (o : Option ℕ). CrawlDelay o) is
 a_delay (CrawlDelay None) delay is = absurd (cc)
 a_delay _ delay is = absurd (let k : ◌≡◌ {A = Option ℕ} None (Some delay) = is in cc)
 
 -- the line at the place is a delay, and passes a test of places
 abbrev DelayAt : (ℕ → Bool) → ℕ → List LineValue → ℕ → ℕ → Type 0
-DelayAt test n lines k delay = (slice_get lines k ≡ Some (CrawlDelay (Some delay))) × (test (n + k) ≡ true)
+DelayAt test n lines k delay = (slice_get lines k ≡ Some (CrawlDelay (Some delay)))
+    × (test (n + k) ≡ true)
 
 abbrev tested : (ℕ → Bool) → ℕ → LineValue → Option ℕ
 tested test n line = cond (test n) (delay_in line) None
@@ -107,7 +112,8 @@ delay_step test n line lines = record {
       (λ is. (is.0, rw same at is.1), λ is. (is.0, rw same is.1));
 }
 
-first_given : (o : Option ℕ) (rest : List ℕ) → slice_get (cons_option o rest) 0 ≡ option_or o (slice_get rest 0)
+first_given : (o : Option ℕ) (rest : List ℕ)
+    → slice_get (cons_option o rest) 0 ≡ option_or o (slice_get rest 0)
 first_given None rest = refl
 first_given (Some n) rest = refl
 
@@ -198,7 +204,8 @@ early lines at agent k delay (is, none) =
 
 last_early : (lines : List LineValue) → LastOf (IsEarlyDelay lines) (delay_before_agents lines)
 last_early lines = elim (cases_Bool (list_any is_agent lines)) [
-  | inl some ↦ rw (some, before_agents lines) (given ((some_passes is_agent lines).0 some) _ (last_before None lines))
+  | inl some ↦ rw (some, before_agents lines)
+      (given ((some_passes is_agent lines).0 some) _ (last_before None lines))
   | inr none ↦ rw none (λ k delay is.
       absurd (false≢true (sym none ∙ (some_passes is_agent lines).1 (is.2, is.4))))
 ]
@@ -222,11 +229,13 @@ is_delay_for agent lines (Some delay) last is early = inl is
 is_delay_for agent lines None (Some delay) none is = inr (none, is)
 is_delay_for agent lines None None none is = (none, is)
 
-one_delay : (lines : List LineValue) (place a b : ℕ) → slice_get lines place ≡ Some (CrawlDelay (Some a))
+one_delay : (lines : List LineValue) (place a b : ℕ)
+    → slice_get lines place ≡ Some (CrawlDelay (Some a))
     → slice_get lines place ≡ Some (CrawlDelay (Some b)) → ◌≡◌ {A = Option ℕ} (Some a) (Some b)
 one_delay lines place a b one two = cc
 
-one_first : (agent : List ℕ) (lines : List LineValue) (a b : ℕ) → IsFirst (IsCapturedDelay agent lines) a
+one_first : (agent : List ℕ) (lines : List LineValue) (a b : ℕ)
+    → IsFirst (IsCapturedDelay agent lines) a
     → IsFirst (IsCapturedDelay agent lines) b → ◌≡◌ {A = Option ℕ} (Some a) (Some b)
 one_first agent lines a b (p, is, least) (q, has, lowest) =
     let low = least q b has in
@@ -234,7 +243,8 @@ one_first agent lines a b (p, is, least) (q, has, lowest) =
     let same : p ≡ q = omega arith in
     one_delay lines q a b (rw same at is.0) has.0
 
-one_last : (lines : List LineValue) (a b : ℕ) → IsLast (IsEarlyDelay lines) a → IsLast (IsEarlyDelay lines) b
+one_last : (lines : List LineValue) (a b : ℕ) → IsLast (IsEarlyDelay lines) a
+    → IsLast (IsEarlyDelay lines) b
     → ◌≡◌ {A = Option ℕ} (Some a) (Some b)
 one_last lines a b (p, is, greatest) (q, has, highest) =
     let low = greatest q b has in
@@ -242,7 +252,8 @@ one_last lines a b (p, is, greatest) (q, has, highest) =
     let same : p ≡ q = omega arith in
     one_delay lines q a b (rw same at is.0) has.0
 
-one_delay_for : (agent : List ℕ) (lines : List LineValue) (one two : Option ℕ) → IsDelayFor agent lines one
+one_delay_for : (agent : List ℕ) (lines : List LineValue) (one two : Option ℕ)
+    → IsDelayFor agent lines one
     → IsDelayFor agent lines two → one ≡ two
 one_delay_for agent lines (Some a) (Some b) (inl one) (inl two) = one_first agent lines a b one two
 one_delay_for agent lines (Some a) (Some b) (inl one) (inr two) = absurd (two.0 one.0 a one.1)
@@ -270,7 +281,9 @@ Lists line (Some sitemap) = ListsSitemap line sitemap
 listed : (line : LineValue) → Lists line (sitemap_in line)
 listed (Sitemap value) = elim (cases_Bool (is_utf8 value)) [
   | inl text ↦ rw text (refl, text)
-  | inr other ↦ rw other (λ sitemap is. false≢true (sym other ∙ let e : value ≡ sitemap = cc in rw e is.1))
+  | inr other ↦ rw other (λ sitemap is.
+      let same : value ≡ sitemap = cc in
+      false≢true (sym other ∙ rw same is.1))
 ]
 listed (UserAgent value) = λ sitemap is. let k = is.0 in cc
 listed (Allow value) = λ sitemap is. let k = is.0 in cc
@@ -294,9 +307,9 @@ one_sitemaps (line ∷ lines) one two (inl (a, later, lists, are, is)) (inl (b, 
     let tails = one_sitemaps lines later rest are have in
     let same : a ≡ b = let k = sym lists.0 ∙ other.0 in cc in
     is ∙ rw (same, tails) (sym has)
-one_sitemaps (line ∷ lines) one two (inl (a, later, lists, are, is)) (inr (none, have)) = absurd (none a lists)
-one_sitemaps (line ∷ lines) one two (inr (none, are)) (inl (b, rest, lists, have, has)) = absurd (none b lists)
-one_sitemaps (line ∷ lines) one two (inr (none, are)) (inr (nothing, have)) = one_sitemaps lines one two are have
+one_sitemaps (line ∷ lines) one two (inl (a, later, lists, are, is)) (inr have) = absurd (have.0 a lists)
+one_sitemaps (line ∷ lines) one two (inr are) (inl (b, rest, lists, have, has)) = absurd (are.0 b lists)
+one_sitemaps (line ∷ lines) one two (inr are) (inr have) = one_sitemaps lines one two are.1 have.1
 
 pub sitemaps_are_computed : (lines : List LineValue) (sitemaps : List (List ℕ))
     → AreSitemapsOf lines sitemaps ↔ sitemaps ≡ sitemaps_in lines

@@ -1,6 +1,8 @@
 -- What the rules that lines hold answer, in whatever order they are listed.
-use Rattle.std.proofs.Common.{◌≡◌, inl, inr, ℕ, ◌+◌, ◌*◌, ◌≤◌, Bool, true, false, cond, List, Option, Some}
-use Rattle.std.proofs.Common.{[], ◌∷◌, None, IsPermutation, Result, Ok, Err, IfErr, IfOk, IsOk, length, map, slice_get, refl, sym}
+use Rattle.std.proofs.Common.{◌≡◌, inl, inr, ℕ, ◌+◌, ◌*◌, ◌≤◌, Bool, true, false}
+use Rattle.std.proofs.Common.{cond, List, Option, Some}
+use Rattle.std.proofs.Common.{[], ◌∷◌, None, IsPermutation, Result, Ok, Err, IfErr, IfOk, IsOk}
+use Rattle.std.proofs.Common.{length, map, slice_get, refl, sym}
 use Rattle.std.proofs.Common.{ap, subst, take, ◌∙◌, arith}
 use Rattle.std.specs.Result.{IsErrAnd}
 use Rattle.std.proofs.lemmas.List.Sorted.{Contains-permutation, IsPermutation-sym}
@@ -11,7 +13,8 @@ use Rattle.texting_robots.specs.Decision.{IsDecidingLine, IsDecidingRule, LooksF
 use Rattle.texting_robots.specs.Error.{IsMemoryOr}
 use Rattle.texting_robots.specs.Headline.{IsAnswerOf}
 use Rattle.texting_robots.specs.Line.{AreFileLinesOf, HasLines, LineValue, Allow, Disallow, nul_as_lf}
-use Rattle.texting_robots.specs.Robot.{AnswerAlike, IsFileRefused, IsRobotOf, IsRobotOfFile, RobotValue, file_limit}
+use Rattle.texting_robots.specs.Robot.{AnswerAlike, IsFileRefused, IsRobotOf, IsRobotOfFile, RobotValue}
+use Rattle.texting_robots.specs.Robot.{file_limit}
 use Rattle.texting_robots.specs.Rules.{AreRulesFor, GivesNothing, HoldsRule, IsRefused, PlacedRule, Rule}
 use Rattle.texting_robots.specs.Rules.{unplaced}
 use Rattle.texting_robots.specs.Steps.Robot.{IsComputedRobot, SomeOverlong}
@@ -29,15 +32,17 @@ use Rattle.texting_robots.proofs.VerdictLemmas.{longest_permuted, same_lines, sa
 looks_permuted : (rules others : List PlacedRule) (old new : ViewValue) → IsPermutation rules others
     → LooksForRules rules old new → LooksForRules others old new
 looks_permuted rules others old new moved looks = record {
-  all = subst (λ n. LooksAtMost old new (2 * length old.text * n)) (sym (length_permutation rules others moved))
-      looks.all;
+  all = subst (λ n. LooksAtMost old new (2 * length old.text * n))
+      (sym (length_permutation rules others moved)) looks.all;
   tried = λ placed is.
       let back = longest_permuted others rules old.text placed (IsPermutation-sym rules others moved) is in
-      let same : as_long_as placed others ≡ as_long_as placed rules = sum_by-IsPermutation _ rules others moved in
+      let same : as_long_as placed others
+      ≡ as_long_as placed rules = sum_by-IsPermutation _ rules others moved in
       subst (λ n. LooksAtMost old new (2 * length old.text * n)) (sym same) (looks.tried placed back);
 }
 
-pub permuted_alike : (rules others : List PlacedRule) → IsPermutation rules others → AnswerAlike rules others
+pub permuted_alike : (rules others : List PlacedRule) → IsPermutation rules others
+    → AnswerAlike rules others
 permuted_alike rules others moved =
     let back = IsPermutation-sym rules others moved in
     record {
@@ -73,7 +78,8 @@ of_lines file P (all, have, is) lines are =
     subst P ((each all).0 have ∙ sym ((each lines).0 are)) is
 
 -- by the lines that are computed
-pub read_robot : (agent file : List ℕ) (robot : RobotValue) → IsRobotOfFile agent (take file_limit file) robot
+pub read_robot : (agent file : List ℕ) (robot : RobotValue)
+    → IsRobotOfFile agent (take file_limit file) robot
     → IsRobotOf agent (lines_read file) robot
 read_robot agent file robot is =
     of_lines _ (λ lines. IsRobotOf agent lines robot) is (lines_read file) (lines_are_read file)
@@ -173,21 +179,23 @@ one_kind : (agent : List ℕ) (lines : List LineValue) (place : ℕ) (rule other
     → HoldsRule agent lines place rule → HoldsRule agent lines place other → rule.1 ≡ other.1
 one_kind agent lines place rule other one two = kinds rule.1 other.1 (sym one.line.0 ∙ two.line.0)
   where
-    kinds : (a b : Bool) → ◌≡◌ {A = Option LineValue} (Some (cond a (Allow one.value) (Disallow one.value)))
+    kinds : (a b : Bool)
+        → ◌≡◌ {A = Option LineValue} (Some (cond a (Allow one.value) (Disallow one.value)))
         (Some (cond b (Allow two.value) (Disallow two.value))) → a ≡ b
     kinds true true same = refl
     kinds true false same = cc
     kinds false true same = cc
     kinds false false same = refl
 
-pub line_gives_verdict : (agent : List ℕ) (lines : List LineValue) (rules : List PlacedRule) (text : List ℕ)
-    (place : ℕ) (rule : Rule) → AreRulesFor agent lines rules → IsDecidingLine rules text (Some (place + 1))
+pub line_gives_verdict : (agent : List ℕ) (lines : List LineValue) (rules : List PlacedRule)
+    (text : List ℕ) (place : ℕ) (rule : Rule) → AreRulesFor agent lines rules
+    → IsDecidingLine rules text (Some (place + 1))
     → HoldsRule agent lines place rule → IsVerdict (unplaced rules) text rule.1
 line_gives_verdict agent lines rules text place rule are (differs, found, decides, at) holds =
     let (here, is, own) = (are.held found).0 decides.listed in
     let same : here ≡ place = omega arith in
-    verdict_by rules text found rule.1 decides (one_kind agent lines place found.rule rule (rw same at own) holds)
-    differs
+    let kind = one_kind agent lines place found.rule rule (rw same at own) holds in
+    verdict_by rules text found rule.1 decides kind differs
 
 pub no_line_allows : (rules : List PlacedRule) (text : List ℕ) → IsDecidingLine rules text None
     → IsVerdict (unplaced rules) text true

@@ -1,7 +1,9 @@
 -- The rules that lines hold are those that `placed_rules` computes, in any order.
-use Rattle.std.proofs.Common.{◌≡◌, ◌≢◌, ◌⊎◌, inl, inr, ℕ, zero, suc, ◌+◌, ◌<◌, Bool, true, false}
+use Rattle.std.proofs.Common.{◌≡◌, ◌≢◌, ◌⊎◌, inl, inr, ℕ, zero, suc, ◌+◌, ◌<◌}
+use Rattle.std.proofs.Common.{Bool, true, false}
 use Rattle.std.proofs.Common.{cond, List, [], ◌∷◌, Option, Some, None, AllPairs, IsPermutation}
-use Rattle.std.proofs.Common.{get_or, length, refl, sym, ap, subst, ◌∙◌, ◌↔◌, arith, swap, zero-add}
+use Rattle.std.proofs.Common.{get_or, length, refl, sym, ap, subst, ◌∙◌, ◌↔◌, arith, swap}
+use Rattle.std.proofs.Common.{zero-add}
 use Rattle.std.specs.List.{All, Any, Contains, cons_option, enumerate_from, filter_map}
 use Rattle.std.specs.Prelude.{filter}
 use Rattle.std.proofs.lemmas.Bool.{cases_Bool, cases_eq}
@@ -9,7 +11,8 @@ use Rattle.std.proofs.lemmas.List.Edits.{Swapped, swapped_from_swap, length-swap
 use Rattle.std.proofs.lemmas.List.Elements.{All-cons, All-nil, All-weaker}
 use Rattle.std.proofs.lemmas.List.Kept.{AllPairs-cons}
 use Rattle.std.proofs.lemmas.List.Sorted.{Contains-permutation, IsPermutation-cons, IsPermutation-keeps}
-use Rattle.std.proofs.lemmas.List.Sorted.{IsPermutation-refl, IsPermutation-remove, IsPermutation-sym, IsPermutation-trans}
+use Rattle.std.proofs.lemmas.List.Sorted.{IsPermutation-refl, IsPermutation-remove, IsPermutation-sym}
+use Rattle.std.proofs.lemmas.List.Sorted.{IsPermutation-trans}
 use Rattle.texting_robots.specs.Computed.{placed_in, placed_rules, rule_in}
 use Rattle.texting_robots.specs.Rules.{PlacedRule, Rule}
 use Rattle.texting_robots.specs.Line.{LineValue, Allow, Disallow}
@@ -46,7 +49,8 @@ one_place rules apart i j d p q same =
 
 -- where a swap of a and b took what is at m from
 abbrev From : ℕ → ℕ → ℕ → ℕ → Type 0
-From a b m k = ((m ≡ a) × (k ≡ b)) ⊎ (((m ≡ b) × (k ≡ a)) ⊎ ((m ≢ a) × (m ≢ b) × (k ≡ m)))
+From a b m k =
+    ((m ≡ a) × (k ≡ b)) ⊎ (((m ≡ b) × (k ≡ a)) ⊎ ((m ≢ a) × (m ≢ b) × (k ≡ m)))
 
 origin : {X : Type 0} (f g : ℕ → X) (a b m : ℕ) → Swapped f g a b → (m ≡ a) ⊎ (m ≢ a)
     → (m ≡ b) ⊎ (m ≢ b) → (k : ℕ) × From a b m k × (g m ≡ f k)
@@ -54,7 +58,8 @@ origin f g a b m s (inl e) y = (b, inl (e, refl), ap g e ∙ s.0)
 origin f g a b m s (inr n) (inl e) = (a, inr (inl (e, refl)), ap g e ∙ s.1)
 origin f g a b m s (inr n) (inr o) = (m, inr (inr (n, o, refl)), s.2 m n o)
 
-apart_swapped : (rules : List PlacedRule) (a b : ℕ) → a < length rules → b < length rules → AreApart rules
+apart_swapped : (rules : List PlacedRule) (a b : ℕ) → a < length rules → b < length rules
+    → AreApart rules
     → AreApart (swap rules a b)
 apart_swapped rules a b p q apart i j d less within same =
     let len = length-swap rules a b in
@@ -86,7 +91,8 @@ later first rules placed (k, below, at) = (suc k, omega arith, at)
 
 -- what isn't the first stands behind it
 behind : (first : PlacedRule) (rules : List PlacedRule) (placed : PlacedRule)
-    → ¬ Contains rules first → ¬ ◌≡◌ {A = PlacedRule} first placed → Contains (first ∷ rules) placed
+    → ¬ Contains rules first → ¬ ◌≡◌ {A = PlacedRule} first placed
+    → Contains (first ∷ rules) placed
     → Contains rules placed
 behind first rules placed isnt other (zero, below, at) = absurd (other at)
 behind first rules placed isnt other (suc k, below, at) = (k, omega arith, at)
@@ -205,7 +211,8 @@ rule_computed agent lines place rule holds =
           ∙ rw (zero-add, at) refl,
     ) in
     let captured = (is_captured_decides name lines place).1 holds.line.1 in
-    let same : ◌≡◌ {A = Rule} (escaped holds.value, rule.1) rule = ap (λ p. (p, rule.1)) (sym holds.pattern) in
+    let same : ◌≡◌ {A = Rule} (escaped holds.value, rule.1) rule =
+    ap (λ p. (p, rule.1)) (sym holds.pattern) in
     found_of placed_in _ (place, line) _
     (kept (λ (p : ℕ × LineValue). is_captured name lines p.0) numbered (place, line) there captured)
     (rw (rule_given holds.value rule.1 holds.utf8, same) refl)

@@ -1,6 +1,8 @@
 -- Each line stands where the definition by places has it.
-use Rattle.std.proofs.Common.{◌≡◌, ◌⊎◌, inl, inr, ℕ, zero, suc, ◌+◌, ◌<◌, ◌≤◌, ◌↔◌, Bool, true, false, not}
-use Rattle.std.proofs.Common.{◌&&◌, ◌||◌, List, [], ◌∷◌, Option, Some, None, slice_get, length, cond}
+use Rattle.std.proofs.Common.{◌≡◌, ◌⊎◌, inl, inr, ℕ, zero, suc, ◌+◌, ◌<◌, ◌≤◌}
+use Rattle.std.proofs.Common.{◌↔◌, Bool, true, false, not}
+use Rattle.std.proofs.Common.{◌&&◌, ◌||◌, List, [], ◌∷◌, Option, Some, None, slice_get}
+use Rattle.std.proofs.Common.{length, cond}
 use Rattle.std.proofs.Common.{drop, take, map, ap, sym, refl, ◌∙◌, arith}
 use Rattle.std.specs.Bool.{Decides}
 use Rattle.std.specs.List.{enumerate_from, list_any, position_or_len}
@@ -47,7 +49,8 @@ taken_decides test lines zero = (λ h. absurd (false≢true h), λ (j, less, h).
 taken_decides test [] (suc n) = (λ h. absurd (false≢true h), λ (j, less, h). absurd (false≢true h))
 taken_decides test (line ∷ lines) (suc n) = at (taken_decides test lines n)
   where
-    from : (((j : ℕ) × (j < n) × (passes_at test lines j ≡ true)) → list_any test (take n lines) ≡ true)
+    from : (((j : ℕ) × (j < n) × (passes_at test lines j ≡ true))
+        → list_any test (take n lines) ≡ true)
         → (j : ℕ) → j < suc n → passes_at test (line ∷ lines) j ≡ true
         → (test line || list_any test (take n lines)) ≡ true
     from later zero less h = or_left _ _ h
@@ -320,11 +323,13 @@ module _ (name : List ℕ) (all : List LineValue) where
   left_lines : (place : ℕ) (lines : List LineValue)
       → map (λ (mark : Mark). mark.line) (left_from place lines) ≡ lines
   left_lines place [] = refl
-  left_lines place (line ∷ lines) = ap (λ (rest : List LineValue). line ∷ rest) (left_lines (place + 1) lines)
+  left_lines place (line ∷ lines) =
+      ap (λ (rest : List LineValue). line ∷ rest) (left_lines (place + 1) lines)
 
   left_each : (place : ℕ) (lines : List LineValue) → drop place all ≡ lines → (k : ℕ) (mark : Mark)
       → slice_get (left_from place lines) k ≡ Some mark → IsMarkAt name all (place + k) mark
-  left_each place [] left k mark at = absurd (let none : ◌≡◌ {A = Option Mark} None (Some mark) = at in cc)
+  left_each place [] left k mark at =
+      absurd (let none : ◌≡◌ {A = Option Mark} None (Some mark) = at in cc)
   left_each place (line ∷ lines) left zero mark at =
       let same : mark_at name all (place, line) ≡ mark = cc in
       let (stands, next) = at_front all place line lines left in

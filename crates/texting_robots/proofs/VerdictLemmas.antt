@@ -170,7 +170,8 @@ same_bool true b to back = sym (to refl)
 same_bool false true to back = back refl
 same_bool false false to back = refl
 
-kind_not_better : (one other : PlacedRule) → length one.rule.0 ≡ length other.rule.0 → ¬ IsBetter one other
+kind_not_better : (one other : PlacedRule) → length one.rule.0 ≡ length other.rule.0
+    → ¬ IsBetter one other
     → one.rule.1 ≡ true → other.rule.1 ≡ true
 kind_not_better one other same not allows = elim (cases_Bool other.rule.1) [
   | inl too ↦ too
@@ -178,7 +179,8 @@ kind_not_better one other same not allows = elim (cases_Bool other.rule.1) [
 ]
 
 -- of two rules, neither of which is better, one line is given
-same_line : (one other : PlacedRule) → ¬ IsBetter one other → ¬ IsBetter other one → one.line ≡ other.line
+same_line : (one other : PlacedRule) → ¬ IsBetter one other → ¬ IsBetter other one
+    → one.line ≡ other.line
 same_line one other not nor = elim (cases_order (length one.rule.0) (length other.rule.0)) [
   | inr (inl less) ↦ absurd (nor (inl less))
   | inr (inr more) ↦ absurd (not (inl more))

@@ -2,7 +2,8 @@
 
 -- the lines of a file
 pub use Rattle.texting_robots.specs.Line.{LineValue, UserAgent, Allow, Disallow, Sitemap, CrawlDelay, Raw}
-pub use Rattle.texting_robots.specs.Line.{AreFileLinesOf, AreLinesOf, HasLines, HoldRangesOf, by_value, nul_as_lf}
+pub use Rattle.texting_robots.specs.Line.{AreFileLinesOf, AreLinesOf, HasLines, HoldRangesOf, by_value}
+pub use Rattle.texting_robots.specs.Line.{nul_as_lf}
 pub use Rattle.texting_robots.specs.{Line.value_in, Delay.IsDelay}
 -- what an agent gets of them
 pub use Rattle.texting_robots.specs.Group.{IsCaptured, group_name, is_agent_named}
@@ -10,7 +11,8 @@ pub use Rattle.texting_robots.specs.Rules.{PlacedRule, Rule, unplaced, AreRulesF
 pub use Rattle.texting_robots.specs.Rules.{AreSitemapsOf, GivesNothing, IsDelayFor}
 pub use Rattle.texting_robots.specs.Robot.{RobotValue, AnswerAlike, IsFileRefused, IsRobotOf, IsRobotOfFile}
 pub use Rattle.texting_robots.specs.Robot.{file_limit}
-pub use Rattle.texting_robots.specs.Marks.{AreMarksOf, Mark, StandsAs, is_named, is_own, mark_by_value, marks_of}
+pub use Rattle.texting_robots.specs.Marks.{AreMarksOf, Mark, StandsAs, is_named, is_own, mark_by_value}
+pub use Rattle.texting_robots.specs.Marks.{marks_of}
 -- the same, computed
 pub use Rattle.texting_robots.specs.Computed.{parsed, file_lines, lines_read, placed_rules, rules_for}
 pub use Rattle.texting_robots.specs.Computed.{delay_for, sitemaps_in}

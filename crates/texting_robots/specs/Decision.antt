@@ -1,5 +1,6 @@
 -- Which line decides, and the looks that this takes.
-use Rattle.std.specs.Prelude.{◌≡◌, ◌≢◌, ◌⊎◌, ℕ, ◌*◌, ◌<◌, ◌≤◌, nat_le, true, false, List}
+use Rattle.std.specs.Prelude.{◌≡◌, ◌≢◌, ◌⊎◌, ℕ, ◌*◌, ◌<◌, ◌≤◌, nat_le}
+use Rattle.std.specs.Prelude.{true, false, List}
 use Rattle.std.specs.Prelude.{Option, Some, None, Contains, count_by, length}
 use Rattle.texting_robots.specs.View.{LooksAtMost, ViewValue}
 use Rattle.texting_robots.specs.{Pattern.Matches, Rules.PlacedRule, Verdict.robots_file}

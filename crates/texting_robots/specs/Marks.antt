@@ -1,5 +1,6 @@
 -- The lines of a file as an agent gets them, for callers.
-use Rattle.std.specs.Prelude.{◌≡◌, ◌⊎◌, ℕ, ◌+◌, ◌<◌, Bool, true, false, not, ◌||◌, List}
+use Rattle.std.specs.Prelude.{◌≡◌, ◌⊎◌, ℕ, ◌+◌, ◌<◌, Bool, true, false, not, ◌||◌}
+use Rattle.std.specs.Prelude.{List}
 use Rattle.std.specs.Prelude.{IsTrue, Some, drop, if◌then◌else◌, map, slice_get, take}
 use Rattle.std.specs.{List.enumerate_from, List.list_any, List.position_or_len, Str.str_to_ascii_lowercase}
 use Rattle.texting_robots.specs.declared.marks.MarkedLine.{MarkedLine}

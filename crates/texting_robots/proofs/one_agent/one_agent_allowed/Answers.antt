@@ -3,7 +3,8 @@ use Rattle.texting_robots.proofs.one_agent.one_agent_allowed.Goals as goal
 
 pub returns-in_err-robot-clause-answer : goal.returns-in_err-robot-clause-answer
 returns-in_err-robot-clause-answer c = λ lines rules file are.
-    unanswered c.args.agent.now _ lines rules _ _ _ file c.from_residual.ensures.1 c.in_err-robot.ensures.refused
+    unanswered c.args.agent.now _ lines rules _ _ _ file c.from_residual.ensures.1
+    c.in_err-robot.ensures.refused
 
 pub returns-clause-answer : goal.returns-clause-answer
 returns-clause-answer c = λ lines rules file are.

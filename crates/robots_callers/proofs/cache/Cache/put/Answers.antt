@@ -17,5 +17,6 @@ returns-in_err-robot-clause-left c = search rules
 
 pub returns-in_err-add-clause-refused : goal.returns-in_err-add-clause-refused
 returns-in_err-add-clause-refused c =
-    let accepted = not_refused c.args.agent.now (take file_limit c.args.file.now) _ c.in_ok-robot.ensures.robot in
+    let accepted =
+    not_refused c.args.agent.now (take file_limit c.args.file.now) _ c.in_ok-robot.ensures.robot in
     search rules
