@@ -8,7 +8,7 @@ use Rattle.texting_robots.specs.declared.parser.statement.Kind.{Kind}
 use Rattle.texting_robots.specs.declared.parser.statement.Kind.TheVariants as kind
 use Rattle.texting_robots.specs.Cut.{Pair}
 use Rattle.texting_robots.specs.Steps.Cut.{cut}
-use Rattle.texting_robots.specs.Statement.{IsStatement, IsTailOf}
+use Rattle.texting_robots.specs.Statement.{IsBehindBlanks, IsBehindColon, IsStatement}
 use Rattle.texting_robots.specs.Steps.Statement.{colon}
 use Rattle.texting_robots.specs.Steps.Statement.{parts_of, statement_of, value_of}
 use Rattle.texting_robots.specs.Group.{is_agent}
@@ -207,10 +207,11 @@ range_of_range : (part middle whole : List ℕ) → IsRangeOf part middle → Is
 range_of_range part middle whole (before, after, is) (first, last, all) =
     (first ++ before, after ++ last, rw (all, is) (simp append_assoc))
 
-tail_range : (tail rest : List ℕ) → IsTailOf tail rest → IsRangeOf tail rest
-tail_range tail rest (blanks, all, inl whole) =
+tail_range : (tail rest : List ℕ) → IsBehindColon tail rest ⊎ IsBehindBlanks tail rest
+    → IsRangeOf tail rest
+tail_range tail rest (inl (blanks, all, whole)) =
     (blanks ++ colon ∷ [], [], rw whole (simp (append_assoc, append-nil)))
-tail_range tail rest (blanks, all, inr (whole, some, plain)) = (blanks, [], rw whole (simp append-nil))
+tail_range tail rest (inr (blanks, all, some, whole, plain)) = (blanks, [], rw whole (simp append-nil))
 
 value_range : (kind : Kind) (value body : List ℕ) → IsStatement kind value body → IsRangeOf value body
 value_range kind value body s =

@@ -1,5 +1,5 @@
 -- A body is a statement of one kind with one value at most: the one that the walk gives.
-use Rattle.std.proofs.Common.{◌≡◌, ◌≢◌, ℕ, ◌<◌, ◌==◌, not, ◌||◌, inl, inr, List, []}
+use Rattle.std.proofs.Common.{◌≡◌, ◌⊎◌, ◌≢◌, ℕ, ◌<◌, ◌==◌, not, ◌||◌, inl, inr, List, []}
 use Rattle.std.proofs.Common.{◌∷◌, ◌++◌, length}
 use Rattle.std.proofs.Common.{take, drop, map, sym, refl, ap, ◌∙◌, arith, rules, cond}
 use Rattle.std.proofs.Common.{if◌then◌else◌, subst}
@@ -21,7 +21,7 @@ use Rattle.texting_robots.specs.declared.parser.statement.Kind.{Kind}
 use Rattle.texting_robots.specs.declared.parser.statement.Kind.TheVariants.{UserAgent, Allow, Disallow}
 use Rattle.texting_robots.specs.declared.parser.statement.Kind.TheVariants.{Sitemap, CrawlDelay}
 use Rattle.texting_robots.specs.Statement.{spellings, IsBlank}
-use Rattle.texting_robots.specs.Statement.{BeginsPlain, IsTailOf, IsStatement}
+use Rattle.texting_robots.specs.Statement.{BeginsPlain, IsBehindBlanks, IsBehindColon, IsStatement}
 use Rattle.texting_robots.specs.Steps.Statement.{space, tab, colon, hash, IsComment}
 use Rattle.texting_robots.specs.Steps.Statement.{skip_blanks, kind_with, kind_by, begins, after_any}
 use Rattle.texting_robots.specs.Steps.Statement.{after_blanks, after_separator, tail_of, tail_as}
@@ -145,11 +145,12 @@ spaced : (rest tail : List ℕ) → BeginsPlain tail
 spaced rest [] plain = (refl, refl)
 spaced rest (b ∷ tail) plain = (kept (b ∷ tail) plain.0, cond-false _ _ _ (ne_eqb b colon plain.1))
 
-tail_found : (tail rest : List ℕ) → IsTailOf tail rest → tail_of rest ≡ Some (skip_blanks tail)
-tail_found tail rest (blanks, all, inl whole) =
+tail_found : (tail rest : List ℕ) → IsBehindColon tail rest ⊎ IsBehindBlanks tail rest
+    → tail_of rest ≡ Some (skip_blanks tail)
+tail_found tail rest (inl (blanks, all, whole)) =
     ap (after_separator rest) (ap skip_blanks whole ∙ skip_front blanks (colon ∷ tail) all)
-tail_found tail rest ([], all, inr (whole, some, plain)) = absurd (some refl)
-tail_found tail rest (b ∷ blanks, all, inr (whole, some, plain)) =
+tail_found tail rest (inr ([], all, some, whole, plain)) = absurd (some refl)
+tail_found tail rest (inr (b ∷ blanks, all, some, whole, plain)) =
     let (same, blanks_alone) = spaced rest tail plain in
     let less : length tail < length rest = omega (arith, ap length whole, length-append blanks tail) in
     let short = lt-ltb (length tail) (length rest) less in
@@ -159,7 +160,8 @@ tail_found tail rest (b ∷ blanks, all, inr (whole, some, plain)) =
 
 -- the rest has a tail, and the walk found it, without the blanks at its front
 abbrev Tailed : List ℕ → List ℕ → Type 0
-Tailed rest found = (tail : List ℕ) × IsTailOf tail rest × (found ≡ skip_blanks tail)
+Tailed rest found =
+    (tail : List ℕ) × (IsBehindColon tail rest ⊎ IsBehindBlanks tail rest) × (found ≡ skip_blanks tail)
 
 -- blanks alone separate what is left from the rest, if there are any
 blanks_found : (rest left found : List ℕ) → Skipped left rest → BeginsPlain left
@@ -172,7 +174,7 @@ blanks_found rest left found (blanks, all, whole, _) plain is =
           let some : blanks ≢ []
           = λ none. omega (arith, less, ap length (whole ∙ ap (λ t. t ++ left) none)) in
           let same : left ≡ found = same_Some _ _ (rw more at is) in
-          (left, (blanks, all, inr (whole, some, plain)), sym same ∙ sym (spaced rest left plain).0)
+          (left, inr (blanks, all, some, whole, plain), sym same ∙ sym (spaced rest left plain).0)
     ]
 
 found_tail : (rest left found : List ℕ) → Skipped left rest → after_separator rest left ≡ Some found
@@ -181,7 +183,7 @@ found_tail rest [] found s is = blanks_found rest [] found s tt is
 found_tail rest (c ∷ left) found s is = elim (cases_Bool (c == colon)) [
   | inl is_colon ↦ (
     left,
-    (s.0, s.1, inl (rw (← eqb-true c colon is_colon) s.2)),
+    inl (s.0, s.1, rw (← eqb-true c colon is_colon) s.2),
     sym (same_Some _ _ (rw is_colon at is)),
   )
   | inr other ↦ blanks_found rest (c ∷ left) found s (s.3, eqb-false c colon other) (rw other at is)

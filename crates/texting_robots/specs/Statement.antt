@@ -23,13 +23,15 @@ abbrev pub BeginsPlain : List ℕ → Type 0
 BeginsPlain [] = Unit {0}
 BeginsPlain (b ∷ text) = (¬ IsBlank b) × (b ≢ byte ":")
 
--- the rest is blanks, a colon and the tail; or one or more blanks and the tail, which begins with no blank
--- and no colon
-abbrev pub IsTailOf : List ℕ → List ℕ → Type 0
-IsTailOf tail rest =
-    (blanks : List ℕ) × Each IsBlank blanks
-    × ((rest ≡ blanks ++ byte ":" ∷ tail)
-    ⊎ ((rest ≡ blanks ++ tail) × (blanks ≢ []) × BeginsPlain tail))
+-- the rest is any number of blanks, a colon and the tail
+abbrev pub IsBehindColon : List ℕ → List ℕ → Type 0
+IsBehindColon tail rest =
+    (blanks : List ℕ) × Each IsBlank blanks × (rest ≡ blanks ++ byte ":" ∷ tail)
+
+-- the rest is one or more blanks and the tail, which begins with no blank and no colon
+abbrev pub IsBehindBlanks : List ℕ → List ℕ → Type 0
+IsBehindBlanks tail rest =
+    (blanks : List ℕ) × Each IsBlank blanks × (blanks ≢ []) × (rest ≡ blanks ++ tail) × BeginsPlain tail
 
 -- the body is a statement of this kind with this value: a spelling of the kind's key stands in it, ASCII
 -- letters in any case, and behind a hash is a comment
@@ -43,7 +45,7 @@ pub record IsStatement (kind : Kind) (value body : List ℕ) : Type 0 where
   pub whole : body ≡ margin ++ (key ++ rest)
   pub margin_blank : Each IsBlank margin
   pub is_key : Contains (spellings kind) (str_to_ascii_lowercase key)
-  pub separated : IsTailOf tail rest
+  pub separated : IsBehindColon tail rest ⊎ IsBehindBlanks tail rest
   pub parted : tail ≡ region ++ comment
   pub no_hash : Each (λ b. b ≢ byte "#") region
   pub is_comment : (comment ≡ []) ⊎ ((text : List ℕ) × (comment ≡ byte "#" ∷ text))

@@ -1,5 +1,5 @@
 -- Empty lines, comments and records that aren't read.
-use Rattle.std.proofs.Common.{◌≡◌, ◌≢◌, inl, inr, ℕ, List, [], ◌∷◌}
+use Rattle.std.proofs.Common.{◌≡◌, ◌⊎◌, ◌≢◌, inl, inr, ℕ, List, [], ◌∷◌}
 use Rattle.std.proofs.Common.{◌++◌, Option, Some, None, map, get_or, sym, refl, ap}
 use Rattle.std.proofs.Common.{◌∙◌, subst, append_assoc, arith}
 use Rattle.std.specs.List.{AllByRecursion as Each, Contains}
@@ -8,7 +8,7 @@ use Rattle.std.proofs.lemmas.Bool.Decides.{nat_tests}
 use Rattle.std.proofs.lemmas.List.{map-append}
 use Rattle.texting_robots.specs.declared.parser.statement.Kind.{Kind}
 use Rattle.texting_robots.specs.Line.{Raw}
-use Rattle.texting_robots.specs.Statement.{IsBlank, IsStatement, IsTailOf}
+use Rattle.texting_robots.specs.Statement.{IsBehindBlanks, IsBehindColon, IsBlank, IsStatement}
 use Rattle.texting_robots.specs.Steps.Statement.{IsComment}
 use Rattle.texting_robots.specs.Steps.Statement.{kind_by, parts_of, skip_blanks, statement_of}
 use Rattle.texting_robots.specs.Rfc9309 as rfc
@@ -100,11 +100,11 @@ low_colon blanks text all =
     (low_blanks blanks all)
 
 -- what stands behind a key stops it
-tail_stops : (tail rest : List ℕ) → IsTailOf tail rest → Stops (low rest)
-tail_stops tail rest (blanks, all, inl whole) =
+tail_stops : (tail rest : List ℕ) → IsBehindColon tail rest ⊎ IsBehindBlanks tail rest → Stops (low rest)
+tail_stops tail rest (inl (blanks, all, whole)) =
     subst Stops (sym (ap low whole ∙ low_colon blanks tail all)) (colon_stops blanks (low tail) all)
-tail_stops tail rest ([], all, inr (whole, some, plain)) = absurd (some refl)
-tail_stops tail rest (b ∷ blanks, all, inr (whole, some, plain)) =
+tail_stops tail rest (inr ([], all, some, whole, plain)) = absurd (some refl)
+tail_stops tail rest (inr (b ∷ blanks, all, some, whole, plain)) =
     subst Stops (sym (ap low whole))
     (λ letter. blank_no_identifier b all.0 (subst rfc.IsIdentifierByte (low_blank b all.0) letter))
 
