@@ -70,7 +70,7 @@ AreFileLinesOf lines text = AreLinesOf lines (map nul_as_lf text)
 abbrev pub HasLines : List ℕ → (List LineValue → Type 0) → Type 0
 HasLines file P = (lines : List LineValue) × AreFileLinesOf lines file × P lines
 
--- ---- where a line's bytes stand
+-- ---- what bytes a line holds
 
 -- the bytes that the line holds, where it holds some
 abbrev pub value_in : LineValue → Option (List ℕ)
@@ -81,7 +81,7 @@ value_in (Sitemap value) = Some value
 value_in (CrawlDelay delay) = None
 value_in (Raw body) = Some body
 
--- the value is a range of the body
+-- the value is a range of the body; where in it a line's value stands is said by `IsStatement`
 abbrev pub IsRangeOf : List ℕ → List ℕ → Type 0
 IsRangeOf value body = (before : List ℕ) × (after : List ℕ) × (body ≡ before ++ (value ++ after))
 

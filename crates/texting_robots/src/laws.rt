@@ -24,8 +24,8 @@ ghost use Rattle.texting_robots.specs.Steps.Cut.{cut};
 ghost use Rattle.texting_robots.specs.Steps.Delay.{delay_of};
 ghost use Rattle.texting_robots.specs.Verdict.{IsVerdict, robots_file};
 
-/// Every input has its lines, and every value in them is a range of the input, but for the `/` of an empty Disallow.
-/// Whoever shows lines with their place in the file relies on it.
+/// Every input has its lines, and every value in them is a range of its line's body, but for the `/` of an empty Disallow.
+/// Whoever shows values relies on it: they are bytes of the input.
 pub fn parse_takes_all()
     ensures { (text : List ℕ) → (lines : List LineValue) × AreLinesOf lines text × HoldRangesOf lines text }
 {}
