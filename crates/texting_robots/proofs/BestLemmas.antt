@@ -1,10 +1,13 @@
--- For each text some rule decides, or none matches; and a pattern matches a text or not.
-use Rattle.std.proofs.Common.{◌≡◌, ◌≢◌, ◌⊎◌, inl, inr, ℕ, zero, suc}
-use Rattle.std.proofs.Common.{◌≤◌, Bool, true, false, ◌==◌, ◌&&◌, List, [], ◌∷◌}
-use Rattle.std.proofs.Common.{◌++◌, length, Option, Some, None, refl, sym, ap, subst, ◌∙◌, arith}
+-- For each text some rule decides, or none matches; and a pattern matches a text or not. Both are computed.
+use Rattle.std.proofs.Common.{◌≡◌, ◌≢◌, ◌⊎◌, inl, inr, ℕ, zero, suc, cond, not, nat_lt}
+use Rattle.std.proofs.Common.{◌≤◌, Bool, true, false, ◌==◌, ◌&&◌, ◌||◌, List, [], ◌∷◌}
+use Rattle.std.proofs.Common.{◌++◌, length, Option, Some, None, option_map, refl, sym, ap, subst, ◌∙◌, arith}
+use Rattle.std.specs.Bool.{Decides, MatchBool}
 use Rattle.std.specs.List.{All, Contains}
 use Rattle.std.specs.Prelude.{bytes_eq}
-use Rattle.std.proofs.lemmas.Bool.{cases_Bool, cases_lt, cases_order, eqb-false, eqb-true, false≢true}
+use Rattle.std.proofs.lemmas.Bool.{cases_Bool, cases_lt, false≢true}
+use Rattle.std.proofs.lemmas.Bool.Decides.{Decides-and, Decides-eqb, Decides-like, Decides-or, nat_tests}
+use Rattle.std.proofs.lemmas.Bool.Decides.{not_from_Decides, when_false, when_true}
 use Rattle.std.proofs.lemmas.List.{get_or-map, length-map}
 use Rattle.std.proofs.lemmas.List.Elements.{All-cons, All-contains, All-nil}
 use Rattle.std.proofs.lemmas.Slice.Eq.{bytes_eq-Decides}
@@ -20,62 +23,69 @@ Either P = P ⊎ (¬ P)
 
 -- ---- matching
 
--- of the ends of a text one has the property, or none has
-abbrev SomeEnd : (List ℕ → Type 0) → List ℕ → Type 0
-SomeEnd P t = (s : List ℕ) × IsSuffix s t × P s
+-- some end of the text passes
+abbrev some_end : (List ℕ → Bool) → List ℕ → Bool
+some_end test [] = test []
+some_end test (x ∷ t) = test (x ∷ t) || some_end test t
 
-end_or_none : (P : List ℕ → Type 0) → ((s : List ℕ) → Either (P s))
-    → (t : List ℕ) → Either (SomeEnd P t)
-end_or_none P decide [] = elim (decide []) [
-  | inl is ↦ inl ([], ([], refl), is)
-  | inr isnt ↦ inr (at isnt)
-]
-  where
-    at : ¬ P [] → ¬ SomeEnd P []
-    at isnt ([], (front, whole), is) = isnt is
-    at isnt (x ∷ s, ([], whole), is) = cc
-    at isnt (x ∷ s, (y ∷ front, whole), is) = cc
-end_or_none P decide (x ∷ t) = elim (decide (x ∷ t)) [
-  | inl is ↦ inl (x ∷ t, ([], refl), is)
-  | inr isnt ↦ elim (end_or_none P decide t) [
-    | inl some ↦ inl (some.0, (x ∷ some.1.0, ap (λ r. x ∷ r) some.1.1), some.2)
-    | inr none ↦ inr (at isnt none)
-  ]
-]
-  where
-    at : ¬ P (x ∷ t) → ¬ SomeEnd P t → ¬ SomeEnd P (x ∷ t)
-    at isnt none (s, ([], whole), is) = isnt (subst P (sym whole) is)
-    at isnt none (s, (y ∷ front, whole), is) =
-        let later : t ≡ front ++ s = cc in none (s, (front, later), is)
+-- the text is empty, and this holds; or the byte stands first, and what follows passes
+abbrev at_end : Bool → List ℕ → Bool
+at_end passes [] = passes
+at_end passes (x ∷ t) = false
 
-pub matches_or_not : (anchors : Bool) (pattern text : List ℕ) → Either (MatchesWith anchors pattern text)
+abbrev behind : ℕ → (List ℕ → Bool) → List ℕ → Bool
+behind b test [] = false
+behind b test (x ∷ t) = (x == b) && test t
+
+-- whether the pattern matches the text, computed
+abbrev pub matches : Bool → List ℕ → List ℕ → Bool
+matches anchors [] t = true
+matches anchors (b ∷ q) t =
+    cond (b == star) (some_end (matches anchors q) t)
+    (cond (anchors && (b == dollar)) (at_end (matches anchors q []) t) (behind b (matches anchors q) t))
+
+module _ (P : List ℕ → Type 0) (test : List ℕ → Bool) (each : (t : List ℕ) → Decides (test t) (P t)) where
+  some_end_decides : (t : List ℕ) → Decides (some_end test t) ((s : List ℕ) × IsSuffix s t × P s)
+  some_end_decides [] = Decides-like _ (λ is. ([], ([], refl), is)) only (each [])
+    where
+      only : (s : List ℕ) × IsSuffix s [] × P s → P []
+      only ([], (front, whole), is) = is
+      only (x ∷ s, ([], whole), is) = cc
+      only (x ∷ s, (y ∷ front, whole), is) = cc
+  some_end_decides (x ∷ t) = Decides-like _ there back (Decides-or _ _ (each (x ∷ t)) (some_end_decides t))
+    where
+      there : P (x ∷ t) ⊎ ((s : List ℕ) × IsSuffix s t × P s) → (s : List ℕ) × IsSuffix s (x ∷ t) × P s
+      there (inl is) = (x ∷ t, ([], refl), is)
+      there (inr (s, (front, whole), is)) = (s, (x ∷ front, ap (λ r. x ∷ r) whole), is)
+
+      back : (s : List ℕ) × IsSuffix s (x ∷ t) × P s → P (x ∷ t) ⊎ ((s : List ℕ) × IsSuffix s t × P s)
+      back (s, ([], whole), is) = inl (subst P (sym whole) is)
+      back (s, (y ∷ front, whole), is) = let later : t ≡ front ++ s = cc in inr (s, (front, later), is)
+
+  at_end_decides : (t : List ℕ)
+      → Decides (at_end (test []) t) ((s : List ℕ) × ((t ≡ []) × (s ≡ [])) × P s)
+  at_end_decides [] = Decides-like _ (λ is. ([], (refl, refl), is))
+      (λ (s, (none, empty), is). subst P empty is) (each [])
+  at_end_decides (x ∷ t) = (λ is. cc, λ (s, (none, empty), is). cc)
+
+  behind_decides : (b : ℕ) (t : List ℕ)
+      → Decides (behind b test t) ((s : List ℕ) × (t ≡ b ∷ s) × P s)
+  behind_decides b [] = (λ is. cc, λ (s, none, is). cc)
+  behind_decides b (x ∷ t) = Decides-like _ (λ (same, is). (t, ap (λ y. y ∷ t) same, is))
+      (λ (s, whole, is). let first : x ≡ b = cc in let rest : s ≡ t = cc in (first, subst P rest is))
+      (Decides-and _ _ (Decides-eqb x b) (each t))
+
+pub matches_decides : (anchors : Bool) (pattern text : List ℕ)
+    → Decides (matches anchors pattern text) (MatchesWith anchors pattern text)
 unfolding MatchesWith
-matches_or_not anchors [] t = inl tt
-matches_or_not anchors (b ∷ q) t = elim (cases_Bool (b == star)) [
-  | inl stars ↦ rw stars (end_or_none (MatchesWith anchors q) (matches_or_not anchors q) t)
+matches_decides anchors [] t = (λ _. tt, λ _. refl)
+matches_decides anchors (b ∷ q) t = elim (cases_Bool (b == star)) [
+  | inl stars ↦ rw stars (some_end_decides _ _ (matches_decides anchors q) t)
   | inr plain ↦ rw plain (elim (cases_Bool (anchors && (b == dollar))) [
-    | inl ends ↦ rw ends (at_end t (matches_or_not anchors q []))
-    | inr other ↦ rw other (byte t (matches_or_not anchors q))
+    | inl ends ↦ rw ends (at_end_decides _ _ (matches_decides anchors q) t)
+    | inr other ↦ rw other (behind_decides _ _ (matches_decides anchors q) b t)
   ])
 ]
-  where
-    at_end : (t : List ℕ) → Either (MatchesWith anchors q [])
-        → Either ((s : List ℕ) × ((t ≡ []) × (s ≡ [])) × MatchesWith anchors q s)
-    at_end [] (inl is) = inl ([], (refl, refl), is)
-    at_end [] (inr isnt) = inr (λ (s, (none, empty), is). isnt (subst (MatchesWith anchors q) empty is))
-    at_end (x ∷ t) is = inr (λ (s, (none, empty), is). cc)
-
-    byte : (t : List ℕ) → ((s : List ℕ) → Either (MatchesWith anchors q s))
-        → Either ((s : List ℕ) × (t ≡ b ∷ s) × MatchesWith anchors q s)
-    byte [] later = inr (λ (s, none, is). cc)
-    byte (x ∷ t) later = elim (cases_Bool (x == b)) [
-      | inr other ↦ inr (λ (s, whole, is). eqb-false x b other (cc))
-      | inl same ↦ elim (later t) [
-        | inl is ↦ inl (t, ap (λ y. y ∷ t) (eqb-true x b same), is)
-        | inr isnt ↦ inr (λ (s, whole, is).
-            let rest : s ≡ t = cc in isnt (subst (MatchesWith anchors q) rest is))
-      ]
-    ]
 
 -- ---- rules with and without their lines
 
@@ -104,14 +114,23 @@ pub record IsPreferred (first second : PlacedRule) : Type 0 where
   pub higher : rank_of second ≤ rank_of first
   pub earlier : rank_of second ≡ rank_of first → first.line ≤ second.line
 
-one_preferred : (first second : PlacedRule) → IsPreferred first second ⊎ IsPreferred second first
-one_preferred first second = elim (cases_order (rank_of first) (rank_of second)) [
-  | inl same ↦ elim (cases_lt second.line first.line) [
-    | inl later ↦ inr (record { higher = omega arith; earlier = λ _. omega arith })
-    | inr sooner ↦ inl (record { higher = omega arith; earlier = λ _. sooner })
-  ]
-  | inr (inl less) ↦ inr (record { higher = omega arith; earlier = λ same. absurd (omega arith) })
-  | inr (inr more) ↦ inl (record { higher = omega arith; earlier = λ same. absurd (omega arith) })
+-- whether the first is preferred, computed; else the second is
+abbrev prefers : PlacedRule → PlacedRule → Bool
+prefers first second =
+    cond (rank_of first == rank_of second) (not (nat_lt second.line first.line))
+    (nat_lt (rank_of second) (rank_of first))
+
+one_preferred : (first second : PlacedRule)
+    → MatchBool (prefers first second) (IsPreferred first second) (IsPreferred second first)
+one_preferred first second = elim (cases_Bool (prefers first second)) [
+  | inl is ↦ rw is (record {
+    higher = grind (arith, nat_tests);
+    earlier = λ same. grind (arith, nat_tests);
+  })
+  | inr isnt ↦ rw isnt (record {
+    higher = grind (arith, nat_tests);
+    earlier = λ same. grind (arith, nat_tests);
+  })
 ]
 
 preferred_trans : (first second third : PlacedRule) → IsPreferred first second
@@ -204,14 +223,27 @@ none_denies rules text none (other, p, stands, matches, longest) =
     let (found, listed, rule) = placed_of rules (p, false) stands in
     none found listed (rw rule matches)
 
-abbrev Found : List PlacedRule → List ℕ → Type 0
-Found rules text =
-    ((placed : PlacedRule) × IsBest rules text placed)
-    ⊎ All (λ placed. ¬ Matches placed.rule.0 text) rules
+-- the best rule of those that match, computed
+abbrev before : PlacedRule → Option PlacedRule → PlacedRule
+before rule None = rule
+before rule (Some placed) = cond (prefers rule placed) rule placed
 
-best_or_none : (text : List ℕ) (rules : List PlacedRule) → Found rules text
-best_or_none text [] = inr (All-nil (λ placed. ¬ Matches placed.rule.0 text))
-best_or_none text (rule ∷ rules) = at (matches_or_not true rule.rule.0 text) (best_or_none text rules)
+abbrev best_of : List ℕ → List PlacedRule → Option PlacedRule
+best_of text [] = None
+best_of text (rule ∷ rules) =
+    let best = best_of text rules in cond (matches true rule.rule.0 text) (Some (before rule best)) best
+
+abbrev IsFound : List PlacedRule → List ℕ → Option PlacedRule → Type 0
+IsFound rules text None = All (λ placed. ¬ Matches placed.rule.0 text) rules
+IsFound rules text (Some placed) = IsBest rules text placed
+
+best_is : (text : List ℕ) (rules : List PlacedRule) → IsFound rules text (best_of text rules)
+best_is text [] = All-nil (λ placed. ¬ Matches placed.rule.0 text)
+best_is text (rule ∷ rules) = elim (cases_Bool (matches true rule.rule.0 text)) [
+  | inl here ↦ rw here (at ((matches_decides true _ _).0 here) (best_of text rules) (best_is text rules))
+  | inr none ↦ rw none (past (not_from_Decides _ (matches_decides true _ _) none) (best_of text rules)
+      (best_is text rules))
+]
   where
     first : Matches rule.rule.0 text → All (IsAbove text rule) rules → IsBest (rule ∷ rules) text rule
     first here rest = record {
@@ -229,22 +261,60 @@ best_or_none text (rule ∷ rules) = at (matches_or_not true rule.rule.0 text) (
       best = All-cons (IsAbove text placed) rule rules above is.best;
     }
 
-    at : Either (Matches rule.rule.0 text) → Found rules text → Found (rule ∷ rules) text
-    at (inr isnt) (inr none) = inr (All-cons (λ placed. ¬ Matches placed.rule.0 text) rule rules isnt none)
-    at (inr isnt) (inl (placed, is)) = inl (placed, later placed (λ here. absurd (isnt here)) is)
-    at (inl here) (inr none) = inl (rule, first here (λ k d below fits. absurd (none k d below fits)))
-    at (inl here) (inl (placed, is)) = elim (one_preferred rule placed) [
-      | inl before ↦ inl (
-        rule,
-        first here (λ k d below fits.
-            preferred_trans rule placed _ before (is.best k d below fits)),
-      )
-      | inr after ↦ inl (placed, later placed (λ _. after) is)
+    past : ¬ Matches rule.rule.0 text → (best : Option PlacedRule) → IsFound rules text best
+        → IsFound (rule ∷ rules) text best
+    past isnt None none = All-cons (λ placed. ¬ Matches placed.rule.0 text) rule rules isnt none
+    past isnt (Some placed) is = later placed (λ here. absurd (isnt here)) is
+
+    at : Matches rule.rule.0 text → (best : Option PlacedRule) → IsFound rules text best
+        → IsBest (rule ∷ rules) text (before rule best)
+    at here None none = first here (λ k d below fits. absurd (none k d below fits))
+    at here (Some placed) is = elim (cases_Bool (prefers rule placed)) [
+      | inl sooner ↦
+          let above = when_true _ _ sooner (one_preferred rule placed) in
+          rw sooner
+          (first here (λ k d below fits. preferred_trans rule placed _ above (is.best k d below fits)))
+      | inr after ↦ rw after (later placed (λ _. when_false _ _ after (one_preferred rule placed)) is)
     ]
 
 -- ---- the verdict and the line
 
+-- the rule that decides, computed; the verdict that it gives, and its line
+abbrev pub deciding_rule : List PlacedRule → List ℕ → Option PlacedRule
+deciding_rule rules text = cond (bytes_eq text robots_file) None (best_of text rules)
+
+abbrev pub allowed_by : Option PlacedRule → Bool
+allowed_by None = true
+allowed_by (Some placed) = placed.rule.1
+
+abbrev pub line_by : Option PlacedRule → Option ℕ
+line_by found = option_map (λ (placed : PlacedRule). placed.line) found
+
 -- a verdict, and the line that it comes from
+abbrev pub IsAnsweredBy : Option PlacedRule → List PlacedRule → List ℕ → Type 0
+IsAnsweredBy found rules text =
+    IsVerdict (unplaced rules) text (allowed_by found) × IsDecidingLine rules text (line_by found)
+
+pub answered : (rules : List PlacedRule) (text : List ℕ)
+    → IsAnsweredBy (deciding_rule rules text) rules text
+answered rules text = elim (cases_Bool (bytes_eq text robots_file)) [
+  | inl file ↦
+      let same = (bytes_eq-Decides text robots_file).0 file in rw file (λ denied. denied.0 same, inl same)
+  | inr other ↦ rw other (by_best (not_from_Decides _ (bytes_eq-Decides text robots_file) other)
+      (best_of text rules) (best_is text rules))
+]
+  where
+    by_best : text ≢ robots_file → (best : Option PlacedRule) → IsFound rules text best
+        → IsAnsweredBy best rules text
+    by_best differs None none =
+        let nowhere = λ (placed : PlacedRule) (listed : Contains rules placed).
+        All-contains (λ placed. ¬ Matches placed.rule.0 text) rules placed none listed in
+        (none_denies rules text nowhere, inr nowhere)
+    by_best differs (Some placed) is =
+        let decides = best_decides rules text placed is in
+        (verdict_by rules text placed placed.rule.1 decides refl differs, (differs, placed, decides, refl))
+
+-- each text has a verdict and a line that it comes from
 pub record Answered (rules : List PlacedRule) (text : List ℕ) : Type 0 where
   pub allowed : Bool
   pub number : Option ℕ
@@ -252,30 +322,6 @@ pub record Answered (rules : List PlacedRule) (text : List ℕ) : Type 0 where
   pub deciding : IsDecidingLine rules text number
 
 pub each_text_answered : (rules : List PlacedRule) (text : List ℕ) → Answered rules text
-each_text_answered rules text = elim (cases_Bool (bytes_eq text robots_file)) [
-  | inl file ↦
-      let same = (bytes_eq-Decides text robots_file).0 file in
-      record { allowed = true; number = None; verdict = λ denied. denied.0 same; deciding = inl same }
-  | inr other ↦
-      let differs : text ≢ robots_file =
-      λ same. false≢true (sym other ∙ (bytes_eq-Decides text robots_file).1 same) in
-      elim (best_or_none text rules) [
-        | inl (placed, is) ↦
-            let decides = best_decides rules text placed is in
-            record {
-              allowed = placed.rule.1;
-              number = Some placed.line;
-              verdict = verdict_by rules text placed placed.rule.1 decides refl differs;
-              deciding = (differs, placed, decides, refl);
-            }
-        | inr none ↦
-            let nowhere = λ (placed : PlacedRule) (listed : Contains rules placed).
-            All-contains (λ placed. ¬ Matches placed.rule.0 text) rules placed none listed in
-            record {
-              allowed = true;
-              number = None;
-              verdict = none_denies rules text nowhere;
-              deciding = inr nowhere;
-            }
-      ]
-]
+each_text_answered rules text =
+    let is = answered rules text in
+    record { allowed = _; number = _; verdict = is.0; deciding = is.1 }
