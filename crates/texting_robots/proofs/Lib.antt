@@ -36,3 +36,4 @@ pub mod HeldLemmas
 pub mod GivenLemmas
 pub mod HeadlineLemmas
 pub mod BestLemmas
+pub mod ExampleLemmas

@@ -20,5 +20,6 @@ pub mod Rfc9309
 pub mod Laws
 pub mod Headline
 pub mod Computed
+pub mod Examples
 pub mod Callers
 pub mod Steps

@@ -8,6 +8,7 @@ ghost use Rattle.texting_robots.specs.declared.parser.statement.Kind.{Kind};
 ghost use Rattle.texting_robots.specs.Cut.{IsCut, Pair};
 ghost use Rattle.texting_robots.specs.Decision.{IsDecidingRule, IsDecidingLine};
 ghost use Rattle.texting_robots.specs.Delay.{IsDelay};
+ghost use Rattle.texting_robots.specs.Examples as example;
 ghost use Rattle.texting_robots.specs.Group.{IsCaptured, group_name};
 ghost use Rattle.texting_robots.specs.Laws.{IsReadAs, IsSameKind, Same, SameButSitemaps, feeds_alone};
 ghost use Rattle.texting_robots.specs.Line.{AreFileLinesOf, AreLinesOf, HoldRangesOf, LineValue, is_raw, is_sitemap};
@@ -219,4 +220,84 @@ pub fn standard_files_are_read_so()
         → AllZip IsReadAs (rfc.rules_for agent (rfc.merged groups)) (rules_for agent (file_lines text)) }
     ensures once { (text : List ℕ) (groups others : List rfc.Group) → rfc.IsFile groups text
         → rfc.IsFile others text → rfc.merged groups ≡ rfc.merged others }
+{}
+
+/// Worked examples of lines, each a theorem. Whoever reads the definitions sees in `specs/Examples.antt` what they come to.
+pub fn examples_of_lines()
+    ensures line_ends { example.line_ends }
+    ensures lf_before_cr { example.lf_before_cr }
+    ensures last_line { example.last_line }
+    ensures nul { example.nul }
+    ensures byte_order_mark { example.byte_order_mark }
+    ensures misspelled_keys { example.misspelled_keys }
+    ensures separators { example.separators }
+    ensures no_separator { example.no_separator }
+    ensures two_colons { example.two_colons }
+    ensures comments { example.comments }
+    ensures empty_values { example.empty_values }
+    ensures no_number { example.no_number }
+{}
+
+/// Worked examples of delays.
+pub fn examples_of_delays()
+    ensures seconds { example.seconds }
+    ensures rounded_down { example.rounded_down }
+    ensures greatest { example.greatest }
+    ensures minus { example.minus }
+    ensures no_delay { example.no_delay }
+{}
+
+/// Worked examples of groups.
+pub fn examples_of_groups()
+    ensures own_group { example.own_group }
+    ensures two_names { example.two_names }
+    ensures star_group { example.star_group }
+    ensures empty_group { example.empty_group }
+    ensures captured { example.captured }
+    ensures merged_groups { example.merged_groups }
+    ensures no_agents { example.no_agents }
+    ensures values { example.values }
+    ensures raw_in_a_run { example.raw_in_a_run }
+    ensures which_delay { example.which_delay }
+{}
+
+/// Worked examples of patterns.
+pub fn examples_of_patterns()
+    ensures beginning { example.beginning }
+    ensures stars { example.stars }
+    ensures ends { example.ends }
+    ensures star_behind { example.star_behind }
+    ensures dollar_inside { example.dollar_inside }
+    ensures plain_dollar { example.plain_dollar }
+    ensures one_star { example.one_star }
+    ensures overlong { example.overlong }
+    ensures not_overlong { example.not_overlong }
+    ensures order { example.order }
+{}
+
+/// Worked examples of verdicts, with the lines that decide.
+pub fn examples_of_verdicts()
+    ensures longest { example.longest }
+    ensures no_match { example.no_match }
+    ensures tie { example.tie }
+    ensures stars_count { example.stars_count }
+    ensures first_named { example.first_named }
+    ensures robots_file { example.robots_file }
+    ensures empty_allow { example.empty_allow }
+{}
+
+/// Worked examples of prepared texts and of the addresses of robots files.
+pub fn examples_of_urls()
+    ensures prepared_url { example.prepared_url }
+    ensures prepared_path { example.prepared_path }
+    ensures escapes { example.escapes }
+    ensures address { example.address }
+    ensures no_address { example.no_address }
+{}
+
+/// One file from its bytes to its answers.
+pub fn example_of_a_file()
+    ensures lines { example.lines }
+    ensures robot { example.robot }
+    ensures answers { example.answers }
 {}

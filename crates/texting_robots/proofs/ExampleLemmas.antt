@@ -1,0 +1,53 @@
+-- How the worked examples are closed: by tests that compute.
+use Rattle.std.proofs.Common.{◌≡◌, ◌==◌, ℕ, nat_lt, ◌&&◌, Bool, true, false, List, length}
+use Rattle.std.proofs.Common.{get_or, subst, refl}
+use Rattle.std.specs.Bool.{Decides}
+use Rattle.std.proofs.lemmas.Bool.Decides.{Decides-and, Decides-ltb, Decides-eqb, not_from_Decides}
+use Rattle.std.proofs.lemmas.List.Folds.{Any-from_list_any, list_any-from_Any}
+use Rattle.std.specs.List.{Any, list_any}
+use Rattle.texting_robots.specs.Examples.{Answers}
+use Rattle.texting_robots.specs.Held.{HasOverlong}
+use Rattle.texting_robots.specs.Pattern.{IsOverlong, MatchesWith, collapsed, dollar, longest_with_dollar}
+use Rattle.texting_robots.specs.Rules.{PlacedRule}
+use Rattle.texting_robots.proofs.BestLemmas.{allowed_by, answered, deciding_rule, line_by, matches}
+use Rattle.texting_robots.proofs.BestLemmas.{matches_decides}
+
+pub matching : (anchors : Bool) (pattern text : List ℕ) → matches anchors pattern text ≡ true
+    → MatchesWith anchors pattern text
+matching anchors pattern text is = (matches_decides anchors pattern text).0 is
+
+pub not_matching : (anchors : Bool) (pattern text : List ℕ) → matches anchors pattern text ≡ false
+    → ¬ MatchesWith anchors pattern text
+not_matching anchors pattern text isnt = not_from_Decides _ (matches_decides anchors pattern text) isnt
+
+pub answers : (rules : List PlacedRule) (text : List ℕ)
+    → Answers rules text (allowed_by (deciding_rule rules text)) (line_by (deciding_rule rules text))
+answers rules text = let is = answered rules text in record { verdict = is.0; deciding = is.1 }
+
+-- ---- overlong rules
+
+-- some element passes
+any_decides : {X : Type 0} (P : X → Type 0) (test : X → Bool) → ((x : X) → Decides (test x) (P x))
+    → (xs : List X) → Decides (list_any test xs) (Any P xs)
+any_decides P test each xs = (
+  λ is. let (k, x, below, at, here) = Any-from_list_any test xs is in (k, x, below, at, (each x).0 here),
+  λ (k, x, below, at, here). list_any-from_Any test xs (k, x, below, at, (each x).1 here),
+)
+
+abbrev is_overlong : List ℕ → Bool
+is_overlong pattern =
+    list_any (λ b. b == dollar) pattern && nat_lt longest_with_dollar (length (collapsed pattern))
+
+pub overlong_decides : (pattern : List ℕ) → Decides (is_overlong pattern) (IsOverlong pattern)
+overlong_decides pattern =
+    let dollars = any_decides (λ b. b ≡ dollar) (λ b. b == dollar) (λ b. Decides-eqb b dollar) pattern in
+    Decides-and _ _ (
+      λ is.
+          let (k, b, below, at, here) = dollars.0 is in
+          (k, below, subst (λ d. get_or pattern k d ≡ d) here at),
+      λ (k, below, is). dollars.1 (k, dollar, below, is, refl),
+    ) (Decides-ltb longest_with_dollar (length (collapsed pattern)))
+
+pub any_overlong_decides : (rules : List PlacedRule)
+    → Decides (list_any (λ (placed : PlacedRule). is_overlong placed.rule.0) rules) (HasOverlong rules)
+any_overlong_decides rules = any_decides _ _ (λ (placed : PlacedRule). overlong_decides placed.rule.0) rules

@@ -1,0 +1,25 @@
+use Rattle.std.proofs.Common.{refl}
+use Rattle.std.proofs.lemmas.Bool.Decides.{not_from_Decides}
+use Rattle.std.specs.Str.{chars, is_utf8}
+use Rattle.bstr.specs.Trim.{kept_end, kept_start}
+use Rattle.bstr.specs.Utf8.{pieces_from, spans_from}
+use Rattle.texting_robots.specs.{Examples.ferris_rules, Pattern.collapsed}
+use Rattle.texting_robots.specs.Steps.{Cut.cut, Delay.delay_of, Line.line_of, Statement.statement_of}
+use Rattle.texting_robots.proofs.ExampleLemmas.{answers, any_overlong_decides}
+use Rattle.texting_robots.proofs.{HeldLemmas.computed_are, LineLemmas.lines_are}
+use Rattle.texting_robots.proofs.laws.example_of_a_file.Goals as goal
+use lib.Utf8.{encode}
+
+pub returns : goal.returns
+unfolding cut line_of statement_of delay_of kept_end kept_start spans_from pieces_from is_utf8 chars encode
+    collapsed
+returns c = record {
+  lines = lines_are _ _ refl;
+  robot = record {
+    delay = refl;
+    sitemaps = refl;
+    rules = computed_are _ _;
+    accepted = not_from_Decides _ (any_overlong_decides ferris_rules) refl;
+  };
+  answers = (answers _ _, answers _ _, answers _ _);
+}

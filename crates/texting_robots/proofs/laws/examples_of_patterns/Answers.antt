@@ -1,0 +1,31 @@
+use Rattle.std.proofs.Common.{codes, refl}
+use Rattle.std.proofs.lemmas.Bool.Decides.{not_from_Decides}
+use Rattle.texting_robots.specs.{Examples.long, Pattern.collapsed}
+use Rattle.texting_robots.proofs.ExampleLemmas.{matching, not_matching, overlong_decides}
+use Rattle.texting_robots.proofs.OrderLemmas.{less_is_before}
+use Rattle.texting_robots.proofs.laws.examples_of_patterns.Goals as goal
+
+pub returns : goal.returns
+unfolding collapsed
+returns c = record {
+  beginning = (matching _ _ _ refl, matching _ _ _ refl, not_matching _ _ _ refl);
+  stars = (matching _ _ _ refl, matching _ _ _ refl, not_matching _ _ _ refl);
+  ends = (matching _ _ _ refl, not_matching _ _ _ refl, matching _ _ _ refl, not_matching _ _ _ refl);
+  star_behind = (matching _ _ _ refl, not_matching _ _ _ refl);
+  dollar_inside = (not_matching _ _ _ refl, not_matching _ _ _ refl);
+  plain_dollar = (matching _ _ _ refl, not_matching _ _ _ refl);
+  one_star = (refl, refl, refl);
+  overlong = (
+    not_from_Decides _ (overlong_decides (long 4094 (codes "$"))) refl,
+    (overlong_decides (long 4095 (codes "$"))).0 refl,
+  );
+  not_overlong = (
+    not_from_Decides _ (overlong_decides (long 4093 (codes "**$"))) refl,
+    not_from_Decides _ (overlong_decides (long 4095 (codes "b"))) refl,
+  );
+  order = (
+    (less_is_before (codes "/ab") (codes "/a")).0 refl,
+    (less_is_before (codes "/a**") (codes "/a*")).0 refl,
+    (less_is_before (codes "/a") (codes "/b")).0 refl,
+  );
+}

@@ -1,0 +1,379 @@
+-- Worked examples: what the words of the definitions come to for small texts. They are theorems: laws of
+-- `src/laws.rt` promise them, `examples_of_lines` and those below it.
+use Rattle.std.specs.Prelude.{◌≡◌, ◌-◌, ◌^◌, ℕ, Bool, true, false, List, [], ◌∷◌, ◌++◌}
+use Rattle.std.specs.Prelude.{Option, Some, None, Ok, Err, codes, replicate}
+use Rattle.url.specs.declared.error.ParseError.TheVariants.{EmptyHost, RelativeUrlWithoutBase}
+use Rattle.url.specs.declared.error.ParseError.TheVariants.{SetHostOnCannotBeABaseUrl}
+use Rattle.texting_robots.specs.declared.parser.statement.Kind.TheVariants as kind
+use Rattle.texting_robots.specs.{Address.robots_address, Decision.IsDecidingLine, Delay.IsDelay}
+use Rattle.texting_robots.specs.{Escape.escaped, Group.IsCaptured, Held.AreRulesFor, Order.IsBefore}
+use Rattle.texting_robots.specs.Line.{AreFileLinesOf, AreLinesOf, LineValue}
+use Rattle.texting_robots.specs.Line.{UserAgent, Allow, Disallow, Sitemap, CrawlDelay, Raw}
+use Rattle.texting_robots.specs.{Parsed.file_lines, Prepared.prepared, Robot.IsRobotOf, Robot.RobotValue}
+use Rattle.texting_robots.specs.Pattern.{IsOverlong, Matches, MatchesStars, collapsed}
+use Rattle.texting_robots.specs.Rules.{PlacedRule, delay_for, unplaced}
+use Rattle.texting_robots.specs.{Statement.IsStatement, Verdict.IsVerdict}
+
+-- ---- lines
+
+-- CR CR LF is one line end, and LF LF are two
+abbrev pub line_ends : Type 0
+line_ends =
+    AreLinesOf (Raw (codes "a") ∷ Raw (codes "b") ∷ Raw [] ∷ Raw (codes "c") ∷ []) (codes "a\r\r\nb\n\nc")
+
+-- LF CR are two, and each ends an empty line
+abbrev pub lf_before_cr : Type 0
+lf_before_cr = AreLinesOf (Raw [] ∷ Raw [] ∷ []) (codes "\n\r")
+
+-- the last line may have an end or not; an empty text has no line
+abbrev pub last_line : Type 0
+last_line =
+    AreLinesOf (Raw (codes "a") ∷ []) (codes "a\n") × AreLinesOf (Raw (codes "a") ∷ []) (codes "a")
+    × AreLinesOf [] []
+
+-- a NUL ends a line of a file, where the same text, taken as it is, has a line that holds the NUL
+abbrev pub nul : Type 0
+nul =
+    AreFileLinesOf (Disallow (codes "/a") ∷ Allow (codes "/b") ∷ []) (codes "Disallow: /a\r\0Allow: /b")
+    × AreLinesOf (Disallow (codes "/a") ∷ Raw (codes "\0Allow: /b") ∷ []) (codes "Disallow: /a\r\0Allow: /b")
+
+-- a byte order mark in front is dropped, and so is a part of one; elsewhere it isn't
+abbrev pub byte_order_mark : Type 0
+byte_order_mark =
+    AreLinesOf (Allow (codes "/") ∷ []) (0xEF ∷ 0xBB ∷ 0xBF ∷ codes "Allow: /")
+    × AreLinesOf (Allow (codes "/") ∷ []) (0xBB ∷ codes "Allow: /")
+    × AreLinesOf (Raw (0x11 ∷ 0xBF ∷ codes "Allow: /") ∷ []) (0xEF ∷ 0x11 ∷ 0xBF ∷ codes "Allow: /")
+
+-- these misspelled keys are read
+abbrev pub misspelled_keys : Type 0
+misspelled_keys =
+    AreLinesOf
+    (Disallow (codes "/a") ∷ Disallow (codes "/b") ∷ Disallow (codes "/c") ∷ Disallow (codes "/d")
+    ∷ Disallow (codes "/e") ∷ [])
+    (codes "dissallow: /a\ndissalow: /b\ndisalow: /c\ndiasllow: /d\ndisallaw: /e")
+
+-- between key and value stands a colon, blanks, or both; white space around the value is no part of it
+abbrev pub separators : Type 0
+separators =
+    AreLinesOf
+    (Disallow (codes "/a") ∷ Disallow (codes "/b") ∷ Disallow (codes "/c") ∷ Allow (codes "/d") ∷ [])
+    (codes "disallow:/a\ndisallow    /b\nDISALLAW\t:\t/c\t# x\nAllow: /d" ++ 0xC2 ∷ 0xA0 ∷ [])
+
+-- a key without either makes no statement
+abbrev pub no_separator : Type 0
+no_separator =
+    AreLinesOf (Raw (codes "Disallow") ∷ Raw (codes "Disallow#x") ∷ Raw (codes "dissallow/b") ∷ [])
+    (codes "Disallow\nDisallow#x\ndissallow/b")
+
+-- what stands behind the first colon is the value, another colon included
+abbrev pub two_colons : Type 0
+two_colons = IsStatement kind.Disallow (codes "/a:b") (codes "Disallow:/a:b")
+
+-- behind a hash is a comment
+abbrev pub comments : Type 0
+comments =
+    AreLinesOf
+    (UserAgent (codes "SmerBot") ∷ Allow (codes "/path/exception") ∷ CrawlDelay (Some 60000000) ∷ [])
+    (codes "User-Agent: SmerBot\nAllow:    /path/exception   # ONLY THIS IS ALLOWED\n"
+    ++ codes "Crawl-delay : 60 # Very slow delay")
+
+-- an empty Disallow is an Allow of everything, and an empty Allow is just that
+abbrev pub empty_values : Type 0
+empty_values =
+    AreLinesOf (Allow (codes "/") ∷ Allow (codes "/") ∷ Allow [] ∷ [])
+    (codes "Disallow:\nDisallow #/x\nAllow:")
+
+-- a delay that names no number gives the whole line, its comment included
+abbrev pub no_number : Type 0
+no_number = AreLinesOf (Raw (codes "Crawl-delay: wait # x") ∷ []) (codes "Crawl-delay: wait # x")
+
+-- ---- delays
+
+-- seconds are microseconds here
+abbrev pub seconds : Type 0
+seconds =
+    IsDelay (codes "3.14") (Some 3140000) × IsDelay (codes ".5") (Some 500000)
+    × IsDelay (codes "+2.5E1") (Some 25000000)
+
+-- a part of a microsecond is dropped
+abbrev pub rounded_down : Type 0
+rounded_down =
+    IsDelay (codes "1.0000009") (Some 1000000) × IsDelay (codes "0.0000019") (Some 1)
+    × IsDelay (codes "1e-7") (Some 0)
+
+-- no delay is greater than the greatest number of 64 bits
+abbrev pub greatest : Type 0
+greatest =
+    IsDelay (codes "inf") (Some (2 ^ 64 - 1)) × IsDelay (codes "INFINITY") (Some (2 ^ 64 - 1))
+    × IsDelay (codes "18446744073709.551616") (Some (2 ^ 64 - 1))
+
+-- behind a minus zero alone is a delay
+abbrev pub minus : Type 0
+minus =
+    IsDelay (codes "-0") (Some 0) × IsDelay (codes "-1") None × IsDelay (codes "-1e-99") None
+    × IsDelay (codes "-inf") None
+
+-- these are no delays
+abbrev pub no_delay : Type 0
+no_delay =
+    IsDelay [] None × IsDelay (codes ".") None × IsDelay (codes "nan") None × IsDelay (codes "1e") None
+    × IsDelay (codes " 5") None
+
+-- ---- groups
+
+-- a rule with the number of its line
+abbrev pub allow_at : ℕ → List ℕ → PlacedRule
+allow_at line pattern = record { rule = (pattern, true); line = line }
+
+abbrev pub deny_at : ℕ → List ℕ → PlacedRule
+deny_at line pattern = record { rule = (pattern, false); line = line }
+
+-- the lines of the first example of RFC 9309
+abbrev pub simple : List LineValue
+simple = file_lines
+    (codes "User-Agent: *\nDisallow: *.gif$\nDisallow: /example/\nAllow: /publications/\n\n"
+    ++ codes "User-Agent: foobot\nDisallow:/\nAllow:/example/page.html\nAllow:/example/allowed.gif\n\n"
+    ++ codes "User-Agent: barbot\nUser-Agent: bazbot\nDisallow: /example/page.html\n\n"
+    ++ codes "User-Agent: quxbot\n")
+
+-- an agent gets the rules of its group, in whatever letter case it writes its name, and no others
+abbrev pub own_group : Type 0
+own_group =
+    AreRulesFor (codes "FooBot") simple
+    (deny_at 7 (codes "/") ∷ allow_at 8 (codes "/example/page.html")
+    ∷ allow_at 9 (codes "/example/allowed.gif") ∷ [])
+
+-- a group may have two names
+abbrev pub two_names : Type 0
+two_names =
+    AreRulesFor (codes "barbot") simple (deny_at 13 (codes "/example/page.html") ∷ [])
+    × AreRulesFor (codes "bazbot") simple (deny_at 13 (codes "/example/page.html") ∷ [])
+
+-- an agent that no line names gets the rules of the star
+abbrev pub star_group : Type 0
+star_group =
+    AreRulesFor (codes "otherbot") simple
+    (deny_at 2 (codes "*.gif$") ∷ deny_at 3 (codes "/example/") ∷ allow_at 4 (codes "/publications/") ∷ [])
+
+-- one that is named doesn't, even where its own group is empty
+abbrev pub empty_group : Type 0
+empty_group = AreRulesFor (codes "quxbot") simple []
+
+-- by places, counted from 0: a line is captured for the names that lead its group
+abbrev pub captured : Type 0
+captured =
+    IsCaptured (codes "bazbot") simple 12 × ¬ IsCaptured (codes "bazbot") simple 6
+    × ¬ IsCaptured (codes "quxbot") simple 12
+
+-- groups of one name are one group; an empty line ends none, and parts no user-agent line from the next; and
+-- a rule before the first user-agent line is nobody's
+abbrev pub merged_groups : Type 0
+merged_groups =
+    let lines = file_lines
+    (codes "allow: /foo/bar/\nuser-agent: FooBot\ndisallow: /\nallow: /x/\n"
+    ++ codes "user-agent: BarBot\ndisallow: /\nallow: /y/\n\n\nallow: /w/\n"
+    ++ codes "user-agent: BazBot\n\nuser-agent: FooBot\nallow: /z/\ndisallow: /") in
+    AreRulesFor (codes "FooBot") lines
+    (deny_at 3 (codes "/") ∷ allow_at 4 (codes "/x/") ∷ allow_at 14 (codes "/z/") ∷ deny_at 15 (codes "/")
+    ∷ [])
+    × AreRulesFor (codes "BarBot") lines
+    (deny_at 6 (codes "/") ∷ allow_at 7 (codes "/y/") ∷ allow_at 10 (codes "/w/") ∷ [])
+    × AreRulesFor (codes "BazBot") lines (allow_at 14 (codes "/z/") ∷ deny_at 15 (codes "/") ∷ [])
+
+-- without any user-agent line a rule is everybody's
+abbrev pub no_agents : Type 0
+no_agents =
+    AreRulesFor (codes "BobBot") (file_lines (codes "Disallow: /a")) (deny_at 1 (codes "/a") ∷ [])
+
+-- a value that isn't UTF-8 gives no rule, and in a pattern what isn't ASCII is escaped, and a blank
+abbrev pub values : Type 0
+values =
+    AreRulesFor (codes "BobBot")
+    (file_lines
+    (codes "Disallow: /" ++ 0xFF ∷ codes "\nDisallow: /" ++ 0xC3 ∷ 0xA9 ∷ codes "\nDisallow: /a b"))
+    (deny_at 2 (codes "/%C3%A9") ∷ deny_at 3 (codes "/a%20b") ∷ [])
+
+-- a line that is no statement ends no run of user-agent lines, so this delay is that of both
+abbrev pub raw_in_a_run : Type 0
+raw_in_a_run =
+    delay_for (codes "D")
+    (file_lines (codes "User-Agent: D\nCrawl-Delay: -1.25\nUser-Agent: E\nCrawl-Delay: 8"))
+    ≡ Some 8000000
+
+-- of a group's delays the first counts; a group without one has the last before the user-agent lines
+abbrev pub which_delay : Type 0
+which_delay =
+    (delay_for (codes "BobBot") (file_lines (codes "Crawl-Delay: 5\nCrawl-Delay: 6")) ≡ Some 5000000)
+    × (delay_for (codes "BobBot")
+    (file_lines (codes "Crawl-Delay: 1\nCrawl-Delay: 2\nUser-Agent: *\nDisallow: /x")) ≡ Some 2000000)
+
+-- ---- patterns
+
+-- a pattern matches a text that begins so
+abbrev pub beginning : Type 0
+beginning =
+    Matches [] (codes "/x") × Matches (codes "/fish") (codes "/fish/salmon")
+    × ¬ Matches (codes "/fish") (codes "/catfish")
+
+-- a star stands for any bytes, or for none
+abbrev pub stars : Type 0
+stars =
+    Matches (codes "/a*") (codes "/a") × Matches (codes "a*a") (codes "aba")
+    × ¬ Matches (codes "a*a") (codes "a")
+
+-- a dollar stands for the end of the text
+abbrev pub ends : Type 0
+ends =
+    Matches (codes "/*ab*ba$") (codes "/abba") × ¬ Matches (codes "/*ab*ba$") (codes "/aba")
+    × Matches (codes "$") [] × ¬ Matches (codes "$") (codes "/")
+
+-- also before a star
+abbrev pub star_behind : Type 0
+star_behind = Matches (codes "/a$*") (codes "/a") × ¬ Matches (codes "/a$*") (codes "/ab")
+
+-- and before any other byte, so that such a pattern matches nothing
+abbrev pub dollar_inside : Type 0
+dollar_inside = ¬ Matches (codes "/a$b") (codes "/a$b") × ¬ Matches (codes "/a$b") (codes "/a")
+
+-- where a dollar is an ordinary byte, it stands for itself
+abbrev pub plain_dollar : Type 0
+plain_dollar = MatchesStars (codes "/a$") (codes "/a$b") × ¬ MatchesStars (codes "/a$") (codes "/a")
+
+-- of each run of stars one stays
+abbrev pub one_star : Type 0
+one_star =
+    (collapsed (codes "/x***y/") ≡ codes "/x*y/") × (collapsed (codes "**") ≡ codes "*")
+    × (collapsed (codes "/a**$") ≡ codes "/a*$")
+
+-- a slash, so many `a`, and an end
+abbrev pub long : ℕ → List ℕ → List ℕ
+long n end = codes "/" ++ replicate n 97 ++ end
+
+-- 4,096 bytes are no more than a pattern with a dollar may have, and 4,097 are
+abbrev pub overlong : Type 0
+overlong = ¬ IsOverlong (long 4094 (codes "$")) × IsOverlong (long 4095 (codes "$"))
+
+-- of a run of stars one counts, and without a dollar there is no bound
+abbrev pub not_overlong : Type 0
+not_overlong = ¬ IsOverlong (long 4093 (codes "**$")) × ¬ IsOverlong (long 4095 (codes "b"))
+
+-- a longer pattern stands first, all its stars counted; of two that are as long the one with the smaller byte
+abbrev pub order : Type 0
+order =
+    IsBefore (codes "/ab") (codes "/a") × IsBefore (codes "/a**") (codes "/a*")
+    × IsBefore (codes "/a") (codes "/b")
+
+-- ---- verdicts
+
+-- the rules give this answer about the text, and this line decides
+pub record Answers (rules : List PlacedRule) (text : List ℕ) (answer : Bool) (line : Option ℕ) : Type 0 where
+  pub verdict : IsVerdict (unplaced rules) text answer
+  pub deciding : IsDecidingLine rules text line
+
+-- the longest rule that matches decides, as in the second example of RFC 9309
+abbrev pub longest : Type 0
+longest =
+    let rules = allow_at 2 (codes "/example/page/") ∷ deny_at 3 (codes "/example/page/disallowed.gif") ∷ [] in
+    Answers rules (codes "/example/page/disallowed.gif") false (Some 3)
+    × Answers rules (codes "/example/page/other.gif") true (Some 2)
+
+-- where no rule matches, the answer is yes, and no line decides
+abbrev pub no_match : Type 0
+no_match = Answers (deny_at 2 (codes "/foo") ∷ []) (codes "/FOO") true None
+
+-- of two that are as long an Allow decides, also where it stands behind the Disallow
+abbrev pub tie : Type 0
+tie =
+    Answers (deny_at 1 (codes "/a") ∷ allow_at 2 (codes "/a") ∷ []) (codes "/ab") true (Some 2)
+    × Answers (deny_at 1 (codes "/*b") ∷ allow_at 2 (codes "/ab") ∷ []) (codes "/ab") true (Some 2)
+
+-- each star of a run counts
+abbrev pub stars_count : Type 0
+stars_count =
+    Answers (deny_at 1 (codes "/***b") ∷ allow_at 2 (codes "/aab") ∷ []) (codes "/aab") false (Some 1)
+
+-- of several that are as long and of one kind the first is named
+abbrev pub first_named : Type 0
+first_named =
+    Answers (deny_at 1 (codes "/*") ∷ deny_at 2 (codes "/a") ∷ []) (codes "/a") false (Some 1)
+    × Answers (deny_at 1 (codes "/a") ∷ deny_at 2 (codes "/*") ∷ []) (codes "/b") false (Some 2)
+
+-- the robots file is always allowed, by no line
+abbrev pub robots_file : Type 0
+robots_file =
+    let rules = deny_at 1 (codes "/") ∷ [] in
+    Answers rules (codes "/robots.txt") true None × Answers rules (codes "/robots.txt?x") false (Some 1)
+
+-- an empty Allow matches every text, and is shorter than any other rule
+abbrev pub empty_allow : Type 0
+empty_allow = Answers (deny_at 1 (codes "/") ∷ allow_at 2 [] ∷ []) (codes "/x") false (Some 1)
+
+-- ---- URLs and other texts
+
+-- of a URL the path, the query and the fragment stay
+abbrev pub prepared_url : Type 0
+prepared_url =
+    (prepared (codes "https://example.com") ≡ codes "/")
+    × (prepared (codes "http://www.example.com/a/b?c=d&e=f#fragment") ≡ codes "/a/b?c=d&e=f#fragment")
+
+-- a text that is no URL is escaped, and what is escaped in it already stays so; the empty text gives a slash
+abbrev pub prepared_path : Type 0
+prepared_path =
+    (prepared (codes "/" ++ 0xC3 ∷ 0xA1 ∷ []) ≡ codes "/%C3%A1") × (prepared (codes "/%aa") ≡ codes "/%aa")
+    × (prepared [] ≡ codes "/")
+
+-- these bytes are escaped too
+abbrev pub escapes : Type 0
+escapes = escaped (codes "/a b\"<>`") ≡ codes "/a%20b%22%3C%3E%60"
+
+-- the robots file stands at the root of the host, with a port that isn't the scheme's own
+abbrev pub address : Type 0
+address =
+    (robots_address (codes "https://user@example.com:80/x") ≡ Ok (codes "https://example.com:80/robots.txt"))
+    × (robots_address (codes "http://user@example.com:80/x") ≡ Ok (codes "http://example.com/robots.txt"))
+
+-- these have none
+abbrev pub no_address : Type 0
+no_address =
+    (robots_address (codes "ftp://linux-isos.org/") ≡ Err EmptyHost)
+    × (robots_address (codes "mailto:ferris@rust.com") ≡ Err SetHostOnCannotBeABaseUrl)
+    × (robots_address (codes "/rust/v1/index.html") ≡ Err RelativeUrlWithoutBase)
+
+-- ---- one file from its bytes to its answers
+
+abbrev pub ferris_file : List ℕ
+ferris_file =
+    codes "User-Agent: FerrisCrawler\nAllow: /ocean\nDisallow: /rust\nDisallow: /forest*.py\n"
+    ++ codes "Crawl-Delay: 10\nUser-Agent: *\nDisallow: /\nSitemap: https://www.example.com/site.xml"
+
+abbrev pub ferris_lines : List LineValue
+ferris_lines =
+    UserAgent (codes "FerrisCrawler") ∷ Allow (codes "/ocean") ∷ Disallow (codes "/rust")
+    ∷ Disallow (codes "/forest*.py") ∷ CrawlDelay (Some 10000000) ∷ UserAgent (codes "*")
+    ∷ Disallow (codes "/") ∷ Sitemap (codes "https://www.example.com/site.xml") ∷ []
+
+abbrev pub ferris_rules : List PlacedRule
+ferris_rules =
+    allow_at 2 (codes "/ocean") ∷ deny_at 3 (codes "/rust") ∷ deny_at 4 (codes "/forest*.py") ∷ []
+
+abbrev pub ferris_robot : RobotValue
+ferris_robot = record {
+  delay = Some 10000000;
+  sitemaps = codes "https://www.example.com/site.xml" ∷ [];
+  rules = ferris_rules;
+}
+
+-- the file has these lines
+abbrev pub lines : Type 0
+lines = AreFileLinesOf ferris_lines ferris_file
+
+-- the crawler gets this delay, these sitemaps and these rules of them
+abbrev pub robot : Type 0
+robot = IsRobotOf (codes "FerrisCrawler") ferris_lines ferris_robot
+
+-- and the rules answer so
+abbrev pub answers : Type 0
+answers =
+    Answers ferris_rules (codes "/ocean/reef.html") true (Some 2)
+    × Answers ferris_rules (codes "/rust") false (Some 3)
+    × Answers ferris_rules (codes "/forest/tree/snake.py") false (Some 4)
