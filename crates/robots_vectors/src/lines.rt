@@ -161,6 +161,30 @@ const KEYS: &[LinesCase] = &[
     },
 ];
 
+/// The misspelled keys that are read; the fifth stands among the values.
+const MISSPELLED: &[LinesCase] = &[
+    LinesCase {
+        name: "dissallow",
+        text: b"dissallow: /a",
+        lines: &[Line::Disallow(b"/a")],
+    },
+    LinesCase {
+        name: "dissalow",
+        text: b"dissalow: /a",
+        lines: &[Line::Disallow(b"/a")],
+    },
+    LinesCase {
+        name: "disalow",
+        text: b"disalow: /a",
+        lines: &[Line::Disallow(b"/a")],
+    },
+    LinesCase {
+        name: "diasllow",
+        text: b"diasllow: /a",
+        lines: &[Line::Disallow(b"/a")],
+    },
+];
+
 /// What is no part of a value.
 const VALUES: &[LinesCase] = &[
     LinesCase {
@@ -323,6 +347,7 @@ fn texts_have_their_lines(rt: HostRuntime) {
     check_texts(&rt, SIX_LINES);
     check_texts(&rt, MARKS);
     check_texts(&rt, KEYS);
+    check_texts(&rt, MISSPELLED);
     check_texts(&rt, VALUES);
     check_texts(&rt, DELAYS);
 }
