@@ -1,7 +1,7 @@
 -- Worked examples: what the words of the definitions come to for small texts. They are theorems: laws of
 -- `src/laws.rt` promise them, `examples_of_lines` and those below it.
 use Rattle.std.specs.Prelude.{◌≡◌, ◌-◌, ◌^◌, ℕ, Bool, true, false, List, [], ◌∷◌, ◌++◌}
-use Rattle.std.specs.Prelude.{Option, Some, None, Ok, Err, codes, replicate}
+use Rattle.std.specs.Prelude.{Option, Some, None, Ok, Err, codes, replicate, take}
 use Rattle.url.specs.declared.error.ParseError.TheVariants.{EmptyHost, RelativeUrlWithoutBase}
 use Rattle.url.specs.declared.error.ParseError.TheVariants.{SetHostOnCannotBeABaseUrl}
 use Rattle.texting_robots.specs.declared.parser.statement.Kind.TheVariants as kind
@@ -36,6 +36,12 @@ abbrev pub nul : Type 0
 nul =
     AreFileLinesOf (Disallow (codes "/a") ∷ Allow (codes "/b") ∷ []) (codes "Disallow: /a\r\0Allow: /b")
     × AreLinesOf (Disallow (codes "/a") ∷ Raw (codes "\0Allow: /b") ∷ []) (codes "Disallow: /a\r\0Allow: /b")
+
+-- of a file that is longer than the limit a beginning is read, which may end within a line
+abbrev pub cut_short : Type 0
+cut_short =
+    AreFileLinesOf (Disallow (codes "/ab") ∷ []) (take 13 (codes "Disallow: /abc"))
+    × AreFileLinesOf (Allow (codes "/") ∷ []) (take 10 (codes "Disallow: /abc"))
 
 -- a byte order mark in front is dropped, and so is a part of one; elsewhere it isn't
 abbrev pub byte_order_mark : Type 0
@@ -279,7 +285,9 @@ longest =
 
 -- where no rule matches, the answer is yes, and no line decides
 abbrev pub no_match : Type 0
-no_match = Answers (deny_at 2 (codes "/foo") ∷ []) (codes "/FOO") true None
+no_match =
+    Answers (deny_at 2 (codes "/foo") ∷ []) (codes "/FOO") true None
+    × Answers (deny_at 3 (codes "b*c") ∷ []) (codes "*abc") true None
 
 -- of two that are as long an Allow decides, also where it stands behind the Disallow
 abbrev pub tie : Type 0

@@ -228,6 +228,7 @@ pub fn examples_of_lines()
     ensures lf_before_cr { example.lf_before_cr }
     ensures last_line { example.last_line }
     ensures nul { example.nul }
+    ensures cut_short { example.cut_short }
     ensures byte_order_mark { example.byte_order_mark }
     ensures misspelled_keys { example.misspelled_keys }
     ensures separators { example.separators }

@@ -12,6 +12,7 @@ returns c = record {
   lf_before_cr = lines_are _ _ refl;
   last_line = (lines_are _ _ refl, lines_are _ _ refl, lines_are _ _ refl);
   nul = (lines_are _ _ refl, lines_are _ _ refl);
+  cut_short = (lines_are _ _ refl, lines_are _ _ refl);
   byte_order_mark = (lines_are _ _ refl, lines_are _ _ refl, lines_are _ _ refl);
   misspelled_keys = lines_are _ _ refl;
   separators = lines_are _ _ refl;
