@@ -1,11 +1,12 @@
 -- For each text some rule decides, or none matches; and a pattern matches a text or not. Both are computed.
 use Rattle.std.proofs.Common.{◌≡◌, ◌≢◌, ◌⊎◌, inl, inr, ℕ, zero, suc, cond, not, nat_lt}
 use Rattle.std.proofs.Common.{◌≤◌, Bool, true, false, ◌==◌, ◌&&◌, ◌||◌, List, [], ◌∷◌}
-use Rattle.std.proofs.Common.{◌++◌, length, Option, Some, None, option_map, refl, sym, ap, subst, ◌∙◌, arith}
+use Rattle.std.proofs.Common.{◌++◌, length, Option, Some, None, option_map, refl, sym, ap, subst}
+use Rattle.std.proofs.Common.{◌∙◌, arith}
 use Rattle.std.specs.Bool.{Decides, MatchBool}
 use Rattle.std.specs.List.{All, Contains}
 use Rattle.std.specs.Prelude.{bytes_eq}
-use Rattle.std.proofs.lemmas.Bool.{cases_Bool, cases_lt, false≢true}
+use Rattle.std.proofs.lemmas.Bool.{cases_Bool, cases_lt, cases_order, eqb-true, false≢true}
 use Rattle.std.proofs.lemmas.Bool.Decides.{Decides-and, Decides-eqb, Decides-like, Decides-or, nat_tests}
 use Rattle.std.proofs.lemmas.Bool.Decides.{not_from_Decides, when_false, when_true}
 use Rattle.std.proofs.lemmas.List.{get_or-map, length-map}
@@ -44,7 +45,8 @@ matches anchors (b ∷ q) t =
     cond (b == star) (some_end (matches anchors q) t)
     (cond (anchors && (b == dollar)) (at_end (matches anchors q []) t) (behind b (matches anchors q) t))
 
-module _ (P : List ℕ → Type 0) (test : List ℕ → Bool) (each : (t : List ℕ) → Decides (test t) (P t)) where
+module _ (P : List ℕ → Type 0) (test : List ℕ → Bool)
+    (each : (t : List ℕ) → Decides (test t) (P t)) where
   some_end_decides : (t : List ℕ) → Decides (some_end test t) ((s : List ℕ) × IsSuffix s t × P s)
   some_end_decides [] = Decides-like _ (λ is. ([], ([], refl), is)) only (each [])
     where
@@ -52,13 +54,16 @@ module _ (P : List ℕ → Type 0) (test : List ℕ → Bool) (each : (t : List 
       only ([], (front, whole), is) = is
       only (x ∷ s, ([], whole), is) = cc
       only (x ∷ s, (y ∷ front, whole), is) = cc
-  some_end_decides (x ∷ t) = Decides-like _ there back (Decides-or _ _ (each (x ∷ t)) (some_end_decides t))
+  some_end_decides (x ∷ t) =
+      Decides-like _ there back (Decides-or _ _ (each (x ∷ t)) (some_end_decides t))
     where
-      there : P (x ∷ t) ⊎ ((s : List ℕ) × IsSuffix s t × P s) → (s : List ℕ) × IsSuffix s (x ∷ t) × P s
+      there : P (x ∷ t) ⊎ ((s : List ℕ) × IsSuffix s t × P s)
+          → (s : List ℕ) × IsSuffix s (x ∷ t) × P s
       there (inl is) = (x ∷ t, ([], refl), is)
       there (inr (s, (front, whole), is)) = (s, (x ∷ front, ap (λ r. x ∷ r) whole), is)
 
-      back : (s : List ℕ) × IsSuffix s (x ∷ t) × P s → P (x ∷ t) ⊎ ((s : List ℕ) × IsSuffix s t × P s)
+      back : (s : List ℕ) × IsSuffix s (x ∷ t) × P s
+          → P (x ∷ t) ⊎ ((s : List ℕ) × IsSuffix s t × P s)
       back (s, ([], whole), is) = inl (subst P (sym whole) is)
       back (s, (y ∷ front, whole), is) = let later : t ≡ front ++ s = cc in inr (s, (front, later), is)
 

@@ -1,16 +1,19 @@
 -- How the worked examples are closed: by tests that compute.
 use Rattle.std.proofs.Common.{◌≡◌, ◌==◌, ℕ, nat_lt, ◌&&◌, Bool, true, false, List, length}
-use Rattle.std.proofs.Common.{get_or, subst, refl}
+use Rattle.std.proofs.Common.{Some, get_or, subst, refl}
 use Rattle.std.specs.Bool.{Decides}
 use Rattle.std.proofs.lemmas.Bool.Decides.{Decides-and, Decides-ltb, Decides-eqb, not_from_Decides}
 use Rattle.std.proofs.lemmas.List.Folds.{Any-from_list_any, list_any-from_Any}
 use Rattle.std.specs.List.{Any, list_any}
-use Rattle.texting_robots.specs.Examples.{Answers}
-use Rattle.texting_robots.specs.Held.{HasOverlong}
+use Rattle.texting_robots.specs.Examples.{Answers, GivesDelay, GivesRules}
+use Rattle.texting_robots.specs.Computed.{delay_for, file_lines, placed_rules}
 use Rattle.texting_robots.specs.Pattern.{IsOverlong, MatchesWith, collapsed, dollar, longest_with_dollar}
-use Rattle.texting_robots.specs.Rules.{PlacedRule}
+use Rattle.texting_robots.specs.Rules.{AreRulesFor, IsDelayFor, PlacedRule, Rule}
 use Rattle.texting_robots.proofs.BestLemmas.{allowed_by, answered, deciding_rule, line_by, matches}
 use Rattle.texting_robots.proofs.BestLemmas.{matches_decides}
+use Rattle.texting_robots.proofs.GivenLemmas.{delay_is_computed}
+use Rattle.texting_robots.proofs.HeadlineLemmas.{has_lines}
+use Rattle.texting_robots.proofs.HeldLemmas.{computed_are}
 
 pub matching : (anchors : Bool) (pattern text : List ℕ) → matches anchors pattern text ≡ true
     → MatchesWith anchors pattern text
@@ -48,6 +51,20 @@ overlong_decides pattern =
       λ (k, below, is). dollars.1 (k, dollar, below, is, refl),
     ) (Decides-ltb longest_with_dollar (length (collapsed pattern)))
 
-pub any_overlong_decides : (rules : List PlacedRule)
-    → Decides (list_any (λ (placed : PlacedRule). is_overlong placed.rule.0) rules) (HasOverlong rules)
-any_overlong_decides rules = any_decides _ _ (λ (placed : PlacedRule). overlong_decides placed.rule.0) rules
+pub any_overlong_decides : (rules : List Rule)
+    → Decides (list_any (λ (rule : Rule). is_overlong rule.0) rules)
+    (Any (λ (rule : Rule). IsOverlong rule.0) rules)
+any_overlong_decides rules = any_decides _ _ (λ (rule : Rule). overlong_decides rule.0) rules
+
+-- ---- what a file gives
+
+pub gives_rules : (agent file : List ℕ) → GivesRules agent file (placed_rules agent (file_lines file))
+gives_rules agent file =
+    has_lines file (λ lines. AreRulesFor agent lines (placed_rules agent (file_lines file)))
+    (computed_are agent (file_lines file))
+
+pub gives_delay : (agent file : List ℕ) (delay : ℕ) → Some delay ≡ delay_for agent (file_lines file)
+    → GivesDelay agent file delay
+gives_delay agent file delay is =
+    has_lines file (λ lines. IsDelayFor agent lines (Some delay))
+    ((delay_is_computed agent (file_lines file) (Some delay)).1 is)

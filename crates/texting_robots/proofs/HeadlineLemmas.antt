@@ -88,7 +88,7 @@ pub read_refused : (agent file : List ℕ) → IsFileRefused agent (take file_li
     → IsRefused agent (lines_read file)
 read_refused agent file is = of_lines _ (IsRefused agent) is (lines_read file) (lines_are_read file)
 
-has_lines : (file : List ℕ) (P : List LineValue → Type 0) → P (file_lines file) → HasLines file P
+pub has_lines : (file : List ℕ) (P : List LineValue → Type 0) → P (file_lines file) → HasLines file P
 has_lines file P is = (file_lines file, (each_text_has_its_lines (map nul_as_lf file) _).1 refl, is)
 
 pub robot_of : (agent file : List ℕ) (result : Result RobotValue Error)

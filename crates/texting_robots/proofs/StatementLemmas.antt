@@ -1,5 +1,6 @@
 -- A body is a statement of one kind with one value at most: the one that the walk gives.
-use Rattle.std.proofs.Common.{◌≡◌, ◌⊎◌, ◌≢◌, ℕ, ◌<◌, ◌==◌, not, ◌||◌, inl, inr, List, []}
+use Rattle.std.proofs.Common.{◌≡◌, ◌⊎◌, ◌≢◌, ℕ, ◌<◌, ◌==◌, not, ◌||◌, inl}
+use Rattle.std.proofs.Common.{inr, List, []}
 use Rattle.std.proofs.Common.{◌∷◌, ◌++◌, length}
 use Rattle.std.proofs.Common.{take, drop, map, sym, refl, ap, ◌∙◌, arith, rules, cond}
 use Rattle.std.proofs.Common.{if◌then◌else◌, subst}
@@ -161,7 +162,8 @@ tail_found tail rest (inr (b ∷ blanks, all, some, whole, plain)) =
 -- the rest has a tail, and the walk found it, without the blanks at its front
 abbrev Tailed : List ℕ → List ℕ → Type 0
 Tailed rest found =
-    (tail : List ℕ) × (IsBehindColon tail rest ⊎ IsBehindBlanks tail rest) × (found ≡ skip_blanks tail)
+    (tail : List ℕ) × (IsBehindColon tail rest ⊎ IsBehindBlanks tail rest)
+    × (found ≡ skip_blanks tail)
 
 -- blanks alone separate what is left from the rest, if there are any
 blanks_found : (rest left found : List ℕ) → Skipped left rest → BeginsPlain left

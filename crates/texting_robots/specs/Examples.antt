@@ -1,17 +1,18 @@
 -- Worked examples: what the words of the definitions come to for small texts. They are theorems: laws of
 -- `src/laws.rt` promise them, `examples_of_lines` and those below it.
-use Rattle.std.specs.Prelude.{◌≡◌, ◌-◌, ◌^◌, ℕ, Bool, true, false, List, [], ◌∷◌, ◌++◌}
+use Rattle.std.specs.Prelude.{◌≡◌, ◌-◌, ◌^◌, ℕ, Bool, true, false, List, [], ◌∷◌}
+use Rattle.std.specs.Prelude.{◌++◌}
 use Rattle.std.specs.Prelude.{Option, Some, None, Ok, Err, codes, replicate, take}
 use Rattle.url.specs.declared.error.ParseError.TheVariants.{EmptyHost, RelativeUrlWithoutBase}
 use Rattle.url.specs.declared.error.ParseError.TheVariants.{SetHostOnCannotBeABaseUrl}
 use Rattle.texting_robots.specs.declared.parser.statement.Kind.TheVariants as kind
 use Rattle.texting_robots.specs.{Address.robots_address, Decision.IsDecidingLine, Delay.IsDelay}
-use Rattle.texting_robots.specs.{Escape.escaped, Group.IsCaptured, Held.AreRulesFor, Order.IsBefore}
-use Rattle.texting_robots.specs.Line.{AreFileLinesOf, AreLinesOf, LineValue}
+use Rattle.texting_robots.specs.{Escape.escaped, Group.IsCaptured, Rules.AreRulesFor, Order.IsBefore}
+use Rattle.texting_robots.specs.Line.{AreFileLinesOf, AreLinesOf, HasLines, LineValue}
 use Rattle.texting_robots.specs.Line.{UserAgent, Allow, Disallow, Sitemap, CrawlDelay, Raw}
-use Rattle.texting_robots.specs.{Parsed.file_lines, Prepared.prepared, Robot.IsRobotOf, Robot.RobotValue}
+use Rattle.texting_robots.specs.{Prepared.prepared, Robot.IsRobotOf, Robot.RobotValue}
 use Rattle.texting_robots.specs.Pattern.{IsOverlong, Matches, MatchesStars, collapsed}
-use Rattle.texting_robots.specs.Rules.{PlacedRule, delay_for, unplaced}
+use Rattle.texting_robots.specs.Rules.{IsDelayFor, PlacedRule, unplaced}
 use Rattle.texting_robots.specs.{Statement.IsStatement, Verdict.IsVerdict}
 
 -- ---- lines
@@ -19,7 +20,8 @@ use Rattle.texting_robots.specs.{Statement.IsStatement, Verdict.IsVerdict}
 -- CR CR LF is one line end, and LF LF are two
 abbrev pub line_ends : Type 0
 line_ends =
-    AreLinesOf (Raw (codes "a") ∷ Raw (codes "b") ∷ Raw [] ∷ Raw (codes "c") ∷ []) (codes "a\r\r\nb\n\nc")
+    AreLinesOf (Raw (codes "a") ∷ Raw (codes "b") ∷ Raw [] ∷ Raw (codes "c") ∷ [])
+    (codes "a\r\r\nb\n\nc")
 
 -- LF CR are two, and each ends an empty line
 abbrev pub lf_before_cr : Type 0
@@ -35,7 +37,8 @@ last_line =
 abbrev pub nul : Type 0
 nul =
     AreFileLinesOf (Disallow (codes "/a") ∷ Allow (codes "/b") ∷ []) (codes "Disallow: /a\r\0Allow: /b")
-    × AreLinesOf (Disallow (codes "/a") ∷ Raw (codes "\0Allow: /b") ∷ []) (codes "Disallow: /a\r\0Allow: /b")
+    × AreLinesOf (Disallow (codes "/a") ∷ Raw (codes "\0Allow: /b") ∷ [])
+    (codes "Disallow: /a\r\0Allow: /b")
 
 -- of a file that is longer than the limit a beginning is read, which may end within a line
 abbrev pub cut_short : Type 0
@@ -48,7 +51,8 @@ abbrev pub byte_order_mark : Type 0
 byte_order_mark =
     AreLinesOf (Allow (codes "/") ∷ []) (0xEF ∷ 0xBB ∷ 0xBF ∷ codes "Allow: /")
     × AreLinesOf (Allow (codes "/") ∷ []) (0xBB ∷ codes "Allow: /")
-    × AreLinesOf (Raw (0x11 ∷ 0xBF ∷ codes "Allow: /") ∷ []) (0xEF ∷ 0x11 ∷ 0xBF ∷ codes "Allow: /")
+    × AreLinesOf (Raw (0x11 ∷ 0xBF ∷ codes "Allow: /") ∷ [])
+    (0xEF ∷ 0x11 ∷ 0xBF ∷ codes "Allow: /")
 
 -- these misspelled keys are read
 abbrev pub misspelled_keys : Type 0
@@ -134,84 +138,104 @@ allow_at line pattern = record { rule = (pattern, true); line = line }
 abbrev pub deny_at : ℕ → List ℕ → PlacedRule
 deny_at line pattern = record { rule = (pattern, false); line = line }
 
--- the lines of the first example of RFC 9309
-abbrev pub simple : List LineValue
-simple = file_lines
-    (codes "User-Agent: *\nDisallow: *.gif$\nDisallow: /example/\nAllow: /publications/\n\n"
+-- the agent gets these rules of the file
+abbrev pub GivesRules : List ℕ → List ℕ → List PlacedRule → Type 0
+GivesRules agent file rules = HasLines file (λ lines. AreRulesFor agent lines rules)
+
+-- the first example of RFC 9309
+abbrev pub simple : List ℕ
+simple =
+    codes "User-Agent: *\nDisallow: *.gif$\nDisallow: /example/\nAllow: /publications/\n\n"
     ++ codes "User-Agent: foobot\nDisallow:/\nAllow:/example/page.html\nAllow:/example/allowed.gif\n\n"
     ++ codes "User-Agent: barbot\nUser-Agent: bazbot\nDisallow: /example/page.html\n\n"
-    ++ codes "User-Agent: quxbot\n")
+    ++ codes "User-Agent: quxbot\n"
 
 -- an agent gets the rules of its group, in whatever letter case it writes its name, and no others
 abbrev pub own_group : Type 0
 own_group =
-    AreRulesFor (codes "FooBot") simple
+    GivesRules (codes "FooBot") simple
     (deny_at 7 (codes "/") ∷ allow_at 8 (codes "/example/page.html")
     ∷ allow_at 9 (codes "/example/allowed.gif") ∷ [])
 
 -- a group may have two names
 abbrev pub two_names : Type 0
 two_names =
-    AreRulesFor (codes "barbot") simple (deny_at 13 (codes "/example/page.html") ∷ [])
-    × AreRulesFor (codes "bazbot") simple (deny_at 13 (codes "/example/page.html") ∷ [])
+    GivesRules (codes "barbot") simple (deny_at 13 (codes "/example/page.html") ∷ [])
+    × GivesRules (codes "bazbot") simple (deny_at 13 (codes "/example/page.html") ∷ [])
 
 -- an agent that no line names gets the rules of the star
 abbrev pub star_group : Type 0
 star_group =
-    AreRulesFor (codes "otherbot") simple
-    (deny_at 2 (codes "*.gif$") ∷ deny_at 3 (codes "/example/") ∷ allow_at 4 (codes "/publications/") ∷ [])
+    GivesRules (codes "otherbot") simple
+    (deny_at 2 (codes "*.gif$") ∷ deny_at 3 (codes "/example/")
+    ∷ allow_at 4 (codes "/publications/") ∷ [])
 
 -- one that is named doesn't, even where its own group is empty
 abbrev pub empty_group : Type 0
-empty_group = AreRulesFor (codes "quxbot") simple []
+empty_group = GivesRules (codes "quxbot") simple []
 
 -- by places, counted from 0: a line is captured for the names that lead its group
 abbrev pub captured : Type 0
 captured =
-    IsCaptured (codes "bazbot") simple 12 × ¬ IsCaptured (codes "bazbot") simple 6
-    × ¬ IsCaptured (codes "quxbot") simple 12
+    HasLines simple (λ lines. IsCaptured (codes "bazbot") lines 12 × ¬ IsCaptured (codes "bazbot") lines 6
+    × ¬ IsCaptured (codes "quxbot") lines 12)
+
+-- three groups, two of them with one name
+abbrev pub groups : List ℕ
+groups =
+    codes "allow: /foo/bar/\nuser-agent: FooBot\ndisallow: /\nallow: /x/\n"
+    ++ codes "user-agent: BarBot\ndisallow: /\nallow: /y/\n\n\nallow: /w/\n"
+    ++ codes "user-agent: BazBot\n\nuser-agent: FooBot\nallow: /z/\ndisallow: /"
 
 -- groups of one name are one group; an empty line ends none, and parts no user-agent line from the next; and
 -- a rule before the first user-agent line is nobody's
 abbrev pub merged_groups : Type 0
 merged_groups =
-    let lines = file_lines
-    (codes "allow: /foo/bar/\nuser-agent: FooBot\ndisallow: /\nallow: /x/\n"
-    ++ codes "user-agent: BarBot\ndisallow: /\nallow: /y/\n\n\nallow: /w/\n"
-    ++ codes "user-agent: BazBot\n\nuser-agent: FooBot\nallow: /z/\ndisallow: /") in
-    AreRulesFor (codes "FooBot") lines
-    (deny_at 3 (codes "/") ∷ allow_at 4 (codes "/x/") ∷ allow_at 14 (codes "/z/") ∷ deny_at 15 (codes "/")
-    ∷ [])
-    × AreRulesFor (codes "BarBot") lines
+    GivesRules (codes "FooBot") groups
+    (deny_at 3 (codes "/") ∷ allow_at 4 (codes "/x/") ∷ allow_at 14 (codes "/z/")
+    ∷ deny_at 15 (codes "/") ∷ [])
+    × GivesRules (codes "BarBot") groups
     (deny_at 6 (codes "/") ∷ allow_at 7 (codes "/y/") ∷ allow_at 10 (codes "/w/") ∷ [])
-    × AreRulesFor (codes "BazBot") lines (allow_at 14 (codes "/z/") ∷ deny_at 15 (codes "/") ∷ [])
+    × GivesRules (codes "BazBot") groups (allow_at 14 (codes "/z/") ∷ deny_at 15 (codes "/") ∷ [])
 
 -- without any user-agent line a rule is everybody's
+abbrev pub one_rule : List ℕ
+one_rule = codes "Disallow: /a"
+
 abbrev pub no_agents : Type 0
-no_agents =
-    AreRulesFor (codes "BobBot") (file_lines (codes "Disallow: /a")) (deny_at 1 (codes "/a") ∷ [])
+no_agents = GivesRules (codes "BobBot") one_rule (deny_at 1 (codes "/a") ∷ [])
 
 -- a value that isn't UTF-8 gives no rule, and in a pattern what isn't ASCII is escaped, and a blank
+abbrev pub three_values : List ℕ
+three_values =
+    codes "Disallow: /" ++ 0xFF ∷ codes "\nDisallow: /" ++ 0xC3 ∷ 0xA9 ∷ codes "\nDisallow: /a b"
+
 abbrev pub values : Type 0
 values =
-    AreRulesFor (codes "BobBot")
-    (file_lines
-    (codes "Disallow: /" ++ 0xFF ∷ codes "\nDisallow: /" ++ 0xC3 ∷ 0xA9 ∷ codes "\nDisallow: /a b"))
+    GivesRules (codes "BobBot") three_values
     (deny_at 2 (codes "/%C3%A9") ∷ deny_at 3 (codes "/a%20b") ∷ [])
 
+-- the agent gets this delay of the file, in microseconds
+abbrev pub GivesDelay : List ℕ → List ℕ → ℕ → Type 0
+GivesDelay agent file delay = HasLines file (λ lines. IsDelayFor agent lines (Some delay))
+
 -- a line that is no statement ends no run of user-agent lines, so this delay is that of both
+abbrev pub refused_delay : List ℕ
+refused_delay = codes "User-Agent: D\nCrawl-Delay: -1.25\nUser-Agent: E\nCrawl-Delay: 8"
+
 abbrev pub raw_in_a_run : Type 0
-raw_in_a_run =
-    delay_for (codes "D")
-    (file_lines (codes "User-Agent: D\nCrawl-Delay: -1.25\nUser-Agent: E\nCrawl-Delay: 8"))
-    ≡ Some 8000000
+raw_in_a_run = GivesDelay (codes "D") refused_delay 8000000
 
 -- of a group's delays the first counts; a group without one has the last before the user-agent lines
+abbrev pub two_delays : List ℕ
+two_delays = codes "Crawl-Delay: 5\nCrawl-Delay: 6"
+
+abbrev pub early_delays : List ℕ
+early_delays = codes "Crawl-Delay: 1\nCrawl-Delay: 2\nUser-Agent: *\nDisallow: /x"
+
 abbrev pub which_delay : Type 0
 which_delay =
-    (delay_for (codes "BobBot") (file_lines (codes "Crawl-Delay: 5\nCrawl-Delay: 6")) ≡ Some 5000000)
-    × (delay_for (codes "BobBot")
-    (file_lines (codes "Crawl-Delay: 1\nCrawl-Delay: 2\nUser-Agent: *\nDisallow: /x")) ≡ Some 2000000)
+    GivesDelay (codes "BobBot") two_delays 5000000 × GivesDelay (codes "BobBot") early_delays 2000000
 
 -- ---- patterns
 
@@ -272,14 +296,16 @@ order =
 -- ---- verdicts
 
 -- the rules give this answer about the text, and this line decides
-pub record Answers (rules : List PlacedRule) (text : List ℕ) (answer : Bool) (line : Option ℕ) : Type 0 where
+pub record Answers (rules : List PlacedRule) (text : List ℕ) (answer : Bool) (line : Option ℕ)
+    : Type 0 where
   pub verdict : IsVerdict (unplaced rules) text answer
   pub deciding : IsDecidingLine rules text line
 
 -- the longest rule that matches decides, as in the second example of RFC 9309
 abbrev pub longest : Type 0
 longest =
-    let rules = allow_at 2 (codes "/example/page/") ∷ deny_at 3 (codes "/example/page/disallowed.gif") ∷ [] in
+    let rules =
+    allow_at 2 (codes "/example/page/") ∷ deny_at 3 (codes "/example/page/disallowed.gif") ∷ [] in
     Answers rules (codes "/example/page/disallowed.gif") false (Some 3)
     × Answers rules (codes "/example/page/other.gif") true (Some 2)
 
@@ -327,7 +353,8 @@ prepared_url =
 -- a text that is no URL is escaped, and what is escaped in it already stays so; the empty text gives a slash
 abbrev pub prepared_path : Type 0
 prepared_path =
-    (prepared (codes "/" ++ 0xC3 ∷ 0xA1 ∷ []) ≡ codes "/%C3%A1") × (prepared (codes "/%aa") ≡ codes "/%aa")
+    (prepared (codes "/" ++ 0xC3 ∷ 0xA1 ∷ []) ≡ codes "/%C3%A1")
+    × (prepared (codes "/%aa") ≡ codes "/%aa")
     × (prepared [] ≡ codes "/")
 
 -- these bytes are escaped too
@@ -337,7 +364,8 @@ escapes = escaped (codes "/a b\"<>`") ≡ codes "/a%20b%22%3C%3E%60"
 -- the robots file stands at the root of the host, with a port that isn't the scheme's own
 abbrev pub address : Type 0
 address =
-    (robots_address (codes "https://user@example.com:80/x") ≡ Ok (codes "https://example.com:80/robots.txt"))
+    (robots_address (codes "https://user@example.com:80/x")
+    ≡ Ok (codes "https://example.com:80/robots.txt"))
     × (robots_address (codes "http://user@example.com:80/x") ≡ Ok (codes "http://example.com/robots.txt"))
 
 -- these have none

@@ -31,7 +31,8 @@ IsBehindColon tail rest =
 -- the rest is one or more blanks and the tail, which begins with no blank and no colon
 abbrev pub IsBehindBlanks : List ℕ → List ℕ → Type 0
 IsBehindBlanks tail rest =
-    (blanks : List ℕ) × Each IsBlank blanks × (blanks ≢ []) × (rest ≡ blanks ++ tail) × BeginsPlain tail
+    (blanks : List ℕ) × Each IsBlank blanks × (blanks ≢ []) × (rest ≡ blanks ++ tail)
+    × BeginsPlain tail
 
 -- the body is a statement of this kind with this value: a spelling of the kind's key stands in it, ASCII
 -- letters in any case, and behind a hash is a comment

@@ -100,7 +100,8 @@ low_colon blanks text all =
     (low_blanks blanks all)
 
 -- what stands behind a key stops it
-tail_stops : (tail rest : List ℕ) → IsBehindColon tail rest ⊎ IsBehindBlanks tail rest → Stops (low rest)
+tail_stops : (tail rest : List ℕ) → IsBehindColon tail rest ⊎ IsBehindBlanks tail rest
+    → Stops (low rest)
 tail_stops tail rest (inl (blanks, all, whole)) =
     subst Stops (sym (ap low whole ∙ low_colon blanks tail all)) (colon_stops blanks (low tail) all)
 tail_stops tail rest (inr ([], all, some, whole, plain)) = absurd (some refl)

@@ -1,12 +1,16 @@
-use Rattle.std.proofs.Common.{refl}
+use Rattle.std.proofs.Common.{Some, codes, refl}
 use Rattle.std.proofs.lemmas.Bool.Decides.{not_from_Decides}
 use Rattle.std.specs.Str.{chars, is_utf8}
 use Rattle.bstr.specs.Trim.{kept_end, kept_start}
 use Rattle.bstr.specs.Utf8.{pieces_from, spans_from}
-use Rattle.texting_robots.specs.{Examples.ferris_rules, Pattern.collapsed}
+use Rattle.texting_robots.specs.Examples.{ferris_lines, ferris_robot, ferris_rules}
+use Rattle.texting_robots.specs.Pattern.{collapsed}
 use Rattle.texting_robots.specs.Steps.{Cut.cut, Delay.delay_of, Line.line_of, Statement.statement_of}
 use Rattle.texting_robots.proofs.ExampleLemmas.{answers, any_overlong_decides}
-use Rattle.texting_robots.proofs.{HeldLemmas.computed_are, LineLemmas.lines_are}
+use Rattle.texting_robots.specs.Rules.{unplaced}
+use Rattle.texting_robots.proofs.GivenLemmas.{delay_is_computed, sitemaps_are_computed}
+use Rattle.texting_robots.proofs.HeldLemmas.{computed_are, refusal_is_computed}
+use Rattle.texting_robots.proofs.LineLemmas.{lines_are}
 use Rattle.texting_robots.proofs.laws.example_of_a_file.Goals as goal
 use lib.Utf8.{encode}
 
@@ -16,10 +20,11 @@ unfolding cut line_of statement_of delay_of kept_end kept_start spans_from piece
 returns c = record {
   lines = lines_are _ _ refl;
   robot = record {
-    delay = refl;
-    sitemaps = refl;
+    delay = (delay_is_computed (codes "FerrisCrawler") ferris_lines (Some 10000000)).1 refl;
+    sitemaps = (sitemaps_are_computed ferris_lines ferris_robot.sitemaps).1 refl;
     rules = computed_are _ _;
-    accepted = not_from_Decides _ (any_overlong_decides ferris_rules) refl;
+    accepted = λ refused. not_from_Decides _ (any_overlong_decides (unplaced ferris_rules)) refl
+        ((refusal_is_computed (codes "FerrisCrawler") ferris_lines).0 refused);
   };
   answers = (answers _ _, answers _ _, answers _ _);
 }

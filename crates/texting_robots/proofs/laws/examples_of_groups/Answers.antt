@@ -4,27 +4,33 @@ use Rattle.std.specs.Prelude.{codes}
 use Rattle.std.specs.Str.{chars, is_utf8}
 use Rattle.bstr.specs.Trim.{kept_end, kept_start}
 use Rattle.bstr.specs.Utf8.{pieces_from, spans_from}
-use Rattle.texting_robots.specs.Examples.{simple}
+use Rattle.texting_robots.specs.Examples.{early_delays, groups, one_rule, refused_delay, simple}
+use Rattle.texting_robots.specs.Examples.{three_values, two_delays}
 use Rattle.texting_robots.specs.Steps.{Cut.cut, Delay.delay_of, Line.line_of, Statement.statement_of}
-use Rattle.texting_robots.proofs.{CapturedLemmas.is_captured_decides, HeldLemmas.computed_are}
+use Rattle.texting_robots.specs.Computed.{file_lines}
+use Rattle.texting_robots.proofs.{CapturedLemmas.is_captured_decides, HeadlineLemmas.has_lines}
+use Rattle.texting_robots.proofs.ExampleLemmas.{gives_delay, gives_rules}
 use Rattle.texting_robots.proofs.laws.examples_of_groups.Goals as goal
 use lib.Utf8.{encode}
 
 pub returns : goal.returns
 unfolding cut line_of statement_of delay_of kept_end kept_start spans_from pieces_from is_utf8 chars encode
 returns c = record {
-  own_group = computed_are _ _;
-  two_names = (computed_are _ _, computed_are _ _);
-  star_group = computed_are _ _;
-  empty_group = computed_are _ _;
-  captured = (
-    (is_captured_decides (codes "bazbot") simple 12).0 refl,
-    not_from_Decides _ (is_captured_decides (codes "bazbot") simple 6) refl,
-    not_from_Decides _ (is_captured_decides (codes "quxbot") simple 12) refl,
+  own_group = gives_rules _ simple;
+  two_names = (gives_rules _ simple, gives_rules _ simple);
+  star_group = gives_rules _ simple;
+  empty_group = gives_rules _ simple;
+  captured = has_lines simple _ (
+    (is_captured_decides (codes "bazbot") (file_lines simple) 12).0 refl,
+    not_from_Decides _ (is_captured_decides (codes "bazbot") (file_lines simple) 6) refl,
+    not_from_Decides _ (is_captured_decides (codes "quxbot") (file_lines simple) 12) refl,
   );
-  merged_groups = (computed_are _ _, computed_are _ _, computed_are _ _);
-  no_agents = computed_are _ _;
-  values = computed_are _ _;
-  raw_in_a_run = refl;
-  which_delay = (refl, refl);
+  merged_groups = (gives_rules _ groups, gives_rules _ groups, gives_rules _ groups);
+  no_agents = gives_rules _ one_rule;
+  values = gives_rules _ three_values;
+  raw_in_a_run = gives_delay (codes "D") refused_delay 8000000 refl;
+  which_delay = (
+    gives_delay (codes "BobBot") two_delays 5000000 refl,
+    gives_delay (codes "BobBot") early_delays 2000000 refl,
+  );
 }
