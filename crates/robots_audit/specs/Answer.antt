@@ -1,5 +1,5 @@
--- What comes of the words behind the program's name, with a reader that has these bytes left, if it tells
--- them, and a writer that held the old bytes before and holds the new ones after.
+-- What comes of the words behind the program's name. `Appends` and `Keeps` claim nothing of a writer that
+-- doesn't tell its bytes.
 use Rattle.std.specs.Prelude.{◌≡◌, ◌≢◌, ℕ, true, List, [], Option, Result, Ok, Err}
 use Rattle.std.specs.Prelude.{IfErr, IfOk, IfSome, IsErrOf, map, string_bytes}
 use Rattle.std.specs.Io.KnownBytes.{Appends, Keeps}
@@ -16,6 +16,13 @@ use Rattle.robots_audit.specs.Fault.{usage}
 use Rattle.robots_audit.specs.Report.{AppendsReport, AppendsReportBeginning, MayFail}
 use Rattle.robots_audit.specs.Warnings.{warnings}
 
+-- the bytes that a reader has left, and those that a writer held before and holds after; `None` where an end
+-- doesn't tell its bytes
+pub record Ends : Type 0 where
+  pub left : Option (List ℕ)
+  pub old : Option (List ℕ)
+  pub new : Option (List ℕ)
+
 -- the usage is written, nothing is warned of, and the status is that of URLs which are all allowed; or
 -- writing failed, and a beginning of the usage is written
 pub record Helps (old new : Option (List ℕ)) (result : Result Outcome Fault) : Type 0 where
@@ -25,27 +32,29 @@ pub record Helps (old new : Option (List ℕ)) (result : Result Outcome Fault) :
   pub fault : IfErr result (λ fault. fault ≡ Write)
   pub beginning : AppendsBeginning old new usage
 
--- the report of what is left is written, and its warnings are given; or there is a fault, and nothing is
--- written but, where writing failed, a beginning of the report
-pub record Audits (agent : List ℕ) (urls : List (List ℕ)) (left old new : Option (List ℕ))
-    (result : Result Outcome Fault) : Type 0 where
-  pub ok : IfOk result (λ outcome. IfSome left (AppendsReport agent urls outcome.all_allowed old new))
-  pub warnings : IfOk result (λ outcome. IfSome left (λ file.
-      string_bytes outcome.warnings ≡ ended (warnings agent urls (lines_read file))))
-  pub fault : IfErr result (λ fault. IfSome left (MayFail agent fault))
-  pub nothing_written : IfErr result (λ fault. fault ≢ Write → Keeps old new)
-  pub beginning : IsErrOf result Write → IfSome left (AppendsReportBeginning agent urls old new)
+-- the reader has this file left: its report is written, and its warnings are given; or there is a fault, and
+-- where writing failed, a beginning of the report is written
+pub record AuditsFile (agent : List ℕ) (urls : List (List ℕ)) (ends : Ends) (result : Result Outcome Fault)
+    (file : List ℕ) : Type 0 where
+  pub ok : IfOk result (λ outcome. AppendsReport agent urls outcome.all_allowed ends.old ends.new file)
+  pub warnings : IfOk result (λ outcome.
+      string_bytes outcome.warnings ≡ ended (warnings agent urls (lines_read file)))
+  pub fault : IfErr result (λ fault. MayFail agent fault file)
+  pub beginning : IsErrOf result Write → AppendsReportBeginning agent urls ends.old ends.new file
+
+-- what is left is audited, where the reader tells it; and after a fault other than one of writing nothing is
+-- written, whether the reader tells its bytes or not
+pub record Audits (agent : List ℕ) (urls : List (List ℕ)) (ends : Ends) (result : Result Outcome Fault)
+    : Type 0 where
+  pub told : IfSome ends.left (AuditsFile agent urls ends result)
+  pub nothing_written : IfErr result (λ fault. fault ≢ Write → Keeps ends.old ends.new)
 
 -- what is asked for is done; of words that ask for nothing the fault is told, and nothing is written
-abbrev pub Does : Result Command Fault → Option (List ℕ) → Option (List ℕ) → Option (List ℕ)
-    → Result Outcome Fault → Type 0
-Does (Ok Help) left old new result = Helps old new result
-Does (Ok (Audit agent urls)) left old new result =
-    Audits agent.now (map string_bytes urls.now) left old new result
-Does (Err fault) left old new result = (result ≡ Err fault) × Keeps old new
+abbrev pub Does : Result Command Fault → Ends → Result Outcome Fault → Type 0
+Does (Ok Help) ends result = Helps ends.old ends.new result
+Does (Ok (Audit agent urls)) ends result = Audits agent.now (map string_bytes urls.now) ends result
+Does (Err fault) ends result = (result ≡ Err fault) × Keeps ends.old ends.new
 
 -- what the words ask for is done
-abbrev pub Answers : List (List ℕ) → Option (List ℕ) → Option (List ℕ) → Option (List ℕ)
-    → Result Outcome Fault → Type 0
-Answers words left old new result =
-    (asked : Result Command Fault) × Asks words asked × Does asked left old new result
+abbrev pub Answers : List (List ℕ) → Ends → Result Outcome Fault → Type 0
+Answers words ends result = (asked : Result Command Fault) × Asks words asked × Does asked ends result

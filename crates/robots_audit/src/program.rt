@@ -24,8 +24,11 @@ pub fn run<R: Read, W: Write>(
     reader: &mut R,
     writer: &mut W,
 ) -> Result<Outcome, Fault>
-    ensures { Audits agent.now (map string_bytes urls.now) (R.remaining reader.old)
-        (W.contents writer.old) (W.contents writer.new) result }
+    ensures { Audits agent.now (map string_bytes urls.now) (record {
+      left = R.remaining reader.old;
+      old = W.contents writer.old;
+      new = W.contents writer.new;
+    }) result }
 {
     let file = read_all(alloc, reader)?;
     let report = report_of(alloc, agent, urls, &file)?;
@@ -55,8 +58,11 @@ pub fn answer<R: Read, W: Write>(
     reader: &mut R,
     writer: &mut W,
 ) -> Result<Outcome, Fault>
-    ensures { Answers (map string_bytes words.now) (R.remaining reader.old)
-        (W.contents writer.old) (W.contents writer.new) result }
+    ensures { Answers (map string_bytes words.now) (record {
+      left = R.remaining reader.old;
+      old = W.contents writer.old;
+      new = W.contents writer.new;
+    }) result }
 {
     match command_of(words)? {
         Command::Help => help(alloc, writer),
