@@ -46,7 +46,7 @@ cut_short =
     AreFileLinesOf (Disallow (codes "/ab") ∷ []) (take 13 (codes "Disallow: /abc"))
     × AreFileLinesOf (Allow (codes "/") ∷ []) (take 10 (codes "Disallow: /abc"))
 
--- a byte order mark in front is dropped, and so is a part of one; elsewhere it isn't
+-- a byte order mark in front is dropped, and so is a part of one that stands there
 abbrev pub byte_order_mark : Type 0
 byte_order_mark =
     AreLinesOf (Allow (codes "/") ∷ []) (0xEF ∷ 0xBB ∷ 0xBF ∷ codes "Allow: /")
@@ -87,19 +87,19 @@ comments =
     (codes "User-Agent: SmerBot\nAllow:    /path/exception   # ONLY THIS IS ALLOWED\n"
     ++ codes "Crawl-delay : 60 # Very slow delay")
 
--- an empty Disallow is an Allow of everything, and an empty Allow is just that
+-- an empty Disallow is an Allow of the slash, and an empty Allow is just that
 abbrev pub empty_values : Type 0
 empty_values =
     AreLinesOf (Allow (codes "/") ∷ Allow (codes "/") ∷ Allow [] ∷ [])
     (codes "Disallow:\nDisallow #/x\nAllow:")
 
--- a delay that names no number gives the whole line, its comment included
+-- a crawl-delay whose value is no delay gives the whole line, its comment included
 abbrev pub no_number : Type 0
 no_number = AreLinesOf (Raw (codes "Crawl-delay: wait # x") ∷ []) (codes "Crawl-delay: wait # x")
 
 -- ---- delays
 
--- seconds are microseconds here
+-- a number of seconds, in microseconds
 abbrev pub seconds : Type 0
 seconds =
     IsDelay (codes "3.14") (Some 3140000) × IsDelay (codes ".5") (Some 500000)
@@ -198,18 +198,18 @@ merged_groups =
     (deny_at 6 (codes "/") ∷ allow_at 7 (codes "/y/") ∷ allow_at 10 (codes "/w/") ∷ [])
     × GivesRules (codes "BazBot") groups (allow_at 14 (codes "/z/") ∷ deny_at 15 (codes "/") ∷ [])
 
--- without any user-agent line a rule is everybody's
 abbrev pub one_rule : List ℕ
 one_rule = codes "Disallow: /a"
 
+-- without any user-agent line a rule is everybody's
 abbrev pub no_agents : Type 0
 no_agents = GivesRules (codes "BobBot") one_rule (deny_at 1 (codes "/a") ∷ [])
 
--- a value that isn't UTF-8 gives no rule, and in a pattern what isn't ASCII is escaped, and a blank
 abbrev pub three_values : List ℕ
 three_values =
     codes "Disallow: /" ++ 0xFF ∷ codes "\nDisallow: /" ++ 0xC3 ∷ 0xA9 ∷ codes "\nDisallow: /a b"
 
+-- a value that isn't UTF-8 gives no rule; of another, blanks and what isn't ASCII are escaped
 abbrev pub values : Type 0
 values =
     GivesRules (codes "BobBot") three_values
@@ -219,20 +219,20 @@ values =
 abbrev pub GivesDelay : List ℕ → List ℕ → ℕ → Type 0
 GivesDelay agent file delay = HasLines file (λ lines. IsDelayFor agent lines (Some delay))
 
--- a line that is no statement ends no run of user-agent lines, so this delay is that of both
 abbrev pub refused_delay : List ℕ
 refused_delay = codes "User-Agent: D\nCrawl-Delay: -1.25\nUser-Agent: E\nCrawl-Delay: 8"
 
+-- a line that is no statement ends no run of user-agent lines, so this delay is that of both
 abbrev pub raw_in_a_run : Type 0
 raw_in_a_run = GivesDelay (codes "D") refused_delay 8000000
 
--- of a group's delays the first counts; a group without one has the last before the user-agent lines
 abbrev pub two_delays : List ℕ
 two_delays = codes "Crawl-Delay: 5\nCrawl-Delay: 6"
 
 abbrev pub early_delays : List ℕ
 early_delays = codes "Crawl-Delay: 1\nCrawl-Delay: 2\nUser-Agent: *\nDisallow: /x"
 
+-- of a group's delays the first counts; a group without one has the last before the user-agent lines
 abbrev pub which_delay : Type 0
 which_delay =
     GivesDelay (codes "BobBot") two_delays 5000000 × GivesDelay (codes "BobBot") early_delays 2000000
@@ -243,7 +243,7 @@ which_delay =
 abbrev pub beginning : Type 0
 beginning =
     Matches [] (codes "/x") × Matches (codes "/fish") (codes "/fish/salmon")
-    × ¬ Matches (codes "/fish") (codes "/catfish")
+    × ¬ Matches (codes "/fish") (codes "/catfish") × ¬ Matches (codes "b*c") (codes "*abc")
 
 -- a star stands for any bytes, or for none
 abbrev pub stars : Type 0
@@ -338,7 +338,7 @@ robots_file =
     let rules = deny_at 1 (codes "/") ∷ [] in
     Answers rules (codes "/robots.txt") true None × Answers rules (codes "/robots.txt?x") false (Some 1)
 
--- an empty Allow matches every text, and is shorter than any other rule
+-- an empty Allow matches every text, and no rule is shorter
 abbrev pub empty_allow : Type 0
 empty_allow = Answers (deny_at 1 (codes "/") ∷ allow_at 2 [] ∷ []) (codes "/x") false (Some 1)
 
@@ -361,7 +361,7 @@ prepared_path =
 abbrev pub escapes : Type 0
 escapes = escaped (codes "/a b\"<>`") ≡ codes "/a%20b%22%3C%3E%60"
 
--- the robots file stands at the root of the host, with a port that isn't the scheme's own
+-- the robots file stands at the root of the host, behind the port unless that is the scheme's own
 abbrev pub address : Type 0
 address =
     (robots_address (codes "https://user@example.com:80/x")

@@ -8,7 +8,7 @@ use Rattle.texting_robots.proofs.laws.examples_of_patterns.Goals as goal
 pub returns : goal.returns
 unfolding collapsed
 returns c = record {
-  beginning = (matching _ _ _ refl, matching _ _ _ refl, not_matching _ _ _ refl);
+  beginning = (matching _ _ _ refl, matching _ _ _ refl, not_matching _ _ _ refl, not_matching _ _ _ refl);
   stars = (matching _ _ _ refl, matching _ _ _ refl, not_matching _ _ _ refl);
   ends = (matching _ _ _ refl, not_matching _ _ _ refl, matching _ _ _ refl, not_matching _ _ _ refl);
   star_behind = (matching _ _ _ refl, not_matching _ _ _ refl);
