@@ -1,6 +1,6 @@
 -- What `trim` leaves is the trim of its text, and there is no other.
 use Rattle.std.proofs.Common.{◌≡◌, ℕ, zero, suc, ◌+◌, ◌≤◌, ◌<◌, ◌-◌, Bool, true}
-use Rattle.std.proofs.Common.{false, cond, inl, inr}
+use Rattle.std.proofs.Common.{false, cond, inl, inr, ◌⊎◌}
 use Rattle.std.proofs.Common.{List, [], ◌∷◌, ◌++◌, length, take, drop, sym, refl, ap, ap₂, subst}
 use Rattle.std.proofs.Common.{◌∙◌}
 use Rattle.std.proofs.Common.{append_assoc, append-nil, arith, IsTrue, Option, Some, None, length-append}
@@ -8,8 +8,9 @@ use Rattle.std.proofs.Common.{slice_get, get_or}
 use Rattle.std.proofs.Math.Seq.{drop-nil}
 use Rattle.std.specs.List.{AllByRecursion as Each}
 use Rattle.std.specs.Char.{is_ascii_graphic, is_whitespace, encode_utf8}
-use Rattle.std.specs.Str.{encode_utf8_all}
-use Rattle.std.proofs.lemmas.Bool.{cases_Bool, cond-true, cond-false}
+use Rattle.std.specs.Str.{IsUtf8, encode_utf8_all}
+use Rattle.std.proofs.Math.Utf8.{scalars}
+use Rattle.std.proofs.lemmas.Bool.{and_parts, cases_Bool, cond-true, cond-false}
 use Rattle.std.proofs.lemmas.Bool.Decides.{nat_tests}
 use Rattle.std.proofs.lemmas.List.{append_cancel_right, drop_all, drop_at, drop-append-le, drop-drop}
 use Rattle.std.proofs.lemmas.List.{length-drop, length-take, take-append-drop, take-append-le, take_all}
@@ -303,6 +304,45 @@ blanks_skipped blanks region all =
     ap (trim_end_by is_whitespace)
     (ap (λ t. from_start (t ++ region)) (sym same) ∙ start_spaces blanks region white)
 
+-- behind a text they go with it where it is spaces, or stay behind what its front leaves
+start_blanks : (chars blanks : List ℕ) → scalars chars ≡ true → Each IsBlank blanks
+    → (let text = encode_utf8_all chars in
+    ((from_start (text ++ blanks) ≡ []) × (from_start text ≡ []))
+    ⊎ (from_start (text ++ blanks) ≡ from_start text ++ blanks))
+start_blanks [] blanks is all =
+    let (white, same) = blank_spaces blanks all in
+    let none : from_start [] ≡ [] = drop-nil _ in
+    inl (
+      ap from_start (sym same ∙ sym (append-nil (encode_utf8_all blanks)))
+          ∙ start_spaces blanks [] white ∙ none,
+      none,
+    )
+start_blanks (c ∷ cs) blanks is all =
+    let both = and_parts (scalar c) (scalars cs) is in
+    let text = encode_utf8_all cs in
+    let bare = start_char c text both.0 in
+    let more = rw (← append_assoc) at (start_char c (text ++ blanks) both.0) in
+    elim (cases_Bool (is_whitespace c)) [
+      | inl white ↦ rw (bare, more, white) (start_blanks cs blanks both.1 all)
+      | inr dark ↦ inr (rw (bare, more, dark, append_assoc) refl)
+    ]
+
+-- and change no trim there
+pub blanks_behind : (text blanks : List ℕ) → IsUtf8 text → Each IsBlank blanks
+    → trimmed (text ++ blanks) ≡ trimmed text
+blanks_behind text blanks (chars, (is, whole)) all = rw (← whole) (elim (start_blanks chars blanks is all) [
+  | inl (more, bare) ↦ ap (trim_end_by is_whitespace) (more ∙ sym bare)
+  | inr more ↦ ap (trim_end_by is_whitespace) more ∙ back (from_start (encode_utf8_all chars))
+])
+  where
+    back : (left : List ℕ) → trim_end_by is_whitespace (left ++ blanks) ≡ trim_end_by is_whitespace left
+    back left =
+        let (white, same) = blank_spaces blanks all in
+        let end : end_of (left ++ blanks) ≡ end_of left
+        = ap (λ t. end_of (left ++ t)) (sym same) ∙ end_spaces blanks left white in
+        ap (λ k. take k (left ++ blanks)) end
+        ∙ take-append-le (end_of left) left blanks (ended left [] 0 (omega arith, ([], tt, refl))).0
+
 -- ---- visible ends
 
 -- a visible byte is a character that is no space
@@ -318,19 +358,6 @@ graphic_first : (b : ℕ) (rest : List ℕ) → is_ascii_graphic b ≡ true
 graphic_first b rest is =
     let (scalar_b, dark, one) = graphic_char b is in
     (rw one at (start_char b rest scalar_b)) ∙ cond-false _ _ _ dark
-
--- and blanks behind what begins with it change no trim
-pub blanks_behind : (b : ℕ) (rest blanks : List ℕ) → is_ascii_graphic b ≡ true → Each IsBlank blanks
-    → trimmed (b ∷ (rest ++ blanks)) ≡ trimmed (b ∷ rest)
-blanks_behind b rest blanks is all =
-    let text = b ∷ rest in
-    let (white, same) = blank_spaces blanks all in
-    let end : end_of (text ++ blanks) ≡ end_of text
-    = ap (λ t. end_of (text ++ t)) (sym same) ∙ end_spaces blanks text white in
-    ap (trim_end_by is_whitespace) (graphic_first b (rest ++ blanks) is)
-    ∙ ap (λ k. take k (text ++ blanks)) end
-    ∙ take-append-le (end_of text) text blanks (ended text [] 0 (omega arith, ([], tt, refl))).0
-    ∙ sym (ap (trim_end_by is_whitespace) (graphic_first b rest is))
 
 -- a text whose ends are visible is its own trim
 pub graphic_trim : (b : ℕ) (rest : List ℕ) → is_ascii_graphic b ≡ true

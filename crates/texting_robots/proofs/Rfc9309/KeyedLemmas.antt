@@ -4,6 +4,7 @@ use Rattle.std.proofs.Common.{◌++◌, map, flat_map, codes, Bool, true, ◌&&�
 use Rattle.std.proofs.Common.{◌∙◌, subst, append_assoc, append-nil, arith, filter, not, ◌==◌}
 use Rattle.std.specs.List.{AllByRecursion as Each, Contains}
 use Rattle.std.specs.Char.{to_ascii_lowercase}
+use Rattle.std.specs.Str.{IsUtf8}
 use Rattle.std.proofs.lemmas.Bool.{and_parts, eqb-false, ltb-true, not-true}
 use Rattle.std.proofs.lemmas.Bool.Decides.{nat_tests}
 use Rattle.texting_robots.specs.declared.parser.statement.Kind.{Kind}
@@ -234,12 +235,12 @@ blanks_before : (blanks region value : List ℕ) → Each IsBlank blanks → IsT
 blanks_before blanks region value all =
     same_trim (blanks ++ region) region value (blanks_skipped blanks region all)
 
--- blanks around a value that begins with a visible byte change no trim
-pub between_blanks : (gap behind : List ℕ) (x : ℕ) (value read : List ℕ)
-    → Each IsBlank gap × Each IsBlank behind → IsVisible x → IsTrimOf read (x ∷ value)
-    → IsTrimOf read (gap ++ (x ∷ value ++ behind))
-between_blanks gap behind x value read (before, after) visible t =
-    blanks_before gap (x ∷ value ++ behind) read before (blanks_after behind x value read after visible t)
+-- blanks around a text change no trim
+pub between_blanks : (gap behind value read : List ℕ) → Each IsBlank gap × Each IsBlank behind
+    → IsUtf8 value → IsTrimOf read value
+    → IsTrimOf read (gap ++ (value ++ behind))
+between_blanks gap behind value read (before, after) utf8 t =
+    blanks_before gap (value ++ behind) read before (blanks_after behind value read after utf8 t)
 
 -- blanks alone leave nothing
 pub only_blanks : (blanks : List ℕ) → Each IsBlank blanks → IsTrimOf [] blanks

@@ -24,6 +24,7 @@ use Rattle.texting_robots.proofs.Rfc9309.KeyedLemmas.{chars_value, each_weaker, 
 use Rattle.texting_robots.proofs.Rfc9309.KeyedLemmas.{only_blanks, key_word}
 use Rattle.texting_robots.proofs.Rfc9309.ReadLemmas.{Reads, reads_line}
 use Rattle.texting_robots.proofs.Rfc9309.ValueLemmas.{IsVisible, trim_some, trim_utf8, visible_trim}
+use Rattle.texting_robots.proofs.Rfc9309.ValueLemmas.{visible_utf8}
 use Rattle.texting_robots.proofs.Rfc9309.Told.{IsToldFor, Told, blanks_gone, matters, no_blank, text_kept}
 use Rattle.texting_robots.proofs.Rfc9309.Told.{told_of, token_told, written}
 
@@ -72,10 +73,10 @@ token_plain (b ∷ token) (inr is) =
 pub plain_trim : (gap behind bytes : List ℕ) → Each IsBlank gap → Each IsBlank behind
     → Each IsPlain bytes
     → IsTrimOf bytes (gap ++ (bytes ++ behind))
-plain_trim gap behind [] before after plain = blank_trim gap [] behind before tt after
-plain_trim gap behind (b ∷ bytes) before after plain =
-    between_blanks gap behind b bytes (b ∷ bytes) (before, after) plain.0.0
-    (visible_trim (b ∷ bytes) (each_weaker IsPlain IsVisible (λ b is. is.0) (b ∷ bytes) plain))
+plain_trim gap behind bytes before after plain =
+    let visible = each_weaker IsPlain IsVisible (λ b is. is.0) bytes plain in
+    between_blanks gap behind bytes bytes (before, after) (visible_utf8 bytes visible)
+    (visible_trim bytes visible)
 
 -- plain bytes are written as they stand
 pub plain_kept : (bytes : List ℕ) → Each IsPlain bytes → filter no_blank bytes ≡ bytes
@@ -134,7 +135,7 @@ allow_begun (b ∷ rest) text (visible, chars) line =
     (chars_value pattern chars.bytes) line in
     let read = trimmed pattern in
     let trim : IsTrimOf read pattern = trimmed_is_trim pattern in
-    let utf8 = trim_utf8 b rest read visible chars.utf8 trim in
+    let utf8 = trim_utf8 pattern read chars.utf8 trim in
     let rule : Rule = (escaped read, true) in
     record {
       told = (Allow read, pattern);
@@ -145,7 +146,7 @@ allow_begun (b ∷ rest) text (visible, chars) line =
       reads =
           subst (λ value. Reads ((Allow read, value) ∷ []) text) (chars_kept pattern chars.bytes)
           (reads_keyed (codes "allow") pattern text k kind.Allow read (0, omega arith, refl)
-          (between_blanks k.gap k.behind b rest read (k.gap_blank, k.behind_blank) visible trim));
+          (between_blanks k.gap k.behind pattern read (k.gap_blank, k.behind_blank) chars.utf8 trim));
     }
 
 disallow_line : (read body : List ℕ) → read ≢ [] → line_with kind.Disallow read body ≡ Disallow read
@@ -162,7 +163,7 @@ disallow_begun (b ∷ rest) text (visible, chars) line =
     (chars_value pattern chars.bytes) line in
     let read = trimmed pattern in
     let trim : IsTrimOf read pattern = trimmed_is_trim pattern in
-    let utf8 = trim_utf8 b rest read visible chars.utf8 trim in
+    let utf8 = trim_utf8 pattern read chars.utf8 trim in
     let rule : Rule = (escaped read, false) in
     record {
       told = (Disallow read, pattern);
@@ -175,7 +176,7 @@ disallow_begun (b ∷ rest) text (visible, chars) line =
           (subst (λ l. Reads (filter matters ((l, filter no_blank pattern) ∷ [])) text)
           (disallow_line read k.body (trim_some b rest read visible trim))
           (reads_keyed (codes "disallow") pattern text k kind.Disallow read (0, omega arith, refl)
-          (between_blanks k.gap k.behind b rest read (k.gap_blank, k.behind_blank) visible trim)));
+          (between_blanks k.gap k.behind pattern read (k.gap_blank, k.behind_blank) chars.utf8 trim)));
     }
 
 allow_empty : (value text : List ℕ) → Each IsBlank value → rfc.IsKeyed (codes "allow") value text

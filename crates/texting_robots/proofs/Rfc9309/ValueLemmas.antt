@@ -1,6 +1,6 @@
 -- What is left of a value between blanks.
 use Rattle.std.proofs.Common.{◌≡◌, ◌≢◌, ℕ, ◌<◌, true, false, List, [], ◌∷◌, ◌++◌}
-use Rattle.std.proofs.Common.{length, take, IsTrue}
+use Rattle.std.proofs.Common.{length, IsTrue}
 use Rattle.std.proofs.Common.{sym, refl, ap, ◌∙◌, subst, append_assoc, append-nil, arith}
 use Rattle.std.specs.List.{AllByRecursion as Each}
 use Rattle.std.specs.Char.{is_ascii_graphic, is_whitespace, encode_utf8}
@@ -10,7 +10,9 @@ use Rattle.std.proofs.lemmas.List.Elements.{All-from_recursion}
 use Rattle.std.proofs.Math.Utf8.{scalars}
 use Rattle.std.proofs.lemmas.Bool.Decides.{nat_tests}
 use Rattle.std.proofs.lemmas.List.{take_at}
-use Rattle.std.proofs.lemmas.Str.{IsCharBoundary-at_seam, IsUtf8-take, char_from_byte}
+use Rattle.std.proofs.lemmas.Str.{IsCharBoundary-at_seam, IsUtf8-from_ascii, IsUtf8-past_char, IsUtf8-take}
+use Rattle.std.proofs.lemmas.Str.{char_from_byte}
+use Rattle.std.proofs.lemmas.Str.Ascii.{IsAscii-from_all}
 use Rattle.texting_robots.specs.Statement.{IsBlank}
 use Rattle.texting_robots.specs.Trim.{IsSpaces, IsTrimOf}
 use Rattle.texting_robots.proofs.TrimLemmas.{blanks_behind, graphic_trim, same_trim, trimmed_is_trim}
@@ -49,12 +51,12 @@ spaces_utf8 s (chars, all, is) = (chars, (scalar_spaces chars all, sym is))
 
 -- ---- trims
 
--- blanks behind a region that begins with a visible byte change no trim
-pub blanks_after : (blanks : List ℕ) (x : ℕ) (region value : List ℕ) → Each IsBlank blanks
-    → IsVisible x → IsTrimOf value (x ∷ region) → IsTrimOf value (x ∷ (region ++ blanks))
-blanks_after blanks x region value all visible =
-    same_trim (x ∷ (region ++ blanks)) (x ∷ region) value
-    (blanks_behind x region blanks (visible_graphic x visible) all)
+-- blanks behind a text change no trim
+pub blanks_after : (blanks region value : List ℕ) → Each IsBlank blanks → IsUtf8 region
+    → IsTrimOf value region
+    → IsTrimOf value (region ++ blanks)
+blanks_after blanks region value all utf8 =
+    same_trim (region ++ blanks) region value (blanks_behind region blanks utf8 all)
 
 -- visible bytes are their own trim
 pub visible_trim : (bytes : List ℕ) → Each IsVisible bytes → IsTrimOf bytes bytes
@@ -64,18 +66,31 @@ visible_trim (b ∷ bytes) all =
     subst (λ v. IsTrimOf v (b ∷ bytes))
     (graphic_trim b bytes (visible_graphic b all.0) (visible_graphic _ last)) (trimmed_is_trim (b ∷ bytes))
 
--- what is left of a text that begins with a visible byte is a text
-pub trim_utf8 : (x : ℕ) (region value : List ℕ) → IsVisible x → IsUtf8 (x ∷ region)
-    → IsTrimOf value (x ∷ region) → IsUtf8 value
-trim_utf8 x region value visible utf8 t =
-    let none : t.front ≡ [] =
-    spaces_begin t.front (value ++ t.back) region x visible t.front_spaces t.whole in
-    let whole : x ∷ region ≡ value ++ t.back = t.whole ∙ ap (λ f. f ++ (value ++ t.back)) none in
-    subst IsUtf8 (ap (take (length value)) whole ∙ take_at value t.back (length value) refl)
-    (IsUtf8-take (x ∷ region) (length value) utf8
-    (IsCharBoundary-at_seam (x ∷ region) value t.back whole (spaces_utf8 t.back t.back_spaces)))
+-- and a text
+pub visible_utf8 : (bytes : List ℕ) → Each IsVisible bytes → IsUtf8 bytes
+visible_utf8 bytes all =
+    let each = All-from_recursion IsVisible bytes all in
+    IsUtf8-from_ascii bytes
+    (IsAscii-from_all bytes (λ i d within. let visible = each i d within in omega arith))
 
--- and holds some byte
+-- what stands behind spaces in a text is a text
+behind_spaces : (chars text rest : List ℕ) → IsUtf8 text → text ≡ encode_utf8_all chars ++ rest → IsUtf8 rest
+behind_spaces [] text rest utf8 e = subst IsUtf8 e utf8
+behind_spaces (c ∷ cs) text rest utf8 e =
+    let whole = e ∙ append_assoc (encode_utf8 c) (encode_utf8_all cs) rest in
+    behind_spaces cs (encode_utf8_all cs ++ rest) rest
+    (IsUtf8-past_char text (encode_utf8_all cs ++ rest) c utf8 whole) refl
+
+-- what is left of a text is a text
+pub trim_utf8 : (region value : List ℕ) → IsUtf8 region → IsTrimOf value region → IsUtf8 value
+trim_utf8 region value utf8 t =
+    let rest = value ++ t.back in
+    let whole = t.whole ∙ ap (λ f. f ++ rest) t.front_spaces.2 in
+    subst IsUtf8 (take_at value t.back (length value) refl)
+    (IsUtf8-take rest (length value) (behind_spaces t.front_spaces.0 region rest utf8 whole)
+    (IsCharBoundary-at_seam rest value t.back refl (spaces_utf8 t.back t.back_spaces)))
+
+-- what is left of a text that begins with a visible byte holds some byte
 pub trim_some : (x : ℕ) (region value : List ℕ) → IsVisible x → IsTrimOf value (x ∷ region)
     → value ≢ []
 trim_some x region value visible t e =
