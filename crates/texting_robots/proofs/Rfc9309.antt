@@ -14,6 +14,9 @@ pub mod MemberLemmas
 pub mod WordLemmas
 pub mod OtherLemmas
 pub mod ToldLemmas
+pub mod RepeatLemmas
 pub mod FileLemmas
+pub mod SitemapLemmas
+pub mod BareLemmas
 pub mod StandardLemmas
 pub mod Sample

@@ -2,9 +2,9 @@
 -- spells. The names are those of its productions; what a production spells stands before the bytes. Nothing
 -- here is a word of the definitions by which this library reads.
 --
--- This goes further than the standard in four things, and says so where it does: a byte order mark in front,
--- a last line without its end, a pattern that begins with a star, and the lines that the standard leaves to
--- implementers.
+-- `IsRobotstxt` is the standard's syntax and nothing more. `IsFile` goes further in four things, which stand
+-- behind the standard's own productions: a byte order mark in front, a last line without its end, a pattern
+-- that begins with a star, and the lines that the standard leaves to implementers.
 use Rattle.std.specs.Prelude.{◌≡◌, ◌⊎◌, ℕ, ◌≤◌, Bool, true, false, List, [], ◌∷◌}
 use Rattle.std.specs.Prelude.{◌++◌, map, codes, bytes_eq, filter, Contains, if◌then◌else◌}
 use Rattle.std.specs.List.{flat_map, list_any, AllByRecursion as Each}
@@ -49,7 +49,12 @@ pub record Repeats {X : Type 0} (P : List X → List ℕ → Type 0) (items : Li
   pub spelled : items ≡ flat_map (λ piece. piece.items) pieces
   pub whole : text ≡ flat_map (λ piece. piece.bytes) pieces
 
--- a literal string, which stands for itself in any letter case; it is given in small letters
+-- P / Q, where P spells one item and Q none
+abbrev pub IsOneOr : {X : Type 0} → (X → List ℕ → Type 0) → (List ℕ → Type 0)
+    → List X → List ℕ → Type 0
+IsOneOr {X} P Q items text = ((item : X) × P item text × (items ≡ item ∷ [])) ⊎ (Q text × (items ≡ []))
+
+-- a literal string, which stands for itself whatever the case of its ASCII letters; it is given in small ones
 abbrev pub IsLiteral : List ℕ → List ℕ → Type 0
 IsLiteral letters bytes = map to_ascii_lowercase bytes ≡ letters
 
@@ -194,6 +199,30 @@ IsRule (Allow pattern) text = IsRuleWith (codes "allow") pattern text
 IsRule (Disallow pattern) text = IsRuleWith (codes "disallow") pattern text
 IsRule (Delay number) text = ⊥
 
+-- ---- groups and files
+
+-- startgroupline *( startgroupline / Gap ) *( Line / Gap ), where Line spells a member and Gap nothing
+pub record IsGroupOf (Line : Member → List ℕ → Type 0) (Gap : List ℕ → Type 0)
+    (group : Group) (text : List ℕ) : Type 0 where
+  pub token : List ℕ
+  pub tokens : List (List ℕ)
+  pub start : List ℕ
+  pub agents : List ℕ
+  pub lines : List ℕ
+  pub whole : text ≡ start ++ (agents ++ lines)
+  pub is_start : IsStartGroupLine token start
+  pub are_agents : Repeats (IsOneOr IsStartGroupLine Gap) tokens agents
+  pub spelled : group.tokens ≡ token ∷ tokens
+  pub are_members : Repeats (IsOneOr Line Gap) group.members lines
+
+-- group = startgroupline *( startgroupline / emptyline ) *( rule / emptyline )
+abbrev pub IsGroup : Group → List ℕ → Type 0
+IsGroup group text = IsGroupOf IsRule IsEmptyLine group text
+
+-- robotstxt = *( group / emptyline )
+abbrev pub IsRobotstxt : List Group → List ℕ → Type 0
+IsRobotstxt groups text = Repeats (IsOneOr IsGroup IsEmptyLine) groups text
+
 -- ---- further lines, which the standard leaves to implementers
 
 -- %x30-39
@@ -223,11 +252,9 @@ IsDelayLine (Allow pattern) text = ⊥
 IsDelayLine (Disallow pattern) text = ⊥
 IsDelayLine (Delay number) text = IsNumber number × IsKeyed (codes "crawl-delay") number text
 
--- sitemapline = *WS "sitemap" *WS ":" *WS *UTF8-char-noctl EOL
-pub record IsSitemapLine (text : List ℕ) : Type 0 where
-  pub address : List ℕ
-  pub is_address : IsMany IsUtf8CharNoctl address
-  pub is_line : IsKeyed (codes "sitemap") address text
+-- sitemapline = *WS "sitemap" *WS ":" *WS address EOL, where address = *UTF8-char-noctl
+abbrev pub IsSitemapLine : List ℕ → List ℕ → Type 0
+IsSitemapLine address text = IsMany IsUtf8CharNoctl address × IsKeyed (codes "sitemap") address text
 
 -- the names of records that this library reads, in small letters
 abbrev pub names_read : List (List ℕ)
@@ -261,45 +288,31 @@ IsStarRule (Allow pattern) text = IsStarPattern pattern × IsKeyed (codes "allow
 IsStarRule (Disallow pattern) text = IsStarPattern pattern × IsKeyed (codes "disallow") pattern text
 IsStarRule (Delay number) text = ⊥
 
--- ---- groups and files
+-- ---- groups and files with these
 
 -- skipped = emptyline / sitemapline / otherline; the standard has an emptyline alone here
 abbrev pub IsSkipped : List ℕ → Type 0
-IsSkipped text = IsEmptyLine text ⊎ (IsSitemapLine text ⊎ IsOtherLine text)
+IsSkipped text = IsEmptyLine text ⊎ (((address : List ℕ) × IsSitemapLine address text) ⊎ IsOtherLine text)
 
 -- memberline = rule / starrule / delayline; the standard has a rule alone here
 abbrev pub IsMemberLine : Member → List ℕ → Type 0
 IsMemberLine member text = IsRule member text ⊎ (IsStarRule member text ⊎ IsDelayLine member text)
 
--- P / skipped, where P spells one item and a skipped line none
-abbrev pub IsOneOrSkipped : {X : Type 0} → (X → List ℕ → Type 0) → List X → List ℕ → Type 0
-IsOneOrSkipped {X} P items text =
-    ((item : X) × P item text × (items ≡ item ∷ [])) ⊎ (IsSkipped text × (items ≡ []))
-
--- group = startgroupline *( startgroupline / skipped ) *( memberline / skipped )
-pub record IsGroup (group : Group) (text : List ℕ) : Type 0 where
-  pub token : List ℕ
-  pub tokens : List (List ℕ)
-  pub start : List ℕ
-  pub agents : List ℕ
-  pub lines : List ℕ
-  pub whole : text ≡ start ++ (agents ++ lines)
-  pub is_start : IsStartGroupLine token start
-  pub are_agents : Repeats (IsOneOrSkipped IsStartGroupLine) tokens agents
-  pub spelled : group.tokens ≡ token ∷ tokens
-  pub are_members : Repeats (IsOneOrSkipped IsMemberLine) group.members lines
+-- widegroup = startgroupline *( startgroupline / skipped ) *( memberline / skipped )
+abbrev pub IsWideGroup : Group → List ℕ → Type 0
+IsWideGroup group text = IsGroupOf IsMemberLine IsSkipped group text
 
 -- delayline / skipped
 abbrev pub IsFrontPiece : List ℕ → Type 0
 IsFrontPiece text = ((member : Member) × IsDelayLine member text) ⊎ IsSkipped text
 
--- robotstxt = *( delayline / skipped ) *( group / skipped ); the standard has *( group / emptyline )
-pub record IsRobotstxt (groups : List Group) (text : List ℕ) : Type 0 where
+-- widefile = *( delayline / skipped ) *( widegroup / skipped )
+pub record IsWideFile (groups : List Group) (text : List ℕ) : Type 0 where
   pub front : List ℕ
   pub rest : List ℕ
   pub whole : text ≡ front ++ rest
   pub is_front : IsMany IsFrontPiece front
-  pub are_groups : Repeats (IsOneOrSkipped IsGroup) groups rest
+  pub are_groups : Repeats (IsOneOr IsWideGroup IsSkipped) groups rest
 
 -- a byte order mark in UTF-8, which the syntax lacks, or nothing
 abbrev pub IsMark : List ℕ → Type 0
@@ -309,15 +322,30 @@ IsMark bytes = (bytes ≡ []) ⊎ (bytes ≡ 0xEF ∷ 0xBB ∷ 0xBF ∷ [])
 abbrev pub IsLastNl : List ℕ → Type 0
 IsLastNl bytes = (bytes ≡ []) ⊎ IsNl bytes
 
--- a robotstxt, behind a byte order mark or not, whose last NL may be missing
-pub record IsFile (groups : List Group) (text : List ℕ) : Type 0 where
+-- such a content, behind a byte order mark or not, whose last NL may be missing
+pub record IsFileOf (Content : List ℕ → Type 0) (text : List ℕ) : Type 0 where
   pub mark : List ℕ
   pub rest : List ℕ
   pub nl : List ℕ
   pub whole : text ≡ mark ++ rest
   pub is_mark : IsMark mark
   pub is_nl : IsLastNl nl
-  pub is_robotstxt : IsRobotstxt groups (rest ++ nl)
+  pub is_content : Content (rest ++ nl)
+
+abbrev pub IsFile : List Group → List ℕ → Type 0
+IsFile groups text = IsFileOf (IsWideFile groups) text
+
+-- ---- the sitemaps of a file
+
+-- any line but a sitemapline: startgroupline / memberline / emptyline / otherline
+abbrev pub IsUnlisted : List ℕ → Type 0
+IsUnlisted text =
+    ((token : List ℕ) × IsStartGroupLine token text)
+    ⊎ (((member : Member) × IsMemberLine member text) ⊎ (IsEmptyLine text ⊎ IsOtherLine text))
+
+-- a file as nothing but lines, whatever groups they make: the addresses of its sitemaplines, in order
+abbrev pub ListsSitemaps : List (List ℕ) → List ℕ → Type 0
+ListsSitemaps addresses text = IsFileOf (Repeats (IsOneOr IsSitemapLine IsUnlisted) addresses) text
 
 -- ---- what an agent gets of groups
 
@@ -333,7 +361,7 @@ abbrev pub merged : List Group → List Group
 merged [] = []
 merged (group ∷ later) = put_before group.tokens group.members (merged later)
 
--- the product token is the agent, in any letter case
+-- the product token is the agent, whatever the case of their ASCII letters
 abbrev pub is_token : List ℕ → List ℕ → Bool
 is_token agent token = bytes_eq (map to_ascii_lowercase token) (map to_ascii_lowercase agent)
 

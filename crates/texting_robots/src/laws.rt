@@ -23,6 +23,7 @@ ghost use Rattle.texting_robots.specs.Statement.{IsStatement};
 ghost use Rattle.texting_robots.specs.Steps.Captured.{is_captured};
 ghost use Rattle.texting_robots.specs.Steps.Cut.{cut};
 ghost use Rattle.texting_robots.specs.Steps.Delay.{delay_of};
+ghost use Rattle.texting_robots.specs.Trim.{IsTrimOf};
 ghost use Rattle.texting_robots.specs.Verdict.{IsVerdict, robots_file};
 
 /// Every input has its lines, and every value in them is a range of its line's body, but for the `/` of an empty Disallow.
@@ -212,14 +213,22 @@ pub fn each_file_has_its_sitemaps()
 {}
 
 /// Of a file of the standard's syntax an agent gets, in order and each as often, the rules that the file spells for it, each
-/// as `IsReadAs` says: its pattern trimmed and escaped, and an empty Disallow an Allow of `/`. And however such a file is
-/// taken apart, it spells the same groups once they are merged.
+/// as `IsReadAs` says: its pattern trimmed and escaped, and an empty Disallow an Allow of `/`. However such a file is taken
+/// apart, it spells the same groups once they are merged. The sitemaps are, in order, the addresses of the file's sitemap lines,
+/// trimmed. The syntax as the standard has it is part of the wider one that these speak of.
 /// A site owner who writes by the standard relies on it.
 pub fn standard_files_are_read_so()
     ensures read { (text : List ℕ) (groups : List rfc.Group) (agent : List ℕ) → rfc.IsFile groups text
         → AllZip IsReadAs (rfc.rules_for agent (rfc.merged groups)) (rules_for agent (file_lines text)) }
     ensures once { (text : List ℕ) (groups others : List rfc.Group) → rfc.IsFile groups text
         → rfc.IsFile others text → rfc.merged groups ≡ rfc.merged others }
+    ensures sitemaps { (text : List ℕ) (addresses : List (List ℕ)) → rfc.ListsSitemaps addresses text
+        → AllZip IsTrimOf (sitemaps_in (file_lines text)) addresses }
+    ensures listed { (text : List ℕ) (groups : List rfc.Group) → rfc.IsFile groups text
+        → (addresses : List (List ℕ)) × rfc.ListsSitemaps addresses text
+        × ((others : List (List ℕ)) → rfc.ListsSitemaps others text → others ≡ addresses) }
+    ensures bare { (text : List ℕ) (groups : List rfc.Group) → rfc.IsRobotstxt groups text
+        → rfc.IsFile groups text }
 {}
 
 /// Worked examples of lines, each a theorem. Whoever reads the definitions sees in `specs/Examples.antt` what they come to.

@@ -1,35 +1,25 @@
 -- A file: its last line may lack its end, and a byte order mark may stand in front.
-use Rattle.std.proofs.Common.{◌≡◌, ◌≢◌, ◌⊎◌, inl, inr, ℕ, false, List, [], ◌∷◌}
+use Rattle.std.proofs.Common.{◌≡◌, ◌≢◌, ◌⊎◌, inl, inr, ℕ, Bool, not, List, [], ◌∷◌}
 use Rattle.std.proofs.Common.{◌++◌, map, filter, sym, refl, ap, ◌∙◌, append-nil, arith, eqb}
 use Rattle.std.specs.List.{AllByRecursion as Each}
-use Rattle.std.proofs.lemmas.Bool.{cases_Bool, cond-false, false≢true, ne_eqb}
+use Rattle.std.proofs.lemmas.Bool.{cases_Bool, cond-false, ne_eqb}
 use Rattle.std.proofs.lemmas.List.{map-append}
 use Rattle.std.proofs.lemmas.List.Elements.{filter-append}
 use Rattle.texting_robots.specs.Cut.{cr, lf}
-use Rattle.texting_robots.specs.Line.{LineValue, UserAgent, Allow, Disallow, Sitemap, CrawlDelay, Raw}
-use Rattle.texting_robots.specs.Line.{nul_as_lf, without_front}
+use Rattle.texting_robots.specs.Laws.{Same}
+use Rattle.texting_robots.specs.Line.{LineValue, is_raw, nul_as_lf, without_front}
 use Rattle.texting_robots.specs.Computed.{rules_for}
 use Rattle.texting_robots.specs.Steps.Cut.{cut}
 use Rattle.texting_robots.specs.Computed.{file_lines}
 use Rattle.texting_robots.specs.Steps.Line.{line_of}
-use Rattle.texting_robots.specs.Rfc9309.{IsLastNl, IsMark, IsNl}
+use Rattle.texting_robots.specs.Rfc9309.{IsFileOf, IsLastNl, IsMark, IsNl}
 use Rattle.texting_robots.proofs.CutLemmas.{cut_nil}
 use Rattle.texting_robots.proofs.CrLfLemmas.{bodies_of, lines_by_bodies}
-use Rattle.texting_robots.proofs.LawLemmas.{IsNeutral, same_filtered}
+use Rattle.texting_robots.proofs.LawLemmas.{raw_changes_nothing}
 use Rattle.texting_robots.proofs.Rfc9309.BodyLemmas.{body_byte, body_return, body_step, step}
 use Rattle.texting_robots.proofs.Rfc9309.CharLemmas.{each_front}
-use Rattle.texting_robots.proofs.Rfc9309.Told.{Told, matters, plays, told_of}
+use Rattle.texting_robots.proofs.Rfc9309.Told.{Told, matters, told_of}
 use Rattle.texting_robots.proofs.Rfc9309.ReadLemmas.{BeginsLow, Reads, empty_unheard, heard, heard_in}
-
--- ---- lines that may be left out
-
-plays_neutral : (line : LineValue) → plays line ≡ false → IsNeutral line
-plays_neutral (UserAgent value) h = absurd (false≢true (sym h))
-plays_neutral (Allow value) h = absurd (false≢true (sym h))
-plays_neutral (Disallow value) h = absurd (false≢true (sym h))
-plays_neutral (Sitemap value) h = record { agent = refl; group = refl }
-plays_neutral (CrawlDelay delay) h = absurd (false≢true (sym h))
-plays_neutral (Raw body) h = record { agent = refl; group = refl }
 
 -- ---- a last line without its end
 
@@ -113,36 +103,48 @@ low_of_front [] more low = tt
 low_of_front (b ∷ text) more low = low
 
 -- what a file tells, its front taken off
-pub file_heard : (tolds : List Told) (mark text nl : List ℕ) → IsMark mark → IsLastNl nl
-    → Reads tolds (text ++ nl) → heard (without_front (map nul_as_lf (mark ++ text))) ≡ tolds
-file_heard tolds mark text nl is_mark is_nl reads =
-    let no_nul = each_front (λ byte. byte ≢ 0) text nl reads.no_nul in
-    ap heard (behind_mark mark text is_mark no_nul (low_of_front text nl reads.low))
-    ∙ sym (last_unheard text nl is_nl)
-    ∙ sym (ap heard (append-nil (text ++ nl)))
-    ∙ reads.heard []
-    ∙ ap (λ ps. tolds ++ heard_in (bodies_of ps)) cut_nil
-    ∙ append-nil tolds
+abbrev pub told_in : List ℕ → List Told
+told_in text = heard (without_front (map nul_as_lf text))
 
 -- the lines that are told
 abbrev pub lines_in : List Told → List LineValue
 lines_in tolds = map (λ told. told.0) tolds
 
-heard_lines : (bodies : List (List ℕ)) → filter plays (map line_of bodies) ≡ lines_in (heard_in bodies)
-heard_lines [] = refl
-heard_lines (body ∷ bodies) = elim (cases_Bool (plays (line_of body))) [
-  | inl yes_plays ↦ rw yes_plays (ap (λ ls. line_of body ∷ ls) (heard_lines bodies))
-  | inr unheard ↦ rw unheard (heard_lines bodies)
+-- lines that a test drops may be left out before it
+pub kept_lines : (keep : LineValue → Bool) (tolds : List Told)
+    → filter keep (lines_in tolds) ≡ filter keep (lines_in (filter (λ (told : Told). keep told.0) tolds))
+kept_lines keep [] = refl
+kept_lines keep (told ∷ tolds) = elim (cases_Bool (keep told.0)) [
+  | inl kept ↦ rw (kept, kept) (ap (λ ls. told.0 ∷ ls) (kept_lines keep tolds))
+  | inr dropped ↦ rw dropped (kept_lines keep tolds)
 ]
 
--- the rules of a file are those of the lines that are told
-pub file_rules : (agent : List ℕ) (tolds : List Told) (mark text nl : List ℕ)
-    → IsMark mark → IsLastNl nl
-    → Reads tolds (text ++ nl)
-    → rules_for agent (file_lines (mark ++ text)) ≡ rules_for agent (lines_in tolds)
-file_rules agent tolds mark text nl is_mark is_nl reads =
-    let front = without_front (map nul_as_lf (mark ++ text)) in
-    (same_filtered plays plays_neutral agent (file_lines (mark ++ text))).rules
-    ∙ ap (λ ls. rules_for agent (filter plays ls)) (lines_by_bodies (cut front))
-    ∙ ap (rules_for agent) (heard_lines (bodies_of (cut front)))
-    ∙ ap (λ ts. rules_for agent (lines_in ts)) (file_heard tolds mark text nl is_mark is_nl reads)
+lines_told : (bodies : List (List ℕ)) → lines_in (map told_of bodies) ≡ map line_of bodies
+lines_told [] = refl
+lines_told (body ∷ bodies) = ap (λ ls. line_of body ∷ ls) (lines_told bodies)
+
+module _ (Content : List ℕ → Type 0) (text : List ℕ) (file : IsFileOf Content text) (tolds : List Told)
+    (reads : Reads tolds (file.rest ++ file.nl)) where
+  pub file_heard : told_in text ≡ tolds
+  file_heard =
+      let no_nul = each_front (λ byte. byte ≢ 0) file.rest file.nl reads.no_nul in
+      ap told_in file.whole
+      ∙ ap heard
+      (behind_mark file.mark file.rest file.is_mark no_nul (low_of_front file.rest file.nl reads.low))
+      ∙ sym (last_unheard file.rest file.nl file.is_nl)
+      ∙ sym (ap heard (append-nil (file.rest ++ file.nl)))
+      ∙ reads.heard []
+      ∙ ap (λ ps. tolds ++ heard_in (bodies_of ps)) cut_nil
+      ∙ append-nil tolds
+
+  -- an agent gets the same of a file and of the lines that are told
+  pub file_same : (agent : List ℕ) → Same agent (file_lines text) agent (lines_in tolds)
+  file_same agent =
+      let bodies = bodies_of (cut (without_front (map nul_as_lf text))) in
+      let keep : LineValue → Bool = λ line. not (is_raw line) in
+      raw_changes_nothing agent (file_lines text) (lines_in tolds) (
+      ap (filter keep) (lines_by_bodies (cut (without_front (map nul_as_lf text))))
+      ∙ ap (filter keep) (sym (lines_told bodies))
+      ∙ kept_lines keep (map told_of bodies)
+      ∙ ap (λ ts. filter keep (lines_in ts)) file_heard
+      )

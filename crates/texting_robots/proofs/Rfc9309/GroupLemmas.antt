@@ -26,8 +26,8 @@ use Rattle.texting_robots.proofs.Rfc9309.WalkLemmas.{run, run_found}
 
 -- ---- the rules of groups
 
--- members and what they are read as, and more of both behind them
-pub zip_append : {X : Type 0} (R : Member → X → Type 0) (xs vs : List Member) (ys ws : List X)
+-- items and what they are read as, and more of both behind them
+pub zip_append : {X Y : Type 0} (R : X → Y → Type 0) (xs vs : List X) (ys ws : List Y)
     → AllZip R xs ys → AllZip R vs ws → AllZip R (xs ++ vs) (ys ++ ws)
 zip_append R [] vs [] ws first second = second
 zip_append R [] vs (y ∷ ys) ws first second = absurd first

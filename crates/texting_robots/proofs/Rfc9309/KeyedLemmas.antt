@@ -23,10 +23,10 @@ use Rattle.texting_robots.proofs.Rfc9309.Told.{between_gone, no_blank, written, 
 
 -- ---- bytes
 
-pub each_weaker : (P Q : ℕ → Type 0) → ((b : ℕ) → P b → Q b) → (bytes : List ℕ)
-    → Each P bytes → Each Q bytes
+pub each_weaker : {X : Type 0} (P Q : X → Type 0) → ((x : X) → P x → Q x) → (xs : List X)
+    → Each P xs → Each Q xs
 each_weaker P Q weaker [] all = tt
-each_weaker P Q weaker (b ∷ bytes) all = (weaker b all.0, each_weaker P Q weaker bytes all.1)
+each_weaker P Q weaker (x ∷ xs) all = (weaker x all.0, each_weaker P Q weaker xs all.1)
 
 -- a byte of a value: bare, and no hash
 abbrev pub IsValueByte : ℕ → Type 0

@@ -1,27 +1,32 @@
 -- The lines of delays, of members and of sitemaps.
-use Rattle.std.proofs.Common.{◌≡◌, inl, inr, ℕ, false, List, [], ◌∷◌, ◌++◌}
+use Rattle.std.proofs.Common.{◌≡◌, inl, inr, ℕ, true, false, List, [], ◌∷◌, ◌++◌}
 use Rattle.std.proofs.Common.{filter, codes, All, Some, sym, refl, subst, append-nil, arith}
 use Rattle.std.specs.List.{AllByRecursion as Each}
 use Rattle.std.specs.Char.{IsAsciiDigit}
+use Rattle.std.specs.Str.{is_utf8}
 use Rattle.std.specs.Str.Parse.{starts_with_minus, without_leading_plus}
 use Rattle.std.proofs.lemmas.Bool.{ne_eqb}
 use Rattle.std.proofs.lemmas.List.Elements.{All-from_recursion, All-nil}
+use Rattle.std.proofs.lemmas.Str.{is_utf8-from_IsUtf8}
 use Rattle.std.proofs.lemmas.Str.Parse.{without_leading_plus_none}
 use Rattle.texting_robots.specs.declared.parser.statement.Kind.TheVariants as kind
 use Rattle.texting_robots.specs.Delay.{Decimal, NamesDelay, Spells}
-use Rattle.texting_robots.specs.Line.{CrawlDelay}
+use Rattle.texting_robots.specs.Line.{CrawlDelay, Sitemap}
 use Rattle.texting_robots.specs.Steps.Delay.{delay_of, rounded}
 use Rattle.texting_robots.specs.Steps.Line.{delay_or_raw}
 use Rattle.texting_robots.specs.Steps.Statement.{trimmed}
+use Rattle.texting_robots.specs.Trim.{IsTrimOf}
 use Rattle.texting_robots.specs.Rfc9309 as rfc
 use Rattle.texting_robots.proofs.DelayLemmas.{is_delay_of, rounded_rounds}
 use Rattle.texting_robots.proofs.TrimLemmas.{trimmed_is_trim}
 use Rattle.texting_robots.proofs.Rfc9309.CharLemmas.{chars_text, each_append}
-use Rattle.texting_robots.proofs.Rfc9309.KeyedLemmas.{IsValueByte, chars_value, each_weaker, keyed, key_word}
+use Rattle.texting_robots.proofs.Rfc9309.KeyedLemmas.{IsValueByte, between_blanks, chars_value, each_weaker}
+use Rattle.texting_robots.proofs.Rfc9309.KeyedLemmas.{keyed, key_word}
+use Rattle.texting_robots.proofs.Rfc9309.ValueLemmas.{trim_utf8}
 use Rattle.texting_robots.proofs.Rfc9309.ReadLemmas.{Reads}
 use Rattle.texting_robots.proofs.Rfc9309.GroupLemmas.{IsFront}
-use Rattle.texting_robots.proofs.Rfc9309.RuleLemmas.{IsPlain, MemberRead, plain_kept, plain_trim, plain_value}
-use Rattle.texting_robots.proofs.Rfc9309.RuleLemmas.{reads_keyed, rule_line, star_line}
+use Rattle.texting_robots.proofs.Rfc9309.RuleLemmas.{IsPlain, MemberRead, chars_kept, plain_kept}
+use Rattle.texting_robots.proofs.Rfc9309.RuleLemmas.{plain_trim, plain_value, reads_keyed, rule_line, star_line}
 use Rattle.texting_robots.proofs.Rfc9309.Told.{Told, matters, no_blank}
 
 -- ---- delays
@@ -152,11 +157,27 @@ front_line (rfc.Delay number) text is =
 
 -- ---- sitemaps
 
-pub sitemap_line : (text : List ℕ) → rfc.IsSitemapLine text → Reads [] text
-sitemap_line text is =
-    let address = chars_value is.address (chars_text is.address is.is_address).bytes in
+-- a text that tells a sitemap
+pub record SitemapRead (address text : List ℕ) : Type 0 where
+  pub value : List ℕ
+  pub utf8 : is_utf8 value ≡ true
+  pub trim : IsTrimOf value address
+  pub reads : Reads ((Sitemap value, address) ∷ []) text
+
+pub sitemap_line : (address text : List ℕ) → rfc.IsSitemapLine address text → SitemapRead address text
+sitemap_line address text is =
+    let chars = chars_text address is.0 in
     let k =
-    keyed (codes "sitemap") is.address text (key_word (codes "sitemap") refl) address is.is_line in
-    let region : List ℕ = k.gap ++ (is.address ++ k.behind) in
-    reads_keyed (codes "sitemap") is.address text k kind.Sitemap (trimmed region)
-    (0, omega arith, refl) (trimmed_is_trim region)
+    keyed (codes "sitemap") address text (key_word (codes "sitemap") refl)
+    (chars_value address chars.bytes) is.1 in
+    let read = trimmed address in
+    let trim = trimmed_is_trim address in
+    record {
+      value = read;
+      utf8 = is_utf8-from_IsUtf8 read (trim_utf8 address read chars.utf8 trim);
+      trim = trim;
+      reads =
+          subst (λ value. Reads ((Sitemap read, value) ∷ []) text) (chars_kept address chars.bytes)
+          (reads_keyed (codes "sitemap") address text k kind.Sitemap read (0, omega arith, refl)
+          (between_blanks k.gap k.behind address read (k.gap_blank, k.behind_blank) chars.utf8 trim));
+    }

@@ -1,11 +1,12 @@
--- What the lines of a text tell, where it is made of lines; those that play no part in groups are left out.
+-- What the lines of a text tell, where it is made of lines; raw ones are left out.
 use Rattle.std.proofs.Common.{◌≡◌, ◌≢◌, ◌⊎◌, inl, inr, ℕ, ◌<◌}
 use Rattle.std.proofs.Common.{◌≤◌, false, List, [], ◌∷◌, ◌++◌, map, filter}
-use Rattle.std.proofs.Common.{cond, sym, refl, ap, ◌∙◌, append_assoc, arith, eqb}
+use Rattle.std.proofs.Common.{cond, not, sym, refl, ap, ◌∙◌, append_assoc, arith, eqb}
 use Rattle.std.specs.List.{AllByRecursion as Each}
 use Rattle.std.proofs.lemmas.Bool.{ne_eqb}
 use Rattle.std.proofs.lemmas.List.Elements.{filter-append}
 use Rattle.texting_robots.specs.Cut.{cr, lf}
+use Rattle.texting_robots.specs.Line.{is_raw}
 use Rattle.texting_robots.specs.Steps.Cut.{cut}
 use Rattle.texting_robots.specs.Rfc9309.{IsNl}
 use Rattle.texting_robots.proofs.CrLfLemmas.{bodies_of}
@@ -13,7 +14,7 @@ use Rattle.texting_robots.proofs.LineLemmas.{line_raw}
 use Rattle.texting_robots.proofs.Rfc9309.BodyLemmas.{body_return, body_step, step}
 use Rattle.texting_robots.proofs.Rfc9309.CharLemmas.{each_append}
 use Rattle.texting_robots.proofs.StatementLemmas.{valued_parts}
-use Rattle.texting_robots.proofs.Rfc9309.Told.{Told, matters, plays, told_of, written}
+use Rattle.texting_robots.proofs.Rfc9309.Told.{Told, matters, told_of, written}
 
 -- ---- what is heard of a text
 
@@ -27,7 +28,7 @@ heard text = heard_in (bodies_of (cut text))
 
 pub empty_unheard : (bodies : List (List ℕ)) → heard_in ([] ∷ bodies) ≡ heard_in bodies
 empty_unheard bodies =
-    ap (λ line. cond (plays line) ((line, written []) ∷ heard_in bodies) (heard_in bodies))
+    ap (λ line. cond (not (is_raw line)) ((line, written []) ∷ heard_in bodies) (heard_in bodies))
     (line_raw [] (valued_parts [] refl))
 
 -- ---- a line and its end

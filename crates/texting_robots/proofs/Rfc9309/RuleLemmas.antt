@@ -122,7 +122,7 @@ slash_plain = ((omega arith, omega arith), λ e. omega arith)
 star_plain : IsPlain 42
 star_plain = ((omega arith, omega arith), λ e. omega arith)
 
-chars_kept : (text : List ℕ) → Each IsCharByte text → filter no_blank text ≡ text
+pub chars_kept : (text : List ℕ) → Each IsCharByte text → filter no_blank text ≡ text
 chars_kept text chars = text_kept text (each_weaker IsCharByte (λ b. 32 < b) (λ b is. is.0) text chars)
 
 allow_begun : (pattern text : List ℕ) → IsBegun pattern → rfc.IsKeyed (codes "allow") pattern text

@@ -1,7 +1,7 @@
 -- A file of the standard's syntax, to see that the relations can be met: `User-agent:a` and `disallow:/x`,
 -- each with a LF behind it.
 use Rattle.std.proofs.Common.{◌≡◌, ℕ, List, [], ◌∷◌, ◌++◌, codes, inl, inr, refl, arith}
-use Rattle.texting_robots.specs.Rfc9309.{Disallow, Group, IsEol, IsFile, IsGroup, IsPattern, IsRule}
+use Rattle.texting_robots.specs.Rfc9309.{Disallow, Group, IsEol, IsFile, IsPattern, IsRule, IsWideGroup}
 use Rattle.texting_robots.specs.Rfc9309.{IsStartGroupLine, IsUtf8CharNoctl, merged, rules_for}
 
 feed : IsEol (10 ∷ [])
@@ -74,7 +74,7 @@ rule_line = record {
 abbrev group : Group
 group = record { tokens = codes "a" ∷ []; members = Disallow (codes "/x") ∷ [] }
 
-is_group : IsGroup group (agent_text ++ rule_text)
+is_group : IsWideGroup group (agent_text ++ rule_text)
 is_group = record {
   token = codes "a";
   tokens = [];
@@ -101,7 +101,7 @@ is_file = record {
   whole = refl;
   is_mark = inl refl;
   is_nl = inl refl;
-  is_robotstxt = record {
+  is_content = record {
     front = [];
     rest = agent_text ++ rule_text;
     whole = refl;

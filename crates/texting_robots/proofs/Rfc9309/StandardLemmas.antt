@@ -8,6 +8,7 @@ use Rattle.texting_robots.specs.Rfc9309 as rfc
 use Rattle.texting_robots.proofs.Rfc9309.EndLemmas.{lines_in}
 use Rattle.texting_robots.proofs.Rfc9309.FileLemmas.{file_read}
 use Rattle.texting_robots.proofs.Rfc9309.GroupLemmas.{rules_spelled}
+use Rattle.texting_robots.proofs.Rfc9309.SitemapLemmas.{addresses_are, file_lists}
 use Rattle.texting_robots.proofs.Rfc9309.Told.{Told}
 use Rattle.texting_robots.proofs.Rfc9309.ToldLemmas.{front_lines, group_lines, told_groups, told_once}
 use Rattle.std.proofs.Common.{◌≡◌, ℕ, List}
@@ -32,3 +33,12 @@ standard_files_spell_once text groups others file other =
     sym (told_once groups read.front read.behind read.are_front read.are_groups)
     ∙ ap told_groups (sym read.heard ∙ again.heard)
     ∙ told_once others again.front again.behind again.are_front again.are_groups
+
+-- each file has one list of sitemaps
+pub standard_sitemaps_once : (text : List ℕ) (groups : List rfc.Group) → rfc.IsFile groups text
+    → (addresses : List (List ℕ)) × rfc.ListsSitemaps addresses text
+    × ((others : List (List ℕ)) → rfc.ListsSitemaps others text → others ≡ addresses)
+standard_sitemaps_once text groups file =
+    let (addresses, lists) = file_lists text groups file in
+    let same = addresses_are text addresses lists in
+    (addresses, lists, λ others is. sym (addresses_are text others is) ∙ same)

@@ -5,8 +5,7 @@ use Rattle.std.proofs.Common.{◌++◌, filter, refl, ap, ◌∙◌, append-nil,
 use Rattle.std.specs.List.{AllByRecursion as Each}
 use Rattle.std.proofs.lemmas.Bool.{cond-false, cond-true, ne_eqb}
 use Rattle.std.proofs.lemmas.List.Elements.{filter-append}
-use Rattle.texting_robots.specs.Group.{is_agent, is_group}
-use Rattle.texting_robots.specs.Line.{LineValue, UserAgent, Allow, Disallow}
+use Rattle.texting_robots.specs.Line.{LineValue, UserAgent, Allow, Disallow, is_raw, is_sitemap}
 use Rattle.texting_robots.specs.Statement.{IsBlank}
 use Rattle.texting_robots.specs.Steps.Statement.{IsComment, colon, hash, space, tab}
 use Rattle.texting_robots.specs.Steps.Line.{line_of}
@@ -75,12 +74,13 @@ Told = LineValue × List ℕ
 abbrev pub told_of : List ℕ → Told
 told_of body = (line_of body, written body)
 
--- the line plays a part in groups
-abbrev pub plays : LineValue → Bool
-plays line = is_agent line || is_group line
-
+-- a raw line tells nothing
 abbrev pub matters : Told → Bool
-matters told = plays told.0
+matters told = not (is_raw told.0)
+
+-- a sitemap plays no part in groups
+abbrev pub in_groups : Told → Bool
+in_groups told = not (is_sitemap told.0)
 
 -- what a product token tells
 abbrev pub token_told : List ℕ → Told

@@ -1,11 +1,13 @@
 -- What is told of groups: their lines, and the groups themselves once merged.
-use Rattle.std.proofs.Common.{◌≡◌, ◌≢◌, ℕ, true, List, [], ◌∷◌}
+use Rattle.std.proofs.Common.{◌≡◌, ◌≢◌, ℕ, true, false, None, List, [], ◌∷◌}
 use Rattle.std.proofs.Common.{◌++◌, map, refl, ap, ◌∙◌, append-nil}
 use Rattle.std.specs.List.{AllZip, AllByRecursion as Each}
 use Rattle.std.proofs.lemmas.Bool.{false≢true}
 use Rattle.std.proofs.lemmas.List.{map-append}
 use Rattle.texting_robots.specs.Line.{LineValue, UserAgent, Allow, Disallow, Sitemap, CrawlDelay, Raw}
+use Rattle.texting_robots.specs.Line.{is_sitemap}
 use Rattle.texting_robots.specs.Group.{is_group}
+use Rattle.texting_robots.specs.Rules.{sitemap_in}
 use Rattle.texting_robots.specs.Rfc9309 as rfc
 use Rattle.texting_robots.proofs.Rfc9309.EndLemmas.{lines_in}
 use Rattle.texting_robots.proofs.Rfc9309.GroupLemmas.{IsFront}
@@ -31,6 +33,12 @@ abbrev pub IsFrontTold : Told → Type 0
 IsFrontTold told = IsFront told.0
 
 -- ---- the lines
+
+-- a line of a group gives no sitemap
+pub no_sitemap : (line : LineValue) → is_group line ≡ true
+    → (is_sitemap line ≡ false) × (sitemap_in line ≡ None)
+no_sitemap (Sitemap value) is = absurd (false≢true is)
+no_sitemap _ is = (refl, refl)
 
 token_lines : (tokens : List (List ℕ)) → lines_in (map token_told tokens) ≡ map UserAgent tokens
 token_lines [] = refl

@@ -1,5 +1,7 @@
+use Rattle.texting_robots.proofs.Rfc9309.BareLemmas.{robotstxt_is_file}
+use Rattle.texting_robots.proofs.Rfc9309.SitemapLemmas.{sitemaps_are_read}
 use Rattle.texting_robots.proofs.Rfc9309.StandardLemmas.{standard_files_are_read_so}
-use Rattle.texting_robots.proofs.Rfc9309.StandardLemmas.{standard_files_spell_once}
+use Rattle.texting_robots.proofs.Rfc9309.StandardLemmas.{standard_files_spell_once, standard_sitemaps_once}
 use Rattle.texting_robots.proofs.laws.standard_files_are_read_so.Goals as goal
 
 pub returns-clause-read : goal.returns-clause-read
@@ -7,3 +9,12 @@ returns-clause-read c = standard_files_are_read_so
 
 pub returns-clause-once : goal.returns-clause-once
 returns-clause-once c = standard_files_spell_once
+
+pub returns-clause-sitemaps : goal.returns-clause-sitemaps
+returns-clause-sitemaps c = sitemaps_are_read
+
+pub returns-clause-listed : goal.returns-clause-listed
+returns-clause-listed c = standard_sitemaps_once
+
+pub returns-clause-bare : goal.returns-clause-bare
+returns-clause-bare c = robotstxt_is_file

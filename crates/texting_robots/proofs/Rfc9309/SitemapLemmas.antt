@@ -1,0 +1,205 @@
+-- The sitemaps of a file are those of its sitemap lines.
+use Rattle.std.proofs.Common.{◌≡◌, inl, inr, ℕ, List, [], ◌∷◌, ◌++◌, filter, map}
+use Rattle.std.proofs.Common.{flat_map, sym, refl, ap, ◌∙◌, subst, append-nil}
+use Rattle.std.specs.List.{AllZip, AllByRecursion as Each}
+use Rattle.std.proofs.lemmas.Grind.{flat_map-append}
+use Rattle.std.proofs.lemmas.List.{map-append}
+use Rattle.std.proofs.lemmas.List.Elements.{filter-append, filter_map-append}
+use Rattle.texting_robots.specs.Line.{Sitemap, is_sitemap}
+use Rattle.texting_robots.specs.Parsed.{file_lines}
+use Rattle.texting_robots.specs.Rules.{sitemap_in, sitemaps_in}
+use Rattle.texting_robots.specs.Trim.{IsTrimOf}
+use Rattle.texting_robots.specs.Rfc9309 as rfc
+use Rattle.texting_robots.proofs.Rfc9309.CharLemmas.{each_append}
+use Rattle.texting_robots.proofs.Rfc9309.EndLemmas.{file_heard, file_same, lines_in, told_in}
+use Rattle.texting_robots.proofs.Rfc9309.GroupLemmas.{zip_append}
+use Rattle.texting_robots.proofs.Rfc9309.MemberLemmas.{member_line, sitemap_line}
+use Rattle.texting_robots.proofs.Rfc9309.OtherLemmas.{empty_line, other_line}
+use Rattle.texting_robots.proofs.Rfc9309.RepeatLemmas.{IsJoin, ReadBy, repeated}
+use Rattle.texting_robots.proofs.Rfc9309.RuleLemmas.{token_line}
+use Rattle.texting_robots.proofs.Rfc9309.Told.{Told, token_told}
+use Rattle.texting_robots.proofs.Rfc9309.ToldLemmas.{no_sitemap}
+
+-- the addresses that are told, as they are written
+abbrev addresses_in : List Told → List (List ℕ)
+addresses_in tolds = map (λ told. told.1) (filter (λ told. is_sitemap told.0) tolds)
+
+-- what lines with these addresses tell
+record AreAddresses (addresses : List (List ℕ)) (tolds : List Told) : Type 0 where
+  spelled : addresses_in tolds ≡ addresses
+  read : AllZip IsTrimOf (sitemaps_in (lines_in tolds)) addresses
+
+addresses_join : IsJoin AreAddresses
+addresses_join = record {
+  none = record { spelled = refl; read = tt };
+  both = λ addresses more tolds later is also. record {
+    spelled =
+        ap (map (λ told. told.1)) (filter-append (λ told. is_sitemap told.0) tolds later)
+        ∙ map-append (λ told. told.1) (filter (λ told. is_sitemap told.0) tolds) _
+        ∙ ap (λ a. a ++ addresses_in later) is.spelled
+        ∙ ap (λ a. addresses ++ a) also.spelled;
+    read =
+        subst (λ s. AllZip IsTrimOf s (addresses ++ more))
+        (sym (
+        ap sitemaps_in (map-append (λ (told : Told). told.0) tolds later)
+        ∙ filter_map-append sitemap_in (lines_in tolds) (lines_in later)))
+        (zip_append IsTrimOf (sitemaps_in (lines_in tolds)) _ addresses more is.read also.read);
+  };
+}
+
+address_read : (address text : List ℕ) → rfc.IsSitemapLine address text
+    → ReadBy AreAddresses (address ∷ []) text
+address_read address text is =
+    let read = sitemap_line address text is in
+    record {
+      tolds = (Sitemap read.value, address) ∷ [];
+      belong = record { spelled = refl; read = rw read.utf8 (read.trim, tt) };
+      reads = read.reads;
+    }
+
+unlisted_read : (text : List ℕ) → rfc.IsUnlisted text → ReadBy AreAddresses [] text
+unlisted_read text (inl (token, is)) = record {
+  tolds = token_told token ∷ [];
+  belong = record { spelled = refl; read = tt };
+  reads = token_line token text is;
+}
+unlisted_read text (inr (inl (member, is))) =
+    let read = member_line member text is in
+    let none = no_sitemap read.told.0 read.is_told.line.group in
+    record {
+      tolds = read.told ∷ [];
+      belong = record { spelled = rw none.0 refl; read = rw none.1 tt };
+      reads = read.reads;
+    }
+unlisted_read text (inr (inr (inl is))) =
+    record { tolds = []; belong = addresses_join.none; reads = empty_line text is }
+unlisted_read text (inr (inr (inr is))) =
+    record { tolds = []; belong = addresses_join.none; reads = other_line text is }
+
+-- ---- a file
+
+module _ (text : List ℕ) (addresses : List (List ℕ)) (file : rfc.ListsSitemaps addresses text) where
+  abbrev content : List ℕ → Type 0
+  content text = rfc.Repeats (rfc.IsOneOr rfc.IsSitemapLine rfc.IsUnlisted) addresses text
+
+  file_read : ReadBy AreAddresses addresses (file.rest ++ file.nl)
+  file_read =
+      repeated AreAddresses addresses_join rfc.IsSitemapLine rfc.IsUnlisted address_read unlisted_read
+      addresses (file.rest ++ file.nl) file.is_content
+
+  pub sitemaps_are_read : AllZip IsTrimOf (sitemaps_in (file_lines text)) addresses
+  sitemaps_are_read =
+      subst (λ s. AllZip IsTrimOf s addresses)
+      (sym (file_same content text file file_read.tolds file_read.reads []).1)
+      file_read.belong.read
+
+  pub addresses_are : addresses_in (told_in text) ≡ addresses
+  addresses_are =
+      ap addresses_in (file_heard content text file file_read.tolds file_read.reads)
+      ∙ file_read.belong.spelled
+
+-- ---- each file is a file of lines
+
+-- the text is lines, which spell some sitemaps
+abbrev IsListing : List ℕ → Type 0
+IsListing text =
+    (addresses : List (List ℕ)) × rfc.Repeats (rfc.IsOneOr rfc.IsSitemapLine rfc.IsUnlisted) addresses text
+
+line_listed : (text : List ℕ) (addresses : List (List ℕ))
+    → rfc.IsOneOr rfc.IsSitemapLine rfc.IsUnlisted addresses text
+    → IsListing text
+line_listed text addresses is = (
+  addresses,
+  record {
+    pieces = record { items = addresses; bytes = text } ∷ [];
+    each = (is, tt);
+    spelled = sym (append-nil addresses);
+    whole = sym (append-nil text);
+  },
+)
+
+unlisted : (text : List ℕ) → rfc.IsUnlisted text → IsListing text
+unlisted text is = line_listed text [] (inr (is, refl))
+
+nothing_listed : IsListing []
+nothing_listed = ([], record { pieces = []; each = tt; spelled = refl; whole = refl })
+
+both_listed : (text later : List ℕ) → IsListing text → IsListing later → IsListing (text ++ later)
+both_listed text later (addresses, is) (more, also) =
+    let spelled = flat_map-append (λ (piece : rfc.Piece (List ℕ)). piece.items) is.pieces also.pieces in
+    let whole = flat_map-append (λ (piece : rfc.Piece (List ℕ)). piece.bytes) is.pieces also.pieces in (
+      addresses ++ more,
+      record {
+        pieces = is.pieces ++ also.pieces;
+        each = each_append _ is.pieces also.pieces is.each also.each;
+        spelled = cc;
+        whole = cc;
+      },
+    )
+
+skipped_listed : (text : List ℕ) → rfc.IsSkipped text → IsListing text
+skipped_listed text (inl is) = unlisted text (inr (inr (inl is)))
+skipped_listed text (inr (inl (address, is))) = line_listed text (address ∷ []) (inl (address, is, refl))
+skipped_listed text (inr (inr is)) = unlisted text (inr (inr (inr is)))
+
+items_listed : {X : Type 0} (P : X → List ℕ → Type 0)
+    → ((item : X) (text : List ℕ) → P item text → IsListing text)
+    → (items : List X) (text : List ℕ) → rfc.Repeats (rfc.IsOneOr P rfc.IsSkipped) items text
+    → IsListing text
+items_listed {X} P one items text is = subst IsListing (sym is.whole) (pieces is.pieces is.each)
+  where
+    piece_listed : (items : List X) (text : List ℕ) → rfc.IsOneOr P rfc.IsSkipped items text → IsListing text
+    piece_listed items text (inl (item, is, same)) = one item text is
+    piece_listed items text (inr (is, none)) = skipped_listed text is
+
+    pieces : (pieces : List (rfc.Piece X))
+        → Each (λ piece. rfc.IsOneOr P rfc.IsSkipped piece.items piece.bytes) pieces
+        → IsListing (flat_map (λ piece. piece.bytes) pieces)
+    pieces [] all = nothing_listed
+    pieces (piece ∷ later) all =
+        both_listed piece.bytes _ (piece_listed piece.items piece.bytes all.0) (pieces later all.1)
+
+token_listed : (token text : List ℕ) → rfc.IsStartGroupLine token text → IsListing text
+token_listed token text is = unlisted text (inl (token, is))
+
+member_listed : (member : rfc.Member) (text : List ℕ) → rfc.IsMemberLine member text → IsListing text
+member_listed member text is = unlisted text (inr (inl (member, is)))
+
+group_listed : (group : rfc.Group) (text : List ℕ) → rfc.IsWideGroup group text → IsListing text
+group_listed group text is =
+    subst IsListing (sym is.whole)
+    (both_listed is.start (is.agents ++ is.lines) (token_listed is.token is.start is.is_start)
+    (both_listed is.agents is.lines
+    (items_listed rfc.IsStartGroupLine token_listed is.tokens is.agents is.are_agents)
+    (items_listed rfc.IsMemberLine member_listed group.members is.lines is.are_members)))
+
+front_listed : (pieces : List (List ℕ)) → Each rfc.IsFrontPiece pieces
+    → IsListing (flat_map (λ (piece : List ℕ). piece) pieces)
+front_listed [] all = nothing_listed
+front_listed (piece ∷ pieces) all = both_listed piece _ (front all.0) (front_listed pieces all.1)
+  where
+    front : rfc.IsFrontPiece piece → IsListing piece
+    front (inl (member, is)) = member_listed member piece (inr (inr is))
+    front (inr is) = skipped_listed piece is
+
+-- each file has a list of sitemaps
+pub file_lists : (text : List ℕ) (groups : List rfc.Group) → rfc.IsFile groups text
+    → (addresses : List (List ℕ)) × rfc.ListsSitemaps addresses text
+file_lists text groups file =
+    let content = file.is_content in
+    let front = subst IsListing (sym content.is_front.whole)
+    (front_listed content.is_front.pieces content.is_front.each) in
+    let (addresses, is) = subst IsListing (sym content.whole)
+    (both_listed content.front content.rest front
+    (items_listed rfc.IsWideGroup group_listed groups content.rest content.are_groups)) in (
+      addresses,
+      record {
+        mark = file.mark;
+        rest = file.rest;
+        nl = file.nl;
+        whole = file.whole;
+        is_mark = file.is_mark;
+        is_nl = file.is_nl;
+        is_content = is;
+      },
+    )
