@@ -4,6 +4,7 @@ pub mod WalkLemmas
 pub mod GroupLemmas
 pub mod Told
 pub mod CharLemmas
+pub mod SyntaxLemmas
 pub mod BodyLemmas
 pub mod ReadLemmas
 pub mod EndLemmas

@@ -1,6 +1,6 @@
 //! Laws over the definitions, each the contract of a function that computes nothing.
 ghost use Rattle.std.specs.Prelude.{◌≡◌, ◌≢◌, ◌<◌, ◌↔◌, ◌⊎◌, ℕ, Bool, true, false, not, List, [], ◌∷◌, ◌++◌};
-ghost use Rattle.std.specs.Prelude.{Any, ◌+◌, Option, Some, None, IsTrue, IsPermutation, filter, length};
+ghost use Rattle.std.specs.Prelude.{Any, ◌+◌, Option, Some, None, IsTrue, IsPermutation, codes, filter, length};
 ghost use Rattle.std.specs.declared.cmp.Ordering.TheVariants.{Less, Equal};
 ghost use Rattle.std.specs.List.{AllZip};
 ghost use Rattle.std.specs.Str.{str_to_ascii_lowercase};
@@ -17,6 +17,7 @@ ghost use Rattle.texting_robots.specs.Order.{IsBefore, pattern_cmp};
 ghost use Rattle.texting_robots.specs.Computed.{delay_for, file_lines, parsed, placed_rules, rules_for, sitemaps_in};
 ghost use Rattle.texting_robots.specs.Pattern.{IsOverlong, Matches, MatchesWith, collapsed};
 ghost use Rattle.texting_robots.specs.Rfc9309 as rfc;
+ghost use Rattle.texting_robots.specs.Rfc9309Sample as sample;
 ghost use Rattle.texting_robots.specs.Robot.{AnswerAlike, IsRobotOf, RobotValue};
 ghost use Rattle.texting_robots.specs.Rules.{AreRulesFor, AreSitemapsOf, HoldsRule, IsDelayFor, IsRefused, PlacedRule, Rule, unplaced};
 ghost use Rattle.texting_robots.specs.Statement.{IsStatement};
@@ -229,6 +230,15 @@ pub fn standard_files_are_read_so()
         × ((others : List (List ℕ)) → rfc.ListsSitemaps others text → others ≡ addresses) }
     ensures bare { (text : List ℕ) (groups : List rfc.Group) → rfc.IsRobotstxt groups text
         → rfc.IsFile groups text }
+{}
+
+/// The two samples are files of the syntax that `standard_files_are_read_so` speaks of, and between them they use every production.
+/// Whoever reads that law relies on it: what it asks of a file can be met.
+pub fn standard_samples_are_files()
+    ensures bare { rfc.IsRobotstxt sample.bare_groups sample.bare_text }
+    ensures wide { rfc.IsFile sample.wide_groups sample.wide_text }
+    ensures sitemaps { rfc.ListsSitemaps sample.wide_sitemaps sample.wide_text }
+    ensures rules { rfc.rules_for (codes "BOT") (rfc.merged sample.wide_groups) ≡ sample.wide_rules }
 {}
 
 /// Worked examples of lines, each a theorem. Whoever reads the definitions sees in `specs/Examples.antt` what they come to.

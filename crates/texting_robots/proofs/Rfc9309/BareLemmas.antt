@@ -4,10 +4,10 @@ use Rattle.texting_robots.specs.Rfc9309 as rfc
 use Rattle.texting_robots.proofs.Rfc9309.KeyedLemmas.{each_weaker}
 
 -- each P is a Q
-abbrev IsWeaker : {X : Type 0} → (X → List ℕ → Type 0) → (X → List ℕ → Type 0) → Type 0
+abbrev pub IsWeaker : {X : Type 0} → (X → List ℕ → Type 0) → (X → List ℕ → Type 0) → Type 0
 IsWeaker {X} P Q = (x : X) (text : List ℕ) → P x text → Q x text
 
-repeats_weaker : {X : Type 0} (P Q : X → List ℕ → Type 0) → IsWeaker P Q
+pub repeats_weaker : {X : Type 0} (P Q : X → List ℕ → Type 0) → IsWeaker P Q
     → IsWeaker (rfc.Repeats (rfc.IsOneOr P rfc.IsEmptyLine)) (rfc.Repeats (rfc.IsOneOr Q rfc.IsSkipped))
 repeats_weaker P Q weaker items text is = record {
   pieces = is.pieces;
@@ -23,7 +23,7 @@ repeats_weaker P Q weaker items text is = record {
     one_or items text (inl (item, is, same)) = inl (item, weaker item text is, same)
     one_or items text (inr (is, none)) = inr (inl is, none)
 
-group_is_wide : IsWeaker rfc.IsGroup rfc.IsWideGroup
+pub group_is_wide : IsWeaker rfc.IsGroup rfc.IsWideGroup
 group_is_wide group text is = record {
   token = is.token;
   tokens = is.tokens;

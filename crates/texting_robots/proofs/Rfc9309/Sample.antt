@@ -1,120 +1,434 @@
--- A file of the standard's syntax, to see that the relations can be met: `User-agent:a` and `disallow:/x`,
--- each with a LF behind it.
-use Rattle.std.proofs.Common.{◌≡◌, ℕ, List, [], ◌∷◌, ◌++◌, codes, inl, inr, refl, arith}
-use Rattle.texting_robots.specs.Rfc9309.{Disallow, Group, IsEol, IsFile, IsPattern, IsRule, IsWideGroup}
-use Rattle.texting_robots.specs.Rfc9309.{IsStartGroupLine, IsUtf8CharNoctl, merged, rules_for}
+-- The samples in `specs/Rfc9309Sample.antt` are files of the syntax, line by line.
+use Rattle.std.proofs.Common.{◌≡◌, inl, inr, ℕ, Bool, true, false, not, List, [], ◌∷◌, ◌++◌, codes}
+use Rattle.std.proofs.Common.{◌==◌, ◌||◌, ◌&&◌, bytes_eq, flat_map, drop, nat_le, refl, ap, arith}
+use Rattle.std.specs.List.{AllByRecursion as Each, Contains, list_all}
+use Rattle.std.proofs.lemmas.Bool.{and_parts, cases_Bool, eqb-true}
+use Rattle.std.proofs.lemmas.Bool.Decides.{nat_tests}
+use Rattle.std.proofs.lemmas.List.Elements.{All-contains, All-from_recursion}
+use Rattle.texting_robots.specs.Rfc9309 as rfc
+use Rattle.texting_robots.specs.Rfc9309Sample.{cr, cr_lf, lf, path}
+use Rattle.texting_robots.specs.Rfc9309Sample as sample
+use Rattle.texting_robots.proofs.Rfc9309.BareLemmas.{group_is_wide, repeats_weaker}
+use Rattle.texting_robots.proofs.Rfc9309.SyntaxLemmas.{repeats_both, repeats_none, repeats_one}
 
-feed : IsEol (10 ∷ [])
-feed = record {
-  blanks = [];
+-- ---- texts whose parts pass a test, as is computed
+
+passing : {X : Type 0} (P : X → Type 0) (test : X → Bool) → ((x : X) → test x ≡ true → P x)
+    → (xs : List X) → list_all test xs ≡ true
+    → Each P xs
+passing P test is [] all = tt
+passing P test is (x ∷ xs) all =
+    let both = and_parts (test x) (list_all test xs) all in
+    (is x both.0, passing P test is xs both.1)
+
+-- pieces of one byte each
+singles : (P : List ℕ → Type 0) (text : List ℕ) → Each (λ b. P (b ∷ [])) text → rfc.IsMany P text
+singles P [] all = record { pieces = []; each = tt; whole = refl }
+singles P (b ∷ text) all =
+    let rest = singles P text all.1 in
+    record {
+      pieces = (b ∷ []) ∷ rest.pieces;
+      each = (all.0, rest.each);
+      whole = ap (λ t. b ∷ t) rest.whole;
+    }
+
+abbrev is_one : ℕ → Bool
+is_one b = nat_le 0x21 b && (nat_le b 0x7F && not (b == 0x23))
+
+one : (b : ℕ) → is_one b ≡ true → rfc.IsUtf8CharNoctl (b ∷ [])
+one b is = elim (cases_Bool (b == 0x21)) [
+  | inl e ↦ inl (inl (eqb-true b 0x21 e))
+  | inr no_first ↦ elim (cases_Bool (b == 0x22)) [
+    | inl e ↦ inl (inr (inl (eqb-true b 0x22 e)))
+    | inr other ↦ inl (inr (inr (grind (arith, nat_tests), grind (arith, nat_tests))))
+  ]
+]
+
+-- characters of one byte
+ones : (text : List ℕ) → list_all is_one text ≡ true → rfc.IsMany rfc.IsUtf8CharNoctl text
+ones text all = singles rfc.IsUtf8CharNoctl text (passing _ is_one one text all)
+
+abbrev is_remark : ℕ → Bool
+is_remark b = is_one b || ((b == 0x20 || b == 0x09) || b == 0x23)
+
+remark : (b : ℕ) → is_remark b ≡ true → rfc.IsCommentPiece (b ∷ [])
+remark b is = elim (cases_Bool (is_one b)) [
+  | inl e ↦ inl (one b e)
+  | inr no_first ↦ elim (cases_Bool (b == 0x20)) [
+    | inl e ↦ inr (inl (b, inl (eqb-true b 0x20 e), refl))
+    | inr none ↦ elim (cases_Bool (b == 0x09)) [
+      | inl e ↦ inr (inl (b, inr (eqb-true b 0x09 e), refl))
+      | inr other ↦ inr (inr (ap (λ c. c ∷ []) (grind (arith, nat_tests))))
+    ]
+  ]
+]
+
+remarks : (text : List ℕ) → list_all is_remark text ≡ true → rfc.IsMany rfc.IsCommentPiece text
+remarks text all = singles rfc.IsCommentPiece text (passing _ is_remark remark text all)
+
+abbrev is_letter : ℕ → Bool
+is_letter b =
+    (b == 0x2D || b == 0x5F) || ((nat_le 0x41 b && nat_le b 0x5A) || (nat_le 0x61 b && nat_le b 0x7A))
+
+letter : (b : ℕ) → is_letter b ≡ true → rfc.IsIdentifierByte b
+letter b is = elim (cases_Bool (b == 0x2D)) [
+  | inl e ↦ inl (eqb-true b 0x2D e)
+  | inr no_first ↦ elim (cases_Bool (b == 0x5F)) [
+    | inl e ↦ inr (inr (inl (eqb-true b 0x5F e)))
+    | inr none ↦ elim (cases_Bool (nat_le b 0x5A)) [
+      | inl low ↦ inr (inl (grind (arith, nat_tests), grind (arith, nat_tests)))
+      | inr high ↦ inr (inr (inr (grind (arith, nat_tests), grind (arith, nat_tests))))
+    ]
+  ]
+]
+
+-- ---- the parts of lines
+
+feed : rfc.IsNl lf
+feed = inr (inl refl)
+
+space : Each rfc.IsWs (codes " ")
+space = (inl refl, tt)
+
+tab : Each rfc.IsWs (codes "\t")
+tab = (inr refl, tt)
+
+end : (blanks nl : List ℕ) → Each rfc.IsWs blanks → rfc.IsNl nl → rfc.IsEol (blanks ++ nl)
+end blanks nl all is = record {
+  blanks = blanks;
   comment = [];
-  nl = 10 ∷ [];
+  nl = nl;
   whole = refl;
-  are_blanks = tt;
+  are_blanks = all;
   is_comment = inl refl;
-  is_nl = inr (inl refl);
+  is_nl = is;
 }
 
-abbrev agent_text : List ℕ
-agent_text = codes "User-agent:a" ++ 10 ∷ []
+lf_end : rfc.IsEol lf
+lf_end = end [] lf tt feed
 
-abbrev rule_text : List ℕ
-rule_text = codes "disallow:/x" ++ 10 ∷ []
+cr_lf_end : rfc.IsEol cr_lf
+cr_lf_end = end [] cr_lf tt (inr (inr refl))
 
-agent_line : IsStartGroupLine (codes "a") agent_text
-agent_line = (
-  inl (inr (inr (inr (omega arith, omega arith))), tt),
-  record {
-    margin = [];
-    key = codes "User-agent";
-    blanks = [];
-    gap = [];
-    eol = 10 ∷ [];
-    whole = refl;
-    margin_blank = tt;
-    is_key = refl;
-    blanks_blank = tt;
-    gap_blank = tt;
-    is_eol = feed;
-  },
-)
-
-letter_x : IsUtf8CharNoctl (codes "x")
-letter_x = inl (inr (inr (omega arith, omega arith)))
-
-pattern : IsPattern (codes "/x") (codes "/x")
-pattern = inl (
-  record {
-    text = codes "x";
-    is_text = record { pieces = codes "x" ∷ []; each = (letter_x, tt); whole = refl };
-    whole = refl;
-  },
-  refl,
-)
-
-rule_line : IsRule (Disallow (codes "/x")) rule_text
-rule_line = record {
-  value = codes "/x";
-  is_pattern = pattern;
-  is_line = record {
-    margin = [];
-    key = codes "disallow";
-    blanks = [];
-    gap = [];
-    eol = 10 ∷ [];
-    whole = refl;
-    margin_blank = tt;
-    is_key = refl;
-    blanks_blank = tt;
-    gap_blank = tt;
-    is_eol = feed;
-  };
-}
-
-abbrev group : Group
-group = record { tokens = codes "a" ∷ []; members = Disallow (codes "/x") ∷ [] }
-
-is_group : IsWideGroup group (agent_text ++ rule_text)
-is_group = record {
-  token = codes "a";
-  tokens = [];
-  start = agent_text;
-  agents = [];
-  lines = rule_text;
+-- blanks, a comment and a line feed
+comment : (blanks text : List ℕ) → Each rfc.IsWs blanks → list_all is_remark text ≡ true
+    → rfc.IsEol (blanks ++ (codes "#" ++ text ++ lf))
+comment blanks text all is = record {
+  blanks = blanks;
+  comment = codes "#" ++ text;
+  nl = lf;
   whole = refl;
-  is_start = agent_line;
-  are_agents = record { pieces = []; each = tt; spelled = refl; whole = refl };
-  spelled = refl;
-  are_members = record {
-    pieces = record { items = Disallow (codes "/x") ∷ []; bytes = rule_text } ∷ [];
-    each = (inl (Disallow (codes "/x"), inl rule_line, refl), tt);
+  are_blanks = all;
+  is_comment = inr (record { text = text; is_text = remarks text is; whole = refl });
+  is_nl = feed;
+}
+
+-- a key, a colon, a space, a value and an end
+keyed : (word key value eol : List ℕ) → rfc.IsLiteral word key → rfc.IsEol eol
+    → rfc.IsKeyed word value (key ++ (codes ": " ++ (value ++ eol)))
+keyed word key value eol is is_eol = record {
+  margin = [];
+  key = key;
+  blanks = [];
+  gap = codes " ";
+  eol = eol;
+  whole = refl;
+  margin_blank = tt;
+  is_key = is;
+  blanks_blank = tt;
+  gap_blank = space;
+  is_eol = is_eol;
+}
+
+-- the same with a line feed at its end
+fed : (word key value : List ℕ) → rfc.IsLiteral word key
+    → rfc.IsKeyed word value (key ++ (codes ": " ++ (value ++ lf)))
+fed word key value is = keyed word key value lf is lf_end
+
+token : (text : List ℕ) → list_all is_letter text ≡ true → Each rfc.IsIdentifierByte text
+token text all = passing rfc.IsIdentifierByte is_letter letter text all
+
+-- ---- the lines of the standard's syntax
+
+bot : rfc.IsStartGroupLine (codes "bot") (codes "user-agent: bot" ++ cr_lf)
+bot = (
+  inl (token (codes "bot") refl),
+  keyed (codes "user-agent") (codes "user-agent") (codes "bot") cr_lf refl cr_lf_end,
+)
+
+more : rfc.IsEmptyLine (codes "\t# more of it # here" ++ lf)
+more = comment (codes "\t") (codes " more of it # here") tab refl
+
+other_bot : rfc.IsStartGroupLine (codes "other-bot_x") (codes " User-Agent\t:\tother-bot_x " ++ cr)
+other_bot = (
+  inl (token (codes "other-bot_x") refl),
+  record {
+    margin = codes " ";
+    key = codes "User-Agent";
+    blanks = codes "\t";
+    gap = codes "\t";
+    eol = codes " " ++ cr;
+    whole = refl;
+    margin_blank = space;
+    is_key = refl;
+    blanks_blank = tab;
+    gap_blank = tab;
+    is_eol = end (codes " ") cr space (inl refl);
+  },
+)
+
+is_path : rfc.IsPathPattern path
+is_path = record {
+  text = codes "a!\"*$" ++ 0xC3 ∷ 0xB6 ∷ 0xE3 ∷ 0x83 ∷ 0x84 ∷ 0xF0 ∷ 0x9F ∷ 0xA4 ∷ 0x96 ∷ [];
+  is_text = record {
+    pieces =
+        codes "a" ∷ codes "!" ∷ codes "\"" ∷ codes "*" ∷ codes "$" ∷ (0xC3 ∷ 0xB6 ∷ [])
+        ∷ (0xE3 ∷ 0x83 ∷ 0x84 ∷ []) ∷ (0xF0 ∷ 0x9F ∷ 0xA4 ∷ 0x96 ∷ []) ∷ [];
+    each = (
+      one 97 refl,
+      (one 33 refl, (one 34 refl, (one 42 refl, (one 36 refl, (of_two, (of_three, (of_four, tt))))))),
+    );
+    whole = refl;
+  };
+  whole = refl;
+}
+  where
+    tail : (b : ℕ) → nat_le 0x80 b && nat_le b 0xBF ≡ true → rfc.IsUtf8Tail b
+    tail b is = (grind (arith, nat_tests), grind (arith, nat_tests))
+
+    of_two : rfc.IsUtf8CharNoctl (0xC3 ∷ 0xB6 ∷ [])
+    of_two = inr (inl ((omega arith, omega arith), tail 0xB6 refl))
+
+    of_three : rfc.IsUtf8CharNoctl (0xE3 ∷ 0x83 ∷ 0x84 ∷ [])
+    of_three = inr (inr (inl (inr (inl ((omega arith, omega arith), tail 0x83 refl, tail 0x84 refl)))))
+
+    of_four : rfc.IsUtf8CharNoctl (0xF0 ∷ 0x9F ∷ 0xA4 ∷ 0x96 ∷ [])
+    of_four = inr (inr (inr (inl (refl, (omega arith, omega arith), tail 0xA4 refl, tail 0x96 refl))))
+
+allow : rfc.IsRule (rfc.Allow path) (codes "allow: " ++ path ++ codes " # behind" ++ lf)
+allow = record {
+  value = path;
+  is_pattern = inl (is_path, refl);
+  is_line =
+      keyed (codes "allow") (codes "allow") path (codes " # behind" ++ lf) refl
+      (comment (codes " ") (codes " behind") space refl);
+}
+
+disallow_none : rfc.IsRule (rfc.Disallow []) (codes "Disallow: " ++ cr_lf)
+disallow_none = record {
+  value = [];
+  is_pattern = inr (tt, refl);
+  is_line =
+      keyed (codes "disallow") (codes "Disallow") [] cr_lf refl cr_lf_end;
+}
+
+empty : rfc.IsEmptyLine lf
+empty = lf_end
+
+star : rfc.IsStartGroupLine (codes "*") (codes "USER-AGENT: *" ++ lf)
+star = (inr refl, fed (codes "user-agent") (codes "USER-AGENT") (codes "*") refl)
+
+disallow_all : rfc.IsRule (rfc.Disallow (codes "/")) (codes "disallow: /" ++ lf)
+disallow_all = record {
+  value = codes "/";
+  is_pattern = inl (record { text = []; is_text = ones [] refl; whole = refl }, refl);
+  is_line = fed (codes "disallow") (codes "disallow") (codes "/") refl;
+}
+
+-- ---- the further lines
+
+front : rfc.IsEmptyLine (codes "# in front" ++ lf)
+front = comment [] (codes " in front") tt refl
+
+delay : rfc.IsDelayLine (rfc.Delay (codes "2")) (codes "crawl-delay: 2" ++ cr_lf)
+delay = (
+  inl ((omega arith, omega arith), tt),
+  keyed (codes "crawl-delay") (codes "crawl-delay") (codes "2") cr_lf refl cr_lf_end,
+)
+
+wide_bot : rfc.IsStartGroupLine (codes "Bot") (codes "user-agent: Bot" ++ lf)
+wide_bot = (
+  inl (token (codes "Bot") refl),
+  fed (codes "user-agent") (codes "user-agent") (codes "Bot") refl,
+)
+
+sitemap : rfc.IsSitemapLine (codes "https://a/s") (codes "Sitemap: https://a/s" ++ lf)
+sitemap = (
+  ones (codes "https://a/s") refl,
+  fed (codes "sitemap") (codes "Sitemap") (codes "https://a/s") refl,
+)
+
+gif : rfc.IsStarRule (rfc.Disallow (codes "*.gif$")) (codes "Disallow: *.gif$" ++ cr)
+gif = (
+  record { text = codes ".gif$"; is_text = ones (codes ".gif$") refl; whole = refl },
+  keyed (codes "disallow") (codes "Disallow") (codes "*.gif$") cr refl (end [] cr tt (inl refl)),
+)
+
+fraction : rfc.IsDelayLine (rfc.Delay (codes "1.5")) (codes "Crawl-delay: 1.5" ++ lf)
+fraction = (
+  inr (record {
+    units = codes "1";
+    fraction = codes "5";
+    are_units = ((omega arith, omega arith), tt);
+    is_fraction = ((omega arith, omega arith), tt);
+    whole = refl;
+  }),
+  fed (codes "crawl-delay") (codes "Crawl-delay") (codes "1.5") refl,
+)
+
+host : rfc.IsOtherLine (codes "Host: a # b" ++ lf)
+host = record {
+  margin = [];
+  name = codes "Host";
+  blanks = [];
+  value = codes " a # b";
+  nl = lf;
+  whole = refl;
+  margin_blank = tt;
+  is_name = token (codes "Host") refl;
+  is_other = other;
+  blanks_blank = tt;
+  is_value = remarks (codes " a # b") refl;
+  is_nl = feed;
+}
+  where
+    is_other : List ℕ → Bool
+    is_other name = not (bytes_eq name (codes "host"))
+
+    other : ¬ Contains rfc.names_read (codes "host")
+    other has =
+        let P : List ℕ → Type 0 = λ name. is_other name ≡ true in
+        let each = passing P is_other (λ name is. is) rfc.names_read refl in
+        let differs : false ≡ true =
+        All-contains P rfc.names_read (codes "host") (All-from_recursion P rfc.names_read each) has in
+        cc
+
+-- ---- lines one after another
+
+-- a line of an item, or one of none
+record Row {X : Type 0} (P : X → List ℕ → Type 0) (Q : List ℕ → Type 0) : Type 0 where
+  items : List X
+  text : List ℕ
+  is : rfc.IsOneOr P Q items text
+
+abbrev item : {X : Type 0} {P : X → List ℕ → Type 0} {Q : List ℕ → Type 0} (x : X) (text : List ℕ) → P x text
+    → Row P Q
+item x text is = record { items = x ∷ []; text = text; is = inl (x, is, refl) }
+
+abbrev gap : {X : Type 0} {P : X → List ℕ → Type 0} {Q : List ℕ → Type 0} (text : List ℕ) → Q text → Row P Q
+gap text is = record { items = []; text = text; is = inr (is, refl) }
+
+module _ {X : Type 0} (P : X → List ℕ → Type 0) (Q : List ℕ → Type 0) where
+  abbrev items_in : List (Row P Q) → List X
+  items_in rows = flat_map (λ row. row.items) rows
+
+  abbrev text_in : List (Row P Q) → List ℕ
+  text_in rows = flat_map (λ row. row.text) rows
+
+  repeats : (rows : List (Row P Q)) → rfc.Repeats (rfc.IsOneOr P Q) (items_in rows) (text_in rows)
+  repeats [] = repeats_none (rfc.IsOneOr P Q)
+  repeats (row ∷ rows) =
+      repeats_both (rfc.IsOneOr P Q) row.items (items_in rows) row.text (text_in rows)
+      (repeats_one (rfc.IsOneOr P Q) row.items row.text row.is) (repeats rows)
+
+module _ (Line : rfc.Member → List ℕ → Type 0) (Gap : List ℕ → Type 0) where
+  group : (token start : List ℕ) → rfc.IsStartGroupLine token start
+      → (agents : List (Row rfc.IsStartGroupLine Gap)) (lines : List (Row Line Gap))
+      → rfc.IsGroupOf Line Gap
+      (record {
+        tokens = token ∷ items_in rfc.IsStartGroupLine Gap agents;
+        members = items_in Line Gap lines;
+      })
+      (start ++ (text_in rfc.IsStartGroupLine Gap agents ++ text_in Line Gap lines))
+  group token start is agents lines = record {
+    token = token;
+    tokens = items_in rfc.IsStartGroupLine Gap agents;
+    start = start;
+    agents = text_in rfc.IsStartGroupLine Gap agents;
+    lines = text_in Line Gap lines;
+    whole = refl;
+    is_start = is;
+    are_agents = repeats rfc.IsStartGroupLine Gap agents;
     spelled = refl;
-    whole = refl;
-  };
-}
+    are_members = repeats Line Gap lines;
+  }
 
-pub is_file : IsFile (group ∷ []) (agent_text ++ rule_text)
-is_file = record {
-  mark = [];
-  rest = agent_text ++ rule_text;
-  nl = [];
+-- ---- the files
+
+pub is_robotstxt : rfc.IsRobotstxt sample.bare_groups sample.bare_text
+is_robotstxt =
+    let bots =
+    group rfc.IsRule rfc.IsEmptyLine (codes "bot") _ bot
+    (gap _ more ∷ item (codes "other-bot_x") _ other_bot ∷ [])
+    (item (rfc.Allow path) _ allow ∷ item (rfc.Disallow []) _ disallow_none ∷ gap _ empty ∷ []) in
+    let others =
+    group rfc.IsRule rfc.IsEmptyLine (codes "*") _ star []
+    (item (rfc.Disallow (codes "/")) _ disallow_all ∷ []) in
+    repeats rfc.IsGroup rfc.IsEmptyLine (item _ _ bots ∷ item _ _ others ∷ [])
+
+-- the byte order mark in front, and the last line end that is missing
+marked : (Content : List ℕ → Type 0) → Content (drop 3 sample.wide_text ++ lf)
+    → rfc.IsFileOf Content sample.wide_text
+marked Content is = record {
+  mark = 0xEF ∷ 0xBB ∷ 0xBF ∷ [];
+  rest = drop 3 sample.wide_text;
+  nl = lf;
   whole = refl;
-  is_mark = inl refl;
-  is_nl = inl refl;
-  is_content = record {
-    front = [];
-    rest = agent_text ++ rule_text;
-    whole = refl;
-    is_front = record { pieces = []; each = tt; whole = refl };
-    are_groups = record {
-      pieces = record { items = group ∷ []; bytes = agent_text ++ rule_text } ∷ [];
-      each = (inl (group, is_group, refl), tt);
-      spelled = refl;
-      whole = refl;
-    };
-  };
+  is_mark = inr refl;
+  is_nl = inr feed;
+  is_content = is;
 }
 
--- what it spells for the agent `A`
-pub its_rules : rules_for (codes "A") (merged (group ∷ [])) ≡ Disallow (codes "/x") ∷ []
-its_rules = refl
+pub is_file : rfc.IsFile sample.wide_groups sample.wide_text
+is_file =
+    let wide =
+    group rfc.IsMemberLine rfc.IsSkipped (codes "Bot") _ wide_bot
+    (gap _ (inr (inl (codes "https://a/s", sitemap))) ∷ [])
+    (item (rfc.Disallow (codes "*.gif$")) _ (inr (inl gif))
+    ∷ item (rfc.Delay (codes "1.5")) _ (inr (inr fraction)) ∷ gap _ (inr (inr host)) ∷ []) in
+    marked (rfc.IsWideFile sample.wide_groups) (record {
+      front = codes "# in front" ++ lf ++ codes "crawl-delay: 2" ++ cr_lf;
+      rest = _;
+      whole = refl;
+      is_front = record {
+        pieces = _ ∷ _ ∷ [];
+        each = (inr (inl front), (inl (rfc.Delay (codes "2"), delay), tt));
+        whole = refl;
+      };
+      are_groups =
+          repeats_both (rfc.IsOneOr rfc.IsWideGroup rfc.IsSkipped) _ sample.bare_groups _ sample.bare_text
+          (repeats rfc.IsWideGroup rfc.IsSkipped (item _ _ wide ∷ []))
+          (repeats_weaker rfc.IsGroup rfc.IsWideGroup group_is_wide sample.bare_groups sample.bare_text
+          is_robotstxt);
+    })
+
+-- a line without a sitemap
+abbrev named : (token text : List ℕ) → rfc.IsStartGroupLine token text
+    → Row rfc.IsSitemapLine rfc.IsUnlisted
+named token text is = gap text (inl (token, is))
+
+abbrev ruled : (member : rfc.Member) (text : List ℕ) → rfc.IsMemberLine member text
+    → Row rfc.IsSitemapLine rfc.IsUnlisted
+ruled member text is = gap text (inr (inl (member, is)))
+
+pub lists_sitemaps : rfc.ListsSitemaps sample.wide_sitemaps sample.wide_text
+lists_sitemaps =
+    marked (rfc.Repeats (rfc.IsOneOr rfc.IsSitemapLine rfc.IsUnlisted) sample.wide_sitemaps)
+    (repeats rfc.IsSitemapLine rfc.IsUnlisted (
+    gap _ (inr (inr (inl front)))
+    ∷ ruled (rfc.Delay (codes "2")) _ (inr (inr delay))
+    ∷ named (codes "Bot") _ wide_bot
+    ∷ item (codes "https://a/s") _ sitemap
+    ∷ ruled (rfc.Disallow (codes "*.gif$")) _ (inr (inl gif))
+    ∷ ruled (rfc.Delay (codes "1.5")) _ (inr (inr fraction))
+    ∷ gap _ (inr (inr (inr host)))
+    ∷ named (codes "bot") _ bot
+    ∷ gap _ (inr (inr (inl more)))
+    ∷ named (codes "other-bot_x") _ other_bot
+    ∷ ruled (rfc.Allow path) _ (inl allow)
+    ∷ ruled (rfc.Disallow []) _ (inl disallow_none)
+    ∷ gap _ (inr (inr (inl empty)))
+    ∷ named (codes "*") _ star
+    ∷ ruled (rfc.Disallow (codes "/")) _ (inl disallow_all)
+    ∷ []
+    ))

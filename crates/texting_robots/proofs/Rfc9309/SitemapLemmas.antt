@@ -1,8 +1,7 @@
 -- The sitemaps of a file are those of its sitemap lines.
 use Rattle.std.proofs.Common.{◌≡◌, inl, inr, ℕ, List, [], ◌∷◌, ◌++◌, filter, map}
-use Rattle.std.proofs.Common.{flat_map, sym, refl, ap, ◌∙◌, subst, append-nil}
+use Rattle.std.proofs.Common.{flat_map, sym, refl, ap, ◌∙◌, subst}
 use Rattle.std.specs.List.{AllZip, AllByRecursion as Each}
-use Rattle.std.proofs.lemmas.Grind.{flat_map-append}
 use Rattle.std.proofs.lemmas.List.{map-append}
 use Rattle.std.proofs.lemmas.List.Elements.{filter-append, filter_map-append}
 use Rattle.texting_robots.specs.Line.{Sitemap, is_sitemap}
@@ -10,13 +9,13 @@ use Rattle.texting_robots.specs.Parsed.{file_lines}
 use Rattle.texting_robots.specs.Rules.{sitemap_in, sitemaps_in}
 use Rattle.texting_robots.specs.Trim.{IsTrimOf}
 use Rattle.texting_robots.specs.Rfc9309 as rfc
-use Rattle.texting_robots.proofs.Rfc9309.CharLemmas.{each_append}
 use Rattle.texting_robots.proofs.Rfc9309.EndLemmas.{file_heard, file_same, lines_in, told_in}
 use Rattle.texting_robots.proofs.Rfc9309.GroupLemmas.{zip_append}
 use Rattle.texting_robots.proofs.Rfc9309.MemberLemmas.{member_line, sitemap_line}
 use Rattle.texting_robots.proofs.Rfc9309.OtherLemmas.{empty_line, other_line}
 use Rattle.texting_robots.proofs.Rfc9309.RepeatLemmas.{IsJoin, ReadBy, repeated}
 use Rattle.texting_robots.proofs.Rfc9309.RuleLemmas.{token_line}
+use Rattle.texting_robots.proofs.Rfc9309.SyntaxLemmas.{repeats_both, repeats_none, repeats_one}
 use Rattle.texting_robots.proofs.Rfc9309.Told.{Told, token_told}
 use Rattle.texting_robots.proofs.Rfc9309.ToldLemmas.{no_sitemap}
 
@@ -78,9 +77,12 @@ unlisted_read text (inr (inr (inr is))) =
 
 -- ---- a file
 
+abbrev IsLine : List (List ℕ) → List ℕ → Type 0
+IsLine addresses text = rfc.IsOneOr rfc.IsSitemapLine rfc.IsUnlisted addresses text
+
 module _ (text : List ℕ) (addresses : List (List ℕ)) (file : rfc.ListsSitemaps addresses text) where
   abbrev content : List ℕ → Type 0
-  content text = rfc.Repeats (rfc.IsOneOr rfc.IsSitemapLine rfc.IsUnlisted) addresses text
+  content text = rfc.Repeats IsLine addresses text
 
   file_read : ReadBy AreAddresses addresses (file.rest ++ file.nl)
   file_read =
@@ -102,40 +104,20 @@ module _ (text : List ℕ) (addresses : List (List ℕ)) (file : rfc.ListsSitema
 
 -- the text is lines, which spell some sitemaps
 abbrev IsListing : List ℕ → Type 0
-IsListing text =
-    (addresses : List (List ℕ)) × rfc.Repeats (rfc.IsOneOr rfc.IsSitemapLine rfc.IsUnlisted) addresses text
+IsListing text = (addresses : List (List ℕ)) × rfc.Repeats IsLine addresses text
 
-line_listed : (text : List ℕ) (addresses : List (List ℕ))
-    → rfc.IsOneOr rfc.IsSitemapLine rfc.IsUnlisted addresses text
-    → IsListing text
-line_listed text addresses is = (
-  addresses,
-  record {
-    pieces = record { items = addresses; bytes = text } ∷ [];
-    each = (is, tt);
-    spelled = sym (append-nil addresses);
-    whole = sym (append-nil text);
-  },
-)
+line_listed : (text : List ℕ) (addresses : List (List ℕ)) → IsLine addresses text → IsListing text
+line_listed text addresses is = (addresses, repeats_one IsLine addresses text is)
 
 unlisted : (text : List ℕ) → rfc.IsUnlisted text → IsListing text
 unlisted text is = line_listed text [] (inr (is, refl))
 
 nothing_listed : IsListing []
-nothing_listed = ([], record { pieces = []; each = tt; spelled = refl; whole = refl })
+nothing_listed = ([], repeats_none IsLine)
 
 both_listed : (text later : List ℕ) → IsListing text → IsListing later → IsListing (text ++ later)
 both_listed text later (addresses, is) (more, also) =
-    let spelled = flat_map-append (λ (piece : rfc.Piece (List ℕ)). piece.items) is.pieces also.pieces in
-    let whole = flat_map-append (λ (piece : rfc.Piece (List ℕ)). piece.bytes) is.pieces also.pieces in (
-      addresses ++ more,
-      record {
-        pieces = is.pieces ++ also.pieces;
-        each = each_append _ is.pieces also.pieces is.each also.each;
-        spelled = cc;
-        whole = cc;
-      },
-    )
+    (addresses ++ more, repeats_both IsLine addresses more text later is also)
 
 skipped_listed : (text : List ℕ) → rfc.IsSkipped text → IsListing text
 skipped_listed text (inl is) = unlisted text (inr (inr (inl is)))
