@@ -1,5 +1,5 @@
-//! What RFC 9309 answers: its two examples, and what its sections on groups, matching and other records say; and where
-//! this library departs from it on purpose, each departure with a smallest file.
+//! What RFC 9309 answers: its two examples, and what its sections on groups, matching and other records say; which octets are
+//! counted where it says 'most octets'; and where this library departs from it on purpose, each departure with a smallest file.
 use crate::groups::check_sitemaps;
 use crate::helpers::{FileCase, NO_HOST, check_files, robot_of};
 
@@ -173,6 +173,28 @@ const RULES: &[FileCase] = &[
     },
 ];
 
+/// Which octets are counted: those of the pattern as it is kept, escaped and with each star.
+const MOST_OCTETS: &[FileCase] = &[
+    FileCase {
+        name: "octets_of_the_pattern_and_not_of_its_match",
+        agent: "a",
+        file: b"user-agent:a\ndisallow:/*b\nallow:/aaa\n",
+        verdicts: &[("/aaab", true), ("/aab", false)],
+    },
+    FileCase {
+        name: "each_star_counts",
+        agent: "a",
+        file: b"user-agent:a\ndisallow:/***b\nallow:/aab\n",
+        verdicts: &[("/aab", false), ("/aa", true)],
+    },
+    FileCase {
+        name: "escapes_count_as_three",
+        agent: "a",
+        file: b"user-agent:a\ndisallow:/\"\nallow:/*x\n",
+        verdicts: &[("/%22x", false), ("/x", true)],
+    },
+];
+
 /// Texts that the standard would have judged otherwise.
 const DEPARTURES: &[FileCase] = &[
     FileCase {
@@ -264,6 +286,11 @@ fn standard_examples(rt: HostRuntime) {
 fn standard_sections(rt: HostRuntime) {
     check_files(&rt, GROUPS, &["", HOST]);
     check_files(&rt, RULES, &["", HOST]);
+}
+
+#[test]
+fn standard_most_octets(rt: HostRuntime) {
+    check_files(&rt, MOST_OCTETS, &["", HOST]);
 }
 
 #[test]
