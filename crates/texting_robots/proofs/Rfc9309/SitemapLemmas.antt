@@ -5,8 +5,8 @@ use Rattle.std.specs.List.{AllZip, AllByRecursion as Each}
 use Rattle.std.proofs.lemmas.List.{map-append}
 use Rattle.std.proofs.lemmas.List.Elements.{filter-append, filter_map-append}
 use Rattle.texting_robots.specs.Line.{Sitemap, is_sitemap}
-use Rattle.texting_robots.specs.Parsed.{file_lines}
-use Rattle.texting_robots.specs.Rules.{sitemap_in, sitemaps_in}
+use Rattle.texting_robots.specs.Computed.{file_lines}
+use Rattle.texting_robots.specs.Computed.{sitemap_in, sitemaps_in}
 use Rattle.texting_robots.specs.Trim.{IsTrimOf}
 use Rattle.texting_robots.specs.Rfc9309 as rfc
 use Rattle.texting_robots.proofs.Rfc9309.EndLemmas.{file_heard, file_same, lines_in, told_in}

@@ -7,7 +7,7 @@ use Rattle.std.proofs.lemmas.List.{map-append}
 use Rattle.texting_robots.specs.Line.{LineValue, UserAgent, Allow, Disallow, Sitemap, CrawlDelay, Raw}
 use Rattle.texting_robots.specs.Line.{is_sitemap}
 use Rattle.texting_robots.specs.Group.{is_group}
-use Rattle.texting_robots.specs.Rules.{sitemap_in}
+use Rattle.texting_robots.specs.Computed.{sitemap_in}
 use Rattle.texting_robots.specs.Rfc9309 as rfc
 use Rattle.texting_robots.proofs.Rfc9309.EndLemmas.{lines_in}
 use Rattle.texting_robots.proofs.Rfc9309.GroupLemmas.{IsFront}
