@@ -6,7 +6,7 @@ use Rattle.std.proofs.Common.{◌∙◌, arith}
 use Rattle.std.specs.Bool.{Decides, MatchBool}
 use Rattle.std.specs.List.{All, Contains}
 use Rattle.std.specs.Prelude.{bytes_eq}
-use Rattle.std.proofs.lemmas.Bool.{cases_Bool, cases_lt, cases_order, eqb-true, false≢true}
+use Rattle.std.proofs.lemmas.Bool.{cases_Bool, cases_lt, cases_order}
 use Rattle.std.proofs.lemmas.Bool.Decides.{Decides-and, Decides-eqb, Decides-like, Decides-or, nat_tests}
 use Rattle.std.proofs.lemmas.Bool.Decides.{not_from_Decides, when_false, when_true}
 use Rattle.std.proofs.lemmas.List.{get_or-map, length-map}

@@ -1,11 +1,11 @@
 -- What the rules that lines hold answer, in whatever order they are listed.
-use Rattle.std.proofs.Common.{◌≡◌, inl, inr, ℕ, ◌+◌, ◌*◌, ◌≤◌, Bool, true, false}
+use Rattle.std.proofs.Common.{◌≡◌, inl, inr, ℕ, ◌+◌, ◌*◌, Bool, true, false}
 use Rattle.std.proofs.Common.{cond, List, Option, Some}
-use Rattle.std.proofs.Common.{[], ◌∷◌, None, IsPermutation, Result, Ok, Err, IfErr, IfOk, IsOk}
-use Rattle.std.proofs.Common.{length, map, slice_get, refl, sym}
-use Rattle.std.proofs.Common.{ap, subst, take, ◌∙◌, arith}
+use Rattle.std.proofs.Common.{[], ◌∷◌, None, IsPermutation, Result, Ok, Err, IfErr, IfOk}
+use Rattle.std.proofs.Common.{length, map, refl, sym}
+use Rattle.std.proofs.Common.{subst, take, ◌∙◌, arith}
 use Rattle.std.specs.Result.{IsErrAnd}
-use Rattle.std.proofs.lemmas.List.Sorted.{Contains-permutation, IsPermutation-sym}
+use Rattle.std.proofs.lemmas.List.Sorted.{IsPermutation-sym}
 use Rattle.std.proofs.lemmas.List.Sorted.{length_permutation, sum_by-IsPermutation}
 use Rattle.texting_robots.specs.declared.error.Error.{Error}
 use Rattle.texting_robots.specs.Computed.{file_lines, lines_read, placed_rules, sitemaps_in}

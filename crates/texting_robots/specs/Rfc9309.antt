@@ -52,7 +52,8 @@ pub record Repeats {X : Type 0} (P : List X → List ℕ → Type 0) (items : Li
 -- P / Q, where P spells one item and Q none
 abbrev pub IsOneOr : {X : Type 0} → (X → List ℕ → Type 0) → (List ℕ → Type 0)
     → List X → List ℕ → Type 0
-IsOneOr {X} P Q items text = ((item : X) × P item text × (items ≡ item ∷ [])) ⊎ (Q text × (items ≡ []))
+IsOneOr {X} P Q items text =
+    ((item : X) × P item text × (items ≡ item ∷ [])) ⊎ (Q text × (items ≡ []))
 
 -- a literal string, which stands for itself whatever the case of its ASCII letters; it is given in small ones
 abbrev pub IsLiteral : List ℕ → List ℕ → Type 0
@@ -292,7 +293,8 @@ IsStarRule (Delay number) text = ⊥
 
 -- skipped = emptyline / sitemapline / otherline; the standard has an emptyline alone here
 abbrev pub IsSkipped : List ℕ → Type 0
-IsSkipped text = IsEmptyLine text ⊎ (((address : List ℕ) × IsSitemapLine address text) ⊎ IsOtherLine text)
+IsSkipped text =
+    IsEmptyLine text ⊎ (((address : List ℕ) × IsSitemapLine address text) ⊎ IsOtherLine text)
 
 -- memberline = rule / starrule / delayline; the standard has a rule alone here
 abbrev pub IsMemberLine : Member → List ℕ → Type 0

@@ -38,7 +38,10 @@ bare_text = bare_lines ++ lf
 
 abbrev pub bare_groups : List Group
 bare_groups =
-    record { tokens = codes "bot" ∷ codes "other-bot_x" ∷ []; members = Allow path ∷ Disallow [] ∷ [] }
+    record {
+      tokens = codes "bot" ∷ codes "other-bot_x" ∷ [];
+      members = Allow path ∷ Disallow [] ∷ [];
+    }
     ∷ record { tokens = codes "*" ∷ []; members = Disallow (codes "/") ∷ [] }
     ∷ []
 

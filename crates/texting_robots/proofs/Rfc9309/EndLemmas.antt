@@ -8,7 +8,6 @@ use Rattle.std.proofs.lemmas.List.Elements.{filter-append}
 use Rattle.texting_robots.specs.Cut.{cr, lf}
 use Rattle.texting_robots.specs.Laws.{Same}
 use Rattle.texting_robots.specs.Line.{LineValue, is_raw, nul_as_lf, without_front}
-use Rattle.texting_robots.specs.Computed.{rules_for}
 use Rattle.texting_robots.specs.Steps.Cut.{cut}
 use Rattle.texting_robots.specs.Computed.{file_lines}
 use Rattle.texting_robots.specs.Steps.Line.{line_of}

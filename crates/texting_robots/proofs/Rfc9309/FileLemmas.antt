@@ -3,7 +3,6 @@ use Rattle.std.proofs.Common.{◌≡◌, inl, inr, ℕ, true, not, List, [], ◌
 use Rattle.std.proofs.Common.{flat_map, sym, refl, ap, ◌∙◌, subst, append_assoc, append-nil}
 use Rattle.std.specs.List.{AllZip, AllByRecursion as Each}
 use Rattle.std.proofs.lemmas.List.{map-append}
-use Rattle.texting_robots.specs.Line.{nul_as_lf, without_front}
 use Rattle.texting_robots.specs.Computed.{rules_for}
 use Rattle.texting_robots.specs.Computed.{file_lines}
 use Rattle.std.proofs.lemmas.List.Elements.{filter-append}
@@ -49,7 +48,8 @@ skipped_read Belong join text (inr (inr is)) =
     record { tolds = []; belong = join.none; reads = other_line text is }
 
 -- items of a production, and lines that are skipped
-items_read : {X : Type 0} (P : X → List ℕ → Type 0) (Belong : List X → List Told → Type 0) → IsJoin Belong
+items_read : {X : Type 0} (P : X → List ℕ → Type 0) (Belong : List X → List Told → Type 0)
+    → IsJoin Belong
     → ((item : X) (text : List ℕ) → P item text → ReadBy (InGroups Belong) (item ∷ []) text)
     → (items : List X) (text : List ℕ) → rfc.Repeats (rfc.IsOneOr P rfc.IsSkipped) items text
     → ReadBy (InGroups Belong) items text
@@ -101,7 +101,8 @@ token_read token text is =
     record { tolds = token_told token ∷ []; belong = refl; reads = token_line token text is }
 
 -- a line of a group is no sitemap
-kept_alone : (Belong : List Told → Type 0) (told : Told) → is_group told.0 ≡ true → Belong (told ∷ [])
+kept_alone : (Belong : List Told → Type 0) (told : Told) → is_group told.0 ≡ true
+    → Belong (told ∷ [])
     → Belong (filter in_groups (told ∷ []))
 kept_alone Belong told group is = rw (no_sitemap told.0 group).0 is
 

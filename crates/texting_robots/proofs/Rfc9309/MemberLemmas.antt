@@ -26,7 +26,8 @@ use Rattle.texting_robots.proofs.Rfc9309.ValueLemmas.{trim_utf8}
 use Rattle.texting_robots.proofs.Rfc9309.ReadLemmas.{Reads}
 use Rattle.texting_robots.proofs.Rfc9309.GroupLemmas.{IsFront}
 use Rattle.texting_robots.proofs.Rfc9309.RuleLemmas.{IsPlain, MemberRead, chars_kept, plain_kept}
-use Rattle.texting_robots.proofs.Rfc9309.RuleLemmas.{plain_trim, plain_value, reads_keyed, rule_line, star_line}
+use Rattle.texting_robots.proofs.Rfc9309.RuleLemmas.{plain_trim, plain_value, reads_keyed, rule_line}
+use Rattle.texting_robots.proofs.Rfc9309.RuleLemmas.{star_line}
 use Rattle.texting_robots.proofs.Rfc9309.Told.{Told, matters, no_blank}
 
 -- ---- delays

@@ -1,5 +1,6 @@
 -- The samples in `specs/Rfc9309Sample.antt` are files of the syntax, line by line.
-use Rattle.std.proofs.Common.{◌≡◌, inl, inr, ℕ, Bool, true, false, not, List, [], ◌∷◌, ◌++◌, codes}
+use Rattle.std.proofs.Common.{◌≡◌, inl, inr, ℕ, Bool, true, false, not, List, [], ◌∷◌}
+use Rattle.std.proofs.Common.{◌++◌, codes}
 use Rattle.std.proofs.Common.{◌==◌, ◌||◌, ◌&&◌, bytes_eq, flat_map, drop, nat_le, refl, ap, arith}
 use Rattle.std.specs.List.{AllByRecursion as Each, Contains, list_all}
 use Rattle.std.proofs.lemmas.Bool.{and_parts, cases_Bool, eqb-true}
@@ -179,7 +180,8 @@ other_bot = (
 
 is_path : rfc.IsPathPattern path
 is_path = record {
-  text = codes "a!\"*$" ++ 0xC3 ∷ 0xB6 ∷ 0xE3 ∷ 0x83 ∷ 0x84 ∷ 0xF0 ∷ 0x9F ∷ 0xA4 ∷ 0x96 ∷ [];
+  text = codes "a!\"*$"
+      ++ 0xC3 ∷ 0xB6 ∷ 0xE3 ∷ 0x83 ∷ 0x84 ∷ 0xF0 ∷ 0x9F ∷ 0xA4 ∷ 0x96 ∷ [];
   is_text = record {
     pieces =
         codes "a" ∷ codes "!" ∷ codes "\"" ∷ codes "*" ∷ codes "$" ∷ (0xC3 ∷ 0xB6 ∷ [])
@@ -311,11 +313,13 @@ record Row {X : Type 0} (P : X → List ℕ → Type 0) (Q : List ℕ → Type 0
   text : List ℕ
   is : rfc.IsOneOr P Q items text
 
-abbrev item : {X : Type 0} {P : X → List ℕ → Type 0} {Q : List ℕ → Type 0} (x : X) (text : List ℕ) → P x text
+abbrev item : {X : Type 0} {P : X → List ℕ → Type 0} {Q : List ℕ → Type 0} (x : X) (text : List ℕ)
+    → P x text
     → Row P Q
 item x text is = record { items = x ∷ []; text = text; is = inl (x, is, refl) }
 
-abbrev gap : {X : Type 0} {P : X → List ℕ → Type 0} {Q : List ℕ → Type 0} (text : List ℕ) → Q text → Row P Q
+abbrev gap : {X : Type 0} {P : X → List ℕ → Type 0} {Q : List ℕ → Type 0} (text : List ℕ)
+    → Q text → Row P Q
 gap text is = record { items = []; text = text; is = inr (is, refl) }
 
 module _ {X : Type 0} (P : X → List ℕ → Type 0) (Q : List ℕ → Type 0) where

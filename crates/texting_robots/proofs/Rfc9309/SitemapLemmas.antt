@@ -130,7 +130,8 @@ items_listed : {X : Type 0} (P : X → List ℕ → Type 0)
     → IsListing text
 items_listed {X} P one items text is = subst IsListing (sym is.whole) (pieces is.pieces is.each)
   where
-    piece_listed : (items : List X) (text : List ℕ) → rfc.IsOneOr P rfc.IsSkipped items text → IsListing text
+    piece_listed : (items : List X) (text : List ℕ) → rfc.IsOneOr P rfc.IsSkipped items text
+        → IsListing text
     piece_listed items text (inl (item, is, same)) = one item text is
     piece_listed items text (inr (is, none)) = skipped_listed text is
 

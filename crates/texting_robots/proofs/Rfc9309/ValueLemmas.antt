@@ -74,7 +74,8 @@ visible_utf8 bytes all =
     (IsAscii-from_all bytes (λ i d within. let visible = each i d within in omega arith))
 
 -- what stands behind spaces in a text is a text
-behind_spaces : (chars text rest : List ℕ) → IsUtf8 text → text ≡ encode_utf8_all chars ++ rest → IsUtf8 rest
+behind_spaces : (chars text rest : List ℕ) → IsUtf8 text → text ≡ encode_utf8_all chars ++ rest
+    → IsUtf8 rest
 behind_spaces [] text rest utf8 e = subst IsUtf8 e utf8
 behind_spaces (c ∷ cs) text rest utf8 e =
     let whole = e ∙ append_assoc (encode_utf8 c) (encode_utf8_all cs) rest in
