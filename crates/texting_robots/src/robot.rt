@@ -122,7 +122,7 @@ impl Robot {
 
     /// Whether the crawler may fetch what a view's prepared text stands for. It takes no memory, and for each rule at most
     /// twice the text's length of looks; a look is one call of [`View::same`]. Where a rule matches, only the rules count
-    /// that are at least as long.
+    /// that are at least as long as the longest that does.
     pub fn allowed_view(&self, view: &mut View<'_>) -> bool
         ensures verdict { IsVerdict (unplaced self.now.rules) view.old.text result }
         ensures looks { LooksForRules self.now.rules view.old view.new }
