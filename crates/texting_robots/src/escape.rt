@@ -1,5 +1,5 @@
 //! The escape.
-ghost use Rattle.std.specs.Prelude.{◌≡◌, ◌++◌, OnOk, IfOk, not, string_bytes};
+ghost use Rattle.std.specs.Prelude.{◌≡◌, ◌++◌, OnErr, OnOk, IfOk, not, string_bytes};
 ghost use Rattle.std.specs.Cow.{cow_str_bytes};
 ghost use Rattle.std.specs.List.{list_all};
 ghost use Rattle.texting_robots.specs.Escape.{escaped, is_escaped};
@@ -52,9 +52,10 @@ pub(crate) fn push_escaped(out: &mut String, text: &str) -> Result<(), AllocErro
 }
 
 /// Adds the bytes, escaped as rules are. They may be any: each control, space, `"`, `<`, `>` and backquote and each byte past
-/// ASCII comes out as `%` and two digits, so what was added is printable ASCII.
+/// ASCII comes out as `%` and two digits, so what was added is printable ASCII. Where memory is refused, nothing is added.
 pub fn push_escaped_bytes(out: &mut String, bytes: &[u8]) -> Result<(), AllocError>
-    ensures { OnOk result (string_bytes out.new ≡ string_bytes out.old ++ escaped bytes.now) }
+    ensures ok { OnOk result (string_bytes out.new ≡ string_bytes out.old ++ escaped bytes.now) }
+    ensures refused { OnErr result (string_bytes out.new ≡ string_bytes out.old) }
 {
     percent_encode(bytes, ESCAPED).append_to(out)
 }

@@ -7,7 +7,7 @@ use Rattle.robots_audit.proofs.overlong.is_text_overlong.Goals as goal
 pub returns-in-Err-InvalidRule : goal.returns-in-Err-InvalidRule
 returns-in-Err-InvalidRule c =
     let same : c.deref.result.now ≡ escaped c.args.text.now =
-    c.deref.ensures ∙ c.in_ok-push_escaped_bytes.ensures
+    c.deref.ensures ∙ c.in_ok-push_escaped_bytes.ensures.ok
     ∙ ap (λ (t : List ℕ). t ++ escaped c.as_bytes.result.now) c.new-pattern.ensures.bytes
     ∙ ap escaped c.as_bytes.ensures.value in
     let is = c.in-Err-InvalidRule.is ∙ ap (λ (e : Error). Err e) c.in-Err-InvalidRule.field-0-is in

@@ -7,5 +7,5 @@ pub returns : goal.returns
 returns c =
     line_added _ _ _ _ (codes "group ") (escaped c.args.agent.now) (codes ", named in the file")
     c.in_ok-push_str.ensures.bytes
-    (rw c.as_bytes.ensures.value at c.in_ok-push_escaped_bytes.ensures)
+    (rw c.as_bytes.ensures.value at c.in_ok-push_escaped_bytes.ensures.ok)
     c.in_ok-push_line.ensures

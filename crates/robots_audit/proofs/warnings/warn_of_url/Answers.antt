@@ -8,7 +8,7 @@ pub returns : goal.returns
 returns c =
     let said = codes "a URL begins with neither http:// nor https:// nor /: " in
     let same : c.deref.result.now ≡ said ++ escaped c.args.url.now =
-    c.deref.ensures ∙ c.in_ok-push_escaped_bytes.ensures
+    c.deref.ensures ∙ c.in_ok-push_escaped_bytes.ensures.ok
     ∙ ap (λ (t : List ℕ). t ++ escaped c.as_bytes.result.now) c.in_ok-warning.ensures.ok
     ∙ ap (λ (t : List ℕ). said ++ escaped t) c.as_bytes.ensures.value in
     warned_same _ _ c.deref.result.now (said ++ escaped c.args.url.now) (not c.in_ok-is_clear.is_clear)

@@ -3,8 +3,8 @@ use Rattle.std.proofs.lemmas.Result.{on_ok_weaker}
 use Rattle.texting_robots.proofs.EscapeLemmas.{same_escape}
 use Rattle.texting_robots.proofs.escape.push_escaped_bytes.Goals as goal
 
-pub returns : goal.returns
-returns c =
+pub returns-clause-ok : goal.returns-clause-ok
+returns-clause-ok c =
     let text = c.percent_encode.ensures.text ∙ same_escape c.args.bytes.now in
     let whole = ap (λ t. string_bytes c.args.out.now ++ t) text in
     on_ok_weaker c.append_to.result (λ added. added ∙ whole) c.append_to.ensures.ok
