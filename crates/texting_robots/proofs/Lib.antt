@@ -18,6 +18,8 @@ pub mod LawLemmas
 pub mod Rfc9309
 pub mod EscapeLemmas
 pub mod SlashLemmas
+pub mod WholeLemmas
+pub mod PlainLemmas
 pub mod PatternLemmas
 pub mod StarLemmas
 pub mod PieceLemmas

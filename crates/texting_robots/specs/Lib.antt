@@ -15,6 +15,7 @@ pub mod Order
 pub mod View
 pub mod Robot
 pub mod Prepared
+pub mod Plain
 pub mod Address
 pub mod Rfc9309
 pub mod Rfc9309Sample

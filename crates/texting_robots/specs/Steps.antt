@@ -18,3 +18,4 @@ pub mod Entries
 pub mod Needs
 pub mod Prepared
 pub mod Robot
+pub mod Whole

@@ -1,5 +1,5 @@
 //! The escape.
-ghost use Rattle.std.specs.Prelude.{◌≡◌, ◌++◌, OnErr, OnOk, IfOk, not, string_bytes};
+ghost use Rattle.std.specs.Prelude.{◌≡◌, ◌++◌, All, IsOk, OnErr, OnOk, IfOk, false, not, string_bytes};
 ghost use Rattle.std.specs.Cow.{cow_str_bytes};
 ghost use Rattle.std.specs.List.{list_all};
 ghost use Rattle.texting_robots.specs.Escape.{escaped, is_escaped};
@@ -13,7 +13,8 @@ const ESCAPED: AsciiSet = ascii_set!(CONTROLS.add(b' ').add(b'"').add(b'<').add(
 
 /// The text with each byte of the set and each byte past ASCII escaped. It is lent where there is none.
 pub(crate) fn escaped<'a>(alloc: Global, text: &'a str) -> Result<CowStr<'a, Global>, AllocError>
-    ensures { IfOk result (λ s. cow_str_bytes s ≡ escaped text.now) }
+    ensures ok { IfOk result (λ s. cow_str_bytes s ≡ escaped text.now) }
+    ensures lent { All (λ b. is_escaped b ≡ false) text.now → IsOk result }
 {
     utf8_percent_encode(text, ESCAPED).into_cow(alloc)
 }

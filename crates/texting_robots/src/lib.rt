@@ -44,6 +44,7 @@ mod reading;
 pub mod robot;
 mod rules;
 pub mod view;
+mod whole;
 
 pub use address::{get_robots_url, robots_url_of};
 pub use error::Error;

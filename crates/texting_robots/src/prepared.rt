@@ -1,10 +1,12 @@
 //! The text that rules are matched with.
-ghost use Rattle.std.specs.Prelude.{◌≡◌, IfErr, IfOk, string_bytes};
+ghost use Rattle.std.specs.Prelude.{◌≡◌, IfErr, IfOk, IsOk, string_bytes};
 ghost use Rattle.texting_robots.specs.Steps.Prepared.{text_of};
+ghost use Rattle.texting_robots.specs.Plain.{TakesNoMemory};
 ghost use Rattle.texting_robots.specs.Prepared.{prepared, target_of};
 
 use crate::error::{Error, is_want_of_memory};
 use crate::escape::escaped;
+use crate::whole::standing_target;
 use std::alloc::{AllocError, Global};
 use std::borrow::CowStr;
 use url::{Position, Url};
@@ -12,23 +14,28 @@ use url::{Position, Url};
 /// What rules are matched with, by what it is a part of.
 #[derive(Drop)]
 pub(crate) enum Prepared<'a> {
-    /// A path by itself. It is lent where nothing in it is escaped.
+    /// A path by itself, lent where nothing in it is escaped, or the end of a URL that stands as it is.
     Path(CowStr<'a, Global>),
-    /// A URL, whose end is the text.
+    /// Any other URL, whose end is the text.
     Address(Url),
 }
 
 impl<'a> Prepared<'a> {
-    /// The text of a URL, or of a path by itself. What begins with a slash is no URL, and isn't parsed.
+    /// The text of a URL, or of a path by itself. What begins with a slash is no URL, and isn't parsed, nor is a URL that stands as
+    /// it is.
     pub(crate) fn new(alloc: Global, url: &'a str) -> Result<Self, Error>
         ensures ok { IfOk result (λ text. text_of text ≡ prepared url.now) }
         ensures memory { IfErr result (λ e. e ≡ Error.Memory) }
+        ensures without_memory { TakesNoMemory url.now → IsOk result }
     {
         if url.is_empty() {
             return Ok(Prepared::Path(CowStr::Borrowed("/")));
         }
         if url.starts_with('/') {
             return Ok(Prepared::Path(escaped(alloc, url)?));
+        }
+        if let Some(target) = standing_target(url) {
+            return Ok(Prepared::Path(CowStr::Borrowed(target)));
         }
         match Url::parse(alloc, url) {
             Ok(parsed) => Ok(Prepared::Address(parsed)),

@@ -3,6 +3,7 @@ ghost use Rattle.std.specs.Prelude.{◌≡◌, IfErr, IfOk, IsOk, string_bytes, 
 ghost use Rattle.texting_robots.specs.Decision.{IsDecidingLine, LooksForRules};
 ghost use Rattle.texting_robots.specs.Error.{IsMemoryOr};
 ghost use Rattle.texting_robots.specs.Line.{HasLines};
+ghost use Rattle.texting_robots.specs.Plain.{TakesNoMemory};
 ghost use Rattle.texting_robots.specs.Prepared.{prepared, target_of};
 ghost use Rattle.texting_robots.specs.Robot.{IsFileRefused, IsRobotOfFile, file_limit};
 ghost use Rattle.texting_robots.specs.Rules.{GivesNothing, unplaced};
@@ -91,7 +92,8 @@ impl Robot {
         Ok(Prepared::new(alloc, url)?.into_string(alloc)?)
     }
 
-    /// Whether the crawler may fetch a URL, or a path by itself. A path of which nothing is escaped takes no memory.
+    /// Whether the crawler may fetch a URL, or a path by itself. A path of which nothing is escaped takes no memory, nor does a
+    /// whole URL of `http` or `https` that stands as `url` writes it.
     ///
     /// # Errors
     ///
@@ -99,6 +101,7 @@ impl Robot {
     pub fn allowed(&self, alloc: Global, url: &str) -> Result<bool, Error>
         ensures ok { IfOk result (λ answer. IsVerdict (unplaced self.now.rules) (prepared url.now) answer) }
         ensures memory { IfErr result (λ e. e ≡ Error.Memory) }
+        ensures without_memory { TakesNoMemory url.now → IsOk result }
     {
         match Prepared::new(alloc, url)? {
             Prepared::Address(url) => Ok(self.allowed_url(&url)),

@@ -1,0 +1,298 @@
+-- A whole URL that `url` would leave as it is: its parts, from the front.
+use Rattle.std.proofs.Common.{◌≡◌, ℕ, ◌<◌, ◌≤◌, Bool, true, false, ◌||◌, ◌==◌, not}
+use Rattle.std.proofs.Common.{List, [], ◌∷◌, ◌++◌, length, get_or, drop, drop_at, take_at, All}
+use Rattle.std.proofs.Common.{sym, refl, ap, ◌∙◌, ◌≢◌, subst, ⊎_elim, inl, inr, arith, append_assoc, one-add, take-append-drop}
+use Rattle.std.proofs.Common.{◌^◌, None, Some, decimal, suc, zero}
+use Rattle.std.specs.Prelude.{Option, codes, nat_lt, option_map, slice_index}
+use Rattle.std.specs.Char.{is_ascii_digit, is_ascii_lowercase, is_ascii_uppercase}
+use Rattle.std.specs.Int.{IsInRange}
+use Rattle.std.specs.Str.Parse.{IsNumeral, digits_value, without_leading_plus}
+use Rattle.std.proofs.lemmas.Fmt.{decimal-digits_value, decimal_digit, first_decimal}
+use Rattle.std.proofs.lemmas.Str.Parse.{numerals_by_value, tells_digits}
+use Rattle.url.proofs.HostRoundTrip.{All-decimal}
+use Rattle.std.proofs.lemmas.Bool.{agree_below, agree_below_at, and_parts, cases_lt, eqb-true, false≢true}
+use Rattle.std.proofs.lemmas.Bool.{le-ltb}
+use Rattle.std.proofs.lemmas.Bool.Decides.{nat_tests}
+use Rattle.std.proofs.lemmas.List.{get_or_past}
+use Rattle.std.proofs.lemmas.List.Elements.{All-head, All-tail, All-weaker}
+use Rattle.percent_encoding.specs.declared.ascii_set.AsciiSet.{AsciiSet}
+use Rattle.percent_encoding.specs.AsciiSet.{contains}
+use Rattle.percent_encoding.specs.Percent.{IsKept}
+use Rattle.percent_encoding.proofs.AsciiSetLemmas.{ascii_from_kept, kept_from_outside, outside_from_kept}
+use Rattle.url.specs.declared.sets.TheConstants.{FORBIDDEN_DOMAIN, PATH}
+use Rattle.url.specs.declared.scheme.SchemeType.TheVariants.{SpecialNotFile}
+use Rattle.url.specs.Scheme.{is_slash}
+use Rattle.url.specs.Input.{rsplit_once}
+use Rattle.url.specs.Path.{IsSegment, dot_count, join_segments}
+use Rattle.url.proofs.InputLemmas.{Passes, StopsAt, All-take-prefix_len, prefix_len_at}
+use Rattle.url.proofs.PathLemmas.{push_valid, rooted}
+use Rattle.texting_robots.specs.declared.whole.TheConstants.{STANDS}
+use Rattle.texting_robots.specs.Plain.{IsAuthority, IsName, IsPath, IsPort}
+use Rattle.texting_robots.specs.Prepared.{marked}
+use Rattle.texting_robots.specs.Steps.Whole.{EndsPath, EndsSite, Leaves, after, begins_plainly}
+use Rattle.texting_robots.specs.Steps.Whole.{front_of, stands}
+
+-- ---- bytes that stand
+
+-- past ASCII no byte stands
+past : (b : ℕ) → 128 ≤ b → get_or STANDS b 0 ≡ 0
+past b high = elim (cases_lt b 256) [
+  | inl below ↦
+      let test = agree_below_at (λ x. nat_lt x 128 || get_or STANDS x 0 == 0) (λ x. true) 256 b refl below in
+      eqb-true (get_or STANDS b 0) 0 (rw (le-ltb b 128 high) at test)
+  | inr above ↦ get_or_past STANDS b 0 above
+]
+
+ascii : (part b : ℕ) → Passes (stands part) b → b < 128
+unfolding stands
+ascii part b passes = elim (cases_lt b 128) [
+  | inl low ↦ low
+  | inr high ↦ absurd (false≢true (rw (past b high) at passes))
+]
+
+neither : (a b : Bool) → not (a || b) ≡ true → (a ≡ false) × (b ≡ false)
+neither true b e = absurd (false≢true e)
+neither false true e = absurd (false≢true e)
+neither false false e = (refl, refl)
+
+-- the bytes of a part are those that a set keeps, without some others
+module _ (part : ℕ) (set : AsciiSet) (other : ℕ → Bool)
+    (same : agree_below (stands part) (λ b. not (contains set b || other b)) 128 ≡ true) where
+  same_at : (b : ℕ) → b < 128 → stands part b ≡ not (contains set b || other b)
+  unfolding stands
+  same_at b low = agree_below_at (stands part) (λ x. not (contains set x || other x)) 128 b same low
+
+  pub kept_at : (b : ℕ) → Passes (stands part) b → IsKept set b × (other b ≡ false)
+  kept_at b passes =
+      let low = ascii part b passes in
+      let test = sym (same_at b low) ∙ passes in
+      let outside = neither (contains set b) (other b) test in
+      (kept_from_outside set b low outside.0, outside.1)
+
+  pub stands_at : (b : ℕ) → IsKept set b → other b ≡ false → Passes (stands part) b
+  stands_at b kept none = rw (same_at b (ascii_from_kept set b kept), outside_from_kept set b kept, none) refl
+
+-- ---- the bytes at the front
+
+pub after_next : (part : ℕ) (text : List ℕ) → 0 < length text → Passes (stands part) (get_or text 0 0)
+    → after part (drop 1 text) ≡ after part text
+after_next part [] some passes = absurd (omega arith)
+after_next part (b ∷ text) some passes = rw (passes, one-add) refl
+
+module _ (part : ℕ) (xs ys : List ℕ) (passes : All (Passes (stands part)) xs)
+    (stops : StopsAt (stands part) ys) where
+  pub front_at : front_of part (xs ++ ys) ≡ xs
+  front_at = take_at xs ys _ (sym (prefix_len_at (stands part) xs ys passes stops))
+
+  pub after_at : after part (xs ++ ys) ≡ ys
+  after_at = drop_at xs ys _ (sym (prefix_len_at (stands part) xs ys passes stops))
+
+-- ---- the path
+
+is_segment : (segment : List ℕ) → All (Passes (stands 2)) segment → dot_count segment ≡ 0
+    → IsSegment SpecialNotFile segment
+unfolding stands
+is_segment segment passes resolved =
+    let each = λ (k d : ℕ) (inside : k < length segment).
+    kept_at 2 PATH (is_slash SpecialNotFile) refl (get_or segment k d) (passes k d inside) in
+    record {
+      escaped = λ k d inside. (each k d inside).0;
+      whole = λ k d inside. (each k d inside).1;
+      resolved = resolved;
+    }
+
+segment_stands : (segment : List ℕ) → IsSegment SpecialNotFile segment → All (Passes (stands 2)) segment
+unfolding stands
+segment_stands segment valid k d inside =
+    stands_at 2 PATH (is_slash SpecialNotFile) refl _ (valid.escaped k d inside) (valid.whole k d inside)
+
+-- the path after one more segment
+pub path_more : (text here : List ℕ) → get_or here 0 0 ≡ 47 → Leaves IsPath text here
+    → dot_count (front_of 2 (drop 1 here)) ≡ 0 → Leaves IsPath text (after 2 (drop 1 here))
+path_more text [] slash left resolved = absurd (omega arith)
+path_more text (b ∷ behind) slash (path, spelled, is_path) resolved =
+    let segment = front_of 2 behind in
+    let valid = is_segment segment (All-take-prefix_len (stands 2) behind) resolved in (
+      path ++ 47 ∷ segment,
+      spelled ∙ ap (λ c. path ++ c ∷ behind) slash
+          ∙ ap (λ t. path ++ 47 ∷ t) (sym (take-append-drop _ behind))
+          ∙ sym (append_assoc path (47 ∷ segment) (after 2 behind)),
+      push_valid SpecialNotFile path segment is_path valid,
+    )
+
+joined_stops : (segments : List (List ℕ)) (rest : List ℕ) → EndsPath rest
+    → StopsAt (stands 2) (join_segments segments ++ rest)
+unfolding stands
+joined_stops [] [] ends = tt
+joined_stops [] (b ∷ rest) ends = ⊎_elim (λ e. rw e refl) (λ e. rw e refl) ends
+joined_stops (s ∷ segments) rest ends = refl
+
+-- a path that is left begins with a segment
+pub path_behind : (here rest : List ℕ) → get_or here 0 0 ≡ 47 → EndsPath rest → Leaves IsPath here rest
+    → (dot_count (front_of 2 (drop 1 here)) ≡ 0) × Leaves IsPath (after 2 (drop 1 here)) rest
+path_behind here rest slash ends (path, spelled, is_path) =
+    by is_path.segments is_path.each (spelled ∙ ap (λ p. p ++ rest) is_path.joined)
+  where
+    not_ended : (text : List ℕ) → get_or text 0 0 ≡ 47 → ¬ (EndsPath text)
+    not_ended [] e ends = omega arith
+    not_ended (b ∷ text) e ends = ⊎_elim (λ mark. omega arith) (λ mark. omega arith) ends
+
+    by : (segments : List (List ℕ)) → All (IsSegment SpecialNotFile) segments
+        → here ≡ join_segments segments ++ rest
+        → (dot_count (front_of 2 (drop 1 here)) ≡ 0) × Leaves IsPath (after 2 (drop 1 here)) rest
+    by [] each same = absurd (not_ended here slash (subst EndsPath (sym same) ends))
+    by (s ∷ segments) each same =
+        let later = join_segments segments ++ rest in
+        let whole : drop 1 here ≡ s ++ later = ap (drop 1) same ∙ append_assoc s _ rest in
+        let valid = All-head (IsSegment SpecialNotFile) s segments each in
+        let stands = segment_stands s valid in
+        let stops = joined_stops segments rest ends in
+        let tail = All-tail (IsSegment SpecialNotFile) s segments each in
+        let front = ap (front_of 2) whole ∙ front_at 2 s later stands stops in (
+          ap dot_count front ∙ valid.resolved,
+          (
+            join_segments segments,
+            ap (after 2) whole ∙ after_at 2 s later stands stops,
+            record { segments = segments; joined = refl; each = tail },
+          ),
+        )
+
+-- what begins with no slash holds no more of a path
+pub path_end : (text rest : List ℕ) → (0 < length text → get_or text 0 0 ≢ 47) → Leaves IsPath text rest
+    → text ≡ rest
+path_end text rest other ([], spelled, is_path) = spelled
+path_end text rest other (b ∷ path, spelled, is_path) =
+    let first : 0 < length text → get_or text 0 0 ≡ b = rw spelled (λ _. refl) in
+    ⊎_elim (λ none. absurd (cc)) (λ slash. let some : 0 < length text = omega (arith, ap length spelled) in
+    absurd (other some (first some ∙ slash))) (rooted SpecialNotFile (b ∷ path) is_path)
+
+-- ---- the port
+
+-- a site's end is no byte of a name and none of a number
+ends_stops : (rest : List ℕ) → EndsSite rest → StopsAt (stands 1) rest × StopsAt (stands 16) rest
+unfolding stands
+ends_stops [] ends = (tt, tt)
+ends_stops (b ∷ rest) ends = (rw ends refl, rw ends refl)
+
+plain_first : (digits : List ℕ) → begins_plainly digits ≡ true
+    → (is_ascii_digit (get_or digits 0 0) ≡ true) × (get_or digits 0 0 ≡ 48 → length digits ≡ 1)
+plain_first [] plain = absurd (false≢true plain)
+plain_first (b ∷ []) plain = (plain, λ zero. refl)
+plain_first (b ∷ d ∷ digits) plain =
+    let both = and_parts (is_ascii_digit b) (not (b == 48)) plain in
+    (both.0, λ zero. absurd (false≢true (rw zero at both.1)))
+
+-- digits that begin plainly are what their number is written as
+pub decimal_read : (digits : List ℕ) (port : ℕ) → begins_plainly digits ≡ true
+    → (IsNumeral 10 (without_leading_plus digits) × (digits_value 10 (without_leading_plus digits) < 2 ^ 16))
+    × (port ≡ digits_value 10 (without_leading_plus digits)) → digits ≡ decimal port
+decimal_read digits port plain parses =
+    let first = plain_first digits plain in
+    let no_plus : (get_or digits 0 0 == 43) ≡ false = let digit = first.0 in grind (arith, nat_tests) in
+    let same : without_leading_plus digits ≡ digits = rw no_plus refl in
+    let read = rw same at parses in
+    sym (decimal-digits_value (numerals_by_value _ tells_digits) digits read.0.0.1 read.0.0.0 first.1
+    (omega (arith, read.0.1))) ∙ ap decimal (sym read.1)
+
+pub decimal_plain : (port : ℕ) → port < 2 ^ 16 → begins_plainly (decimal port) ≡ true
+decimal_plain zero small = rw (decimal_digit 0 (omega arith)) refl
+decimal_plain (suc n) small =
+    by (decimal (suc n)) (All-decimal (suc n) (omega arith)) (first_decimal (suc n) (omega arith) (omega arith))
+  where
+    by : (digits : List ℕ) → All (IsInRange 48 57) digits → 48 < get_or digits 0 0
+        → begins_plainly digits ≡ true
+    by [] range above = absurd (omega arith)
+    by (b ∷ []) range above = let first = range 0 0 (omega arith) in grind (arith, nat_tests)
+    by (b ∷ d ∷ digits) range above = let first = range 0 0 (omega arith) in grind (arith, nat_tests)
+
+number_stands : (b : ℕ) → IsInRange 48 57 b → Passes (stands 16) b
+unfolding stands
+number_stands b digit =
+    let test = agree_below_at (λ x. nat_lt x 48 || stands 16 x) (λ x. true) 58 b refl (omega arith) in
+    rw (le-ltb b 48 (omega arith)) at test
+
+-- what is written as a port is read as one
+pub port_left : (own : ℕ) (text rest : List ℕ) → get_or text 0 0 ≡ 58 → EndsSite rest
+    → Leaves (IsPort own) text rest
+    → (port : ℕ) × (front_of 16 (drop 1 text) ≡ decimal port) × (port < 2 ^ 16) × (port ≢ own)
+    × (after 16 (drop 1 text) ≡ rest)
+port_left own text rest colon ends (part, spelled, (None, written, other)) =
+    absurd (not_ended (subst EndsSite (sym (spelled ∙ ap (λ p. p ++ rest) written)) ends))
+  where
+    not_ended : ¬ (EndsSite text)
+    not_ended = elim text as (λ t. get_or t 0 0 ≡ 58 → ¬ (EndsSite t))
+        [ [] ↦ λ e _. omega arith | b ∷ t ↦ λ e slash. omega arith ] colon
+port_left own text rest colon ends (part, spelled, (Some port, written, other)) =
+    let whole = ap (drop 1) (spelled ∙ ap (λ p. p ++ rest) written) in
+    let digits = All-weaker (IsInRange 48 57) (Passes (stands 16)) number_stands (decimal port)
+    (All-decimal port (omega (arith, other.0))) in
+    let stops = (ends_stops rest ends).1 in (
+      port,
+      ap (front_of 16) whole ∙ front_at 16 (decimal port) rest digits stops,
+      other.0,
+      other.1,
+      ap (after 16) whole ∙ after_at 16 (decimal port) rest digits stops,
+    )
+
+pub port_read : (own port : ℕ) (text : List ℕ) → get_or text 0 0 ≡ 58
+    → front_of 16 (drop 1 text) ≡ decimal port → port < 2 ^ 16 → port ≢ own
+    → Leaves (IsPort own) text (after 16 (drop 1 text))
+port_read own port [] colon digits small other = absurd (omega arith)
+port_read own port (b ∷ behind) colon digits small other = (
+  58 ∷ decimal port,
+  ap (λ c. c ∷ behind) colon ∙ ap (λ t. 58 ∷ t) (sym (take-append-drop _ behind)
+      ∙ ap (λ t. t ++ after 16 behind) digits),
+  (Some port, refl, (small, other)),
+)
+
+-- ---- the host and the port
+
+name_stands : (host : List ℕ) → IsName host → All (Passes (stands 1)) host
+unfolding stands
+name_stands host name k d inside =
+    stands_at 1 FORBIDDEN_DOMAIN is_ascii_uppercase refl _ (name.allowed k d inside) (name.small k d inside)
+
+pub authority_read : (own : ℕ) (text rest : List ℕ)
+    → is_ascii_lowercase (slice_index (rsplit_once 46 (front_of 1 text)).1 0) ≡ true
+    → Leaves (IsPort own) (after 1 text) rest → Leaves (IsAuthority own) text rest
+unfolding stands
+authority_read own text rest letter (port, spelled, is_port) =
+    let host = front_of 1 text in
+    let whole = sym (take-append-drop _ text) ∙ ap (λ t. host ++ t) spelled ∙ sym (append_assoc host port rest) in
+    let each = λ (k d : ℕ) (inside : k < length host).
+    kept_at 1 FORBIDDEN_DOMAIN is_ascii_uppercase refl (get_or host k d)
+    (All-take-prefix_len (stands 1) text k d inside) in
+    let name : IsName host = record {
+      allowed = λ k d inside. (each k d inside).0;
+      small = λ k d inside. (each k d inside).1;
+      letter = letter;
+    } in (
+      host ++ port,
+      whole,
+      record { host = host; port = port; spelled = refl; is_name = name; is_port = is_port },
+    )
+
+pub authority_left : (own : ℕ) (text rest : List ℕ) → EndsSite rest → Leaves (IsAuthority own) text rest
+    → (is_ascii_lowercase (slice_index (rsplit_once 46 (front_of 1 text)).1 0) ≡ true)
+    × Leaves (IsPort own) (after 1 text) rest
+unfolding stands
+authority_left own text rest ends (part, spelled, authority) =
+    let host = authority.host in
+    let whole = spelled ∙ ap (λ p. p ++ rest) authority.spelled ∙ append_assoc host authority.port rest in
+    let each = name_stands host authority.is_name in
+    let front = ap (front_of 1) whole ∙ front_at 1 host (authority.port ++ rest) each stops in (
+      rw front authority.is_name.letter,
+      (
+        authority.port,
+        ap (after 1) whole ∙ after_at 1 host (authority.port ++ rest) each stops,
+        authority.is_port,
+      ),
+    )
+  where
+    port_stops : (port : Option ℕ)
+        → StopsAt (stands 1) (marked (codes ":") (option_map decimal port) ++ rest)
+    port_stops None = (ends_stops rest ends).0
+    port_stops (Some n) = refl
+
+    stops : StopsAt (stands 1) (authority.port ++ rest)
+    stops = subst (λ p. StopsAt (stands 1) (p ++ rest)) (sym authority.is_port.1) (port_stops authority.is_port.0)

@@ -1,0 +1,68 @@
+-- The texts on which a verdict takes no memory, since what rules are matched with stands in them.
+use Rattle.std.specs.Prelude.{◌≡◌, ◌≢◌, ◌⊎◌, ◌<◌, ◌^◌, ℕ, true, false, List, [], ◌++◌, All, codes, decimal}
+use Rattle.std.specs.Prelude.{slice_index, Option, IfSome, option_map}
+use Rattle.std.specs.Char.{is_ascii_lowercase, is_ascii_uppercase}
+use Rattle.std.specs.Str.{byte}
+use Rattle.percent_encoding.specs.declared.ascii_set.AsciiSet.{AsciiSet}
+use Rattle.percent_encoding.specs.Percent.{IsKept}
+use Rattle.url.specs.declared.scheme.SchemeType.TheVariants.{SpecialNotFile}
+use Rattle.url.specs.declared.sets.TheConstants.{FORBIDDEN_DOMAIN, FRAGMENT, SPECIAL_QUERY}
+use Rattle.url.specs.{Input.rsplit_once, Path.IsSegmentList}
+use Rattle.texting_robots.specs.Escape.{is_escaped}
+use Rattle.texting_robots.specs.Prepared.{marked}
+
+-- a host that `url` keeps, and whose last label begins with a letter, so that it is no number
+pub record IsName (host : List ℕ) : Type 0 where
+  pub allowed : All (IsKept FORBIDDEN_DOMAIN) host
+  pub small : All (λ b. is_ascii_uppercase b ≡ false) host
+  pub letter : is_ascii_lowercase (slice_index (rsplit_once (byte ".") host).1 0) ≡ true
+
+-- `:` and a port that isn't the scheme's own, or nothing
+abbrev pub IsPort : ℕ → List ℕ → Type 0
+IsPort own text =
+    (port : Option ℕ) × (text ≡ marked (codes ":") (option_map decimal port))
+    × IfSome port (λ n. (n < 2 ^ 16) × (n ≢ own))
+
+-- a name and a port
+pub record IsAuthority (own : ℕ) (text : List ℕ) : Type 0 where
+  pub host : List ℕ
+  pub port : List ℕ
+  pub spelled : text ≡ host ++ port
+  pub is_name : IsName host
+  pub is_port : IsPort own port
+
+-- the scheme, a name and a port
+abbrev pub IsSite : List ℕ → Type 0
+IsSite text =
+    ((authority : List ℕ) × (text ≡ codes "https://" ++ authority) × IsAuthority 443 authority)
+    ⊎ ((authority : List ℕ) × (text ≡ codes "http://" ++ authority) × IsAuthority 80 authority)
+
+-- segments behind their slashes, of which none is a dot segment and nothing is to be escaped
+abbrev pub IsPath : List ℕ → Type 0
+IsPath path = IsSegmentList SpecialNotFile path
+
+-- the mark and a part of which nothing is to be escaped, or nothing
+abbrev pub IsMarked : List ℕ → AsciiSet → List ℕ → Type 0
+IsMarked mark set text =
+    (part : Option (List ℕ)) × (text ≡ marked mark part) × IfSome part (All (IsKept set))
+
+-- a whole URL as `url` writes it; where the path is missing, there is nothing behind it either
+pub record IsPlainUrl (url : List ℕ) : Type 0 where
+  pub site : List ℕ
+  pub path : List ℕ
+  pub query : List ℕ
+  pub fragment : List ℕ
+  pub spelled : url ≡ site ++ (path ++ (query ++ fragment))
+  pub is_site : IsSite site
+  pub is_path : IsPath path
+  pub is_query : IsMarked (codes "?") SPECIAL_QUERY query
+  pub is_fragment : IsMarked (codes "#") FRAGMENT fragment
+  pub rooted : path ≡ [] → query ++ fragment ≡ []
+
+-- a path by itself, or the empty text, of which no byte is escaped
+abbrev pub IsPlainPath : List ℕ → Type 0
+IsPlainPath text = ((text ≡ []) ⊎ (slice_index text 0 ≡ byte "/")) × All (λ b. is_escaped b ≡ false) text
+
+-- a verdict on the text takes no memory
+abbrev pub TakesNoMemory : List ℕ → Type 0
+TakesNoMemory text = IsPlainPath text ⊎ IsPlainUrl text
