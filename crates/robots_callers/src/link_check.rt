@@ -1,41 +1,33 @@
 //! A link checker: how many of a page's links a crawler may not fetch.
-ghost use Rattle.std.specs.Prelude.{◌≤◌, ◌*◌, length, map, sum_by};
+ghost use Rattle.std.specs.Prelude.{◌≡◌, map, sum_by};
+ghost use Rattle.std.specs.List.{AllZip};
 ghost use Rattle.robots_callers.specs.LinkCheck.{AreDenied};
-ghost use Rattle.texting_robots.specs.Callers.{IsVerdict, unplaced};
+ghost use Rattle.texting_robots.specs.Callers.{LooksForRules, seen_of, unplaced};
 
 use texting_robots::Robot;
 use texting_robots::view::View;
 
-/// How many links are denied, and how many looks at their texts were taken.
+/// How many links are denied, and how many looks their views have taken in all, those before the call too: `u64::MAX` where
+/// there were more.
 #[derive(Clone, Copy, PartialEq, Eq, Debug)]
 pub struct Denied {
     pub count: usize,
     pub looks: u64,
 }
 
-/// Whether a robot allows a prepared text, and how many looks that took.
-fn judged(robot: &Robot, text: &str) -> (bool, u64)
-    ensures verdict { IsVerdict (unplaced robot.now.rules) text.now result.0 }
-    ensures looks { result.1 ≤ 2 * length text.now * length robot.now.rules }
-{
-    let mut view = View::new(text);
-    let allowed = robot.allowed_view(&mut view);
-    (allowed, view.seen())
-}
-
-/// Counts the links that a robot denies, by their prepared texts. It takes no memory.
-pub fn count_denied(robot: &Robot, texts: &[&str]) -> Denied
-    ensures count { AreDenied (unplaced robot.now.rules) (map (λ text. text.now) texts.now) result.count }
-    ensures looks { result.looks ≤ sum_by (λ text. 2 * length text.now * length robot.now.rules) texts.now }
+/// Counts the links that a robot denies, by views of their prepared texts, and the looks of these views. It takes no memory.
+pub fn count_denied(robot: &Robot, links: &mut [View<'_>]) -> Denied
+    ensures count { AreDenied (unplaced robot.now.rules) (map (λ link. link.text) links.old) result.count }
+    ensures views { AllZip (LooksForRules robot.now.rules) links.old links.new }
+    ensures looks { result.looks ≡ seen_of (sum_by (λ link. link.looks) links.new) }
 {
     let mut count = 0;
     let mut looks: u64 = 0;
-    for text in texts {
-        let (allowed, more) = judged(robot, text);
-        if !allowed {
+    for link in links.iter_mut() {
+        if !robot.allowed_view(link) {
             count += 1;
         }
-        looks = looks.saturating_add(more);
+        looks = looks.saturating_add(link.seen());
     }
     Denied { count, looks }
 }
@@ -52,11 +44,44 @@ mod tests {
             "LinkBot",
             b"User-agent: *\nDisallow: /a\nDisallow: /*.pdf$\n",
         )?;
-        let found = count_denied(&robot, &["/a/b", "/b", "/c.pdf", "/c.pdf?x", "/robots.txt"]);
+        let links = &mut [
+            View::new("/a/b"),
+            View::new("/b"),
+            View::new("/c.pdf"),
+            View::new("/c.pdf?x"),
+            View::new("/robots.txt"),
+        ];
+        let found = count_denied(&robot, links);
         assert!(rt; found.count == 2);
         // two rules, and 31 bytes in all
         assert!(rt; found.looks <= 2 * 31 * 2);
-        assert!(rt; count_denied(&robot, &[]) == Denied { count: 0, looks: 0 });
+        assert!(rt; count_denied(&robot, &mut []) == Denied { count: 0, looks: 0 });
+        Ok(())
+    }
+
+    #[test]
+    fn looks_are_summed(rt: HostRuntime) -> Result<(), Fail> {
+        let robot = Robot::new(rt.alloc(), "LinkBot", b"User-agent: *\nDisallow: /abc\n")?;
+        // that `/abc` stands there takes a look at each of its four bytes; that it doesn't, one look at the first
+        let links = &mut [View::new("/abc"), View::new("?abc"), View::new("/abc/d")];
+        assert!(rt;
+            count_denied(&robot, links)
+                == Denied {
+                    count: 2,
+                    looks: 4 + 1 + 4
+                }
+        );
+        // and as many again
+        assert!(rt;
+            count_denied(&robot, links)
+                == Denied {
+                    count: 2,
+                    looks: 18
+                }
+        );
+        // the first two bytes are the same, and the third is not; `/robots.txt` is always allowed, and no look
+        let links = &mut [View::new("/axc"), View::new("/robots.txt")];
+        assert!(rt; count_denied(&robot, links) == Denied { count: 0, looks: 3 });
         Ok(())
     }
 }
