@@ -56,7 +56,7 @@ const FILE: &[u8] =
 
 /// URLs, and whether the robot of the file may fetch them.
 const VERDICTS: &[(&str, bool)] = &[
-    ("https://www.rust-lang.org/ocean", true),
+    ("https://WWW.rust-lang.org/ocean", true),
     ("/ocean", true),
     ("/ocean/reef.html", true),
     ("/rust", false),

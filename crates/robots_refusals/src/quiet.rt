@@ -16,6 +16,7 @@ pub(crate) enum Call {
     AllowedPrepared,
     AllowedUrl,
     AllowedPath,
+    AllowedWholeUrl,
     AllowedView,
     Decision,
     IsMatch,
@@ -44,6 +45,10 @@ pub(crate) const CALLS: &[(&str, Call)] = &[
     (
         "Robot::allowed of a plain path without memory",
         Call::AllowedPath,
+    ),
+    (
+        "Robot::allowed of a plain URL without memory",
+        Call::AllowedWholeUrl,
     ),
     ("Robot::allowed_view without memory", Call::AllowedView),
     ("Robot::decision without memory", Call::Decision),
@@ -109,10 +114,11 @@ fn answer_with(
     asks(alloc, &asked, call)
 }
 
-/// Makes a call. Only two are passed the allocator.
+/// Makes a call. Only three are passed the allocator.
 fn asks(alloc: Global, asked: &Asked, call: &Call) -> Result<bool, Error> {
     match call {
         Call::AllowedPath => asks_paths(alloc, asked.robot),
+        Call::AllowedWholeUrl => asks_whole_urls(alloc, asked.robot),
         Call::NewRobot => reads_line_ends(alloc),
         _ => Ok(is_right(asked, call)),
     }
@@ -137,7 +143,7 @@ fn is_right(asked: &Asked, call: &Call) -> bool {
         Call::ReadDelay => reads_delays(),
         Call::MarkedLines => marks_page(),
         Call::IsNamed => is_named("smerbot", PAGE) && !is_named("BobBot", PAGE),
-        Call::AllowedPath | Call::NewRobot => false,
+        Call::AllowedPath | Call::AllowedWholeUrl | Call::NewRobot => false,
     }
 }
 
@@ -151,6 +157,13 @@ fn asks_prepared(robot: &Robot) -> bool {
 /// Asks for paths of which nothing is escaped.
 fn asks_paths(alloc: Global, robot: &Robot) -> Result<bool, Error> {
     Ok(robot.allowed(alloc, "/ocean/reef.html")? && !robot.allowed(alloc, "/rust")?)
+}
+
+/// Asks for URLs that stand as they are.
+fn asks_whole_urls(alloc: Global, robot: &Robot) -> Result<bool, Error> {
+    Ok(robot.allowed(alloc, "https://www.rust-lang.org/ocean/reef.html?a#b")?
+        && robot.allowed(alloc, "http://www.rust-lang.org:8080")?
+        && !robot.allowed(alloc, "https://www.rust-lang.org/rust")?)
 }
 
 fn asks_view(robot: &Robot) -> bool {

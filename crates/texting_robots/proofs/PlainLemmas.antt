@@ -2,7 +2,8 @@
 use Rattle.std.proofs.Common.{◌≡◌, ℕ, ◌<◌, ◌&&◌, ◌||◌, ◌==◌, Bool, true, false, not, List, [], ◌∷◌, ◌++◌}
 use Rattle.std.proofs.Common.{All, IfSome, None, Ok, Err, Option, Some, codes, decimal, drop, get_or, length}
 use Rattle.std.proofs.Common.{sym, refl, ap, ◌∙◌, subst, inl, inr, ⊎_elim, arith, append_assoc, append-nil}
-use Rattle.std.proofs.Common.{◌⊎◌, ◌^◌, ◌-◌, ◌+◌, get_or-append-add, ◌≢◌, take, length-append, take-append-drop, drop_at}
+use Rattle.std.proofs.Common.{◌⊎◌, ◌^◌, ◌-◌, ◌+◌, ◌≢◌, get_or-append-add, take}
+use Rattle.std.proofs.Common.{length-append, take-append-drop, drop_at}
 use Rattle.std.specs.Prelude.{is_some, nat_lt, option_map, slice_index, unwrap_or}
 use Rattle.std.specs.Prelude.{IsSome}
 use Rattle.std.specs.Borrow.{Bor}
@@ -40,8 +41,8 @@ use Rattle.url.specs.Parser.{after_double_slash, and_then, parse_authority, pars
 use Rattle.url.specs.Parser.{before_tail, parse_parts, split_scheme, with_path, with_tail}
 use Rattle.url.specs.Scheme.{is_file, is_scheme_byte, is_slash, is_special}
 use Rattle.url.proofs.HostRoundTrip.{parse_special_host-host_text}
-use Rattle.url.proofs.InputLemmas.{All-take-prefix_len, All_from_list_all, IsNot, Passes, StopsAt, filter_all}
-use Rattle.url.proofs.InputLemmas.{is_empty_nonempty, lowercase_other, map_fixed, prefix_len_at, prefix_len_is}
+use Rattle.url.proofs.InputLemmas.{All-take-prefix_len, All_from_list_all, IsNot, Passes, StopsAt}
+use Rattle.url.proofs.InputLemmas.{filter_all, is_empty_nonempty, lowercase_other, map_fixed, prefix_len_at, prefix_len_is}
 use Rattle.url.proofs.InputLemmas.{split_once_none}
 use Rattle.url.proofs.ParsedCanonical.{before_special}
 use Rattle.url.proofs.PathLemmas.{root_only, rooted}
@@ -244,7 +245,7 @@ prepared_plain url plain some =
     ∙ sym (ap (λ t. site.scheme ++ (codes "://" ++ (site.host ++ t)))
     (port_text site.port _ ∙ ap (λ t. port ++ (plain.path ++ t)) (tail_text query fragment))) in
     let parsed = ap (parse_url None) text ∙ parse_url-serialize_special u None is_valid site.kind in
-    let long : 0 < length url = omega (arith, ap length plain.spelled, length-append plain.site (plain.path ++ (plain.query ++ plain.fragment)), length-append plain.path (plain.query ++ plain.fragment)) in
+    let long : 0 < length url = let whole = simp length-append at (ap length plain.spelled) in omega arith in
     prepared_parsed url u long parsed ∙ append_assoc plain.path _ _ ∙ ap (λ t. plain.path ++ t) (sym written)
 
 -- ---- a site alone
@@ -305,10 +306,10 @@ module _ (u : Parts) (valid : IsValid u) (kind : kind_of u ≡ SpecialNotFile) (
   alone_parsed text spelled =
       let body = 47 ∷ 47 ∷ authority in
       let front = All-append (Passes is_visible) u.scheme (codes "://")
-      (All-weaker (Passes is_scheme_byte) (Passes is_visible) (λ b passes. grind (arith, nat_tests)) u.scheme
-      (scheme_bytes u.scheme valid.head.scheme)) (All_from_list_all is_visible (codes "://") refl) in
-      let back = All-weaker (Passes is_authority_byte) (Passes is_visible) (λ b passes. grind (arith, nat_tests))
-      authority (authority_bytes u valid.head) in
+      (All-weaker (Passes is_scheme_byte) (Passes is_visible) (λ b passes. grind (arith, nat_tests))
+      u.scheme (scheme_bytes u.scheme valid.head.scheme)) (All_from_list_all is_visible (codes "://") refl) in
+      let back = All-weaker (Passes is_authority_byte) (Passes is_visible)
+      (λ b passes. grind (arith, nat_tests)) authority (authority_bytes u valid.head) in
       let visible : All (Passes is_visible) text =
       rw (spelled, ← append_assoc u.scheme (codes "://") authority)
       (All-append (Passes is_visible) (u.scheme ++ codes "://") authority front back) in
@@ -329,7 +330,8 @@ module _ (u : Parts) (valid : IsValid u) (kind : kind_of u ≡ SpecialNotFile) (
       (λ i. parse_by_scheme (scheme i) None (question i).0 (question i).1 (hash i).1)
       ∙ ap (λ s. parse_parts s None body None None) valid.head.scheme.lower
       ∙ ap (λ r. and_then r (λ v. Ok (with_tail (before_tail v None None) None None))) parses
-      ∙ ap (λ (v : Parts). Ok (with_tail v None None)) (before_special (without_tail u) None None (ap is_special kind))
+      ∙ ap (λ (v : Parts). Ok (with_tail v None None))
+      (before_special (without_tail u) None None (ap is_special kind))
       ∙ (λ i. Ok (record u { query = sym no_query i; fragment = sym no_fragment i }))
 
 -- only the slash of the path is missing behind a site alone
@@ -341,8 +343,9 @@ prepared_alone text is_site =
     site.other (root_only SpecialNotFile) (omega arith) tt tt in
     let written = ap (λ t. site.scheme ++ (codes "://" ++ (site.host ++ t)))
     (port_text site.port [] ∙ append-nil _) in
-    let long : 0 < length text = omega (arith, ap length site.spelled, length-append site.scheme (codes "://" ++ (site.host ++ marked (codes ":") (option_map decimal site.port)))) in
-    prepared_parsed text u long (alone_parsed u is_valid site.kind refl refl refl text (site.spelled ∙ sym written))
+    let long : 0 < length text = let whole = simp length-append at (ap length site.spelled) in omega arith in
+    let spelled = site.spelled ∙ sym written in
+    prepared_parsed text u long (alone_parsed u is_valid site.kind refl refl refl text spelled)
 
 -- ---- what is found in a plain URL
 

@@ -1,7 +1,8 @@
 -- A whole URL that `url` would leave as it is: its parts, from the front.
 use Rattle.std.proofs.Common.{◌≡◌, ℕ, ◌<◌, ◌≤◌, Bool, true, false, ◌||◌, ◌==◌, not}
 use Rattle.std.proofs.Common.{List, [], ◌∷◌, ◌++◌, length, get_or, drop, drop_at, take_at, All}
-use Rattle.std.proofs.Common.{sym, refl, ap, ◌∙◌, ◌≢◌, subst, ⊎_elim, inl, inr, arith, append_assoc, one-add, take-append-drop}
+use Rattle.std.proofs.Common.{sym, refl, ap, ◌∙◌, ◌≢◌, subst, ⊎_elim, inl, inr, arith, append_assoc, one-add}
+use Rattle.std.proofs.Common.{take-append-drop}
 use Rattle.std.proofs.Common.{◌^◌, None, Some, decimal, suc, zero}
 use Rattle.std.specs.Prelude.{Option, codes, nat_lt, option_map, slice_index}
 use Rattle.std.specs.Char.{is_ascii_digit, is_ascii_lowercase, is_ascii_uppercase}
@@ -197,7 +198,8 @@ decimal_read digits port plain parses =
 pub decimal_plain : (port : ℕ) → port < 2 ^ 16 → begins_plainly (decimal port) ≡ true
 decimal_plain zero small = rw (decimal_digit 0 (omega arith)) refl
 decimal_plain (suc n) small =
-    by (decimal (suc n)) (All-decimal (suc n) (omega arith)) (first_decimal (suc n) (omega arith) (omega arith))
+    by (decimal (suc n)) (All-decimal (suc n) (omega arith))
+    (first_decimal (suc n) (omega arith) (omega arith))
   where
     by : (digits : List ℕ) → All (IsInRange 48 57) digits → 48 < get_or digits 0 0
         → begins_plainly digits ≡ true
@@ -258,7 +260,8 @@ pub authority_read : (own : ℕ) (text rest : List ℕ)
 unfolding stands
 authority_read own text rest letter (port, spelled, is_port) =
     let host = front_of 1 text in
-    let whole = sym (take-append-drop _ text) ∙ ap (λ t. host ++ t) spelled ∙ sym (append_assoc host port rest) in
+    let whole = sym (take-append-drop _ text) ∙ ap (λ t. host ++ t) spelled
+    ∙ sym (append_assoc host port rest) in
     let each = λ (k d : ℕ) (inside : k < length host).
     kept_at 1 FORBIDDEN_DOMAIN is_ascii_uppercase refl (get_or host k d)
     (All-take-prefix_len (stands 1) text k d inside) in
@@ -295,4 +298,5 @@ authority_left own text rest ends (part, spelled, authority) =
     port_stops (Some n) = refl
 
     stops : StopsAt (stands 1) (authority.port ++ rest)
-    stops = subst (λ p. StopsAt (stands 1) (p ++ rest)) (sym authority.is_port.1) (port_stops authority.is_port.0)
+    stops = subst (λ p. StopsAt (stands 1) (p ++ rest)) (sym authority.is_port.1)
+        (port_stops authority.is_port.0)

@@ -21,8 +21,8 @@ pub(crate) enum Prepared<'a> {
 }
 
 impl<'a> Prepared<'a> {
-    /// The text of a URL, or of a path by itself. What begins with a slash is no URL, and isn't parsed, nor is a URL that stands as
-    /// it is.
+    /// The text of a URL, or of a path by itself. What begins with a slash is no URL, and isn't parsed, nor is a URL that stands
+    /// as it is.
     pub(crate) fn new(alloc: Global, url: &'a str) -> Result<Self, Error>
         ensures ok { IfOk result (λ text. text_of text ≡ prepared url.now) }
         ensures memory { IfErr result (λ e. e ≡ Error.Memory) }

@@ -5,7 +5,8 @@ ghost use Rattle.std.specs.Char.{is_ascii_lowercase};
 ghost use Rattle.url.specs.{Input.rsplit_once, Path.dot_count, Path.dot_len};
 ghost use Rattle.texting_robots.specs.Plain.{IsAuthority, IsPath, IsPlainUrl, IsPort, IsSite};
 ghost use Rattle.texting_robots.specs.Prepared.{prepared};
-ghost use Rattle.texting_robots.specs.Steps.Whole.{after, after_marked, begins_plainly, front_of, stands, EndsPath, EndsSite, Leaves};
+ghost use Rattle.texting_robots.specs.Steps.Whole.{after, after_marked, begins_plainly, front_of, stands};
+ghost use Rattle.texting_robots.specs.Steps.Whole.{EndsPath, EndsSite, Leaves};
 
 /// Where each byte stands as it is, by bits: in a name, a segment of a path, a query, a fragment and a number.
 const STANDS: [u8; 256] = [
@@ -210,8 +211,9 @@ pub(crate) fn standing_target(url: &str) -> Option<&str>
         [b'/', ..] => {}
         _ => return None,
     }
-    let tail = after_marked(b'?', QUERY, after_path(target)?);
-    if after_marked(b'#', FRAGMENT, tail).is_empty() {
+    let query = after_path(target)?;
+    let fragment = after_marked(b'?', QUERY, query);
+    if after_marked(b'#', FRAGMENT, fragment).is_empty() {
         url.get(url.len() - target.len()..)
     } else {
         None

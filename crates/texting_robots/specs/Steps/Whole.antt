@@ -17,7 +17,7 @@ front_of part text = take (prefix_len (stands part) text) text
 abbrev pub after : ℕ → List ℕ → List ℕ
 after part text = drop (prefix_len (stands part) text) text
 
--- what follows a mark and the bytes behind it that stand in such a part, or the text where the mark isn't first
+-- what follows a mark and the bytes behind it that stand so, or the text where the mark isn't first
 abbrev pub after_marked : ℕ → ℕ → List ℕ → List ℕ
 after_marked mark part [] = []
 after_marked mark part (b ∷ text) = if b == mark then after part text else b ∷ text

@@ -11,5 +11,5 @@ returns-clause-ok c =
 pub returns-clause-lent : goal.returns-clause-lent
 returns-clause-lent c plain =
     let kept = c.utf8_percent_encode.ensures.clean (λ k d inside. same_test _ ∙ plain k d inside) in
-    elim c.into_cow.result as (λ r. IsOkAnd r IsBorrowedStr → IsOk r) [ Ok text ↦ λ _. refl | Err e ↦ λ no. absurd no ]
-    (c.into_cow.ensures.borrows kept)
+    elim c.into_cow.result as (λ r. IsOkAnd r IsBorrowedStr → IsOk r)
+    [ Ok text ↦ λ _. refl | Err e ↦ λ no. absurd no ] (c.into_cow.ensures.borrows kept)

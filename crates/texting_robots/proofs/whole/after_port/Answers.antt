@@ -7,13 +7,15 @@ use Rattle.texting_robots.proofs.whole.after_port.Goals as goal
 pub returns-in_err-port_of-clause-whole : goal.returns-in_err-port_of-clause-whole
 returns-in_err-port_of-clause-whole c rest ends leaves =
     let left = port_left c.args.own c.args.text.now rest (omega arith) ends leaves in
-    let found = c.in_err-port_of.ensures.whole left.0 left.2 (rw take_rest at c.split.ensures.front ∙ left.1) in
+    let front = rw take_rest at c.split.ensures.front in
+    let found = c.in_err-port_of.ensures.whole left.0 left.2 (front ∙ left.1) in
     absurd cc
 
 pub returns-then-branch-own-clause-whole : goal.returns-then-branch-own-clause-whole
 returns-then-branch-own-clause-whole c rest ends leaves =
     let left = port_left c.args.own c.args.text.now rest (omega arith) ends leaves in
-    let found = c.in_ok-port_of.ensures.whole left.0 left.2 (rw take_rest at c.split.ensures.front ∙ left.1) in
+    let front = rw take_rest at c.split.ensures.front in
+    let found = c.in_ok-port_of.ensures.whole left.0 left.2 (front ∙ left.1) in
     let same : c.in_ok-port_of.field-0 ≡ left.0 = cc in
     omega (arith, same, c.if-branch-own.true, left.3)
 
