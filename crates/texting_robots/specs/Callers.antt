@@ -20,6 +20,7 @@ pub use Rattle.texting_robots.specs.Computed.{delay_for, sitemaps_in}
 pub use Rattle.texting_robots.specs.Pattern.{Matches, MatchesStars, IsOverlong, collapsed}
 pub use Rattle.texting_robots.specs.{Address.robots_address, Address.robots_address_of, Escape.escaped}
 pub use Rattle.texting_robots.specs.{Prepared.prepared, Prepared.target_of, Order.IsBefore, Order.pattern_cmp}
+pub use Rattle.texting_robots.specs.Plain.{TakesNoMemory}
 -- verdicts
 pub use Rattle.texting_robots.specs.Verdict.{IsDenied, IsVerdict, robots_file}
 pub use Rattle.texting_robots.specs.Decision.{IsBetter, IsDecidingRule, IsDecidingLine, IsLongestMatch}
