@@ -34,7 +34,8 @@ pub record Helps (old new : Option (List ℕ)) (result : Result Outcome Fault) :
 
 -- the reader has this file left: its report is written, and its warnings are given; or there is a fault, and
 -- where writing failed, a beginning of the report is written
-pub record AuditsFile (agent : List ℕ) (urls : List (List ℕ)) (ends : Ends) (result : Result Outcome Fault)
+pub record AuditsFile (agent : List ℕ) (urls : List (List ℕ)) (ends : Ends)
+    (result : Result Outcome Fault)
     (file : List ℕ) : Type 0 where
   pub ok : IfOk result (λ outcome. AppendsReport agent urls outcome.all_allowed ends.old ends.new file)
   pub warnings : IfOk result (λ outcome.

@@ -1,7 +1,9 @@
 -- What `url` reads of a plain URL, and what is found in one from its front.
-use Rattle.std.proofs.Common.{◌≡◌, ℕ, ◌<◌, ◌&&◌, ◌||◌, ◌==◌, Bool, true, false, not, List, [], ◌∷◌, ◌++◌}
+use Rattle.std.proofs.Common.{◌≡◌, ℕ, ◌<◌, ◌&&◌, ◌||◌, ◌==◌, Bool, true, false, not}
+use Rattle.std.proofs.Common.{List, [], ◌∷◌, ◌++◌}
 use Rattle.std.proofs.Common.{All, IfSome, None, Ok, Err, Option, Some, codes, decimal, drop, get_or, length}
-use Rattle.std.proofs.Common.{sym, refl, ap, ◌∙◌, subst, inl, inr, ⊎_elim, arith, append_assoc, append-nil}
+use Rattle.std.proofs.Common.{sym, refl, ap, ◌∙◌, subst, inl, inr, ⊎_elim, arith, append_assoc}
+use Rattle.std.proofs.Common.{append-nil}
 use Rattle.std.proofs.Common.{◌⊎◌, ◌^◌, ◌-◌, ◌+◌, ◌≢◌, get_or-append-add, take}
 use Rattle.std.proofs.Common.{length-append, take-append-drop, drop_at}
 use Rattle.std.specs.Prelude.{is_some, nat_lt, option_map, slice_index, unwrap_or}
@@ -42,7 +44,8 @@ use Rattle.url.specs.Parser.{before_tail, parse_parts, split_scheme, with_path, 
 use Rattle.url.specs.Scheme.{is_file, is_scheme_byte, is_slash, is_special}
 use Rattle.url.proofs.HostRoundTrip.{parse_special_host-host_text}
 use Rattle.url.proofs.InputLemmas.{All-take-prefix_len, All_from_list_all, IsNot, Passes, StopsAt}
-use Rattle.url.proofs.InputLemmas.{filter_all, is_empty_nonempty, lowercase_other, map_fixed, prefix_len_at, prefix_len_is}
+use Rattle.url.proofs.InputLemmas.{filter_all, is_empty_nonempty, lowercase_other, map_fixed, prefix_len_at}
+use Rattle.url.proofs.InputLemmas.{prefix_len_is}
 use Rattle.url.proofs.InputLemmas.{split_once_none}
 use Rattle.url.proofs.ParsedCanonical.{before_special}
 use Rattle.url.proofs.PathLemmas.{root_only, rooted}
@@ -246,7 +249,8 @@ prepared_plain url plain some =
     (port_text site.port _ ∙ ap (λ t. port ++ (plain.path ++ t)) (tail_text query fragment))) in
     let parsed = ap (parse_url None) text ∙ parse_url-serialize_special u None is_valid site.kind in
     let long : 0 < length url = let whole = simp length-append at (ap length plain.spelled) in omega arith in
-    prepared_parsed url u long parsed ∙ append_assoc plain.path _ _ ∙ ap (λ t. plain.path ++ t) (sym written)
+    prepared_parsed url u long parsed ∙ append_assoc plain.path _ _
+    ∙ ap (λ t. plain.path ++ t) (sym written)
 
 -- ---- a site alone
 
@@ -297,7 +301,8 @@ module _ (u : Parts) (valid : IsValid u) (kind : kind_of u ≡ SpecialNotFile) (
       let back = ap (λ n. drop n authority) len ∙ drop_all _ authority (omega arith) in
       let root : parse_path_start (kind_of u) [] [] ≡ u.path = rw (kind, path) refl in
       ap (λ r. and_then r (λ head. Ok (with_path head (parse_path_start (kind_of u) []
-      (drop (segment_len (kind_of u) authority) authority))))) (ap (parse_authority u.scheme) front ∙ parses)
+      (drop (segment_len (kind_of u) authority) authority)))))
+      (ap (parse_authority u.scheme) front ∙ parses)
       ∙ ap (λ p. Ok (with_path (head_only u) p)) (ap (parse_path_start (kind_of u) []) back ∙ root)
 
   pub alone_parsed : (text : List ℕ) → text ≡ u.scheme ++ (codes "://" ++ authority)
@@ -314,7 +319,8 @@ module _ (u : Parts) (valid : IsValid u) (kind : kind_of u ≡ SpecialNotFile) (
       rw (spelled, ← append_assoc u.scheme (codes "://") authority)
       (All-append (Passes is_visible) (u.scheme ++ codes "://") authority front back) in
       let none = λ (mark : ℕ) (hidden : is_visible mark ≡ false).
-      All-weaker (Passes is_visible) (IsNot mark) (λ b passes same. false≢true (sym hidden ∙ rw same at passes))
+      All-weaker (Passes is_visible) (IsNot mark)
+      (λ b passes same. false≢true (sym hidden ∙ rw same at passes))
       text visible in
       let hash = ap (split_once 35) (clean text visible) ∙ split_once_none 35 text (none 35 refl) in
       let question = ap (λ r. split_once 63 r.0) hash ∙ split_once_none 63 text (none 63 refl) in
@@ -440,7 +446,8 @@ module _ (text front end : List ℕ) (whole : text ≡ front ++ end) (r : Option
           let at : length text - length end ≡ length front + 0 = omega (arith, seam) in
           (λ i. get_or (whole i) (at i) 0) ∙ get_or-append-add front end 0 0 ∙ slash
 
-      by : (r : Option (Bor (List ℕ))) → GetsRange text (length text - length end) (length text) r → IsSome r
+      by : (r : Option (Bor (List ℕ))) → GetsRange text (length text - length end) (length text) r
+          → IsSome r
       by (Some t) got = refl
       by None got = absurd (got (omega arith)
           (IsCharBoundary-before_ascii text _ (omega (arith, ap length whole, length-append front end))

@@ -1,7 +1,8 @@
 -- A whole URL that `url` would leave as it is: its parts, from the front.
 use Rattle.std.proofs.Common.{◌≡◌, ℕ, ◌<◌, ◌≤◌, Bool, true, false, ◌||◌, ◌==◌, not}
 use Rattle.std.proofs.Common.{List, [], ◌∷◌, ◌++◌, length, get_or, drop, drop_at, take_at, All}
-use Rattle.std.proofs.Common.{sym, refl, ap, ◌∙◌, ◌≢◌, subst, ⊎_elim, inl, inr, arith, append_assoc, one-add}
+use Rattle.std.proofs.Common.{sym, refl, ap, ◌∙◌, ◌≢◌, subst, ⊎_elim, inl, inr, arith}
+use Rattle.std.proofs.Common.{append_assoc, one-add}
 use Rattle.std.proofs.Common.{take-append-drop}
 use Rattle.std.proofs.Common.{◌^◌, None, Some, decimal, suc, zero}
 use Rattle.std.specs.Prelude.{Option, codes, nat_lt, option_map, slice_index}
@@ -39,7 +40,8 @@ use Rattle.texting_robots.specs.Steps.Whole.{front_of, stands}
 past : (b : ℕ) → 128 ≤ b → get_or STANDS b 0 ≡ 0
 past b high = elim (cases_lt b 256) [
   | inl below ↦
-      let test = agree_below_at (λ x. nat_lt x 128 || get_or STANDS x 0 == 0) (λ x. true) 256 b refl below in
+      let test =
+      agree_below_at (λ x. nat_lt x 128 || get_or STANDS x 0 == 0) (λ x. true) 256 b refl below in
       eqb-true (get_or STANDS b 0) 0 (rw (le-ltb b 128 high) at test)
   | inr above ↦ get_or_past STANDS b 0 above
 ]
@@ -129,7 +131,8 @@ joined_stops [] (b ∷ rest) ends = ⊎_elim (λ e. rw e refl) (λ e. rw e refl)
 joined_stops (s ∷ segments) rest ends = refl
 
 -- a path that is left begins with a segment
-pub path_behind : (here rest : List ℕ) → get_or here 0 0 ≡ 47 → EndsPath rest → Leaves IsPath here rest
+pub path_behind : (here rest : List ℕ) → get_or here 0 0 ≡ 47 → EndsPath rest
+    → Leaves IsPath here rest
     → (dot_count (front_of 2 (drop 1 here)) ≡ 0) × Leaves IsPath (after 2 (drop 1 here)) rest
 path_behind here rest slash ends (path, spelled, is_path) =
     by is_path.segments is_path.each (spelled ∙ ap (λ p. p ++ rest) is_path.joined)
@@ -159,12 +162,14 @@ path_behind here rest slash ends (path, spelled, is_path) =
         )
 
 -- what begins with no slash holds no more of a path
-pub path_end : (text rest : List ℕ) → (0 < length text → get_or text 0 0 ≢ 47) → Leaves IsPath text rest
+pub path_end : (text rest : List ℕ) → (0 < length text → get_or text 0 0 ≢ 47)
+    → Leaves IsPath text rest
     → text ≡ rest
 path_end text rest other ([], spelled, is_path) = spelled
 path_end text rest other (b ∷ path, spelled, is_path) =
     let first : 0 < length text → get_or text 0 0 ≡ b = rw spelled (λ _. refl) in
-    ⊎_elim (λ none. absurd (cc)) (λ slash. let some : 0 < length text = omega (arith, ap length spelled) in
+    ⊎_elim (λ none. absurd (cc)) (λ slash.
+    let some : 0 < length text = omega (arith, ap length spelled) in
     absurd (other some (first some ∙ slash))) (rooted SpecialNotFile (b ∷ path) is_path)
 
 -- ---- the port
@@ -185,7 +190,8 @@ plain_first (b ∷ d ∷ digits) plain =
 
 -- digits that begin plainly are what their number is written as
 pub decimal_read : (digits : List ℕ) (port : ℕ) → begins_plainly digits ≡ true
-    → (IsNumeral 10 (without_leading_plus digits) × (digits_value 10 (without_leading_plus digits) < 2 ^ 16))
+    → (IsNumeral 10 (without_leading_plus digits)
+    × (digits_value 10 (without_leading_plus digits) < 2 ^ 16))
     × (port ≡ digits_value 10 (without_leading_plus digits)) → digits ≡ decimal port
 decimal_read digits port plain parses =
     let first = plain_first digits plain in
@@ -275,13 +281,15 @@ authority_read own text rest letter (port, spelled, is_port) =
       record { host = host; port = port; spelled = refl; is_name = name; is_port = is_port },
     )
 
-pub authority_left : (own : ℕ) (text rest : List ℕ) → EndsSite rest → Leaves (IsAuthority own) text rest
+pub authority_left : (own : ℕ) (text rest : List ℕ) → EndsSite rest
+    → Leaves (IsAuthority own) text rest
     → (is_ascii_lowercase (slice_index (rsplit_once 46 (front_of 1 text)).1 0) ≡ true)
     × Leaves (IsPort own) (after 1 text) rest
 unfolding stands
 authority_left own text rest ends (part, spelled, authority) =
     let host = authority.host in
-    let whole = spelled ∙ ap (λ p. p ++ rest) authority.spelled ∙ append_assoc host authority.port rest in
+    let whole =
+    spelled ∙ ap (λ p. p ++ rest) authority.spelled ∙ append_assoc host authority.port rest in
     let each = name_stands host authority.is_name in
     let front = ap (front_of 1) whole ∙ front_at 1 host (authority.port ++ rest) each stops in (
       rw front authority.is_name.letter,

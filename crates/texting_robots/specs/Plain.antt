@@ -1,5 +1,6 @@
 -- The texts on which a verdict takes no memory, since what rules are matched with stands in them.
-use Rattle.std.specs.Prelude.{◌≡◌, ◌≢◌, ◌⊎◌, ◌<◌, ◌^◌, ℕ, true, false, List, [], ◌++◌, All, codes, decimal}
+use Rattle.std.specs.Prelude.{◌≡◌, ◌≢◌, ◌⊎◌, ◌<◌, ◌^◌, ℕ, true, false, List, []}
+use Rattle.std.specs.Prelude.{◌++◌, All, codes, decimal}
 use Rattle.std.specs.Prelude.{slice_index, Option, IfSome, option_map}
 use Rattle.std.specs.Char.{is_ascii_lowercase, is_ascii_uppercase}
 use Rattle.std.specs.Str.{byte}
@@ -61,7 +62,8 @@ pub record IsPlainUrl (url : List ℕ) : Type 0 where
 
 -- a path by itself, or the empty text, of which no byte is escaped
 abbrev pub IsPlainPath : List ℕ → Type 0
-IsPlainPath text = ((text ≡ []) ⊎ (slice_index text 0 ≡ byte "/")) × All (λ b. is_escaped b ≡ false) text
+IsPlainPath text = ((text ≡ []) ⊎ (slice_index text 0 ≡ byte "/"))
+    × All (λ b. is_escaped b ≡ false) text
 
 -- a verdict on the text takes no memory
 abbrev pub TakesNoMemory : List ℕ → Type 0

@@ -1,4 +1,5 @@
-use Rattle.std.proofs.Common.{◌≡◌, ◌++◌, ◌∷◌, [], ℕ, List, ap, map, string_bytes, take, ◌∙◌}
+use Rattle.std.proofs.Common.{◌≡◌, ◌++◌, ◌∷◌, [], ℕ, List, ap, map, string_bytes, take}
+use Rattle.std.proofs.Common.{◌∙◌}
 use Rattle.texting_robots.specs.Robot.{RobotValue, file_limit}
 use Rattle.texting_robots.proofs.HeadlineLemmas.{not_refused, read_robot}
 use Rattle.robots_io.specs.Lines.{ended}

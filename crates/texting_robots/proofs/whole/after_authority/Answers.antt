@@ -9,7 +9,8 @@ returns-then-begins_with_letter-clause-some c =
     let letter = rw (c.last_label.ensures, c.split.ensures.front) at
     (sym c.begins_with_letter.ensures ∙ c.if-begins_with_letter.true) in
     IfSome_then c.after_port.result c.after_port.ensures.some
-    (λ rest left. authority_read c.args.own c.args.text.now rest.now letter (rw c.split.ensures.rest at left))
+    (λ rest left.
+    authority_read c.args.own c.args.text.now rest.now letter (rw c.split.ensures.rest at left))
 
 pub returns-then-begins_with_letter-clause-whole : goal.returns-then-begins_with_letter-clause-whole
 returns-then-begins_with_letter-clause-whole c rest ends leaves =

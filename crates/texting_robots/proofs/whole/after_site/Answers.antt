@@ -13,7 +13,8 @@ returns-in-Some-clause-some c =
 
 pub returns-in_ok-strip_prefix-in-None-clause-some : goal.returns-in_ok-strip_prefix-in-None-clause-some
 returns-in_ok-strip_prefix-in-None-clause-some c =
-    let whole : c.args.url.now ≡ codes "http://" ++ c.in_ok-strip_prefix-in-None.field-0.now = search rules in
+    let whole : c.args.url.now
+    ≡ codes "http://" ++ c.in_ok-strip_prefix-in-None.field-0.now = search rules in
     IfSome_then c.after_authority-in-None.result c.after_authority-in-None.ensures.some (λ rest left. (
       codes "http://" ++ left.0,
       whole ∙ ap (λ t. codes "http://" ++ t) left.1,

@@ -17,7 +17,8 @@ pub returns-in-empty-clause-text : goal.returns-in-empty-clause-text
 returns-in-empty-clause-text c =
     let (site, spelled, is_site) = rw c.as_bytes.ensures.value at c.in_ok-target.ensures.some in
     let none = nil_from_length c.in_ok-target.target.now (omega arith) in
-    sym (ap prepared (spelled ∙ ap (λ t. site ++ t) none ∙ append-nil site) ∙ prepared_alone site is_site)
+    sym
+    (ap prepared (spelled ∙ ap (λ t. site ++ t) none ∙ append-nil site) ∙ prepared_alone site is_site)
 
 pub returns-in_default-clause-plain : goal.returns-in_default-clause-plain
 returns-in_default-clause-plain c plain =
