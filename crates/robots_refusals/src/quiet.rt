@@ -161,9 +161,11 @@ fn asks_paths(alloc: Global, robot: &Robot) -> Result<bool, Error> {
 
 /// Asks for URLs that stand as they are.
 fn asks_whole_urls(alloc: Global, robot: &Robot) -> Result<bool, Error> {
-    Ok(robot.allowed(alloc, "https://www.rust-lang.org/ocean/reef.html?a#b")?
-        && robot.allowed(alloc, "http://www.rust-lang.org:8080")?
-        && !robot.allowed(alloc, "https://www.rust-lang.org/rust")?)
+    Ok(
+        robot.allowed(alloc, "https://www.rust-lang.org/ocean/reef.html?a#b")?
+            && robot.allowed(alloc, "http://www.rust-lang.org:8080")?
+            && !robot.allowed(alloc, "https://www.rust-lang.org/rust")?,
+    )
 }
 
 fn asks_view(robot: &Robot) -> bool {
