@@ -26,7 +26,7 @@ abbrev pub joined : List Pair → List ℕ
 joined pairs = flat_map (λ pair. pair.body ++ pair.ending) pairs
 
 -- the pairs are a cut of the text:
--- - their bytes are the text, no body holds CR or LF, and each end is one;
+-- - their bytes are the text, no body holds CR or LF, and each end is a line end;
 -- - an empty end stands only in the last pair, after a body that isn't empty;
 -- - a pair whose end holds no LF is the last one, or the next pair's body isn't empty
 pub record IsCut (pairs : List Pair) (text : List ℕ) : Type 0 where

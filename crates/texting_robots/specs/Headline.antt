@@ -6,8 +6,8 @@ use Rattle.texting_robots.specs.{Decision.LooksForRules, Error.IsMemoryOr, Line.
 use Rattle.texting_robots.specs.{Verdict.IsVerdict, View.ViewValue}
 
 -- Lines that hold these rules for an agent give this answer about the text of a view: they are refused, want
--- of memory aside, exactly where one of the rules is overlong; otherwise the answer is the rules' verdict,
--- for no more looks than they may take.
+-- of memory aside, exactly where some line holds an overlong rule; otherwise the answer is the rules'
+-- verdict, for no more looks than they may take.
 pub record IsAnswerOf (agent : List ℕ) (lines : List LineValue) (rules : List PlacedRule)
     (old new : ViewValue) (answer : Result Bool Error) : Type 0 where
   pub refused : IfErr answer (IsMemoryOr (IsRefused agent lines))

@@ -18,12 +18,12 @@ pub record Mark : Type 0 where
 
 -- ---- where a line stands
 
--- each rule and each delay stands before both places, or behind both
+-- each group line (an Allow, a Disallow or a delay) stands before both places, or behind both
 abbrev pub AreOneRun : List LineValue → ℕ → ℕ → Type 0
 AreOneRun lines i j =
     (k : ℕ) → IsTrue (passes_at is_group lines k) → ((k < i) × (k < j)) ⊎ ((i < k) × (j < k))
 
--- the line at the place is a rule or a delay and is captured; or it is a user-agent line, and one of its run,
+-- the line at the place is a group line and is captured; or it is a user-agent line, and one of its run,
 -- with no rule and no delay between, holds the name
 abbrev pub IsInOwnGroup : List ℕ → List LineValue → ℕ → Type 0
 IsInOwnGroup name lines place =
@@ -31,7 +31,7 @@ IsInOwnGroup name lines place =
     ⊎ (IsTrue (passes_at is_agent lines place)
     × (j : ℕ) × IsTrue (passes_at (is_agent_named name) lines j) × AreOneRun lines place j)
 
--- the line at the place is a user-agent line; or it is a rule or a delay, and a user-agent line stands before
+-- the line at the place is a user-agent line; or it is a group line, and a user-agent line stands before
 abbrev pub IsInGroup : List LineValue → ℕ → Type 0
 IsInGroup lines place =
     IsTrue (passes_at is_agent lines place)

@@ -47,7 +47,8 @@ abbrev pub IsMarked : List ℕ → AsciiSet → List ℕ → Type 0
 IsMarked mark set text =
     (part : Option (List ℕ)) × (text ≡ marked mark part) × IfSome part (All (IsKept set))
 
--- a whole URL as `url` writes it; where the path is missing, there is nothing behind it either
+-- a whole URL with a name for a host and with no user, of which nothing is to be changed; where the path is
+-- missing, so that `url` puts a slash there, there is nothing behind it either
 pub record IsPlainUrl (url : List ℕ) : Type 0 where
   pub site : List ℕ
   pub path : List ℕ

@@ -257,7 +257,8 @@ IsDelayLine (Delay number) text = IsNumber number × IsKeyed (codes "crawl-delay
 abbrev pub IsSitemapLine : List ℕ → List ℕ → Type 0
 IsSitemapLine address text = IsMany IsUtf8CharNoctl address × IsKeyed (codes "sitemap") address text
 
--- the names of records that this library reads, in small letters
+-- the names of records that this library reads, in small letters; keys with a blank aren't among them, since
+-- no identifier has one
 abbrev pub names_read : List (List ℕ)
 names_read =
     codes "user-agent" ∷ codes "useragent" ∷ codes "allow" ∷ codes "disallow" ∷ codes "dissallow"

@@ -1,4 +1,5 @@
--- What an agent gets of the lines of a file, by the places of the lines, counted from 0.
+-- What an agent gets of the lines of a file: rules and delays by the places of the lines, counted from 0, and
+-- sitemaps line by line.
 use Rattle.std.specs.Prelude.{◌≡◌, ◌≢◌, ◌⊎◌, ◌↔◌, ℕ, ◌+◌, ◌<◌, ◌≤◌}
 use Rattle.std.specs.Prelude.{Bool, List, [], ◌∷◌}
 use Rattle.std.specs.Prelude.{Option, Some, None, AllPairs, Contains, IsTrue, map, slice_get}
@@ -28,8 +29,8 @@ pub record PlacedRule : Type 0 where
 abbrev pub unplaced : List PlacedRule → List Rule
 unplaced rules = map (λ (placed : PlacedRule). placed.rule) rules
 
--- the line at the place is captured, and is an Allow or a Disallow with a value that is UTF-8 and, escaped,
--- the pattern
+-- the line at the place is captured, and is an Allow or a Disallow, as the rule says, whose value is UTF-8;
+-- escaped, it is the pattern
 pub record HoldsRule (agent : List ℕ) (lines : List LineValue) (place : ℕ) (rule : Rule) : Type 0 where
   pub value : List ℕ
   pub line : IsCapturedAt agent lines place (if rule.1 then Allow value else Disallow value)

@@ -34,8 +34,9 @@ IsBehindBlanks tail rest =
     (blanks : List ℕ) × Each IsBlank blanks × (blanks ≢ []) × (rest ≡ blanks ++ tail)
     × BeginsPlain tail
 
--- the body is a statement of this kind with this value: a spelling of the kind's key stands in it, ASCII
--- letters in any case, and behind a hash is a comment
+-- the body is a statement of this kind with this value: blanks, a spelling of the kind's key, ASCII letters
+-- in any case, a separator, a region without a hash, and then nothing or a comment; the value is the region,
+-- trimmed
 pub record IsStatement (kind : Kind) (value body : List ℕ) : Type 0 where
   pub margin : List ℕ
   pub key : List ℕ

@@ -134,10 +134,13 @@ pub fn each_text_has_its_lines()
     ensures { (text : List ℕ) (lines : List LineValue) → AreLinesOf lines text ↔ lines ≡ parsed text }
 {}
 
-/// Each file has one list of lines, the one that `file_lines` computes. Whoever reads the contract of `Robot::new` relies on
-/// it.
+/// Each file has one list of lines, the one that `file_lines` computes. Whoever reads the contract of `one_agent_allowed` or
+/// `Robot::new` relies on it.
 pub fn each_file_has_its_lines()
-    ensures { (text : List ℕ) (lines : List LineValue) → AreFileLinesOf lines text ↔ lines ≡ file_lines text }
+    ensures some { (text : List ℕ) → (lines : List LineValue) × AreFileLinesOf lines text }
+    ensures one { (text : List ℕ) (lines others : List LineValue) → AreFileLinesOf lines text
+        → AreFileLinesOf others text → lines ≡ others }
+    ensures computed { (text : List ℕ) (lines : List LineValue) → AreFileLinesOf lines text ↔ lines ≡ file_lines text }
 {}
 
 /// The test by which lists of captured lines are made says what the definition by places says. Whoever reads the contract of

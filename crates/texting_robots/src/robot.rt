@@ -51,7 +51,7 @@ impl Robot {
     ///
     /// # Errors
     ///
-    /// `Error::InvalidRule` where a rule of this crawler's holds `$` and has more than 4,096 bytes escaped, each run of stars
+    /// `Error::InvalidRule` where a rule of this crawler's, in UTF-8, holds `$` and has more than 4,096 bytes escaped, each run of stars
     /// counted as one. There is no robot then: the caller treats the file as one that it can't use, as its own policy says.
     /// `Error::Memory` where memory is refused.
     pub fn new(alloc: Global, agent: &str, txt: &[u8]) -> Result<Self, Error>
@@ -93,7 +93,8 @@ impl Robot {
     }
 
     /// Whether the crawler may fetch a URL, or a path by itself. A path of which nothing is escaped takes no memory, nor does a
-    /// whole URL of `http` or `https` that stands as `url` writes it.
+    /// whole URL of `http` or `https` with a host that is a name, with no user, and of which `url` would change nothing but put a
+    /// missing slash behind the host.
     ///
     /// # Errors
     ///

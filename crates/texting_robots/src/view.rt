@@ -1,4 +1,4 @@
-//! A text of which only counted looks are possible.
+//! A text of which only counted looks are possible, but for one comparison with `/robots.txt`.
 ghost use Rattle.std.specs.Prelude.{◌≡◌, ℕ, ◌+◌, ◌<◌, ◌≤◌, ◌↔◌, IsTrue, length, slice_index, []};
 ghost use Rattle.texting_robots.specs.Verdict.{robots_file};
 ghost use Rattle.texting_robots.specs.View.{seen_of};
