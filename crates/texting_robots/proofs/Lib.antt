@@ -15,7 +15,6 @@ pub mod StandingLemmas
 pub mod MarkLemmas
 pub mod RulesLemmas
 pub mod LawLemmas
-pub mod Rfc9309
 pub mod EscapeLemmas
 pub mod SlashLemmas
 pub mod WholeLemmas

@@ -24,7 +24,6 @@ use Rattle.bstr.proofs.lemmas.PieceLemmas.{pieces-append, pieces-step, pieces-ni
 use Rattle.bstr.proofs.lemmas.EncodeLemmas.{decoded-encode}
 use Rattle.bstr.proofs.lemmas.SoundLemmas.{SpellsChar-decoded}
 use Rattle.bstr.proofs.lemmas.TrimLemmas.{kept_end-snoc}
-use Rattle.texting_robots.proofs.Rfc9309.CharLemmas.{each_append}
 use lib.Utf8.{low_scalar, scalar}
 use Rattle.texting_robots.specs.Trim.{IsSpaces, IsTrimOf}
 use Rattle.texting_robots.specs.Statement.{IsBlank}
@@ -98,6 +97,11 @@ start_step bytes some =
         → drop (cond white k 0) bytes ≡ cond white (drop j (behind bytes)) bytes
     at true k j e = ap (λ k. drop k bytes) e ∙ sym (drop-drop j (decoded bytes).size bytes)
     at false k j e = refl
+
+pub each_append : {X : Type 0} (P : X → Type 0) (xs ys : List X) → Each P xs
+    → Each P ys → Each P (xs ++ ys)
+each_append P [] ys all more = more
+each_append P (x ∷ xs) ys all more = (all.0, each_append P xs ys all.1 more)
 
 abbrev AllWhite : List ℕ → Type 0
 AllWhite chars = Each (λ char. IsTrue (is_whitespace char)) chars

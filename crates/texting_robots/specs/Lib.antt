@@ -17,8 +17,6 @@ pub mod Robot
 pub mod Prepared
 pub mod Plain
 pub mod Address
-pub mod Rfc9309
-pub mod Rfc9309Sample
 pub mod Laws
 pub mod Headline
 pub mod Computed

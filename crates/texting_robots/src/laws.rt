@@ -2,7 +2,6 @@
 ghost use Rattle.std.specs.Prelude.{◌≡◌, ◌≢◌, ◌<◌, ◌↔◌, ◌⊎◌, ℕ, Bool, true, false, not, List, [], ◌∷◌, ◌++◌};
 ghost use Rattle.std.specs.Prelude.{Any, ◌+◌, Option, Some, None, IsTrue, IsPermutation, codes, filter, length};
 ghost use Rattle.std.specs.declared.cmp.Ordering.TheVariants.{Less, Equal};
-ghost use Rattle.std.specs.List.{AllZip};
 ghost use Rattle.std.specs.Str.{str_to_ascii_lowercase};
 ghost use Rattle.texting_robots.specs.declared.parser.statement.Kind.{Kind};
 ghost use Rattle.texting_robots.specs.Cut.{IsCut, Pair};
@@ -10,14 +9,12 @@ ghost use Rattle.texting_robots.specs.Decision.{IsDecidingRule, IsDecidingLine};
 ghost use Rattle.texting_robots.specs.Delay.{IsDelay};
 ghost use Rattle.texting_robots.specs.Examples as example;
 ghost use Rattle.texting_robots.specs.Group.{IsCaptured, group_name};
-ghost use Rattle.texting_robots.specs.Laws.{IsReadAs, IsSameKind, Same, SameButSitemaps, feeds_alone};
+ghost use Rattle.texting_robots.specs.Laws.{IsSameKind, Same, SameButSitemaps, feeds_alone};
 ghost use Rattle.texting_robots.specs.Line.{AreFileLinesOf, AreLinesOf, HoldRangesOf, LineValue, is_raw, is_sitemap};
 ghost use Rattle.texting_robots.specs.Marks.{AreMarksOf, Mark, marks_of};
 ghost use Rattle.texting_robots.specs.Order.{IsBefore, pattern_cmp};
 ghost use Rattle.texting_robots.specs.Computed.{delay_for, file_lines, parsed, placed_rules, rules_for, sitemaps_in};
 ghost use Rattle.texting_robots.specs.Pattern.{IsOverlong, Matches, MatchesWith, collapsed};
-ghost use Rattle.texting_robots.specs.Rfc9309 as rfc;
-ghost use Rattle.texting_robots.specs.Rfc9309Sample as sample;
 ghost use Rattle.texting_robots.specs.Robot.{AnswerAlike, IsRobotOf, RobotValue};
 ghost use Rattle.texting_robots.specs.Rules.{AreRulesFor, AreSitemapsOf, HoldsRule, IsDelayFor, IsRefused, PlacedRule, Rule, unplaced};
 ghost use Rattle.texting_robots.specs.Statement.{IsStatement};
@@ -214,34 +211,6 @@ pub fn each_agent_has_its_delay()
 pub fn each_file_has_its_sitemaps()
     ensures { (lines : List LineValue) (sitemaps : List (List ℕ))
         → AreSitemapsOf lines sitemaps ↔ sitemaps ≡ sitemaps_in lines }
-{}
-
-/// Of a file of the standard's syntax an agent gets, in order and each as often, the rules that the file spells for it, each
-/// as `IsReadAs` says: its pattern trimmed and escaped, and an empty Disallow an Allow of `/`. However such a file is taken
-/// apart, it spells the same groups once they are merged. The sitemaps are, in order, the addresses of the file's sitemap lines,
-/// trimmed. The syntax as the standard has it is part of the wider one that these speak of.
-/// A site owner who writes by the standard relies on it.
-pub fn standard_files_are_read_so()
-    ensures read { (text : List ℕ) (groups : List rfc.Group) (agent : List ℕ) → rfc.IsFile groups text
-        → AllZip IsReadAs (rfc.rules_for agent (rfc.merged groups)) (rules_for agent (file_lines text)) }
-    ensures once { (text : List ℕ) (groups others : List rfc.Group) → rfc.IsFile groups text
-        → rfc.IsFile others text → rfc.merged groups ≡ rfc.merged others }
-    ensures sitemaps { (text : List ℕ) (addresses : List (List ℕ)) → rfc.ListsSitemaps addresses text
-        → AllZip IsTrimOf (sitemaps_in (file_lines text)) addresses }
-    ensures listed { (text : List ℕ) (groups : List rfc.Group) → rfc.IsFile groups text
-        → (addresses : List (List ℕ)) × rfc.ListsSitemaps addresses text
-        × ((others : List (List ℕ)) → rfc.ListsSitemaps others text → others ≡ addresses) }
-    ensures bare { (text : List ℕ) (groups : List rfc.Group) → rfc.IsRobotstxt groups text
-        → rfc.IsFile groups text }
-{}
-
-/// The two samples are files of the syntax that `standard_files_are_read_so` speaks of, and between them they use every production.
-/// Whoever reads that law relies on it: what it asks of a file can be met.
-pub fn standard_samples_are_files()
-    ensures bare { rfc.IsRobotstxt sample.bare_groups sample.bare_text }
-    ensures wide { rfc.IsFile sample.wide_groups sample.wide_text }
-    ensures sitemaps { rfc.ListsSitemaps sample.wide_sitemaps sample.wide_text }
-    ensures rules { rfc.rules_for (codes "BOT") (rfc.merged sample.wide_groups) ≡ sample.wide_rules }
 {}
 
 /// Worked examples of lines, each a theorem. Whoever reads the definitions sees in `specs/Examples.antt` what they come to.

@@ -14,7 +14,8 @@ mod statement;
 use crate::error::Error;
 use cut::{after_end, body_len};
 pub use delay::read_delay;
-use statement::{Kind, statement_of, tail_if, value_of};
+pub use statement::Kind;
+use statement::{statement_of, tail_if, value_of};
 use std::alloc::{AllocError, Global};
 use std::marker::Model;
 

@@ -10,13 +10,18 @@ ghost use Rattle.texting_robots.specs.Steps.Statement.{skip_blanks, kind_by, beg
 use bstr::ByteSlice;
 use memchr::memchr;
 
-/// What a statement is about.
+/// What a statement is about, as its key says. No call takes or gives one: the definition of a statement speaks of it.
 #[derive(Clone, Copy, PartialEq, Eq)]
-pub(crate) enum Kind {
+pub enum Kind {
+    /// A crawler that the group is for.
     UserAgent,
+    /// What may be fetched.
     Allow,
+    /// What may not be fetched.
     Disallow,
+    /// Where a sitemap stands.
     Sitemap,
+    /// How long a crawler waits.
     CrawlDelay,
 }
 

@@ -11,7 +11,8 @@ use Rattle.std.proofs.lemmas.Str.{IsUtf8-append, IsUtf8-encode, IsUtf8-nil}
 use Rattle.bstr.specs.Utf8.{code_of_2, code_of_3, code_of_4, continues, decoded, good, second}
 use Rattle.bstr.proofs.lemmas.PieceLemmas.{value-1, value-6, value-9, value-12}
 use Rattle.bstr.proofs.lemmas.SoundLemmas.{SpellsChar-decoded}
-use Rattle.texting_robots.specs.Rfc9309 as rfc
+use Rattle.texting_robots.proofs.TrimLemmas.{each_append}
+use Rattle.robots_standard.specs.Rfc9309 as rfc
 
 -- no control, no space and no hash
 abbrev pub IsCharByte : ℕ → Type 0
@@ -117,11 +118,6 @@ char_text bytes (inl is) = one bytes is
 char_text bytes (inr (inl is)) = two bytes is
 char_text bytes (inr (inr (inl is))) = three bytes is
 char_text bytes (inr (inr (inr is))) = four bytes is
-
-pub each_append : {X : Type 0} (P : X → Type 0) (xs ys : List X) → Each P xs
-    → Each P ys → Each P (xs ++ ys)
-each_append P [] ys all more = more
-each_append P (x ∷ xs) ys all more = (all.0, each_append P xs ys all.1 more)
 
 pub each_front : {X : Type 0} (P : X → Type 0) (xs ys : List X) → Each P (xs ++ ys) → Each P xs
 each_front P [] ys all = tt

@@ -2,7 +2,7 @@
 -- syntax, and one that has what goes further in front of the same lines. The law
 -- `standard_samples_are_files` shows that they are such files.
 use Rattle.std.specs.Prelude.{ℕ, List, [], ◌∷◌, ◌++◌, codes}
-use Rattle.texting_robots.specs.Rfc9309.{Allow, Delay, Disallow, Group, Member}
+use Rattle.robots_standard.specs.Rfc9309.{Allow, Delay, Disallow, Group, Member}
 
 -- ---- line ends
 

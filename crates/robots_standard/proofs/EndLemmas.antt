@@ -11,14 +11,14 @@ use Rattle.texting_robots.specs.Line.{LineValue, is_raw, nul_as_lf, without_fron
 use Rattle.texting_robots.specs.Steps.Cut.{cut}
 use Rattle.texting_robots.specs.Computed.{file_lines}
 use Rattle.texting_robots.specs.Steps.Line.{line_of}
-use Rattle.texting_robots.specs.Rfc9309.{IsFileOf, IsLastNl, IsMark, IsNl}
+use Rattle.robots_standard.specs.Rfc9309.{IsFileOf, IsLastNl, IsMark, IsNl}
 use Rattle.texting_robots.proofs.CutLemmas.{cut_nil}
 use Rattle.texting_robots.proofs.CrLfLemmas.{bodies_of, lines_by_bodies}
 use Rattle.texting_robots.proofs.LawLemmas.{raw_changes_nothing}
-use Rattle.texting_robots.proofs.Rfc9309.BodyLemmas.{body_byte, body_return, body_step, step}
-use Rattle.texting_robots.proofs.Rfc9309.CharLemmas.{each_front}
-use Rattle.texting_robots.proofs.Rfc9309.Told.{Told, matters, told_of}
-use Rattle.texting_robots.proofs.Rfc9309.ReadLemmas.{BeginsLow, Reads, empty_unheard, heard, heard_in}
+use Rattle.robots_standard.proofs.BodyLemmas.{body_byte, body_return, body_step, step}
+use Rattle.robots_standard.proofs.CharLemmas.{each_front}
+use Rattle.robots_standard.proofs.Told.{Told, matters, told_of}
+use Rattle.robots_standard.proofs.ReadLemmas.{BeginsLow, Reads, empty_unheard, heard, heard_in}
 
 -- ---- a last line without its end
 

@@ -15,18 +15,19 @@ use Rattle.texting_robots.specs.Statement.{IsBlank, spellings}
 use Rattle.texting_robots.specs.Trim.{IsTrimOf}
 use Rattle.texting_robots.specs.Steps.Line.{line_with}
 use Rattle.texting_robots.specs.Steps.Statement.{trimmed}
-use Rattle.texting_robots.specs.Rfc9309 as rfc
+use Rattle.robots_standard.specs.Rfc9309 as rfc
 use Rattle.texting_robots.proofs.TrimLemmas.{trimmed_is_trim}
-use Rattle.texting_robots.proofs.Rfc9309.CharLemmas.{IsCharByte, IsCharText, char_text, each_append}
-use Rattle.texting_robots.proofs.Rfc9309.CharLemmas.{pattern_text}
-use Rattle.texting_robots.proofs.Rfc9309.KeyedLemmas.{IsValueByte, Keyed, between_blanks, blanks_value}
-use Rattle.texting_robots.proofs.Rfc9309.KeyedLemmas.{chars_value, each_weaker, keyed, keyed_line}
-use Rattle.texting_robots.proofs.Rfc9309.KeyedLemmas.{only_blanks, key_word}
-use Rattle.texting_robots.proofs.Rfc9309.ReadLemmas.{Reads, reads_line}
-use Rattle.texting_robots.proofs.Rfc9309.ValueLemmas.{IsVisible, trim_some, trim_utf8, visible_trim}
-use Rattle.texting_robots.proofs.Rfc9309.ValueLemmas.{visible_utf8}
-use Rattle.texting_robots.proofs.Rfc9309.Told.{IsToldFor, Told, blanks_gone, matters, no_blank, text_kept}
-use Rattle.texting_robots.proofs.Rfc9309.Told.{told_of, token_told, written}
+use Rattle.robots_standard.proofs.CharLemmas.{IsCharByte, IsCharText, char_text}
+use Rattle.texting_robots.proofs.TrimLemmas.{each_append}
+use Rattle.robots_standard.proofs.CharLemmas.{pattern_text}
+use Rattle.robots_standard.proofs.KeyedLemmas.{IsValueByte, Keyed, between_blanks, blanks_value}
+use Rattle.robots_standard.proofs.KeyedLemmas.{chars_value, each_weaker, keyed, keyed_line}
+use Rattle.robots_standard.proofs.KeyedLemmas.{only_blanks, key_word}
+use Rattle.robots_standard.proofs.ReadLemmas.{Reads, reads_line}
+use Rattle.robots_standard.proofs.ValueLemmas.{IsVisible, trim_some, trim_utf8, visible_trim}
+use Rattle.robots_standard.proofs.ValueLemmas.{visible_utf8}
+use Rattle.robots_standard.proofs.Told.{IsToldFor, Told, blanks_gone, matters, no_blank, text_kept}
+use Rattle.robots_standard.proofs.Told.{told_of, token_told, written}
 
 -- what a keyed text tells, where its value is trimmed to this
 pub reads_keyed : (word value text : List ℕ) (k : Keyed word value text) (kind : Kind) (read : List ℕ)

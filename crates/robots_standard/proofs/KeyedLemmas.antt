@@ -12,14 +12,15 @@ use Rattle.texting_robots.specs.Statement.{IsBlank, IsStatement, spellings}
 use Rattle.texting_robots.specs.Steps.Statement.{IsComment, colon, hash}
 use Rattle.texting_robots.specs.Trim.{IsTrimOf}
 use Rattle.texting_robots.specs.Steps.Line.{line_of, line_with}
-use Rattle.texting_robots.specs.Rfc9309 as rfc
+use Rattle.robots_standard.specs.Rfc9309 as rfc
 use Rattle.texting_robots.proofs.LineLemmas.{line_stated}
 use Rattle.texting_robots.proofs.StatementLemmas.{statement_found}
 use Rattle.texting_robots.proofs.TrimLemmas.{blanks_skipped, same_trim}
-use Rattle.texting_robots.proofs.Rfc9309.CharLemmas.{IsCharByte, char_text, each_append}
-use Rattle.texting_robots.proofs.Rfc9309.ReadLemmas.{BeginsLow, IsBare, low_append}
-use Rattle.texting_robots.proofs.Rfc9309.ValueLemmas.{IsVisible, blanks_after, visible_trim}
-use Rattle.texting_robots.proofs.Rfc9309.Told.{between_gone, no_blank, written, written_is}
+use Rattle.robots_standard.proofs.CharLemmas.{IsCharByte, char_text}
+use Rattle.texting_robots.proofs.TrimLemmas.{each_append}
+use Rattle.robots_standard.proofs.ReadLemmas.{BeginsLow, IsBare, low_append}
+use Rattle.robots_standard.proofs.ValueLemmas.{IsVisible, blanks_after, visible_trim}
+use Rattle.robots_standard.proofs.Told.{between_gone, no_blank, written, written_is}
 
 -- ---- bytes
 

@@ -8,16 +8,16 @@ use Rattle.texting_robots.specs.Line.{Sitemap, is_sitemap}
 use Rattle.texting_robots.specs.Computed.{file_lines}
 use Rattle.texting_robots.specs.Computed.{sitemap_in, sitemaps_in}
 use Rattle.texting_robots.specs.Trim.{IsTrimOf}
-use Rattle.texting_robots.specs.Rfc9309 as rfc
-use Rattle.texting_robots.proofs.Rfc9309.EndLemmas.{file_heard, file_same, lines_in, told_in}
-use Rattle.texting_robots.proofs.Rfc9309.GroupLemmas.{zip_append}
-use Rattle.texting_robots.proofs.Rfc9309.MemberLemmas.{member_line, sitemap_line}
-use Rattle.texting_robots.proofs.Rfc9309.OtherLemmas.{empty_line, other_line}
-use Rattle.texting_robots.proofs.Rfc9309.RepeatLemmas.{IsJoin, ReadBy, repeated}
-use Rattle.texting_robots.proofs.Rfc9309.RuleLemmas.{token_line}
-use Rattle.texting_robots.proofs.Rfc9309.SyntaxLemmas.{repeats_both, repeats_none, repeats_one}
-use Rattle.texting_robots.proofs.Rfc9309.Told.{Told, token_told}
-use Rattle.texting_robots.proofs.Rfc9309.ToldLemmas.{no_sitemap}
+use Rattle.robots_standard.specs.Rfc9309 as rfc
+use Rattle.robots_standard.proofs.EndLemmas.{file_heard, file_same, lines_in, told_in}
+use Rattle.robots_standard.proofs.GroupLemmas.{zip_append}
+use Rattle.robots_standard.proofs.MemberLemmas.{member_line, sitemap_line}
+use Rattle.robots_standard.proofs.OtherLemmas.{empty_line, other_line}
+use Rattle.robots_standard.proofs.RepeatLemmas.{IsJoin, ReadBy, repeated}
+use Rattle.robots_standard.proofs.RuleLemmas.{token_line}
+use Rattle.robots_standard.proofs.SyntaxLemmas.{repeats_both, repeats_none, repeats_one}
+use Rattle.robots_standard.proofs.Told.{Told, token_told}
+use Rattle.robots_standard.proofs.ToldLemmas.{no_sitemap}
 
 -- the addresses that are told, as they are written
 abbrev addresses_in : List Told → List (List ℕ)

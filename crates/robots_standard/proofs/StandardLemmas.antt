@@ -3,14 +3,14 @@ use Rattle.std.proofs.Common.{sym, ap, ◌∙◌, subst}
 use Rattle.std.specs.List.{AllZip}
 use Rattle.std.proofs.lemmas.List.{map-append}
 use Rattle.texting_robots.specs.Computed.{rules_for}
-use Rattle.texting_robots.specs.Laws.{IsReadAs}
-use Rattle.texting_robots.specs.Rfc9309 as rfc
-use Rattle.texting_robots.proofs.Rfc9309.EndLemmas.{lines_in}
-use Rattle.texting_robots.proofs.Rfc9309.FileLemmas.{file_read}
-use Rattle.texting_robots.proofs.Rfc9309.GroupLemmas.{rules_spelled}
-use Rattle.texting_robots.proofs.Rfc9309.SitemapLemmas.{addresses_are, file_lists}
-use Rattle.texting_robots.proofs.Rfc9309.Told.{Told}
-use Rattle.texting_robots.proofs.Rfc9309.ToldLemmas.{front_lines, group_lines, told_groups, told_once}
+use Rattle.robots_standard.specs.ReadAs.{IsReadAs}
+use Rattle.robots_standard.specs.Rfc9309 as rfc
+use Rattle.robots_standard.proofs.EndLemmas.{lines_in}
+use Rattle.robots_standard.proofs.FileLemmas.{file_read}
+use Rattle.robots_standard.proofs.GroupLemmas.{rules_spelled}
+use Rattle.robots_standard.proofs.SitemapLemmas.{addresses_are, file_lists}
+use Rattle.robots_standard.proofs.Told.{Told}
+use Rattle.robots_standard.proofs.ToldLemmas.{front_lines, group_lines, told_groups, told_once}
 use Rattle.std.proofs.Common.{◌≡◌, ℕ, List}
 use Rattle.texting_robots.specs.Computed.{file_lines}
 

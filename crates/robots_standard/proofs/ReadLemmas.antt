@@ -8,13 +8,13 @@ use Rattle.std.proofs.lemmas.List.Elements.{filter-append}
 use Rattle.texting_robots.specs.Cut.{cr, lf}
 use Rattle.texting_robots.specs.Line.{is_raw}
 use Rattle.texting_robots.specs.Steps.Cut.{cut}
-use Rattle.texting_robots.specs.Rfc9309.{IsNl}
+use Rattle.robots_standard.specs.Rfc9309.{IsNl}
 use Rattle.texting_robots.proofs.CrLfLemmas.{bodies_of}
 use Rattle.texting_robots.proofs.LineLemmas.{line_raw}
-use Rattle.texting_robots.proofs.Rfc9309.BodyLemmas.{body_return, body_step, step}
-use Rattle.texting_robots.proofs.Rfc9309.CharLemmas.{each_append}
+use Rattle.robots_standard.proofs.BodyLemmas.{body_return, body_step, step}
+use Rattle.texting_robots.proofs.TrimLemmas.{each_append}
 use Rattle.texting_robots.proofs.StatementLemmas.{valued_parts}
-use Rattle.texting_robots.proofs.Rfc9309.Told.{Told, matters, told_of, written}
+use Rattle.robots_standard.proofs.Told.{Told, matters, told_of, written}
 
 -- ---- what is heard of a text
 

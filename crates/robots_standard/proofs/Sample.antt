@@ -6,11 +6,11 @@ use Rattle.std.specs.List.{AllByRecursion as Each, Contains, list_all}
 use Rattle.std.proofs.lemmas.Bool.{and_parts, cases_Bool, eqb-true}
 use Rattle.std.proofs.lemmas.Bool.Decides.{nat_tests}
 use Rattle.std.proofs.lemmas.List.Elements.{All-contains, All-from_recursion}
-use Rattle.texting_robots.specs.Rfc9309 as rfc
-use Rattle.texting_robots.specs.Rfc9309Sample.{cr, cr_lf, lf, path}
-use Rattle.texting_robots.specs.Rfc9309Sample as sample
-use Rattle.texting_robots.proofs.Rfc9309.BareLemmas.{group_is_wide, repeats_weaker}
-use Rattle.texting_robots.proofs.Rfc9309.SyntaxLemmas.{repeats_both, repeats_none, repeats_one}
+use Rattle.robots_standard.specs.Rfc9309 as rfc
+use Rattle.robots_standard.specs.Sample.{cr, cr_lf, lf, path}
+use Rattle.robots_standard.specs.Sample as sample
+use Rattle.robots_standard.proofs.BareLemmas.{group_is_wide, repeats_weaker}
+use Rattle.robots_standard.proofs.SyntaxLemmas.{repeats_both, repeats_none, repeats_one}
 
 -- ---- texts whose parts pass a test, as is computed
 

@@ -1,9 +1,9 @@
 -- A text that repeats a production is made of the lines of its pieces.
 use Rattle.std.proofs.Common.{inl, inr, ℕ, List, [], ◌∷◌, ◌++◌, flat_map, sym, subst}
 use Rattle.std.specs.List.{AllByRecursion as Each}
-use Rattle.texting_robots.specs.Rfc9309 as rfc
-use Rattle.texting_robots.proofs.Rfc9309.ReadLemmas.{Reads, reads_both, reads_nothing}
-use Rattle.texting_robots.proofs.Rfc9309.Told.{Told}
+use Rattle.robots_standard.specs.Rfc9309 as rfc
+use Rattle.robots_standard.proofs.ReadLemmas.{Reads, reads_both, reads_nothing}
+use Rattle.robots_standard.proofs.Told.{Told}
 
 -- the text is made of lines, and what they tell belongs to these items
 pub record ReadBy {X : Type 0} (Belong : List X → List Told → Type 0)

@@ -8,11 +8,11 @@ use Rattle.texting_robots.specs.Line.{LineValue, UserAgent, Allow, Disallow, Sit
 use Rattle.texting_robots.specs.Line.{is_sitemap}
 use Rattle.texting_robots.specs.Group.{is_group}
 use Rattle.texting_robots.specs.Computed.{sitemap_in}
-use Rattle.texting_robots.specs.Rfc9309 as rfc
-use Rattle.texting_robots.proofs.Rfc9309.EndLemmas.{lines_in}
-use Rattle.texting_robots.proofs.Rfc9309.GroupLemmas.{IsFront}
-use Rattle.texting_robots.proofs.Rfc9309.MergeLemmas.{AreGroupLines, IsLineFor}
-use Rattle.texting_robots.proofs.Rfc9309.Told.{IsToldFor, Told, member_in, token_told}
+use Rattle.robots_standard.specs.Rfc9309 as rfc
+use Rattle.robots_standard.proofs.EndLemmas.{lines_in}
+use Rattle.robots_standard.proofs.GroupLemmas.{IsFront}
+use Rattle.robots_standard.proofs.MergeLemmas.{AreGroupLines, IsLineFor}
+use Rattle.robots_standard.proofs.Told.{IsToldFor, Told, member_in, token_told}
 
 -- what a group's tokens and members tell, and then such
 pub record AreToldThen (group : rfc.Group) (Later : List Told → Type 0) (tolds : List Told) : Type 0 where

@@ -1,8 +1,8 @@
-use Rattle.texting_robots.proofs.Rfc9309.BareLemmas.{robotstxt_is_file}
-use Rattle.texting_robots.proofs.Rfc9309.SitemapLemmas.{sitemaps_are_read}
-use Rattle.texting_robots.proofs.Rfc9309.StandardLemmas.{standard_files_are_read_so}
-use Rattle.texting_robots.proofs.Rfc9309.StandardLemmas.{standard_files_spell_once, standard_sitemaps_once}
-use Rattle.texting_robots.proofs.laws.standard_files_are_read_so.Goals as goal
+use Rattle.robots_standard.proofs.BareLemmas.{robotstxt_is_file}
+use Rattle.robots_standard.proofs.SitemapLemmas.{sitemaps_are_read}
+use Rattle.robots_standard.proofs.StandardLemmas.{standard_files_are_read_so}
+use Rattle.robots_standard.proofs.StandardLemmas.{standard_files_spell_once, standard_sitemaps_once}
+use Rattle.robots_standard.proofs.standard_files_are_read_so.Goals as goal
 
 pub returns-clause-read : goal.returns-clause-read
 returns-clause-read c = standard_files_are_read_so

@@ -8,18 +8,18 @@ use Rattle.texting_robots.specs.Computed.{file_lines}
 use Rattle.std.proofs.lemmas.List.Elements.{filter-append}
 use Rattle.texting_robots.specs.Group.{is_group}
 use Rattle.texting_robots.specs.Line.{Sitemap, is_sitemap}
-use Rattle.texting_robots.specs.Rfc9309 as rfc
+use Rattle.robots_standard.specs.Rfc9309 as rfc
 use Rattle.texting_robots.proofs.LawLemmas.{sitemaps_change_nothing_else}
-use Rattle.texting_robots.proofs.Rfc9309.CharLemmas.{each_append}
-use Rattle.texting_robots.proofs.Rfc9309.GroupLemmas.{zip_append}
-use Rattle.texting_robots.proofs.Rfc9309.ToldLemmas.{AreGroups, IsFrontTold, no_sitemap}
-use Rattle.texting_robots.proofs.Rfc9309.Told.{IsToldFor, Told, in_groups, token_told}
-use Rattle.texting_robots.proofs.Rfc9309.EndLemmas.{file_heard, file_same, kept_lines, lines_in, told_in}
-use Rattle.texting_robots.proofs.Rfc9309.MemberLemmas.{front_line, member_line, sitemap_line}
-use Rattle.texting_robots.proofs.Rfc9309.RuleLemmas.{token_line}
-use Rattle.texting_robots.proofs.Rfc9309.OtherLemmas.{empty_line, other_line}
-use Rattle.texting_robots.proofs.Rfc9309.ReadLemmas.{Reads, reads_both}
-use Rattle.texting_robots.proofs.Rfc9309.RepeatLemmas.{IsJoin, ReadBy, both_read, none_read, repeated}
+use Rattle.texting_robots.proofs.TrimLemmas.{each_append}
+use Rattle.robots_standard.proofs.GroupLemmas.{zip_append}
+use Rattle.robots_standard.proofs.ToldLemmas.{AreGroups, IsFrontTold, no_sitemap}
+use Rattle.robots_standard.proofs.Told.{IsToldFor, Told, in_groups, token_told}
+use Rattle.robots_standard.proofs.EndLemmas.{file_heard, file_same, kept_lines, lines_in, told_in}
+use Rattle.robots_standard.proofs.MemberLemmas.{front_line, member_line, sitemap_line}
+use Rattle.robots_standard.proofs.RuleLemmas.{token_line}
+use Rattle.robots_standard.proofs.OtherLemmas.{empty_line, other_line}
+use Rattle.robots_standard.proofs.ReadLemmas.{Reads, reads_both}
+use Rattle.robots_standard.proofs.RepeatLemmas.{IsJoin, ReadBy, both_read, none_read, repeated}
 
 -- ---- what is told of groups
 

@@ -1,8 +1,8 @@
 -- Texts that repeat a production, put together.
 use Rattle.std.proofs.Common.{ℕ, List, [], ◌∷◌, ◌++◌, sym, refl, append-nil}
 use Rattle.std.proofs.lemmas.Grind.{flat_map-append}
-use Rattle.texting_robots.specs.Rfc9309.{Piece, Repeats}
-use Rattle.texting_robots.proofs.Rfc9309.CharLemmas.{each_append}
+use Rattle.robots_standard.specs.Rfc9309.{Piece, Repeats}
+use Rattle.texting_robots.proofs.TrimLemmas.{each_append}
 
 module _ {X : Type 0} (P : List X → List ℕ → Type 0) where
   pub repeats_none : Repeats P [] []

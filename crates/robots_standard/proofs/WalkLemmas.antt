@@ -12,9 +12,9 @@ use Rattle.texting_robots.specs.Group.{is_group}
 use Rattle.texting_robots.specs.Computed.{rule_in}
 use Rattle.texting_robots.specs.Rules.{Rule}
 use Rattle.texting_robots.specs.Steps.Group.{step}
-use Rattle.texting_robots.specs.Rfc9309.{Member}
+use Rattle.robots_standard.specs.Rfc9309.{Member}
 use Rattle.texting_robots.proofs.LawLemmas.{reached}
-use Rattle.texting_robots.proofs.Rfc9309.MergeLemmas.{IsLineFor}
+use Rattle.robots_standard.proofs.MergeLemmas.{IsLineFor}
 
 -- ---- the walk along such lines
 

@@ -9,7 +9,7 @@ use Rattle.std.proofs.lemmas.List.Elements.{All-contains, All-from_recursion}
 use Rattle.texting_robots.specs.declared.parser.statement.Kind.{Kind}
 use Rattle.texting_robots.specs.declared.parser.statement.Kind.TheVariants as kind
 use Rattle.texting_robots.specs.Statement.{spellings}
-use Rattle.texting_robots.specs.Rfc9309 as rfc
+use Rattle.robots_standard.specs.Rfc9309 as rfc
 
 -- ---- words of identifier bytes
 

@@ -7,8 +7,8 @@ use Rattle.texting_robots.specs.Group.{is_group}
 use Rattle.texting_robots.specs.Line.{LineValue, UserAgent}
 use Rattle.texting_robots.specs.Computed.{rule_in}
 use Rattle.texting_robots.specs.Rules.{Rule}
-use Rattle.texting_robots.specs.Laws.{IsReadAs}
-use Rattle.texting_robots.specs.Rfc9309.{Group, Member, merged, put_before, is_rule}
+use Rattle.robots_standard.specs.ReadAs.{IsReadAs}
+use Rattle.robots_standard.specs.Rfc9309.{Group, Member, merged, put_before, is_rule}
 
 -- ---- which lines stand in groups
 

@@ -13,16 +13,16 @@ use Rattle.texting_robots.specs.Group.{group_name, is_agent_named, is_group}
 use Rattle.texting_robots.specs.Computed.{rule_in, rules_for}
 use Rattle.texting_robots.specs.Rules.{Rule}
 use Rattle.texting_robots.specs.Steps.Group.{start_of, step}
-use Rattle.texting_robots.specs.Laws.{IsReadAs}
-use Rattle.texting_robots.specs.Rfc9309.{Group, Member, merged, is_rule, has_token, groups_for}
-use Rattle.texting_robots.specs.Rfc9309 as rfc
+use Rattle.robots_standard.specs.ReadAs.{IsReadAs}
+use Rattle.robots_standard.specs.Rfc9309.{Group, Member, merged, is_rule, has_token, groups_for}
+use Rattle.robots_standard.specs.Rfc9309 as rfc
 use Rattle.texting_robots.proofs.CapturedLemmas.{rules_are}
 use Rattle.texting_robots.proofs.LawLemmas.{all_reached}
-use Rattle.texting_robots.proofs.Rfc9309.MergeLemmas.{AreApart, AreGroupLines, GivesRuleOf, IsLineFor}
-use Rattle.texting_robots.proofs.Rfc9309.MergeLemmas.{merged_apart, merged_lines}
-use Rattle.texting_robots.proofs.Rfc9309.WalkLemmas.{behind, found, group_step}
-use Rattle.texting_robots.proofs.Rfc9309.WalkLemmas.{group_steps, is_named, members_found, nothing}
-use Rattle.texting_robots.proofs.Rfc9309.WalkLemmas.{run, run_found}
+use Rattle.robots_standard.proofs.MergeLemmas.{AreApart, AreGroupLines, GivesRuleOf, IsLineFor}
+use Rattle.robots_standard.proofs.MergeLemmas.{merged_apart, merged_lines}
+use Rattle.robots_standard.proofs.WalkLemmas.{behind, found, group_step}
+use Rattle.robots_standard.proofs.WalkLemmas.{group_steps, is_named, members_found, nothing}
+use Rattle.robots_standard.proofs.WalkLemmas.{run, run_found}
 
 -- ---- the rules of groups
 

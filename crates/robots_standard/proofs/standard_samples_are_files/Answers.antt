@@ -1,5 +1,5 @@
-use Rattle.texting_robots.proofs.Rfc9309.Sample.{is_file, is_robotstxt, lists_sitemaps}
-use Rattle.texting_robots.proofs.laws.standard_samples_are_files.Goals as goal
+use Rattle.robots_standard.proofs.Sample.{is_file, is_robotstxt, lists_sitemaps}
+use Rattle.robots_standard.proofs.standard_samples_are_files.Goals as goal
 
 pub returns-clause-bare : goal.returns-clause-bare
 returns-clause-bare c = is_robotstxt

@@ -16,19 +16,20 @@ use Rattle.texting_robots.specs.Steps.Delay.{delay_of, rounded}
 use Rattle.texting_robots.specs.Steps.Line.{delay_or_raw}
 use Rattle.texting_robots.specs.Steps.Statement.{trimmed}
 use Rattle.texting_robots.specs.Trim.{IsTrimOf}
-use Rattle.texting_robots.specs.Rfc9309 as rfc
+use Rattle.robots_standard.specs.Rfc9309 as rfc
 use Rattle.texting_robots.proofs.DelayLemmas.{is_delay_of, rounded_rounds}
 use Rattle.texting_robots.proofs.TrimLemmas.{trimmed_is_trim}
-use Rattle.texting_robots.proofs.Rfc9309.CharLemmas.{chars_text, each_append}
-use Rattle.texting_robots.proofs.Rfc9309.KeyedLemmas.{IsValueByte, between_blanks, chars_value, each_weaker}
-use Rattle.texting_robots.proofs.Rfc9309.KeyedLemmas.{keyed, key_word}
-use Rattle.texting_robots.proofs.Rfc9309.ValueLemmas.{trim_utf8}
-use Rattle.texting_robots.proofs.Rfc9309.ReadLemmas.{Reads}
-use Rattle.texting_robots.proofs.Rfc9309.GroupLemmas.{IsFront}
-use Rattle.texting_robots.proofs.Rfc9309.RuleLemmas.{IsPlain, MemberRead, chars_kept, plain_kept}
-use Rattle.texting_robots.proofs.Rfc9309.RuleLemmas.{plain_trim, plain_value, reads_keyed, rule_line}
-use Rattle.texting_robots.proofs.Rfc9309.RuleLemmas.{star_line}
-use Rattle.texting_robots.proofs.Rfc9309.Told.{Told, matters, no_blank}
+use Rattle.robots_standard.proofs.CharLemmas.{chars_text}
+use Rattle.texting_robots.proofs.TrimLemmas.{each_append}
+use Rattle.robots_standard.proofs.KeyedLemmas.{IsValueByte, between_blanks, chars_value, each_weaker}
+use Rattle.robots_standard.proofs.KeyedLemmas.{keyed, key_word}
+use Rattle.robots_standard.proofs.ValueLemmas.{trim_utf8}
+use Rattle.robots_standard.proofs.ReadLemmas.{Reads}
+use Rattle.robots_standard.proofs.GroupLemmas.{IsFront}
+use Rattle.robots_standard.proofs.RuleLemmas.{IsPlain, MemberRead, chars_kept, plain_kept}
+use Rattle.robots_standard.proofs.RuleLemmas.{plain_trim, plain_value, reads_keyed, rule_line}
+use Rattle.robots_standard.proofs.RuleLemmas.{star_line}
+use Rattle.robots_standard.proofs.Told.{Told, matters, no_blank}
 
 -- ---- delays
 

@@ -11,15 +11,15 @@ use Rattle.texting_robots.specs.Line.{Raw}
 use Rattle.texting_robots.specs.Statement.{IsBehindBlanks, IsBehindColon, IsBlank, IsStatement}
 use Rattle.texting_robots.specs.Steps.Statement.{IsComment}
 use Rattle.texting_robots.specs.Steps.Statement.{kind_by, parts_of, skip_blanks, statement_of}
-use Rattle.texting_robots.specs.Rfc9309 as rfc
+use Rattle.robots_standard.specs.Rfc9309 as rfc
 use Rattle.texting_robots.proofs.LineLemmas.{line_raw}
 use Rattle.texting_robots.proofs.StatementLemmas.{NoBlank, found_statement, kept, valued_parts, skip_front}
-use Rattle.texting_robots.proofs.Rfc9309.CharLemmas.{each_append}
-use Rattle.texting_robots.proofs.Rfc9309.KeyedLemmas.{blanks_bare, blanks_low, comment_is, comment_text}
-use Rattle.texting_robots.proofs.Rfc9309.KeyedLemmas.{each_weaker, end_bare}
-use Rattle.texting_robots.proofs.Rfc9309.ReadLemmas.{BeginsLow, IsBare, Reads, low_append, reads_line}
-use Rattle.texting_robots.proofs.Rfc9309.WordLemmas.{IsSpelled, Stops, identifier_bounds, same_word, spelled}
-use Rattle.texting_robots.proofs.Rfc9309.Told.{written}
+use Rattle.texting_robots.proofs.TrimLemmas.{each_append}
+use Rattle.robots_standard.proofs.KeyedLemmas.{blanks_bare, blanks_low, comment_is, comment_text}
+use Rattle.robots_standard.proofs.KeyedLemmas.{each_weaker, end_bare}
+use Rattle.robots_standard.proofs.ReadLemmas.{BeginsLow, IsBare, Reads, low_append, reads_line}
+use Rattle.robots_standard.proofs.WordLemmas.{IsSpelled, Stops, identifier_bounds, same_word, spelled}
+use Rattle.robots_standard.proofs.Told.{written}
 
 -- ---- empty lines and comments
 

@@ -10,9 +10,9 @@ use Rattle.texting_robots.specs.Statement.{IsBlank}
 use Rattle.texting_robots.specs.Steps.Statement.{IsComment, colon, hash, space, tab}
 use Rattle.texting_robots.specs.Steps.Line.{line_of}
 use Rattle.texting_robots.specs.Steps.Statement.{region_of}
-use Rattle.texting_robots.specs.Rfc9309 as rfc
+use Rattle.robots_standard.specs.Rfc9309 as rfc
 use Rattle.texting_robots.proofs.StatementLemmas.{region_is}
-use Rattle.texting_robots.proofs.Rfc9309.MergeLemmas.{IsLineFor}
+use Rattle.robots_standard.proofs.MergeLemmas.{IsLineFor}
 
 -- ---- the value as it is written
 

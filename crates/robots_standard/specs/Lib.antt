@@ -1,0 +1,3 @@
+pub mod Rfc9309
+pub mod Sample
+pub mod ReadAs
