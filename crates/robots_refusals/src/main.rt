@@ -4,7 +4,10 @@
 //! refused; then a call that takes memory may also say `out of memory`. A name on standard input chooses one call.
 #![tactic(auto)]
 
+mod callers;
 mod calls;
+mod large;
+mod printed;
 mod quiet;
 
 use std::io::Read;
@@ -35,9 +38,24 @@ fn makes_calls(rt: &HostRuntime, line: &[u8]) -> bool {
             well &= tell(rt, name, calls::answer(rt.alloc(), call));
         }
     }
+    for (name, call) in printed::CALLS {
+        if is_chosen(line, name) {
+            well &= tell(rt, name, printed::answer(rt.alloc(), call));
+        }
+    }
     for (name, call) in quiet::CALLS {
         if is_chosen(line, name) {
             well &= tell(rt, name, quiet::answer(rt.alloc(), call));
+        }
+    }
+    for (name, call) in large::CALLS {
+        if is_chosen(line, name) {
+            well &= tell(rt, name, large::answer(rt.alloc(), call));
+        }
+    }
+    for (name, call) in callers::CALLS {
+        if is_chosen(line, name) {
+            well &= tell(rt, name, callers::answer(rt.alloc(), call));
         }
     }
     well

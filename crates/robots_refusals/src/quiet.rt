@@ -25,6 +25,7 @@ pub(crate) enum Call {
     AsStr,
     Comparisons,
     View,
+    Looks,
     Lines,
     FileLines,
     ReadDelay,
@@ -58,6 +59,7 @@ pub(crate) const CALLS: &[(&str, Call)] = &[
     ("MinRegex::as_str without memory", Call::AsStr),
     ("comparisons without memory", Call::Comparisons),
     ("View without memory", Call::View),
+    ("small questions by their looks without memory", Call::Looks),
     ("parser::lines without memory", Call::Lines),
     ("parser::file_lines without memory", Call::FileLines),
     ("parser::read_delay without memory", Call::ReadDelay),
@@ -138,6 +140,7 @@ fn is_right(asked: &Asked, call: &Call) -> bool {
         Call::AsStr => asked.patterns.longer.as_str() == "/*ab*ba$",
         Call::Comparisons => compares(asked.patterns),
         Call::View => looks(),
+        Call::Looks => takes_looks(asked),
         Call::Lines => gives_page(lines(PAGE)),
         Call::FileLines => gives_page(file_lines(PAGE)),
         Call::ReadDelay => reads_delays(),
@@ -178,7 +181,13 @@ fn asks_decision(robot: &Robot) -> bool {
         allowed: false,
         line: Some(4),
     };
-    robot.decision(&mut View::new("/forest/tree/snake.py")) == refused
+    let of_another_line = Decision {
+        allowed: false,
+        line: Some(3),
+    };
+    let decision = robot.decision(&mut View::new("/forest/tree/snake.py"));
+    decision == refused
+        && decision != of_another_line
         && robot.decision(&mut View::new("/robots.txt")).line.is_none()
 }
 
@@ -217,6 +226,32 @@ fn looks() -> bool {
         && view.seen() == 2
         && !view.is_empty()
         && !view.is_robots_file()
+}
+
+/// Whether a pattern gives this answer about a text, after exactly so many looks.
+fn matches_after(pattern: &MinRegex, text: &str, want: bool, looks: u64) -> bool {
+    let mut view = View::new(text);
+    pattern.matches_view(&mut view) == want && view.seen() == looks
+}
+
+/// Whether a robot gives this answer about a text, after exactly so many looks.
+fn allows_after(robot: &Robot, text: &str, want: bool, looks: u64) -> bool {
+    let mut view = View::new(text);
+    robot.allowed_view(&mut view) == want && view.seen() == looks
+}
+
+/// A byte that a pattern names takes a look, also the one that differs; what a last star stands for takes none. A robot's rules are
+/// asked in the order of their lengths: `/forest*.py`, `/ocean` and `/rust`.
+fn takes_looks(asked: &Asked) -> bool {
+    let Patterns { longer, shorter } = asked.patterns;
+    matches_after(shorter, "/abc", true, 1)
+        && matches_after(longer, "?abba", false, 1)
+        && matches_after(longer, "/abba", true, 1 + 2 + 2)
+        && allows_after(asked.robot, "/forest.py", false, 7 + 3)
+        && allows_after(asked.robot, "/oceanic", true, 2 + 6)
+        && allows_after(asked.robot, "/rustacean", false, 2 + 2 + 5)
+        && allows_after(asked.robot, "?rustacean", true, 1 + 1 + 1)
+        && allows_after(asked.robot, "/robots.txt", true, 0)
 }
 
 /// Whether these are the lines of the page.
