@@ -32,8 +32,8 @@ returns-clause-known c =
     ∙ behind_old old_text more c.len-first_byte.result first_byte in
     let cut = subst (λ p. ArePieces p c.in_ok-ends.ends added.pieces c.push_pieces.new.borders.items)
     same added.are_pieces in
-    let needed = subst (λ (p : List ℕ). AreNeeds p c.needs-needs.result)
-    (c.new.ensures ∙ same) c.needs-needs.ensures in
+    let needed = subst (λ (p : List ℕ). AreNeeds p c.of-needs.result)
+    (c.new.ensures ∙ same) c.of-needs.ensures in
     let pushed : IsPushed old_text more old.pieces.items added.pieces c.push_pieces.new.borders.items _ =
     record {
       pattern_span = record { start = first_byte; end = end_byte ∙ ap length text };
