@@ -1,19 +1,16 @@
 -- What stands in shared vectors stays there when more is added.
 use Rattle.std.proofs.Common.{◌≡◌, ℕ, ◌+◌, ◌-◌, List, [], ◌∷◌, ◌++◌, All}
 use Rattle.std.proofs.Common.{length, drop, map, slice_range, take, refl, sym, ap, ◌∙◌, arith}
-use Rattle.std.proofs.lemmas.List.{drop-append-le, drop_at, get_or_append_left, length-append}
+use Rattle.std.proofs.lemmas.List.{drop-append-le, drop_at, length-append}
 use Rattle.std.proofs.lemmas.List.{length-drop, map_push, take-append-le, take_all}
 use Rattle.std.proofs.lemmas.List.Elements.{All-head, All-push, All-tail, All-weaker}
 use Rattle.texting_robots.specs.declared.pieces.Ends.{Ends}
 use Rattle.texting_robots.specs.declared.pieces.Piece.{Piece}
 use Rattle.texting_robots.specs.declared.pieces.Span.{Span}
-use Rattle.texting_robots.specs.declared.pieces.Ending.TheVariants.{Last}
 use Rattle.texting_robots.specs.declared.rules.Entry.{Entry}
-use Rattle.texting_robots.specs.declared.rules.Tail.{Tail}
-use Rattle.texting_robots.specs.declared.rules.Tail.TheVariants.{Any, End, LastPiece, Nothing}
-use Rattle.texting_robots.specs.Steps.Entries.{AddsLast, HasLast, IsEntry, ending_of, placed_at, rank}
+use Rattle.texting_robots.specs.Steps.Entries.{IsEntry, placed_at, rank}
 use Rattle.texting_robots.specs.Steps.Needs.{AreNeeds}
-use Rattle.texting_robots.specs.Steps.Pieces.{ArePieces, IsPiece, IsSpan, no_piece, part_of}
+use Rattle.texting_robots.specs.Steps.Pieces.{ArePieces, IsPiece, IsSpan, part_of}
 
 -- the range of what was added
 pub record IsNew {X : Type 0} (old new : List X) (span : Span) : Type 0 where
@@ -76,21 +73,6 @@ module _ (p : List ℕ) (ends : Ends) (pieces : List Piece) (borders more : List
     left = are.left;
   }
 
--- a last piece stays where it stands
-module _ (pieces more : List Piece) (at : ℕ) where
-  last_kept : (tail : Tail) → HasLast pieces at tail → HasLast (pieces ++ more) at tail
-  last_kept Any h = tt
-  last_kept End h = tt
-  last_kept LastPiece h = let sizes = length-append pieces more in omega arith
-  last_kept Nothing h = tt
-
-  ending_kept : (tail : Tail) → HasLast pieces at tail
-      → ending_of (pieces ++ more) at tail ≡ ending_of pieces at tail
-  ending_kept Any h = refl
-  ending_kept End h = refl
-  ending_kept LastPiece h = ap (λ (p : Piece). Last p.span) (get_or_append_left pieces more no_piece at h)
-  ending_kept Nothing h = refl
-
 module _ (text more_text : List ℕ) (pieces more_pieces : List Piece) (borders more_borders : List ℕ) where
   abbrev IsOld : Entry → Type 0
   IsOld = IsEntry text pieces borders
@@ -102,12 +84,10 @@ module _ (text more_text : List ℕ) (pieces more_pieces : List Piece) (borders 
   entry_kept entry h =
       let one = part_kept text more_text entry.pattern h.pattern in
       let two = part_kept pieces more_pieces entry.pieces h.searched in
-      let ending = ending_kept pieces more_pieces entry.pieces.end entry.tail h.last in
       record {
         pattern = span_kept text more_text entry.pattern h.pattern;
         searched = span_kept pieces more_pieces entry.pieces h.searched;
-        last = last_kept pieces more_pieces entry.pieces.end entry.tail h.last;
-        is_cut = rw (one, two, ending) (tables_kept _ _ _ borders more_borders h.is_cut);
+        is_cut = rw (one, two) (tables_kept _ _ _ borders more_borders h.is_cut);
         needed = rw one h.needed;
         ranked = h.ranked;
       }
@@ -117,35 +97,27 @@ module _ (text more_text : List ℕ) (pieces more_pieces : List Piece) (borders 
   entries_pushed entries entry known is =
       All-push IsNow entries entry (All-weaker IsOld IsNow entry_kept entries known) is
 
--- what was pushed: the pattern, its searched pieces and then a last one, if there is one, and the tables
-module _ (text pattern : List ℕ) (pieces searched : List Piece) (borders : List ℕ) (entry : Entry)
-    (ends : Ends) where
-  pub record IsPushed (all : List Piece) : Type 0 where
+-- what was pushed: the pattern, its searched pieces and the tables
+module _ (text pattern : List ℕ) (pieces searched : List Piece) (borders : List ℕ) (entry : Entry) where
+  pub record IsPushed : Type 0 where
     pub pattern_span : IsNew text (text ++ pattern) entry.pattern
     pub searched_span : IsNew pieces (pieces ++ searched) entry.pieces
-    pub first_len : entry.first_len ≡ ends.first_len
-    pub last : AddsLast ends.ending (pieces ++ searched) all entry.tail
-    pub is_cut : ArePieces pattern ends searched borders
+    pub is_cut : ArePieces pattern entry.ends searched borders
     pub needed : AreNeeds pattern entry.needs
     pub ranked : entry.rank ≡ rank (length pattern) entry.is_allow
 
-  pub entry_new : (all : List Piece) → IsPushed all → IsEntry (text ++ pattern) all borders entry
-  entry_new all is =
-      let put = is.last.put in
-      let span = span_new pieces searched entry.pieces is.searched_span in
+  pub entry_new : IsPushed → IsEntry (text ++ pattern) (pieces ++ searched) borders entry
+  entry_new is =
       let one = part_new text pattern entry.pattern is.pattern_span in
-      let two : part_of all entry.pieces ≡ searched =
-      rw put (part_kept (pieces ++ searched) is.last.added entry.pieces span
-      ∙ part_new pieces searched entry.pieces is.searched_span) in
+      let two = part_new pieces searched entry.pieces is.searched_span in
       let start = is.pattern_span.start in
       let end = is.pattern_span.end in
       let sizes = length-append text pattern in
       let len : entry.pattern.end - entry.pattern.start ≡ length pattern = omega arith in
       record {
         pattern = span_new text pattern entry.pattern is.pattern_span;
-        searched = rw put (span_kept (pieces ++ searched) is.last.added entry.pieces span);
-        last = rw is.searched_span.end is.last.there;
-        is_cut = rw (one, two, is.first_len, is.searched_span.end, is.last.is) is.is_cut;
+        searched = span_new pieces searched entry.pieces is.searched_span;
+        is_cut = rw (one, two) is.is_cut;
         needed = rw one is.needed;
         ranked = rw len is.ranked;
       }

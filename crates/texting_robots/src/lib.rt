@@ -28,6 +28,7 @@
 #![tactic(auto)]
 
 pub mod address;
+mod asked;
 mod decision;
 mod error;
 mod escape;

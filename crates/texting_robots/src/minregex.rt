@@ -11,10 +11,11 @@ ghost use Rattle.texting_robots.specs.Order.{IsBefore, pattern_cmp};
 ghost use Rattle.texting_robots.specs.Pattern.{IsOverlong, Matches, MatchesStars, collapsed};
 ghost use Rattle.texting_robots.specs.View.{LooksAtMost};
 
+use crate::asked::Uncounted;
 use crate::error::Error;
-use crate::pieces::{Ends, Pattern, Piece, STAR, behind_first, is_overlong, push_pieces};
+use crate::pieces::{Ends, Pattern, Piece, STAR, is_overlong, push_pieces};
 use crate::view::View;
-use memchr::memchr;
+use memchr::{memchr, memmem};
 use std::alloc::{AllocError, Global};
 use std::cmp::Ordering;
 use std::fmt::{self, Debug, Formatter};
@@ -115,7 +116,8 @@ impl MinRegex {
     pub fn is_match(&self, text: &str) -> bool
         ensures { IsTrue result ↔ Matches self.now text.now }
     {
-        self.as_pattern().matches_text(text.as_bytes())
+        self.as_pattern()
+            .matches(&mut Uncounted::new(text.as_bytes()))
     }
 
     /// Whether the pattern handed in matches the text, with `$` as an ordinary byte. The object plays no part. It takes no
@@ -232,4 +234,14 @@ fn cut_at_star(pattern: &[u8]) -> (&[u8], Option<&[u8]>)
         Some(at) => (&pattern[..at], Some(&pattern[at + 1..])),
         None => (pattern, None),
     }
+}
+
+/// What follows the piece where it first stands in the text.
+fn behind_first<'a>(text: &'a [u8], piece: &[u8]) -> Option<&'a [u8]>
+    ensures { MatchOption result (StandsNowhere piece.now text.now)
+        (λ rest. IsBehindFirst piece.now text.now rest.now) }
+{
+    let at = memmem::find(text, piece)?;
+    let (_, rest) = text.split_at(at + piece.len());
+    Some(rest)
 }

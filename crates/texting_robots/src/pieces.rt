@@ -8,11 +8,8 @@ ghost use Rattle.texting_robots.specs.Steps.Stars.{IsBehindFirst, StandsNowhere}
 ghost use Rattle.texting_robots.specs.Pattern.{IsOverlong, Matches, collapsed, star};
 ghost use Rattle.texting_robots.specs.View.{LooksAtMost};
 
-mod slices;
-
-use crate::view::View;
+use crate::asked::Asked;
 use memchr::memchr2;
-pub(crate) use slices::behind_first;
 use std::alloc::AllocError;
 use std::marker::Model;
 
@@ -71,9 +68,9 @@ pub(crate) struct Ends {
 /// A pattern, lent with its pieces and their tables.
 #[derive(Drop)]
 pub(crate) struct Pattern<'a> {
-    bytes: &'a [u8],
-    ends: Ends,
-    pieces: &'a [Piece],
+    pub(crate) bytes: &'a [u8],
+    pub(crate) ends: Ends,
+    pub(crate) pieces: &'a [Piece],
     borders: &'a [usize],
 }
 
@@ -107,25 +104,25 @@ impl<'a> Pattern<'a> {
         }
     }
 
-    /// Whether the pattern matches the view's text, or a beginning of it.
-    pub(crate) fn matches(&self, view: &mut View<'_>) -> bool
-        ensures answer { IsTrue result ↔ Matches self.now view.old.text }
-        ensures looks { LooksAtMost view.old view.new (2 * length view.old.text) }
+    /// Whether the pattern matches the text, or a beginning of it.
+    pub(crate) fn matches<A: Asked>(&self, asked: &mut A) -> bool
+        ensures answer { IsTrue result ↔ Matches self.now (A.seen asked.old).text }
+        ensures looks { LooksAtMost (A.seen asked.old) (A.seen asked.new) (2 * length (A.seen asked.old).text) }
     {
         let first = &self.bytes[..self.ends.first_len];
-        if !stands_at(view, 0, first) {
+        if !asked.stands_at(0, first) {
             return false;
         }
         let mut place = first.len();
         for piece in self.pieces {
             let bytes = &self.bytes[piece.span.start..piece.span.end];
             let table = &self.borders[piece.table..piece.table + bytes.len().saturating_sub(1)];
-            match find(view, bytes, table, place) {
+            match asked.find(place, bytes, table) {
                 Some(end) => place = end,
                 None => return false,
             }
         }
-        ends_as(view, self.bytes, self.ends.ending, place)
+        ends_as(asked, self.bytes, self.ends.ending, place)
     }
 }
 
@@ -212,71 +209,21 @@ fn push_borders(borders: &mut Vec<usize>, piece: &[u8]) -> Result<(), AllocError
     Ok(())
 }
 
-/// Whether the piece stands in the text at this place.
-fn stands_at(view: &mut View<'_>, at: usize, piece: &[u8]) -> bool
-    requires { at ≤ length view.old.text }
-    ensures answer { IsTrue result ↔ OccursAt view.old.text piece.now at }
-    ensures text { view.new.text ≡ view.old.text }
-    ensures looks { view.old.looks ≤ view.new.looks }
-    ensures by_piece { view.new.looks ≤ view.old.looks + length piece.now }
-    ensures by_text { view.new.looks + at ≤ view.old.looks + length view.old.text }
-{
-    if piece.len() > view.len() - at {
-        return false;
-    }
-    for (k, byte) in piece.iter().enumerate() {
-        if !view.same(at + k, *byte) {
-            return false;
-        }
-    }
-    true
-}
-
-/// The place right behind the piece where it first stands from `from` on, found by its table.
-fn find(view: &mut View<'_>, piece: &[u8], borders: &[usize], from: usize) -> Option<usize>
-    requires from { from ≤ length view.old.text }
-    requires table { IsTable piece.now borders.now }
-    ensures none { IfNone result (StandsNowhere piece.now (drop from view.old.text)) }
-    ensures some { IfSome result (λ end. (end ≤ length view.old.text)
-        × IsBehindFirst piece.now (drop from view.old.text) (drop end view.old.text)) }
-    ensures text { view.new.text ≡ view.old.text }
-    ensures looks { view.old.looks ≤ view.new.looks }
-    ensures cost { view.new.looks + 2 * from ≤ view.old.looks + 2 * unwrap_or result (length view.old.text) }
-{
-    let len = view.len();
-    let mut place = from;
-    let mut matched = 0;
-    while matched < piece.len() {
-        if place == len {
-            return None;
-        }
-        if view.same(place, piece[matched]) {
-            place += 1;
-            matched += 1;
-        } else if matched == 0 {
-            place += 1;
-        } else {
-            matched = borders[matched - 1];
-        }
-    }
-    Some(place)
-}
-
 /// Whether the text goes on from `place` as the ending says.
-fn ends_as(view: &mut View<'_>, pattern: &[u8], ending: Ending, place: usize) -> bool
-    requires place { place ≤ length view.old.text }
+fn ends_as<A: Asked>(asked: &mut A, pattern: &[u8], ending: Ending, place: usize) -> bool
+    requires place { place ≤ length (A.seen asked.old).text }
     requires ending { IsEnding pattern.now ending }
-    ensures answer { IsTrue result ↔ EndsAs pattern.now ending (drop place view.old.text) }
-    ensures text { view.new.text ≡ view.old.text }
-    ensures looks { view.old.looks ≤ view.new.looks }
-    ensures cost { view.new.looks + place ≤ view.old.looks + length view.old.text }
+    ensures answer { IsTrue result ↔ EndsAs pattern.now ending (drop place (A.seen asked.old).text) }
+    ensures text { (A.seen asked.new).text ≡ (A.seen asked.old).text }
+    ensures looks { (A.seen asked.old).looks ≤ (A.seen asked.new).looks }
+    ensures cost { (A.seen asked.new).looks + place ≤ (A.seen asked.old).looks + length (A.seen asked.old).text }
 {
     match ending {
         Ending::Open => true,
-        Ending::Closed => place == view.len(),
+        Ending::Closed => place == asked.len(),
         Ending::Last(span) => {
             let last = &pattern[span.start..span.end];
-            last.len() <= view.len() - place && stands_at(view, view.len() - last.len(), last)
+            last.len() <= asked.len() - place && asked.stands_at(asked.len() - last.len(), last)
         }
         Ending::Never => false,
     }

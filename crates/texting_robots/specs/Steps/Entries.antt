@@ -1,48 +1,18 @@
 -- Rules by their ranges of shared vectors.
 use Rattle.std.specs.Prelude.{◌≡◌, ℕ, ◌+◌, ◌-◌, ◌*◌, ◌<◌}
-use Rattle.std.specs.Prelude.{◌≤◌, Bool, false, List, ◌++◌, All, length}
+use Rattle.std.specs.Prelude.{◌≤◌, Bool, false, List, All, length}
 use Rattle.std.specs.Prelude.{map, slice_index_or, string_bytes, if◌then◌else◌}
 use Rattle.std.specs.Ordering.{flip_args, nat_cmp, on, then_cmp}
 use Rattle.std.specs.declared.cmp.Ordering.{Ordering}
 use Rattle.texting_robots.specs.declared.pieces.Span.{Span}
 use Rattle.texting_robots.specs.declared.pieces.Piece.{Piece}
-use Rattle.texting_robots.specs.declared.pieces.Ending.{Ending}
-use Rattle.texting_robots.specs.declared.pieces.Ending.TheVariants.{Open, Closed, Last, Never}
-use Rattle.texting_robots.specs.declared.pieces.Ends.{Ends}
+use Rattle.texting_robots.specs.declared.pieces.Ending.TheVariants.{Open}
 use Rattle.texting_robots.specs.declared.rules.Entry.{Entry}
-use Rattle.texting_robots.specs.declared.rules.Tail.{Tail}
-use Rattle.texting_robots.specs.declared.rules.Tail.TheVariants.{Any, End, LastPiece, Nothing}
 use Rattle.texting_robots.specs.declared.rules.Gathered.{Gathered}
 use Rattle.texting_robots.specs.Steps.Needs.{AreNeeds}
-use Rattle.texting_robots.specs.Steps.Pieces.{ArePieces, IsSpan, no_piece, part_of}
+use Rattle.texting_robots.specs.Steps.Pieces.{ArePieces, IsSpan, part_of}
 use Rattle.texting_robots.specs.Pattern.{Matches}
 use Rattle.texting_robots.specs.Rules.{PlacedRule}
-
--- what a tail says of the text that is left; a last piece stands at this place
-abbrev pub ending_of : List Piece → ℕ → Tail → Ending
-ending_of pieces at Any = Open
-ending_of pieces at End = Closed
-ending_of pieces at LastPiece = Last (slice_index_or pieces at no_piece).span
-ending_of pieces at Nothing = Never
-
--- where the tail says that there is a last piece, it stands there
-abbrev pub HasLast : List Piece → ℕ → Tail → Type 0
-HasLast pieces at Any = Unit {0}
-HasLast pieces at End = Unit {0}
-HasLast pieces at LastPiece = at < length pieces
-HasLast pieces at Nothing = Unit {0}
-
--- a last piece was added, if the ending has one
-pub record AddsLast (ending : Ending) (old new : List Piece) (tail : Tail) : Type 0 where
-  pub added : List Piece
-  pub put : new ≡ old ++ added
-  pub there : HasLast new (length old) tail
-  pub is : ending_of new (length old) tail ≡ ending
-
--- the ends of an entry's pattern
-abbrev pub ends_of : List Piece → Entry → Ends
-ends_of pieces entry =
-    record { first_len = entry.first_len; ending = ending_of pieces entry.pieces.end entry.tail }
 
 -- how many bytes the pattern has
 abbrev pub len_of : Entry → ℕ
@@ -56,9 +26,7 @@ rank len allows = 2 * len + (if allows then 1 else 0)
 pub record IsEntry (text : List ℕ) (pieces : List Piece) (borders : List ℕ) (entry : Entry) : Type 0 where
   pub pattern : IsSpan text entry.pattern
   pub searched : IsSpan pieces entry.pieces
-  pub last : HasLast pieces entry.pieces.end entry.tail
-  pub is_cut : ArePieces (part_of text entry.pattern) (ends_of pieces entry)
-      (part_of pieces entry.pieces) borders
+  pub is_cut : ArePieces (part_of text entry.pattern) entry.ends (part_of pieces entry.pieces) borders
   pub needed : AreNeeds (part_of text entry.pattern) entry.needs
   pub ranked : entry.rank ≡ rank (len_of entry) entry.is_allow
 
@@ -105,8 +73,7 @@ no_entry =
       needs = record { head = record { bytes = 0; mask = 0 }; pairs = record { bits = 0 } };
       pattern = none;
       pieces = none;
-      first_len = 0;
-      tail = Any;
+      ends = record { first_len = 0; ending = Open };
       is_allow = false;
       rank = 0;
       line = 0;

@@ -7,8 +7,8 @@ use Rattle.texting_robots.proofs.PlacingLemmas.{ends_short, ends_with}
 use Rattle.texting_robots.proofs.pieces.ends_as.Goals as goal
 
 pub returns-in-Closed-clause-answer : goal.returns-in-Closed-clause-answer
-returns-in-Closed-clause-answer c =
-    let text = c.args.view.now.text in
+returns-in-Closed-clause-answer g c =
+    let text = (g.A.Asked.seen c.args.asked.now).text in
     let left = length-drop c.args.place text in
     rw c.in-Closed.is (
       λ h. drop_all c.args.place text (let e = eqb-true c.args.place c.len.result h in omega arith),
@@ -16,8 +16,8 @@ returns-in-Closed-clause-answer c =
     )
 
 pub returns-then-last-len-clause-answer : goal.returns-then-last-len-clause-answer
-returns-then-last-len-clause-answer c =
-    let text = c.args.view.now.text in
+returns-then-last-len-clause-answer g c =
+    let text = (g.A.Asked.seen c.args.asked.now).text in
     let last = part_of c.args.pattern.now c.in-Last.span in
     let (at_end, ends) = ends_with text last c.args.place (omega arith) in
     let at = ap (λ n. n - length last) c.len-then-last-len.ensures in
@@ -27,8 +27,8 @@ returns-then-last-len-clause-answer c =
     )
 
 pub returns-else-last-len-clause-answer : goal.returns-else-last-len-clause-answer
-returns-else-last-len-clause-answer c =
-    let text = c.args.view.now.text in
+returns-else-last-len-clause-answer g c =
+    let text = (g.A.Asked.seen c.args.asked.now).text in
     let last = part_of c.args.pattern.now c.in-Last.span in
     rw c.in-Last.is (
       λ e. absurd (let fits = leb-true (length last) (c.len-in-Last.result - c.args.place) e in omega arith),

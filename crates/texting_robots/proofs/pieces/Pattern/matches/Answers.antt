@@ -5,13 +5,13 @@ use Rattle.texting_robots.proofs.PieceLemmas.{left_missing, next_left, none_left
 use Rattle.texting_robots.proofs.pieces.Pattern.matches.Goals as goal
 
 pub returns-then-not-stands_at-clause-answer : goal.returns-then-not-stands_at-clause-answer
-returns-then-not-stands_at-clause-answer c =
+returns-then-not-stands_at-clause-answer g c =
     let apart = iff_false c.stands_at.ensures.answer c.if-not-stands_at.true in
-    let none = first_missing c.self.invariant c.args.view.now.text apart in
+    let none = first_missing c.self.invariant (g.A.Asked.seen c.args.asked.now).text apart in
     (λ e. absurd (false≢true e), λ m. absurd (none (rw (← c.self.view_is) at m)))
 
 pub loop-piece-init : goal.loop-piece-init
-loop-piece-init c =
+loop-piece-init g c =
     let here = c.stands_at.ensures.answer.0 c.if-not-stands_at.false in
     let fits = here.fits in
     let few = c.stands_at.ensures.by_piece in
@@ -26,7 +26,7 @@ loop-piece-init c =
     }
 
 pub loop-piece-preserved : goal.loop-piece-preserved
-loop-piece-preserved c =
+loop-piece-preserved g c =
     let i = c.loop-piece.invariant in
     let inside = c.self.inside in
     let (rest, is, more) =
@@ -47,7 +47,7 @@ loop-piece-preserved c =
     }
 
 pub returns-in-None-clause-answer : goal.returns-in-None-clause-answer
-returns-in-None-clause-answer c =
+returns-in-None-clause-answer g c =
     let i = c.loop-piece.invariant in
     let inside = c.self.inside in
     let (rest, is, more) =
@@ -57,11 +57,11 @@ returns-in-None-clause-answer c =
     (λ e. absurd (false≢true e), λ m. absurd (left_missing is _ nowhere (i.decides.0 m)))
 
 pub returns-clause-answer : goal.returns-clause-answer
-returns-clause-answer c =
+returns-clause-answer g c =
     let i = c.loop-piece.invariant in
     let inside = c.self.inside in
     let ends = none_left inside.bytes.now inside.ends.ending inside.pieces.now c.loop-piece.piece-index
     i.left i.pieces c.loop-piece-test.false in
-    let (to, from) = ends (drop c.loop-piece.place c.args.view.now.text) in
+    let (to, from) = ends (drop c.loop-piece.place (g.A.Asked.seen c.args.asked.now).text) in
     let answer = rw i.text at c.ends_as.ensures.answer in
     (λ e. i.decides.1 (from (answer.0 e)), λ m. answer.1 (to (i.decides.0 m)))

@@ -1,6 +1,5 @@
-use Rattle.std.proofs.Common.{◌≡◌, ℕ, ◌-◌, List, ◌++◌, length, slice_range, string_bytes}
-use Rattle.std.proofs.Common.{refl, ap, subst, ◌∙◌, arith, append_assoc, length-append}
-use Rattle.texting_robots.specs.declared.pieces.Piece.{Piece}
+use Rattle.std.proofs.Common.{◌≡◌, ℕ, ◌-◌, List, length, slice_range, string_bytes}
+use Rattle.std.proofs.Common.{ap, subst, ◌∙◌, arith, length-append}
 use Rattle.texting_robots.specs.Steps.Needs.{AreNeeds}
 use Rattle.texting_robots.specs.Steps.Pieces.{ArePieces}
 use Rattle.texting_robots.specs.Escape.{escaped}
@@ -31,27 +30,21 @@ returns-clause-known c =
     let same = ap (λ (t : List ℕ). slice_range t c.len-first_byte.result (length t))
     (c.as_bytes.ensures.value ∙ text)
     ∙ behind_old old_text more c.len-first_byte.result first_byte in
-    let last = c.in_ok-tail.ensures in
     let cut = subst (λ p. ArePieces p c.in_ok-ends.ends added.pieces c.push_pieces.new.borders.items)
     same added.are_pieces in
-    let needed = subst (λ (p : List ℕ). AreNeeds p c.needs-needs.result)
-    (c.new.ensures ∙ same) c.needs-needs.ensures in
-    let pushed : IsPushed old_text more old.pieces.items added.pieces c.push_pieces.new.borders.items _
-    c.in_ok-ends.ends
-    c.push_last.new.pieces.items = record {
+    let needed = subst (λ (p : List ℕ). AreNeeds p c.of-needs.result)
+    (c.new.ensures ∙ same) c.of-needs.ensures in
+    let pushed : IsPushed old_text more old.pieces.items added.pieces c.push_pieces.new.borders.items _ =
+    record {
       pattern_span = record { start = first_byte; end = end_byte ∙ ap length text };
       searched_span = record { start = first_piece; end = end_piece ∙ ap length added.put_pieces };
-      first_len = refl;
-      last = rw (← added.put_pieces) last;
       is_cut = cut;
       needed = needed;
       ranked = rw (← len) c.rank_of.ensures;
     } in
-    let all = last.put ∙ ap (λ (p : List Piece). p ++ last.added) added.put_pieces
-    ∙ append_assoc old.pieces.items added.pieces last.added in
-    rw (c.in_ok-push.ensures.items, text, all, added.put_tables)
-    (entries_pushed old_text more old.pieces.items (added.pieces ++ last.added) old.borders.items added.tables
-    old.entries.items _ c.requires (rw (← all, ← added.put_tables) (entry_new _ _ _ _ _ _ _ _ pushed)))
+    rw (c.in_ok-push.ensures.items, text, added.put_pieces, added.put_tables)
+    (entries_pushed old_text more old.pieces.items added.pieces old.borders.items added.tables
+    old.entries.items _ c.requires (rw (← added.put_tables) (entry_new _ _ _ _ _ _ pushed)))
 
 pub returns-clause-added : goal.returns-clause-added
 returns-clause-added c =

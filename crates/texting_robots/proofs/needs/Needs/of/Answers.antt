@@ -6,12 +6,12 @@ use Rattle.texting_robots.specs.declared.pieces.Piece.{Piece}
 use Rattle.texting_robots.specs.Steps.Needs.{pair_set}
 use Rattle.texting_robots.specs.Steps.Pieces.{no_piece, part_of}
 use Rattle.texting_robots.proofs.NeedLemmas.{are_needs, or_assoc, piece_pairs}
-use Rattle.texting_robots.proofs.pieces.Pattern.needs.Goals as goal
+use Rattle.texting_robots.proofs.needs.Needs.of.Goals as goal
 
 pub loop-piece-preserved : goal.loop-piece-preserved
 loop-piece-preserved c =
-    let pattern = c.self.inside.bytes.now in
-    let pieces = c.self.inside.pieces.now in
+    let pattern = c.pattern.inside.bytes.now in
+    let pieces = c.pattern.inside.pieces.now in
     let at = c.loop-piece.piece-index in
     let bits = c.loop-piece.pairs.bits in
     let rest = piece_pairs pattern (drop (at + 1) pieces) in
@@ -23,11 +23,11 @@ loop-piece-preserved c =
 
 pub returns : goal.returns
 returns c =
-    let pattern = c.self.inside.bytes.now in
-    let pieces = c.self.inside.pieces.now in
+    let pattern = c.pattern.inside.bytes.now in
+    let pieces = c.pattern.inside.pieces.now in
     let bits = c.loop-piece.pairs.bits in
     let none = drop_all c.loop-piece.piece-index pieces c.loop-piece-test.false in
     let all : bits ≡ piece_pairs pattern pieces =
     sym (or_zero_r bits) ∙ ap (λ (left : List Piece). bit_or bits (piece_pairs pattern left)) (sym none)
     ∙ c.loop-piece.invariant in
-    rw (← c.self.view_is) (are_needs _ c.self.invariant c.of-head.ensures all)
+    rw (← c.pattern.view_is) (are_needs _ c.pattern.invariant c.of-head.ensures all)

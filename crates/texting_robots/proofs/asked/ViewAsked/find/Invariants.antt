@@ -1,17 +1,17 @@
 use Rattle.std.proofs.Common.{◌≡◌, ◌+◌, ◌-◌, ◌*◌, ◌≤◌, length}
 use Rattle.texting_robots.proofs.BorderLemmas.{IsFirstOpen}
-use Rattle.texting_robots.proofs.pieces.find.Given as goal
+use Rattle.texting_robots.proofs.asked.ViewAsked.find.Given as goal
 
 -- the looks are at most twice the places passed, less the bytes matched
 abbrev pub invariant-loop-matched : goal.invariant-loop-matched
 invariant-loop-matched l =
     record {
-      text : l.view.text ≡ l.fn.view.text;
+      text : l.self.text ≡ l.fn.self.text;
       within : l.place ≤ l.len;
       matched : l.matched ≤ length l.piece;
-      first : IsFirstOpen l.fn.view.text l.piece l.from (length l.fn.view.text) l.place l.matched;
-      grows : l.fn.view.looks ≤ l.view.looks;
-      looks : l.view.looks + l.matched + 2 * l.from ≤ l.fn.view.looks + 2 * l.place;
+      first : IsFirstOpen l.fn.self.text l.piece l.from (length l.fn.self.text) l.place l.matched;
+      grows : l.fn.self.looks ≤ l.self.looks;
+      looks : l.self.looks + l.matched + 2 * l.from ≤ l.fn.self.looks + 2 * l.place;
     }
 
 abbrev pub decreases-loop-matched : goal.decreases-loop-matched

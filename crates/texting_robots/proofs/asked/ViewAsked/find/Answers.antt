@@ -3,17 +3,17 @@ use Rattle.std.proofs.lemmas.Bool.{iff_false}
 use Rattle.texting_robots.specs.Steps.Stars.{IsBehindFirst}
 use Rattle.texting_robots.proofs.BorderLemmas.{open_back, open_found, open_more, open_next, open_none}
 use Rattle.texting_robots.proofs.PlacingLemmas.{behind_found, found_nowhere}
-use Rattle.texting_robots.proofs.pieces.find.Goals as goal
+use Rattle.texting_robots.proofs.asked.ViewAsked.find.Goals as goal
 
 pub returns-then-place-len-clause-none : goal.returns-then-place-len-clause-none
 returns-then-place-len-clause-none c =
     let none = open_none c.loop-matched.invariant.first c.loop-matched-test.true (omega arith) in
-    found_nowhere c.args.view.now.text c.args.piece.now c.args.from c.requires.from none
+    found_nowhere c.args.self.now.text c.args.piece.now c.args.from c.requires.from none
 
 pub loop-matched-preserved-then-same : goal.loop-matched-preserved-then-same
 loop-matched-preserved-then-same c =
     let i = c.loop-matched.invariant in
-    let one_more : c.same.new.self.looks ≡ c.loop-matched.view.looks + 1 = c.same.ensures.looks in
+    let one_more : c.same.new.self.looks ≡ c.loop-matched.self.looks + 1 = c.same.ensures.looks in
     let same = rw i.text at (c.same.ensures.answer.0 c.if-same.true) in
     record {
       text = c.same.ensures.text ∙ i.text;
@@ -27,7 +27,7 @@ loop-matched-preserved-then-same c =
 pub loop-matched-preserved-then-matched-eq0 : goal.loop-matched-preserved-then-matched-eq0
 loop-matched-preserved-then-matched-eq0 c =
     let i = c.loop-matched.invariant in
-    let one_more : c.same.new.self.looks ≡ c.loop-matched.view.looks + 1 = c.same.ensures.looks in
+    let one_more : c.same.new.self.looks ≡ c.loop-matched.self.looks + 1 = c.same.ensures.looks in
     let differs = rw i.text at (iff_false c.same.ensures.answer c.if-same.false) in
     record {
       text = c.same.ensures.text ∙ i.text;
@@ -41,7 +41,7 @@ loop-matched-preserved-then-matched-eq0 c =
 pub loop-matched-preserved : goal.loop-matched-preserved
 loop-matched-preserved c =
     let i = c.loop-matched.invariant in
-    let one_more : c.same.new.self.looks ≡ c.loop-matched.view.looks + 1 = c.same.ensures.looks in
+    let one_more : c.same.new.self.looks ≡ c.loop-matched.self.looks + 1 = c.same.ensures.looks in
     let differs = rw i.text at (iff_false c.same.ensures.answer c.if-same.false) in
     let long = c.requires.table.long in
     let longest = c.requires.table.borders c.loop-matched.matched (omega arith) (omega arith) in
@@ -58,7 +58,7 @@ loop-matched-preserved c =
 pub returns-clause-some : goal.returns-clause-some
 returns-clause-some c =
     let i = c.loop-matched.invariant in
-    let text = c.args.view.now.text in
+    let text = c.args.self.now.text in
     let piece = c.args.piece.now in
     let place = c.loop-matched.place in
     let behind = i.first.behind in
