@@ -30,9 +30,9 @@ use Rattle.url.specs.Scheme.{IsScheme, default_port, scheme_len, scheme_type}
 use Rattle.url.specs.Host.{IsDomainOf, IsHostOf}
 use Rattle.url.specs.Ipv4.{ends_in_a_number, is_number, last_label_of, parse_number}
 use Rattle.url.specs.Path.{IsSegmentList}
-use Rattle.url.specs.Parts.{IsPortOf, IsValid, Parts, query_set, serialize}
+use Rattle.url.specs.Parts.{IsPortOf, IsValid, Parts, query_set, serialize, text_before}
 use Rattle.url.specs.Parser.{Parsed, parse_url}
-use Rattle.url.specs.declared.slicing.Position.TheVariants.{AfterPort, BeforeUsername}
+use Rattle.url.specs.declared.slicing.Position.TheVariants.{AfterPort, BeforePath, BeforeUsername}
 use Rattle.url.specs.Input.{is_c0_control_or_space, is_tab_or_new_line, strip_tabs_and_new_lines}
 use Rattle.url.specs.Input.{trim_c0_control_and_space}
 use Rattle.url.specs.Head.{head_only, without_tail}
@@ -181,6 +181,10 @@ tail_text None None = refl
 tail_text None (Some fragment) = simp append-nil
 tail_text (Some query) None = simp append-nil
 tail_text (Some query) (Some fragment) = simp append-nil
+
+-- the target stands at the end of a URL's text
+pub target_last : (u : Parts) → serialize u ≡ text_before u BeforePath ++ target_of u
+target_last u = simp (append_assoc, append-nil, ← tail_text u.query u.fragment)
 
 prepared_parsed : (url : List ℕ) (u : Parts) → 0 < length url → parse_url None url ≡ Ok u
     → prepared url ≡ target_of u

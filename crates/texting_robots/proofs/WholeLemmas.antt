@@ -2,7 +2,7 @@
 use Rattle.std.proofs.Common.{◌≡◌, ℕ, ◌<◌, ◌≤◌, Bool, true, false, ◌||◌, ◌==◌, not}
 use Rattle.std.proofs.Common.{List, [], ◌∷◌, ◌++◌, length, get_or, drop, drop_at, take_at, All}
 use Rattle.std.proofs.Common.{sym, refl, ap, ◌∙◌, ◌≢◌, subst, ⊎_elim, inl, inr, arith}
-use Rattle.std.proofs.Common.{append_assoc, one-add}
+use Rattle.std.proofs.Common.{append_assoc}
 use Rattle.std.proofs.Common.{take-append-drop}
 use Rattle.std.proofs.Common.{◌^◌, None, Some, decimal, suc, zero}
 use Rattle.std.specs.Prelude.{Option, codes, nat_lt, option_map, slice_index}
@@ -15,7 +15,12 @@ use Rattle.url.proofs.HostRoundTrip.{All-decimal}
 use Rattle.std.proofs.lemmas.Bool.{agree_below, agree_below_at, and_parts, cases_lt, eqb-true, false≢true}
 use Rattle.std.proofs.lemmas.Bool.{le-ltb}
 use Rattle.std.proofs.lemmas.Bool.Decides.{nat_tests}
-use Rattle.std.proofs.lemmas.List.{get_or_past}
+use Rattle.std.proofs.lemmas.List.{get_or_past, length-take-le, drop-drop}
+use Rattle.std.proofs.lemmas.Bool.{cond-true, cond-false, ne_eqb, eq-eqb}
+use Rattle.std.proofs.lemmas.List.Folds.{prefix_len-append}
+use Rattle.std.proofs.lemmas.List.Sums.{prefix_len-le-length}
+use Rattle.std.proofs.Common.{cond, take, ◌+◌}
+use Rattle.std.specs.List.{prefix_len}
 use Rattle.std.proofs.lemmas.List.Elements.{All-head, All-tail, All-weaker}
 use Rattle.percent_encoding.specs.declared.ascii_set.AsciiSet.{AsciiSet}
 use Rattle.percent_encoding.specs.AsciiSet.{contains}
@@ -77,10 +82,28 @@ module _ (part : ℕ) (set : AsciiSet) (other : ℕ → Bool)
 
 -- ---- the bytes at the front
 
-pub after_next : (part : ℕ) (text : List ℕ) → 0 < length text → Passes (stands part) (get_or text 0 0)
-    → after part (drop 1 text) ≡ after part text
-after_next part [] some passes = absurd (omega arith)
-after_next part (b ∷ text) some passes = rw (passes, one-add) refl
+-- the bytes at the front by some of them: if all these stand, the next ones count too
+module _ (part n : ℕ) (text : List ℕ) (inside : n ≤ length text) where
+  abbrev few : ℕ
+  few = prefix_len (stands part) (take n text)
+
+  by_few : prefix_len (stands part) text ≡ cond (few == n) (n + prefix_len (stands part) (drop n text)) few
+  by_few =
+      ap (prefix_len (stands part)) (sym (take-append-drop n text)) ∙ prefix_len-append _ (take n text) _
+      ∙ ap (λ k. cond (few == k) (k + prefix_len (stands part) (drop n text)) few)
+      (length-take-le n text inside)
+
+  pub after_few : few < n → drop few text ≡ after part text
+  after_few less = ap (λ k. drop k text) (sym (by_few ∙ cond-false _ _ _ (ne_eqb few n (λ e. omega arith))))
+
+  pub after_all : n ≤ few → after part (drop n text) ≡ after part text
+  after_all all =
+      let same : few ≡ n = omega (
+        arith,
+        prefix_len-le-length (stands part) (take n text),
+        length-take-le n text inside,
+      ) in
+      drop-drop _ n text ∙ ap (λ k. drop k text) (sym (by_few ∙ cond-true _ _ _ (eq-eqb few n same)))
 
 module _ (part : ℕ) (xs ys : List ℕ) (passes : All (Passes (stands part)) xs)
     (stops : StopsAt (stands part) ys) where

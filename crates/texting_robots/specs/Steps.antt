@@ -16,6 +16,5 @@ pub mod Stars
 pub mod Pieces
 pub mod Entries
 pub mod Needs
-pub mod Prepared
 pub mod Robot
 pub mod Whole

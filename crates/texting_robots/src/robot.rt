@@ -11,7 +11,7 @@ ghost use Rattle.texting_robots.specs.Verdict.{IsVerdict};
 
 pub use crate::decision::Decision;
 use crate::error::Error;
-use crate::prepared::{Prepared, target};
+use crate::prepared::{prepare, target};
 use crate::reading::read_file;
 use crate::rules::Rules;
 use crate::view::View;
@@ -89,7 +89,7 @@ impl Robot {
         ensures ok { IfOk result (λ text. string_bytes text ≡ prepared url.now) }
         ensures memory { IfErr result (λ e. e ≡ Error.Memory) }
     {
-        Ok(Prepared::new(alloc, url)?.into_string(alloc)?)
+        Ok(prepare(alloc, url)?.into_owned(alloc)?)
     }
 
     /// Whether the crawler may fetch a URL, or a path by itself. A path of which nothing is escaped takes no memory, nor does a
@@ -104,10 +104,8 @@ impl Robot {
         ensures memory { IfErr result (λ e. e ≡ Error.Memory) }
         ensures without_memory { TakesNoMemory url.now → IsOk result }
     {
-        match Prepared::new(alloc, url)? {
-            Prepared::Address(url) => Ok(self.allowed_url(&url)),
-            text => Ok(self.allowed_prepared(text.as_str())),
-        }
+        let text = prepare(alloc, url)?;
+        Ok(self.allowed_prepared(text.as_str()))
     }
 
     /// Whether the crawler may fetch a URL that is parsed already. It takes no memory.

@@ -2,6 +2,7 @@
 ghost use Rattle.std.specs.Prelude.{◌≡◌, ◌≤◌, ◌^◌, ◌<◌, ◌==◌, ℕ, List, Option, not, decimal, length, slice_index};
 ghost use Rattle.std.specs.Prelude.{IfSome, IsSome, IsSomeAnd};
 ghost use Rattle.std.specs.Char.{is_ascii_lowercase};
+ghost use Rattle.std.specs.List.{prefix_len};
 ghost use Rattle.url.specs.{Input.rsplit_once, Path.dot_count, Path.dot_len};
 ghost use Rattle.texting_robots.specs.Plain.{IsAuthority, IsPath, IsPlainUrl, IsPort, IsSite};
 ghost use Rattle.texting_robots.specs.Prepared.{prepared};
@@ -38,18 +39,27 @@ fn stands(part: u8, byte: u8) -> bool
     STANDS[usize::from(byte)] & part != 0
 }
 
-/// What follows the bytes at the front that stand in such a part.
+/// How many bytes at the front stand in such a part.
+fn front_len(part: u8, text: &[u8]) -> usize
+    ensures value { result ≡ prefix_len (stands part) text.now }
+    ensures within { result ≤ length text.now }
+{
+    text.iter().take_while(|byte| stands(part, **byte)).count()
+}
+
+/// What follows the bytes at the front that stand in such a part. Eight are looked at without a look for the end of the text.
 fn after(part: u8, text: &[u8]) -> &[u8]
     ensures { result.now ≡ after part text.now }
 {
     let mut rest = text;
-    while let [byte, more @ ..] = rest {
-        if !stands(part, *byte) {
-            break;
+    while let Some((eight, more)) = rest.split_first_chunk::<8>() {
+        let len = front_len(part, eight);
+        if len < 8 {
+            return &rest[len..];
         }
         rest = more;
     }
-    rest
+    &rest[front_len(part, rest)..]
 }
 
 /// The bytes at the front that stand in such a part, and what follows them.

@@ -1,7 +1,7 @@
 use Rattle.std.proofs.Common.{sym, ◌∙◌, lit<}
 use Rattle.std.proofs.lemmas.Str.Pattern.{starts_char}
 use Rattle.texting_robots.proofs.SlashLemmas.{slash_prepared}
-use Rattle.texting_robots.proofs.prepared.Prepared.new.Goals as goal
+use Rattle.texting_robots.proofs.prepared.prepare.Goals as goal
 
 pub returns-then-starts_with-clause-ok : goal.returns-then-starts_with-clause-ok
 returns-then-starts_with-clause-ok c =
