@@ -5,8 +5,11 @@ use Rattle.url.specs.Parser.{IsOutOfRoom}
 use Rattle.url.specs.declared.error.ParseError.{ParseError}
 use Rattle.texting_robots.specs.Callers.{IsFileRefused, IsMemoryOr, file_limit, robots_address}
 use Rattle.robots_callers.specs.declared.cache.CacheError.{CacheError}
-use Rattle.robots_callers.specs.declared.cache.TheConstants.{MOST}
 use Rattle.robots_callers.specs.declared.cache.CacheError.TheVariants.{Url, File, Memory}
+
+-- how many robots a cache keeps at most
+abbrev pub most_robots : ℕ
+most_robots = 64
 
 -- the error for which the URL has no address, or want of memory
 abbrev pub IsNoAddressOrMemory : List ℕ → ParseError → Type 0
@@ -20,9 +23,10 @@ IsWhyNotKept agent url file (File error) =
 IsWhyNotKept agent url file Memory = IsOk (robots_address url)
     × (¬ IsFileRefused agent (take file_limit file))
 
--- the entries; where there are `MOST` and none has the address, without the first
+-- the entries; where there are `most_robots` and none has the address, without the first
 abbrev pub with_room : {E : Type 0} → Bool → List E → List E
-with_room is_known entries = if nat_lt (length entries) MOST || is_known then entries else remove entries 0
+with_room is_known entries =
+    if nat_lt (length entries) most_robots || is_known then entries else remove entries 0
 
 -- the entries that are left after this error: all, but room was made where memory for one more was refused
 abbrev pub left_after : {E : Type 0} → CacheError → List E → List E

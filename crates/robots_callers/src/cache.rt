@@ -2,9 +2,8 @@
 ghost use Rattle.std.specs.Prelude.{◌≡◌, ◌+◌, ◌-◌, ◌≤◌, ℕ, if◌then◌else◌, is_some, IfErr, IfOk, IsSomeAnd, List, None, Ok, OnErr, OnOk, Some, option_copied, remove, string_bytes, take};
 ghost use Rattle.std.specs.String.{string_eq};
 ghost use Rattle.indexmap.specs.IndexMap.{get_by_text, index_map_len, insert_entry};
-ghost use Rattle.robots_callers.specs.Cache.{IsNoAddressOrMemory, IsWhyNotKept, left_after, with_room};
+ghost use Rattle.robots_callers.specs.Cache.{IsNoAddressOrMemory, IsWhyNotKept, left_after, most_robots, with_room};
 ghost use Rattle.robots_callers.specs.declared.cache.CacheError.TheVariants.{Memory};
-ghost use Rattle.robots_callers.specs.declared.cache.TheConstants.{MOST};
 ghost use Rattle.texting_robots.specs.Callers.{IsRobotOfFile, file_limit, robots_address};
 
 use indexmap::IndexMap;
@@ -21,10 +20,10 @@ pub const MOST: usize = 64;
 pub enum CacheError {
     /// The URL has no address of a robots.txt file, or memory for it was refused.
     #[error("No address of a robots.txt file: {0}")]
-    Url(#[source] ParseError),
+    Url(ParseError),
     /// The file is refused for the agent, or memory for the robot was.
     #[error("No robot: {0}")]
-    File(#[source] texting_robots::Error),
+    File(texting_robots::Error),
     /// Memory for one more entry was refused.
     #[error("Out of memory")]
     Memory,
@@ -61,8 +60,8 @@ fn forget_oldest(robots: &mut IndexMap<String, Robot>)
 
 /// Makes room for the robot of an address.
 fn make_room(robots: &mut IndexMap<String, Robot>, address: &str)
-    requires { index_map_len robots.old ≤ MOST }
-    ensures room { index_map_len robots.new + (if is_some (get_by_text robots.new address.now) then 0 else 1) ≤ MOST }
+    requires { index_map_len robots.old ≤ most_robots }
+    ensures room { index_map_len robots.new + (if is_some (get_by_text robots.new address.now) then 0 else 1) ≤ most_robots }
     ensures entries { robots.new.entries
         ≡ with_room (is_some (get_by_text robots.old address.now)) robots.old.entries }
 {
@@ -78,8 +77,8 @@ fn add(
     address: String,
     robot: Robot,
 ) -> Result<(), CacheError>
-    requires { index_map_len robots.old + (if is_some (get_by_text robots.old (string_bytes address)) then 0 else 1) ≤ MOST }
-    ensures bounded { index_map_len robots.new ≤ MOST }
+    requires { index_map_len robots.old + (if is_some (get_by_text robots.old (string_bytes address)) then 0 else 1) ≤ most_robots }
+    ensures bounded { index_map_len robots.new ≤ most_robots }
     ensures kept { OnOk result (get_by_text robots.new (string_bytes address) ≡ Some robot) }
     ensures entries { OnOk result (robots.new.entries
         ≡ insert_entry string_eq robots.old.entries address robot) }
@@ -99,7 +98,7 @@ fn add(
 pub struct Cache {
     /// By the address of the file.
     pub robots: IndexMap<String, Robot>,
-    ghost bounded: { index_map_len robots ≤ MOST },
+    ghost bounded: { index_map_len robots ≤ most_robots },
 }
 
 impl Cache {
