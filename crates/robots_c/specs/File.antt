@@ -21,3 +21,8 @@ IsFirstOverlong agent number lines =
 -- the same of the lines in the first bytes of the file
 abbrev pub IsFirstOverlongOf : List ℕ → List ℕ → ℕ → Type 0
 IsFirstOverlongOf agent file number = HasLines (take file_limit file) (IsFirstOverlong agent number)
+
+-- some file gives some agent this robot
+abbrev pub IsRobotOfSomeFile : RobotValue → Type 0
+IsRobotOfSomeFile robot =
+    (agent : List ℕ) × (file : List ℕ) × IsRobotOfFile agent (take file_limit file) robot

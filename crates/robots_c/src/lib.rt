@@ -7,19 +7,21 @@
 ghost use Rattle.std.specs.Prelude.{◌≡◌, ◌≢◌, ◌⊎◌, ℤ, List, Some, length, pos};
 ghost use Rattle.std.specs.List.{AllZip};
 ghost use Rattle.robots_c.specs.Answer.{IsAnswer, urls_in};
-ghost use Rattle.robots_c.specs.File.{GivesRobot};
-ghost use Rattle.robots_c.specs.Status.{AreSitemaps, HasFault, IsAddress, IsWhyNoAddress, IsWhyNoAnswers};
-ghost use Rattle.robots_c.specs.Status.{IsWhyNoDelay, IsWhyNoRobot, status_of};
+ghost use Rattle.robots_c.specs.File.{GivesRobot, IsRobotOfSomeFile};
+ghost use Rattle.robots_c.specs.Status.{AreSitemaps, HasFault, IsAddress, IsWhyNoAddress, IsWhyNoAnswer};
+ghost use Rattle.robots_c.specs.Status.{IsWhyNoAnswers, IsWhyNoDelay, IsWhyNoRobot, status_of};
 ghost use Rattle.robots_c.specs.Text.{IsPutIn, IsTooLong, IsWritten};
 
 mod fault;
 mod file;
+pub mod handle;
 mod overlong;
 mod texts;
 mod urls;
 
 use fault::Fault;
 use file::delay_of;
+use handle::{Handle, ask, open, place_of};
 use std::alloc::Global;
 use texts::{address, put, sitemaps};
 use urls::decide;
@@ -100,4 +102,51 @@ pub extern "C" fn robots_address(alloc: Global, url: &[u8], out: &mut [u8], len:
         Ok(text) => put(&text, out, len),
         Err(fault) => fault.status(),
     }
+}
+
+/// Reads a file for a crawler, and writes where the robot lies that it gives: a handle, for `robots_ask` and `robots_close`.
+#[unsafe(no_mangle)]
+pub extern "C" fn robots_open(alloc: Global, agent: &[u8], file: &[u8], out: &mut *mut u8) -> i32
+    ensures refused { result ≢ pos 0 → out.new ≡ out.old }
+    ensures why { HasFault (IsWhyNoRobot agent.now file.now) result }
+{
+    match open(alloc, agent, file) {
+        Ok(robot) => {
+            *out = place_of(robot);
+            0
+        }
+        Err(fault) => fault.status(),
+    }
+}
+
+/// Answers for one URL as `robots_decide` does, and hands the handle back, whatever the status.
+#[unsafe(no_mangle)]
+pub extern "C" fn robots_ask(
+    alloc: Global,
+    robot: Handle,
+    url: &[u8],
+    out: &mut i64,
+    again: &mut *mut u8,
+) -> i32
+    requires { IsRobotOfSomeFile robot.value }
+    ensures answered { result ≡ pos 0 → IsAnswer robot.value.rules url.now out.new }
+    ensures refused { result ≢ pos 0 → out.new ≡ out.old }
+    ensures why { HasFault (IsWhyNoAnswer url.now) result }
+{
+    let robot = robot.into_box();
+    let answer = ask(alloc, &robot, url);
+    *again = place_of(robot);
+    match answer {
+        Ok(number) => {
+            *out = number;
+            0
+        }
+        Err(fault) => fault.status(),
+    }
+}
+
+/// Frees what a handle owns.
+#[unsafe(no_mangle)]
+pub extern "C" fn robots_close(robot: Handle) {
+    drop(robot.into_box());
 }
