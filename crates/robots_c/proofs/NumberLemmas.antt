@@ -1,5 +1,6 @@
 -- That a number says a decision, and that the number fits.
-use Rattle.std.proofs.Common.{◌≡◌, ℕ, zero, suc, ◌+◌, ◌<◌, ◌≤◌, ◌^◌, Bool, true, false}
+use Rattle.std.proofs.Common.{◌≡◌, ℕ, zero, suc, ◌+◌, ◌<◌, ◌≤◌, ◌^◌, Bool}
+use Rattle.std.proofs.Common.{true, false}
 use Rattle.std.proofs.Common.{List, [], ◌∷◌, ◌++◌, Bor, Option, Some, None, IfSome, ℤ}
 use Rattle.std.proofs.Common.{arith, length, map, refl, slice_index_or, subst, take}
 use Rattle.std.specs.List.{AllZip}
@@ -48,7 +49,8 @@ lines_counted : (text : List ℕ) → length (file_lines text) ≤ length text
 lines_counted text =
     let read : List ℕ = map nul_as_lf text in
     let within : length (lines_of (without_front read)) ≤ length read =
-    subst (λ t. length (lines_of t) ≤ length read) (read_as_is (without_front read)) (lines_within false read) in
+    subst (λ t. length (lines_of t) ≤ length read) (read_as_is (without_front read))
+    (lines_within false read) in
     omega (arith, within, length-map text nul_as_lf)
 
 pub few_lines : (file : List ℕ) → length (lines_read file) ≤ file_limit

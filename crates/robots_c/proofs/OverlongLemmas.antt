@@ -1,7 +1,9 @@
 -- Which line is the first with an overlong rule.
-use Rattle.std.proofs.Common.{◌≡◌, inl, inr, ℕ, zero, suc, ◌<◌, ◌≤◌, Bool, true, false, IsTrue}
+use Rattle.std.proofs.Common.{◌≡◌, inl, inr, ℕ, zero, suc, ◌<◌, ◌≤◌, Bool}
+use Rattle.std.proofs.Common.{true, false, IsTrue}
 use Rattle.std.proofs.Common.{List, [], ◌∷◌, Option, Some, None, arith, drop, map}
-use Rattle.std.proofs.Common.{option_map, refl, rules, slice_get, subst, sym, ap, ◌∙◌, if◌then◌else◌, length}
+use Rattle.std.proofs.Common.{option_map, refl, rules, slice_get, subst, sym, ap, ◌∙◌}
+use Rattle.std.proofs.Common.{if◌then◌else◌, length}
 use Rattle.std.proofs.Math.Seq.{drop-nil}
 use Rattle.std.proofs.lemmas.Bool.{cases_lt}
 use Rattle.std.proofs.lemmas.Str.{IsUtf8-from_is_utf8, is_utf8-from_IsUtf8}
@@ -49,7 +51,8 @@ mark_there : (lines : List LineValue) (marks : List Mark) (place : ℕ) (line : 
     → map (λ (mark : Mark). mark.line) marks ≡ lines → slice_get lines place ≡ Some line
     → (mark : Mark) × (slice_get marks place ≡ Some mark) × (mark.line ≡ line)
 mark_there lines marks place line are is = from (slice_get marks place) refl
-    (sym (slice_get-map (λ (mark : Mark). mark.line) marks place) ∙ ap (λ ls. slice_get ls place) are ∙ is)
+    (sym (slice_get-map (λ (mark : Mark). mark.line) marks place)
+    ∙ ap (λ ls. slice_get ls place) are ∙ is)
   where
     from : (found : Option Mark) → slice_get marks place ≡ found
         → option_map (λ (mark : Mark). mark.line) found ≡ Some line
@@ -112,7 +115,8 @@ marked_is_overlong agent lines place mark at (own, has) =
     ∙ slice_get-map (λ (mark : Mark). mark.line) (marks_of name lines) place
     ∙ ap (option_map (λ (mark : Mark). mark.line)) at in
     held agent lines place mark.line has line
-    (λ isnt. captured_if_own name lines place mark.line mark.standing line isnt own (are.each place mark at).1)
+    (λ isnt. captured_if_own name lines place mark.line mark.standing line isnt own
+    (are.each place mark at).1)
 
 -- ---- along the marks
 
@@ -127,7 +131,8 @@ pub all_left : (agent : List ℕ) (lines : List LineValue) (marks : List Mark)
 all_left agent lines marks are =
     record { passed = 0; left = are; none = λ place below. absurd (omega (arith, below)) }
 
-head_at : (all : List Mark) (place : ℕ) (mark : Mark) (marks : List Mark) → mark ∷ marks ≡ drop place all
+head_at : (all : List Mark) (place : ℕ) (mark : Mark) (marks : List Mark)
+    → mark ∷ marks ≡ drop place all
     → (slice_get all place ≡ Some mark) × (marks ≡ drop (suc place) all)
 head_at [] place mark marks are = let nil = drop-nil {A = Mark} place in cc
 head_at (first ∷ all) zero mark marks are = (cc, cc)
@@ -154,7 +159,8 @@ next_left agent lines mark marks left isnt =
     }
 
 pub first_found : (agent : List ℕ) (lines : List LineValue) (mark : Mark) (marks : List Mark)
-    → AreLeft agent lines (mark ∷ marks) → IsOwnOverlong mark → IsFirstOverlong agent mark.number lines
+    → AreLeft agent lines (mark ∷ marks) → IsOwnOverlong mark
+    → IsFirstOverlong agent mark.number lines
 first_found agent lines mark marks left own =
     let (at, rest) = head_at _ left.passed mark marks left.left in (
       left.passed,
@@ -166,7 +172,8 @@ first_found agent lines mark marks left own =
       ],
     )
 
-pub some_left : (agent : List ℕ) (lines : List LineValue) → AreLeft agent lines [] → ¬ IsRefused agent lines
+pub some_left : (agent : List ℕ) (lines : List LineValue) → AreLeft agent lines []
+    → ¬ IsRefused agent lines
 some_left agent lines left (place, rule, holds, overlong) =
     let all = marks_of (group_name agent lines) lines in
     let (mark, at, own) = overlong_is_marked agent lines place (rule, holds, overlong) in

@@ -1,5 +1,6 @@
 -- What C is told where there is no answer.
-use Rattle.std.specs.Prelude.{◌≡◌, ◌⊎◌, ℕ, ◌<◌, ℤ, pos, negsuc, List, ⊤, None, Ok, Err, IsUtf8, length}
+use Rattle.std.specs.Prelude.{◌≡◌, ◌⊎◌, ℕ, ◌<◌, ℤ, pos, negsuc, List, ⊤}
+use Rattle.std.specs.Prelude.{None, Ok, Err, IsUtf8, length}
 use Rattle.robots_io.specs.Lines.{ended}
 use Rattle.texting_robots.specs.Callers.{RobotValue, robots_address}
 use Rattle.url.specs.declared.error.ParseError.{ParseError}
@@ -24,7 +25,8 @@ HasFault Why status = (status ≡ pos 0) ⊎ ((fault : Fault) × Why fault × (s
 
 -- the number is that of the first line with an overlong rule for the agent
 abbrev pub IsOverlongLine : List ℕ → List ℕ → ℤ → Type 0
-IsOverlongLine agent file line = (number : ℕ) × (line ≡ pos number) × IsFirstOverlongOf agent file number
+IsOverlongLine agent file line =
+    (number : ℕ) × (line ≡ pos number) × IsFirstOverlongOf agent file number
 
 -- this fault is why the file gives no robot; want of memory can always be
 abbrev pub IsWhyNoRobot : List ℕ → List ℕ → Fault → Type 0

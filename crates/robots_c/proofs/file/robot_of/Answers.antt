@@ -9,4 +9,5 @@ returns-in_ok-overlong_line-in-Err-InvalidRule-clause-fault c =
     let line = c.in_ok-overlong_line-in-Err-InvalidRule in
     let fits : SFits w32 line.field-0 = search rules in
     rw (to_z-of_z w32 line.field-0 fits)
-    (subst (λ agent. IsOverlongLine agent c.args.file.now line.field-0) c.in_ok-agent.ensures.ok line.ensures)
+    (subst (λ agent. IsOverlongLine agent c.args.file.now line.field-0) c.in_ok-agent.ensures.ok
+    line.ensures)
