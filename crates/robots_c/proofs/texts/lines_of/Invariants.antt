@@ -1,0 +1,7 @@
+use Rattle.std.proofs.Common.{◌≡◌, map, string_bytes, take}
+use Rattle.robots_io.specs.Lines.{ended}
+use Rattle.robots_c.proofs.texts.lines_of.Given as goal
+
+abbrev pub invariant-loop-text : goal.invariant-loop-text
+invariant-loop-text l =
+    string_bytes l.lines ≡ ended (map string_bytes (take l.text-index l.texts))

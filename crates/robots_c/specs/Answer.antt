@@ -1,0 +1,44 @@
+-- What C is told of URLs.
+use Rattle.std.specs.Prelude.{ℕ, suc, zero, ◌<◌, ◌==◌, ◌^◌, Bool, true, false}
+use Rattle.std.specs.Prelude.{ℤ, pos, negsuc, neg_ℤ, List, Option, Some, None}
+use Rattle.std.specs.List.{slice_split}
+use Rattle.texting_robots.specs.Callers.{IsDecidingLine, IsVerdict, PlacedRule, prepared, unplaced}
+
+-- ---- URLs in one text
+
+abbrev pub lf : ℕ
+lf = 10
+
+-- the URLs that stand in a text with an LF between one and the next: one more than it has LFs
+abbrev pub urls_in : List ℕ → List (List ℕ)
+urls_in text = slice_split (λ byte. byte == lf) text
+
+-- ---- an answer as one number
+
+-- a number of 0 or more allows
+abbrev pub is_allowed : ℤ → Bool
+is_allowed (pos n) = true
+is_allowed (negsuc n) = false
+
+-- 0 names no line, and n and -n name line n
+abbrev pub line_of : ℤ → Option ℕ
+line_of (pos zero) = None
+line_of (pos (suc n)) = Some (suc n)
+line_of (negsuc n) = Some (suc n)
+
+-- the number says the rules' verdict on the URL, and names the line that decides
+pub record IsAnswer (rules : List PlacedRule) (url : List ℕ) (number : ℤ) : Type 0 where
+  pub verdict : IsVerdict (unplaced rules) (prepared url) (is_allowed number)
+  pub deciding : IsDecidingLine rules (prepared url) (line_of number)
+
+-- ---- how the number is made
+
+abbrev pub number_of : Bool → Option ℕ → ℤ
+number_of allowed None = pos 0
+number_of true (Some line) = pos line
+number_of false (Some line) = neg_ℤ (pos line)
+
+-- each line that decides has a number that fits
+abbrev pub LinesFit : List PlacedRule → Type 0
+LinesFit rules =
+    (text : List ℕ) (line : ℕ) → IsDecidingLine rules text (Some line) → (0 < line) × (line < 2 ^ 63)

@@ -1,0 +1,5 @@
+pub mod Answer
+pub mod File
+pub mod Status
+pub mod Steps
+pub mod Text

@@ -1,0 +1,14 @@
+-- What is written to C's memory.
+use Rattle.std.specs.Prelude.{◌≡◌, ℕ, ◌<◌, List, ◌++◌, drop, length}
+
+-- the items stand at the front, and what stood behind them is as it was
+abbrev pub IsPutIn : {X : Type 0} → List X → List X → List X → Type 0
+IsPutIn old new items = new ≡ items ++ drop (length items) old
+
+-- a text of which P holds was put in, and this is its length
+abbrev pub IsWritten : (List ℕ → Type 0) → List ℕ → List ℕ → ℕ → Type 0
+IsWritten P old new written = (text : List ℕ) × P text × IsPutIn old new text × (written ≡ length text)
+
+-- a text of which P holds is longer than the room, and this is its length
+abbrev pub IsTooLong : (List ℕ → Type 0) → ℕ → ℕ → Type 0
+IsTooLong P room wanted = (text : List ℕ) × P text × (room < length text) × (wanted ≡ length text)
