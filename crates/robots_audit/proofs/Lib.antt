@@ -1,6 +1,5 @@
 pub mod AnswerLemmas
 pub mod LawLemmas
-pub mod OverlongLemmas
 pub mod PlainLemmas
 pub mod ReportLemmas
 pub mod RowLemmas

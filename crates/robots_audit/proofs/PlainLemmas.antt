@@ -1,7 +1,8 @@
 -- A report and its warnings steer no terminal.
 use Rattle.std.proofs.Common.{◌≡◌, ℕ, zero, suc, ◌<◌, ◌%◌, ◌/◌, ◌-◌, ◌==◌, Bool}
 use Rattle.std.proofs.Common.{true, false}
-use Rattle.std.proofs.Common.{List, [], ◌∷◌, ◌++◌, Option, Some, None, arith, codes, cond, decimal}
+use Rattle.std.proofs.Common.{List, [], ◌∷◌, ◌++◌, Option, Some, None, arith, codes, cond}
+use Rattle.std.proofs.Common.{decimal}
 use Rattle.std.proofs.Common.{flat_map}
 use Rattle.std.proofs.Common.{inl, inr, length, map, nat_lt, not, refl, replicate, subst, sym}
 use Rattle.std.proofs.lemmas.Bool.{cases_Bool}
@@ -13,16 +14,17 @@ use Rattle.std.specs.List.{AllByRecursion as Each, AllZip, list_any}
 use Rattle.texting_robots.specs.Callers.{Allow, CrawlDelay, Disallow, LineValue, Mark, PlacedRule, Raw}
 use Rattle.texting_robots.specs.Callers.{is_own}
 use Rattle.texting_robots.specs.Callers.{Sitemap, UserAgent, escaped}
-use Rattle.texting_robots.specs.Callers.{group_name, lines_read, marks_of, placed_rules}
+use Rattle.texting_robots.specs.Callers.{lines_read, placed_rules}
 use Rattle.texting_robots.specs.Callers.{delay_for, file_limit, is_named}
 use Rattle.texting_robots.specs.Group.{is_agent}
 use Rattle.texting_robots.specs.Escape.{escape_byte, is_escaped}
-use Rattle.robots_io.specs.Lines.{delay_line, ended, lf, line_text, verdict_line, verdict_word}
+use Rattle.robots_io.specs.Lines.{delay_line, ended, lf}
+use Rattle.robots_io.specs.Verdicts.{IsVerdictLine, line_text, verdict_front, verdict_word}
 use Rattle.robots_audit.specs.Laws.{IsPlain, is_plain}
-use Rattle.robots_audit.specs.Report.{IsReport, IsVerdictLine, group_line, note_lines, unnamed_group}
+use Rattle.robots_audit.specs.Report.{IsReport, group_line, note_lines, unnamed_group}
 use Rattle.texting_robots.specs.declared.marks.Standing.{Standing}
 use Rattle.texting_robots.specs.declared.marks.Standing.TheVariants.{Own, Other, Outside}
-use Rattle.robots_audit.specs.Rows.{kind_text, mark_text, right_aligned, row, rows}
+use Rattle.robots_audit.specs.Rows.{has_value, kind_text, mark_text, marks_for, right_aligned, row, rows}
 use Rattle.robots_audit.specs.Rows.{space, value_text, word_and_value, word_width}
 use Rattle.robots_audit.specs.Warnings.{agent_warnings, byte_warnings}
 use Rattle.robots_audit.specs.Warnings.{mark_warnings, rule_text, rule_warnings}
@@ -133,12 +135,13 @@ value_shown (CrawlDelay (Some micros)) = number micros
 value_shown (Sitemap value) = shown value
 value_shown (Raw body) = shown body
 
-in_column : (word value : List ℕ) → IsPlain word → IsPlain value → IsPlain (word_and_value word value)
-in_column word [] is value_is = is
-in_column word (byte ∷ value) is value_is =
+in_column : (line : LineValue) → IsPlain (word_and_value line)
+in_column line =
+    let word = kind_text line in
     let wide : ℕ = word_width - length word in
-    both (word ++ replicate wide space) (byte ∷ value) (both word (replicate wide space) is (blanks wide))
-    value_is
+    one_of (has_value line) (word ++ replicate wide space ++ value_text line) word
+    (both (word ++ replicate wide space) (value_text line)
+    (both word (replicate wide space) (kind line) (blanks wide)) (value_shown line)) (kind line)
 
 row_plain : (width : ℕ) (mark : Mark) → IsPlain (row width mark)
 row_plain width mark =
@@ -148,15 +151,14 @@ row_plain width mark =
     let aligned : IsPlain front =
     both (replicate (width - length digits_of) space) digits_of (blanks (width - length digits_of))
     (number mark.number) in
-    both (front ++ codes " " ++ sign_of ++ codes " ")
-    (word_and_value (kind_text mark.line) (value_text mark.line))
+    both (front ++ codes " " ++ sign_of ++ codes " ") (word_and_value mark.line)
     (of_four front (codes " ") sign_of (codes " ") aligned refl (marked mark.standing) refl)
-    (in_column (kind_text mark.line) (value_text mark.line) (kind mark.line) (value_shown mark.line))
+    (in_column mark.line)
 
-rows_plain : (agent : List ℕ) (lines : List LineValue) → Each IsPlain (rows agent lines)
-rows_plain agent lines =
-    let width = length (decimal (length lines)) in
-    each_mapped (row width) (row_plain width) (marks_of (group_name agent lines) lines)
+rows_plain : (marks : List Mark) → Each IsPlain (rows marks)
+rows_plain marks =
+    let width = length (decimal (length marks)) in
+    each_mapped (row width) (row_plain width) marks
 
 unnamed_plain : (lines : List LineValue) → IsPlain (unnamed_group lines)
 unnamed_plain lines = elim (cases_Bool (is_named (codes "*") lines)) [
@@ -191,21 +193,23 @@ line_plain : (line : Option ℕ) → IsPlain (line_text line)
 line_plain None = refl
 line_plain (Some n) = number n
 
-verdict_plain : (allowed : Bool) (line : Option ℕ) (url : List ℕ) → IsPlain url
-    → IsPlain (verdict_line allowed line url)
-verdict_plain allowed line url is =
-    of_four (verdict_word allowed) (line_text line) (codes " ") url (word_plain allowed)
-    (line_plain line) refl is
+front_plain : (allowed : Bool) (line : Option ℕ) → IsPlain (verdict_front allowed line)
+front_plain allowed line =
+    both (verdict_word allowed ++ line_text line) (codes " ")
+    (both (verdict_word allowed) (line_text line) (word_plain allowed) (line_plain line)) refl
 
 verdicts_plain : (rules : List PlacedRule) (urls lines : List (List ℕ))
-    → AllZip (IsVerdictLine rules) urls lines → Each IsPlain lines
+    → AllZip (IsVerdictLine escaped rules) urls lines → Each IsPlain lines
 verdicts_plain rules [] [] are = tt
 verdicts_plain rules [] (line ∷ lines) are = absurd are
 verdicts_plain rules (url ∷ urls) [] are = absurd are
-verdicts_plain rules (url ∷ urls) (line ∷ lines) (first, later) = (
-  subst IsPlain (sym first.whole) (verdict_plain first.allowed first.number (escaped url) (shown url)),
-  verdicts_plain rules urls lines later,
-)
+verdicts_plain rules (url ∷ urls) (line ∷ lines) (first, later) =
+    let decision = first.decision in (
+      subst IsPlain (sym first.whole)
+          (both (verdict_front decision.allowed decision.line) (escaped url)
+          (front_plain decision.allowed decision.line) (shown url)),
+      verdicts_plain rules urls lines later,
+    )
 
 pub report_plain : (agent : List ℕ) (urls : List (List ℕ)) (file text : List ℕ) (answer : Bool)
     → IsReport agent urls file text answer → IsPlain text
@@ -217,10 +221,11 @@ report_plain agent urls file text answer is =
     let verdicts : Each IsPlain said = verdicts_plain (placed_rules agent lines) urls said
     is.whole.verdicts in
     let ending = each_both (note_lines file) said (notes_plain file) verdicts in
-    let all : Each IsPlain (rows agent lines ++ back) =
-    each_both (rows agent lines) back (rows_plain agent lines)
+    let above : List (List ℕ) = rows (marks_for agent lines) in
+    let all : Each IsPlain (above ++ back) =
+    each_both above back (rows_plain (marks_for agent lines))
     (group_plain agent lines, (delay_plain delay, ending)) in
-    subst IsPlain (sym is.whole.whole) (in_lines (rows agent lines ++ back) all)
+    subst IsPlain (sym is.whole.whole) (in_lines (above ++ back) all)
 
 -- ---- the warnings
 
@@ -259,11 +264,11 @@ mark_plain mark = of_line (is_own mark.standing) mark.number mark.line
     of_line captured n (Sitemap value) = tt
     of_line captured n (Raw body) = tt
 
-pub warnings_plain : (agent : List ℕ) (urls : List (List ℕ)) (lines : List LineValue)
-    → IsPlain (ended (warnings agent urls lines))
-warnings_plain agent urls lines =
+pub warnings_plain : (agent : List ℕ) (urls : List (List ℕ)) (marks : List Mark)
+    → IsPlain (ended (warnings agent urls marks))
+warnings_plain agent urls marks =
     in_lines _ (each_both (agent_warnings agent) _
     (each_both (space_warnings agent) _ (warned_plain _ _ refl) (warned_plain _ _ refl))
     (each_both (flat_map url_warnings urls) _
     (each_flat url_warnings (λ url. warned_plain _ _ (shown url)) urls)
-    (each_flat mark_warnings mark_plain (marks_of (group_name agent lines) lines))))
+    (each_flat mark_warnings mark_plain marks)))

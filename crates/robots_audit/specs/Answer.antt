@@ -14,6 +14,7 @@ use Rattle.robots_audit.specs.declared.fault.Outcome.{Outcome}
 use Rattle.robots_audit.specs.Command.{Asks}
 use Rattle.robots_audit.specs.Fault.{usage}
 use Rattle.robots_audit.specs.Report.{AppendsReport, AppendsReportBeginning, MayFail}
+use Rattle.robots_audit.specs.Rows.{marks_for}
 use Rattle.robots_audit.specs.Warnings.{warnings}
 
 -- the bytes that a reader has left, and those that a writer held before and holds after; `None` where an end
@@ -39,7 +40,7 @@ pub record AuditsFile (agent : List ℕ) (urls : List (List ℕ)) (ends : Ends)
     (file : List ℕ) : Type 0 where
   pub ok : IfOk result (λ outcome. AppendsReport agent urls outcome.all_allowed ends.old ends.new file)
   pub warnings : IfOk result (λ outcome.
-      string_bytes outcome.warnings ≡ ended (warnings agent urls (lines_read file)))
+      string_bytes outcome.warnings ≡ ended (warnings agent urls (marks_for agent (lines_read file))))
   pub fault : IfErr result (λ fault. MayFail agent fault file)
   pub beginning : IsErrOf result Write → AppendsReportBeginning agent urls ends.old ends.new file
 

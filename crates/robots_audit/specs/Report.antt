@@ -1,18 +1,19 @@
 -- What the program writes of a file.
 use Rattle.std.specs.Prelude.{◌≡◌, ℕ, Bool, true, false, nat_lt, List, [], ◌∷◌}
-use Rattle.std.specs.Prelude.{◌++◌, Option, ⊤, Contains, codes, if◌then◌else◌, length}
-use Rattle.std.specs.List.{AllByRecursion as Each, AllZip, list_any}
+use Rattle.std.specs.Prelude.{◌++◌, Option, ⊤, All, Contains, codes, if◌then◌else◌, length}
+use Rattle.std.specs.List.{AllZip, list_any}
 use Rattle.std.specs.Io.KnownBytes.{Appends}
-use Rattle.texting_robots.specs.Callers.{IsDecidingLine, IsOverlong, IsRefused, IsVerdict, LineValue}
-use Rattle.texting_robots.specs.Callers.{PlacedRule, Rule, delay_for, escaped, file_limit, is_named}
-use Rattle.texting_robots.specs.Callers.{lines_read, placed_rules, prepared, rules_for, unplaced}
+use Rattle.texting_robots.specs.Callers.{IsFirstOverlong, IsRefused, IsVerdict, LineValue, Rule}
+use Rattle.texting_robots.specs.Callers.{delay_for, escaped, file_limit, is_named, lines_read}
+use Rattle.texting_robots.specs.Callers.{placed_rules, prepared, rules_for}
 use Rattle.texting_robots.specs.Group.{is_agent}
 use Rattle.robots_io.specs.Ends.{AppendsBeginning}
-use Rattle.robots_io.specs.Lines.{delay_line, ended, verdict_line}
+use Rattle.robots_io.specs.Lines.{delay_line, ended}
+use Rattle.robots_io.specs.Verdicts.{IsVerdictLine}
 use Rattle.robots_audit.specs.declared.fault.Fault.{Fault}
 use Rattle.robots_audit.specs.declared.fault.Fault.TheVariants.{InvalidRule, Memory}
 use Rattle.robots_audit.specs.declared.fault.Fault.TheVariants.{NotUtf8, Read, Usage, Write}
-use Rattle.robots_audit.specs.Rows.{rows}
+use Rattle.robots_audit.specs.Rows.{marks_for, rows}
 
 -- ---- the lines behind the rows
 
@@ -35,28 +36,20 @@ note_lines file =
     if nat_lt file_limit (length file) then codes "note: only the file's first 512000 bytes count" ∷ []
     else []
 
--- the line says the rules' verdict on the URL, and which line of the file decides
-pub record IsVerdictLine (rules : List PlacedRule) (url line : List ℕ) : Type 0 where
-  pub allowed : Bool
-  pub number : Option ℕ
-  pub verdict : IsVerdict (unplaced rules) (prepared url) allowed
-  pub deciding : IsDecidingLine rules (prepared url) number
-  pub whole : line ≡ verdict_line allowed number (escaped url)
-
 -- ---- the report
 
 -- the text is a row for each line of those bytes of the file that count, the agent's group, its delay and the
 -- note, and the verdict on each URL
 pub record IsReportText (agent : List ℕ) (urls : List (List ℕ)) (file text : List ℕ) : Type 0 where
   pub verdict_lines : List (List ℕ)
-  pub verdicts : AllZip (IsVerdictLine (placed_rules agent (lines_read file))) urls verdict_lines
-  pub whole : text ≡ ended (rows agent (lines_read file)
+  pub verdicts : AllZip (IsVerdictLine escaped (placed_rules agent (lines_read file))) urls verdict_lines
+  pub whole : text ≡ ended (rows (marks_for agent (lines_read file))
       ++ (group_line agent (lines_read file) ∷ delay_line (delay_for agent (lines_read file))
       ∷ (note_lines file ++ verdict_lines)))
 
 -- yes where the rules allow every URL, and no where they deny one
 abbrev pub AreAllowed : List Rule → List (List ℕ) → Bool → Type 0
-AreAllowed rules urls true = Each (λ url. IsVerdict rules (prepared url) true) urls
+AreAllowed rules urls true = All (λ url. IsVerdict rules (prepared url) true) urls
 AreAllowed rules urls false = (url : List ℕ) × Contains urls url × IsVerdict rules (prepared url) false
 
 -- the text is the report of a file that the agent can use, and the answer says whether every URL is allowed
@@ -67,16 +60,6 @@ pub record IsReport (agent : List ℕ) (urls : List (List ℕ)) (file text : Lis
   pub answer : AreAllowed (rules_for agent (lines_read file)) urls all_allowed
 
 -- ---- faults
-
--- the first of the rules that is overlong stands in the line with this number
-pub record IsFirstOverlong (rules : List PlacedRule) (number : ℕ) : Type 0 where
-  pub front : List PlacedRule
-  pub placed : PlacedRule
-  pub back : List PlacedRule
-  pub whole : rules ≡ front ++ placed ∷ back
-  pub accepted : Each (λ (other : PlacedRule). ¬ IsOverlong other.rule.0) front
-  pub overlong : IsOverlong placed.rule.0
-  pub line : placed.line ≡ number
 
 -- a run on the file may end with this fault: nothing is claimed of when a read, a write or a request for
 -- memory fails

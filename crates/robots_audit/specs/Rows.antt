@@ -1,7 +1,7 @@
 -- The rows of a report: a line on each line of a file.
-use Rattle.std.specs.Prelude.{ℕ, ◌-◌, ◌==◌, Bool, true, ◌||◌}
+use Rattle.std.specs.Prelude.{ℕ, ◌-◌, ◌==◌, Bool, true, not, ◌||◌}
 use Rattle.std.specs.Prelude.{◌&&◌, List, [], ◌∷◌, ◌++◌, Some, None, codes}
-use Rattle.std.specs.Prelude.{decimal, if◌then◌else◌, length, map, replicate}
+use Rattle.std.specs.Prelude.{decimal, if◌then◌else◌, is_some, length, map, replicate}
 use Rattle.texting_robots.specs.Callers.{Allow, CrawlDelay, Disallow, LineValue, Mark, Raw, Sitemap}
 use Rattle.texting_robots.specs.Callers.{UserAgent, escaped, group_name, marks_of}
 use Rattle.texting_robots.specs.declared.marks.Standing.{Standing}
@@ -25,11 +25,6 @@ right_aligned width text = replicate (width - length text) space ++ text
 -- how wide the column of the words is, with a blank behind the longest
 abbrev pub word_width : ℕ
 word_width = 12
-
--- the word, and the value in its column behind it, if it isn't empty
-abbrev pub word_and_value : List ℕ → List ℕ → List ℕ
-word_and_value word [] = word
-word_and_value word (byte ∷ value) = word ++ replicate (word_width - length word) space ++ byte ∷ value
 
 -- ---- a line of a file
 
@@ -63,13 +58,37 @@ value_text (CrawlDelay (Some micros)) = decimal micros
 value_text (Sitemap value) = escaped value
 value_text (Raw body) = escaped body
 
+-- there is such a text
+abbrev pub has_value : LineValue → Bool
+has_value (UserAgent value) = not (length value == 0)
+has_value (Allow value) = not (length value == 0)
+has_value (Disallow value) = not (length value == 0)
+has_value (CrawlDelay delay) = is_some delay
+has_value (Sitemap value) = not (length value == 0)
+has_value (Raw body) = not (length body == 0)
+
+-- what it was read as, and its value, if there is one, in a column behind it
+abbrev pub word_and_value : LineValue → List ℕ
+word_and_value line =
+    let word = kind_text line in
+    if has_value line then word ++ replicate (word_width - length word) space ++ value_text line else word
+
 -- its number, its mark, what it was read as, and its value
 abbrev pub row : ℕ → Mark → List ℕ
 row width mark =
     right_aligned width (decimal mark.number) ++ codes " " ++ mark_text mark.standing ++ codes " "
-    ++ word_and_value (kind_text mark.line) (value_text mark.line)
+    ++ word_and_value mark.line
 
 -- a row for each line, the numbers as wide as the last
-abbrev pub rows : List ℕ → List LineValue → List (List ℕ)
-rows agent lines =
-    map (row (length (decimal (length lines)))) (marks_of (group_name agent lines) lines)
+abbrev pub rows : List Mark → List (List ℕ)
+rows marks = map (row (length (decimal (length marks)))) marks
+
+-- ---- the lines of a file
+
+-- the marks for an agent
+abbrev pub marks_for : List ℕ → List LineValue → List Mark
+marks_for agent lines = marks_of (group_name agent lines) lines
+
+-- the lines of the marks
+abbrev pub lines_of : List Mark → List LineValue
+lines_of marks = map (λ (mark : Mark). mark.line) marks

@@ -1,21 +1,18 @@
 -- What the steps of the program do.
-use Rattle.std.specs.Prelude.{◌≡◌, ℕ, Bool, IsTrue, List, ◌++◌}
-use Rattle.std.specs.List.{AllZip}
-use Rattle.std.specs.Option.{IsSomeAnd}
-use Rattle.texting_robots.specs.Callers.{IsOverlong, Mark, PlacedRule, Rule, is_own, unplaced}
-use Rattle.texting_robots.specs.Computed.{rule_in}
-use Rattle.robots_io.specs.Lines.{ended}
-use Rattle.robots_audit.specs.Report.{AreAllowed, IsVerdictLine}
+use Rattle.std.specs.Prelude.{ℕ, Bool, List, ◌∷◌, ◌++◌, Option}
+use Rattle.texting_robots.specs.Callers.{Mark, PlacedRule, escaped, unplaced}
+use Rattle.robots_io.specs.Lines.{delay_line}
+use Rattle.robots_io.specs.Verdicts.{AddsVerdicts}
+use Rattle.robots_audit.specs.Report.{AreAllowed, group_line, note_lines}
+use Rattle.robots_audit.specs.Rows.{lines_of, rows}
+
+-- what stands in a report before the verdicts
+abbrev pub front_lines : List ℕ → List ℕ → List Mark → Option ℕ → List (List ℕ)
+front_lines agent file marks delay =
+    rows marks ++ (group_line agent (lines_of marks) ∷ delay_line delay ∷ note_lines file)
 
 -- the verdict on each URL was added, a line each, and the answer says whether all are allowed
-pub record AddsVerdicts (rules : List PlacedRule) (urls : List (List ℕ)) (all_allowed : Bool)
-    (old new : List ℕ) : Type 0 where
-  pub lines : List (List ℕ)
-  pub verdicts : AllZip (IsVerdictLine rules) urls lines
+pub record Judges (rules : List PlacedRule) (urls : List (List ℕ)) (old new : List ℕ) (all_allowed : Bool)
+    : Type 0 where
+  pub added : AddsVerdicts escaped rules urls old new
   pub answer : AreAllowed (unplaced rules) urls all_allowed
-  pub whole : new ≡ old ++ ended lines
-
--- the line gives a captured rule that is overlong
-abbrev pub GivesOverlong : Mark → Type 0
-GivesOverlong mark =
-    IsTrue (is_own mark.standing) × IsSomeAnd (rule_in mark.line) (λ (rule : Rule). IsOverlong rule.0)

@@ -4,7 +4,7 @@ use Rattle.std.specs.Prelude.{◌++◌, bytes_eq, codes, decimal, flat_map, if�
 use Rattle.std.specs.List.{list_any, starts_with}
 use Rattle.std.specs.Str.{byte, is_utf8, str_to_ascii_lowercase, trim}
 use Rattle.texting_robots.specs.Callers.{Allow, CrawlDelay, Disallow, LineValue, Mark, Raw}
-use Rattle.texting_robots.specs.Callers.{Sitemap, UserAgent, escaped, group_name, is_own, marks_of}
+use Rattle.texting_robots.specs.Callers.{Sitemap, UserAgent, escaped, is_own}
 
 -- the warning, if there is cause for it
 abbrev pub warned : Bool → List ℕ → List (List ℕ)
@@ -103,7 +103,6 @@ mark_warnings mark = rule_warnings (is_own mark.standing) mark.number mark.line
 -- ---- all
 
 -- those of the agent, of the URLs, and of the agent's rules
-abbrev pub warnings : List ℕ → List (List ℕ) → List LineValue → List (List ℕ)
-warnings agent urls lines =
-    agent_warnings agent ++ (flat_map url_warnings urls
-    ++ flat_map mark_warnings (marks_of (group_name agent lines) lines))
+abbrev pub warnings : List ℕ → List (List ℕ) → List Mark → List (List ℕ)
+warnings agent urls marks =
+    agent_warnings agent ++ (flat_map url_warnings urls ++ flat_map mark_warnings marks)

@@ -1,7 +1,10 @@
-//! The bytes of a file that count.
-ghost use Rattle.std.specs.Prelude.{◌≡◌, take};
-ghost use Rattle.texting_robots.specs.Callers.{file_limit};
+//! The lines of a file, of the bytes that count.
+ghost use Rattle.std.specs.Prelude.{◌≡◌, IfOk, map, take};
+ghost use Rattle.texting_robots.specs.Callers.{file_limit, lines_read, mark_by_value};
+ghost use Rattle.robots_audit.specs.Rows.{marks_for};
 
+use std::alloc::{AllocError, Global};
+use texting_robots::marks::{MarkedLine, marked_lines};
 use texting_robots::robot::FILE_LIMIT;
 
 /// The first bytes of a file, as many as a robot reads.
@@ -9,4 +12,19 @@ pub(crate) fn counted<'a>(file: &'a [u8]) -> &'a [u8]
     ensures { result.now ≡ take file_limit file.now }
 {
     &file[..FILE_LIMIT.min(file.len())]
+}
+
+/// The lines of a file, each with its number and where it stands to the agent.
+pub(crate) fn marks_for<'a>(
+    alloc: Global,
+    agent: &'a str,
+    file: &'a [u8],
+) -> Result<Vec<MarkedLine<'a>>, AllocError>
+    ensures { IfOk result (λ marks. map mark_by_value marks.items ≡ marks_for agent.now (lines_read file.now)) }
+{
+    let mut marks = Vec::new(alloc);
+    for marked in marked_lines(agent, counted(file)) {
+        marks.push(marked)?;
+    }
+    Ok(marks)
 }

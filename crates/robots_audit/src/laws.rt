@@ -1,6 +1,6 @@
 //! Laws over the definitions, each the contract of a function that computes nothing.
 ghost use Rattle.std.specs.Prelude.{◌≡◌, ℕ, Bool, List};
-ghost use Rattle.texting_robots.specs.Callers.{IsRefused, LineValue, lines_read};
+ghost use Rattle.texting_robots.specs.Callers.{IsRefused, Mark, lines_read};
 ghost use Rattle.robots_io.specs.Lines.{ended};
 ghost use Rattle.robots_audit.specs.Laws.{IsPlain};
 ghost use Rattle.robots_audit.specs.Report.{IsReport};
@@ -23,6 +23,6 @@ pub fn each_file_has_a_report()
 pub fn no_terminal_is_steered()
     ensures report { (agent : List ℕ) (urls : List (List ℕ)) (file text : List ℕ) (answer : Bool)
         → IsReport agent urls file text answer → IsPlain text }
-    ensures warnings { (agent : List ℕ) (urls : List (List ℕ)) (lines : List LineValue)
-        → IsPlain (ended (warnings agent urls lines)) }
+    ensures warnings { (agent : List ℕ) (urls : List (List ℕ)) (marks : List Mark)
+        → IsPlain (ended (warnings agent urls marks)) }
 {}

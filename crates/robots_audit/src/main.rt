@@ -11,7 +11,6 @@ mod command;
 mod fault;
 mod file;
 mod laws;
-mod overlong;
 mod program;
 mod report;
 mod rows;

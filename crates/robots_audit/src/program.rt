@@ -4,7 +4,7 @@ ghost use Rattle.robots_audit.specs.Answer.{Answers, Audits, Helps};
 
 use crate::command::{Command, command_of};
 use crate::fault::{Fault, Outcome, USAGE};
-use crate::file::counted;
+use crate::file::marks_for;
 use crate::report::report_of;
 use crate::warnings::warnings;
 use robots_io::ends::{read_all, write_out};
@@ -30,9 +30,12 @@ pub fn run<R: Read, W: Write>(
       new = W.contents writer.new;
     }) result }
 {
-    let file = read_all(alloc, reader)?;
-    let report = report_of(alloc, agent, urls, &file)?;
-    let warnings = warnings(alloc, agent, urls, counted(&file))?;
+    let input = read_all(alloc, reader)?;
+    let file = input.as_slice();
+    let lines = marks_for(alloc, agent, file)?;
+    let marks = lines.as_slice();
+    let report = report_of(alloc, agent, urls, file, marks)?;
+    let warnings = warnings(alloc, agent, urls, marks)?;
     write_out(writer, report.text.as_bytes())?;
     Ok(Outcome {
         all_allowed: report.all_allowed,

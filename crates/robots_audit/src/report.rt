@@ -1,23 +1,24 @@
 //! The report of a file.
 ghost use Rattle.std.specs.Prelude.{◌≡◌, ◌≢◌, ◌++◌, ◌∷◌, ◌&&◌, [], IfErr, IfOk, OnOk, codes, map, string_bytes, take};
 ghost use Rattle.std.specs.List.{list_any};
-ghost use Rattle.texting_robots.specs.Callers.{IsRobotOfFile, by_value, escaped, file_limit, file_lines, lines_read};
+ghost use Rattle.std.specs.Str.{str_to_ascii_lowercase};
+ghost use Rattle.texting_robots.specs.Callers.{IsRobotOfFile, IsVerdict, by_value, escaped, file_limit, is_agent_named, is_named, lines_read, mark_by_value, prepared, unplaced};
 ghost use Rattle.texting_robots.specs.Group.{is_agent};
-ghost use Rattle.robots_io.specs.Lines.{delay_line, ended};
+ghost use Rattle.robots_io.specs.Lines.{ended};
+ghost use Rattle.robots_io.specs.Verdicts.{AddsVerdict};
 ghost use Rattle.robots_audit.specs.Report.{IsReport, MayFail, group_line, note_lines, unnamed_group};
-ghost use Rattle.robots_audit.specs.Rows.{rows};
-ghost use Rattle.robots_audit.specs.Steps.{AddsVerdicts};
+ghost use Rattle.robots_audit.specs.Rows.{lines_of, marks_for};
+ghost use Rattle.robots_audit.specs.Steps.{Judges, front_lines};
 
 use crate::fault::Fault;
 use crate::file::counted;
-use crate::overlong::overlong_line;
 use crate::rows::push_rows;
-use robots_io::lines::{push_delay, push_line, push_verdict_line};
+use robots_io::lines::{push_delay, push_line};
+use robots_io::verdicts::{decision_on, push_decision};
 use std::alloc::{AllocError, Global};
-use texting_robots::marks::is_named;
-use texting_robots::parser::{Line, file_lines};
+use texting_robots::marks::{MarkedLine, overlong_line};
+use texting_robots::parser::Line;
 use texting_robots::robot::FILE_LIMIT;
-use texting_robots::view::View;
 use texting_robots::{Error, Robot, push_escaped_bytes};
 
 /// The text of a report, and whether it allows every URL.
@@ -38,19 +39,37 @@ fn push_named(text: &mut String, agent: &str) -> Result<(), AllocError>
     Ok(())
 }
 
-/// Whether the line is a user-agent line.
-fn is_agent(line: Line<'_>) -> bool
-    ensures { result ≡ is_agent (by_value line.entry) }
+/// Whether a line names the agent, ASCII letters in any case.
+#[tactic(auto, using(texting_robots::proofs::NameLemmas::tested_names))]
+fn is_naming(line: Line<'_>, agent: &str) -> bool
+    ensures { result ≡ is_agent_named (str_to_ascii_lowercase agent.now) (by_value line.entry) }
 {
-    matches!(line, Line::UserAgent(_))
+    match line {
+        Line::UserAgent(name) => name.eq_ignore_ascii_case(agent.as_bytes()),
+        _ => false,
+    }
 }
 
-/// Whether the file has a user-agent line.
-fn has_agent_line(file: &[u8]) -> bool
-    ensures { result ≡ list_any is_agent (file_lines file.now) }
+/// Whether a line names the agent.
+#[tactic(auto, using(crate::proofs::ReportLemmas::any_next))]
+fn is_named(agent: &str, marks: &[MarkedLine<'_>]) -> bool
+    ensures { result ≡ is_named agent.now (lines_of (map mark_by_value marks.now)) }
 {
-    for line in file_lines(file) {
-        if is_agent(line) {
+    for marked in marks {
+        if is_naming(marked.line, agent) {
+            return true;
+        }
+    }
+    false
+}
+
+/// Whether there is a user-agent line.
+#[tactic(auto, using(crate::proofs::ReportLemmas::any_next))]
+fn has_agent_line(marks: &[MarkedLine<'_>]) -> bool
+    ensures { result ≡ list_any is_agent (lines_of (map mark_by_value marks.now)) }
+{
+    for marked in marks {
+        if matches!(marked.line, Line::UserAgent(_)) {
             return true;
         }
     }
@@ -58,12 +77,12 @@ fn has_agent_line(file: &[u8]) -> bool
 }
 
 /// The group of an agent that the file doesn't name, and why.
-fn unnamed_group(file: &[u8]) -> &'static str
-    ensures { result.now ≡ unnamed_group (file_lines file.now) }
+fn unnamed_group(marks: &[MarkedLine<'_>]) -> &'static str
+    ensures { result.now ≡ unnamed_group (lines_of (map mark_by_value marks.now)) }
 {
-    if is_named("*", file) {
+    if is_named("*", marks) {
         "*, as the agent isn't named in the file"
-    } else if has_agent_line(file) {
+    } else if has_agent_line(marks) {
         "none, as neither the agent nor * is named in the file"
     } else {
         "of every agent, as the file has no user-agent line"
@@ -71,14 +90,14 @@ fn unnamed_group(file: &[u8]) -> &'static str
 }
 
 /// Adds the line of the group that the agent gets.
-fn push_group(text: &mut String, agent: &str, file: &[u8]) -> Result<(), AllocError>
+fn push_group(text: &mut String, agent: &str, marks: &[MarkedLine<'_>]) -> Result<(), AllocError>
     ensures { OnOk result (string_bytes text.new ≡ string_bytes text.old
-        ++ ended (group_line agent.now (file_lines file.now) ∷ [])) }
+        ++ ended (group_line agent.now (lines_of (map mark_by_value marks.now)) ∷ [])) }
 {
-    if is_named(agent, file) {
+    if is_named(agent, marks) {
         push_named(text, agent)
     } else {
-        push_line(text, "group ", unnamed_group(file))
+        push_line(text, "group ", unnamed_group(marks))
     }
 }
 
@@ -92,18 +111,23 @@ fn push_note(text: &mut String, file: &[u8]) -> Result<(), AllocError>
     Ok(())
 }
 
+/// Adds a URL as it is shown, and ends the line.
+pub(crate) fn push_shown_line(text: &mut String, url: &str) -> Result<(), AllocError>
+    ensures { OnOk result (string_bytes text.new ≡ string_bytes text.old ++ ended (escaped url.now ∷ [])) }
+{
+    push_escaped_bytes(text, url.as_bytes())?;
+    text.push('\n')
+}
+
 /// Adds the line of the robot's verdict on a URL, and says whether it is allowed.
-#[tactic(auto, using(crate::proofs::ReportLemmas::adds_one))]
 fn push_verdict(alloc: Global, text: &mut String, robot: &Robot, url: &str) -> Result<bool, Error>
-    ensures ok { IfOk result (λ allowed. AddsVerdicts robot.now.rules (url.now ∷ []) allowed
-        (string_bytes text.old) (string_bytes text.new)) }
+    ensures added { OnOk result (AddsVerdict escaped robot.now.rules url.now (string_bytes text.old) (string_bytes text.new)) }
+    ensures answer { IfOk result (IsVerdict (unplaced robot.now.rules) (prepared url.now)) }
     ensures memory { IfErr result (λ error. error ≡ Error.Memory) }
 {
-    let prepared = Robot::prepare_url(alloc, url)?;
-    let decision = robot.decision(&mut View::new(&prepared));
-    let mut shown = String::new(alloc);
-    push_escaped_bytes(&mut shown, url.as_bytes())?;
-    push_verdict_line(alloc, text, decision.allowed, decision.line, &shown)?;
+    let decision = decision_on(alloc, robot, url)?;
+    push_decision(text, &decision)?;
+    push_shown_line(text, url)?;
     Ok(decision.allowed)
 }
 
@@ -121,8 +145,7 @@ fn push_verdicts(
     robot: &Robot,
     urls: &[String],
 ) -> Result<bool, Error>
-    ensures ok { IfOk result (λ all_allowed. AddsVerdicts robot.now.rules (map string_bytes urls.now) all_allowed
-        (string_bytes text.old) (string_bytes text.new)) }
+    ensures ok { IfOk result (Judges robot.now.rules (map string_bytes urls.now) (string_bytes text.old) (string_bytes text.new)) }
     ensures memory { IfErr result (λ error. error ≡ Error.Memory) }
 {
     let mut all_allowed = true;
@@ -133,51 +156,54 @@ fn push_verdicts(
     Ok(all_allowed)
 }
 
-/// What the agent gets of a file, or why it can't use it.
-fn robot_for(alloc: Global, agent: &str, file: &[u8]) -> Result<Robot, Fault>
-    ensures ok { IfOk result (IsRobotOfFile agent.now (take file_limit file.now)) }
-    ensures fault { IfErr result (λ fault. (fault ≢ Fault.Write) × MayFail agent.now fault file.now) }
+/// What the agent gets of the lines of a file, or why it can't use it.
+fn robot_for(alloc: Global, agent: &str, lines: &[u8]) -> Result<Robot, Fault>
+    ensures ok { IfOk result (IsRobotOfFile agent.now (take file_limit lines.now)) }
+    ensures fault { IfErr result (λ fault. (fault ≢ Fault.Write) × MayFail agent.now fault lines.now) }
 {
-    match Robot::new(alloc, agent, file) {
+    match Robot::new(alloc, agent, lines) {
         Ok(robot) => Ok(robot),
-        Err(Error::InvalidRule) => Err(Fault::InvalidRule(overlong_line(alloc, agent, file)?)),
+        Err(Error::InvalidRule) => match overlong_line(alloc, agent, counted(lines))? {
+            Some(line) => Err(Fault::InvalidRule(line)),
+            None => unreachable!(),
+        },
         Err(_) => Err(Fault::Memory),
     }
 }
 
 /// Adds what stands before the verdicts.
 fn push_front(
-    alloc: Global,
     text: &mut String,
     agent: &str,
     file: &[u8],
+    marks: &[MarkedLine<'_>],
     delay: Option<u64>,
 ) -> Result<(), AllocError>
     ensures { OnOk result (string_bytes text.new ≡ string_bytes text.old
-        ++ ended (rows agent.now (lines_read file.now)
-        ++ (group_line agent.now (lines_read file.now) ∷ delay_line delay ∷ note_lines file.now))) }
+        ++ ended (front_lines agent.now file.now (map mark_by_value marks.now) delay)) }
 {
-    let lines = counted(file);
-    push_rows(alloc, text, agent, lines)?;
-    push_group(text, agent, lines)?;
-    push_delay(alloc, text, delay)?;
+    push_rows(text, marks)?;
+    push_group(text, agent, marks)?;
+    push_delay(text, delay)?;
     push_note(text, file)
 }
 
-/// The report of a file for an agent and URLs.
+/// The report of a file, whose lines these are, for an agent and URLs.
 pub(crate) fn report_of(
     alloc: Global,
     agent: &str,
     urls: &[String],
     file: &[u8],
+    marks: &[MarkedLine<'_>],
 ) -> Result<Report, Fault>
+    requires { map mark_by_value marks.now ≡ marks_for agent.now (lines_read file.now) }
     ensures ok { IfOk result (λ report. IsReport agent.now (map string_bytes urls.now) file.now
         (string_bytes report.text) report.all_allowed) }
     ensures fault { IfErr result (λ fault. (fault ≢ Fault.Write) × MayFail agent.now fault file.now) }
 {
     let robot = robot_for(alloc, agent, file)?;
-    let mut text = String::new(alloc);
-    push_front(alloc, &mut text, agent, file, robot.delay)?;
+    let mut text = String::with_capacity(alloc, file.len())?;
+    push_front(&mut text, agent, file, marks, robot.delay)?;
     match push_verdicts(alloc, &mut text, &robot, urls) {
         Ok(all_allowed) => Ok(Report { text, all_allowed }),
         Err(_) => Err(Fault::Memory),

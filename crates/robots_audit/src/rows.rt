@@ -1,12 +1,14 @@
 //! The rows of a report: a line on each line of a file.
-ghost use Rattle.std.specs.Prelude.{◌≡◌, ◌++◌, ◌∷◌, [], IfOk, OnOk, codes, decimal, length, replicate, string_bytes};
-ghost use Rattle.texting_robots.specs.Callers.{by_value, file_lines, mark_by_value};
+ghost use Rattle.std.specs.Prelude.{◌≡◌, ◌++◌, ◌∷◌, [], OnOk, codes, decimal, length, map, replicate, string_bytes};
+ghost use Rattle.texting_robots.specs.Callers.{by_value, mark_by_value};
 ghost use Rattle.robots_io.specs.Lines.{ended};
-ghost use Rattle.robots_audit.specs.Rows.{is_blank, kind_text, mark_text, right_aligned, row, rows, space, value_text, word_and_value};
+ghost use Rattle.robots_audit.specs.Rows.{has_value, is_blank, kind_text, mark_text, right_aligned, row, rows, space, value_text, word_and_value};
 
-use std::alloc::{AllocError, Global};
-use texting_robots::marks::{MarkedLine, Standing, marked_lines};
-use texting_robots::parser::{Line, file_lines};
+use itoa::Buffer;
+use robots_io::lines::push_number;
+use std::alloc::AllocError;
+use texting_robots::marks::{MarkedLine, Standing};
+use texting_robots::parser::Line;
 use texting_robots::push_escaped_bytes;
 
 /// How wide the column of the words is, with a blank behind the longest.
@@ -29,18 +31,6 @@ fn push_right(text: &mut String, width: usize, added: &str) -> Result<(), AllocE
 {
     push_blanks(text, width.saturating_sub(added.len()))?;
     text.push_str(added)
-}
-
-/// Adds a word, and a value in its column behind it, if it isn't empty.
-fn push_word_and_value(text: &mut String, word: &str, value: &str) -> Result<(), AllocError>
-    ensures { OnOk result (string_bytes text.new ≡ string_bytes text.old ++ word_and_value word.now value.now) }
-{
-    text.push_str(word)?;
-    if !value.is_empty() {
-        push_blanks(text, WORD_WIDTH.saturating_sub(word.len()))?;
-        text.push_str(value)?;
-    }
-    Ok(())
 }
 
 /// The mark of a line.
@@ -84,76 +74,85 @@ fn kind_text(line: Line<'_>) -> &'static str
     }
 }
 
-/// The value of a line, escaped as rules are, or the microseconds of a delay.
-fn value_text(alloc: Global, line: Line<'_>) -> Result<String, AllocError>
-    ensures { IfOk result (λ text. string_bytes text ≡ value_text (by_value line.entry)) }
+/// Whether a line has a value to show.
+fn has_value(line: Line<'_>) -> bool
+    ensures { result ≡ has_value (by_value line.entry) }
 {
-    let mut text = String::new(alloc);
     match line {
         Line::UserAgent(value)
         | Line::Allow(value)
         | Line::Disallow(value)
         | Line::Sitemap(value)
-        | Line::Raw(value) => push_escaped_bytes(&mut text, value)?,
-        Line::CrawlDelay(Some(micros)) => text.push_str(&micros.to_string(alloc)?)?,
-        Line::CrawlDelay(None) => {}
+        | Line::Raw(value) => !value.is_empty(),
+        Line::CrawlDelay(delay) => delay.is_some(),
     }
-    Ok(text)
+}
+
+/// Adds the value of a line, escaped as rules are, or the microseconds of a delay.
+fn push_value(text: &mut String, line: Line<'_>) -> Result<(), AllocError>
+    ensures { OnOk result (string_bytes text.new ≡ string_bytes text.old ++ value_text (by_value line.entry)) }
+{
+    match line {
+        Line::UserAgent(value)
+        | Line::Allow(value)
+        | Line::Disallow(value)
+        | Line::Sitemap(value)
+        | Line::Raw(value) => push_escaped_bytes(text, value),
+        Line::CrawlDelay(Some(micros)) => push_number(text, micros),
+        Line::CrawlDelay(None) => Ok(()),
+    }
+}
+
+/// Adds what a line was read as, and its value in a column behind it, if there is one.
+fn push_word_and_value(text: &mut String, line: Line<'_>) -> Result<(), AllocError>
+    ensures { OnOk result (string_bytes text.new ≡ string_bytes text.old ++ word_and_value (by_value line.entry)) }
+{
+    let word = kind_text(line);
+    text.push_str(word)?;
+    if has_value(line) {
+        push_blanks(text, WORD_WIDTH.saturating_sub(word.len()))?;
+        push_value(text, line)?;
+    }
+    Ok(())
 }
 
 /// Adds the number and the mark of a line.
-fn push_front(
-    alloc: Global,
-    text: &mut String,
-    width: usize,
-    marked: &MarkedLine<'_>,
-) -> Result<(), AllocError>
+fn push_front(text: &mut String, width: usize, marked: &MarkedLine<'_>) -> Result<(), AllocError>
     ensures { OnOk result (string_bytes text.new ≡ string_bytes text.old
         ++ (right_aligned width (decimal marked.now.number) ++ codes " "
         ++ mark_text marked.now.standing ++ codes " ")) }
 {
-    push_right(text, width, &marked.number.to_string(alloc)?)?;
+    push_right(text, width, Buffer::new().format(marked.number))?;
     text.push(' ')?;
     text.push_str(mark_text(marked.standing))?;
     text.push(' ')
 }
 
 /// Adds the row of a line.
-fn push_row(
-    alloc: Global,
-    text: &mut String,
-    width: usize,
-    marked: MarkedLine<'_>,
-) -> Result<(), AllocError>
+fn push_row(text: &mut String, width: usize, marked: &MarkedLine<'_>) -> Result<(), AllocError>
     ensures { OnOk result (string_bytes text.new ≡ string_bytes text.old
-        ++ ended (row width (mark_by_value marked.entry) ∷ [])) }
+        ++ ended (row width (mark_by_value marked.now) ∷ [])) }
 {
-    push_front(alloc, text, width, &marked)?;
-    let value = value_text(alloc, marked.line)?;
-    push_word_and_value(text, kind_text(marked.line), &value)?;
+    push_front(text, width, marked)?;
+    push_word_and_value(text, marked.line)?;
     text.push('\n')
 }
 
-/// How many digits the number of the last line has.
-fn number_width(alloc: Global, file: &[u8]) -> Result<usize, AllocError>
-    ensures { IfOk result (λ width. width ≡ length (decimal (length (file_lines file.now)))) }
+/// How many digits a number has.
+fn digits(number: usize) -> usize
+    ensures { result ≡ length (decimal number) }
 {
-    Ok(file_lines(file).count().to_string(alloc)?.len())
+    Buffer::new().format(number).len()
 }
 
-/// Adds a row for each line of the file.
-pub(crate) fn push_rows(
-    alloc: Global,
-    text: &mut String,
-    agent: &str,
-    file: &[u8],
-) -> Result<(), AllocError>
+/// Adds a row for each line.
+pub(crate) fn push_rows(text: &mut String, marks: &[MarkedLine<'_>]) -> Result<(), AllocError>
     ensures { OnOk result (string_bytes text.new ≡ string_bytes text.old
-        ++ ended (rows agent.now (file_lines file.now))) }
+        ++ ended (rows (map mark_by_value marks.now))) }
 {
-    let width = number_width(alloc, file)?;
-    for marked in marked_lines(agent, file) {
-        push_row(alloc, text, width, marked)?;
+    let width = digits(marks.len());
+    for marked in marks {
+        push_row(text, width, marked)?;
     }
     Ok(())
 }

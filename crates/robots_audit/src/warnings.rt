@@ -2,18 +2,18 @@
 ghost use Rattle.std.specs.Prelude.{◌≡◌, ◌++◌, ◌==◌, IfOk, OnOk, false, flat_map, map, string_bytes};
 ghost use Rattle.std.specs.List.{list_any};
 ghost use Rattle.std.specs.Str.{byte};
-ghost use Rattle.texting_robots.specs.Callers.{by_value, file_lines, group_name, marks_of};
+ghost use Rattle.texting_robots.specs.Callers.{by_value, mark_by_value};
 ghost use Rattle.robots_io.specs.Lines.{ended};
 ghost use Rattle.robots_audit.specs.Warnings.{agent_warnings, begins_as_rule, byte_warnings, has_space_around};
 ghost use Rattle.robots_audit.specs.Warnings.{holds_otherwise, is_spelled_otherwise, is_url, is_url_or_path, mark_warnings};
 ghost use Rattle.robots_audit.specs.Warnings.{rule_text, rule_warnings, slash_warnings, space_warnings};
 ghost use Rattle.robots_audit.specs.Warnings.{start_warnings, text_warnings, url_warnings, value_warnings, warned, warnings};
 
-use robots_io::lines::push_line;
+use crate::report::push_shown_line;
+use robots_io::lines::{push_line, push_number};
 use std::alloc::{AllocError, Global};
-use texting_robots::marks::{Standing, marked_lines};
+use texting_robots::marks::{MarkedLine, Standing};
 use texting_robots::parser::Line;
-use texting_robots::push_escaped_bytes;
 
 /// Adds a warning, if there is cause for it.
 fn warn(text: &mut String, cause: bool, warning: &str) -> Result<(), AllocError>
@@ -89,13 +89,11 @@ fn is_url_or_path(alloc: Global, url: &str) -> Result<bool, AllocError>
 fn warn_of_url(alloc: Global, text: &mut String, url: &str) -> Result<(), AllocError>
     ensures { OnOk result (string_bytes text.new ≡ string_bytes text.old ++ ended (url_warnings url.now)) }
 {
-    let mut warning = String::from_str(
-        alloc,
-        "a URL begins with neither http:// nor https:// nor /: ",
-    )?;
-    push_escaped_bytes(&mut warning, url.as_bytes())?;
-    let is_clear = is_url_or_path(alloc, url)?;
-    warn(text, !is_clear, &warning)?;
+    if is_url_or_path(alloc, url)? {
+        return Ok(());
+    }
+    text.push_str("robots_audit: warning: a URL begins with neither http:// nor https:// nor /: ")?;
+    push_shown_line(text, url)?;
     Ok(())
 }
 
@@ -132,92 +130,58 @@ fn holds_otherwise(value: &[u8]) -> bool
     false
 }
 
-/// What is said of the rule in the line with this number.
-fn rule_text(alloc: Global, number: usize, said: &str) -> Result<String, AllocError>
-    ensures { IfOk result (λ text. string_bytes text ≡ rule_text number said.now) }
-{
-    let mut text = String::from_str(alloc, "the rule in line ")?;
-    text.push_str(&number.to_string(alloc)?)?;
-    text.push(' ')?;
-    text.push_str(said)?;
-    Ok(text)
-}
-
 /// Adds a warning of the rule in the line with this number, if there is cause for it.
-fn warn_of_rule(
-    alloc: Global,
-    text: &mut String,
-    number: usize,
-    cause: bool,
-    said: &str,
-) -> Result<(), AllocError>
+fn warn_of_rule(text: &mut String, number: usize, cause: bool, said: &str) -> Result<(), AllocError>
     ensures { OnOk result (string_bytes text.new ≡ string_bytes text.old
         ++ ended (warned cause (rule_text number said.now))) }
 {
-    let warning = rule_text(alloc, number, said)?;
-    warn(text, cause, &warning)?;
+    if !cause {
+        return Ok(());
+    }
+    text.push_str("robots_audit: warning: the rule in line ")?;
+    push_number(text, number)?;
+    push_line(text, " ", said)?;
     Ok(())
 }
 
 /// Adds the warning of a rule that begins with neither a slash nor a star.
-fn warn_of_start(
-    alloc: Global,
-    text: &mut String,
-    number: usize,
-    value: &[u8],
-) -> Result<(), AllocError>
+fn warn_of_start(text: &mut String, number: usize, value: &[u8]) -> Result<(), AllocError>
     ensures { OnOk result (string_bytes text.new ≡ string_bytes text.old ++ ended (start_warnings number value.now)) }
 {
     let said = "begins with neither / nor *";
-    warn_of_rule(alloc, text, number, !begins_as_rule(value), said)
+    warn_of_rule(text, number, !begins_as_rule(value), said)
 }
 
 /// Adds the warning of a rule with a byte that whole URLs have otherwise.
-fn warn_of_bytes(
-    alloc: Global,
-    text: &mut String,
-    number: usize,
-    value: &[u8],
-) -> Result<(), AllocError>
+fn warn_of_bytes(text: &mut String, number: usize, value: &[u8]) -> Result<(), AllocError>
     ensures { OnOk result (string_bytes text.new ≡ string_bytes text.old ++ ended (byte_warnings number value.now)) }
 {
     let said =
         "has a byte that a whole URL spells otherwise: ^, {, } or \\ in its path, ' or ` in its query, or a tab";
-    warn_of_rule(alloc, text, number, holds_otherwise(value), said)
+    warn_of_rule(text, number, holds_otherwise(value), said)
 }
 
 /// Adds the warnings of a captured rule.
-fn warn_of_text(
-    alloc: Global,
-    text: &mut String,
-    number: usize,
-    value: &[u8],
-) -> Result<(), AllocError>
+fn warn_of_text(text: &mut String, number: usize, value: &[u8]) -> Result<(), AllocError>
     ensures { OnOk result (string_bytes text.new ≡ string_bytes text.old ++ ended (text_warnings number value.now)) }
 {
-    warn_of_start(alloc, text, number, value)?;
-    warn_of_bytes(alloc, text, number, value)?;
+    warn_of_start(text, number, value)?;
+    warn_of_bytes(text, number, value)?;
     Ok(())
 }
 
 /// Adds the warnings of a captured line with this value.
-fn warn_of_value(
-    alloc: Global,
-    text: &mut String,
-    number: usize,
-    value: &[u8],
-) -> Result<(), AllocError>
+fn warn_of_value(text: &mut String, number: usize, value: &[u8]) -> Result<(), AllocError>
     ensures { OnOk result (string_bytes text.new ≡ string_bytes text.old ++ ended (value_warnings number value.now)) }
 {
     match std::str::from_utf8(value) {
-        Ok(_) => warn_of_text(alloc, text, number, value),
-        Err(_) => warn_of_rule(alloc, text, number, true, "isn't UTF-8, so it is left out"),
+        Ok(_) => warn_of_text(text, number, value),
+        Err(_) => warn_of_rule(text, number, true, "isn't UTF-8, so it is left out"),
     }
 }
 
 /// Adds the warnings of a line.
 fn warn_of_line(
-    alloc: Global,
     text: &mut String,
     captured: bool,
     number: usize,
@@ -228,7 +192,7 @@ fn warn_of_line(
 {
     match line {
         Line::Allow(value) | Line::Disallow(value) if captured => {
-            warn_of_value(alloc, text, number, value)
+            warn_of_value(text, number, value)
         }
         _ => Ok(()),
     }
@@ -245,20 +209,14 @@ fn warn_of_urls(alloc: Global, text: &mut String, urls: &[String]) -> Result<(),
     Ok(())
 }
 
-/// Adds the warnings of the agent's rules.
-fn warn_of_rules(
-    alloc: Global,
-    text: &mut String,
-    agent: &str,
-    file: &[u8],
-) -> Result<(), AllocError>
+/// Adds the warnings of the lines.
+fn warn_of_lines(text: &mut String, marks: &[MarkedLine<'_>]) -> Result<(), AllocError>
     ensures { OnOk result (string_bytes text.new ≡ string_bytes text.old
-        ++ ended (flat_map mark_warnings
-        (marks_of (group_name agent.now (file_lines file.now)) (file_lines file.now)))) }
+        ++ ended (flat_map mark_warnings (map mark_by_value marks.now))) }
 {
-    for marked in marked_lines(agent, file) {
+    for marked in marks {
         let is_own = marked.standing == Standing::Own;
-        warn_of_line(alloc, text, is_own, marked.number, marked.line)?;
+        warn_of_line(text, is_own, marked.number, marked.line)?;
     }
     Ok(())
 }
@@ -268,14 +226,14 @@ pub(crate) fn warnings(
     alloc: Global,
     agent: &str,
     urls: &[String],
-    file: &[u8],
+    marks: &[MarkedLine<'_>],
 ) -> Result<String, AllocError>
     ensures { IfOk result (λ text. string_bytes text
-        ≡ ended (warnings agent.now (map string_bytes urls.now) (file_lines file.now))) }
+        ≡ ended (warnings agent.now (map string_bytes urls.now) (map mark_by_value marks.now))) }
 {
     let mut text = String::new(alloc);
     warn_of_agent(&mut text, agent)?;
     warn_of_urls(alloc, &mut text, urls)?;
-    warn_of_rules(alloc, &mut text, agent, file)?;
+    warn_of_lines(&mut text, marks)?;
     Ok(text)
 }

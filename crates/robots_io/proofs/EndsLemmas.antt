@@ -8,10 +8,6 @@ use Rattle.robots_io.specs.Ends.{AppendsBeginning}
 
 -- ---- writes
 
-pub appends_nothing : (old : Option (List ℕ)) → Appends old old []
-appends_nothing None = tt
-appends_nothing (Some held) = sym (append-nil held)
-
 appends_more : (old mid new : Option (List ℕ)) (xs ys : List ℕ) → Appends old mid xs
     → Appends mid new ys → Appends old new (xs ++ ys)
 appends_more None mid new xs ys one two = tt
@@ -38,25 +34,3 @@ appends_next old mid new n m text one two =
 pub is_beginning : (old new : Option (List ℕ)) (n : ℕ) (text : List ℕ) → Appends old new (take n text)
     → AppendsBeginning old new text
 is_beginning old new n text written = (take n text, drop n text, sym (take-append-drop n text), written)
-
--- ---- reads
-
-pub consumes_nothing : (old : Option (List ℕ)) → Consumes old old []
-consumes_nothing None = tt
-consumes_nothing (Some left) = refl
-
-pub consumes_more : (old mid new : Option (List ℕ)) (xs ys : List ℕ) → Consumes old mid xs
-    → Consumes mid new ys → Consumes old new (xs ++ ys)
-consumes_more None mid new xs ys one two = tt
-consumes_more (Some a) None new xs ys one two = absurd one
-consumes_more (Some a) (Some b) None xs ys one two = absurd two
-consumes_more (Some a) (Some b) (Some d) xs ys one two = one ∙ ap (λ t. xs ++ t) two
-    ∙ sym (append_assoc xs ys d)
-
-pub consumed_all : (old mid new : Option (List ℕ)) (xs : List ℕ) → Consumes old mid xs
-    → Consumes mid new [] → IsAtEnd new → IfSome old (λ bytes. xs ≡ bytes)
-consumed_all None mid new xs one two end = tt
-consumed_all (Some a) None new xs one two end = absurd one
-consumed_all (Some a) (Some b) None xs one two end = absurd two
-consumed_all (Some a) (Some b) (Some d) xs one two end =
-    sym (one ∙ ap (λ t. xs ++ t) (two ∙ end) ∙ append-nil xs)

@@ -1,2 +1,3 @@
 pub mod EndsLemmas
 pub mod LinesLemmas
+pub mod VerdictsLemmas

@@ -5,3 +5,4 @@
 pub mod ends;
 pub mod fakes;
 pub mod lines;
+pub mod verdicts;

@@ -1,7 +1,7 @@
 //! The marked lines of a file, whether it names an agent, and any bytes escaped as rules are.
 use crate::helpers::{check, check_equal, check_text};
 use std::process::Abort;
-use texting_robots::marks::{MarkedLine, Standing, is_named, marked_lines};
+use texting_robots::marks::{MarkedLine, Standing, is_named, marked_lines, overlong_line};
 use texting_robots::parser::Line;
 use texting_robots::push_escaped_bytes;
 
@@ -160,6 +160,27 @@ fn a_file_names_its_agents(rt: HostRuntime) {
     check(&rt, "b", is_named("b", FILE));
     check(&rt, "d", !is_named("d", FILE));
     check(&rt, "*", !is_named("*", FILE));
+}
+
+/// The file's first overlong rule for the agent stands in this line.
+fn check_overlong(rt: &(impl Abort + AllocGlobal), agent: &str, file: &[u8], line: Option<usize>) {
+    let answer = overlong_line(rt.alloc(), agent, file).expect(rt, agent);
+    check_equal(rt, agent, &answer, &line);
+}
+
+#[test]
+fn the_first_overlong_rule_is_told(rt: HostRuntime) {
+    let mut file = String::from_str(rt.alloc(), "User-agent: a\nAllow: /$\nDisallow: /").expect(
+        &rt, "",
+    );
+    for _ in 0..4095 {
+        file.push('x').expect(&rt, "a byte");
+    }
+    // with the slash 4,096 bytes, and then `$`
+    file.push_str("$\nDisallow: /$\nUser-agent: b\nAllow: /$")
+        .expect(&rt, "lines");
+    check_overlong(&rt, "a", file.as_bytes(), Some(3));
+    check_overlong(&rt, "b", file.as_bytes(), None);
 }
 
 #[test]

@@ -3,26 +3,26 @@ use Rattle.std.proofs.Common.{◌≢◌, ◌⊎◌, inl, inr, ℕ, zero, suc}
 use Rattle.std.proofs.Common.{◌<◌, ◌==◌, Any, IsUtf8}
 use Rattle.std.proofs.Common.{Result, Ok, Err, List, [], ◌∷◌, ◌++◌}
 use Rattle.std.proofs.Common.{length, map, sym, refl, ap, subst, take, ◌∙◌, arith}
-use Rattle.std.specs.List.{AllByRecursion as Each, AllZip, Contains}
+use Rattle.std.specs.List.{AllByRecursion as Each, Contains}
 use Rattle.std.specs.Io.BufRead.{strip_last}
 use Rattle.std.specs.Str.{is_utf8}
 use Rattle.std.proofs.lemmas.Bool.{cases_Bool, cases_lt, eqb-false, eqb-true, false≢true}
 use Rattle.std.proofs.lemmas.Str.{IsUtf8-from_is_utf8, is_utf8-from_IsUtf8}
 use Rattle.texting_robots.specs.Pattern.{IsOverlong, collapsed, dollar}
-use Rattle.texting_robots.specs.Prepared.{prepared}
 use Rattle.texting_robots.specs.Computed.{lines_read}
 use Rattle.texting_robots.specs.Computed.{delay_for, placed_rules, rules_for}
-use Rattle.texting_robots.specs.Rules.{PlacedRule, Rule}
+use Rattle.texting_robots.specs.Rules.{Rule}
 use Rattle.texting_robots.specs.Computed.{sitemaps_in}
 use Rattle.texting_robots.specs.Robot.{IsFileRefused, file_limit}
 use Rattle.texting_robots.proofs.HeadlineLemmas.{lines_are_read, read_refused}
 use Rattle.texting_robots.proofs.HeldLemmas.{refusal_is_computed}
-use Rattle.texting_robots.proofs.BestLemmas.{Either, each_text_answered}
+use Rattle.texting_robots.proofs.BestLemmas.{Either}
 use Rattle.robots_verdict.specs.declared.fault.Fault.{Fault}
 use Rattle.robots_verdict.specs.declared.fault.Fault.TheVariants.{HeaderNotUtf8, InvalidRule, NoEmptyLine}
-use Rattle.robots_io.specs.Lines.{delay_line, ended, lf, verdict_line}
+use Rattle.robots_io.specs.Lines.{delay_line, ended, lf}
+use Rattle.robots_io.proofs.VerdictsLemmas.{some_lines}
 use Rattle.robots_verdict.specs.Input.{BeginsWithLine, IsInput, IsOneLine, cr}
-use Rattle.robots_verdict.specs.Report.{IsReport, IsReportText, IsVerdictLine, sitemap_line}
+use Rattle.robots_verdict.specs.Report.{IsReport, IsReportText, as_is, sitemap_line}
 use Rattle.robots_verdict.proofs.InputLemmas.{GoesOn, goes_first, goes_more, no_split, no_split_first}
 use Rattle.robots_verdict.proofs.InputLemmas.{rest_shorter, split_found}
 
@@ -145,31 +145,11 @@ overlong_or_not rule = elim (contains_or_not rule.0 dollar) [
 
 -- ---- the report
 
--- a line for each URL
-verdicts_of : (rules : List PlacedRule) (urls : List (List ℕ))
-    → (lines : List (List ℕ)) × AllZip (IsVerdictLine rules) urls lines
-verdicts_of rules [] = ([], tt)
-verdicts_of rules (url ∷ urls) =
-    let answered = each_text_answered rules (prepared url) in
-    let (lines, are) = verdicts_of rules urls in (
-      verdict_line answered.allowed answered.number url ∷ lines,
-      (
-        record {
-          allowed = answered.allowed;
-          number = answered.number;
-          verdict = answered.verdict;
-          deciding = answered.deciding;
-          whole = refl;
-        },
-        are,
-      ),
-    )
-
 text_of_report : (agent : List ℕ) (urls : List (List ℕ)) (file : List ℕ)
     → (text : List ℕ) × IsReportText agent urls file text
 text_of_report agent urls file =
     let lines = lines_read file in
-    let (verdict_lines, are) = verdicts_of (placed_rules agent lines) urls in (
+    let (verdict_lines, are) = some_lines as_is (placed_rules agent lines) urls in (
       ended (delay_line (delay_for agent lines) ∷ (map sitemap_line (sitemaps_in lines) ++ verdict_lines)),
       record { verdict_lines = verdict_lines; verdicts = are; whole = refl },
     )

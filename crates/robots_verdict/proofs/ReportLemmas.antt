@@ -1,92 +1,24 @@
 -- How a report is made, and that an input has one at most.
-use Rattle.std.proofs.Common.{◌≡◌, ◌≢◌, ℕ, ◌+◌, ◌<◌, length, take, slice_index_or}
-use Rattle.std.proofs.Common.{Bor, Bool, List, [], ◌∷◌, ◌++◌, Option, Some, None}
-use Rattle.std.proofs.Common.{Result, Ok, Err, IfSome, map, sym, refl, ap, subst, ◌∙◌}
+use Rattle.std.proofs.Common.{◌≡◌, ◌≢◌, ℕ, List, [], ◌∷◌, ◌++◌, Option, Some, None}
+use Rattle.std.proofs.Common.{Result, Ok, Err, IfSome, map, sym, refl, ap, subst, take, ◌∙◌}
 use Rattle.std.specs.Io.KnownBytes.{Appends}
-use Rattle.std.specs.List.{AllZip}
 use Rattle.std.specs.Result.{IsErrAnd}
-use Rattle.std.proofs.lemmas.List.{append-nil, map-append, take_more}
-use Rattle.texting_robots.specs.Decision.{IsDecidingLine}
-use Rattle.texting_robots.specs.Line.{LineValue}
-use Rattle.texting_robots.specs.Prepared.{prepared}
-use Rattle.texting_robots.specs.Computed.{lines_read}
-use Rattle.texting_robots.specs.Robot.{AnswerAlike, IsFileRefused, IsRobotOf, RobotValue, file_limit}
-use Rattle.texting_robots.specs.Computed.{delay_for}
-use Rattle.texting_robots.specs.Rules.{PlacedRule}
-use Rattle.texting_robots.specs.Computed.{placed_rules, sitemaps_in}
-use Rattle.texting_robots.specs.Rules.{unplaced}
-use Rattle.texting_robots.specs.Verdict.{IsVerdict}
+use Rattle.texting_robots.specs.Callers.{IsFileRefused, IsRobotOf, RobotValue, delay_for, file_limit}
+use Rattle.texting_robots.specs.Callers.{lines_read, placed_rules, sitemaps_in}
 use Rattle.texting_robots.proofs.GivenLemmas.{delay_is_computed, sitemaps_are_computed}
 use Rattle.texting_robots.proofs.HeadlineLemmas.{answers_computed}
-use Rattle.texting_robots.proofs.VerdictLemmas.{one_line_decides, one_verdict}
 use Rattle.robots_verdict.specs.declared.fault.Fault.{Fault}
 use Rattle.robots_verdict.specs.declared.fault.Fault.TheVariants.{HeaderNotUtf8, InvalidRule}
 use Rattle.robots_verdict.specs.declared.fault.Fault.TheVariants.{Memory, NoEmptyLine, Read, Write}
-use Rattle.robots_io.specs.Lines.{delay_line, ended, verdict_line}
-use Rattle.robots_verdict.specs.Input.{AreUtf8, HoldNotUtf8, IsInput}
 use Rattle.robots_io.specs.Ends.{AppendsBeginning}
+use Rattle.robots_io.specs.Lines.{delay_line, ended}
+use Rattle.robots_io.specs.Verdicts.{AddsVerdicts}
+use Rattle.robots_io.proofs.LinesLemmas.{ended-append, lines_added}
+use Rattle.robots_io.proofs.VerdictsLemmas.{lines_like, lines_once}
+use Rattle.robots_verdict.specs.Input.{AreUtf8, HoldNotUtf8, IsInput}
 use Rattle.robots_verdict.specs.Report.{AppendsReport, AppendsReportBeginning}
-use Rattle.robots_verdict.specs.Report.{HasFault, IsReport, IsReportText, IsVerdictLine, sitemap_line}
-use Rattle.robots_verdict.specs.Steps.{AddsVerdicts}
-use Rattle.robots_io.proofs.LinesLemmas.{all_zip-append, ended-append, lines_added}
+use Rattle.robots_verdict.specs.Report.{HasFault, IsReport, IsReportText, as_is, sitemap_line}
 use Rattle.robots_verdict.proofs.InputLemmas.{not_both, one_split}
-
--- ---- verdicts
-
-pub adds_nothing : (rules : List PlacedRule) (text : List ℕ) → AddsVerdicts rules [] text text
-adds_nothing rules text = record { lines = []; verdicts = tt; whole = sym (append-nil text) }
-
-pub adds_one : (rules : List PlacedRule) (url old new : List ℕ) (allowed : Bool) (number : Option ℕ)
-    → IsVerdict (unplaced rules) (prepared url) allowed → IsDecidingLine rules (prepared url) number
-    → new ≡ old ++ ended (verdict_line allowed number url ∷ [])
-    → AddsVerdicts rules (url ∷ []) old new
-adds_one rules url old new allowed number verdict deciding whole = record {
-  lines = verdict_line allowed number url ∷ [];
-  verdicts = (
-    record { allowed = allowed; number = number; verdict = verdict; deciding = deciding; whole = refl },
-    tt,
-  );
-  whole = whole;
-}
-
-pub adds_more : (rules : List PlacedRule) (urls others : List (List ℕ)) (old mid new : List ℕ)
-    → AddsVerdicts rules urls old mid → AddsVerdicts rules others mid new
-    → AddsVerdicts rules (urls ++ others) old new
-adds_more rules urls others old mid new one two = record {
-  lines = one.lines ++ two.lines;
-  verdicts = all_zip-append (IsVerdictLine rules) urls one.lines others two.lines one.verdicts two.verdicts;
-  whole = lines_added old mid new one.lines two.lines one.whole two.whole;
-}
-
--- one URL more of a list
-pub adds_at : (rules : List PlacedRule) (urls : List (Bor (List ℕ))) (place : ℕ) (url : Bor (List ℕ))
-    (old mid new : List ℕ) → place < length urls
-    → AddsVerdicts rules (map (λ url. url.now) (take place urls)) old mid
-    → AddsVerdicts rules ((slice_index_or urls place url).now ∷ []) mid new
-    → AddsVerdicts rules (map (λ url. url.now) (take (place + 1) urls)) old new
-adds_at rules urls place url old mid new below one two =
-    rw (take_more urls place url below, map-append)
-    (adds_more rules (map (λ url. url.now) (take place urls))
-    ((slice_index_or urls place url).now ∷ []) old mid new one two)
-
--- a robot's verdicts are those of its file
-lines_like : (agent : List ℕ) (lines : List LineValue) (robot : RobotValue)
-    → AnswerAlike robot.rules (placed_rules agent lines)
-    → (urls texts : List (List ℕ)) → AllZip (IsVerdictLine robot.rules) urls texts
-    → AllZip (IsVerdictLine (placed_rules agent lines)) urls texts
-lines_like agent lines robot is [] [] are = tt
-lines_like agent lines robot is [] (text ∷ texts) are = absurd are
-lines_like agent lines robot is (url ∷ urls) [] are = absurd are
-lines_like agent lines robot is (url ∷ urls) (text ∷ texts) (first, later) = (
-  record {
-    allowed = first.allowed;
-    number = first.number;
-    verdict = (is.verdicts (prepared url) first.allowed).0 first.verdict;
-    deciding = (is.deciding (prepared url) first.number).0 first.deciding;
-    whole = first.whole;
-  },
-  lines_like agent lines robot is urls texts later,
-)
 
 -- ---- the report
 
@@ -94,8 +26,8 @@ lines_like agent lines robot is (url ∷ urls) (text ∷ texts) (first, later) =
 pub text_made : (agent : List ℕ) (urls : List (List ℕ)) (file one two text : List ℕ)
     (robot : RobotValue)
     → IsRobotOf agent (lines_read file) robot → one ≡ ended (delay_line robot.delay ∷ [])
-    → two ≡ one ++ ended (map sitemap_line robot.sitemaps) → AddsVerdicts robot.rules urls two text
-    → IsReportText agent urls file text
+    → two ≡ one ++ ended (map sitemap_line robot.sitemaps)
+    → AddsVerdicts as_is robot.rules urls two text → IsReportText agent urls file text
 text_made agent urls file one two text robot is first second last =
     let lines = lines_read file in
     let delay : List (List ℕ) = delay_line (delay_for agent lines) ∷ [] in
@@ -104,31 +36,14 @@ text_made agent urls file one two text robot is first second last =
     let listed = (sitemaps_are_computed lines robot.sitemaps).0 is.sitemaps in
     record {
       verdict_lines = last.lines;
-      verdicts = lines_like agent lines robot (answers_computed agent lines robot.rules is.rules) urls
-          last.lines last.verdicts;
+      verdicts = lines_like as_is robot.rules (placed_rules agent lines)
+          (answers_computed agent lines robot.rules is.rules) urls last.lines last.verdicts;
       whole = lines_added one two text sitemaps last.lines (rw listed at second) last.whole
           ∙ ap (λ t. t ++ ended (sitemaps ++ last.lines)) (rw delayed at first)
           ∙ sym (ended-append delay (sitemaps ++ last.lines));
     }
 
 -- ---- one report
-
-lines_once : (rules : List PlacedRule) (urls lines others : List (List ℕ))
-    → AllZip (IsVerdictLine rules) urls lines
-    → AllZip (IsVerdictLine rules) urls others → lines ≡ others
-lines_once rules [] [] [] one two = refl
-lines_once rules [] [] (other ∷ others) one two = absurd two
-lines_once rules [] (line ∷ lines) others one two = absurd one
-lines_once rules (url ∷ urls) [] others one two = absurd one
-lines_once rules (url ∷ urls) (line ∷ lines) [] one two = absurd two
-lines_once rules (url ∷ urls) (line ∷ lines) (other ∷ others) (one, more) (two, rest) =
-    let answers =
-    one_verdict (unplaced rules) (prepared url) one.allowed two.allowed one.verdict two.verdict in
-    let numbers = one_line_decides rules (prepared url) one.number two.number one.deciding two.deciding in
-    let first : line ≡ other = one.whole ∙ ap (λ allowed. verdict_line allowed one.number url) answers
-    ∙ ap (λ number. verdict_line two.allowed number url) numbers ∙ sym two.whole in
-    let later : lines ≡ others = lines_once rules urls lines others more rest in
-    cc
 
 text_once : (agent : List ℕ) (urls : List (List ℕ)) (file text other : List ℕ)
     → IsReportText agent urls file text
@@ -138,7 +53,8 @@ text_once agent urls file text other one two =
     one.whole
     ∙ ap (λ verdicts.
     ended (delay_line (delay_for agent lines) ∷ (map sitemap_line (sitemaps_in lines) ++ verdicts)))
-    (lines_once (placed_rules agent lines) urls one.verdict_lines two.verdict_lines one.verdicts two.verdicts)
+    (lines_once as_is (placed_rules agent lines) urls one.verdict_lines two.verdict_lines one.verdicts
+    two.verdicts)
     ∙ sym two.whole
 
 -- a fact of one split holds of the other

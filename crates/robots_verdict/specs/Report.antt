@@ -1,17 +1,13 @@
 -- What the program writes of what it reads.
-use Rattle.std.specs.Prelude.{◌≡◌, ℕ, Bool, List, ◌∷◌}
+use Rattle.std.specs.Prelude.{◌≡◌, ℕ, List, ◌∷◌}
 use Rattle.std.specs.Prelude.{◌++◌, Option, Result, Ok, Err, codes, map, take}
 use Rattle.std.specs.List.{AllZip}
 use Rattle.std.specs.Io.KnownBytes.{Appends}
-use Rattle.texting_robots.specs.Decision.{IsDecidingLine}
-use Rattle.texting_robots.specs.Prepared.{prepared}
-use Rattle.texting_robots.specs.Computed.{delay_for, placed_rules, sitemaps_in}
-use Rattle.texting_robots.specs.Rules.{PlacedRule, unplaced}
-use Rattle.texting_robots.specs.Robot.{IsFileRefused, file_limit}
-use Rattle.texting_robots.specs.Verdict.{IsVerdict}
-use Rattle.texting_robots.specs.Computed.{lines_read}
+use Rattle.texting_robots.specs.Callers.{IsFileRefused, delay_for, file_limit, lines_read, placed_rules}
+use Rattle.texting_robots.specs.Callers.{sitemaps_in}
 use Rattle.robots_io.specs.Ends.{AppendsBeginning}
-use Rattle.robots_io.specs.Lines.{delay_line, ended, verdict_line}
+use Rattle.robots_io.specs.Lines.{delay_line, ended}
+use Rattle.robots_io.specs.Verdicts.{IsVerdictLine}
 use Rattle.robots_verdict.specs.declared.fault.Fault.{Fault}
 use Rattle.robots_verdict.specs.declared.fault.Fault.TheVariants.{HeaderNotUtf8, InvalidRule}
 use Rattle.robots_verdict.specs.declared.fault.Fault.TheVariants.{Memory, NoEmptyLine, Read, Write}
@@ -22,18 +18,14 @@ use Rattle.robots_verdict.specs.Input.{AreUtf8, HoldNotUtf8, IsInput}
 abbrev pub sitemap_line : List ℕ → List ℕ
 sitemap_line sitemap = codes "sitemap " ++ sitemap
 
--- the line says the rules' verdict on the URL, and which line of the file decides
-pub record IsVerdictLine (rules : List PlacedRule) (url line : List ℕ) : Type 0 where
-  pub allowed : Bool
-  pub number : Option ℕ
-  pub verdict : IsVerdict (unplaced rules) (prepared url) allowed
-  pub deciding : IsDecidingLine rules (prepared url) number
-  pub whole : line ≡ verdict_line allowed number url
+-- a URL is shown as it is
+abbrev pub as_is : List ℕ → List ℕ
+as_is url = url
 
 -- the text is the agent's delay, the file's sitemaps and the verdict on each URL, a line each
 pub record IsReportText (agent : List ℕ) (urls : List (List ℕ)) (file text : List ℕ) : Type 0 where
   pub verdict_lines : List (List ℕ)
-  pub verdicts : AllZip (IsVerdictLine (placed_rules agent (lines_read file))) urls verdict_lines
+  pub verdicts : AllZip (IsVerdictLine as_is (placed_rules agent (lines_read file))) urls verdict_lines
   pub whole : text ≡ ended (delay_line (delay_for agent (lines_read file))
       ∷ (map sitemap_line (sitemaps_in (lines_read file)) ++ verdict_lines))
 

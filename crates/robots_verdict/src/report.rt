@@ -1,14 +1,14 @@
 //! The report of an input.
 ghost use Rattle.std.specs.Prelude.{◌≡◌, ◌≢◌, ◌++◌, ◌∷◌, [], IfErr, IfOk, OnOk, Ok, map, string_bytes};
 ghost use Rattle.robots_io.specs.Lines.{ended};
-ghost use Rattle.robots_verdict.specs.Report.{HasFault, IsReport, sitemap_line};
-ghost use Rattle.robots_verdict.specs.Steps.{AddsVerdicts};
+ghost use Rattle.robots_io.specs.Verdicts.{AddsVerdict, AddsVerdicts};
+ghost use Rattle.robots_verdict.specs.Report.{HasFault, IsReport, as_is, sitemap_line};
 
 use crate::fault::Fault;
 use crate::header::read_header;
-use robots_io::lines::{push_delay, push_line, push_verdict_line};
+use robots_io::lines::{push_delay, push_line};
+use robots_io::verdicts::{decision_on, push_decision};
 use std::alloc::{AllocError, Global};
-use texting_robots::view::View;
 use texting_robots::{Error, Robot};
 
 /// Adds the lines of the sitemaps.
@@ -23,14 +23,13 @@ fn push_sitemaps(text: &mut String, sitemaps: &[String]) -> Result<(), AllocErro
 }
 
 /// Adds the line of the robot's verdict on a URL.
-#[tactic(auto, using(crate::proofs::ReportLemmas::adds_one))]
 fn push_verdict(alloc: Global, text: &mut String, robot: &Robot, url: &str) -> Result<(), Error>
-    ensures ok { OnOk result (AddsVerdicts robot.now.rules (url.now ∷ []) (string_bytes text.old) (string_bytes text.new)) }
+    ensures ok { OnOk result (AddsVerdict as_is robot.now.rules url.now (string_bytes text.old) (string_bytes text.new)) }
     ensures memory { IfErr result (λ error. error ≡ Error.Memory) }
 {
-    let prepared = Robot::prepare_url(alloc, url)?;
-    let decision = robot.decision(&mut View::new(&prepared));
-    Ok(push_verdict_line(alloc, text, decision.allowed, decision.line, url)?)
+    let decision = decision_on(alloc, robot, url)?;
+    push_decision(text, &decision)?;
+    Ok(push_line(text, "", url)?)
 }
 
 /// Adds the lines of the robot's verdicts on the URLs.
@@ -40,7 +39,7 @@ fn push_verdicts(
     robot: &Robot,
     urls: &[&str],
 ) -> Result<(), Error>
-    ensures ok { OnOk result (AddsVerdicts robot.now.rules
+    ensures ok { OnOk result (AddsVerdicts as_is robot.now.rules
         (map (λ url. url.now) urls.now) (string_bytes text.old) (string_bytes text.new)) }
     ensures memory { IfErr result (λ error. error ≡ Error.Memory) }
 {
@@ -58,7 +57,7 @@ pub(crate) fn report_of(alloc: Global, input: &[u8]) -> Result<String, Fault>
     let header = read_header(alloc, input)?;
     let robot = Robot::new(alloc, header.agent, header.file)?;
     let mut text = String::new(alloc);
-    push_delay(alloc, &mut text, robot.delay)?;
+    push_delay(&mut text, robot.delay)?;
     push_sitemaps(&mut text, &robot.sitemaps)?;
     push_verdicts(alloc, &mut text, &robot, &header.urls)?;
     Ok(text)

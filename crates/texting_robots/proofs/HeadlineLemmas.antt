@@ -1,7 +1,7 @@
 -- What the rules that lines hold answer, in whatever order they are listed.
 use Rattle.std.proofs.Common.{◌≡◌, inl, inr, ℕ, ◌+◌, ◌*◌, Bool, true, false}
 use Rattle.std.proofs.Common.{cond, List, Option, Some}
-use Rattle.std.proofs.Common.{[], ◌∷◌, None, IsPermutation, Result, Ok, Err, IfErr, IfOk}
+use Rattle.std.proofs.Common.{[], ◌∷◌, None, IsPermutation, Result, Ok, Err}
 use Rattle.std.proofs.Common.{length, map, refl, sym}
 use Rattle.std.proofs.Common.{subst, take, ◌∙◌, arith}
 use Rattle.std.specs.Result.{IsErrAnd}
@@ -15,16 +15,17 @@ use Rattle.texting_robots.specs.Headline.{IsAnswerOf}
 use Rattle.texting_robots.specs.Line.{AreFileLinesOf, HasLines, LineValue, Allow, Disallow, nul_as_lf}
 use Rattle.texting_robots.specs.Robot.{AnswerAlike, IsFileRefused, IsRobotOf, IsRobotOfFile, RobotValue}
 use Rattle.texting_robots.specs.Robot.{file_limit}
-use Rattle.texting_robots.specs.Rules.{AreRulesFor, GivesNothing, HoldsRule, IsRefused, PlacedRule, Rule}
-use Rattle.texting_robots.specs.Rules.{unplaced}
-use Rattle.texting_robots.specs.Steps.Robot.{IsComputedRobot, SomeOverlong}
+use Rattle.texting_robots.specs.Rules.{AreRulesFor, GivesNothing, HoldsRule, IsFirstOverlong, IsRefused}
+use Rattle.texting_robots.specs.Rules.{PlacedRule, Rule, unplaced}
+use Rattle.texting_robots.specs.Steps.Robot.{IsComputedRobot}
 use Rattle.texting_robots.specs.Verdict.{IsVerdict}
 use Rattle.texting_robots.specs.View.{LooksAtMost, ViewValue}
 use Rattle.texting_robots.proofs.BestLemmas.{none_denies, verdict_by}
 use Rattle.texting_robots.proofs.GivenLemmas.{delay_is_computed, sitemaps_are_computed}
-use Rattle.texting_robots.proofs.HeldLemmas.{computed_are, one_list, refusal_is_computed, rules_are_computed}
+use Rattle.texting_robots.proofs.HeldLemmas.{computed_are, one_list, refusal_is_computed}
+use Rattle.texting_robots.proofs.HeldLemmas.{rules_are_computed}
 use Rattle.texting_robots.proofs.LineLemmas.{each_text_has_its_lines}
-use Rattle.texting_robots.proofs.RulesLemmas.{refused_wider}
+use Rattle.texting_robots.proofs.RulesLemmas.{refused_wider, some_overlong}
 use Rattle.texting_robots.proofs.VerdictLemmas.{longest_permuted, same_lines, same_verdicts}
 
 -- ---- in whatever order
@@ -91,11 +92,9 @@ read_refused agent file is = of_lines _ (IsRefused agent) is (lines_read file) (
 pub has_lines : (file : List ℕ) (P : List LineValue → Type 0) → P (file_lines file) → HasLines file P
 has_lines file P is = (file_lines file, (each_text_has_its_lines (map nul_as_lf file) _).1 refl, is)
 
-pub robot_of : (agent file : List ℕ) (result : Result RobotValue Error)
-    → IfOk result (IsComputedRobot agent (file_lines file))
-    → IfOk result (IsRobotOfFile agent file)
-robot_of agent file (Err error) is = tt
-robot_of agent file (Ok robot) is =
+pub robot_of : (agent file : List ℕ) (robot : RobotValue) → IsComputedRobot agent (file_lines file) robot
+    → IsRobotOfFile agent file robot
+robot_of agent file robot is =
     let lines = file_lines file in
     has_lines file (λ l. IsRobotOf agent l robot) (record {
       delay = (delay_is_computed agent lines robot.delay).1 is.delay;
@@ -110,13 +109,11 @@ pub not_refused : (agent file : List ℕ) (robot : RobotValue) → IsRobotOfFile
 not_refused agent file robot (lines, are, is) refused =
     is.accepted (of_lines file (IsRefused agent) refused lines are)
 
-pub refused_of : (agent file : List ℕ) (result : Result RobotValue Error)
-    → IfErr result (IsMemoryOr (SomeOverlong agent (file_lines file)))
-    → IfErr result (IsMemoryOr (IsFileRefused agent file))
-refused_of agent file (Ok robot) refused = tt
-refused_of agent file (Err error) refused =
-    refused_wider _ _ error
-    (λ some. has_lines file (IsRefused agent) ((refusal_is_computed agent (file_lines file)).1 some)) refused
+pub refused_of : (agent file : List ℕ) (number : ℕ)
+    → IsFirstOverlong (placed_rules agent (file_lines file)) number → IsFileRefused agent file
+refused_of agent file number is =
+    has_lines file (IsRefused agent)
+    ((refusal_is_computed agent (file_lines file)).1 (some_overlong _ number is))
 
 -- a file that gives nothing has no rule and no sitemap that are computed
 pub nothing_of : (agent file : List ℕ) → HasLines file (GivesNothing agent)

@@ -1,10 +1,9 @@
 -- What the code's loops keep.
 use Rattle.std.proofs.Common.{◌≡◌, ℕ, false, cond, List, [], ◌∷◌, ◌++◌, Option, Some}
-use Rattle.std.proofs.Common.{None, length, slice_get, Result, Ok, Err, IfErr, append_assoc, length-append}
+use Rattle.std.proofs.Common.{None, length, slice_get, append_assoc, length-append}
 use Rattle.std.proofs.Common.{subst, sym, refl, ap, ◌∙◌, arith, suc, take, ◌+◌, inl, inr}
 use Rattle.std.specs.List.{All, Any, before_first, cons_option, filter_map, last_or, list_any}
 use Rattle.std.specs.Option.{option_to_list, option_or, IfSome, IsSomeAnd}
-use Rattle.std.specs.Result.{IsErrAnd}
 use Rattle.std.specs.Str.{IsUtf8, is_utf8}
 use Rattle.std.proofs.lemmas.Bool.{cases_Bool, false_from_ne_true, false≢true}
 use Rattle.std.proofs.lemmas.List.{append-nil, get_or-map, get_or_at, length-map}
@@ -14,7 +13,10 @@ use Rattle.texting_robots.specs.declared.error.Error.{Error}
 use Rattle.texting_robots.specs.declared.error.Error.TheVariants as mine
 use Rattle.texting_robots.specs.Line.{LineValue, Sitemap, delay_in, is_sitemap}
 use Rattle.texting_robots.specs.Computed.{sitemap_in}
-use Rattle.texting_robots.specs.Rules.{PlacedRule, Rule, unplaced}
+use Rattle.texting_robots.specs.Pattern.{IsOverlong}
+use Rattle.texting_robots.specs.Rules.{IsFirstOverlong, PlacedRule, Rule, unplaced}
+use Rattle.texting_robots.specs.Steps.Group.{placed}
+use Rattle.texting_robots.specs.Steps.Robot.{IsRefusalOf, refusal_at}
 use Rattle.texting_robots.specs.Error.{IsMemoryOr}
 use Rattle.texting_robots.proofs.BestLemmas.{placed_of}
 use Rattle.texting_robots.specs.Group.{is_agent}
@@ -48,12 +50,6 @@ pub refused_wider : (P Q : Type 0) (e : Error) → (P → Q) → IsMemoryOr P e 
 refused_wider P Q mine.InvalidRobots wider is = is
 refused_wider P Q mine.InvalidRule wider is = wider is
 refused_wider P Q mine.Memory wider is = is
-
--- and is passed on as it is
-pub passed_on : {T : Type 0} (P : Type 0) (r : Result T Error) (e : Error) → IsErrAnd r (λ x. x ≡ e)
-    → IsMemoryOr P e → IfErr r (IsMemoryOr P)
-passed_on P (Ok x) e same is = absurd same
-passed_on P (Err x) e same is = subst (λ (y : Error). IsMemoryOr P y) (sym same) is
 
 -- ---- the first pass
 
@@ -113,13 +109,6 @@ pub all_added : {X : Type 0} (P : X → Type 0) (old new : List X) (o : Option X
 all_added P old new None added here before = rw (added, append-nil) before
 all_added P old new (Some x) added here before = rw added (All-push P old x before here)
 
--- an item gave one of which P holds
-pub given_any : {X : Type 0} (P : X → Type 0) (o : Option X) (xs old : List X) → IsSomeAnd o P
-    → Any P (old ++ cons_option o xs)
-given_any P None xs old here = absurd here
-given_any P (Some x) xs old here =
-    (length old, x, simp length-append (omega arith), get_or_at old x xs x (length old) refl, here)
-
 pub option_or_none : {X : Type 0} (o : Option X) → option_or o None ≡ o
 option_or_none None = refl
 option_or_none (Some x) = refl
@@ -148,3 +137,44 @@ none_unplaced P rules none (k, rule, below, at, is) =
 pub no_rules : (rules : List PlacedRule) → unplaced rules ≡ [] → rules ≡ []
 no_rules [] none = refl
 no_rules (placed ∷ rules) none = absurd (let k : placed.rule ∷ unplaced rules ≡ [] = none in cc)
+
+-- ---- the rule for which a file is refused
+
+-- the rules that were taken aren't overlong, and that of this line is
+pub first_overlong : (number : ℕ) (rule : Option Rule) (taken left all : List PlacedRule)
+    → taken ++ cons_option (placed number rule) left ≡ all
+    → All (λ (other : PlacedRule). ¬ IsOverlong other.rule.0) taken
+    → IsSomeAnd (placed number rule) (λ (here : PlacedRule). IsOverlong here.rule.0)
+    → IsFirstOverlong all number
+first_overlong number None taken left all whole accepted is = absurd is
+first_overlong number (Some rule) taken left all whole accepted is = record {
+  front = taken;
+  placed = record { rule = rule; line = number };
+  back = left;
+  whole = sym whole;
+  accepted = accepted;
+  overlong = is;
+  line = refl;
+}
+
+pub some_overlong : (rules : List PlacedRule) (number : ℕ) → IsFirstOverlong rules number
+    → Any (λ (rule : Rule). IsOverlong rule.0) (unplaced rules)
+some_overlong rules number is =
+    any_unplaced (λ (rule : Rule). IsOverlong rule.0) rules (
+      length is.front,
+      is.placed,
+      rw is.whole (simp length-append (omega arith)),
+      rw is.whole (get_or_at is.front is.placed is.back is.placed (length is.front) refl),
+      is.overlong,
+    )
+
+-- what an error at a line comes to
+pub refused_at : (number : ℕ) (rule : Option Rule) (taken left all : List PlacedRule) (e : Error)
+    → taken ++ cons_option (placed number rule) left ≡ all
+    → All (λ (other : PlacedRule). ¬ IsOverlong other.rule.0) taken
+    → IsMemoryOr (IsSomeAnd (placed number rule) (λ (here : PlacedRule). IsOverlong here.rule.0)) e
+    → IsRefusalOf all (refusal_at number e)
+refused_at number rule taken left all mine.InvalidRobots whole accepted is = tt
+refused_at number rule taken left all mine.InvalidRule whole accepted is =
+    first_overlong number rule taken left all whole accepted is
+refused_at number rule taken left all mine.Memory whole accepted is = tt

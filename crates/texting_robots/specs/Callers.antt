@@ -8,7 +8,7 @@ pub use Rattle.texting_robots.specs.{Line.value_in, Delay.IsDelay}
 -- what an agent gets of them
 pub use Rattle.texting_robots.specs.Group.{IsCaptured, group_name, is_agent_named}
 pub use Rattle.texting_robots.specs.Rules.{PlacedRule, Rule, unplaced, AreRulesFor, HoldsRule, IsRefused}
-pub use Rattle.texting_robots.specs.Rules.{AreSitemapsOf, GivesNothing, IsDelayFor}
+pub use Rattle.texting_robots.specs.Rules.{AreSitemapsOf, GivesNothing, IsDelayFor, IsFirstOverlong}
 pub use Rattle.texting_robots.specs.Robot.{RobotValue, AnswerAlike, IsFileRefused, IsRobotOf, IsRobotOfFile}
 pub use Rattle.texting_robots.specs.Robot.{file_limit}
 pub use Rattle.texting_robots.specs.Marks.{AreMarksOf, Mark, StandsAs, is_named, is_own, mark_by_value}

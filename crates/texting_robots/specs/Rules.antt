@@ -1,7 +1,7 @@
 -- What an agent gets of the lines of a file: rules and delays by the places of the lines, counted from 0, and
 -- sitemaps line by line.
 use Rattle.std.specs.Prelude.{◌≡◌, ◌≢◌, ◌⊎◌, ◌↔◌, ℕ, ◌+◌, ◌<◌, ◌≤◌}
-use Rattle.std.specs.Prelude.{Bool, List, [], ◌∷◌}
+use Rattle.std.specs.Prelude.{All, Bool, List, [], ◌∷◌, ◌++◌}
 use Rattle.std.specs.Prelude.{Option, Some, None, AllPairs, Contains, IsTrue, map, slice_get}
 use Rattle.std.specs.Prelude.{if◌then◌else◌}
 use Rattle.std.specs.Str.{is_utf8}
@@ -42,6 +42,16 @@ pub record AreRulesFor (agent : List ℕ) (lines : List LineValue) (rules : List
   pub held : (placed : PlacedRule) → Contains rules placed
       ↔ ((place : ℕ) × (placed.line ≡ place + 1) × HoldsRule agent lines place placed.rule)
   pub once : AllPairs (λ (one other : PlacedRule). one.line ≢ other.line) rules
+
+-- the first of the rules that is overlong stands in the line with this number
+pub record IsFirstOverlong (rules : List PlacedRule) (number : ℕ) : Type 0 where
+  pub front : List PlacedRule
+  pub placed : PlacedRule
+  pub back : List PlacedRule
+  pub whole : rules ≡ front ++ placed ∷ back
+  pub accepted : All (λ (other : PlacedRule). ¬ IsOverlong other.rule.0) front
+  pub overlong : IsOverlong placed.rule.0
+  pub line : placed.line ≡ number
 
 -- some line holds an overlong rule for the agent
 abbrev pub IsRefused : List ℕ → List LineValue → Type 0

@@ -1,14 +1,17 @@
 //! The lines of a file as one agent gets them, for whoever shows a site owner which line does what.
-ghost use Rattle.std.specs.Prelude.{◌≡◌, ◌≤◌, length};
+ghost use Rattle.std.specs.Prelude.{◌≡◌, ◌≤◌, IfOk, MatchOption, length};
 ghost use Rattle.std.specs.Iterator.{YieldsFirstBy, item_count};
 ghost use Rattle.texting_robots.specs.Group.{group_name};
 ghost use Rattle.texting_robots.specs.Marks.{is_named, mark_by_value, marks_of};
 ghost use Rattle.texting_robots.specs.Line.{by_value};
-ghost use Rattle.texting_robots.specs.Computed.{file_lines};
+ghost use Rattle.texting_robots.specs.Computed.{file_lines, placed_rules};
+ghost use Rattle.texting_robots.specs.Rules.{IsFirstOverlong, IsRefused};
 ghost use Rattle.texting_robots.specs.Steps.Group.{stands};
 
 use crate::groups::{self, MarkedLines, group_for};
 use crate::parser::{Line, unread_file_lines};
+use crate::reading::{Refusal, read_file};
+use std::alloc::{AllocError, Global};
 use std::marker::Model;
 
 /// Where a line of a file stands to an agent.
@@ -131,4 +134,22 @@ pub fn is_named(agent: &str, txt: &[u8]) -> bool
         }
     }
     false
+}
+
+/// The number of the first line that holds an overlong rule for the crawler that calls itself `agent`, if one does: the line
+/// for which a robot is refused with [`Error::InvalidRule`](crate::Error::InvalidRule). All bytes are read, as by
+/// [`marked_lines`].
+///
+/// # Errors
+///
+/// `AllocError` where memory is refused.
+pub fn overlong_line(alloc: Global, agent: &str, txt: &[u8]) -> Result<Option<usize>, AllocError>
+    ensures { IfOk result (λ line. MatchOption line (¬ IsRefused agent.now (file_lines txt.now))
+        (IsFirstOverlong (placed_rules agent.now (file_lines txt.now)))) }
+{
+    match read_file(alloc, agent, txt) {
+        Ok(_) => Ok(None),
+        Err(Refusal::Overlong(line)) => Ok(Some(line)),
+        Err(Refusal::Memory) => Err(AllocError),
+    }
 }

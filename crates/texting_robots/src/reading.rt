@@ -6,7 +6,7 @@ ghost use Rattle.texting_robots.specs.Error.{IsMemoryOr};
 ghost use Rattle.texting_robots.specs.Pattern.{IsOverlong};
 ghost use Rattle.texting_robots.specs.Computed.{file_lines, placed_rules, rule_with, sitemaps_in};
 ghost use Rattle.texting_robots.specs.Steps.Group.{delay_at, passed_by, placed, rule_at, sitemap_at, text_from};
-ghost use Rattle.texting_robots.specs.Steps.Robot.{IsComputedRobot, SomeOverlong};
+ghost use Rattle.texting_robots.specs.Steps.Robot.{IsComputedRobot, IsRefusalOf, refusal_at};
 
 use crate::error::Error;
 use crate::groups::{Marked, group_for, marked_lines};
@@ -14,6 +14,25 @@ use crate::parser::{Line, unread_file_lines};
 use crate::robot::Robot;
 use crate::rules::{Gathered, Rules};
 use std::alloc::{AllocError, Global};
+
+/// Why a file gives no robot.
+#[derive(Drop)]
+pub(crate) enum Refusal {
+    /// The agent's rule in the line with this number is overlong, and none before it is.
+    Overlong(usize),
+    /// Memory was refused.
+    Memory,
+}
+
+/// What an error at the line with this number comes to.
+fn refusal_at(number: usize, error: Error) -> Refusal
+    ensures { result ≡ refusal_at number error }
+{
+    match error {
+        Error::InvalidRule => Refusal::Overlong(number),
+        Error::InvalidRobots | Error::Memory => Refusal::Memory,
+    }
+}
 
 /// What the lines gave so far.
 #[derive(Drop)]
@@ -108,16 +127,19 @@ impl Reading {
 }
 
 /// Reads a whole file, in two passes: for the agent's group, and for what the group's lines give.
-pub(crate) fn read_file(alloc: Global, agent: &str, txt: &[u8]) -> Result<Robot, Error>
+pub(crate) fn read_file(alloc: Global, agent: &str, txt: &[u8]) -> Result<Robot, Refusal>
     ensures robot { IfOk result (IsComputedRobot agent.now (file_lines txt.now)) }
-    ensures refused { IfErr result (IsMemoryOr (SomeOverlong agent.now (file_lines txt.now))) }
+    ensures refused { IfErr result (IsRefusalOf (placed_rules agent.now (file_lines txt.now))) }
     ensures without_memory { placed_rules agent.now (file_lines txt.now) ≡ []
         → sitemaps_in (file_lines txt.now) ≡ [] → IsOk result }
 {
     let group = group_for(agent.as_bytes(), unread_file_lines(txt));
     let mut reading = Reading::new(alloc);
     for marked in marked_lines(&group, unread_file_lines(txt)) {
-        reading.take(alloc, marked)?;
+        let number = marked.number;
+        if let Err(error) = reading.take(alloc, marked) {
+            return Err(refusal_at(number, error));
+        }
     }
     Ok(Robot {
         delay: reading.delay.or(group.stray_delay),

@@ -12,7 +12,7 @@ ghost use Rattle.texting_robots.specs.Verdict.{IsVerdict};
 pub use crate::decision::Decision;
 use crate::error::Error;
 use crate::prepared::{prepare, target};
-use crate::reading::read_file;
+use crate::reading::{Refusal, read_file};
 use crate::rules::Rules;
 use crate::view::View;
 use std::alloc::Global;
@@ -75,7 +75,11 @@ impl Robot {
         ensures refused { IfErr result (IsMemoryOr (IsFileRefused agent.now (take limit txt.now))) }
         ensures without_memory { HasLines (take limit txt.now) (GivesNothing agent.now) → IsOk result }
     {
-        read_file(alloc, agent, &txt[..limit.min(txt.len())])
+        match read_file(alloc, agent, &txt[..limit.min(txt.len())]) {
+            Ok(robot) => Ok(robot),
+            Err(Refusal::Overlong(_)) => Err(Error::InvalidRule),
+            Err(Refusal::Memory) => Err(Error::Memory),
+        }
     }
 
     /// The text that rules are matched with: of a URL its path, query and fragment, as the crate `url` writes them.

@@ -1,7 +1,12 @@
--- A robot by what is computed of its lines.
-use Rattle.std.specs.Prelude.{◌≡◌, ℕ, List, Any, IsPermutation}
+-- A robot by what is computed of its lines, and why there is none.
+use Rattle.std.specs.Prelude.{◌≡◌, ⊤, ℕ, List, Any, IsPermutation}
 use Rattle.texting_robots.specs.{Line.LineValue, Pattern.IsOverlong, Robot.RobotValue, Rules.Rule}
 use Rattle.texting_robots.specs.Computed.{delay_for, placed_rules, rules_for, sitemaps_in}
+use Rattle.texting_robots.specs.Rules.{IsFirstOverlong, PlacedRule}
+use Rattle.texting_robots.specs.declared.error.Error.{Error}
+use Rattle.texting_robots.specs.declared.error.Error.TheVariants as error
+use Rattle.texting_robots.specs.declared.reading.Refusal.{Refusal}
+use Rattle.texting_robots.specs.declared.reading.Refusal.TheVariants.{Memory, Overlong}
 
 -- some rule of the lines is overlong
 abbrev pub SomeOverlong : List ℕ → List LineValue → Type 0
@@ -12,3 +17,14 @@ pub record IsComputedRobot (agent : List ℕ) (lines : List LineValue) (robot : 
   pub sitemaps : robot.sitemaps ≡ sitemaps_in lines
   pub rules : IsPermutation (placed_rules agent lines) robot.rules
   pub accepted : ¬ SomeOverlong agent lines
+
+-- what an error at the line with this number comes to
+abbrev pub refusal_at : ℕ → Error → Refusal
+refusal_at number error.InvalidRobots = Memory
+refusal_at number error.InvalidRule = Overlong number
+refusal_at number error.Memory = Memory
+
+-- the rules may be refused so: nothing is claimed of when a request for memory fails
+abbrev pub IsRefusalOf : List PlacedRule → Refusal → Type 0
+IsRefusalOf rules (Overlong number) = IsFirstOverlong rules number
+IsRefusalOf rules Memory = ⊤

@@ -1,8 +1,8 @@
 use Rattle.std.proofs.Common.{map, string_bytes, take}
-use Rattle.robots_audit.specs.Steps.{AddsVerdicts}
+use Rattle.robots_audit.specs.Steps.{Judges}
 use Rattle.robots_audit.proofs.report.push_verdicts.Given as goal
 
 abbrev pub invariant-loop-url : goal.invariant-loop-url
 invariant-loop-url l =
-    AddsVerdicts l.robot.rules (map string_bytes (take l.url-index l.urls)) l.all_allowed
-    (string_bytes l.fn.text) (string_bytes l.text)
+    Judges l.robot.rules (map string_bytes (take l.url-index l.urls)) (string_bytes l.fn.text)
+    (string_bytes l.text) l.all_allowed

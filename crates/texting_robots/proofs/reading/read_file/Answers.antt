@@ -1,6 +1,5 @@
 use Rattle.std.proofs.Common.{◌≡◌, ℕ, List, IsPermutation, ap}
 use Rattle.std.proofs.Common.{arith, slice_get, subst, sym, ◌∙◌}
-use Rattle.std.specs.List.{Any}
 use Rattle.std.specs.Option.{option_or}
 use Rattle.std.proofs.lemmas.List.{append-nil}
 use Rattle.std.proofs.lemmas.Bool.{false≢true}
@@ -11,15 +10,14 @@ use Rattle.texting_robots.specs.Computed.{delay_before_agents}
 use Rattle.texting_robots.specs.Rules.{PlacedRule, Rule}
 use Rattle.texting_robots.specs.Steps.Group.{passed_of}
 use Rattle.texting_robots.proofs.CapturedLemmas.{delays_passed, rules_passed, sitemaps_are}
-use Rattle.texting_robots.proofs.RulesLemmas.{all_added, any_unplaced, first_more, given_any}
-use Rattle.texting_robots.proofs.RulesLemmas.{given_more, given_none, none_unplaced}
-use Rattle.texting_robots.proofs.RulesLemmas.{option_or_none, passed_on, refused_wider}
+use Rattle.texting_robots.proofs.RulesLemmas.{all_added, first_more, given_more, given_none}
+use Rattle.texting_robots.proofs.RulesLemmas.{none_unplaced, option_or_none, refused_at}
 use Rattle.texting_robots.proofs.reading.read_file.Goals as goal
 
 pub loop-marked-preserved : goal.loop-marked-preserved
 loop-marked-preserved c =
     let next = c.in-Some.ensures.steps in
-    let added = c.in_ok-take.ensures in
+    let added = c.in_default.ensures in
     let so_far = c.loop-marked.invariant in
     record {
       known = added.known;
@@ -48,21 +46,19 @@ loop-marked-init c =
       accepted = λ k d below. absurd (omega arith);
     })
 
-pub returns-in_err-take-clause-refused : goal.returns-in_err-take-clause-refused
-returns-in_err-take-clause-refused c =
-    let overlong = λ (placed : PlacedRule). IsOverlong placed.rule.0 in
-    let rules = rw c.in-Some.ensures.steps at c.loop-marked.invariant.rules in
-    passed_on _ c.from_residual.result c.in_err-take.field-0.0 c.from_residual.ensures.1
-    (refused_wider _ _ _ (λ here. any_unplaced (λ (rule : Rule). IsOverlong rule.0) _
-    (subst (λ (all : List PlacedRule). Any overlong all) rules (given_any overlong _ _ _ here)))
-    c.in_err-take.ensures.refused)
+pub returns-in-Err-clause-refused : goal.returns-in-Err-clause-refused
+returns-in-Err-clause-refused c =
+    let so_far = c.loop-marked.invariant in
+    rw c.refusal_at.ensures
+    (refused_at c.in-Some.marked.number _ _ _ _ c.in-Err.error (rw c.in-Some.ensures.steps at so_far.rules)
+    so_far.accepted c.in-Err.ensures.refused)
 
 -- a line that takes memory gives a rule or a sitemap
-pub returns-in_err-take-clause-without_memory : goal.returns-in_err-take-clause-without_memory
-returns-in_err-take-clause-without_memory c = λ rules sitemaps.
+pub returns-in-Err-clause-without_memory : goal.returns-in-Err-clause-without_memory
+returns-in-Err-clause-without_memory c = λ rules sitemaps.
     let next = c.in-Some.ensures.steps in
     let so_far = c.loop-marked.invariant in
-    absurd (false≢true (c.in_err-take.ensures.unasked
+    absurd (false≢true (c.in-Err.ensures.unasked
     (given_none _ _ _ (rw next at so_far.rules ∙ rules))
     (given_none _ _ _ (rw next at so_far.sitemaps ∙ sitemaps))))
 

@@ -7,13 +7,21 @@ use Rattle.texting_robots.proofs.robot.Robot.with_limit.Goals as goal
 read : (limit n : ℕ) (txt : List ℕ) → n ≡ min limit (length txt) → take n txt ≡ take limit txt
 read limit n txt is = ap (λ n. take n txt) is ∙ take_min _ _
 
-pub returns-clause-robot : goal.returns-clause-robot
-returns-clause-robot c = robot_of _ _ _ (rw (read _ _ _ c.min.ensures) at c.read_file.ensures.robot)
+pub returns-in-Ok-clause-robot : goal.returns-in-Ok-clause-robot
+returns-in-Ok-clause-robot c =
+    robot_of _ _ _ (rw (read _ _ _ c.min.ensures) at c.in-Ok.ensures.robot)
 
-pub returns-clause-refused : goal.returns-clause-refused
-returns-clause-refused c = refused_of _ _ _ (rw (read _ _ _ c.min.ensures) at c.read_file.ensures.refused)
+pub returns-in-Err-Overlong-clause-refused : goal.returns-in-Err-Overlong-clause-refused
+returns-in-Err-Overlong-clause-refused c =
+    refused_of _ _ c.in-Err-Overlong.field-0-0
+    (rw (read _ _ _ c.min.ensures, c.in-Err-Overlong.field-0-is) at c.in-Err-Overlong.ensures.refused)
 
-pub returns-clause-without_memory : goal.returns-clause-without_memory
-returns-clause-without_memory c = λ nothing.
+pub returns-in-Err-Overlong-clause-without_memory : goal.returns-in-Err-Overlong-clause-without_memory
+returns-in-Err-Overlong-clause-without_memory c = λ nothing.
     let (rules, sitemaps) = nothing_of c.args.agent.now _ nothing in
-    (rw (read _ _ _ c.min.ensures) at c.read_file.ensures.without_memory) rules sitemaps
+    (rw (read _ _ _ c.min.ensures) at c.in-Err-Overlong.ensures.without_memory) rules sitemaps
+
+pub returns-in-Err-Memory-clause-without_memory : goal.returns-in-Err-Memory-clause-without_memory
+returns-in-Err-Memory-clause-without_memory c = λ nothing.
+    let (rules, sitemaps) = nothing_of c.args.agent.now _ nothing in
+    (rw (read _ _ _ c.min.ensures) at c.in-Err-Memory.ensures.without_memory) rules sitemaps

@@ -1,0 +1,52 @@
+-- Verdicts on URLs, as the programs show them.
+use Rattle.std.specs.Prelude.{◌≡◌, ℕ, Bool, true, false, List, [], ◌∷◌, ◌++◌}
+use Rattle.std.specs.Prelude.{Option, Some, None, codes, decimal}
+use Rattle.std.specs.List.{AllZip}
+use Rattle.texting_robots.specs.Callers.{IsDecidingLine, IsVerdict, PlacedRule, prepared, unplaced}
+use Rattle.texting_robots.specs.declared.decision.Decision.{Decision}
+use Rattle.robots_io.specs.Lines.{ended}
+
+-- ---- what is decided
+
+-- the rules' verdict on the URL, and the number of the line that decides
+pub record IsDecisionOn (rules : List PlacedRule) (url : List ℕ) (decision : Decision) : Type 0 where
+  pub verdict : IsVerdict (unplaced rules) (prepared url) decision.allowed
+  pub deciding : IsDecidingLine rules (prepared url) decision.line
+
+-- ---- a line
+
+abbrev pub verdict_word : Bool → List ℕ
+verdict_word true = codes "allow "
+verdict_word false = codes "deny "
+
+-- the number of the deciding line, or `-` where there is none
+abbrev pub line_text : Option ℕ → List ℕ
+line_text None = codes "-"
+line_text (Some number) = decimal number
+
+-- what stands before the URL
+abbrev pub verdict_front : Bool → Option ℕ → List ℕ
+verdict_front allowed number = verdict_word allowed ++ line_text number ++ codes " "
+
+-- the line says what the rules decide on the URL, in which a program shows it in its own way
+pub record IsVerdictLine (shown : List ℕ → List ℕ) (rules : List PlacedRule) (url line : List ℕ)
+    : Type 0 where
+  pub decision : Decision
+  pub decided : IsDecisionOn rules url decision
+  pub whole : line ≡ verdict_front decision.allowed decision.line ++ shown url
+
+-- ---- what was added to a text
+
+-- a line that says what the rules decide on the URL
+pub record AddsVerdict (shown : List ℕ → List ℕ) (rules : List PlacedRule) (url old new : List ℕ)
+    : Type 0 where
+  pub line : List ℕ
+  pub verdict : IsVerdictLine shown rules url line
+  pub whole : new ≡ old ++ ended (line ∷ [])
+
+-- such a line for each URL
+pub record AddsVerdicts (shown : List ℕ → List ℕ) (rules : List PlacedRule) (urls : List (List ℕ))
+    (old new : List ℕ) : Type 0 where
+  pub lines : List (List ℕ)
+  pub verdicts : AllZip (IsVerdictLine shown rules) urls lines
+  pub whole : new ≡ old ++ ended lines

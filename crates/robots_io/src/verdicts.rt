@@ -1,0 +1,49 @@
+//! Verdicts on URLs, as the programs show them.
+ghost use Rattle.std.specs.Prelude.{◌≡◌, ◌++◌, IfErr, IfOk, OnOk, string_bytes};
+ghost use Rattle.robots_io.specs.Verdicts.{IsDecisionOn, line_text, verdict_front, verdict_word};
+
+use crate::lines::push_number;
+use std::alloc::{AllocError, Global};
+use texting_robots::robot::Decision;
+use texting_robots::view::View;
+use texting_robots::{Error, Robot};
+
+/// What a robot decides on a URL.
+///
+/// # Errors
+///
+/// `Error::Memory` where memory is refused, or the URL comes to more bytes than `url` can count.
+pub fn decision_on(alloc: Global, robot: &Robot, url: &str) -> Result<Decision, Error>
+    ensures ok { IfOk result (IsDecisionOn robot.now.rules url.now) }
+    ensures memory { IfErr result (λ error. error ≡ Error.Memory) }
+{
+    let prepared = Robot::prepare_url(alloc, url)?;
+    Ok(robot.decision(&mut View::new(&prepared)))
+}
+
+/// The word of a verdict, with the space behind it.
+fn verdict_word(allowed: bool) -> &'static str
+    ensures { result.now ≡ verdict_word allowed }
+{
+    if allowed { "allow " } else { "deny " }
+}
+
+/// Adds the number of the deciding line, or `-` where there is none.
+fn push_line_number(text: &mut String, line: Option<usize>) -> Result<(), AllocError>
+    ensures { OnOk result (string_bytes text.new ≡ string_bytes text.old ++ line_text line) }
+{
+    match line {
+        Some(number) => push_number(text, number),
+        None => text.push('-'),
+    }
+}
+
+/// Adds what stands before the URL in the line of a verdict.
+pub fn push_decision(text: &mut String, decision: &Decision) -> Result<(), AllocError>
+    ensures { OnOk result (string_bytes text.new ≡ string_bytes text.old
+        ++ verdict_front decision.now.allowed decision.now.line) }
+{
+    text.push_str(verdict_word(decision.allowed))?;
+    push_line_number(text, decision.line)?;
+    text.push(' ')
+}

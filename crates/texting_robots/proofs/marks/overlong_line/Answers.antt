@@ -1,0 +1,12 @@
+use Rattle.texting_robots.proofs.HeldLemmas.{refusal_is_computed}
+use Rattle.texting_robots.proofs.marks.overlong_line.Goals as goal
+use Rattle.texting_robots.proofs.marks.overlong_line.Goals.{in-Ok, in-Err-Overlong, in-Err-Memory}
+
+pub returns : goal.returns
+returns c = elim c.match-read_file.branch [
+  | in-Ok w ↦ rw w.result-is
+      (λ refused. w.in-Ok.ensures.robot.accepted ((refusal_is_computed _ _).0 refused))
+  | in-Err-Overlong w ↦ rw w.result-is
+      (rw w.in-Err-Overlong.field-0-is at w.in-Err-Overlong.ensures.refused)
+  | in-Err-Memory w ↦ rw w.result-is tt
+]
