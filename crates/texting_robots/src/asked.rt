@@ -171,7 +171,18 @@ impl<'a> Asked for Uncounted<'a> {
     }
 
     fn find(&mut self, from: usize, piece: &[u8], _table: &[usize]) -> Option<usize> {
-        let at = memmem::find(&self.text[from..], piece)?;
-        Some(from + at + piece.len())
+        find_behind(self.text, from, piece)
     }
+}
+
+/// The place right behind the piece where it first stands in the text from `from` on.
+#[inline(never)]
+pub(crate) fn find_behind(text: &[u8], from: usize, piece: &[u8]) -> Option<usize>
+    requires { from ≤ length text.now }
+    ensures none { IfNone result (StandsNowhere piece.now (drop from text.now)) }
+    ensures some { IfSome result (λ end. (from ≤ end) × (end ≤ length text.now)
+        × IsBehindFirst piece.now (drop from text.now) (drop end text.now)) }
+{
+    let at = memmem::find(&text[from..], piece)?;
+    Some(from + at + piece.len())
 }
