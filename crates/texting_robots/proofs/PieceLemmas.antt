@@ -32,27 +32,18 @@ module _ {p : List ℕ} {ends : Ends} {pieces : List Piece} {borders : List ℕ}
   first = take ends.first_len p
 
   -- where the text begins with the first piece, what is left decides
-  pub first_in_front : (behind : List ℕ) → t ≡ first ++ behind → Matches p t
-      ↔ Matches are.rest behind
-  first_in_front behind split =
-      let (to, from) = are.decides t in (
-        λ m. let (after, e, n) = to m in
-            rw (sym (front_rest t first behind split) ∙ front_rest t first after e) n,
-        λ n. from (behind, split, n),
+  pub first_here : OccursAt t first 0 → Matches p t ↔ Matches are.rest (drop (length first) t)
+  first_here here =
+      let (to, from) = are.decides t in
+      let split = occurs_here t first 0 here ∙ ap (λ n. first ++ drop n t) (zero-add (length first)) in (
+        λ m. let (after, e, n) = to m in rw (front_rest t first after e) n,
+        λ n. from (drop (length first) t, split, n),
       )
 
   -- where it doesn't, nothing matches
-  pub first_absent : ((behind : List ℕ) → t ≢ first ++ behind) → ¬ Matches p t
-  first_absent absent m = let (after, e, n) = (are.decides t).0 m in absent after e
-
-  -- the same by places
-  pub first_here : OccursAt t first 0 → Matches p t ↔ Matches are.rest (drop (length first) t)
-  first_here here =
-      first_in_front (drop (length first) t)
-      (occurs_here t first 0 here ∙ ap (λ n. first ++ drop n t) (zero-add (length first)))
-
   pub first_missing : ¬ OccursAt t first 0 → ¬ Matches p t
-  first_missing missing = first_absent (λ after e. missing (here_occurs t first after 0 (omega arith) e).0)
+  first_missing missing m =
+      let (after, e, n) = (are.decides t).0 m in missing (here_occurs t first after 0 (omega arith) e).0
 
 module _ {left piece rest : List ℕ} (is : IsLeft left piece rest) (t : List ℕ) where
   -- a piece that may stand anywhere is placed where it first stands

@@ -176,7 +176,7 @@ impl<'a> Asked for Uncounted<'a> {
 }
 
 /// The place right behind the piece where it first stands in the text from `from` on.
-#[inline(never)]
+#[inline(always)]
 pub(crate) fn find_behind(text: &[u8], from: usize, piece: &[u8]) -> Option<usize>
     requires { from ≤ length text.now }
     ensures none { IfNone result (StandsNowhere piece.now (drop from text.now)) }
