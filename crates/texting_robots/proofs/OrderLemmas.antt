@@ -1,6 +1,7 @@
 -- What the order of patterns says in words.
 use Rattle.std.proofs.Common.{◌≡◌, ◌↔◌, ◌⊎◌, ℕ, ◌<◌, inl, inr, suc, arith, List}
-use Rattle.std.proofs.Common.{[], ◌∷◌, length, slice_index, take, zero, Less, Equal, Greater, sym, refl, ap, ◌∙◌}
+use Rattle.std.proofs.Common.{[], ◌∷◌, length, slice_index, take, zero, sym, refl, ap, ◌∙◌}
+use Rattle.std.proofs.Common.{Less, Equal, Greater}
 use Rattle.std.specs.Cmp.{IsTotalOrder, nat_cmp_is}
 use Rattle.std.specs.Cmp.Lexicographic.{slice_cmp}
 use Rattle.std.specs.Ordering.{MatchOrdering, nat_cmp, ordering_reverse, ordering_then}

@@ -12,8 +12,8 @@ use Rattle.texting_robots.specs.Pattern.{Matches}
 use Rattle.texting_robots.specs.Rules.{PlacedRule, Rule, unplaced}
 use Rattle.texting_robots.specs.Verdict.{IsDenied, IsVerdict, robots_file}
 
--- where each Disallow of these is one of the others, and each Allow of the others one of these, the others deny
--- what these deny
+-- where each Disallow of these is one of the others, and each Allow of the others one of these, the others
+-- deny what these deny
 denied_by : (rules others : List Rule) (text : List ℕ)
     → ((p : List ℕ) → Contains rules (p, false) → Contains others (p, false))
     → ((q : List ℕ) → Contains others (q, true) → Contains rules (q, true))

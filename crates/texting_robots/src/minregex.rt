@@ -11,7 +11,7 @@ ghost use Rattle.texting_robots.specs.Order.{IsBefore, pattern_cmp};
 ghost use Rattle.texting_robots.specs.Pattern.{IsOverlong, Matches, MatchesStars, collapsed};
 ghost use Rattle.texting_robots.specs.View.{LooksAtMost};
 
-use crate::asked::{Uncounted, find_behind};
+use crate::asked::{Uncounted, behind_first};
 use crate::error::Error;
 use crate::pieces::{Ends, Pattern, Piece, STAR, is_overlong, push_pieces};
 use crate::view::View;
@@ -131,10 +131,10 @@ impl MinRegex {
         };
         while let Some(pattern) = left {
             let (piece, next) = cut_at_star(pattern);
-            let Some(end) = find_behind(rest, 0, piece) else {
+            let Some(behind) = behind_first(rest, piece) else {
                 return false;
             };
-            (_, rest) = rest.split_at(end);
+            rest = behind;
             left = next;
         }
         true
