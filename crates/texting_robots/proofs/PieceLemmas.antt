@@ -2,12 +2,11 @@
 use Rattle.std.proofs.Common.{◌≡◌, ◌≢◌, ◌↔◌, ◌==◌, ℕ, ◌+◌, ◌-◌}
 use Rattle.std.proofs.Common.{◌<◌, ◌≤◌, true, List, [], ◌∷◌, ◌++◌, All, get_or}
 use Rattle.std.proofs.Common.{length, take, drop, refl, sym, ap, subst, ◌∙◌, append_assoc}
-use Rattle.std.proofs.Common.{append-nil, take-append-drop, zero-add, length-append, arith}
+use Rattle.std.proofs.Common.{append-nil, take-append-drop, length-append, arith}
 use Rattle.std.specs.List.{prefix_len}
 use Rattle.std.proofs.lemmas.List.{drop_all, drop_at, drop_more, take_at}
 use Rattle.std.proofs.lemmas.List.Elements.{All-cons, All-nil}
 use Rattle.std.proofs.lemmas.List.Prefix.{end_rest, front_rest}
-use Rattle.memchr.specs.Find.{OccursAt}
 use Rattle.texting_robots.specs.declared.pieces.Ends.{Ends}
 use Rattle.texting_robots.specs.declared.pieces.Ending.{Ending}
 use Rattle.texting_robots.specs.declared.pieces.Ending.TheVariants.{Open, Closed, Last, Never}
@@ -22,7 +21,7 @@ use Rattle.texting_robots.specs.Pattern.{IsSuffix, Matches, star}
 use Rattle.texting_robots.proofs.PatternLemmas.{closes_decides, end_matches, grows_at_mark, in_front}
 use Rattle.texting_robots.proofs.PatternLemmas.{mark_matches_none, plain_marks, somewhere, star_stars}
 use Rattle.texting_robots.proofs.PatternLemmas.{suffix_trans}
-use Rattle.texting_robots.proofs.PlacingLemmas.{first_is_enough, here_occurs, none_is_enough, occurs_here}
+use Rattle.texting_robots.proofs.PlacingLemmas.{first_is_enough, none_is_enough}
 
 -- ---- what pieces decide
 
@@ -32,8 +31,7 @@ module _ {p : List ℕ} {ends : Ends} {pieces : List Piece} {borders : List ℕ}
   first = take ends.first_len p
 
   -- where the text begins with the first piece, what is left decides
-  pub first_in_front : (behind : List ℕ) → t ≡ first ++ behind → Matches p t
-      ↔ Matches are.rest behind
+  pub first_in_front : (behind : List ℕ) → t ≡ first ++ behind → Matches p t ↔ Matches are.rest behind
   first_in_front behind split =
       let (to, from) = are.decides t in (
         λ m. let (after, e, n) = to m in
@@ -44,15 +42,6 @@ module _ {p : List ℕ} {ends : Ends} {pieces : List Piece} {borders : List ℕ}
   -- where it doesn't, nothing matches
   pub first_absent : ((behind : List ℕ) → t ≢ first ++ behind) → ¬ Matches p t
   first_absent absent m = let (after, e, n) = (are.decides t).0 m in absent after e
-
-  -- the same by places
-  pub first_here : OccursAt t first 0 → Matches p t ↔ Matches are.rest (drop (length first) t)
-  first_here here =
-      first_in_front (drop (length first) t)
-      (occurs_here t first 0 here ∙ ap (λ n. first ++ drop n t) (zero-add (length first)))
-
-  pub first_missing : ¬ OccursAt t first 0 → ¬ Matches p t
-  first_missing missing = first_absent (λ after e. missing (here_occurs t first after 0 (omega arith) e).0)
 
 module _ {left piece rest : List ℕ} (is : IsLeft left piece rest) (t : List ℕ) where
   -- a piece that may stand anywhere is placed where it first stands

@@ -1,90 +1,75 @@
 -- The verdict knows members only.
-use Rattle.std.proofs.Common.{◌≡◌, ◌<◌, ◌⊎◌, zero, suc, length, subst, refl}
-use Rattle.std.proofs.Common.{inl, inr, ℕ, Bool, true, false, List, [], ◌∷◌, ◌++◌}
-use Rattle.std.proofs.Common.{◌↔◌, Option, Some, None, ap, sym, ◌∙◌, IsPermutation, arith}
+use Rattle.std.proofs.Common.{◌≡◌, ◌≢◌, ◌<◌, ◌↔◌, ◌⊎◌, inl, inr, ℕ, zero, suc}
+use Rattle.std.proofs.Common.{Bool, true, false, List, [], ◌∷◌, ◌++◌, length, Option, Some, None}
+use Rattle.std.proofs.Common.{IsPermutation, ap, sym, subst, refl, ◌∙◌, arith}
+use Rattle.std.specs.Cmp.{both_ways}
 use Rattle.std.specs.List.{Contains}
 use Rattle.std.proofs.lemmas.Bool.{cases_Bool, cases_order, false≢true}
-use Rattle.std.proofs.lemmas.List.Elements.{Contains-append_left, Contains-append_right}
-use Rattle.std.proofs.lemmas.List.Elements.{Contains-append_cases, Contains-push_cases}
-use Rattle.std.proofs.lemmas.List.Sorted.{Contains-permutation, IsPermutation-map, IsPermutation-sym}
+use Rattle.std.proofs.lemmas.List.Sorted.{Contains-permutation, IsPermutation-map, IsPermutation-middle}
+use Rattle.std.proofs.lemmas.List.Sorted.{IsPermutation-sym}
 use Rattle.texting_robots.specs.Decision.{IsBetter, IsDecidingLine, IsLongestMatch}
-use Rattle.texting_robots.specs.Rules.{PlacedRule, Rule, unplaced}
-use Rattle.texting_robots.specs.Verdict.{IsDenied, IsVerdict}
-use Rattle.std.proofs.Common.{◌≢◌}
 use Rattle.texting_robots.specs.Pattern.{Matches}
-use Rattle.texting_robots.specs.Verdict.{robots_file}
+use Rattle.texting_robots.specs.Rules.{PlacedRule, Rule, unplaced}
+use Rattle.texting_robots.specs.Verdict.{IsDenied, IsVerdict, robots_file}
 
-denied_permuted : (rules others : List Rule) (text : List ℕ) → IsPermutation rules others
+-- where each Disallow of these is one of the others, and each Allow of the others one of these, the others
+-- deny what these deny
+denied_by : (rules others : List Rule) (text : List ℕ)
+    → ((p : List ℕ) → Contains rules (p, false) → Contains others (p, false))
+    → ((q : List ℕ) → Contains others (q, true) → Contains rules (q, true))
     → IsDenied rules text → IsDenied others text
-denied_permuted rules others text same (other, p, has, matches, longest) = (
-  other,
-  p,
-  Contains-permutation rules others (p, false) same has,
-  matches,
-  λ q stands.
-      longest q (Contains-permutation others rules (q, true) (IsPermutation-sym rules others same) stands),
-)
+denied_by rules others text denies allows (other, p, has, matches, longest) =
+    (other, p, denies p has, matches, λ q stands. longest q (allows q stands))
 
-verdict_permuted : (rules others : List Rule) (text : List ℕ) (answer : Bool) → IsPermutation rules others
-    → IsVerdict rules text answer → IsVerdict others text answer
-verdict_permuted rules others text true same holds =
-    λ denied. holds (denied_permuted others rules text (IsPermutation-sym rules others same) denied)
-verdict_permuted rules others text false same holds = denied_permuted rules others text same holds
+-- a list in another order has the same elements
+same_elements : {X : Type 0} (xs ys : List X) → IsPermutation xs ys → (x : X)
+    → Contains xs x ↔ Contains ys x
+same_elements xs ys same x =
+    (Contains-permutation xs ys x same, Contains-permutation ys xs x (IsPermutation-sym xs ys same))
 
 pub order_changes_nothing : (rules others : List Rule) (text : List ℕ) (answer : Bool)
     → IsPermutation rules others → IsVerdict rules text answer → IsVerdict others text answer
-order_changes_nothing = verdict_permuted
+order_changes_nothing rules others text answer same = at answer
+  where
+    alike : (rule : Rule) → Contains rules rule ↔ Contains others rule
+    alike = same_elements rules others same
 
-contains_more : (front back : List Rule) (added rule : Rule) → Contains (front ++ back) rule
-    → Contains (front ++ added ∷ back) rule
-contains_more front back added rule has =
-    elim (Contains-append_cases front back rule has) [
-      | inl first ↦ Contains-append_left front (added ∷ back) rule first
-      | inr last ↦ Contains-append_right front (added ∷ back) rule
-          (Contains-append_right (added ∷ []) back rule last)
-    ]
+    at : (answer : Bool) → IsVerdict rules text answer → IsVerdict others text answer
+    at true allowed =
+        λ denied. allowed (denied_by others rules text (λ p. (alike (p, false)).1)
+        (λ q. (alike (q, true)).0) denied)
+    at false denied =
+        denied_by rules others text (λ p. (alike (p, false)).0) (λ q. (alike (q, true)).1) denied
 
-contains_less : (front back : List Rule) (added rule : Rule) → (added ≡ rule → ⊥)
-    → Contains (front ++ added ∷ back) rule → Contains (front ++ back) rule
-contains_less front back added rule differs has =
-    elim (Contains-append_cases front (added ∷ back) rule has) [
-      | inl first ↦ Contains-append_left front back rule first
-      | inr rest ↦ elim (Contains-append_cases (added ∷ []) back rule rest) [
-        | inl one ↦ elim (Contains-push_cases [] added rule one) [
-          | inl (k, below, at) ↦ absurd (omega arith)
-          | inr same ↦ absurd (differs same)
-        ]
-        | inr last ↦ Contains-append_right front back rule last
-      ]
-    ]
+module _ (front back : List Rule) (added rule : Rule) where
+  moved : Contains (front ++ added ∷ back) rule ↔ Contains (added ∷ (front ++ back)) rule
+  moved = same_elements _ _ (IsPermutation-middle front added back) rule
 
-allow_isnt : (p q : List ℕ) → ◌≡◌ {A = Rule} (p, false) (q, true) → ⊥
-allow_isnt p q same = false≢true (ap (λ (r : Rule). r.1) same)
+  contains_more : Contains (front ++ back) rule → Contains (front ++ added ∷ back) rule
+  contains_more (k, below, at) = moved.1 (suc k, omega arith, at)
 
-disallow_isnt : (p q : List ℕ) → ◌≡◌ {A = Rule} (q, true) (p, false) → ⊥
-disallow_isnt p q same = false≢true (sym (ap (λ (r : Rule). r.1) same))
+  contains_less : added ≢ rule → Contains (front ++ added ∷ back) rule → Contains (front ++ back) rule
+  contains_less differs has = behind (moved.0 has)
+    where
+      behind : Contains (added ∷ (front ++ back)) rule → Contains (front ++ back) rule
+      behind (zero, below, at) = absurd (differs at)
+      behind (suc k, below, at) = (k, omega arith, at)
+
+kinds_differ : (p q : List ℕ) → ◌≢◌ {A = Rule} (p, false) (q, true)
+kinds_differ p q same = false≢true (ap (λ (r : Rule). r.1) same)
 
 pub one_more_disallow : (front back : List Rule) (pattern text : List ℕ)
     → IsVerdict (front ++ back) text false → IsVerdict (front ++ (pattern, false) ∷ back) text false
-one_more_disallow front back pattern text (other, p, has, matches, longest) = (
-  other,
-  p,
-  contains_more front back (pattern, false) (p, false) has,
-  matches,
-  λ q stands.
-      longest q (contains_less front back (pattern, false) (q, true) (allow_isnt pattern q) stands),
-)
+one_more_disallow front back pattern text =
+    denied_by _ _ text (λ p. contains_more front back (pattern, false) (p, false))
+    (λ q. contains_less front back (pattern, false) (q, true) (kinds_differ pattern q))
 
 pub one_more_allow : (front back : List Rule) (pattern text : List ℕ)
     → IsVerdict (front ++ back) text true → IsVerdict (front ++ (pattern, true) ∷ back) text true
-one_more_allow front back pattern text allowed (other, p, has, matches, longest) =
-    allowed (
-      other,
-      p,
-      contains_less front back (pattern, true) (p, false) (disallow_isnt p pattern) has,
-      matches,
-      λ q stands. longest q (contains_more front back (pattern, true) (q, true) stands),
-    )
+one_more_allow front back pattern text allowed denied =
+    allowed (denied_by _ _ text
+    (λ p. contains_less front back (pattern, true) (p, false) (λ same. kinds_differ p pattern (sym same)))
+    (λ q. contains_more front back (pattern, true) (q, true)) denied)
 
 of_two : (a b x : Rule) → Contains (a ∷ b ∷ []) x → ◌≡◌ {A = Rule} a x
     ⊎ ◌≡◌ {A = Rule} b x
@@ -99,7 +84,7 @@ length_decides deny allow text other denies allows = (
   λ (differs, p, has, matches, longest). elim (of_two (deny, false) (allow, true) (p, false) has) [
     | inl same ↦ subst (λ (r : Rule). length allow < length r.0) (sym same)
         (longest allow (1, omega arith, refl) allows)
-    | inr turned ↦ absurd (disallow_isnt p allow turned)
+    | inr turned ↦ absurd (kinds_differ p allow (sym turned))
   ],
   λ longer. (
     other,
@@ -107,7 +92,7 @@ length_decides deny allow text other denies allows = (
     (0, omega arith, refl),
     denies,
     λ q has matches. elim (of_two (deny, false) (allow, true) (q, true) has) [
-      | inl turned ↦ absurd (allow_isnt deny q turned)
+      | inl turned ↦ absurd (kinds_differ deny q turned)
       | inr same ↦ subst (λ (r : Rule). length r.0 < length deny) same longer
     ],
   ),
@@ -118,32 +103,31 @@ length_decides deny allow text other denies allows = (
 pub longest_permuted : (rules others : List PlacedRule) (text : List ℕ) (placed : PlacedRule)
     → IsPermutation rules others
     → IsLongestMatch rules text placed → IsLongestMatch others text placed
-longest_permuted rules others text placed same is = record {
-  listed = Contains-permutation rules others placed same is.listed;
-  matches = is.matches;
-  longest = λ other listed.
-      is.longest other (Contains-permutation others rules other (IsPermutation-sym rules others same) listed);
-}
+longest_permuted rules others text placed same is =
+    let alike = same_elements rules others same in record {
+      listed = (alike placed).0 is.listed;
+      matches = is.matches;
+      longest = λ other listed. is.longest other ((alike other).1 listed);
+    }
 
-pub deciding_permuted : (rules others : List PlacedRule) (text : List ℕ) (line : Option ℕ)
+deciding_permuted : (rules others : List PlacedRule) (text : List ℕ) (line : Option ℕ)
     → IsPermutation rules others
     → IsDecidingLine rules text line → IsDecidingLine others text line
 deciding_permuted rules others text None same is = elim is [
   | inl file ↦ inl file
-  | inr none ↦ inr (λ placed listed.
-      none placed (Contains-permutation others rules placed (IsPermutation-sym rules others same) listed))
+  | inr none ↦ inr (λ placed listed. none placed ((same_elements rules others same placed).1 listed))
 ]
-deciding_permuted rules others text (Some line) same (differs, placed, decides, at) = (
-  differs,
-  placed,
-  record {
-    listed = Contains-permutation rules others placed same decides.listed;
-    matches = decides.matches;
-    best = λ other listed. decides.best other
-        (Contains-permutation others rules other (IsPermutation-sym rules others same) listed);
-  },
-  at,
-)
+deciding_permuted rules others text (Some line) same (differs, placed, decides, at) =
+    let alike = same_elements rules others same in (
+      differs,
+      placed,
+      record {
+        listed = (alike placed).0 decides.listed;
+        matches = decides.matches;
+        best = λ other listed. decides.best other ((alike other).1 listed);
+      },
+      at,
+    )
 
 -- a robot with the rules of a file, in any order, gives the verdicts of the file, by the same lines
 pub same_verdicts : (rules others : List PlacedRule) → IsPermutation rules others
@@ -165,11 +149,6 @@ same_lines rules others same text line = (
 
 -- ---- one line decides
 
-same_bool : (a b : Bool) → (a ≡ true → b ≡ true) → (b ≡ true → a ≡ true) → a ≡ b
-same_bool true b to back = sym (to refl)
-same_bool false true to back = back refl
-same_bool false false to back = refl
-
 kind_not_better : (one other : PlacedRule) → length one.rule.0 ≡ length other.rule.0
     → ¬ IsBetter one other
     → one.rule.1 ≡ true → other.rule.1 ≡ true
@@ -185,7 +164,7 @@ same_line one other not nor = elim (cases_order (length one.rule.0) (length othe
   | inr (inl less) ↦ absurd (nor (inl less))
   | inr (inr more) ↦ absurd (not (inl more))
   | inl same ↦
-      let kinds = same_bool one.rule.1 other.rule.1 (kind_not_better one other same not)
+      let kinds = both_ways one.rule.1 other.rule.1 (kind_not_better one other same not)
       (kind_not_better other one (sym same) nor) in
       elim (cases_order one.line other.line) [
         | inl at ↦ at

@@ -11,6 +11,7 @@ pub mod Delay
 pub mod Line
 pub mod Captured
 pub mod Group
+pub mod Asked
 pub mod Border
 pub mod Stars
 pub mod Pieces

@@ -1,10 +1,12 @@
 //! Texts that patterns are matched against, with their looks counted or not.
-ghost use Rattle.std.specs.Prelude.{◌≡◌, ◌+◌, ◌*◌, ◌≤◌, ◌↔◌, IfNone, IfSome, IsTrue, codes, drop, length, unwrap_or};
+ghost use Rattle.std.specs.Prelude.{◌≡◌, ◌≢◌, ℕ, ◌+◌, ◌≤◌, ◌↔◌, ◌++◌, List, [], IfNone, IfSome, IsTrue, MatchOption, codes, drop, length};
+ghost use Rattle.std.specs.Option.{option_map_or};
 ghost use Rattle.memchr.specs.Find.{OccursAt};
 ghost use Rattle.texting_robots.specs.Steps.Border.{IsTable};
 ghost use Rattle.texting_robots.specs.Steps.Needs.{Meets, pair_set};
 ghost use Rattle.texting_robots.specs.Steps.Stars.{IsBehindFirst, StandsNowhere};
-ghost use Rattle.texting_robots.specs.View.{ViewValue};
+ghost use Rattle.texting_robots.specs.Pattern.{IsSuffix};
+ghost use Rattle.texting_robots.specs.Steps.Asked.{PassesTo};
 
 use crate::needs::Needs;
 use crate::needs::head::front;
@@ -15,14 +17,20 @@ use std::marker::Model;
 
 /// A text that patterns are matched against.
 pub(crate) trait Asked {
+    ghost use Rattle.std.specs.Prelude.{ℕ, List};
     ghost use Rattle.texting_robots.specs.View.{ViewValue};
+
+    /// Where what is left of the text begins.
+    type Rest: Copy;
 
     /// The text, and the looks at it that were counted.
     ghost seen: { Self → ViewValue };
 
-    /// How many bytes it has. It is no look.
-    fn len(&self) -> usize
-        ensures { result ≡ length (seen self.now).text };
+    /// Whether it is a place in the text.
+    ghost is_rest: { Self.Rest → List ℕ → Type 0 };
+
+    /// What is left of the text there.
+    ghost left: { Self.Rest → List ℕ → List ℕ };
 
     /// Whether it is `/robots.txt`. It is no look.
     fn is_robots_file(&self) -> bool
@@ -33,34 +41,44 @@ pub(crate) trait Asked {
         ensures answer { Meets needs (seen self.old).text → IsTrue result }
         ensures same { seen self.new ≡ seen self.old };
 
-    /// Whether the piece stands at this place.
-    fn stands_at(&mut self, at: usize, piece: &[u8]) -> bool
-        requires { at ≤ length (seen self.old).text }
-        ensures answer { IsTrue result ↔ OccursAt (seen self.old).text piece.now at }
-        ensures text { (seen self.new).text ≡ (seen self.old).text }
-        ensures looks { (seen self.old).looks ≤ (seen self.new).looks }
-        ensures by_piece { (seen self.new).looks ≤ (seen self.old).looks + length piece.now }
-        ensures by_text { (seen self.new).looks + at ≤ (seen self.old).looks + length (seen self.old).text };
+    /// What is left behind the piece, if the text begins with it.
+    fn begins_with(&mut self, piece: &[u8]) -> Option<Self::Rest>
+        ensures none { IfNone result ((behind : List ℕ) → (seen self.old).text ≢ piece.now ++ behind) }
+        ensures some { IfSome result (λ rest. is_rest rest (seen self.old).text
+            × ((seen self.old).text ≡ piece.now ++ left rest (seen self.old).text)) }
+        ensures cost { PassesTo (seen self.old) (seen self.new) (seen self.old).text
+            (option_map_or (λ rest. left rest (seen self.old).text) result []) };
 
-    /// The place right behind the piece where it first stands from `from` on. The table is the piece's.
-    fn find(&mut self, from: usize, piece: &[u8], table: &[usize]) -> Option<usize>
-        requires from { from ≤ length (seen self.old).text }
+    /// What is left behind the piece where it first stands in what is left. The table is the piece's.
+    fn find(&mut self, rest: Self::Rest, piece: &[u8], table: &[usize]) -> Option<Self::Rest>
+        requires rest { is_rest rest (seen self.old).text }
         requires table { IsTable piece.now table.now }
-        ensures none { IfNone result (StandsNowhere piece.now (drop from (seen self.old).text)) }
-        ensures some { IfSome result (λ end. (end ≤ length (seen self.old).text)
-            × IsBehindFirst piece.now (drop from (seen self.old).text) (drop end (seen self.old).text)) }
-        ensures text { (seen self.new).text ≡ (seen self.old).text }
-        ensures looks { (seen self.old).looks ≤ (seen self.new).looks }
-        ensures cost { (seen self.new).looks + 2 * from
-            ≤ (seen self.old).looks + 2 * unwrap_or result (length (seen self.old).text) };
+        ensures none { IfNone result (StandsNowhere piece.now (left rest (seen self.old).text)) }
+        ensures some { IfSome result (λ behind. is_rest behind (seen self.old).text
+            × IsBehindFirst piece.now (left rest (seen self.old).text) (left behind (seen self.old).text)) }
+        ensures cost { PassesTo (seen self.old) (seen self.new) (left rest (seen self.old).text)
+            (option_map_or (λ behind. left behind (seen self.old).text) result []) };
+
+    /// Whether what is left ends with the piece.
+    fn ends_with(&mut self, rest: Self::Rest, piece: &[u8]) -> bool
+        requires { is_rest rest (seen self.old).text }
+        ensures answer { IsTrue result ↔ IsSuffix piece.now (left rest (seen self.old).text) }
+        ensures cost { PassesTo (seen self.old) (seen self.new) (left rest (seen self.old).text) [] };
+
+    /// Whether nothing is left. It is no look.
+    fn is_at_end(&self, rest: Self::Rest) -> bool
+        requires { is_rest rest (seen self.now).text }
+        ensures { IsTrue result ↔ (left rest (seen self.now).text ≡ []) };
 }
 
 impl<'a> Asked for View<'a> {
+    type Rest = usize;
+
     ghost seen = { λ view. view };
 
-    fn len(&self) -> usize {
-        View::len(self)
-    }
+    ghost is_rest = { λ place text. place ≤ length text };
+
+    ghost left = { λ place text. drop place text };
 
     fn is_robots_file(&self) -> bool {
         View::is_robots_file(self)
@@ -70,21 +88,17 @@ impl<'a> Asked for View<'a> {
         true
     }
 
-    fn stands_at(&mut self, at: usize, piece: &[u8]) -> bool {
-        if piece.len() > View::len(self) - at {
-            return false;
+    fn begins_with(&mut self, piece: &[u8]) -> Option<usize> {
+        if stands_at(self, 0, piece) {
+            Some(piece.len())
+        } else {
+            None
         }
-        for (k, byte) in piece.iter().enumerate() {
-            if !self.same(at + k, *byte) {
-                return false;
-            }
-        }
-        true
     }
 
-    fn find(&mut self, from: usize, piece: &[u8], table: &[usize]) -> Option<usize> {
-        let len = View::len(self);
-        let mut place = from;
+    fn find(&mut self, rest: usize, piece: &[u8], table: &[usize]) -> Option<usize> {
+        let len = self.len();
+        let mut place = rest;
         let mut matched = 0;
         while matched < piece.len() {
             if place == len {
@@ -101,6 +115,34 @@ impl<'a> Asked for View<'a> {
         }
         Some(place)
     }
+
+    fn ends_with(&mut self, rest: usize, piece: &[u8]) -> bool {
+        piece.len() <= self.len() - rest && stands_at(self, self.len() - piece.len(), piece)
+    }
+
+    fn is_at_end(&self, rest: usize) -> bool {
+        rest == self.len()
+    }
+}
+
+/// Whether the piece stands in the text at this place.
+fn stands_at(view: &mut View<'_>, at: usize, piece: &[u8]) -> bool
+    requires { at ≤ length view.old.text }
+    ensures answer { IsTrue result ↔ OccursAt view.old.text piece.now at }
+    ensures text { view.new.text ≡ view.old.text }
+    ensures looks { view.old.looks ≤ view.new.looks }
+    ensures by_piece { view.new.looks ≤ view.old.looks + length piece.now }
+    ensures by_text { view.new.looks + at ≤ view.old.looks + length view.old.text }
+{
+    if piece.len() > view.len() - at {
+        return false;
+    }
+    for (k, byte) in piece.iter().enumerate() {
+        if !view.same(at + k, *byte) {
+            return false;
+        }
+    }
+    true
 }
 
 /// A text of which no look is counted, its first bytes as a number, and its pairs from the first time on that they are
@@ -150,11 +192,13 @@ impl<'a> Uncounted<'a> {
 }
 
 impl<'a> Asked for Uncounted<'a> {
+    type Rest = &'a [u8];
+
     ghost seen = { λ text. record { text = text; looks = 0 } };
 
-    fn len(&self) -> usize {
-        self.text.len()
-    }
+    ghost is_rest = { λ _ _. Unit };
+
+    ghost left = { λ rest text. rest.now };
 
     fn is_robots_file(&self) -> bool {
         self.text == b"/robots.txt".as_slice()
@@ -166,12 +210,29 @@ impl<'a> Asked for Uncounted<'a> {
             && (needs.pairs.is_empty() || needs.pairs.are_within(self.pairs()))
     }
 
-    fn stands_at(&mut self, at: usize, piece: &[u8]) -> bool {
-        self.text[at..].starts_with(piece)
+    fn begins_with(&mut self, piece: &[u8]) -> Option<&'a [u8]> {
+        self.text.strip_prefix(piece)
     }
 
-    fn find(&mut self, from: usize, piece: &[u8], _table: &[usize]) -> Option<usize> {
-        let at = memmem::find(&self.text[from..], piece)?;
-        Some(from + at + piece.len())
+    fn find(&mut self, rest: &'a [u8], piece: &[u8], _table: &[usize]) -> Option<&'a [u8]> {
+        behind_first(rest, piece)
     }
+
+    fn ends_with(&mut self, rest: &'a [u8], piece: &[u8]) -> bool {
+        rest.ends_with(piece)
+    }
+
+    fn is_at_end(&self, rest: &'a [u8]) -> bool {
+        rest.is_empty()
+    }
+}
+
+/// What follows the piece where it first stands in the text.
+pub(crate) fn behind_first<'a>(text: &'a [u8], piece: &[u8]) -> Option<&'a [u8]>
+    ensures { MatchOption result (StandsNowhere piece.now text.now)
+        (λ rest. IsBehindFirst piece.now text.now rest.now) }
+{
+    let at = memmem::find(text, piece)?;
+    let (_, rest) = text.split_at(at + piece.len());
+    Some(rest)
 }

@@ -1,21 +1,21 @@
 //! Patterns of rules: `*` stands for any bytes, and `$` for the end of the text.
-ghost use Rattle.std.specs.Prelude.{◌≡◌, ◌≢◌, ◌+◌, ◌*◌, ◌≤◌, ◌↔◌, ◌==◌, IsTrue, IfErr, IfOk, IsErrOf, OnOk, MatchOption, length, string_bytes};
+ghost use Rattle.std.specs.Prelude.{◌≡◌, ◌≢◌, ◌+◌, ◌*◌, ◌≤◌, ◌↔◌, ◌==◌, IsTrue, IfErr, IfOk, IsErrOf, OnOk, length, string_bytes};
 ghost use Rattle.std.specs.Cmp.{partial_order_from_own_ties};
 ghost use Rattle.std.specs.Cmp.Lexicographic.{pointwise};
 ghost use Rattle.std.specs.Cmp.Rules.{comparing};
 ghost use Rattle.std.specs.Ordering.{as_partial_cmp, on};
 ghost use Rattle.std.proofs.Common.{rules};
-ghost use Rattle.texting_robots.specs.Steps.Stars.{IsBehindFirst, IsCutAtStar, StandsNowhere};
+ghost use Rattle.texting_robots.specs.Steps.Stars.{IsCutAtStar};
 ghost use Rattle.texting_robots.specs.Error.{IsMemoryOr};
 ghost use Rattle.texting_robots.specs.Order.{IsBefore, pattern_cmp};
 ghost use Rattle.texting_robots.specs.Pattern.{IsOverlong, Matches, MatchesStars, collapsed};
 ghost use Rattle.texting_robots.specs.View.{LooksAtMost};
 
-use crate::asked::Uncounted;
+use crate::asked::{Uncounted, behind_first};
 use crate::error::Error;
 use crate::pieces::{Ends, Pattern, Piece, STAR, is_overlong, push_pieces};
 use crate::view::View;
-use memchr::{memchr, memmem};
+use memchr::memchr;
 use std::alloc::{AllocError, Global};
 use std::cmp::Ordering;
 use std::fmt::{self, Debug, Formatter};
@@ -234,14 +234,4 @@ fn cut_at_star(pattern: &[u8]) -> (&[u8], Option<&[u8]>)
         Some(at) => (&pattern[..at], Some(&pattern[at + 1..])),
         None => (pattern, None),
     }
-}
-
-/// What follows the piece where it first stands in the text.
-fn behind_first<'a>(text: &'a [u8], piece: &[u8]) -> Option<&'a [u8]>
-    ensures { MatchOption result (StandsNowhere piece.now text.now)
-        (λ rest. IsBehindFirst piece.now text.now rest.now) }
-{
-    let at = memmem::find(text, piece)?;
-    let (_, rest) = text.split_at(at + piece.len());
-    Some(rest)
 }

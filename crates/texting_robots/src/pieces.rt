@@ -1,10 +1,9 @@
 //! The pieces of a pattern, and where they stand in a text.
-ghost use Rattle.std.specs.Prelude.{◌≡◌, ℕ, ◌+◌, ◌-◌, ◌*◌, ◌≤◌, ◌↔◌, ◌++◌, ◌==◌, IsTrue, IfOk, IfNone, IfSome, unwrap_or, length, drop};
+ghost use Rattle.std.specs.Prelude.{◌≡◌, ℕ, ◌+◌, ◌-◌, ◌*◌, ◌≤◌, ◌↔◌, ◌++◌, ◌==◌, [], IsTrue, IfOk, length};
 ghost use Rattle.std.specs.List.{list_all, prefix_len};
-ghost use Rattle.memchr.specs.Find.{OccursAt};
+ghost use Rattle.texting_robots.specs.Steps.Asked.{PassesTo};
 ghost use Rattle.texting_robots.specs.Steps.Border.{IsTable};
 ghost use Rattle.texting_robots.specs.Steps.Pieces.{AddsPieces, ArePieces, Closes, EndsAs, IsCutAtMark, IsEnding, is_mark};
-ghost use Rattle.texting_robots.specs.Steps.Stars.{IsBehindFirst, StandsNowhere};
 ghost use Rattle.texting_robots.specs.Pattern.{IsOverlong, Matches, collapsed, star};
 ghost use Rattle.texting_robots.specs.View.{LooksAtMost};
 
@@ -109,20 +108,18 @@ impl<'a> Pattern<'a> {
         ensures answer { IsTrue result ↔ Matches self.now (A.seen asked.old).text }
         ensures looks { LooksAtMost (A.seen asked.old) (A.seen asked.new) (2 * length (A.seen asked.old).text) }
     {
-        let first = &self.bytes[..self.ends.first_len];
-        if !asked.stands_at(0, first) {
+        let Some(mut rest) = asked.begins_with(&self.bytes[..self.ends.first_len]) else {
             return false;
-        }
-        let mut place = first.len();
+        };
         for piece in self.pieces {
             let bytes = &self.bytes[piece.span.start..piece.span.end];
             let table = &self.borders[piece.table..piece.table + bytes.len().saturating_sub(1)];
-            match asked.find(place, bytes, table) {
-                Some(end) => place = end,
-                None => return false,
-            }
+            let Some(behind) = asked.find(rest, bytes, table) else {
+                return false;
+            };
+            rest = behind;
         }
-        ends_as(asked, self.bytes, self.ends.ending, place)
+        ends_as(asked, rest, self.bytes, self.ends.ending)
     }
 }
 
@@ -209,22 +206,17 @@ fn push_borders(borders: &mut Vec<usize>, piece: &[u8]) -> Result<(), AllocError
     Ok(())
 }
 
-/// Whether the text goes on from `place` as the ending says.
-fn ends_as<A: Asked>(asked: &mut A, pattern: &[u8], ending: Ending, place: usize) -> bool
-    requires place { place ≤ length (A.seen asked.old).text }
+/// Whether what is left of the text is as the ending says.
+fn ends_as<A: Asked>(asked: &mut A, rest: A::Rest, pattern: &[u8], ending: Ending) -> bool
+    requires rest { A.is_rest rest (A.seen asked.old).text }
     requires ending { IsEnding pattern.now ending }
-    ensures answer { IsTrue result ↔ EndsAs pattern.now ending (drop place (A.seen asked.old).text) }
-    ensures text { (A.seen asked.new).text ≡ (A.seen asked.old).text }
-    ensures looks { (A.seen asked.old).looks ≤ (A.seen asked.new).looks }
-    ensures cost { (A.seen asked.new).looks + place ≤ (A.seen asked.old).looks + length (A.seen asked.old).text }
+    ensures answer { IsTrue result ↔ EndsAs pattern.now ending (A.left rest (A.seen asked.old).text) }
+    ensures cost { PassesTo (A.seen asked.old) (A.seen asked.new) (A.left rest (A.seen asked.old).text) [] }
 {
     match ending {
         Ending::Open => true,
-        Ending::Closed => place == asked.len(),
-        Ending::Last(span) => {
-            let last = &pattern[span.start..span.end];
-            last.len() <= asked.len() - place && asked.stands_at(asked.len() - last.len(), last)
-        }
+        Ending::Closed => asked.is_at_end(rest),
+        Ending::Last(span) => asked.ends_with(rest, &pattern[span.start..span.end]),
         Ending::Never => false,
     }
 }

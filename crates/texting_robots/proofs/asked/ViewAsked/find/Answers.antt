@@ -8,7 +8,7 @@ use Rattle.texting_robots.proofs.asked.ViewAsked.find.Goals as goal
 pub returns-then-place-len-clause-none : goal.returns-then-place-len-clause-none
 returns-then-place-len-clause-none c =
     let none = open_none c.loop-matched.invariant.first c.loop-matched-test.true (omega arith) in
-    found_nowhere c.args.self.now.text c.args.piece.now c.args.from c.requires.from none
+    found_nowhere c.args.self.now.text c.args.piece.now c.args.rest c.requires.rest none
 
 pub loop-matched-preserved-then-same : goal.loop-matched-preserved-then-same
 loop-matched-preserved-then-same c =
@@ -64,5 +64,5 @@ returns-clause-some c =
     let behind = i.first.behind in
     let found = open_found i.first (omega arith) (omega arith) in
     let end : place - length piece + length piece ≡ place = omega arith in
-    let first = behind_found text piece c.args.from c.requires.from (place - length piece) found in
-    (omega arith, subst (λ n. IsBehindFirst piece (drop c.args.from text) (drop n text)) end first)
+    let first = behind_found text piece c.args.rest c.requires.rest (place - length piece) found in
+    (omega arith, subst (λ n. IsBehindFirst piece (drop c.args.rest text) (drop n text)) end first)

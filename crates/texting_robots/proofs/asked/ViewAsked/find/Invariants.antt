@@ -9,9 +9,9 @@ invariant-loop-matched l =
       text : l.self.text ≡ l.fn.self.text;
       within : l.place ≤ l.len;
       matched : l.matched ≤ length l.piece;
-      first : IsFirstOpen l.fn.self.text l.piece l.from (length l.fn.self.text) l.place l.matched;
+      first : IsFirstOpen l.fn.self.text l.piece l.rest (length l.fn.self.text) l.place l.matched;
       grows : l.fn.self.looks ≤ l.self.looks;
-      looks : l.self.looks + l.matched + 2 * l.from ≤ l.fn.self.looks + 2 * l.place;
+      looks : l.self.looks + l.matched + 2 * l.rest ≤ l.fn.self.looks + 2 * l.place;
     }
 
 abbrev pub decreases-loop-matched : goal.decreases-loop-matched

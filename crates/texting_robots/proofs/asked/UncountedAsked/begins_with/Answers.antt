@@ -1,0 +1,26 @@
+use Rattle.std.proofs.Common.{◌≡◌, ◌≢◌, ℕ, ◌++◌, List, Option, Some, None, MatchOption}
+use Rattle.std.specs.Borrow.{Bor}
+use Rattle.std.specs.Option.{IfNone, IfSome}
+use Rattle.std.proofs.lemmas.Bool.Decides.{Decides-eqb}
+use Rattle.std.proofs.lemmas.Slice.Eq.{strip_prefix_is}
+use Rattle.texting_robots.proofs.asked.UncountedAsked.begins_with.Goals as goal
+
+-- one fact on both ends as two facts
+parted : (text piece : List ℕ) (result : Option (Bor (List ℕ)))
+    → MatchOption result ((rest : List ℕ) → text ≢ piece ++ rest) (λ rest. text ≡ piece ++ rest.now)
+    → IfNone result ((rest : List ℕ) → text ≢ piece ++ rest)
+    × IfSome result (λ rest. Unit {0} × (text ≡ piece ++ rest.now))
+parted text piece None none = (none, tt)
+parted text piece (Some rest) split = (tt, (tt, split))
+
+pub returns-clause-none : goal.returns-clause-none
+returns-clause-none c =
+    let split = strip_prefix_is Decides-eqb c.self.inside.text.now c.args.piece.now c.strip_prefix.result
+    c.strip_prefix.ensures.cases in
+    rw (← c.self.view_is) (parted _ _ _ split).0
+
+pub returns-clause-some : goal.returns-clause-some
+returns-clause-some c =
+    let split = strip_prefix_is Decides-eqb c.self.inside.text.now c.args.piece.now c.strip_prefix.result
+    c.strip_prefix.ensures.cases in
+    rw (← c.self.view_is) (parted _ _ _ split).1

@@ -1,0 +1,11 @@
+use Rattle.std.proofs.Common.{length, take, ◌-◌}
+use Rattle.std.proofs.lemmas.Bool.Decides.{Decides-eqb}
+use Rattle.std.proofs.lemmas.Slice.Eq.{ends_is}
+use Rattle.texting_robots.proofs.asked.UncountedAsked.ends_with.Goals as goal
+
+pub returns-clause-answer : goal.returns-clause-answer
+returns-clause-answer c =
+    let rest = c.args.rest.now in
+    let piece = c.args.piece.now in
+    let h = ends_is Decides-eqb rest piece c.ends_with.result c.ends_with.ensures.value in
+    (λ yes. (take (length rest - length piece) rest, h.0 yes), λ (front, e). h.1 front e)

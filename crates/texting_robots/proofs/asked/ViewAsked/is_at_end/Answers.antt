@@ -1,0 +1,13 @@
+use Rattle.std.proofs.Common.{length, ap, eq-eqb, arith, length-drop}
+use Rattle.std.proofs.lemmas.Bool.{eqb-true}
+use Rattle.std.proofs.lemmas.List.{drop_all}
+use Rattle.texting_robots.proofs.asked.ViewAsked.is_at_end.Goals as goal
+
+pub returns : goal.returns
+returns c =
+    let text = c.args.self.now.text in
+    let place = c.args.rest in
+    let left = length-drop place text in (
+      λ h. drop_all place text (let e = eqb-true place c.len.result h in omega arith),
+      λ h. eq-eqb place c.len.result (let none = ap length h in omega arith),
+    )
