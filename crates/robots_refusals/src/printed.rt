@@ -35,20 +35,21 @@ fn prints_pattern(alloc: Global) -> Result<bool, Error> {
     Ok(text.as_str() == "MinRegex(\"/a**b\")")
 }
 
-/// A robot is printed with all of its rules: 101 that are as long, so in the order of their lines.
+/// A robot is printed with all of its rules, 101 that are as long and stand in the order of their lines: each with fifteen bytes and
+/// its number, with a comma and a blank behind each but the last.
 fn prints_robot(alloc: Global) -> Result<bool, Error> {
-    let mut file = String::new(alloc);
-    let mut want = String::from_str(alloc, "Robot { delay: None, sitemaps: [], rules: [")?;
-    for line in 1..=101u32 {
-        let front = if line == 1 { "" } else { ", " };
-        let rule = format!(in alloc; "{front}(\"/{line:03}\", false, {line})")?;
-        want.push_str(&rule)?;
-        file.push_str(&format!(in alloc; "Disallow: /{line:03}\n")?)?;
-    }
-    want.push_str("] }")?;
+    let file = "Disallow: /a\n".repeat(alloc, 101)?;
     let robot = Robot::new(alloc, "Bot", file.as_bytes())?;
     let text = format!(in alloc; "{robot:?}")?;
-    Ok(text == want)
+    Ok(is_robot_of_101(&text))
+}
+
+fn is_robot_of_101(text: &str) -> bool {
+    let numbers = 9 + 2 * 90 + 3 * 2;
+    text.starts_with(
+        "Robot { delay: None, sitemaps: [], rules: [(\"/a\", false, 1), (\"/a\", false, 2), ",
+    ) && text.ends_with(", (\"/a\", false, 101)] }")
+        && text.len() == 43 + (101 * 15 + numbers + 100 * 2) + 3
 }
 
 /// The errors of a cache, and what each says.
