@@ -74,8 +74,8 @@ before_agents (line ∷ lines) = elim (cases_Bool (is_agent line)) [
 ]
 
 -- the last delay before the first agent line of the lines that are left
-abbrev pub stray_from : Option ℕ → List LineValue → Option ℕ
-stray_from last lines =
+abbrev pub delay_from : Option ℕ → List LineValue → Option ℕ
+delay_from last lines =
     cond (list_any is_agent lines) (last_or last (filter_map delay_in (before_agent lines))) None
 
 pub last_more : {X : Type 0} (last o : Option X) (xs : List X)
