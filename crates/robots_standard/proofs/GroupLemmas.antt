@@ -17,7 +17,6 @@ use Rattle.robots_standard.specs.ReadAs.{IsReadAs}
 use Rattle.robots_standard.specs.Rfc9309.{Group, Member, merged, is_rule, has_token, groups_for}
 use Rattle.robots_standard.specs.Rfc9309 as rfc
 use Rattle.texting_robots.proofs.CapturedLemmas.{rules_are}
-use Rattle.texting_robots.proofs.LawLemmas.{all_reached}
 use Rattle.robots_standard.proofs.MergeLemmas.{AreApart, AreGroupLines, GivesRuleOf, IsLineFor}
 use Rattle.robots_standard.proofs.MergeLemmas.{merged_apart, merged_lines}
 use Rattle.robots_standard.proofs.WalkLemmas.{behind, found, group_step}
@@ -208,9 +207,7 @@ rules_spelled agent groups front lines all are =
     ∙ ap (λ b. b || list_any (is_agent_named low) lines) (none_front low front all)
     ∙ any_named low (merged groups) lines whole in
     let rules : rules_for agent (front ++ lines) ≡ found name p.next lines =
-    rules_are agent (front ++ lines)
-    ∙ all_reached rule_in name (front ++ lines)
-    ∙ p.same in
+    rules_are agent (front ++ lines) ∙ p.same in
     rw (rules, ← named_groups agent (merged groups) (front ++ lines) _ named refl) (
     groups_read name p.next (merged groups) lines whole (merged_apart groups)
     (ready_if (merged groups) p.next p.closed))

@@ -10,10 +10,10 @@ use Rattle.texting_robots.specs.declared.parser.statement.Kind.{Kind}
 use Rattle.texting_robots.specs.Line.{Raw}
 use Rattle.texting_robots.specs.Statement.{IsBehindBlanks, IsBehindColon, IsBlank, IsStatement}
 use Rattle.texting_robots.specs.Steps.Statement.{IsComment}
-use Rattle.texting_robots.specs.Steps.Statement.{kind_by, parts_of, skip_blanks, statement_of}
+use Rattle.texting_robots.specs.Steps.Statement.{kind_by, skip_blanks, statement_of}
 use Rattle.robots_standard.specs.Rfc9309 as rfc
-use Rattle.texting_robots.proofs.LineLemmas.{line_raw}
-use Rattle.texting_robots.proofs.StatementLemmas.{NoBlank, found_statement, kept, valued_parts, skip_front}
+use Rattle.texting_robots.proofs.LineLemmas.{line_raw, line_without_kind}
+use Rattle.texting_robots.proofs.StatementLemmas.{NoBlank, found_statement, kept, skip_front}
 use Rattle.texting_robots.proofs.TrimLemmas.{each_append}
 use Rattle.robots_standard.proofs.KeyedLemmas.{blanks_bare, blanks_low, comment_is, comment_text}
 use Rattle.robots_standard.proofs.KeyedLemmas.{each_weaker, end_bare}
@@ -38,13 +38,12 @@ empty_line text eol =
     let none : kind_by (skip_blanks body) ≡ None =
     ap kind_by (skip_front eol.blanks eol.comment eol.are_blanks)
     ∙ comment_no_key eol.comment comment in
-    let no_part : parts_of body ≡ None = rw none refl in
     let low =
     low_append eol.blanks eol.comment (blanks_low eol.blanks eol.are_blanks)
     (comment_low eol.comment comment) in
     subst (Reads []) (sym (eol.whole ∙ sym (append_assoc eol.blanks eol.comment eol.nl)))
     (reads_line (Raw body, written body) body eol.nl
-    (ap (λ line. (line, written body)) (line_raw body (valued_parts body no_part)))
+    (ap (λ line. (line, written body)) (line_without_kind body _ refl none))
     (end_bare text eol) low eol.is_nl)
 
 -- ---- a text in small letters

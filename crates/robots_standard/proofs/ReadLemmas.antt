@@ -10,10 +10,9 @@ use Rattle.texting_robots.specs.Line.{is_raw}
 use Rattle.texting_robots.specs.Steps.Cut.{cut}
 use Rattle.robots_standard.specs.Rfc9309.{IsNl}
 use Rattle.texting_robots.proofs.CrLfLemmas.{bodies_of}
-use Rattle.texting_robots.proofs.LineLemmas.{line_raw}
+use Rattle.texting_robots.proofs.LineLemmas.{line_without_kind}
 use Rattle.robots_standard.proofs.BodyLemmas.{body_return, body_step, step}
 use Rattle.texting_robots.proofs.TrimLemmas.{each_append}
-use Rattle.texting_robots.proofs.StatementLemmas.{valued_parts}
 use Rattle.robots_standard.proofs.Told.{Told, matters, told_of, written}
 
 -- ---- what is heard of a text
@@ -29,7 +28,7 @@ heard text = heard_in (bodies_of (cut text))
 pub empty_unheard : (bodies : List (List ℕ)) → heard_in ([] ∷ bodies) ≡ heard_in bodies
 empty_unheard bodies =
     ap (λ line. cond (not (is_raw line)) ((line, written []) ∷ heard_in bodies) (heard_in bodies))
-    (line_raw [] (valued_parts [] refl))
+    (line_without_kind [] [] refl refl)
 
 -- ---- a line and its end
 

@@ -13,14 +13,14 @@ use Rattle.texting_robots.specs.Computed.{rule_in}
 use Rattle.texting_robots.specs.Rules.{Rule}
 use Rattle.texting_robots.specs.Steps.Group.{step}
 use Rattle.robots_standard.specs.Rfc9309.{Member}
-use Rattle.texting_robots.proofs.LawLemmas.{reached}
+use Rattle.texting_robots.proofs.CapturedLemmas.{given_captured}
 use Rattle.robots_standard.proofs.MergeLemmas.{IsLineFor}
 
 -- ---- the walk along such lines
 
 -- the rules that the walk finds
 abbrev pub found : List ℕ → Walk → List LineValue → List Rule
-found name walk lines = reached rule_in name walk lines
+found name walk lines = given_captured rule_in name walk lines
 
 abbrev pub is_named : List ℕ → List ℕ → Bool
 is_named name token = bytes_eq (str_to_ascii_lowercase token) name

@@ -1,6 +1,7 @@
 //! What a file of the standard's syntax (RFC 9309, section 2.2) comes to when this library reads it: laws over the definitions
 //! alone, each the contract of a function that computes nothing.
 #![tactic(auto)]
+
 ghost use Rattle.std.specs.Prelude.{◌≡◌, ℕ, List, codes};
 ghost use Rattle.std.specs.List.{AllZip};
 ghost use Rattle.robots_standard.specs.ReadAs.{IsReadAs};

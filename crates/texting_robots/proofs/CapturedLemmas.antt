@@ -2,7 +2,7 @@
 use Rattle.std.proofs.Common.{◌≡◌, ◌≤◌, inl, inr, ℕ, zero, suc}
 use Rattle.std.proofs.Common.{◌+◌, ◌<◌, nat_lt, Bool, true, false, not, ◌&&◌}
 use Rattle.std.proofs.Common.{◌||◌, List, [], ◌∷◌, Option, Some, None, slice_get}
-use Rattle.std.proofs.Common.{drop, cond, add-one, map, ap, sym, refl, ◌∙◌, arith}
+use Rattle.std.proofs.Common.{drop, cond, add-one, ap, sym, refl, ◌∙◌, arith}
 use Rattle.std.specs.Prelude.{IsTrue, filter}
 use Rattle.std.specs.Bool.{Decides}
 use Rattle.std.proofs.Math.Bool.{and-true, and-false, or-false}
@@ -19,13 +19,9 @@ use Rattle.texting_robots.specs.Group.{IsCaptured, group_name, is_agent, is_agen
 use Rattle.texting_robots.specs.Group.{passes_at}
 use Rattle.texting_robots.specs.Steps.Captured.{is_captured, some_below}
 use Rattle.texting_robots.specs.Line.{delay_in}
-use Rattle.texting_robots.specs.Computed.{captured_delays, placed_in, placed_rules}
-use Rattle.texting_robots.specs.Rules.{PlacedRule, Rule}
-use Rattle.texting_robots.specs.Computed.{rule_in, rules_for, sitemap_in, sitemaps_in}
-use Rattle.texting_robots.specs.Rules.{unplaced}
-use Rattle.texting_robots.specs.Steps.Group.{Passed, by_test, in_captured, passed_from, passed_of}
-use Rattle.texting_robots.specs.Steps.Group.{placed, rule_at}
-use Rattle.texting_robots.specs.Steps.Group.{sitemap_at, start_of, step}
+use Rattle.texting_robots.specs.Computed.{captured_delays, captured_lines, placed_in, rule_in, rules_for}
+use Rattle.texting_robots.specs.Rules.{PlacedRule, Rule, unplaced}
+use Rattle.texting_robots.specs.Steps.Group.{from_captured, if_captured, placed, start_of, step}
 
 -- ---- tests of places: of agent lines, group lines and agent lines of the name
 
@@ -192,11 +188,11 @@ named_in name lines i =
     named_at (passes_at is_agent lines) (passes_at is_group lines) (passes_at (is_agent_named name) lines) i
 
 -- the walk's state says what the definition says of this place
-pub record Stands (name : List ℕ) (lines : List LineValue) (i : ℕ) (walk : Walk) : Type 0 where
+pub record StandsAt (name : List ℕ) (lines : List LineValue) (i : ℕ) (walk : Walk) : Type 0 where
   pub captured : is_captured name lines i ≡ walk.captured
   pub named : open_in name lines i ≡ walk.named
 
-pub stands_first : (name : List ℕ) (lines : List LineValue) → Stands name lines 0 (start_of lines)
+pub stands_first : (name : List ℕ) (lines : List LineValue) → StandsAt name lines 0 (start_of lines)
 stands_first name lines = record { captured = or-false _; named = refl }
 
 -- the tests at the place are those of its line
@@ -226,8 +222,8 @@ only_agents name (UserAgent value) isnt = absurd (false≢true (sym isnt))
 only_agents name _ isnt = refl
 
 pub stands_next : (name : List ℕ) (lines : List LineValue) (i : ℕ) (walk : Walk) (line : LineValue)
-    → slice_get lines i ≡ Some line → Stands name lines i walk
-    → Stands name lines (i + 1) (step name walk line)
+    → slice_get lines i ≡ Some line → StandsAt name lines i walk
+    → StandsAt name lines (i + 1) (step name walk line)
 stands_next name lines i walk line at stands = record {
   captured = named_on name lines i line at ∙ elim (cases_Bool (is_agent line)) [
     | inl is ↦ rw (is, (some_passes is_agent lines).1 (i, rw (at, is) refl), stands.named) refl
@@ -247,98 +243,72 @@ at_front (x ∷ lines) zero line rest h =
 at_front (x ∷ lines) (suc n) line rest h =
     let (at, next) = at_front lines n line rest h in (at, rw add-one (rw add-one at next))
 
-passed_are : (name : List ℕ) (all : List LineValue) (walk : Walk) (place : ℕ) (lines : List LineValue)
-    → Stands name all place walk → drop place all ≡ lines
-    → map (by_test (is_captured name all)) (enumerate_from place lines)
-    ≡ passed_from name walk place lines
-passed_are name all walk place [] stands left = refl
-passed_are name all walk place (line ∷ lines) stands left =
-    let (at, next) = at_front all place line lines left in
-    let stands_there = stands_next name all place walk line at stands in
-    let later = passed_are name all (step name walk line) (place + 1) lines stands_there next in
-    rw (stands.captured, stands_there.captured, later) refl
-
--- the walk from the start passes the lines as the definition has them
-pub passed_are_walked : (name : List ℕ) (lines : List LineValue)
-    → passed_of name lines ≡ passed_from name (start_of lines) 0 lines
-passed_are_walked name lines = passed_are name lines (start_of lines) 0 lines (stands_first name lines) refl
-
--- ---- what lines give
+-- ---- what captured lines give
 
 pub cond_same : {X : Type 0} (b : Bool) (x : X) → cond b x x ≡ x
 cond_same true x = refl
 cond_same false x = refl
 
--- the rules without their lines are what the captured lines give
-unplaced_next : (number : ℕ) (found : Option Rule) (rest : List PlacedRule) (rules : List Rule)
-    → unplaced rest ≡ rules
-    → unplaced (cons_option (placed number found) rest) ≡ cons_option found rules
-unplaced_next number None rest rules same = same
-unplaced_next number (Some rule) rest rules same = ap (λ (all : List Rule). rule ∷ all) same
+kept_next : {X Y : Type 0} (keeps : Bool) (given : Y → Option X) (y : Y) (ys : List Y)
+    → filter_map given (cond keeps (y ∷ ys) ys) ≡ cons_option (cond keeps (given y) None) (filter_map given ys)
+kept_next true given y ys = refl
+kept_next false given y ys = refl
 
-unplaced_found : (all : List Passed) → unplaced (filter_map rule_at all) ≡ filter_map
-    (in_captured rule_in) all
-unplaced_found [] = refl
-unplaced_found (passed ∷ all) =
-    unplaced_next passed.number (in_captured rule_in passed) (filter_map rule_at all) _ (unplaced_found all)
+-- the walk finds what the definition's captured lines give
+captured_left : {X : Type 0} (given : ℕ × LineValue → Option X) (name : List ℕ) (all : List LineValue)
+    (walk : Walk) (place : ℕ) (lines : List LineValue)
+    → StandsAt name all place walk → drop place all ≡ lines
+    → filter_map given (filter (λ p. is_captured name all p.0) (enumerate_from place lines))
+    ≡ from_captured given name walk place lines
+captured_left given name all walk place [] stands left = refl
+captured_left given name all walk place (line ∷ lines) stands left =
+    let (at, next) = at_front all place line lines left in
+    rw stands.captured (kept_next walk.captured given (place, line) _
+    ∙ ap (cons_option (if_captured walk (given (place, line))))
+    (captured_left given name all (step name walk line) (place + 1) lines
+    (stands_next name all place walk line at stands) next))
 
--- what `given` finds in the captured lines, in order
-abbrev pub from_captured : {X : Type 0} → (LineValue → Option X) → List ℕ
-    → List LineValue → List X
-from_captured given name lines = filter_map (in_captured given) (passed_of name lines)
+pub captured_walked : {X : Type 0} (given : ℕ × LineValue → Option X) (name : List ℕ) (lines : List LineValue)
+    → filter_map given (captured_lines name lines) ≡ from_captured given name (start_of lines) 0 lines
+captured_walked given name lines =
+    captured_left given name lines (start_of lines) 0 lines (stands_first name lines) refl
 
--- what is found in the captured lines is found in those that were passed
-found_passed : {X : Type 0} (at : Passed → Option X) (of : ℕ × LineValue → Option X)
-    (test : ℕ → Bool)
-    → ((p : ℕ × LineValue) → at (by_test test p) ≡ cond (test p.0) (of p) None)
-    → (ps : List (ℕ × LineValue))
-    → filter_map of (filter (λ p. test p.0) ps) ≡ filter_map at (map (by_test test) ps)
-found_passed at of test same [] = refl
-found_passed at of test same (p ∷ ps) = elim (cases_Bool (test p.0)) [
-  | inl is ↦ rw (same p, is) (ap (λ found. cons_option (of p) found) (found_passed at of test same ps))
-  | inr isnt ↦ rw (same p, isnt) (found_passed at of test same ps)
-]
+-- the same, where the places don't matter
+abbrev pub given_captured : {X : Type 0} → (LineValue → Option X) → List ℕ → Walk → List LineValue
+    → List X
+given_captured given name walk [] = []
+given_captured given name walk (line ∷ lines) =
+    cons_option (if_captured walk (given line)) (given_captured given name (step name walk line) lines)
 
-placed_under : (number : ℕ) (captured : Bool) (found : Option Rule)
-    → placed number (cond captured found None) ≡ cond captured (placed number found) None
-placed_under number true found = refl
-placed_under number false found = refl
+without_places : {X : Type 0} (given : LineValue → Option X) (name : List ℕ) (walk : Walk) (place : ℕ)
+    (lines : List LineValue)
+    → from_captured (λ p. given p.1) name walk place lines ≡ given_captured given name walk lines
+without_places given name walk place [] = refl
+without_places given name walk place (line ∷ lines) = ap (cons_option (if_captured walk (given line)))
+    (without_places given name (step name walk line) (place + 1) lines)
 
-pub rules_passed : (agent : List ℕ) (lines : List LineValue)
-    → placed_rules agent lines ≡ filter_map rule_at (passed_of (group_name agent lines) lines)
-rules_passed agent lines =
-    let test = is_captured (group_name agent lines) lines in
-    found_passed rule_at placed_in test (λ p. placed_under (p.0 + 1) (test p.0) (rule_in p.1))
-    (enumerate_from 0 lines)
+pub delays_are : (agent : List ℕ) (lines : List LineValue) → captured_delays agent lines
+    ≡ given_captured delay_in (group_name agent lines) (start_of lines) lines
+delays_are agent lines =
+    let name = group_name agent lines in
+    captured_walked (λ p. delay_in p.1) name lines ∙ without_places delay_in name (start_of lines) 0 lines
 
-pub delays_passed : (agent : List ℕ) (lines : List LineValue)
-    → captured_delays agent lines ≡ from_captured delay_in (group_name agent lines) lines
-delays_passed agent lines =
-    found_passed (in_captured delay_in) (λ p. delay_in p.1) (is_captured (group_name agent lines) lines)
-    (λ p. refl) (enumerate_from 0 lines)
+unplaced_next : (place : ℕ) (captured : Bool) (found : Option Rule) (rest : List PlacedRule)
+    → unplaced (cons_option (cond captured (placed (place + 1) found) None) rest)
+    ≡ cons_option (cond captured found None) (unplaced rest)
+unplaced_next place false found rest = refl
+unplaced_next place true None rest = refl
+unplaced_next place true (Some rule) rest = refl
+
+unplaced_left : (name : List ℕ) (walk : Walk) (place : ℕ) (lines : List LineValue)
+    → unplaced (from_captured placed_in name walk place lines) ≡ given_captured rule_in name walk lines
+unplaced_left name walk place [] = refl
+unplaced_left name walk place (line ∷ lines) = unplaced_next place walk.captured (rule_in line) _
+    ∙ ap (cons_option (if_captured walk (rule_in line)))
+    (unplaced_left name (step name walk line) (place + 1) lines)
 
 pub rules_are : (agent : List ℕ) (lines : List LineValue)
-    → rules_for agent lines ≡ from_captured rule_in (group_name agent lines) lines
+    → rules_for agent lines ≡ given_captured rule_in (group_name agent lines) (start_of lines) lines
 rules_are agent lines =
-    ap unplaced (rules_passed agent lines) ∙ unplaced_found (passed_of (group_name agent lines) lines)
-
-sitemaps_from : (test : ℕ → Bool) (n : ℕ) (lines : List LineValue)
-    → sitemaps_in lines ≡ filter_map sitemap_at (map (by_test test) (enumerate_from n lines))
-sitemaps_from test n [] = refl
-sitemaps_from test n (line ∷ lines) =
-    ap (λ found. cons_option (sitemap_in line) found) (sitemaps_from test (n + 1) lines)
-
--- the sitemaps of all lines that were passed are those of the lines
-pub sitemaps_are : (name : List ℕ) (lines : List LineValue)
-    → sitemaps_in lines ≡ filter_map sitemap_at (passed_of name lines)
-sitemaps_are name lines = sitemaps_from (is_captured name lines) 0 lines
-
--- what the walk finds in the lines that are left
-abbrev pub caught : {X : Type 0} → (LineValue → Option X) → List ℕ → Walk → ℕ
-    → List LineValue → List X
-caught given name walk place lines = filter_map (in_captured given) (passed_from name walk place lines)
-
--- the walk from the start finds what the captured lines give
-pub caught_all : {X : Type 0} (given : LineValue → Option X) (name : List ℕ) (lines : List LineValue)
-    → from_captured given name lines ≡ caught given name (start_of lines) 0 lines
-caught_all given name lines = ap (filter_map (in_captured given)) (passed_are_walked name lines)
+    let name = group_name agent lines in
+    ap unplaced (captured_walked placed_in name lines) ∙ unplaced_left name (start_of lines) 0 lines

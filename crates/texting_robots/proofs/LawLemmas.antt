@@ -19,33 +19,12 @@ use Rattle.texting_robots.specs.Pattern.{IsOverlong}
 use Rattle.texting_robots.specs.Verdict.{IsVerdict}
 use Rattle.texting_robots.specs.Steps.Group.{start_of, step}
 use Rattle.texting_robots.specs.Laws.{IsSameKind, Same, SameButSitemaps}
-use Rattle.texting_robots.proofs.CapturedLemmas.{Stands, at_front, caught, caught_all, from_captured}
-use Rattle.texting_robots.proofs.CapturedLemmas.{delays_passed, is_captured_decides}
+use Rattle.texting_robots.proofs.CapturedLemmas.{StandsAt, at_front, delays_are, given_captured}
+use Rattle.texting_robots.proofs.CapturedLemmas.{is_captured_decides}
 use Rattle.texting_robots.proofs.RulesLemmas.{before_agent, before_agents}
 use Rattle.texting_robots.proofs.CapturedLemmas.{only_agents, rules_are, stands_first, stands_next}
 use Rattle.texting_robots.specs.Group.{IsCaptured}
 use Rattle.texting_robots.proofs.HeldLemmas.{refusal_is_computed}
-
--- ---- what the walk reaches, whatever the lines' places are
-
-abbrev pub reached : {X : Type 0} → (LineValue → Option X) → List ℕ → Walk → List LineValue
-    → List X
-reached given name walk [] = []
-reached given name walk (line ∷ lines) =
-    cons_option (cond walk.captured (given line) None) (reached given name (step name walk line) lines)
-
-caught_reached : {X : Type 0} (given : LineValue → Option X) (name : List ℕ) (walk : Walk) (place : ℕ)
-    (lines : List LineValue) → caught given name walk place lines ≡ reached given name walk lines
-caught_reached given name walk place [] = refl
-caught_reached given name walk place (line ∷ lines) =
-    ap (cons_option (cond walk.captured (given line) None))
-    (caught_reached given name (step name walk line) (place + 1) lines)
-
--- from the start it reaches what the captured lines give
-pub all_reached : {X : Type 0} (given : LineValue → Option X) (name : List ℕ) (lines : List LineValue)
-    → from_captured given name lines ≡ reached given name (start_of lines) lines
-all_reached given name lines =
-    caught_all given name lines ∙ caught_reached given name (start_of lines) 0 lines
 
 -- ---- lists that give the same
 
@@ -66,14 +45,14 @@ same_from agent lines other others rules delay = record {
       (λ is. two.1 (same.0 (one.0 is)), λ is. one.1 (same.1 (two.0 is)));
 }
 
--- the same agents are named, and the walk reaches the same
+-- the same agents are named, and the captured lines give the same
 record AreAlike (agent : List ℕ) (lines others : List LineValue) : Type 0 where
   agents : list_any is_agent lines ≡ list_any is_agent others
   named : (name : List ℕ) → list_any (is_agent_named name) lines ≡ list_any (is_agent_named name) others
-  rules : reached rule_in (group_name agent lines) (start_of lines) lines
-      ≡ reached rule_in (group_name agent lines) (start_of lines) others
-  delays : reached delay_in (group_name agent lines) (start_of lines) lines
-      ≡ reached delay_in (group_name agent lines) (start_of lines) others
+  rules : given_captured rule_in (group_name agent lines) (start_of lines) lines
+      ≡ given_captured rule_in (group_name agent lines) (start_of lines) others
+  delays : given_captured delay_in (group_name agent lines) (start_of lines) lines
+      ≡ given_captured delay_in (group_name agent lines) (start_of lines) others
   before : filter_map delay_in (before_agent lines) ≡ filter_map delay_in (before_agent others)
 
 same_alike : (agent : List ℕ) (lines others : List LineValue) → AreAlike agent lines others
@@ -81,8 +60,8 @@ same_alike : (agent : List ℕ) (lines others : List LineValue) → AreAlike age
 same_alike agent lines others are = same_from agent lines agent others
     (rules_are agent lines ∙ found rule_in are.rules ∙ sym (rules_are agent others))
     (rw (
-      delays_passed agent lines,
-      delays_passed agent others,
+      delays_are agent lines,
+      delays_are agent others,
       found delay_in are.delays,
       before_agents lines,
       before_agents others,
@@ -91,17 +70,17 @@ same_alike agent lines others are = same_from agent lines agent others
     ) refl)
   where
     found : {X : Type 0} (given : LineValue → Option X)
-        → reached given (group_name agent lines) (start_of lines) lines
-        ≡ reached given (group_name agent lines) (start_of lines) others
-        → from_captured given (group_name agent lines) lines
-        ≡ from_captured given (group_name agent others) others
+        → given_captured given (group_name agent lines) (start_of lines) lines
+        ≡ given_captured given (group_name agent lines) (start_of lines) others
+        → given_captured given (group_name agent lines) (start_of lines) lines
+        ≡ given_captured given (group_name agent others) (start_of others) others
     found given same =
         let low = str_to_ascii_lowercase agent in
         let name : group_name agent lines ≡ group_name agent others =
         ap (λ b. cond b low (codes "*")) (are.named low) in
         let start : start_of lines ≡ start_of others =
         ap (λ b. let walk : Walk = record { captured = not b; named = false } in walk) are.agents in
-        all_reached given _ lines ∙ same ∙ sym (all_reached given _ others ∙ rw (name, start) refl)
+        same ∙ rw (name, start) refl
 
 -- ---- lines that are left out
 
@@ -138,14 +117,14 @@ module _ (keep : LineValue → Bool)
     | inr dropped ↦ rw (dropped, drops line (neutral line dropped).agent) (any_kept test drops lines)
   ]
 
-  reached_kept : {X : Type 0} (given : LineValue → Option X)
+  captured_kept : {X : Type 0} (given : LineValue → Option X)
       → ((line : LineValue) → is_group line ≡ false → given line ≡ None)
       → (name : List ℕ) (walk : Walk) (lines : List LineValue)
-      → reached given name walk lines ≡ reached given name walk (filter keep lines)
-  reached_kept given drops name walk [] = refl
-  reached_kept {X} given drops name walk (line ∷ lines) = elim (cases_Bool (keep line)) [
+      → given_captured given name walk lines ≡ given_captured given name walk (filter keep lines)
+  captured_kept given drops name walk [] = refl
+  captured_kept {X} given drops name walk (line ∷ lines) = elim (cases_Bool (keep line)) [
     | inl keeps ↦ rw keeps (ap (cons_option (cond walk.captured (given line) None))
-        (reached_kept given drops name (step name walk line) lines))
+        (captured_kept given drops name (step name walk line) lines))
     | inr dropped ↦
         let is = neutral line dropped in
         rw (
@@ -155,7 +134,7 @@ module _ (keep : LineValue → Bool)
           is.agent,
           is.group,
           only_agents name line is.agent,
-        ) (reached_kept given drops name walk lines)
+        ) (captured_kept given drops name walk lines)
   ]
     where
       nothing : (b : Bool) → ◌≡◌ {A = Option X} (cond b None None) None
@@ -180,8 +159,8 @@ module _ (keep : LineValue → Bool)
   same_filtered agent lines = same_alike agent lines (filter keep lines) (record {
     agents = any_kept is_agent (λ line is. is) lines;
     named = λ name. any_kept (is_agent_named name) (only_agents name) lines;
-    rules = reached_kept rule_in no_rule _ _ lines;
-    delays = reached_kept delay_in no_delay _ _ lines;
+    rules = captured_kept rule_in no_rule _ _ lines;
+    delays = captured_kept delay_in no_delay _ _ lines;
     before = before_kept lines;
   })
 
@@ -249,8 +228,8 @@ walked name walk (line ∷ lines) = walked name (step name walk line) lines
 
 stands_walked : (name : List ℕ) (all : List LineValue) (walk : Walk) (place : ℕ)
     (front back : List LineValue)
-    → Stands name all place walk → drop place all ≡ front ++ back
-    → Stands name all (place + length front) (walked name walk front)
+    → StandsAt name all place walk → drop place all ≡ front ++ back
+    → StandsAt name all (place + length front) (walked name walk front)
 stands_walked name all walk place [] back stands left = rw (add-zero place) stands
 stands_walked name all walk place (line ∷ front) back stands left =
     let (at, next) = at_front all place line (front ++ back) left in
@@ -259,15 +238,15 @@ stands_walked name all walk place (line ∷ front) back stands left =
     rw sum (stands_walked name all (step name walk line) (place + 1) front back here next)
 
 -- what is the same behind these lines is the same with them
-reached_behind : {X : Type 0} (given : LineValue → Option X) (name : List ℕ) (walk : Walk)
+captured_behind : {X : Type 0} (given : LineValue → Option X) (name : List ℕ) (walk : Walk)
     (front back others : List LineValue)
-    → reached given name (walked name walk front) back
-    ≡ reached given name (walked name walk front) others
-    → reached given name walk (front ++ back) ≡ reached given name walk (front ++ others)
-reached_behind given name walk [] back others same = same
-reached_behind given name walk (line ∷ front) back others same =
+    → given_captured given name (walked name walk front) back
+    ≡ given_captured given name (walked name walk front) others
+    → given_captured given name walk (front ++ back) ≡ given_captured given name walk (front ++ others)
+captured_behind given name walk [] back others same = same
+captured_behind given name walk (line ∷ front) back others same =
     ap (cons_option (cond walk.captured (given line) None))
-    (reached_behind given name (step name walk line) front back others same)
+    (captured_behind given name (step name walk line) front back others same)
 
 before_behind : (front back others : List LineValue)
     → filter_map delay_in (before_agent back) ≡ filter_map delay_in (before_agent others)
@@ -289,15 +268,15 @@ uncaptured_reaches_nothing agent front back line other kind uncaptured =
     let alike = same_kind line other kind in
     let stands = stands_walked name lines (start_of lines) 0 front (line ∷ back)
     (stands_first name lines) refl in
-    let here : Stands name lines (length front) (walked name (start_of lines) front) =
+    let here : StandsAt name lines (length front) (walked name (start_of lines) front) =
     rw (zero-add (length front)) at stands in
     let free =
     false_from_ne_true _ (λ h. uncaptured ((is_captured_decides _ _ _).0 (here.captured ∙ h))) in (
       same_alike agent lines (front ++ other ∷ back) (record {
         agents = any is_agent alike.agent;
         named = λ n. any (is_agent_named n) (alike.named n);
-        rules = reached_behind rule_in _ _ front _ _ (apart rule_in _ _ alike free);
-        delays = reached_behind delay_in _ _ front _ _ (apart delay_in _ _ alike free);
+        rules = captured_behind rule_in _ _ front _ _ (apart rule_in _ _ alike free);
+        delays = captured_behind delay_in _ _ front _ _ (apart delay_in _ _ alike free);
         before = before_behind front _ _ (elim (cases_Bool (is_agent other)) [
           | inl is ↦ rw (alike.agent, is) refl
           | inr isnt ↦ rw (alike.agent, isnt, alike.delay) refl
@@ -317,5 +296,5 @@ uncaptured_reaches_nothing agent front back line other kind uncaptured =
     apart : {X : Type 0} (given : LineValue → Option X) (name : List ℕ) (walk : Walk)
         → IsAlike line other
         → walk.captured ≡ false
-        → reached given name walk (line ∷ back) ≡ reached given name walk (other ∷ back)
+        → given_captured given name walk (line ∷ back) ≡ given_captured given name walk (other ∷ back)
     apart given name walk alike free = rw (free, alike.agent, alike.named name, alike.group) refl

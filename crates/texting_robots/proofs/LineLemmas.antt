@@ -1,6 +1,6 @@
 -- The lines that the walk gives are those of the text, and hold ranges of it.
-use Rattle.std.proofs.Common.{◌≡◌, ◌≢◌, ◌⊎◌, ℕ, false, inl, inr, is_some, Bor}
-use Rattle.std.proofs.Common.{MatchOption, List, [], ◌∷◌, ◌++◌, map, sym, refl, ap}
+use Rattle.std.proofs.Common.{◌≡◌, ◌⊎◌, ℕ, false, inl, inr}
+use Rattle.std.proofs.Common.{List, [], ◌∷◌, ◌++◌, map, sym, refl, ap}
 use Rattle.std.proofs.Common.{◌∙◌, append_assoc, append-nil, Option, Some, None, ◌==◌, subst}
 use Rattle.std.specs.List.{AllZip}
 use Rattle.std.proofs.lemmas.Bool.{cases_Bool, cond-true, cond-false}
@@ -10,11 +10,11 @@ use Rattle.texting_robots.specs.Cut.{Pair}
 use Rattle.texting_robots.specs.Steps.Cut.{cut}
 use Rattle.texting_robots.specs.Statement.{IsBehindBlanks, IsBehindColon, IsStatement}
 use Rattle.texting_robots.specs.Steps.Statement.{colon}
-use Rattle.texting_robots.specs.Steps.Statement.{parts_of, statement_of, value_of}
+use Rattle.texting_robots.specs.Steps.Statement.{kind_by, skip_blanks, statement_of, tail_as, value_of}
 use Rattle.texting_robots.specs.Group.{is_agent}
 use Rattle.texting_robots.specs.Line.{AreLinesOf, HoldRangesOf, HoldsRangeOf}
 use Rattle.texting_robots.specs.Line.{IsLineOf, IsLineWith, IsRangeOf, LineValue, Raw}
-use Rattle.texting_robots.specs.Line.{UserAgent, delay_in, is_sitemap, without, without_front}
+use Rattle.texting_robots.specs.Line.{CrawlDelay, Sitemap, UserAgent, delay_in, is_sitemap, without, without_front}
 use Rattle.texting_robots.specs.Computed.{parsed}
 use Rattle.texting_robots.specs.Steps.Line.{delay_or_raw, line_by, line_of, line_with}
 use Rattle.texting_robots.specs.Steps.Delay.{delay_of}
@@ -22,7 +22,7 @@ use Rattle.texting_robots.specs.Delay.{IsDelay}
 use Rattle.texting_robots.proofs.DelayLemmas.{delay_of_is, is_delay_of}
 use Rattle.texting_robots.proofs.CutLemmas.{is_cut, only_cut}
 use Rattle.texting_robots.proofs.StatementLemmas.{statement_found, found_statement}
-use Rattle.texting_robots.proofs.StatementLemmas.{unstated, valued_parts}
+use Rattle.texting_robots.proofs.StatementLemmas.{unstated}
 use Rattle.std.proofs.Common.{◌↔◌}
 
 -- ---- the line of a body
@@ -112,93 +112,77 @@ each_text_has_its_lines text lines = (
   λ same. subst (λ all. AreLinesOf all text) (sym same) (parsed_are_lines text),
 )
 
--- ---- a line that is asked for one kind
+-- ---- a line that is read by its kind
 
--- the line of a statement of another kind is no agent line and gives no delay
-only_agent : (k : Kind) (value body : List ℕ) → (k ≡ kind.UserAgent)
-    ⊎ (is_agent (line_with k value body) ≡ false)
-only_agent kind.UserAgent value body = inl refl
-only_agent kind.Allow value body = inr refl
-only_agent kind.Disallow [] body = inr refl
-only_agent kind.Disallow (b ∷ value) body = inr refl
-only_agent kind.Sitemap value body = inr refl
-only_agent kind.CrawlDelay value body = inr (at (delay_of value))
+module _ (body text : List ℕ) (is : text ≡ skip_blanks body) where
+  pub line_without_kind : kind_by text ≡ None → line_of body ≡ Raw body
+  unfolding line_of statement_of
+  line_without_kind none = rw (← is, none) refl
+
+  pub line_without_tail : (kind : Kind) → kind_by text ≡ Some kind → tail_as kind text ≡ None
+      → line_of body ≡ Raw body
+  unfolding line_of statement_of
+  line_without_tail kind by none = rw (← is, by, none) refl
+
+  pub line_read : (kind : Kind) (tail : List ℕ) → kind_by text ≡ Some kind
+      → tail_as kind text ≡ Some tail
+      → line_of body ≡ line_with kind (value_of tail) body
+  unfolding line_of statement_of
+  line_read kind tail by found = rw (← is, by, found) refl
+
+-- the kind of an agent line, a sitemap or a delay
+abbrev kind_in : LineValue → Option Kind
+kind_in (UserAgent value) = Some kind.UserAgent
+kind_in (Sitemap value) = Some kind.Sitemap
+kind_in (CrawlDelay delay) = Some kind.CrawlDelay
+kind_in _ = None
+
+-- a line of one of these kinds has the kind of its first letter
+abbrev IsKindOf : Option Kind → LineValue → Type 0
+IsKindOf kind line = (kind_in line ≡ kind) ⊎ (kind_in line ≡ None)
+
+kind_with_value : (k : Kind) (value body : List ℕ) → IsKindOf (Some k) (line_with k value body)
+kind_with_value kind.UserAgent value body = inl refl
+kind_with_value kind.Allow value body = inr refl
+kind_with_value kind.Disallow [] body = inr refl
+kind_with_value kind.Disallow (b ∷ value) body = inr refl
+kind_with_value kind.Sitemap value body = inl refl
+kind_with_value kind.CrawlDelay value body = at (delay_of value)
   where
-    at : (delay : Option ℕ) → is_agent (delay_or_raw delay body) ≡ false
-    at None = refl
-    at (Some delay) = refl
+    at : (delay : Option ℕ) → IsKindOf (Some kind.CrawlDelay) (delay_or_raw delay body)
+    at None = inr refl
+    at (Some delay) = inl refl
 
-only_delay : (k : Kind) (value body : List ℕ) → (k ≡ kind.CrawlDelay)
-    ⊎ (delay_in (line_with k value body) ≡ None)
-only_delay kind.UserAgent value body = inr refl
-only_delay kind.Allow value body = inr refl
-only_delay kind.Disallow [] body = inr refl
-only_delay kind.Disallow (b ∷ value) body = inr refl
-only_delay kind.Sitemap value body = inr refl
-only_delay kind.CrawlDelay value body = inl refl
-
-module _ {X : Type 0} (kind : Kind) (look : LineValue → X) (x : X)
-    (raw : (body : List ℕ) → look (Raw body) ≡ x)
-    (only : (k : Kind) (value body : List ℕ) → (k ≡ kind) ⊎ (look (line_with k value body) ≡ x))
+pub kind_is : (body : List ℕ) → IsKindOf (kind_by (skip_blanks body)) (line_of body)
+kind_is body = at (kind_by (skip_blanks body)) refl
   where
-    other_line : (body : List ℕ) → ((tail : List ℕ) → parts_of body ≢ Some (kind, tail))
-        → look (line_of body) ≡ x
-    other_line body none = at (parts_of body) refl
-      where
-        at : (parts : Option (Kind × List ℕ)) → parts_of body ≡ parts → look (line_of body) ≡ x
-        at None is = ap look (line_raw body (valued_parts body is)) ∙ raw body
-        at (Some (k, tail)) is = elim (only k (value_of tail) body) [
-          | inl same ↦ absurd (none tail (is ∙ ap (λ k. Some (k, tail)) same))
-          | inr other ↦ ap look (line_stated body k (value_of tail) (valued_parts body is)) ∙ other
-        ]
+    keyed : (k : Kind) (tail : Option (List ℕ)) → kind_by (skip_blanks body) ≡ Some k
+        → tail_as k (skip_blanks body) ≡ tail → IsKindOf (Some k) (line_of body)
+    keyed k None by none = rw (line_without_tail body _ refl k by none) (inr refl)
+    keyed k (Some tail) by is =
+        rw (line_read body _ refl k tail by is) (kind_with_value k (value_of tail) body)
 
-pub agent_line : (body tail : List ℕ) → parts_of body ≡ Some (kind.UserAgent, tail)
-    → line_of body ≡ UserAgent (value_of tail)
-agent_line body tail is =
-    line_stated body kind.UserAgent (value_of tail) (valued_parts body is)
+    at : (found : Option Kind) → kind_by (skip_blanks body) ≡ found → IsKindOf found (line_of body)
+    at None none = rw (line_without_kind body _ refl none) (inr refl)
+    at (Some k) by = keyed k (tail_as k (skip_blanks body)) by refl
 
-pub no_agent : (body : List ℕ) → ((tail : List ℕ) → parts_of body ≢ Some (kind.UserAgent, tail))
-    → is_agent (line_of body) ≡ false
-no_agent body none = other_line kind.UserAgent is_agent false (λ body. refl) only_agent body none
+pub agent_or_other : (found : Option Kind) (line : LineValue) → IsKindOf found line
+    → (found ≡ Some kind.UserAgent) ⊎ (is_agent line ≡ false)
+agent_or_other found (UserAgent value) (inl same) = inl (sym same)
+agent_or_other found (UserAgent value) (inr none) = cc
+agent_or_other found _ is = inr refl
 
-only_sitemap : (k : Kind) (value body : List ℕ) → (k ≡ kind.Sitemap)
-    ⊎ (is_sitemap (line_with k value body) ≡ false)
-only_sitemap kind.UserAgent value body = inr refl
-only_sitemap kind.Allow value body = inr refl
-only_sitemap kind.Disallow [] body = inr refl
-only_sitemap kind.Disallow (b ∷ value) body = inr refl
-only_sitemap kind.Sitemap value body = inl refl
-only_sitemap kind.CrawlDelay value body = inr (at (delay_of value))
-  where
-    at : (delay : Option ℕ) → is_sitemap (delay_or_raw delay body) ≡ false
-    at None = refl
-    at (Some delay) = refl
+pub delay_or_other : (found : Option Kind) (line : LineValue) → IsKindOf found line
+    → (found ≡ Some kind.CrawlDelay) ⊎ (delay_in line ≡ None)
+delay_or_other found (CrawlDelay delay) (inl same) = inl (sym same)
+delay_or_other found (CrawlDelay delay) (inr none) = cc
+delay_or_other found _ is = inr refl
 
-pub sitemap_told : (body : List ℕ) (found : Option (Bor (List ℕ)))
-    → MatchOption found ((tail : List ℕ) → parts_of body ≢ Some (kind.Sitemap, tail))
-    (λ tail. parts_of body ≡ Some (kind.Sitemap, tail.now))
-    → is_some found ≡ is_sitemap (line_of body)
-sitemap_told body None none =
-    sym (other_line kind.Sitemap is_sitemap false (λ body. refl) only_sitemap body none)
-sitemap_told body (Some tail) is =
-    sym
-    (ap is_sitemap
-    (line_stated body kind.Sitemap (value_of tail.now) (valued_parts body is)))
-
-pub delay_told : (body tail : List ℕ) (delay : Option ℕ)
-    → parts_of body ≡ Some (kind.CrawlDelay, tail)
-    → IsDelay (value_of tail) delay → delay ≡ delay_in (line_of body)
-delay_told body tail delay is names =
-    let line = line_stated body kind.CrawlDelay (value_of tail) (valued_parts body is) in
-    is_delay_of (value_of tail) delay names ∙ at (delay_of (value_of tail)) ∙ sym (ap delay_in line)
-  where
-    at : (delay : Option ℕ) → delay ≡ delay_in (delay_or_raw delay body)
-    at None = refl
-    at (Some delay) = refl
-
-pub no_delay : (body : List ℕ) → ((tail : List ℕ) → parts_of body ≢ Some (kind.CrawlDelay, tail))
-    → None ≡ delay_in (line_of body)
-no_delay body none = sym (other_line kind.CrawlDelay delay_in None (λ body. refl) only_delay body none)
+pub sitemap_or_other : (found : Option Kind) (line : LineValue) → IsKindOf found line
+    → (found ≡ Some kind.Sitemap) ⊎ (is_sitemap line ≡ false)
+sitemap_or_other found (Sitemap value) (inl same) = inl (sym same)
+sitemap_or_other found (Sitemap value) (inr none) = cc
+sitemap_or_other found _ is = inr refl
 
 -- ---- ranges
 

@@ -1,5 +1,5 @@
 -- What the code's loops keep.
-use Rattle.std.proofs.Common.{◌≡◌, ℕ, false, cond, List, [], ◌∷◌, ◌++◌, Option, Some}
+use Rattle.std.proofs.Common.{◌≡◌, ℕ, Bool, true, false, cond, List, [], ◌∷◌, ◌++◌, Option, Some}
 use Rattle.std.proofs.Common.{None, length, slice_get, append_assoc, length-append}
 use Rattle.std.proofs.Common.{subst, sym, refl, ap, ◌∙◌, arith, suc, take, ◌+◌, inl, inr}
 use Rattle.std.specs.List.{All, Any, before_first, cons_option, filter_map, last_or, list_any}
@@ -70,8 +70,8 @@ before_agents (line ∷ lines) = elim (cases_Bool (is_agent line)) [
 ]
 
 -- the last delay before the first agent line of the lines that are left
-abbrev pub stray_from : Option ℕ → List LineValue → Option ℕ
-stray_from last lines =
+abbrev pub delay_from : Option ℕ → List LineValue → Option ℕ
+delay_from last lines =
     cond (list_any is_agent lines) (last_or last (filter_map delay_in (before_agent lines))) None
 
 pub last_more : {X : Type 0} (last o : Option X) (xs : List X)
@@ -140,14 +140,15 @@ no_rules (placed ∷ rules) none = absurd (let k : placed.rule ∷ unplaced rule
 
 -- ---- the rule for which a file is refused
 
--- the rules that were taken aren't overlong, and that of this line is
-pub first_overlong : (number : ℕ) (rule : Option Rule) (taken left all : List PlacedRule)
-    → taken ++ cons_option (placed number rule) left ≡ all
+-- the rules that were taken aren't overlong, and that of this captured line is
+pub first_overlong : (number : ℕ) (captured : Bool) (rule : Option Rule) (taken left all : List PlacedRule)
+    → taken ++ cons_option (cond captured (placed number rule) None) left ≡ all
     → All (λ (other : PlacedRule). ¬ IsOverlong other.rule.0) taken
-    → IsSomeAnd (placed number rule) (λ (here : PlacedRule). IsOverlong here.rule.0)
+    → IsSomeAnd (cond captured (placed number rule) None) (λ (here : PlacedRule). IsOverlong here.rule.0)
     → IsFirstOverlong all number
-first_overlong number None taken left all whole accepted is = absurd is
-first_overlong number (Some rule) taken left all whole accepted is = record {
+first_overlong number false rule taken left all whole accepted is = absurd is
+first_overlong number true None taken left all whole accepted is = absurd is
+first_overlong number true (Some rule) taken left all whole accepted is = record {
   front = taken;
   placed = record { rule = rule; line = number };
   back = left;
@@ -169,12 +170,13 @@ some_overlong rules number is =
     )
 
 -- what an error at a line comes to
-pub refused_at : (number : ℕ) (rule : Option Rule) (taken left all : List PlacedRule) (e : Error)
-    → taken ++ cons_option (placed number rule) left ≡ all
+pub refused_at : (number : ℕ) (captured : Bool) (rule : Option Rule) (taken left all : List PlacedRule)
+    → (e : Error) → taken ++ cons_option (cond captured (placed number rule) None) left ≡ all
     → All (λ (other : PlacedRule). ¬ IsOverlong other.rule.0) taken
-    → IsMemoryOr (IsSomeAnd (placed number rule) (λ (here : PlacedRule). IsOverlong here.rule.0)) e
+    → IsMemoryOr (IsSomeAnd (cond captured (placed number rule) None)
+    (λ (here : PlacedRule). IsOverlong here.rule.0)) e
     → IsRefusalOf all (refusal_at number e)
-refused_at number rule taken left all mine.InvalidRobots whole accepted is = tt
-refused_at number rule taken left all mine.InvalidRule whole accepted is =
-    first_overlong number rule taken left all whole accepted is
-refused_at number rule taken left all mine.Memory whole accepted is = tt
+refused_at number captured rule taken left all mine.InvalidRobots whole accepted is = tt
+refused_at number captured rule taken left all mine.InvalidRule whole accepted is =
+    first_overlong number captured rule taken left all whole accepted is
+refused_at number captured rule taken left all mine.Memory whole accepted is = tt

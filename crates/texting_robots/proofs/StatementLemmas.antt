@@ -4,7 +4,7 @@ use Rattle.std.proofs.Common.{inr, List, []}
 use Rattle.std.proofs.Common.{◌∷◌, ◌++◌, length}
 use Rattle.std.proofs.Common.{take, drop, map, sym, refl, ap, ◌∙◌, arith, rules, cond}
 use Rattle.std.proofs.Common.{if◌then◌else◌, subst}
-use Rattle.std.proofs.Common.{Option, Some, None, option_and_then, length-append, nat_lt, Bor, MatchOption}
+use Rattle.std.proofs.Common.{Option, Some, None, length-append, nat_lt}
 use Rattle.std.specs.Bool.{Decides}
 use Rattle.std.specs.List.{AllByRecursion as Each, Contains}
 use Rattle.std.specs.Char.{to_ascii_lowercase}
@@ -26,7 +26,7 @@ use Rattle.texting_robots.specs.Statement.{BeginsPlain, IsBehindBlanks, IsBehind
 use Rattle.texting_robots.specs.Steps.Statement.{space, tab, colon, hash, IsComment}
 use Rattle.texting_robots.specs.Steps.Statement.{skip_blanks, kind_with, kind_by, begins, after_any}
 use Rattle.texting_robots.specs.Steps.Statement.{after_blanks, after_separator, tail_of, tail_as}
-use Rattle.texting_robots.specs.Steps.Statement.{parts_of, region_of, trimmed, value_of, statement_of}
+use Rattle.texting_robots.specs.Steps.Statement.{region_of, trimmed, value_of, statement_of}
 use Rattle.texting_robots.specs.Trim.{IsTrimOf}
 use Rattle.texting_robots.proofs.TrimLemmas.{trimmed_is_trim, is_trimmed, blanks_skipped}
 
@@ -285,33 +285,11 @@ pub found_statement : (kind : Kind) (value body : List ℕ) → statement_of bod
 unfolding statement_of
 found_statement kind value body found =
     let text = skip_blanks body in
-    option_and_then_some _ (parts_of body) (kind, value) found (λ parts is valued.
-    option_and_then_some _ (kind_by text) parts is (λ k by is.
-    option_and_then_some _ (tail_as k text) parts is (λ tail is paired.
+    option_and_then_some _ (kind_by text) (kind, value) found (λ k by is.
+    option_and_then_some _ (tail_as k text) (kind, value) is (λ tail is same.
     option_and_then_some tail_of (after_any (spellings k) text) tail is (λ rest keyed tailed.
-    let same = ap (λ (p : Kind × List ℕ). (p.0, value_of p.1)) (same_Some _ _ paired)
-    ∙ same_Some _ _ valued in
-    subst (λ (p : Kind × List ℕ). IsStatement p.0 p.1 body) same
-    (stated k body rest tail keyed tailed)))))
-
--- the walk's last step
-pub valued_parts : (body : List ℕ) {parts : Option (Kind × List ℕ)} → parts_of body ≡ parts
-    → statement_of body ≡ option_and_then (λ p. Some (p.0, value_of p.1)) parts
-unfolding statement_of
-valued_parts body is = ap (option_and_then (λ p. Some (p.0, value_of p.1))) is
-
--- a look at one kind
-pub this_kind : (body text : List ℕ) (kind : Kind) (found : Option (Bor (List ℕ)))
-    → text ≡ skip_blanks body
-    → kind_by text ≡ Some kind
-    → MatchOption found (tail_as kind text ≡ None) (λ tail. tail_as kind text ≡ Some tail.now)
-    → MatchOption found ((tail : List ℕ) → parts_of body ≢ Some (kind, tail))
-    (λ tail. parts_of body ≡ Some (kind, tail.now))
-this_kind body text kind None whole by none = λ tail is.
-    let wrong : ◌≡◌ {A = Option (Kind × List ℕ)} None (Some (kind, tail)) =
-    rw (← whole, by, none) at is in
-    cc
-this_kind body text kind (Some tail) whole by is = rw (← whole, by, is) refl
+    subst (λ (p : Kind × List ℕ). IsStatement p.0 p.1 body) (same_Some _ _ same)
+    (stated k body rest tail keyed tailed))))
 
 pub one_statement : (kind kind' : Kind) (value value' body : List ℕ) → IsStatement kind value body
     → IsStatement kind' value' body → (kind ≡ kind') × (value ≡ value')

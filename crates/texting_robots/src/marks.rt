@@ -6,10 +6,10 @@ ghost use Rattle.texting_robots.specs.Marks.{is_named, mark_by_value, marks_of};
 ghost use Rattle.texting_robots.specs.Line.{by_value};
 ghost use Rattle.texting_robots.specs.Computed.{file_lines, placed_rules};
 ghost use Rattle.texting_robots.specs.Rules.{IsFirstOverlong, IsRefused};
-ghost use Rattle.texting_robots.specs.Steps.Group.{stands};
+ghost use Rattle.texting_robots.specs.Steps.Group.{standing_by};
 
-use crate::groups::{self, MarkedLines, group_for};
-use crate::parser::{Line, unread_file_lines};
+use crate::groups::{Walk, group_for};
+use crate::parser::{Line, UnreadLines, unread_file_lines};
 use crate::reading::{Refusal, read_file};
 use std::alloc::{AllocError, Global};
 use std::marker::Model;
@@ -42,7 +42,12 @@ pub struct MarkedLine<'a> {
 /// An iterator over the marked lines of a file, which takes no memory.
 #[derive(Drop)]
 pub struct MarkedLineIter<'a> {
-    marked: MarkedLines<'a>,
+    /// The name whose groups the agent gets.
+    name: &'a [u8],
+    lines: UnreadLines<'a>,
+    /// How many lines were passed.
+    place: usize,
+    walk: Walk,
     /// A user-agent line was passed.
     begun: bool,
     /// Whether the first group line that is left, or one at the end, is captured, where that is known.
@@ -50,21 +55,23 @@ pub struct MarkedLineIter<'a> {
 }
 
 impl<'a> Model for MarkedLineIter<'a> {
-    ghost use Rattle.std.specs.Prelude.{◌≡◌, List};
+    ghost use Rattle.std.specs.Prelude.{◌≡◌, ◌+◌, ◌<◌, ◌^◌, List, length};
     ghost use Rattle.std.specs.Option.{IfSome};
+    ghost use Rattle.std.specs.Str.{str_to_ascii_lowercase};
     ghost use Rattle.texting_robots.specs.Marks.{Mark};
     ghost use Rattle.texting_robots.specs.Steps.Group.{captured_ahead, marks_from};
 
     ghost Value = { List Mark };
 
-    ghost view = { λ s. marks_from s.begun s.marked };
+    ghost view = { λ s. marks_from (str_to_ascii_lowercase s.name.now) s.walk s.begun s.place s.lines };
 
-    ghost invariant = { λ s. IfSome s.ahead (λ known. captured_ahead known s.marked ≡ known) };
+    ghost invariant = { λ s. (s.place + length s.lines < 2 ^ 64)
+        × IfSome s.ahead (λ known. captured_ahead (str_to_ascii_lowercase s.name.now) s.walk s.lines ≡ known) };
 }
 
 /// Where a line stands, by whether the next group line is captured and whether a user-agent line stood here or before.
 fn standing_of(captured: bool, begun: bool, line: Line<'_>) -> Standing
-    ensures { result ≡ stands captured begun (by_value line.entry) }
+    ensures { result ≡ standing_by captured begun (by_value line.entry) }
 {
     match line {
         Line::Sitemap(_) | Line::Raw(_) => Standing::Outside,
@@ -84,18 +91,15 @@ impl<'a> Iterator for MarkedLineIter<'a> {
     fn next(&mut self) -> Option<MarkedLine<'a>> {
         let captured = match self.ahead {
             Some(known) => known,
-            None => self.marked.ahead(),
+            None => self.walk.ahead(self.name, self.lines.again()),
         };
-        let marked = self.marked.next()?;
-        let line = marked.line.read();
-        self.ahead = Some(captured);
-        match line {
-            Line::UserAgent(_) => self.begun = true,
-            Line::Allow(_) | Line::Disallow(_) | Line::CrawlDelay(_) => self.ahead = None,
-            Line::Sitemap(_) | Line::Raw(_) => {}
-        }
+        let line = self.lines.next()?.read();
+        self.place += 1;
+        self.walk.step(self.name, line);
+        self.begun = self.begun || matches!(line, Line::UserAgent(_));
+        self.ahead = (!line.is_group()).then_some(captured);
         Some(MarkedLine {
-            number: marked.number,
+            number: self.place,
             standing: standing_of(captured, self.begun, line),
             line,
         })
@@ -113,7 +117,10 @@ pub fn marked_lines<'a>(agent: &'a str, txt: &'a [u8]) -> MarkedLineIter<'a>
 {
     let group = group_for(agent.as_bytes(), unread_file_lines(txt));
     MarkedLineIter {
-        marked: groups::marked_lines(&group, unread_file_lines(txt)),
+        name: group.name,
+        lines: unread_file_lines(txt),
+        place: 0,
+        walk: group.start,
         begun: false,
         ahead: None,
     }
@@ -122,18 +129,10 @@ pub fn marked_lines<'a>(agent: &'a str, txt: &'a [u8]) -> MarkedLineIter<'a>
 /// Whether a user-agent line of the file `txt` names the crawler that calls itself `agent`, ASCII letters in any case. A
 /// crawler that isn't named gets the groups of `*`, or in a file with no user-agent line all rules and delays. It takes no
 /// memory. All bytes are read, as by [`marked_lines`].
-#[tactic(auto, using(crate::proofs::NameLemmas::tested_names))]
 pub fn is_named(agent: &str, txt: &[u8]) -> bool
     ensures { result ≡ is_named agent.now (file_lines txt.now) }
 {
-    for line in unread_file_lines(txt) {
-        if let Some(name) = line.agent()
-            && name.eq_ignore_ascii_case(agent.as_bytes())
-        {
-            return true;
-        }
-    }
-    false
+    group_for(agent.as_bytes(), unread_file_lines(txt)).is_named
 }
 
 /// The number of the first line that holds an overlong rule for the crawler that calls itself `agent`, if one does: the line

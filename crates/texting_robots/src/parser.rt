@@ -1,10 +1,10 @@
 //! The lines of a robots.txt file.
-ghost use Rattle.std.specs.Prelude.{◌≡◌, ◌≤◌, IfErr, IfOk, MatchOption, false, length, map, option_map};
+ghost use Rattle.std.specs.Prelude.{◌≡◌, ◌⊎◌, ◌≤◌, IfErr, IfOk, None, Some, false, length, map, option_map};
 ghost use Rattle.std.specs.Iterator.{YieldsFirst, YieldsFirstBy, item_count};
 ghost use Rattle.texting_robots.specs.Computed.{file_lines, parsed};
 ghost use Rattle.texting_robots.specs.Steps.Line.{line_of, line_with};
 ghost use Rattle.texting_robots.specs.Group.{is_agent, is_group};
-ghost use Rattle.texting_robots.specs.Line.{AreFileLinesOf, AreLinesOf, HoldRangesOf, UserAgent, by_value, delay_in};
+ghost use Rattle.texting_robots.specs.Line.{AreFileLinesOf, AreLinesOf, HoldRangesOf, by_value, delay_in};
 ghost use Rattle.texting_robots.specs.Line.{is_sitemap, nul_as_lf, value_in, without_front};
 
 mod cut;
@@ -15,7 +15,7 @@ use crate::error::Error;
 use cut::{after_end, body_len};
 pub use delay::read_delay;
 pub use statement::Kind;
-use statement::{statement_of, tail_if, value_of};
+use statement::{kind_by, skip_blanks, tail_as, value_of};
 use std::alloc::{AllocError, Global};
 use std::marker::Model;
 
@@ -50,62 +50,78 @@ impl<'a> Line<'a> {
             Line::CrawlDelay(_) => None,
         }
     }
+
+    /// Whether it is an Allow, a Disallow or a delay.
+    pub(crate) fn is_group(self) -> bool
+        ensures { result ≡ is_group (by_value self.entry) }
+    {
+        matches!(
+            self,
+            Line::Allow(_) | Line::Disallow(_) | Line::CrawlDelay(_)
+        )
+    }
 }
 
-/// A line that is cut out and not read yet. `read` and `is_group` read it whole, and each other question only as much as its
-/// answer needs.
+/// A line that is cut out and not read yet. The first letter of its key tells of which kind alone it may be.
 #[derive(Drop)]
 pub(crate) struct Unread<'a> {
     body: &'a [u8],
+    /// The body without the blanks at its front.
+    text: &'a [u8],
+    /// The kind whose keys begin with the first letter of the text.
+    kind: Option<Kind>,
 }
 
 impl<'a> Model for Unread<'a> {
+    ghost use Rattle.std.specs.Prelude.{◌≡◌};
     ghost use Rattle.texting_robots.specs.Line.{LineValue};
     ghost use Rattle.texting_robots.specs.Steps.Line.{line_of};
+    ghost use Rattle.texting_robots.specs.Steps.Statement.{kind_by, skip_blanks};
 
     ghost Value = { LineValue };
 
     ghost view = { λ s. line_of s.body.now };
+
+    ghost invariant = { λ s. (s.text.now ≡ skip_blanks s.body.now) × (s.kind ≡ kind_by s.text.now) };
 }
 
 impl<'a> Unread<'a> {
+    /// The line of a body.
+    #[inline(always)]
+    fn new(body: &'a [u8]) -> Self
+        ensures { result ≡ line_of body.now }
+    {
+        let text = skip_blanks(body);
+        Unread {
+            body,
+            text,
+            kind: kind_by(text),
+        }
+    }
+
+    /// The kind that it may be of. It is of no other, whatever follows the first letter of its key.
+    #[inline(always)]
+    pub(crate) fn kind(&self) -> Option<Kind>
+        ensures agent { (result ≡ Some Kind.UserAgent) ⊎ (is_agent self.now ≡ false) }
+        ensures delay { (result ≡ Some Kind.CrawlDelay) ⊎ (delay_in self.now ≡ None) }
+        ensures sitemap { (result ≡ Some Kind.Sitemap) ⊎ (is_sitemap self.now ≡ false) }
+    {
+        self.kind
+    }
+
     /// The line, read.
+    #[tactic(auto, using(crate::proofs::LineLemmas::line_read, crate::proofs::LineLemmas::line_without_tail, crate::proofs::LineLemmas::line_without_kind))]
     #[inline(always)]
     pub(crate) fn read(&self) -> Line<'a>
         ensures { by_value result ≡ self.now }
     {
-        line_of(self.body)
-    }
-
-    /// The crawler that it names, if it is an agent line. No other line's value is read.
-    pub(crate) fn agent(&self) -> Option<&'a [u8]>
-        ensures { MatchOption result (is_agent self.now ≡ false) (λ name. self.now ≡ UserAgent name.now) }
-    {
-        Some(value_of(tail_if(Kind::UserAgent, self.body)?))
-    }
-
-    /// Whether it is an Allow, a Disallow or a delay.
-    pub(crate) fn is_group(&self) -> bool
-        ensures { result ≡ is_group self.now }
-    {
-        matches!(
-            self.read(),
-            Line::Allow(_) | Line::Disallow(_) | Line::CrawlDelay(_)
-        )
-    }
-
-    /// Whether it lists a sitemap. No value is read.
-    pub(crate) fn is_sitemap(&self) -> bool
-        ensures { result ≡ is_sitemap self.now }
-    {
-        tail_if(Kind::Sitemap, self.body).is_some()
-    }
-
-    /// The delay that it gives. Only a delay's value is read.
-    pub(crate) fn delay(&self) -> Option<u64>
-        ensures { result ≡ delay_in self.now }
-    {
-        read_delay(value_of(tail_if(Kind::CrawlDelay, self.body)?))
+        let Some(kind) = self.kind else {
+            return Line::Raw(self.body);
+        };
+        match tail_as(kind, self.text) {
+            Some(tail) => line_with(kind, value_of(tail), self.body),
+            None => Line::Raw(self.body),
+        }
     }
 }
 
@@ -153,7 +169,7 @@ impl<'a> Iterator for UnreadLines<'a> {
         }
         let (body, after) = rest.split_at(body_len(rest, self.nul_ends));
         self.rest = after_end(after, self.nul_ends);
-        Some(Unread { body })
+        Some(Unread::new(body))
     }
 }
 
@@ -250,17 +266,6 @@ fn line_with<'a>(kind: Kind, value: &'a [u8], body: &'a [u8]) -> Line<'a>
             Some(delay) => Line::CrawlDelay(Some(delay)),
             None => Line::Raw(body),
         },
-    }
-}
-
-/// The line of a body.
-#[tactic(auto, using(crate::proofs::LineLemmas::line_stated, crate::proofs::LineLemmas::line_raw))]
-fn line_of<'a>(body: &'a [u8]) -> Line<'a>
-    ensures { by_value result ≡ line_of body.now }
-{
-    match statement_of(body) {
-        Some((kind, value)) => line_with(kind, value, body),
-        None => Line::Raw(body),
     }
 }
 

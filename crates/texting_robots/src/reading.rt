@@ -1,16 +1,18 @@
-//! What one crawler gets of a whole file: what its marked lines give.
+//! What one crawler gets of a whole file: what its captured lines give, and its sitemaps.
 ghost use Rattle.std.specs.Prelude.{◌≡◌, ◌++◌, [], IfErr, IfOk, IsOk, None, OnOk, map, string_bytes};
 ghost use Rattle.std.specs.Option.{IfSome, IsSomeAnd, option_or, option_to_list};
+ghost use Rattle.std.specs.Str.{str_to_ascii_lowercase};
 ghost use Rattle.texting_robots.specs.Steps.Entries.{AreEntries, rules_in};
 ghost use Rattle.texting_robots.specs.Error.{IsMemoryOr};
 ghost use Rattle.texting_robots.specs.Pattern.{IsOverlong};
-ghost use Rattle.texting_robots.specs.Computed.{file_lines, placed_rules, rule_with, sitemaps_in};
-ghost use Rattle.texting_robots.specs.Steps.Group.{delay_at, passed_by, placed, rule_at, sitemap_at, text_from};
+ghost use Rattle.texting_robots.specs.Computed.{file_lines, placed_rules, rule_in, rule_with, sitemap_in, sitemaps_in};
+ghost use Rattle.texting_robots.specs.Line.{delay_in};
+ghost use Rattle.texting_robots.specs.Steps.Group.{if_captured, placed, step, text_from};
 ghost use Rattle.texting_robots.specs.Steps.Robot.{IsComputedRobot, IsRefusalOf, refusal_at};
 
 use crate::error::Error;
-use crate::groups::{Marked, group_for, marked_lines};
-use crate::parser::{Line, unread_file_lines};
+use crate::groups::{Walk, group_for};
+use crate::parser::{Kind, Line, Unread, unread_file_lines};
 use crate::robot::Robot;
 use crate::rules::{Gathered, Rules};
 use std::alloc::{AllocError, Global};
@@ -37,6 +39,8 @@ fn refusal_at(number: usize, error: Error) -> Refusal
 /// What the lines gave so far.
 #[derive(Drop)]
 pub(crate) struct Reading {
+    /// Where the walk along the lines stands.
+    pub(crate) walk: Walk,
     /// The first captured delay.
     pub(crate) delay: Option<u64>,
     /// The sitemaps, in the order of the file.
@@ -79,44 +83,58 @@ fn push_text(alloc: Global, texts: &mut Vec<String>, value: &[u8]) -> Result<(),
 
 impl Reading {
     /// Nothing yet.
-    pub(crate) fn new(alloc: Global) -> Self
+    pub(crate) fn new(alloc: Global, start: Walk) -> Self
         ensures known { AreEntries result.rules }
+        ensures walk { result.walk ≡ start }
         ensures delay { result.delay ≡ None }
         ensures sitemaps { map string_bytes result.sitemaps.items ≡ [] }
         ensures rules { rules_in result.rules ≡ [] }
     {
         Reading {
+            walk: start,
             delay: None,
             sitemaps: Vec::new(alloc),
             rules: Gathered::new(alloc),
         }
     }
 
-    /// Adds what a line gives. It takes memory only for a rule or a sitemap; lines that are neither captured nor sitemaps aren't read to
-    /// their values.
+    /// Adds what a line gives. It takes memory only for a rule or a sitemap. A line that is neither captured nor an agent
+    /// line nor a sitemap isn't read.
     #[tactic(auto, using(crate::proofs::RulesLemmas::no_sitemap))]
-    pub(crate) fn take(&mut self, alloc: Global, marked: Marked<'_>) -> Result<(), Error>
+    pub(crate) fn take(
+        &mut self,
+        alloc: Global,
+        name: &[u8],
+        number: usize,
+        line: &Unread<'_>,
+    ) -> Result<(), Error>
         requires { AreEntries self.old.rules }
         ensures known { OnOk result (AreEntries self.new.rules) }
-        ensures rules { OnOk result (rules_in self.new.rules
-            ≡ rules_in self.old.rules ++ option_to_list (rule_at (passed_by marked.entry))) }
+        ensures walk { OnOk result (self.new.walk ≡ step (str_to_ascii_lowercase name.now) self.old.walk line.now) }
+        ensures rules { OnOk result (rules_in self.new.rules ≡ rules_in self.old.rules
+            ++ option_to_list (if_captured self.old.walk (placed number (rule_in line.now)))) }
         ensures sitemaps { OnOk result (map string_bytes self.new.sitemaps.items
-            ≡ map string_bytes self.old.sitemaps.items ++ option_to_list (sitemap_at (passed_by marked.entry))) }
-        ensures delay { OnOk result (self.new.delay ≡ option_or self.old.delay (delay_at (passed_by marked.entry))) }
-        ensures accepted { OnOk result (IfSome (rule_at (passed_by marked.entry)) (λ placed. ¬ IsOverlong placed.rule.0)) }
+            ≡ map string_bytes self.old.sitemaps.items ++ option_to_list (sitemap_in line.now)) }
+        ensures delay { OnOk result (self.new.delay ≡ option_or self.old.delay (if_captured self.old.walk (delay_in line.now))) }
+        ensures accepted { OnOk result (IfSome (if_captured self.old.walk (placed number (rule_in line.now)))
+            (λ placed. ¬ IsOverlong placed.rule.0)) }
         ensures refused { IfErr result (IsMemoryOr
-            (IsSomeAnd (rule_at (passed_by marked.entry)) (λ placed. IsOverlong placed.rule.0))) }
-        ensures unasked { rule_at (passed_by marked.entry) ≡ None
-            → sitemap_at (passed_by marked.entry) ≡ None → IsOk result }
+            (IsSomeAnd (if_captured self.old.walk (placed number (rule_in line.now))) (λ placed. IsOverlong placed.rule.0))) }
+        ensures unasked { if_captured self.old.walk (placed number (rule_in line.now)) ≡ None
+            → sitemap_in line.now ≡ None → IsOk result }
     {
-        if !marked.is_captured && !marked.line.is_sitemap() {
+        let of_group = self.walk.captured || self.walk.named;
+        if !of_group && !matches!(line.kind(), Some(Kind::UserAgent | Kind::Sitemap)) {
             return Ok(());
         }
-        match marked.line.read() {
+        let line = line.read();
+        let captured = self.walk.captured;
+        self.walk.step(name, line);
+        match line {
             Line::Sitemap(value) => Ok(push_text(alloc, &mut self.sitemaps, value)?),
-            _ if !marked.is_captured => Ok(()),
-            Line::Allow(value) => push_rule(&mut self.rules, value, true, marked.number),
-            Line::Disallow(value) => push_rule(&mut self.rules, value, false, marked.number),
+            _ if !captured => Ok(()),
+            Line::Allow(value) => push_rule(&mut self.rules, value, true, number),
+            Line::Disallow(value) => push_rule(&mut self.rules, value, false, number),
             Line::CrawlDelay(delay) => {
                 self.delay = self.delay.or(delay);
                 Ok(())
@@ -134,15 +152,15 @@ pub(crate) fn read_file(alloc: Global, agent: &str, txt: &[u8]) -> Result<Robot,
         → sitemaps_in (file_lines txt.now) ≡ [] → IsOk result }
 {
     let group = group_for(agent.as_bytes(), unread_file_lines(txt));
-    let mut reading = Reading::new(alloc);
-    for marked in marked_lines(&group, unread_file_lines(txt)) {
-        let number = marked.number;
-        if let Err(error) = reading.take(alloc, marked) {
+    let mut reading = Reading::new(alloc, group.start);
+    for (place, line) in unread_file_lines(txt).enumerate() {
+        let number = place + 1;
+        if let Err(error) = reading.take(alloc, group.name, number, &line) {
             return Err(refusal_at(number, error));
         }
     }
     Ok(Robot {
-        delay: reading.delay.or(group.stray_delay),
+        delay: reading.delay.or(group.delay_before_agents),
         sitemaps: reading.sitemaps,
         rules: Rules::sorted(reading.rules),
     })

@@ -83,12 +83,9 @@ value_of tail = trimmed (region_of tail)
 abbrev pub tail_as : Kind → List ℕ → Option (List ℕ)
 tail_as kind text = option_and_then tail_of (after_any (spellings kind) text)
 
--- the kind and the tail of a body, if it is a statement
-abbrev pub parts_of : List ℕ → Option (Kind × List ℕ)
-parts_of body = option_and_then
-    (λ kind. option_and_then (λ tail. Some (kind, tail)) (tail_as kind (skip_blanks body)))
-    (kind_by (skip_blanks body))
-
 -- the kind and the value of a body, if it is a statement
 unfoldable pub statement_of : List ℕ → Option (Kind × List ℕ)
-statement_of body = option_and_then (λ parts. Some (parts.0, value_of parts.1)) (parts_of body)
+statement_of body =
+    let text = skip_blanks body in
+    option_and_then (λ kind. option_and_then (λ tail. Some (kind, value_of tail)) (tail_as kind text))
+    (kind_by text)

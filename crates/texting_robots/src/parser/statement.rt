@@ -1,11 +1,10 @@
 //! Which statement a body is.
-ghost use Rattle.std.specs.Prelude.{◌≡◌, ◌≢◌, ◌↔◌, ◌==◌, ℕ, List, IsTrue, MatchOption, Some, None, map, true, false, drop, length};
+ghost use Rattle.std.specs.Prelude.{◌≡◌, ◌↔◌, ◌==◌, IsTrue, MatchOption, Some, None, map, true, false, drop, length};
 ghost use Rattle.std.specs.List.{list_any};
 ghost use Rattle.std.specs.Str.{str_to_ascii_lowercase};
-ghost use Rattle.texting_robots.specs.declared.parser.statement.Kind.{Kind};
-ghost use Rattle.texting_robots.specs.Statement.{IsStatement, spellings};
+ghost use Rattle.texting_robots.specs.Statement.{spellings};
 ghost use Rattle.texting_robots.specs.Steps.Statement.{hash};
-ghost use Rattle.texting_robots.specs.Steps.Statement.{skip_blanks, kind_by, begins, after_any, tail_of, tail_as, parts_of, region_of, trimmed, value_of, statement_of};
+ghost use Rattle.texting_robots.specs.Steps.Statement.{skip_blanks, kind_by, begins, after_any, tail_of, tail_as, region_of, trimmed, value_of};
 
 use bstr::ByteSlice;
 use memchr::memchr;
@@ -46,7 +45,7 @@ fn spellings(kind: Kind) -> &'static [&'static str]
 }
 
 /// The text without the spaces and tabs at its front.
-fn skip_blanks<'a>(text: &'a [u8]) -> &'a [u8]
+pub(crate) fn skip_blanks<'a>(text: &'a [u8]) -> &'a [u8]
     ensures { result.now ≡ skip_blanks text.now }
 {
     let mut rest = text;
@@ -57,7 +56,7 @@ fn skip_blanks<'a>(text: &'a [u8]) -> &'a [u8]
 }
 
 /// The kind that a key at the front of the text has, if one stands there. The first letter tells the kinds apart.
-fn kind_by(text: &[u8]) -> Option<Kind>
+pub(crate) fn kind_by(text: &[u8]) -> Option<Kind>
     ensures { result ≡ kind_by text.now }
 {
     match text.first()?.to_ascii_lowercase() {
@@ -120,33 +119,10 @@ fn tail_of<'a>(rest: &'a [u8]) -> Option<&'a [u8]>
 
 /// What follows the separator, if the text begins with a key of this kind.
 #[inline(never)]
-fn tail_as<'a>(kind: Kind, text: &'a [u8]) -> Option<&'a [u8]>
+pub(crate) fn tail_as<'a>(kind: Kind, text: &'a [u8]) -> Option<&'a [u8]>
     ensures { MatchOption result (tail_as kind text.now ≡ None) (λ tail. tail_as kind text.now ≡ Some tail.now) }
 {
     tail_of(after_any(spellings(kind), text)?)
-}
-
-/// The kind of a body that is a statement, and its tail: the value and the comment.
-fn parts_of<'a>(body: &'a [u8]) -> Option<(Kind, &'a [u8])>
-    ensures { MatchOption result (parts_of body.now ≡ None)
-        (λ parts. parts_of body.now ≡ Some (parts.0, parts.1.now)) }
-{
-    let text = skip_blanks(body);
-    let kind = kind_by(text)?;
-    Some((kind, tail_as(kind, text)?))
-}
-
-/// The tail of a body that is a statement of this kind, whose value isn't read yet. A body of another kind is passed over by its first letter.
-#[inline(always)]
-pub(crate) fn tail_if<'a>(kind: Kind, body: &'a [u8]) -> Option<&'a [u8]>
-    ensures { MatchOption result ((tail : List ℕ) → parts_of body.now ≢ Some (kind, tail))
-        (λ tail. parts_of body.now ≡ Some (kind, tail.now)) }
-{
-    let text = skip_blanks(body);
-    match kind_by(text) {
-        Some(found) if found == kind => tail_as(kind, text),
-        _ => None,
-    }
 }
 
 /// Whether a byte is a hash. It has no way out before the last byte, so a few bytes are compared at once.
@@ -219,15 +195,4 @@ pub(crate) fn value_of<'a>(tail: &'a [u8]) -> &'a [u8]
     ensures { result.now ≡ value_of tail.now }
 {
     trimmed(region_of(tail))
-}
-
-/// The kind and the value of a body that is a statement.
-pub(crate) fn statement_of<'a>(body: &'a [u8]) -> Option<(Kind, &'a [u8])>
-    ensures value { MatchOption result (statement_of body.now ≡ None)
-        (λ found. statement_of body.now ≡ Some (found.0, found.1.now)) }
-    ensures decides { MatchOption result ((kind : Kind) (value : List ℕ)
-        → ¬ IsStatement kind value body.now) (λ found. IsStatement found.0 found.1.now body.now) }
-{
-    let (kind, tail) = parts_of(body)?;
-    Some((kind, value_of(tail)))
 }

@@ -1,4 +1,3 @@
-use Rattle.std.proofs.Common.{rules}
 use Rattle.std.proofs.Common.{List, None, ap, cond, refl, sym}
 use Rattle.std.specs.List.{filter_map, last_or, list_any}
 use Rattle.texting_robots.specs.Group.{is_agent}
@@ -12,7 +11,4 @@ loop-line-init c =
     let last = λ (front : List LineValue). cond (list_any is_agent lines)
     (last_or None (filter_map delay_in front)) None in
     rw c.into_iter-line-iterator.ensures.into_iter_gives
-    (record { named = refl; agents = refl; stray = ap last (sym (before_agents lines)) })
-
-pub loop-line-preserved-then-not-has_agents : goal.loop-line-preserved-then-not-has_agents
-loop-line-preserved-then-not-has_agents c = search rules
+    (record { named = refl; agents = refl; delay = ap last (sym (before_agents lines)) })

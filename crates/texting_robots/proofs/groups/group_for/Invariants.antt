@@ -3,7 +3,7 @@ use Rattle.std.specs.List.{list_any}
 use Rattle.std.specs.Str.{str_to_ascii_lowercase}
 use Rattle.texting_robots.specs.Group.{is_agent, is_agent_named}
 use Rattle.texting_robots.specs.Computed.{delay_before_agents}
-use Rattle.texting_robots.proofs.RulesLemmas.{stray_from}
+use Rattle.texting_robots.proofs.RulesLemmas.{delay_from}
 use Rattle.texting_robots.proofs.groups.group_for.Given as goal
 
 abbrev pub invariant-loop-line : goal.invariant-loop-line
@@ -12,5 +12,5 @@ invariant-loop-line l =
     record {
       named : list_any is_its l.line-iterator ≡ list_any is_its l.fn.lines;
       agents : (l.has_agents || list_any is_agent l.line-iterator) ≡ list_any is_agent l.fn.lines;
-      stray : cond l.has_agents l.last (stray_from l.last l.line-iterator) ≡ delay_before_agents l.fn.lines;
+      delay : cond l.has_agents l.last (delay_from l.last l.line-iterator) ≡ delay_before_agents l.fn.lines;
     }

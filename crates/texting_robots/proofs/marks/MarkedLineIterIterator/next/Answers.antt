@@ -1,25 +1,21 @@
-use Rattle.std.proofs.Common.{◌≡◌, false, inl, inr, refl, ◌∙◌}
-use Rattle.texting_robots.specs.Group.{is_group}
+use Rattle.std.proofs.Common.{◌≡◌, arith, sym}
+use Rattle.std.specs.Str.{str_to_ascii_lowercase}
 use Rattle.texting_robots.specs.Steps.Group.{captured_ahead}
-use Rattle.texting_robots.proofs.StandingLemmas.{known_first, known_next}
+use Rattle.texting_robots.proofs.StandingLemmas.{known_next}
 use Rattle.texting_robots.proofs.marks.MarkedLineIterIterator.next.Goals as goal
 use Rattle.texting_robots.proofs.marks.MarkedLineIterIterator.next.Goals.{in-Some, in-None}
-use Rattle.texting_robots.proofs.marks.MarkedLineIterIterator.next.Goals.{in-Allow, in-Sitemap, in-UserAgent}
 
 pub invariant_of-self-2 : goal.invariant_of-self-2
 invariant_of-self-2 c =
-    let known : captured_ahead c.match-self.captured c.self.inside.marked ≡ c.match-self.captured =
+    let name = str_to_ascii_lowercase c.self.inside.name.now in
+    let known : captured_ahead name c.self.inside.walk c.self.inside.lines ≡ c.match-self.captured =
     elim c.match-self.branch [
-      | in-Some w ↦ rw w.captured-is (rw w.in-Some.is at c.self.invariant)
-      | in-None w ↦ known_first _ c.self.inside.marked (w.captured-is ∙ w.ahead-captured.ensures)
+      | in-Some w ↦ rw w.captured-is (rw w.in-Some.is at c.self.invariant.1)
+      | in-None w ↦ rw (w.captured-is, ← w.again.ensures) (sym w.ahead-captured.ensures)
     ] in
-    let goes_on = λ (isnt : is_group c.in_ok-marked.marked.line ≡ false).
-    known_next _ _ _ _ c.in_ok-marked.ensures.steps isnt known in
-    elim c.match-line.branch [
-      | in-UserAgent w ↦ rw w.self-inside-is (goes_on (rw (← c.read-line.ensures, w.in-UserAgent.is)))
-      | in-Allow w ↦ rw w.self-inside-is tt
-      | in-Sitemap w ↦ rw w.self-inside-is (elim w.in-Sitemap.is [
-        | inl (value, is) ↦ goes_on (rw (← c.read-line.ensures, is) refl)
-        | inr (body, is) ↦ goes_on (rw (← c.read-line.ensures, is) refl)
-      ])
-    ]
+    let next = c.in_ok-next.ensures.steps in
+    let sizes = rw next at c.self.invariant.0 in (
+      omega arith,
+      rw (c.step.ensures, c.read-line.ensures, c.then_some-self-inside.ensures, c.is_group.ensures)
+          (rw c.read-line.ensures (known_next name _ _ _ _ _ next known)),
+    )

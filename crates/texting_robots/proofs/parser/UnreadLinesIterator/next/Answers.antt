@@ -18,6 +18,7 @@ pub returns-clause-steps : goal.returns-clause-steps
 returns-clause-steps c =
     rw (
       ← c.self.view_is,
+      c.new.ensures,
       c.after_end-self-inside.ensures,
       c.split_at.ensures.front,
       c.split_at.ensures.back,
