@@ -1,10 +1,10 @@
 -- That a number says a decision, and that the number fits.
 use Rattle.std.proofs.Common.{◌≡◌, ℕ, zero, suc, ◌+◌, ◌<◌, ◌≤◌, ◌^◌, Bool}
 use Rattle.std.proofs.Common.{true, false}
-use Rattle.std.proofs.Common.{List, [], ◌∷◌, ◌++◌, Bor, Option, Some, None, IfSome, ℤ}
+use Rattle.std.proofs.Common.{List, [], ◌∷◌, ◌++◌, Option, Some, None, IfSome, ℤ}
 use Rattle.std.proofs.Common.{arith, length, map, refl, slice_index_or, subst, take}
 use Rattle.std.specs.List.{AllZip}
-use Rattle.std.proofs.lemmas.List.{length-map, length-take, map-append, take_more}
+use Rattle.std.proofs.lemmas.List.{length-map, length-take, take_more}
 use Rattle.std.proofs.lemmas.Option.{slice_get_within}
 use Rattle.texting_robots.specs.Callers.{IsDecidingLine, IsRobotOfFile, IsVerdict, PlacedRule, RobotValue}
 use Rattle.texting_robots.specs.Callers.{file_limit, file_lines, lines_read, nul_as_lf, prepared, unplaced}
@@ -26,14 +26,13 @@ zip_append rules (url ∷ urls) others [] more are too = absurd are
 zip_append rules (url ∷ urls) others (number ∷ numbers) more (first, later) too =
     (first, zip_append rules urls others numbers more later too)
 
-pub one_more : (rules : List PlacedRule) (urls : List (Bor (List ℕ))) (at : ℕ) (url : Bor (List ℕ))
-    (numbers : List ℤ) (number : ℤ) → at < length urls
-    → AllZip (IsAnswer rules) (map (λ url. url.now) (take at urls)) numbers
-    → IsAnswer rules (slice_index_or urls at url).now number
-    → AllZip (IsAnswer rules) (map (λ url. url.now) (take (at + 1) urls)) (numbers ++ number ∷ [])
-one_more rules urls at url numbers number below are is =
-    rw (take_more urls at url below, map-append)
-    (zip_append rules _ _ numbers (number ∷ []) are (is, tt))
+pub one_more : (rules : List PlacedRule) (urls : List (List ℕ)) (at : ℕ) (url : List ℕ)
+    (numbers : List ℤ) (number : ℤ) → (at < length urls) × (url ≡ slice_index_or urls at url)
+    → AllZip (IsAnswer rules) (take at urls) numbers → IsAnswer rules url number
+    → AllZip (IsAnswer rules) (take (at + 1) urls) (numbers ++ number ∷ [])
+one_more rules urls at url numbers number (below, here) are is =
+    rw (take_more urls at url below)
+    (zip_append rules _ _ numbers (number ∷ []) are (subst (λ u. IsAnswer rules u number) here is, tt))
 
 pub as_many : (rules : List PlacedRule) (urls : List (List ℕ)) (numbers : List ℤ)
     → AllZip (IsAnswer rules) urls numbers → length numbers ≡ length urls

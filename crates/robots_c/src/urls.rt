@@ -1,5 +1,5 @@
 //! The answers for URLs.
-ghost use Rattle.std.specs.Prelude.{◌≡◌, ◌<◌, ◌≤◌, ◌^◌, IfErr, IfOk, IfSome, length, map};
+ghost use Rattle.std.specs.Prelude.{◌≡◌, ◌<◌, ◌≤◌, ◌^◌, IfErr, IfOk, IfSome, length};
 ghost use Rattle.std.specs.List.{AllZip};
 ghost use Rattle.robots_c.specs.Answer.{IsAnswer, LinesFit, number_of, urls_in};
 ghost use Rattle.robots_c.specs.File.{GivesRobot};
@@ -10,13 +10,6 @@ use crate::file::{robot_of, text_of};
 use std::alloc::{AllocError, Global};
 use texting_robots::view::View;
 use texting_robots::{Decision, Robot};
-
-/// The URLs of a text that has an LF between one and the next.
-fn urls_of<'a>(alloc: Global, text: &'a str) -> Result<Vec<&'a str>, AllocError>
-    ensures { IfOk result (λ urls. map (λ url. url.now) urls.items ≡ urls_in text.now) }
-{
-    text.split('\n').collect(alloc)
-}
 
 /// A decision as one number: the deciding line's, negative where the crawler may not fetch, and 0 where no line decides.
 fn number_of(decision: Decision) -> i64
@@ -41,13 +34,13 @@ pub(crate) fn answer(alloc: Global, robot: &Robot, url: &str) -> Result<i64, All
     }
 }
 
-/// The answers for the URLs, in their order.
-fn answers(alloc: Global, robot: &Robot, urls: &[&str]) -> Result<Vec<i64>, AllocError>
+/// The answers for the URLs in a text, in their order.
+fn answers(alloc: Global, robot: &Robot, urls: &str) -> Result<Vec<i64>, AllocError>
     requires { LinesFit robot.now.rules }
-    ensures { IfOk result (λ numbers. AllZip (IsAnswer robot.now.rules) (map (λ url. url.now) urls.now) numbers.items) }
+    ensures { IfOk result (λ numbers. AllZip (IsAnswer robot.now.rules) (urls_in urls.now) numbers.items) }
 {
     let mut numbers = Vec::new(alloc);
-    for url in urls {
+    for url in urls.split('\n') {
         numbers.push(answer(alloc, robot, url)?)?;
     }
     Ok(numbers)
@@ -66,10 +59,11 @@ pub(crate) fn decide(
     ensures room { IfOk result (λ numbers. length numbers.items ≤ room) }
     ensures fault { IfErr result (IsWhyNoAnswers agent.now file.now urls.now room) }
 {
-    let urls = urls_of(alloc, text_of(urls)?)?;
-    if room < urls.len() {
+    let urls = text_of(urls)?;
+    let robot = robot_of(alloc, agent, file)?;
+    let numbers = answers(alloc, &robot, urls)?;
+    if room < numbers.len() {
         return Err(Fault::NoRoom);
     }
-    let robot = robot_of(alloc, agent, file)?;
-    Ok(answers(alloc, &robot, &urls)?)
+    Ok(numbers)
 }
