@@ -1,7 +1,9 @@
-//! Makes the library's calls one after the other, and prints for each whether its answer is right.
+//! Makes the calls of the libraries one after the other, on small inputs and on large ones, and prints for each whether its answer
+//! is right.
 //!
-//! With memory for all, each line says `right`. The script `refusals/run` runs this program while requests for memory are
-//! refused; then a call that takes memory may also say `out of memory`. A name on standard input chooses one call.
+//! With memory for all, each line says `right`; no length of an input and no number of its parts is want of memory. The script
+//! `refusals/run` runs this program while requests for memory are refused; then a call that takes memory may also say
+//! `out of memory`. A name on standard input chooses one call.
 #![tactic(auto)]
 
 mod callers;
@@ -30,34 +32,25 @@ fn is_chosen(line: &[u8], name: &str) -> bool {
     line.is_empty() || line.strip_suffix(b"\n") == Some(name.as_bytes())
 }
 
+/// Makes those calls of a module that the line on standard input chooses, and clears `well` where what came of one may not be.
+macro_rules! make_calls {
+    ($rt:expr, $line:expr, $well:ident, $module:ident) => {
+        for (name, call) in $module::CALLS {
+            if is_chosen($line, name) {
+                $well &= tell($rt, name, $module::answer($rt.alloc(), call));
+            }
+        }
+    };
+}
+
 /// Makes the calls that the line on standard input chooses, and tells whether what came of each may be.
 fn makes_calls(rt: &HostRuntime, line: &[u8]) -> bool {
     let mut well = true;
-    for (name, call) in calls::CALLS {
-        if is_chosen(line, name) {
-            well &= tell(rt, name, calls::answer(rt.alloc(), call));
-        }
-    }
-    for (name, call) in printed::CALLS {
-        if is_chosen(line, name) {
-            well &= tell(rt, name, printed::answer(rt.alloc(), call));
-        }
-    }
-    for (name, call) in quiet::CALLS {
-        if is_chosen(line, name) {
-            well &= tell(rt, name, quiet::answer(rt.alloc(), call));
-        }
-    }
-    for (name, call) in large::CALLS {
-        if is_chosen(line, name) {
-            well &= tell(rt, name, large::answer(rt.alloc(), call));
-        }
-    }
-    for (name, call) in callers::CALLS {
-        if is_chosen(line, name) {
-            well &= tell(rt, name, callers::answer(rt.alloc(), call));
-        }
-    }
+    make_calls!(rt, line, well, calls);
+    make_calls!(rt, line, well, printed);
+    make_calls!(rt, line, well, quiet);
+    make_calls!(rt, line, well, large);
+    make_calls!(rt, line, well, callers);
     well
 }
 
