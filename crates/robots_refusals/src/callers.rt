@@ -7,10 +7,11 @@ use robots_callers::link_check::{Denied, count_denied};
 use robots_callers::once::may_fetch;
 use robots_io::ends::{read_all, write_out};
 use robots_io::fakes::{Sink, Source};
-use robots_io::lines::{push_line, push_verdict_line};
+use robots_io::lines::push_line;
+use robots_io::verdicts::push_decision;
 use std::alloc::Global;
 use texting_robots::view::View;
-use texting_robots::{Error, Robot};
+use texting_robots::{Decision, Error, Robot};
 
 /// A call on large inputs.
 pub(crate) enum Call {
@@ -93,7 +94,12 @@ fn pushes_lines(alloc: Global) -> Result<bool, Error> {
     )?;
     let mut text = String::new(alloc);
     push_line(&mut text, &url, "")?;
-    push_verdict_line(alloc, &mut text, true, Some(7), &url)?;
+    let decision = Decision {
+        allowed: true,
+        line: Some(7),
+    };
+    push_decision(&mut text, &decision)?;
+    push_line(&mut text, &url, "")?;
     Ok(text == want)
 }
 
