@@ -100,7 +100,6 @@ piece_put : (p tables table more : List ℕ) (span : Span) → IsSpan p span
     → IsPiece p (tables ++ (table ++ more)) (record { span = span; table = length tables })
 piece_put p tables table more span is_span is_table =
     let size = length tables + (length (part_of p span) - 1) - length tables in
-    let long = is_table.long in
     let all = length-append tables (table ++ more) in
     let from_table = length-append table more in
     let there = ap (take size) (drop_at tables (table ++ more) (length tables) refl) in

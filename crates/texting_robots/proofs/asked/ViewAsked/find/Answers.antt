@@ -43,9 +43,7 @@ loop-matched-preserved c =
     let i = c.loop-matched.invariant in
     let one_more : c.same.new.self.looks ≡ c.loop-matched.self.looks + 1 = c.same.ensures.looks in
     let differs = rw i.text at (iff_false c.same.ensures.answer c.if-same.false) in
-    let long = c.requires.table.long in
     let longest = c.requires.table.borders c.loop-matched.matched (omega arith) (omega arith) in
-    let proper = longest.proper in
     record {
       text = c.same.ensures.text ∙ i.text;
       within = omega arith;
@@ -61,7 +59,6 @@ returns-clause-some c =
     let text = c.args.self.now.text in
     let piece = c.args.piece.now in
     let place = c.loop-matched.place in
-    let behind = i.first.behind in
     let found = open_found i.first (omega arith) (omega arith) in
     let end : place - length piece + length piece ≡ place = omega arith in
     let first = behind_found text piece c.args.rest c.requires.rest (place - length piece) found in
