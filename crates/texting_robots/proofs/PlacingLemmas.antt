@@ -12,7 +12,8 @@ use Rattle.texting_robots.specs.Steps.Stars.{IsBehindFirst, StandsNowhere}
 -- where R holds of a text if it holds of an end of it, the first place of the piece is enough
 pub first_is_enough : (R : List ℕ → Type 0) (piece t : List ℕ)
     → ((s t : List ℕ) → IsSuffix s t → R s → R t) → (rest : List ℕ)
-    → IsBehindFirst piece t rest → ((after : List ℕ) × IsSuffix (piece ++ after) t × R after) ↔ R rest
+    → IsBehindFirst piece t rest
+    → ((after : List ℕ) × IsSuffix (piece ++ after) t × R after) ↔ R rest
 first_is_enough R piece t grows rest behind = (
   λ (after, (front, e), r). grows after rest (behind.first front after e) r,
   λ r. (rest, (behind.front, behind.stands), r),
