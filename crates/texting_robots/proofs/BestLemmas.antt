@@ -141,8 +141,6 @@ one_preferred first second = elim (cases_Bool (prefers first second)) [
 preferred_trans : (first second third : PlacedRule) → IsPreferred first second
     → IsPreferred second third → IsPreferred first third
 preferred_trans first second third one two =
-    let high = one.higher in
-    let low = two.higher in
     record {
       higher = omega arith;
       earlier = λ same. omega (arith, one.earlier (omega arith), two.earlier (omega arith));

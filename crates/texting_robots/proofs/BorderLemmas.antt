@@ -49,7 +49,6 @@ module _ {text piece : List ℕ} where
     pub open_more : get_or text place 0 ≡ get_or piece matched 0
         → IsFirstOpen text piece low end (place + 1) (matched + 1)
     open_more next =
-        let behind = first.behind in
         record {
           behind = omega arith;
           agrees = λ k l m.
@@ -64,7 +63,6 @@ module _ {text piece : List ℕ} where
         (differs : get_or text place 0 ≢ get_or piece matched 0) where
       closed_here : (at : ℕ) → low ≤ at → at ≤ place - matched → ¬ Agrees text piece at end
       closed_here at from upto agrees =
-          let behind = first.behind in
           ⊎_elim (λ before. first.closed at from before agrees)
           (λ here. differs (byte_at text (omega arith) ∙ agrees matched some (omega arith)))
           (cases_lt at (place - matched))
@@ -72,7 +70,6 @@ module _ {text piece : List ℕ} where
       -- Nothing was matched: the next place is the first open one.
       pub open_next : matched ≡ 0 → IsFirstOpen text piece low end (place + 1) matched
       open_next none =
-          let behind = first.behind in
           record {
             behind = omega arith;
             agrees = λ k l m. absurd (omega arith);
@@ -83,8 +80,6 @@ module _ {text piece : List ℕ} where
       pub open_back : {border : ℕ} → IsLongestBorder piece matched border
           → IsFirstOpen text piece low end place border
       open_back {border} longest =
-          let behind = first.behind in
-          let proper = longest.proper in
           let here = place - matched in
           let farther = λ (at longer : ℕ) (e : at ≡ here + (matched - longer)).
           agrees_farther text piece here (matched - longer) at matched place e
@@ -108,7 +103,6 @@ module _ {text piece : List ℕ} where
     pub open_found : matched ≡ length piece → place ≤ length text
         → FindsNeedle text piece low (Some (place - length piece))
     open_found all within =
-        let behind = first.behind in
         rw (← all) (
           record { low = omega arith; high = omega arith; before = open_before },
           record { fits = omega arith; reads = λ k l. first.agrees k (omega arith) (omega arith) },
@@ -117,8 +111,6 @@ module _ {text piece : List ℕ} where
     -- The text is at its end, so it occurs nowhere.
     pub open_none : matched < length piece → place ≡ length text → FindsNeedle text piece low None
     open_none some last at from upto occurs =
-        let fits = occurs.fits in
-        let behind = first.behind in
         ⊎_elim (λ before. open_before at from before occurs) (λ l. omega arith)
         (cases_lt at (place - matched))
 
@@ -128,7 +120,6 @@ module _ {piece : List ℕ} where
   pub longest_border : {len border : ℕ} → IsFirstOpen piece piece 1 len len border
       → IsLongestBorder piece len border
   longest_border {len} {border} first =
-      let behind = first.behind in
       record {
         proper = omega arith;
         agrees = first.agrees;
@@ -173,7 +164,6 @@ module _ {piece old now : List ℕ} {len : ℕ} (adds : AddsBorders piece old no
       → at ≡ length old + count - 1
       → (entry : ℕ) → entry ≡ get_or now at entry → IsLongestBorder piece count entry
   adds_entry count some upto at place entry is =
-      let long = adds.long in
       let there : at ≡ length old + (count - 1) = omega arith in
       let moved = ap (λ k. get_or (old ++ adds.table) k entry) there in
       let read = is ∙ ap (λ items. get_or items at entry) adds.added ∙ moved in

@@ -35,7 +35,6 @@ count_front p (x ∷ xs) (suc n) within passes =
 at_most_more : (old new : ViewValue) (few many : ℕ) → few ≤ many → LooksAtMost old new few
     → LooksAtMost old new many
 at_most_more old new few many more is =
-    let cost = is.cost in
     record { text = is.text; looks = is.looks; cost = omega arith }
 
 -- ---- the first that matches
@@ -43,8 +42,6 @@ at_most_more old new few many more is =
 part_length : {X : Type 0} (xs : List X) (span : Span) → IsSpan xs span
     → length (part_of xs span) ≡ span.end - span.start
 part_length xs span h =
-    let ordered = h.ordered in
-    let within = h.within in
     simp (length-take, length-drop) (omega arith)
 
 module _ (all : Gathered) (known : AreEntries all) where

@@ -10,11 +10,11 @@ use Rattle.std.proofs.lemmas.Cmp.{back_total, by_ranked, nat_cmp_total, nat_list
 use Rattle.std.proofs.lemmas.Cmp.{ranked, then_total, tied_itself}
 use Rattle.texting_robots.specs.Order.{IsBefore, pattern_cmp}
 
-pub below : (x y : ℕ) → x < y → nat_cmp x y ≡ Less
-below x y h = sym (nat_cmp_is x y Less h)
+pub cmp_less : (x y : ℕ) → x < y → nat_cmp x y ≡ Less
+cmp_less x y h = sym (nat_cmp_is x y Less h)
 
-pub alike : (x : ℕ) → nat_cmp x x ≡ Equal
-alike x = tied_itself nat_cmp_total x
+pub cmp_same : (x : ℕ) → nat_cmp x x ≡ Equal
+cmp_same x = tied_itself nat_cmp_total x
 
 -- alike up to some place, and smaller there
 abbrev IsSmaller : List ℕ → List ℕ → Type 0
@@ -39,24 +39,25 @@ compared (x ∷ p) (y ∷ q) n =
     first Equal same Equal is = cc
     first Equal same Greater (k, begin, less) = (suc k, cc, less)
 
-larger : (p q : List ℕ) (k : ℕ) → length p ≡ length q → take k p ≡ take k q
+smaller_is_less : (p q : List ℕ) (k : ℕ) → length p ≡ length q → take k p ≡ take k q
     → slice_index p k < slice_index q k → slice_cmp nat_cmp p q ≡ Less
-larger [] [] k n same less = absurd (omega (arith, less))
-larger [] (y ∷ q) k n same less = absurd (omega (arith, n))
-larger (x ∷ p) [] k n same less = absurd (omega (arith, n))
-larger (x ∷ p) (y ∷ q) zero n same less = rw (below x y less) refl
-larger (x ∷ p) (y ∷ q) (suc k) n same less =
+smaller_is_less [] [] k n same less = absurd (omega (arith, less))
+smaller_is_less [] (y ∷ q) k n same less = absurd (omega (arith, n))
+smaller_is_less (x ∷ p) [] k n same less = absurd (omega (arith, n))
+smaller_is_less (x ∷ p) (y ∷ q) zero n same less = rw (cmp_less x y less) refl
+smaller_is_less (x ∷ p) (y ∷ q) (suc k) n same less =
     let first : x ≡ y = cc in
     let rest : take k p ≡ take k q = cc in
-    rw (first, alike y) (larger p q k (omega (arith, n)) rest less)
+    rw (first, cmp_same y) (smaller_is_less p q k (omega (arith, n)) rest less)
 
 pattern_total : IsTotalOrder pattern_cmp
 pattern_total =
     then_total (back_total (on_total (λ (p : List ℕ). length p) nat_cmp_total)) nat_list_cmp_total
 
 -- what the comparison of two patterns says
-told : (p q : List ℕ) → MatchOrdering (pattern_cmp p q) (IsBefore p q) (p ≡ q) (IsBefore q p)
-told p q = by_length (nat_cmp (length q) (length p)) (ranked (length q) (length p) _ refl)
+pattern_compared : (p q : List ℕ)
+    → MatchOrdering (pattern_cmp p q) (IsBefore p q) (p ≡ q) (IsBefore q p)
+pattern_compared p q = by_length (nat_cmp (length q) (length p)) (ranked (length q) (length p) _ refl)
   where
     by_bytes : length p ≡ length q → (o : Ordering) → Compared o p q
         → MatchOrdering o (IsBefore p q) (p ≡ q) (IsBefore q p)
@@ -73,20 +74,20 @@ told p q = by_length (nat_cmp (length q) (length p)) (ranked (length q) (length 
 
 pub less_is_before : (p q : List ℕ) → (pattern_cmp p q ≡ Less) ↔ IsBefore p q
 less_is_before p q = (
-  λ h. rw h at (told p q),
+  λ h. rw h at (pattern_compared p q),
   λ before. elim before [
-    | inl longer ↦ rw (below (length q) (length p) longer) refl
-    | inr (same, k, begin, less) ↦ rw (same, alike (length q)) (larger p q k same begin less)
+    | inl longer ↦ rw (cmp_less (length q) (length p) longer) refl
+    | inr (same, k, begin, less) ↦ rw (same, cmp_same (length q)) (smaller_is_less p q k same begin less)
   ],
 )
 
 pub equal_is_same : (p q : List ℕ) → (pattern_cmp p q ≡ Equal) ↔ (p ≡ q)
-equal_is_same p q = (λ h. rw h at (told p q), λ same. rw same (tied_itself pattern_total q))
+equal_is_same p q = (λ h. rw h at (pattern_compared p q), λ same. rw same (tied_itself pattern_total q))
 
 pub one_holds : (p q : List ℕ) → (p ≡ q) ⊎ (IsBefore p q ⊎ IsBefore q p)
 one_holds p q =
-    by_ranked _ _ _ (pattern_cmp p q) (told p q) (λ _ first. inr (inl first)) (λ _ same. inl same)
-    (λ _ later. inr (inr later))
+    by_ranked _ _ _ (pattern_cmp p q) (pattern_compared p q) (λ _ first. inr (inl first))
+    (λ _ same. inl same) (λ _ later. inr (inr later))
 
 pub not_both : (p q : List ℕ) → IsBefore p q → ¬ IsBefore q p
 not_both p q before after =

@@ -1,10 +1,10 @@
 -- Cutting a pattern from left to right, and what its pieces decide.
 use Rattle.std.proofs.Common.{◌≡◌, ◌≢◌, ◌↔◌, ◌==◌, ℕ, ◌+◌, ◌-◌}
-use Rattle.std.proofs.Common.{◌<◌, ◌≤◌, true, List, [], ◌∷◌, ◌++◌, All, get_or}
-use Rattle.std.proofs.Common.{length, take, drop, refl, sym, ap, subst, ◌∙◌, append_assoc}
+use Rattle.std.proofs.Common.{true, List, [], ◌∷◌, ◌++◌, All}
+use Rattle.std.proofs.Common.{length, take, refl, sym, ap, subst, ◌∙◌, append_assoc}
 use Rattle.std.proofs.Common.{append-nil, take-append-drop, length-append, arith}
 use Rattle.std.specs.List.{prefix_len}
-use Rattle.std.proofs.lemmas.List.{drop_all, drop_at, drop_more, take_at}
+use Rattle.std.proofs.lemmas.List.{drop_at, take_at}
 use Rattle.std.proofs.lemmas.List.Elements.{All-cons, All-nil}
 use Rattle.std.proofs.lemmas.List.Prefix.{end_rest, front_rest}
 use Rattle.texting_robots.specs.declared.pieces.Ends.{Ends}
@@ -15,13 +15,11 @@ use Rattle.texting_robots.specs.declared.pieces.Span.{Span}
 use Rattle.texting_robots.specs.Steps.Border.{IsTable}
 use Rattle.texting_robots.specs.Steps.Pieces.{AddsPieces, AreLeft, ArePieces, behind_stars, part_of}
 use Rattle.texting_robots.specs.Steps.Pieces.{Closes, EndsAs, IsAtMark, IsCutAtMark, IsEnding, IsLeft}
-use Rattle.texting_robots.specs.Steps.Pieces.{IsPiece, IsSpan, Somewhere, no_piece}
-use Rattle.texting_robots.specs.Steps.Stars.{IsBehindFirst, StandsNowhere}
+use Rattle.texting_robots.specs.Steps.Pieces.{IsPiece, IsSpan, Somewhere}
 use Rattle.texting_robots.specs.Pattern.{IsSuffix, Matches, star}
 use Rattle.texting_robots.proofs.PatternLemmas.{closes_decides, end_matches, grows_at_mark, in_front}
 use Rattle.texting_robots.proofs.PatternLemmas.{mark_matches_none, plain_marks, somewhere, star_stars}
 use Rattle.texting_robots.proofs.PatternLemmas.{suffix_trans}
-use Rattle.texting_robots.proofs.PlacingLemmas.{first_is_enough, none_is_enough}
 
 -- ---- what pieces decide
 
@@ -31,40 +29,14 @@ module _ {p : List ℕ} {ends : Ends} {pieces : List Piece} {borders : List ℕ}
   first = take ends.first_len p
 
   -- where the text begins with the first piece, what is left decides
-  pub first_in_front : (behind : List ℕ) → t ≡ first ++ behind → Matches p t ↔ Matches are.rest behind
+  pub first_in_front : (behind : List ℕ) → t ≡ first ++ behind
+      → Matches p t ↔ Matches are.rest behind
   first_in_front behind split =
       let (to, from) = are.decides t in (
         λ m. let (after, e, n) = to m in
             rw (sym (front_rest t first behind split) ∙ front_rest t first after e) n,
         λ n. from (behind, split, n),
       )
-
-  -- where it doesn't, nothing matches
-  pub first_absent : ((behind : List ℕ) → t ≢ first ++ behind) → ¬ Matches p t
-  first_absent absent m = let (after, e, n) = (are.decides t).0 m in absent after e
-
-module _ {left piece rest : List ℕ} (is : IsLeft left piece rest) (t : List ℕ) where
-  -- a piece that may stand anywhere is placed where it first stands
-  pub left_here : (after : List ℕ) → IsBehindFirst piece t after → Matches left t ↔ Matches rest after
-  left_here after behind =
-      let (to, from) = first_is_enough (Matches rest) piece t is.grows after behind in
-      (λ m. to ((is.decides t).0 m), λ m. (is.decides t).1 (from m))
-
-  -- where it stands nowhere, nothing matches
-  pub left_missing : StandsNowhere piece t → ¬ Matches left t
-  left_missing nowhere m = none_is_enough (Matches rest) piece t nowhere ((is.decides t).0 m)
-
-module _ (p : List ℕ) (ending : Ending) (pieces : List Piece) (i : ℕ) (left : List ℕ)
-    (are : AreLeft p ending (drop i pieces) left) where
-  -- the piece at a place is the next
-  pub next_left : i < length pieces
-      → AreLeft p ending (get_or pieces i no_piece ∷ drop (i + 1) pieces) left
-  next_left below =
-      subst (λ (more : List Piece). AreLeft p ending more left) (drop_more pieces i no_piece below) are
-
-  -- past the last piece the ending is left
-  pub none_left : length pieces ≤ i → AreLeft p ending [] left
-  none_left past = subst (λ (more : List Piece). AreLeft p ending more left) (drop_all i pieces past) are
 
 -- ---- from a star on
 
@@ -128,7 +100,6 @@ piece_put : (p tables table more : List ℕ) (span : Span) → IsSpan p span
     → IsPiece p (tables ++ (table ++ more)) (record { span = span; table = length tables })
 piece_put p tables table more span is_span is_table =
     let size = length tables + (length (part_of p span) - 1) - length tables in
-    let long = is_table.long in
     let all = length-append tables (table ++ more) in
     let from_table = length-append table more in
     let there = ap (take size) (drop_at tables (table ++ more) (length tables) refl) in

@@ -9,20 +9,15 @@ use Rattle.memchr.specs.Find.{FindsNeedle, OccursAt}
 use Rattle.texting_robots.specs.Pattern.{IsSuffix}
 use Rattle.texting_robots.specs.Steps.Stars.{IsBehindFirst, StandsNowhere}
 
-module _ (R : List ℕ → Type 0) (piece t : List ℕ) where
-  -- where R holds of a text if it holds of an end of it, the first place of the piece is enough
-  pub first_is_enough : ((s t : List ℕ) → IsSuffix s t → R s → R t) → (rest : List ℕ)
-      → IsBehindFirst piece t rest → ((after : List ℕ) × IsSuffix (piece ++ after) t × R after)
-      ↔ R rest
-  first_is_enough grows rest behind = (
-    λ (after, (front, e), r). grows after rest (behind.first front after e) r,
-    λ r. (rest, (behind.front, behind.stands), r),
-  )
-
-  -- a piece that stands nowhere is followed by nothing
-  pub none_is_enough : StandsNowhere piece t
-      → ¬ ((after : List ℕ) × IsSuffix (piece ++ after) t × R after)
-  none_is_enough nowhere (after, (front, e), r) = nowhere front after e
+-- where R holds of a text if it holds of an end of it, the first place of the piece is enough
+pub first_is_enough : (R : List ℕ → Type 0) (piece t : List ℕ)
+    → ((s t : List ℕ) → IsSuffix s t → R s → R t) → (rest : List ℕ)
+    → IsBehindFirst piece t rest
+    → ((after : List ℕ) × IsSuffix (piece ++ after) t × R after) ↔ R rest
+first_is_enough R piece t grows rest behind = (
+  λ (after, (front, e), r). grows after rest (behind.first front after e) r,
+  λ r. (rest, (behind.front, behind.stands), r),
+)
 
 module _ (t : List ℕ) where
   -- what is behind a later place is a suffix

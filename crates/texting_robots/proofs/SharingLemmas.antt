@@ -20,8 +20,6 @@ pub record IsNew {X : Type 0} (old new : List X) (span : Span) : Type 0 where
 module _ {X : Type 0} (xs more : List X) (span : Span) where
   part_kept : IsSpan xs span → part_of (xs ++ more) span ≡ part_of xs span
   part_kept h =
-      let ordered = h.ordered in
-      let within = h.within in
       let left = length-drop span.start xs in
       ap (take (span.end - span.start)) (drop-append-le span.start xs more (omega arith))
       ∙ take-append-le (span.end - span.start) (drop span.start xs) more (omega arith)
@@ -29,22 +27,18 @@ module _ {X : Type 0} (xs more : List X) (span : Span) where
   span_kept : IsSpan xs span → IsSpan (xs ++ more) span
   span_kept h =
       let sizes = length-append xs more in
-      let within = h.within in
       record { ordered = h.ordered; within = omega arith }
 
   pub part_new : IsNew xs (xs ++ more) span → part_of (xs ++ more) span ≡ more
   part_new h =
       let sizes = length-append xs more in
       let start = h.start in
-      let end = h.end in
       ap (take (span.end - span.start)) (drop_at xs more span.start (sym start))
       ∙ take_all (span.end - span.start) more (omega arith)
 
   span_new : IsNew xs (xs ++ more) span → IsSpan (xs ++ more) span
   span_new h =
       let sizes = length-append xs more in
-      let start = h.start in
-      let end = h.end in
       record { ordered = omega arith; within = omega arith }
 
 -- what stands behind the old elements is what was added
@@ -110,8 +104,6 @@ module _ (text pattern : List ℕ) (pieces searched : List Piece) (borders : Lis
   entry_new is =
       let one = part_new text pattern entry.pattern is.pattern_span in
       let two = part_new pieces searched entry.pieces is.searched_span in
-      let start = is.pattern_span.start in
-      let end = is.pattern_span.end in
       let sizes = length-append text pattern in
       let len : entry.pattern.end - entry.pattern.start ≡ length pattern = omega arith in
       record {

@@ -4,7 +4,7 @@ use Rattle.std.specs.Borrow.{Bor}
 use Rattle.texting_robots.specs.Pattern.{IsSuffix, MatchesStars, star}
 use Rattle.texting_robots.specs.Steps.Stars.{from_star, IsBehindFirst, IsCutAtStar, StandsNowhere}
 use Rattle.texting_robots.proofs.PatternLemmas.{end_matches, in_front, plain_stars, somewhere, star_grows}
-use Rattle.texting_robots.proofs.PlacingLemmas.{first_is_enough, none_is_enough}
+use Rattle.texting_robots.proofs.PlacingLemmas.{first_is_enough}
 
 -- what is left matches more of a text where it matches less
 left_grows : (left : Option (Bor (List ℕ))) (s t : List ℕ) → IsSuffix s t
@@ -37,4 +37,4 @@ module _ {p piece : List ℕ} {left : Option (Bor (List ℕ))} (t : List ℕ)
 
   -- where it stands nowhere, nothing matches
   pub stars_nowhere : StandsNowhere piece t → ¬ MatchesStars (star ∷ p) t
-  stars_nowhere nowhere m = none_is_enough LeftMatches piece t nowhere (stars_somewhere.0 m)
+  stars_nowhere nowhere m = let (after, (front, e), n) = stars_somewhere.0 m in nowhere front after e

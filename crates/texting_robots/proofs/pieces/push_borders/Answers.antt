@@ -9,7 +9,6 @@ pub loop-place-smaller-then-matched-gt0 : goal.loop-place-smaller-then-matched-g
 loop-place-smaller-then-matched-gt0 c =
     let i = c.loop-place.invariant in
     let matched = c.loop-place.matched in
-    let behind = i.first.behind in
     let entry = c.index-matched.ensures in
     let longest = adds_entry i.adds matched (omega arith) (omega arith) _ (omega arith) _ entry in
     omega (arith, longest.proper)
@@ -18,7 +17,6 @@ pub loop-place-preserved-then-matched-gt0 : goal.loop-place-preserved-then-match
 loop-place-preserved-then-matched-gt0 c =
     let i = c.loop-place.invariant in
     let matched = c.loop-place.matched in
-    let behind = i.first.behind in
     let entry = c.index-matched.ensures in
     let longest = adds_entry i.adds matched (omega arith) (omega arith) _ (omega arith) _ entry in
     record {
@@ -33,7 +31,6 @@ loop-place-preserved c =
     let i = c.loop-place.invariant in
     let piece = c.args.piece.now in
     let place = c.loop-place.place in
-    let behind = i.first.behind in
     let is_first = IsFirstOpen piece piece 1 (place + 1) (place + 1) in
     let first : is_first c.if-piece-place.matched =
     elim c.if-piece-place.branch [

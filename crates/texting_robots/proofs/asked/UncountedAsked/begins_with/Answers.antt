@@ -7,7 +7,8 @@ use Rattle.texting_robots.proofs.asked.UncountedAsked.begins_with.Goals as goal
 
 -- one fact on both ends as two facts
 parted : (text piece : List ℕ) (result : Option (Bor (List ℕ)))
-    → MatchOption result ((rest : List ℕ) → text ≢ piece ++ rest) (λ rest. text ≡ piece ++ rest.now)
+    → MatchOption result ((rest : List ℕ) → text ≢ piece ++ rest)
+    (λ rest. text ≡ piece ++ rest.now)
     → IfNone result ((rest : List ℕ) → text ≢ piece ++ rest)
     × IfSome result (λ rest. Unit {0} × (text ≡ piece ++ rest.now))
 parted text piece None none = (none, tt)
