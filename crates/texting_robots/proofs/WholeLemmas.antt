@@ -1,62 +1,27 @@
 -- A whole URL that `url` would leave as it is: its parts, from the front.
 use Rattle.std.proofs.Common.{◌≡◌, ℕ, ◌<◌, ◌≤◌, Bool, true, false, ◌||◌, ◌==◌, not}
-use Rattle.std.proofs.Common.{List, [], ◌∷◌, ◌++◌, length, get_or, drop, drop_at, take_at, All}
-use Rattle.std.proofs.Common.{sym, refl, ap, ◌∙◌, ◌≢◌, subst, ⊎_elim, inl, inr, arith}
-use Rattle.std.proofs.Common.{append_assoc}
-use Rattle.std.proofs.Common.{take-append-drop}
-use Rattle.std.proofs.Common.{◌^◌, None, Some, decimal, suc, zero}
-use Rattle.std.specs.Prelude.{Option, codes, nat_lt, option_map, slice_index}
-use Rattle.std.specs.Char.{is_ascii_digit, is_ascii_lowercase, is_ascii_uppercase}
-use Rattle.std.specs.Int.{IsInRange}
-use Rattle.std.specs.Str.Parse.{IsNumeral, digits_value, without_leading_plus}
-use Rattle.std.proofs.lemmas.Fmt.{decimal-digits_value, decimal_digit, first_decimal}
-use Rattle.std.proofs.lemmas.Str.Parse.{numerals_by_value, tells_digits}
-use Rattle.url.proofs.HostRoundTrip.{All-decimal}
-use Rattle.std.proofs.lemmas.Bool.{agree_below, agree_below_at, and_parts, cases_lt, eqb-true, false≢true}
-use Rattle.std.proofs.lemmas.Bool.{le-ltb}
-use Rattle.std.proofs.lemmas.Bool.Decides.{nat_tests}
-use Rattle.std.proofs.lemmas.List.{get_or_past, length-take-le, drop-drop}
-use Rattle.std.proofs.lemmas.Bool.{cond-true, cond-false, ne_eqb, eq-eqb}
+use Rattle.std.proofs.Common.{List, [], ◌∷◌, ◌++◌, length, get_or, drop, drop_at, take_at, All, sym}
+use Rattle.std.proofs.Common.{refl, ap, ◌∙◌, ◌≢◌, subst, ⊎_elim, inl, inr, arith, append_assoc}
+use Rattle.std.proofs.Common.{take-append-drop, None, Some, decimal, cond, take, ◌+◌, Option, codes}
+use Rattle.std.proofs.Common.{nat_lt, option_map, slice_index}
+use Rattle.std.specs.{Char.is_ascii_lowercase, Char.is_ascii_uppercase, Int.IsInRange, List.prefix_len}
+use Rattle.url.proofs.{HostRoundTrip.All-decimal, PathLemmas.push_valid, PathLemmas.rooted}
+use Rattle.std.proofs.lemmas.Bool.{agree_below, agree_below_at, cases_lt, false≢true, le-ltb, cond-true}
+use Rattle.std.proofs.lemmas.Bool.{cond-false, ne_eqb, eq-eqb}
+use Rattle.std.proofs.lemmas.List.{get_or_past, length-take-le, drop-drop, Sums.prefix_len-le-length}
 use Rattle.std.proofs.lemmas.List.Folds.{prefix_len-append}
-use Rattle.std.proofs.lemmas.List.Sums.{prefix_len-le-length}
-use Rattle.std.proofs.Common.{cond, take, ◌+◌}
-use Rattle.std.specs.List.{prefix_len}
 use Rattle.std.proofs.lemmas.List.Elements.{All-head, All-tail, All-weaker}
 use Rattle.percent_encoding.specs.declared.ascii_set.AsciiSet.{AsciiSet}
-use Rattle.percent_encoding.specs.AsciiSet.{contains}
-use Rattle.percent_encoding.specs.Percent.{IsKept}
-use Rattle.percent_encoding.proofs.AsciiSetLemmas.{ascii_from_kept, kept_from_outside, outside_from_kept}
+use Rattle.percent_encoding.specs.{AsciiSet.should_percent_encode, Percent.IsKept}
 use Rattle.url.specs.declared.sets.TheConstants.{FORBIDDEN_DOMAIN, PATH}
 use Rattle.url.specs.declared.scheme.SchemeType.TheVariants.{SpecialNotFile}
-use Rattle.url.specs.Scheme.{is_slash}
-use Rattle.url.specs.Input.{rsplit_once}
-use Rattle.url.specs.Path.{IsSegment, dot_count, join_segments}
+use Rattle.url.specs.{Scheme.is_slash, Input.rsplit_once, Path.IsSegment, Path.dot_count, Path.join_segments}
 use Rattle.url.proofs.InputLemmas.{Passes, StopsAt, All-take-prefix_len, prefix_len_at}
-use Rattle.url.proofs.PathLemmas.{push_valid, rooted}
-use Rattle.texting_robots.specs.declared.whole.TheConstants.{STANDS}
-use Rattle.texting_robots.specs.Plain.{IsAuthority, IsName, IsPath, IsPort}
-use Rattle.texting_robots.specs.Prepared.{marked}
-use Rattle.texting_robots.specs.Steps.Whole.{EndsPath, EndsSite, Leaves, after, begins_plainly}
-use Rattle.texting_robots.specs.Steps.Whole.{front_of, stands}
+use Rattle.texting_robots.specs.{declared.whole.TheConstants.STANDS, Prepared.marked}
+use Rattle.texting_robots.specs.Plain.{EndsSite, IsAuthority, IsName, IsPath, IsPort}
+use Rattle.texting_robots.specs.Steps.Whole.{EndsPath, IsOther, Leaves, after, front_of, stands}
 
 -- ---- bytes that stand
-
--- past ASCII no byte stands
-past : (b : ℕ) → 128 ≤ b → get_or STANDS b 0 ≡ 0
-past b high = elim (cases_lt b 256) [
-  | inl below ↦
-      let test =
-      agree_below_at (λ x. nat_lt x 128 || get_or STANDS x 0 == 0) (λ x. true) 256 b refl below in
-      eqb-true (get_or STANDS b 0) 0 (rw (le-ltb b 128 high) at test)
-  | inr above ↦ get_or_past STANDS b 0 above
-]
-
-ascii : (part b : ℕ) → Passes (stands part) b → b < 128
-unfolding stands
-ascii part b passes = elim (cases_lt b 128) [
-  | inl low ↦ low
-  | inr high ↦ absurd (false≢true (rw (past b high) at passes))
-]
 
 neither : (a b : Bool) → not (a || b) ≡ true → (a ≡ false) × (b ≡ false)
 neither true b e = absurd (false≢true e)
@@ -65,45 +30,50 @@ neither false false e = (refl, refl)
 
 -- the bytes of a part are those that a set keeps, without some others
 module _ (part : ℕ) (set : AsciiSet) (other : ℕ → Bool)
-    (same : agree_below (stands part) (λ b. not (contains set b || other b)) 128 ≡ true) where
-  same_at : (b : ℕ) → b < 128 → stands part b ≡ not (contains set b || other b)
-  unfolding stands
-  same_at b low = agree_below_at (stands part) (λ x. not (contains set x || other x)) 128 b same low
+    (same : agree_below (stands part) (λ b. not (should_percent_encode set b || other b)) 256 ≡ true) where
+  same_at : (b : ℕ) → stands part b ≡ not (should_percent_encode set b || other b)
+  unfolding stands should_percent_encode
+  same_at b = elim (cases_lt b 256) [
+    | inl low ↦
+        agree_below_at (stands part) (λ x. not (should_percent_encode set x || other x)) 256 b same low
+    | inr high ↦ rw (get_or_past STANDS b 0 high, le-ltb b 128 (omega arith)) refl
+  ]
 
-  pub kept_at : (b : ℕ) → Passes (stands part) b → IsKept set b × (other b ≡ false)
-  kept_at b passes =
-      let low = ascii part b passes in
-      let test = sym (same_at b low) ∙ passes in
-      let outside = neither (contains set b) (other b) test in
-      (kept_from_outside set b low outside.0, outside.1)
+  pub kept_all : (xs : List ℕ) → All (Passes (stands part)) xs
+      → All (IsKept set) xs × All (λ b. other b ≡ false) xs
+  kept_all xs passes =
+      let each = λ (k d : ℕ) (inside : k < length xs).
+      neither _ _ (sym (same_at (get_or xs k d)) ∙ passes k d inside) in
+      (λ k d inside. (each k d inside).0, λ k d inside. (each k d inside).1)
 
-  pub stands_at : (b : ℕ) → IsKept set b → other b ≡ false → Passes (stands part) b
-  stands_at b kept none = rw (same_at b (ascii_from_kept set b kept), outside_from_kept set b kept, none) refl
+  pub stands_all : (xs : List ℕ) → All (IsKept set) xs → All (λ b. other b ≡ false) xs
+      → All (Passes (stands part)) xs
+  stands_all xs kept none k d inside = rw (same_at (get_or xs k d), kept k d inside, none k d inside) refl
 
 -- ---- the bytes at the front
 
--- the bytes at the front by some of them: if all these stand, the next ones count too
-module _ (part n : ℕ) (text : List ℕ) (inside : n ≤ length text) where
-  abbrev few : ℕ
-  few = prefix_len (stands part) (take n text)
-
-  by_few : prefix_len (stands part) text ≡ cond (few == n) (n + prefix_len (stands part) (drop n text)) few
-  by_few =
+-- the bytes at the front by the first `n`: if all these stand, the next ones count too
+module _ (part n len : ℕ) (text : List ℕ) (inside : n ≤ length text)
+    (front : len ≡ prefix_len (stands part) (take n text)) where
+  by_front : prefix_len (stands part) text
+      ≡ cond (len == n) (n + prefix_len (stands part) (drop n text)) len
+  by_front =
       ap (prefix_len (stands part)) (sym (take-append-drop n text)) ∙ prefix_len-append _ (take n text) _
-      ∙ ap (λ k. cond (few == k) (k + prefix_len (stands part) (drop n text)) few)
-      (length-take-le n text inside)
+      ∙ (λ i. cond (sym front i == length-take-le n text inside i)
+      (length-take-le n text inside i + prefix_len (stands part) (drop n text)) (sym front i))
 
-  pub after_few : few < n → drop few text ≡ after part text
-  after_few less = ap (λ k. drop k text) (sym (by_few ∙ cond-false _ _ _ (ne_eqb few n (λ e. omega arith))))
+  pub after_few : len < n → drop len text ≡ after part text
+  after_few less =
+      ap (λ k. drop k text) (sym (by_front ∙ cond-false _ _ _ (ne_eqb len n (λ e. omega arith))))
 
-  pub after_all : n ≤ few → after part (drop n text) ≡ after part text
+  pub after_all : n ≤ len → after part (drop n text) ≡ after part text
   after_all all =
-      let same : few ≡ n = omega (
+      let same : len ≡ n = omega (
         arith,
         prefix_len-le-length (stands part) (take n text),
         length-take-le n text inside,
       ) in
-      drop-drop _ n text ∙ ap (λ k. drop k text) (sym (by_few ∙ cond-true _ _ _ (eq-eqb few n same)))
+      drop-drop _ n text ∙ ap (λ k. drop k text) (sym (by_front ∙ cond-true _ _ _ (eq-eqb len n same)))
 
 module _ (part : ℕ) (xs ys : List ℕ) (passes : All (Passes (stands part)) xs)
     (stops : StopsAt (stands part) ys) where
@@ -117,20 +87,15 @@ module _ (part : ℕ) (xs ys : List ℕ) (passes : All (Passes (stands part)) xs
 
 is_segment : (segment : List ℕ) → All (Passes (stands 2)) segment → dot_count segment ≡ 0
     → IsSegment SpecialNotFile segment
-unfolding stands
+unfolding stands should_percent_encode
 is_segment segment passes resolved =
-    let each = λ (k d : ℕ) (inside : k < length segment).
-    kept_at 2 PATH (is_slash SpecialNotFile) refl (get_or segment k d) (passes k d inside) in
-    record {
-      escaped = λ k d inside. (each k d inside).0;
-      whole = λ k d inside. (each k d inside).1;
-      resolved = resolved;
-    }
+    let (escaped, whole) = kept_all 2 PATH (is_slash SpecialNotFile) refl segment passes in
+    record { escaped = escaped; whole = whole; resolved = resolved }
 
 segment_stands : (segment : List ℕ) → IsSegment SpecialNotFile segment → All (Passes (stands 2)) segment
-unfolding stands
-segment_stands segment valid k d inside =
-    stands_at 2 PATH (is_slash SpecialNotFile) refl _ (valid.escaped k d inside) (valid.whole k d inside)
+unfolding stands should_percent_encode
+segment_stands segment valid =
+    stands_all 2 PATH (is_slash SpecialNotFile) refl segment valid.escaped valid.whole
 
 -- the path after one more segment
 pub path_more : (text here : List ℕ) → get_or here 0 0 ≡ 47 → Leaves IsPath text here
@@ -153,6 +118,10 @@ joined_stops [] [] ends = tt
 joined_stops [] (b ∷ rest) ends = ⊎_elim (λ e. rw e refl) (λ e. rw e refl) ends
 joined_stops (s ∷ segments) rest ends = refl
 
+pub not_ended : (text : List ℕ) → get_or text 0 0 ≡ 47 → ¬ (EndsPath text)
+not_ended [] e ends = omega arith
+not_ended (b ∷ text) e ends = ⊎_elim (λ mark. omega arith) (λ mark. omega arith) ends
+
 -- a path that is left begins with a segment
 pub path_behind : (here rest : List ℕ) → get_or here 0 0 ≡ 47 → EndsPath rest
     → Leaves IsPath here rest
@@ -160,10 +129,6 @@ pub path_behind : (here rest : List ℕ) → get_or here 0 0 ≡ 47 → EndsPath
 path_behind here rest slash ends (path, spelled, is_path) =
     by is_path.segments is_path.each (spelled ∙ ap (λ p. p ++ rest) is_path.joined)
   where
-    not_ended : (text : List ℕ) → get_or text 0 0 ≡ 47 → ¬ (EndsPath text)
-    not_ended [] e ends = omega arith
-    not_ended (b ∷ text) e ends = ⊎_elim (λ mark. omega arith) (λ mark. omega arith) ends
-
     by : (segments : List (List ℕ)) → All (IsSegment SpecialNotFile) segments
         → here ≡ join_segments segments ++ rest
         → (dot_count (front_of 2 (drop 1 here)) ≡ 0) × Leaves IsPath (after 2 (drop 1 here)) rest
@@ -185,15 +150,12 @@ path_behind here rest slash ends (path, spelled, is_path) =
         )
 
 -- what begins with no slash holds no more of a path
-pub path_end : (text rest : List ℕ) → (0 < length text → get_or text 0 0 ≢ 47)
-    → Leaves IsPath text rest
-    → text ≡ rest
+pub path_end : (text rest : List ℕ) → get_or text 0 0 ≢ 47 → Leaves IsPath text rest → text ≡ rest
 path_end text rest other ([], spelled, is_path) = spelled
 path_end text rest other (b ∷ path, spelled, is_path) =
-    let first : 0 < length text → get_or text 0 0 ≡ b = rw spelled (λ _. refl) in
-    ⊎_elim (λ none. absurd (cc)) (λ slash.
-    let some : 0 < length text = omega (arith, ap length spelled) in
-    absurd (other some (first some ∙ slash))) (rooted SpecialNotFile (b ∷ path) is_path)
+    let first : get_or text 0 0 ≡ b = rw spelled refl in
+    let slash = rooted SpecialNotFile (b ∷ path) is_path in
+    absurd (⊎_elim (λ none. cc) (λ slash. other (first ∙ slash)) slash)
 
 -- ---- the port
 
@@ -202,39 +164,6 @@ ends_stops : (rest : List ℕ) → EndsSite rest → StopsAt (stands 1) rest × 
 unfolding stands
 ends_stops [] ends = (tt, tt)
 ends_stops (b ∷ rest) ends = (rw ends refl, rw ends refl)
-
-plain_first : (digits : List ℕ) → begins_plainly digits ≡ true
-    → (is_ascii_digit (get_or digits 0 0) ≡ true) × (get_or digits 0 0 ≡ 48 → length digits ≡ 1)
-plain_first [] plain = absurd (false≢true plain)
-plain_first (b ∷ []) plain = (plain, λ zero. refl)
-plain_first (b ∷ d ∷ digits) plain =
-    let both = and_parts (is_ascii_digit b) (not (b == 48)) plain in
-    (both.0, λ zero. absurd (false≢true (rw zero at both.1)))
-
--- digits that begin plainly are what their number is written as
-pub decimal_read : (digits : List ℕ) (port : ℕ) → begins_plainly digits ≡ true
-    → (IsNumeral 10 (without_leading_plus digits)
-    × (digits_value 10 (without_leading_plus digits) < 2 ^ 16))
-    × (port ≡ digits_value 10 (without_leading_plus digits)) → digits ≡ decimal port
-decimal_read digits port plain parses =
-    let first = plain_first digits plain in
-    let no_plus : (get_or digits 0 0 == 43) ≡ false = let digit = first.0 in grind (arith, nat_tests) in
-    let same : without_leading_plus digits ≡ digits = rw no_plus refl in
-    let read = rw same at parses in
-    sym (decimal-digits_value (numerals_by_value _ tells_digits) digits read.0.0.1 read.0.0.0 first.1
-    (omega (arith, read.0.1))) ∙ ap decimal (sym read.1)
-
-pub decimal_plain : (port : ℕ) → port < 2 ^ 16 → begins_plainly (decimal port) ≡ true
-decimal_plain zero small = rw (decimal_digit 0 (omega arith)) refl
-decimal_plain (suc n) small =
-    by (decimal (suc n)) (All-decimal (suc n) (omega arith))
-    (first_decimal (suc n) (omega arith) (omega arith))
-  where
-    by : (digits : List ℕ) → All (IsInRange 48 57) digits → 48 < get_or digits 0 0
-        → begins_plainly digits ≡ true
-    by [] range above = absurd (omega arith)
-    by (b ∷ []) range above = let first = range 0 0 (omega arith) in grind (arith, nat_tests)
-    by (b ∷ d ∷ digits) range above = let first = range 0 0 (omega arith) in grind (arith, nat_tests)
 
 number_stands : (b : ℕ) → IsInRange 48 57 b → Passes (stands 16) b
 unfolding stands
@@ -245,31 +174,23 @@ number_stands b digit =
 -- what is written as a port is read as one
 pub port_left : (own : ℕ) (text rest : List ℕ) → get_or text 0 0 ≡ 58 → EndsSite rest
     → Leaves (IsPort own) text rest
-    → (port : ℕ) × (front_of 16 (drop 1 text) ≡ decimal port) × (port < 2 ^ 16) × (port ≢ own)
-    × (after 16 (drop 1 text) ≡ rest)
-port_left own text rest colon ends (part, spelled, (None, written, other)) =
-    absurd (not_ended (subst EndsSite (sym (spelled ∙ ap (λ p. p ++ rest) written)) ends))
-  where
-    not_ended : ¬ (EndsSite text)
-    not_ended = elim text as (λ t. get_or t 0 0 ≡ 58 → ¬ (EndsSite t))
-        [ [] ↦ λ e _. omega arith | b ∷ t ↦ λ e slash. omega arith ] colon
-port_left own text rest colon ends (part, spelled, (Some port, written, other)) =
+    → IsOther own (front_of 16 (drop 1 text)) × (after 16 (drop 1 text) ≡ rest)
+port_left own [] rest colon ends left = absurd (omega arith)
+port_left own (b ∷ text) rest colon ends (part, spelled, (None, written, other)) =
+    absurd (let slash = subst EndsSite (sym (spelled ∙ ap (λ p. p ++ rest) written)) ends in omega arith)
+port_left own (b ∷ text) rest colon ends (part, spelled, (Some port, written, other)) =
     let whole = ap (drop 1) (spelled ∙ ap (λ p. p ++ rest) written) in
     let digits = All-weaker (IsInRange 48 57) (Passes (stands 16)) number_stands (decimal port)
     (All-decimal port (omega (arith, other.0))) in
     let stops = (ends_stops rest ends).1 in (
-      port,
-      ap (front_of 16) whole ∙ front_at 16 (decimal port) rest digits stops,
-      other.0,
-      other.1,
+      (port, ap (front_of 16) whole ∙ front_at 16 (decimal port) rest digits stops, other.0, other.1),
       ap (after 16) whole ∙ after_at 16 (decimal port) rest digits stops,
     )
 
-pub port_read : (own port : ℕ) (text : List ℕ) → get_or text 0 0 ≡ 58
-    → front_of 16 (drop 1 text) ≡ decimal port → port < 2 ^ 16 → port ≢ own
-    → Leaves (IsPort own) text (after 16 (drop 1 text))
-port_read own port [] colon digits small other = absurd (omega arith)
-port_read own port (b ∷ behind) colon digits small other = (
+pub port_read : (own : ℕ) (text : List ℕ) → get_or text 0 0 ≡ 58
+    → IsOther own (front_of 16 (drop 1 text)) → Leaves (IsPort own) text (after 16 (drop 1 text))
+port_read own [] colon other = absurd (omega arith)
+port_read own (b ∷ behind) colon (port, digits, small, other) = (
   58 ∷ decimal port,
   ap (λ c. c ∷ behind) colon ∙ ap (λ t. 58 ∷ t) (sym (take-append-drop _ behind)
       ∙ ap (λ t. t ++ after 16 behind) digits),
@@ -278,29 +199,25 @@ port_read own port (b ∷ behind) colon digits small other = (
 
 -- ---- the host and the port
 
+name_of : (host : List ℕ) → All (Passes (stands 1)) host
+    → is_ascii_lowercase (slice_index (rsplit_once 46 host).1 0) ≡ true → IsName host
+unfolding stands should_percent_encode
+name_of host stand letter =
+    let (allowed, small) = kept_all 1 FORBIDDEN_DOMAIN is_ascii_uppercase refl host stand in
+    record { allowed = allowed; small = small; letter = letter }
+
 name_stands : (host : List ℕ) → IsName host → All (Passes (stands 1)) host
-unfolding stands
-name_stands host name k d inside =
-    stands_at 1 FORBIDDEN_DOMAIN is_ascii_uppercase refl _ (name.allowed k d inside) (name.small k d inside)
+unfolding stands should_percent_encode
+name_stands host name = stands_all 1 FORBIDDEN_DOMAIN is_ascii_uppercase refl host name.allowed name.small
 
 pub authority_read : (own : ℕ) (text rest : List ℕ)
     → is_ascii_lowercase (slice_index (rsplit_once 46 (front_of 1 text)).1 0) ≡ true
     → Leaves (IsPort own) (after 1 text) rest → Leaves (IsAuthority own) text rest
-unfolding stands
 authority_read own text rest letter (port, spelled, is_port) =
     let host = front_of 1 text in
-    let whole = sym (take-append-drop _ text) ∙ ap (λ t. host ++ t) spelled
-    ∙ sym (append_assoc host port rest) in
-    let each = λ (k d : ℕ) (inside : k < length host).
-    kept_at 1 FORBIDDEN_DOMAIN is_ascii_uppercase refl (get_or host k d)
-    (All-take-prefix_len (stands 1) text k d inside) in
-    let name : IsName host = record {
-      allowed = λ k d inside. (each k d inside).0;
-      small = λ k d inside. (each k d inside).1;
-      letter = letter;
-    } in (
+    let name = name_of host (All-take-prefix_len (stands 1) text) letter in (
       host ++ port,
-      whole,
+      sym (take-append-drop _ text) ∙ ap (λ t. host ++ t) spelled ∙ sym (append_assoc host port rest),
       record { host = host; port = port; spelled = refl; is_name = name; is_port = is_port },
     )
 

@@ -1,6 +1,6 @@
 -- The texts on which a verdict takes no memory, since what rules are matched with stands in them.
-use Rattle.std.specs.Prelude.{◌≡◌, ◌≢◌, ◌⊎◌, ◌<◌, ◌^◌, ℕ, true, false, List, []}
-use Rattle.std.specs.Prelude.{◌++◌, All, codes, decimal}
+use Rattle.std.specs.Prelude.{◌≡◌, ◌≢◌, ◌⊎◌, ◌<◌, ◌^◌, ℕ, true, false}
+use Rattle.std.specs.Prelude.{List, [], ◌∷◌, ◌++◌, All, codes, decimal}
 use Rattle.std.specs.Prelude.{slice_index, Option, IfSome, option_map}
 use Rattle.std.specs.Char.{is_ascii_lowercase, is_ascii_uppercase}
 use Rattle.std.specs.Str.{byte}
@@ -47,19 +47,30 @@ abbrev pub IsMarked : List ℕ → AsciiSet → List ℕ → Type 0
 IsMarked mark set text =
     (part : Option (List ℕ)) × (text ≡ marked mark part) × IfSome part (All (IsKept set))
 
+-- a path, a query and a fragment of which nothing is to be changed
+pub record IsTarget (text : List ℕ) : Type 0 where
+  pub path : List ℕ
+  pub query : List ℕ
+  pub fragment : List ℕ
+  pub spelled : text ≡ path ++ (query ++ fragment)
+  pub is_path : IsPath path
+  pub is_query : IsMarked (codes "?") SPECIAL_QUERY query
+  pub is_fragment : IsMarked (codes "#") FRAGMENT fragment
+
+-- nothing more, or the slash of a path
+abbrev pub EndsSite : List ℕ → Type 0
+EndsSite [] = Unit {0}
+EndsSite (b ∷ rest) = b ≡ byte "/"
+
 -- a whole URL with a name for a host and with no user, of which nothing is to be changed; where the path is
 -- missing, so that `url` puts a slash there, there is nothing behind it either
 pub record IsPlainUrl (url : List ℕ) : Type 0 where
   pub site : List ℕ
-  pub path : List ℕ
-  pub query : List ℕ
-  pub fragment : List ℕ
-  pub spelled : url ≡ site ++ (path ++ (query ++ fragment))
+  pub target : List ℕ
+  pub spelled : url ≡ site ++ target
   pub is_site : IsSite site
-  pub is_path : IsPath path
-  pub is_query : IsMarked (codes "?") SPECIAL_QUERY query
-  pub is_fragment : IsMarked (codes "#") FRAGMENT fragment
-  pub rooted : path ≡ [] → query ++ fragment ≡ []
+  pub is_target : IsTarget target
+  pub rooted : EndsSite target
 
 -- a path by itself, or the empty text, of which no byte is escaped
 abbrev pub IsPlainPath : List ℕ → Type 0

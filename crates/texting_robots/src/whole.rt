@@ -1,13 +1,15 @@
 //! Whole URLs that the URL parser would leave as they are: the text that rules are matched with stands at their end.
-ghost use Rattle.std.specs.Prelude.{◌≡◌, ◌≤◌, ◌^◌, ◌<◌, ◌==◌, ℕ, List, Option, not, decimal, length, slice_index};
-ghost use Rattle.std.specs.Prelude.{IfSome, IsSome, IsSomeAnd};
+ghost use Rattle.std.specs.Prelude.{◌≡◌, ◌≤◌, ◌≢◌, ℕ, List, false, true, length, slice_index};
+ghost use Rattle.std.specs.Prelude.{IfSome, IsSome, IsSomeAnd, IsTrue};
 ghost use Rattle.std.specs.Char.{is_ascii_lowercase};
 ghost use Rattle.std.specs.List.{prefix_len};
 ghost use Rattle.url.specs.{Input.rsplit_once, Path.dot_count, Path.dot_len};
-ghost use Rattle.texting_robots.specs.Plain.{IsAuthority, IsPath, IsPlainUrl, IsPort, IsSite};
+ghost use Rattle.texting_robots.specs.Plain.{EndsSite, IsAuthority, IsPath, IsPlainUrl, IsPort, IsSite, IsTarget};
 ghost use Rattle.texting_robots.specs.Prepared.{prepared};
-ghost use Rattle.texting_robots.specs.Steps.Whole.{after, after_marked, begins_plainly, front_of, stands};
-ghost use Rattle.texting_robots.specs.Steps.Whole.{EndsPath, EndsSite, Leaves};
+ghost use Rattle.texting_robots.specs.Steps.Whole.{after, after_marked, front_of, stands};
+ghost use Rattle.texting_robots.specs.Steps.Whole.{EndsPath, IsOther, Leaves};
+
+use itoa::Buffer;
 
 /// Where each byte stands as it is, by bits: in a name, a segment of a path, a query, a fragment and a number.
 const STANDS: [u8; 256] = [
@@ -33,6 +35,7 @@ const FRAGMENT: u8 = 8;
 const NUMBER: u8 = 16;
 
 /// Whether a byte stands as it is in such a part.
+#[tactic(auto, unfolding(crate::specs::Steps::Whole::stands))]
 fn stands(part: u8, byte: u8) -> bool
     ensures { result ≡ stands part byte }
 {
@@ -48,6 +51,7 @@ fn front_len(part: u8, text: &[u8]) -> usize
 }
 
 /// What follows the bytes at the front that stand in such a part. Eight are looked at without a look for the end of the text.
+#[tactic(auto, using(crate::proofs::WholeLemmas::after_few, crate::proofs::WholeLemmas::after_all))]
 fn after(part: u8, text: &[u8]) -> &[u8]
     ensures { result.now ≡ after part text.now }
 {
@@ -91,30 +95,17 @@ fn begins_with_letter(text: &[u8]) -> bool
     }
 }
 
-/// Whether the text begins as a number does that has no sign and no zero in front.
-fn begins_plainly(digits: &[u8]) -> bool
-    ensures { result ≡ begins_plainly digits.now }
-{
-    match digits {
-        [b'0'] | [b'1'..=b'9', ..] => true,
-        _ => false,
-    }
-}
-
-/// The port with these digits, where no zero stands in front.
-fn port_of(digits: &[u8]) -> Option<u16>
-    ensures some { IfSome result (λ port. digits.now ≡ decimal port) }
-    ensures whole { (port : ℕ) → port < 2 ^ 16 → digits.now ≡ decimal port → result ≡ Some port }
+/// Whether these are the digits of a port that isn't the scheme's own, as a port is written: with no zero in front.
+fn is_port(own: u16, digits: &[u8]) -> bool
+    ensures some { IsTrue result → IsOther own digits.now }
+    ensures whole { IsOther own digits.now → IsTrue result }
 {
     let Ok(text) = str::from_utf8(digits) else {
-        return None;
+        return false;
     };
-    if !begins_plainly(digits) {
-        return None;
-    }
     match u16::from_str_radix(text, 10) {
-        Ok(port) => Some(port),
-        Err(_) => None,
+        Ok(port) => (port != own) & (Buffer::new().format(port) == text),
+        Err(_) => false,
     }
 }
 
@@ -128,10 +119,10 @@ fn after_port(own: u16, text: &[u8]) -> Option<&[u8]>
         return Some(text);
     };
     let (digits, rest) = split(NUMBER, behind);
-    if port_of(digits)? == own {
-        None
-    } else {
+    if is_port(own, digits) {
         Some(rest)
+    } else {
+        None
     }
 }
 
@@ -174,8 +165,10 @@ fn dot_len(text: &[u8]) -> usize
 }
 
 /// Whether the segment is one dot or two, each written as it is or escaped.
+#[tactic(auto, unfolding(url::specs::Path::dot_count))]
 fn is_dots(segment: &[u8]) -> bool
-    ensures { result ≡ not (dot_count segment.now == 0) }
+    ensures some { result ≡ true → dot_count segment.now ≢ 0 }
+    ensures none { result ≡ false → dot_count segment.now ≡ 0 }
 {
     let dot = dot_len(segment);
     let rest = &segment[dot..];
@@ -209,6 +202,18 @@ fn after_marked(mark: u8, part: u8, text: &[u8]) -> &[u8]
     }
 }
 
+/// Whether the text is a path, a query and a fragment that stand as they are.
+fn is_target(text: &[u8]) -> bool
+    ensures some { IsTrue result → IsTarget text.now }
+    ensures whole { IsTarget text.now → IsTrue result }
+{
+    let Some(query) = after_path(text) else {
+        return false;
+    };
+    let fragment = after_marked(b'?', QUERY, query);
+    after_marked(b'#', FRAGMENT, fragment).is_empty()
+}
+
 /// The path of a whole URL, its query and its fragment, where `url` would leave all of the URL as it is; `/` where only the slash
 /// of the path is missing.
 pub(crate) fn standing_target(url: &str) -> Option<&str>
@@ -217,15 +222,8 @@ pub(crate) fn standing_target(url: &str) -> Option<&str>
 {
     let target = after_site(url.as_bytes())?;
     match target {
-        [] => return Some("/"),
-        [b'/', ..] => {}
-        _ => return None,
-    }
-    let query = after_path(target)?;
-    let fragment = after_marked(b'?', QUERY, query);
-    if after_marked(b'#', FRAGMENT, fragment).is_empty() {
-        url.get(url.len() - target.len()..)
-    } else {
-        None
+        [] => Some("/"),
+        [b'/', ..] if is_target(target) => Some(&url[url.len() - target.len()..]),
+        _ => None,
     }
 }

@@ -1,15 +1,14 @@
 use Rattle.std.proofs.Common.{ap, arith, drop_at, length, length-append, ◌∙◌, ◌≡◌, ◌-◌, drop}
-use Rattle.url.specs.Parts.{text_before}
-use Rattle.url.specs.declared.slicing.Position.TheVariants.{BeforePath}
-use Rattle.texting_robots.specs.Prepared.{target_of}
-use Rattle.texting_robots.proofs.PlainLemmas.{target_last}
+use Rattle.url.specs.{Parts.text_before, declared.slicing.Position.TheVariants.BeforePath}
+use Rattle.texting_robots.{specs.Prepared.target_of, proofs.PlainLemmas.target_last}
 use Rattle.texting_robots.proofs.prepared.into_target.Goals as goal
 
 pub returns : goal.returns
 returns c =
     let u = c.args.url in
     let whole = c.from-text.ensures ∙ target_last u in
-    let front : length (text_before u BeforePath) ≡ length c.as_str.result.now - length c.target.result.now =
+    let front : length (text_before u BeforePath)
+    ≡ length c.as_str.result.now - length c.target.result.now =
     omega (
       arith,
       ap length (c.as_str.ensures.value ∙ target_last u),

@@ -1,6 +1,4 @@
-use Rattle.std.proofs.Common.{◌∙◌, sym}
-use Rattle.std.proofs.lemmas.Bool.{false≢true}
-use Rattle.std.proofs.lemmas.Option.{IfSome_then}
+use Rattle.std.proofs.{Common.◌∙◌, Common.sym, lemmas.Bool.false≢true, lemmas.Option.IfSome_then}
 use Rattle.texting_robots.proofs.WholeLemmas.{authority_left, authority_read}
 use Rattle.texting_robots.proofs.whole.after_authority.Goals as goal
 

@@ -1,6 +1,5 @@
 use Rattle.std.proofs.Common.{ℕ, List, length}
-use Rattle.texting_robots.specs.Plain.{IsPath}
-use Rattle.texting_robots.specs.Steps.Whole.{EndsPath, Leaves}
+use Rattle.texting_robots.specs.{Plain.IsPath, Steps.Whole.EndsPath, Steps.Whole.Leaves}
 use Rattle.texting_robots.proofs.whole.after_path.Given as goal
 
 -- a path is read so far, and what ends the whole path ends the rest of it

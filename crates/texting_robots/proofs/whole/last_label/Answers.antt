@@ -1,5 +1,4 @@
-use Rattle.std.proofs.Common.{rules}
-use Rattle.std.proofs.lemmas.List.{take_rest}
+use Rattle.std.proofs.{Common.rules, lemmas.List.take_rest}
 use Rattle.url.proofs.InputLemmas.{rsplit_once_none, rsplit_once_at_last}
 use Rattle.texting_robots.proofs.whole.last_label.Goals as goal
 

@@ -1,0 +1,29 @@
+use Rattle.std.proofs.Common.{◌≡◌, ◌∙◌, Ok, ap, arith, decimal, sym}
+use Rattle.std.proofs.lemmas.{Bool.ne_eqb, Fmt.IsAscii-decimal, Fmt.parse-decimal, Str.IsUtf8-from_ascii}
+use Rattle.std.proofs.lemmas.Slice.Eq.{bytes_eq-Decides}
+use Rattle.texting_robots.{specs.Steps.Whole.IsOther, proofs.whole.is_port.Goals.After-from_str_radix}
+use Rattle.texting_robots.proofs.whole.is_port.Goals as goal
+
+pub returns-in_default-clause-whole : goal.returns-in_default-clause-whole
+returns-in_default-clause-whole c (port, digits, small, other) =
+    absurd (c.in_default.ensures.cases.0
+    (rw digits (IsUtf8-from_ascii _ (IsAscii-decimal port (omega arith)))))
+
+parses : (c : After-from_str_radix) (other : IsOther c.args.own c.args.digits.now)
+    → c.from_str_radix.result ≡ Ok other.0
+parses c (port, digits, small, other) =
+    parse-decimal 16 port c.in-Ok.text.now c.from_str_radix.result small (omega arith)
+    (c.in-Ok.ensures.cases.0 ∙ digits) c.from_str_radix.ensures.value
+
+pub returns-in-Ok-from_str_radix-clause-whole : goal.returns-in-Ok-from_str_radix-clause-whole
+returns-in-Ok-from_str_radix-clause-whole c other =
+    let read = parses (goal.at.returns-in-Ok-from_str_radix-clause-whole c).After-from_str_radix other in
+    let same : c.in-Ok-from_str_radix.port ≡ other.0 = cc (read, c.in-Ok-from_str_radix.is) in
+    rw (ne_eqb c.in-Ok-from_str_radix.port c.args.own (λ own. other.3 (sym same ∙ own)))
+    (c.eq.ensures ∙ (bytes_eq-Decides _ _).1
+    (c.format.ensures.text ∙ ap decimal same ∙ sym (c.in-Ok.ensures.cases.0 ∙ other.1)))
+
+pub returns-in-Err-clause-whole : goal.returns-in-Err-clause-whole
+returns-in-Err-clause-whole c other =
+    let read = parses (goal.at.returns-in-Err-clause-whole c).After-from_str_radix other in
+    absurd (cc (read, c.in-Err.is))
