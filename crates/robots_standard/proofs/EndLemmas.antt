@@ -13,9 +13,8 @@ use Rattle.texting_robots.specs.Computed.{file_lines}
 use Rattle.texting_robots.specs.Steps.Line.{line_of}
 use Rattle.robots_standard.specs.Rfc9309.{IsFileOf, IsLastNl, IsMark, IsNl}
 use Rattle.texting_robots.proofs.CutLemmas.{cut_nil}
-use Rattle.texting_robots.proofs.CrLfLemmas.{bodies_of, lines_by_bodies}
+use Rattle.texting_robots.proofs.CrLfLemmas.{bodies_of, body_byte, body_return, body_step, lines_by_bodies, step}
 use Rattle.texting_robots.proofs.LawLemmas.{raw_changes_nothing}
-use Rattle.robots_standard.proofs.BodyLemmas.{body_byte, body_return, body_step, step}
 use Rattle.robots_standard.proofs.CharLemmas.{each_front}
 use Rattle.robots_standard.proofs.Told.{Told, matters, told_of}
 use Rattle.robots_standard.proofs.ReadLemmas.{BeginsLow, Reads, empty_unheard, heard, heard_in}

@@ -5,7 +5,6 @@ pub mod GroupLemmas
 pub mod Told
 pub mod CharLemmas
 pub mod SyntaxLemmas
-pub mod BodyLemmas
 pub mod ReadLemmas
 pub mod EndLemmas
 pub mod ValueLemmas

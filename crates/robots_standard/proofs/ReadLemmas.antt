@@ -9,9 +9,8 @@ use Rattle.texting_robots.specs.Cut.{cr, lf}
 use Rattle.texting_robots.specs.Line.{is_raw}
 use Rattle.texting_robots.specs.Steps.Cut.{cut}
 use Rattle.robots_standard.specs.Rfc9309.{IsNl}
-use Rattle.texting_robots.proofs.CrLfLemmas.{bodies_of}
+use Rattle.texting_robots.proofs.CrLfLemmas.{bodies_of, body_return, body_step, step}
 use Rattle.texting_robots.proofs.LineLemmas.{line_without_kind}
-use Rattle.robots_standard.proofs.BodyLemmas.{body_return, body_step, step}
 use Rattle.texting_robots.proofs.TrimLemmas.{each_append}
 use Rattle.robots_standard.proofs.Told.{Told, matters, told_of, written}
 
