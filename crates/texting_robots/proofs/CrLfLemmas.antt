@@ -1,6 +1,7 @@
 -- The bodies of a text, byte by byte from its back. A CR LF and a LF end a line alike.
 use Rattle.std.proofs.Common.{◌≡◌, ℕ, false, ◌==◌, ◌&&◌, inl, inr, List}
-use Rattle.std.proofs.Common.{[], ◌∷◌, if◌then◌else◌, map, slice_index, arith, sym, refl, ap, ◌∙◌}
+use Rattle.std.proofs.Common.{[], ◌∷◌, if◌then◌else◌, map, slice_index, arith}
+use Rattle.std.proofs.Common.{sym, refl, ap, ◌∙◌}
 use Rattle.std.proofs.lemmas.Bool.{cases_Bool, cond-true, cond-false, and_parts, eqb-true, ne_eqb}
 use Rattle.texting_robots.specs.Cut.{Pair, cr, lf}
 use Rattle.texting_robots.specs.Steps.Cut.{before_body, before_byte, before_end, cut}

@@ -144,7 +144,3 @@ pub none_unplaced : (P : Rule → Type 0) (rules : List PlacedRule)
 none_unplaced P rules none (k, rule, below, at, is) =
     let (placed, (n, less, here), same) = placed_of rules rule (k, below, at) in
     none n placed less (subst P (sym (rw here same)) is)
-
-pub no_rules : (rules : List PlacedRule) → unplaced rules ≡ [] → rules ≡ []
-no_rules [] none = refl
-no_rules (placed ∷ rules) none = absurd (let k : placed.rule ∷ unplaced rules ≡ [] = none in cc)
