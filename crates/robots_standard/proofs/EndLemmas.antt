@@ -13,12 +13,12 @@ use Rattle.texting_robots.specs.Computed.{file_lines}
 use Rattle.texting_robots.specs.Steps.Line.{line_of}
 use Rattle.robots_standard.specs.Rfc9309.{IsFileOf, IsLastNl, IsMark, IsNl}
 use Rattle.texting_robots.proofs.CutLemmas.{cut_nil}
-use Rattle.texting_robots.proofs.CrLfLemmas.{bodies_of, lines_by_bodies}
+use Rattle.texting_robots.proofs.CrLfLemmas.{bodies_of, body_byte, body_return, body_step}
+use Rattle.texting_robots.proofs.CrLfLemmas.{lines_by_bodies, step}
 use Rattle.texting_robots.proofs.LawLemmas.{raw_changes_nothing}
-use Rattle.robots_standard.proofs.BodyLemmas.{body_byte, body_return, body_step, step}
 use Rattle.robots_standard.proofs.CharLemmas.{each_front}
-use Rattle.robots_standard.proofs.Told.{Told, matters, told_of}
-use Rattle.robots_standard.proofs.ReadLemmas.{BeginsLow, Reads, empty_unheard, heard, heard_in}
+use Rattle.robots_standard.proofs.Sources.{Source, is_not_raw, source_of}
+use Rattle.robots_standard.proofs.ReadLemmas.{BeginsLow, Reads, empty_adds_none, sources_of, sources_in}
 
 -- ---- a last line without its end
 
@@ -57,22 +57,23 @@ end_follows (b ∷ text) nl is =
     rw (step b (text ++ nl), step b text)
     (step_follows b (bodies_of (cut text)) (bodies_of (cut (text ++ nl))) (end_follows text nl is))
 
-end_unheard : (text nl : List ℕ) → IsNl nl → heard (text ++ nl) ≡ heard text
-end_unheard text nl is = elim (end_follows text nl is) [
-  | inl same ↦ ap heard_in same
-  | inr more ↦ ap heard_in more ∙ last (bodies_of (cut text))
+end_adds_none : (text nl : List ℕ) → IsNl nl → sources_of (text ++ nl) ≡ sources_of text
+end_adds_none text nl is = elim (end_follows text nl is) [
+  | inl same ↦ ap sources_in same
+  | inr more ↦ ap sources_in more ∙ last (bodies_of (cut text))
 ]
   where
-    last : (bodies : List (List ℕ)) → heard_in (bodies ++ [] ∷ []) ≡ heard_in bodies
+    last : (bodies : List (List ℕ)) → sources_in (bodies ++ [] ∷ []) ≡ sources_in bodies
     last bodies =
-        ap (filter matters) (map-append told_of bodies ([] ∷ []))
-        ∙ filter-append matters (map told_of bodies) (told_of [] ∷ [])
-        ∙ ap (λ ls. heard_in bodies ++ ls) (empty_unheard [])
-        ∙ append-nil (heard_in bodies)
+        ap (filter is_not_raw) (map-append source_of bodies ([] ∷ []))
+        ∙ filter-append is_not_raw (map source_of bodies) (source_of [] ∷ [])
+        ∙ ap (λ ls. sources_in bodies ++ ls) (empty_adds_none [])
+        ∙ append-nil (sources_in bodies)
 
-last_unheard : (text nl : List ℕ) → IsLastNl nl → heard (text ++ nl) ≡ heard text
-last_unheard text nl (inl none) = ap (λ n. heard (text ++ n)) none ∙ ap heard (append-nil text)
-last_unheard text nl (inr is) = end_unheard text nl is
+last_end_adds_none : (text nl : List ℕ) → IsLastNl nl → sources_of (text ++ nl) ≡ sources_of text
+last_end_adds_none text nl (inl none) =
+    ap (λ n. sources_of (text ++ n)) none ∙ ap sources_of (append-nil text)
+last_end_adds_none text nl (inr is) = end_adds_none text nl is
 
 -- ---- a file
 
@@ -101,49 +102,50 @@ low_of_front : (text more : List ℕ) → BeginsLow (text ++ more) → BeginsLow
 low_of_front [] more low = tt
 low_of_front (b ∷ text) more low = low
 
--- what a file tells, its front taken off
-abbrev pub told_in : List ℕ → List Told
-told_in text = heard (without_front (map nul_as_lf text))
+-- the source lines of a file, its front taken off
+abbrev pub file_sources : List ℕ → List Source
+file_sources text = sources_of (without_front (map nul_as_lf text))
 
--- the lines that are told
-abbrev pub lines_in : List Told → List LineValue
-lines_in tolds = map (λ told. told.0) tolds
+-- the lines of source lines
+abbrev pub lines_in : List Source → List LineValue
+lines_in sources = map (λ source. source.0) sources
 
 -- lines that a test drops may be left out before it
-pub kept_lines : (keep : LineValue → Bool) (tolds : List Told)
-    → filter keep (lines_in tolds) ≡ filter keep (lines_in (filter (λ (told : Told). keep told.0) tolds))
+pub kept_lines : (keep : LineValue → Bool) (sources : List Source)
+    → filter keep (lines_in sources)
+    ≡ filter keep (lines_in (filter (λ (source : Source). keep source.0) sources))
 kept_lines keep [] = refl
-kept_lines keep (told ∷ tolds) = elim (cases_Bool (keep told.0)) [
-  | inl kept ↦ rw (kept, kept) (ap (λ ls. told.0 ∷ ls) (kept_lines keep tolds))
-  | inr dropped ↦ rw dropped (kept_lines keep tolds)
+kept_lines keep (source ∷ sources) = elim (cases_Bool (keep source.0)) [
+  | inl kept ↦ rw (kept, kept) (ap (λ ls. source.0 ∷ ls) (kept_lines keep sources))
+  | inr dropped ↦ rw dropped (kept_lines keep sources)
 ]
 
-lines_told : (bodies : List (List ℕ)) → lines_in (map told_of bodies) ≡ map line_of bodies
-lines_told [] = refl
-lines_told (body ∷ bodies) = ap (λ ls. line_of body ∷ ls) (lines_told bodies)
+source_lines : (bodies : List (List ℕ)) → lines_in (map source_of bodies) ≡ map line_of bodies
+source_lines [] = refl
+source_lines (body ∷ bodies) = ap (λ ls. line_of body ∷ ls) (source_lines bodies)
 
-module _ (Content : List ℕ → Type 0) (text : List ℕ) (file : IsFileOf Content text) (tolds : List Told)
-    (reads : Reads tolds (file.rest ++ file.nl)) where
-  pub file_heard : told_in text ≡ tolds
-  file_heard =
+module _ (Content : List ℕ → Type 0) (text : List ℕ) (file : IsFileOf Content text)
+    (sources : List Source) (reads : Reads sources (file.rest ++ file.nl)) where
+  pub file_sources_are : file_sources text ≡ sources
+  file_sources_are =
       let no_nul = each_front (λ byte. byte ≢ 0) file.rest file.nl reads.no_nul in
-      ap told_in file.whole
-      ∙ ap heard
+      ap file_sources file.whole
+      ∙ ap sources_of
       (behind_mark file.mark file.rest file.is_mark no_nul (low_of_front file.rest file.nl reads.low))
-      ∙ sym (last_unheard file.rest file.nl file.is_nl)
-      ∙ sym (ap heard (append-nil (file.rest ++ file.nl)))
-      ∙ reads.heard []
-      ∙ ap (λ ps. tolds ++ heard_in (bodies_of ps)) cut_nil
-      ∙ append-nil tolds
+      ∙ sym (last_end_adds_none file.rest file.nl file.is_nl)
+      ∙ sym (ap sources_of (append-nil (file.rest ++ file.nl)))
+      ∙ reads.sources_of []
+      ∙ ap (λ ps. sources ++ sources_in (bodies_of ps)) cut_nil
+      ∙ append-nil sources
 
-  -- an agent gets the same of a file and of the lines that are told
-  pub file_same : (agent : List ℕ) → Same agent (file_lines text) agent (lines_in tolds)
+  -- an agent gets the same of a file and of its source lines
+  pub file_same : (agent : List ℕ) → Same agent (file_lines text) agent (lines_in sources)
   file_same agent =
       let bodies = bodies_of (cut (without_front (map nul_as_lf text))) in
       let keep : LineValue → Bool = λ line. not (is_raw line) in
-      raw_changes_nothing agent (file_lines text) (lines_in tolds) (
+      raw_changes_nothing agent (file_lines text) (lines_in sources) (
       ap (filter keep) (lines_by_bodies (cut (without_front (map nul_as_lf text))))
-      ∙ ap (filter keep) (sym (lines_told bodies))
-      ∙ kept_lines keep (map told_of bodies)
-      ∙ ap (λ ts. filter keep (lines_in ts)) file_heard
+      ∙ ap (filter keep) (sym (source_lines bodies))
+      ∙ kept_lines keep (map source_of bodies)
+      ∙ ap (λ ts. filter keep (lines_in ts)) file_sources_are
       )

@@ -12,43 +12,43 @@ use Rattle.robots_standard.specs.Rfc9309 as rfc
 use Rattle.texting_robots.proofs.LawLemmas.{sitemaps_change_nothing_else}
 use Rattle.texting_robots.proofs.TrimLemmas.{each_append}
 use Rattle.robots_standard.proofs.GroupLemmas.{zip_append}
-use Rattle.robots_standard.proofs.ToldLemmas.{AreGroups, IsFrontTold, no_sitemap}
-use Rattle.robots_standard.proofs.Told.{IsToldFor, Told, in_groups, token_told}
-use Rattle.robots_standard.proofs.EndLemmas.{file_heard, file_same, kept_lines, lines_in, told_in}
+use Rattle.robots_standard.proofs.SourceLemmas.{AreGroups, IsFrontSource, no_sitemap}
+use Rattle.robots_standard.proofs.Sources.{IsSourceOf, Source, in_groups, token_source}
+use Rattle.robots_standard.proofs.EndLemmas.{file_sources_are, file_same, kept_lines, lines_in, file_sources}
 use Rattle.robots_standard.proofs.MemberLemmas.{front_line, member_line, sitemap_line}
 use Rattle.robots_standard.proofs.RuleLemmas.{token_line}
 use Rattle.robots_standard.proofs.OtherLemmas.{empty_line, other_line}
 use Rattle.robots_standard.proofs.ReadLemmas.{Reads, reads_both}
 use Rattle.robots_standard.proofs.RepeatLemmas.{IsJoin, ReadBy, both_read, none_read, repeated}
 
--- ---- what is told of groups
+-- ---- the source lines of groups
 
--- of what is told, what plays a part in groups belongs to these items
-abbrev InGroups : {X : Type 0} → (List X → List Told → Type 0) → List X → List Told → Type 0
-InGroups Belong items tolds = Belong items (filter in_groups tolds)
+-- the source lines that count in groups belong to these items
+abbrev InGroups : {X : Type 0} → (List X → List Source → Type 0) → List X → List Source → Type 0
+InGroups Belong items sources = Belong items (filter in_groups sources)
 
-in_groups_join : {X : Type 0} (Belong : List X → List Told → Type 0) → IsJoin Belong
+in_groups_join : {X : Type 0} (Belong : List X → List Source → Type 0) → IsJoin Belong
     → IsJoin (InGroups Belong)
 in_groups_join Belong join = record {
   none = join.none;
-  both = λ items more tolds later is also.
-      subst (Belong (items ++ more)) (sym (filter-append in_groups tolds later))
-      (join.both items more (filter in_groups tolds) (filter in_groups later) is also);
+  both = λ items more sources later is also.
+      subst (Belong (items ++ more)) (sym (filter-append in_groups sources later))
+      (join.both items more (filter in_groups sources) (filter in_groups later) is also);
 }
 
-skipped_read : {X : Type 0} (Belong : List X → List Told → Type 0) → IsJoin Belong → (text : List ℕ)
-    → rfc.IsSkipped text
+skipped_read : {X : Type 0} (Belong : List X → List Source → Type 0) → IsJoin Belong
+    → (text : List ℕ) → rfc.IsSkipped text
     → ReadBy (InGroups Belong) [] text
 skipped_read Belong join text (inl is) =
-    record { tolds = []; belong = join.none; reads = empty_line text is }
+    record { sources = []; belong = join.none; reads = empty_line text is }
 skipped_read Belong join text (inr (inl (address, is))) =
     let read = sitemap_line address text is in
-    record { tolds = (Sitemap read.value, address) ∷ []; belong = join.none; reads = read.reads }
+    record { sources = (Sitemap read.value, address) ∷ []; belong = join.none; reads = read.reads }
 skipped_read Belong join text (inr (inr is)) =
-    record { tolds = []; belong = join.none; reads = other_line text is }
+    record { sources = []; belong = join.none; reads = other_line text is }
 
 -- items of a production, and lines that are skipped
-items_read : {X : Type 0} (P : X → List ℕ → Type 0) (Belong : List X → List Told → Type 0)
+items_read : {X : Type 0} (P : X → List ℕ → Type 0) (Belong : List X → List Source → Type 0)
     → IsJoin Belong
     → ((item : X) (text : List ℕ) → P item text → ReadBy (InGroups Belong) (item ∷ []) text)
     → (items : List X) (text : List ℕ) → rfc.Repeats (rfc.IsOneOr P rfc.IsSkipped) items text
@@ -59,31 +59,31 @@ items_read P Belong join one items text is =
 
 -- ---- groups
 
-abbrev AreTokens : List (List ℕ) → List Told → Type 0
-AreTokens tokens tolds = tolds ≡ map token_told tokens
+abbrev AreTokens : List (List ℕ) → List Source → Type 0
+AreTokens tokens sources = sources ≡ map token_source tokens
 
 tokens_join : IsJoin AreTokens
 tokens_join = record {
   none = refl;
-  both = λ tokens more tolds later is also.
+  both = λ tokens more sources later is also.
       ap (λ ts. ts ++ later) is
-      ∙ ap (λ ts. map token_told tokens ++ ts) also
-      ∙ sym (map-append token_told tokens more);
+      ∙ ap (λ ts. map token_source tokens ++ ts) also
+      ∙ sym (map-append token_source tokens more);
 }
 
-abbrev AreMembers : List rfc.Member → List Told → Type 0
-AreMembers members tolds = AllZip IsToldFor members tolds
+abbrev AreMembers : List rfc.Member → List Source → Type 0
+AreMembers members sources = AllZip IsSourceOf members sources
 
 members_join : IsJoin AreMembers
 members_join = record {
   none = tt;
-  both = zip_append IsToldFor;
+  both = zip_append IsSourceOf;
 }
 
-groups_both : (groups more : List rfc.Group) (tolds later : List Told) → AreGroups groups tolds
-    → AreGroups more later → AreGroups (groups ++ more) (tolds ++ later)
-groups_both [] more tolds later is also = subst (λ ts. AreGroups more (ts ++ later)) (sym is) also
-groups_both (group ∷ groups) more tolds later is also = record {
+groups_both : (groups more : List rfc.Group) (sources later : List Source) → AreGroups groups sources
+    → AreGroups more later → AreGroups (groups ++ more) (sources ++ later)
+groups_both [] more sources later is also = subst (λ ts. AreGroups more (ts ++ later)) (sym is) also
+groups_both (group ∷ groups) more sources later is also = record {
   own = is.own;
   rest = is.rest ++ later;
   whole = ap (λ ts. ts ++ later) is.whole ∙ simp append_assoc;
@@ -98,22 +98,22 @@ groups_join = record { none = refl; both = groups_both }
 token_read : (token : List ℕ) (text : List ℕ) → rfc.IsStartGroupLine token text
     → ReadBy (InGroups AreTokens) (token ∷ []) text
 token_read token text is =
-    record { tolds = token_told token ∷ []; belong = refl; reads = token_line token text is }
+    record { sources = token_source token ∷ []; belong = refl; reads = token_line token text is }
 
 -- a line of a group is no sitemap
-kept_alone : (Belong : List Told → Type 0) (told : Told) → is_group told.0 ≡ true
-    → Belong (told ∷ [])
-    → Belong (filter in_groups (told ∷ []))
-kept_alone Belong told group is = rw (no_sitemap told.0 group).0 is
+kept_alone : (Belong : List Source → Type 0) (source : Source) → is_group source.0 ≡ true
+    → Belong (source ∷ [])
+    → Belong (filter in_groups (source ∷ []))
+kept_alone Belong source group is = rw (no_sitemap source.0 group).0 is
 
 member_read : (member : rfc.Member) (text : List ℕ) → rfc.IsMemberLine member text
     → ReadBy (InGroups AreMembers) (member ∷ []) text
 member_read member text is =
     let read = member_line member text is in
     record {
-      tolds = read.told ∷ [];
+      sources = read.source ∷ [];
       belong =
-          kept_alone (AreMembers (member ∷ [])) read.told read.is_told.line.group (read.is_told, tt);
+          kept_alone (AreMembers (member ∷ [])) read.source read.is_source.line.group (read.is_source, tt);
       reads = read.reads;
     }
 
@@ -124,43 +124,43 @@ group_read group text is =
     items_read rfc.IsStartGroupLine AreTokens tokens_join token_read is.tokens is.agents is.are_agents in
     let members =
     items_read rfc.IsMemberLine AreMembers members_join member_read group.members is.lines is.are_members in
-    let start : List Told = token_told is.token ∷ [] in
-    let own : List Told = filter in_groups members.tolds in
+    let start : List Source = token_source is.token ∷ [] in
+    let own : List Source = filter in_groups members.sources in
     record {
-      tolds = start ++ (tokens.tolds ++ members.tolds);
+      sources = start ++ (tokens.sources ++ members.sources);
       belong = record {
         own = own;
         rest = [];
         whole =
-            ap (λ ts. start ++ ts) (filter-append in_groups tokens.tolds members.tolds)
+            ap (λ ts. start ++ ts) (filter-append in_groups tokens.sources members.sources)
             ∙ ap (λ ts. start ++ (ts ++ own)) tokens.belong
-            ∙ ap (λ ts. map token_told ts ++ own) (sym is.spelled)
-            ∙ ap (λ ts. map token_told group.tokens ++ ts) (sym (append-nil own));
+            ∙ ap (λ ts. map token_source ts ++ own) (sym is.spelled)
+            ∙ ap (λ ts. map token_source group.tokens ++ ts) (sym (append-nil own));
         some = λ none. let wrong : [] ≡ is.token ∷ is.tokens = sym none ∙ is.spelled in cc;
         members = members.belong;
         later = refl;
       };
       reads =
-          subst (Reads (start ++ (tokens.tolds ++ members.tolds))) (sym is.whole)
-          (reads_both start (tokens.tolds ++ members.tolds) is.start (is.agents ++ is.lines)
+          subst (Reads (start ++ (tokens.sources ++ members.sources))) (sym is.whole)
+          (reads_both start (tokens.sources ++ members.sources) is.start (is.agents ++ is.lines)
           (token_line is.token is.start is.is_start)
-          (reads_both tokens.tolds members.tolds is.agents is.lines tokens.reads members.reads));
+          (reads_both tokens.sources members.sources is.agents is.lines tokens.reads members.reads));
     }
 
 -- ---- what stands in front of the groups
 
-abbrev AreFront : List (List ℕ) → List Told → Type 0
-AreFront none tolds = Each IsFrontTold tolds
+abbrev AreFront : List (List ℕ) → List Source → Type 0
+AreFront none sources = Each IsFrontSource sources
 
 front_join : IsJoin AreFront
-front_join = record { none = tt; both = λ none more tolds later. each_append IsFrontTold tolds later }
+front_join = record { none = tt; both = λ none more sources later. each_append IsFrontSource sources later }
 
 front_piece : (text : List ℕ) → rfc.IsFrontPiece text → ReadBy (InGroups AreFront) [] text
 front_piece text (inl (member, is)) =
     let read = front_line member text is in
     record {
-      tolds = read.told ∷ [];
-      belong = kept_alone (AreFront []) read.told read.is_front.group (read.is_front, tt);
+      sources = read.source ∷ [];
+      belong = kept_alone (AreFront []) read.source read.is_front.group (read.is_front, tt);
       reads = read.reads;
     }
 front_piece text (inr is) = skipped_read AreFront front_join text is
@@ -174,15 +174,15 @@ front_pieces (piece ∷ pieces) all =
 
 -- ---- the file
 
--- what a file tells: delays in front, and groups
+-- a file's source lines: delays in front, and groups
 pub record FileRead (groups : List rfc.Group) (text : List ℕ) : Type 0 where
-  pub front : List Told
-  pub behind : List Told
-  pub are_front : Each IsFrontTold front
+  pub front : List Source
+  pub behind : List Source
+  pub are_front : Each IsFrontSource front
   pub are_groups : AreGroups groups behind
   pub rules : (agent : List ℕ)
       → rules_for agent (file_lines text) ≡ rules_for agent (lines_in (front ++ behind))
-  pub heard : filter in_groups (told_in text) ≡ front ++ behind
+  pub sources_of : filter in_groups (file_sources text) ≡ front ++ behind
 
 pub file_read : (text : List ℕ) (groups : List rfc.Group) → rfc.IsFile groups text
     → FileRead groups text
@@ -191,21 +191,21 @@ file_read text groups file =
     let front = front_pieces content.is_front.pieces content.is_front.each in
     let behind =
     items_read rfc.IsWideGroup AreGroups groups_join group_read groups content.rest content.are_groups in
-    let tolds : List Told = front.tolds ++ behind.tolds in
-    let kept = filter-append in_groups front.tolds behind.tolds in
-    let reads : Reads tolds (file.rest ++ file.nl) =
-    subst (Reads tolds) (sym (content.whole ∙ ap (λ t. t ++ content.rest) content.is_front.whole))
-    (reads_both front.tolds behind.tolds _ content.rest front.reads behind.reads) in
+    let sources : List Source = front.sources ++ behind.sources in
+    let kept = filter-append in_groups front.sources behind.sources in
+    let reads : Reads sources (file.rest ++ file.nl) =
+    subst (Reads sources) (sym (content.whole ∙ ap (λ t. t ++ content.rest) content.is_front.whole))
+    (reads_both front.sources behind.sources _ content.rest front.reads behind.reads) in
     record {
-      front = filter in_groups front.tolds;
-      behind = filter in_groups behind.tolds;
+      front = filter in_groups front.sources;
+      behind = filter in_groups behind.sources;
       are_front = front.belong;
       are_groups = behind.belong;
       rules = λ agent.
-          (file_same (rfc.IsWideFile groups) text file tolds reads agent).0.rules
-          ∙ (sitemaps_change_nothing_else agent (lines_in tolds) (lines_in (filter in_groups tolds))
-          (kept_lines (λ line. not (is_sitemap line)) tolds)).rules
+          (file_same (rfc.IsWideFile groups) text file sources reads agent).0.rules
+          ∙ (sitemaps_change_nothing_else agent (lines_in sources) (lines_in (filter in_groups sources))
+          (kept_lines (λ line. not (is_sitemap line)) sources)).rules
           ∙ ap (λ ts. rules_for agent (lines_in ts)) kept;
-      heard =
-          ap (filter in_groups) (file_heard (rfc.IsWideFile groups) text file tolds reads) ∙ kept;
+      sources_of =
+          ap (filter in_groups) (file_sources_are (rfc.IsWideFile groups) text file sources reads) ∙ kept;
     }

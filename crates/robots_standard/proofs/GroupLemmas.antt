@@ -154,14 +154,14 @@ none_front name [] all = refl
 none_front name (line ∷ front) all = rw (none_named name line all.0.group) (none_front name front all.1)
 
 -- the walk behind them, which begins a run
-record Passed (name : List ℕ) (walk : Walk) (front lines : List LineValue) : Type 0 where
+record FrontPassed (name : List ℕ) (walk : Walk) (front lines : List LineValue) : Type 0 where
   next : Walk
   closed : next.named ≡ false
   same : found name walk (front ++ lines) ≡ found name next lines
 
 front_passed : (name : List ℕ) (walk : Walk) (front lines : List LineValue) → Each IsFront front
     → walk.named ≡ false
-    → Passed name walk front lines
+    → FrontPassed name walk front lines
 front_passed name walk [] lines all closed = record { next = walk; closed = closed; same = refl }
 front_passed name walk (line ∷ front) lines all closed =
     let p = front_passed name (group_step walk) front lines all.1 refl in

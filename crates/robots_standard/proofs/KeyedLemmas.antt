@@ -9,7 +9,7 @@ use Rattle.std.proofs.lemmas.Bool.{and_parts, eqb-false, ltb-true, not-true}
 use Rattle.std.proofs.lemmas.Bool.Decides.{nat_tests}
 use Rattle.texting_robots.specs.declared.parser.statement.Kind.{Kind}
 use Rattle.texting_robots.specs.Statement.{IsBlank, IsStatement, spellings}
-use Rattle.texting_robots.specs.Steps.Statement.{IsComment, colon, hash}
+use Rattle.texting_robots.specs.Steps.Statement.{IsOptionalComment, colon, hash}
 use Rattle.texting_robots.specs.Trim.{IsTrimOf}
 use Rattle.texting_robots.specs.Steps.Line.{line_of, line_with}
 use Rattle.robots_standard.specs.Rfc9309 as rfc
@@ -20,7 +20,7 @@ use Rattle.robots_standard.proofs.CharLemmas.{IsCharByte, char_text}
 use Rattle.texting_robots.proofs.TrimLemmas.{each_append}
 use Rattle.robots_standard.proofs.ReadLemmas.{BeginsLow, IsBare, low_append}
 use Rattle.robots_standard.proofs.ValueLemmas.{IsVisible, blanks_after, visible_trim}
-use Rattle.robots_standard.proofs.Told.{between_gone, no_blank, written, written_is}
+use Rattle.robots_standard.proofs.Sources.{between_gone, no_blank, written, written_is}
 
 -- ---- bytes
 
@@ -123,7 +123,8 @@ comment_bare : (comment : List ℕ) → (comment ≡ []) ⊎ rfc.IsComment comme
 comment_bare comment (inl none) = rw none tt
 comment_bare comment (inr is) = rw is.whole (inr (omega arith), comment_text is.text is.is_text)
 
-pub comment_is : (comment : List ℕ) → (comment ≡ []) ⊎ rfc.IsComment comment → IsComment comment
+pub comment_is : (comment : List ℕ) → (comment ≡ []) ⊎ rfc.IsComment comment
+    → IsOptionalComment comment
 comment_is comment (inl none) = inl none
 comment_is comment (inr is) = inr (is.text, is.whole)
 

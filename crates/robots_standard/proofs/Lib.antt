@@ -2,10 +2,9 @@
 pub mod MergeLemmas
 pub mod WalkLemmas
 pub mod GroupLemmas
-pub mod Told
+pub mod Sources
 pub mod CharLemmas
 pub mod SyntaxLemmas
-pub mod BodyLemmas
 pub mod ReadLemmas
 pub mod EndLemmas
 pub mod ValueLemmas
@@ -14,7 +13,7 @@ pub mod RuleLemmas
 pub mod MemberLemmas
 pub mod WordLemmas
 pub mod OtherLemmas
-pub mod ToldLemmas
+pub mod SourceLemmas
 pub mod RepeatLemmas
 pub mod FileLemmas
 pub mod SitemapLemmas

@@ -29,7 +29,7 @@ use Rattle.robots_standard.proofs.GroupLemmas.{IsFront}
 use Rattle.robots_standard.proofs.RuleLemmas.{IsPlain, MemberRead, chars_kept, plain_kept}
 use Rattle.robots_standard.proofs.RuleLemmas.{plain_trim, plain_value, reads_keyed, rule_line}
 use Rattle.robots_standard.proofs.RuleLemmas.{star_line}
-use Rattle.robots_standard.proofs.Told.{Told, matters, no_blank}
+use Rattle.robots_standard.proofs.Sources.{Source, is_not_raw, no_blank}
 
 -- ---- delays
 
@@ -119,11 +119,11 @@ delay_given number text n line =
     let k = keyed (codes "crawl-delay") number text (key_word (codes "crawl-delay") refl) value line in
     let bare : List ℕ = filter no_blank number in
     record {
-      told = (CrawlDelay (Some n.delay), number);
-      is_told = record { line = record { group = refl; gives = refl }; spelled = refl };
+      source = (CrawlDelay (Some n.delay), number);
+      is_source = record { line = record { group = refl; gives = refl }; spelled = refl };
       reads =
           subst (λ value. Reads ((CrawlDelay (Some n.delay), value) ∷ []) text) (plain_kept number n.plain)
-          (subst (λ d. Reads (filter matters ((delay_or_raw d k.body, bare) ∷ [])) text) n.is
+          (subst (λ d. Reads (filter is_not_raw ((delay_or_raw d k.body, bare) ∷ [])) text) n.is
           (reads_keyed (codes "crawl-delay") number text k kind.CrawlDelay number (0, omega arith, refl)
           (plain_trim k.gap k.behind number k.gap_blank k.behind_blank n.plain)));
     }
@@ -142,9 +142,9 @@ member_line member text (inr (inr is)) = delay_line member text is
 
 -- a delay line in front of the groups
 pub record FrontRead (text : List ℕ) : Type 0 where
-  pub told : Told
-  pub is_front : IsFront told.0
-  pub reads : Reads (told ∷ []) text
+  pub source : Source
+  pub is_front : IsFront source.0
+  pub reads : Reads (source ∷ []) text
 
 pub front_line : (member : rfc.Member) (text : List ℕ) → rfc.IsDelayLine member text → FrontRead text
 front_line (rfc.Allow pattern) text is = absurd is
@@ -152,14 +152,14 @@ front_line (rfc.Disallow pattern) text is = absurd is
 front_line (rfc.Delay number) text is =
     let read = delay_line (rfc.Delay number) text is in
     record {
-      told = read.told;
-      is_front = record { group = read.is_told.line.group; none = read.is_told.line.gives };
+      source = read.source;
+      is_front = record { group = read.is_source.line.group; none = read.is_source.line.gives };
       reads = read.reads;
     }
 
 -- ---- sitemaps
 
--- a text that tells a sitemap
+-- a text whose source line is a sitemap
 pub record SitemapRead (address text : List ℕ) : Type 0 where
   pub value : List ℕ
   pub utf8 : is_utf8 value ≡ true

@@ -9,7 +9,7 @@ use Rattle.std.proofs.lemmas.List.{map-append}
 use Rattle.texting_robots.specs.declared.parser.statement.Kind.{Kind}
 use Rattle.texting_robots.specs.Line.{Raw}
 use Rattle.texting_robots.specs.Statement.{IsBehindBlanks, IsBehindColon, IsBlank, IsStatement}
-use Rattle.texting_robots.specs.Steps.Statement.{IsComment}
+use Rattle.texting_robots.specs.Steps.Statement.{IsOptionalComment}
 use Rattle.texting_robots.specs.Steps.Statement.{kind_by, skip_blanks, statement_of}
 use Rattle.robots_standard.specs.Rfc9309 as rfc
 use Rattle.texting_robots.proofs.LineLemmas.{line_raw, line_without_kind}
@@ -19,15 +19,15 @@ use Rattle.robots_standard.proofs.KeyedLemmas.{blanks_bare, blanks_low, comment_
 use Rattle.robots_standard.proofs.KeyedLemmas.{each_weaker, end_bare}
 use Rattle.robots_standard.proofs.ReadLemmas.{BeginsLow, IsBare, Reads, low_append, reads_line}
 use Rattle.robots_standard.proofs.WordLemmas.{IsSpelled, Stops, identifier_bounds, same_word, spelled}
-use Rattle.robots_standard.proofs.Told.{written}
+use Rattle.robots_standard.proofs.Sources.{written}
 
 -- ---- empty lines and comments
 
-comment_low : (comment : List ℕ) → IsComment comment → BeginsLow comment
+comment_low : (comment : List ℕ) → IsOptionalComment comment → BeginsLow comment
 comment_low comment (inl none) = subst BeginsLow (sym none) tt
 comment_low comment (inr (text, is)) = subst BeginsLow (sym is) (omega arith)
 
-comment_no_key : (comment : List ℕ) → IsComment comment → kind_by (skip_blanks comment) ≡ None
+comment_no_key : (comment : List ℕ) → IsOptionalComment comment → kind_by (skip_blanks comment) ≡ None
 comment_no_key comment (inl none) = ap (λ c. kind_by (skip_blanks c)) none
 comment_no_key comment (inr (text, is)) = ap (λ c. kind_by (skip_blanks c)) is
 

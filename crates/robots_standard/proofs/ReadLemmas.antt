@@ -1,4 +1,4 @@
--- What the lines of a text tell, where it is made of lines; raw ones are left out.
+-- The source lines of a text that is made of lines; raw ones are left out.
 use Rattle.std.proofs.Common.{◌≡◌, ◌≢◌, ◌⊎◌, inl, inr, ℕ, ◌<◌}
 use Rattle.std.proofs.Common.{◌≤◌, false, List, [], ◌∷◌, ◌++◌, map, filter}
 use Rattle.std.proofs.Common.{cond, not, sym, refl, ap, ◌∙◌, append_assoc, arith, eqb}
@@ -9,41 +9,40 @@ use Rattle.texting_robots.specs.Cut.{cr, lf}
 use Rattle.texting_robots.specs.Line.{is_raw}
 use Rattle.texting_robots.specs.Steps.Cut.{cut}
 use Rattle.robots_standard.specs.Rfc9309.{IsNl}
-use Rattle.texting_robots.proofs.CrLfLemmas.{bodies_of}
+use Rattle.texting_robots.proofs.CrLfLemmas.{bodies_of, body_return, body_step, step}
 use Rattle.texting_robots.proofs.LineLemmas.{line_without_kind}
-use Rattle.robots_standard.proofs.BodyLemmas.{body_return, body_step, step}
 use Rattle.texting_robots.proofs.TrimLemmas.{each_append}
-use Rattle.robots_standard.proofs.Told.{Told, matters, told_of, written}
+use Rattle.robots_standard.proofs.Sources.{Source, is_not_raw, source_of, written}
 
--- ---- what is heard of a text
+-- ---- the source lines of a text
 
--- what bodies tell
-abbrev pub heard_in : List (List ℕ) → List Told
-heard_in bodies = filter matters (map told_of bodies)
+-- those of bodies
+abbrev pub sources_in : List (List ℕ) → List Source
+sources_in bodies = filter is_not_raw (map source_of bodies)
 
--- what a text tells
-abbrev pub heard : List ℕ → List Told
-heard text = heard_in (bodies_of (cut text))
+-- those of a text
+abbrev pub sources_of : List ℕ → List Source
+sources_of text = sources_in (bodies_of (cut text))
 
-pub empty_unheard : (bodies : List (List ℕ)) → heard_in ([] ∷ bodies) ≡ heard_in bodies
-empty_unheard bodies =
-    ap (λ line. cond (not (is_raw line)) ((line, written []) ∷ heard_in bodies) (heard_in bodies))
+pub empty_adds_none : (bodies : List (List ℕ)) → sources_in ([] ∷ bodies) ≡ sources_in bodies
+empty_adds_none bodies =
+    ap (λ line. cond (not (is_raw line)) ((line, written []) ∷ sources_in bodies) (sources_in bodies))
     (line_without_kind [] [] refl refl)
 
 -- ---- a line and its end
 
--- the bodies begin with an empty one, and the others are heard as this text
-record BeginEmpty (bodies : List (List ℕ)) (tolds : List Told) : Type 0 where
+-- the bodies begin with an empty one, and the others have these source lines
+record BeginEmpty (bodies : List (List ℕ)) (sources : List Source) : Type 0 where
   more : List (List ℕ)
   whole : bodies ≡ [] ∷ more
-  same : heard_in more ≡ tolds
+  same : sources_in more ≡ sources
 
-return_first : (bodies : List (List ℕ)) → BeginEmpty (body_return bodies) (heard_in bodies)
+return_first : (bodies : List (List ℕ)) → BeginEmpty (body_return bodies) (sources_in bodies)
 return_first [] = record { more = []; whole = refl; same = refl }
-return_first ([] ∷ bodies) = record { more = bodies; whole = refl; same = sym (empty_unheard bodies) }
+return_first ([] ∷ bodies) = record { more = bodies; whole = refl; same = sym (empty_adds_none bodies) }
 return_first ((b ∷ body) ∷ bodies) = record { more = (b ∷ body) ∷ bodies; whole = refl; same = refl }
 
-end_first : (nl rest : List ℕ) → IsNl nl → BeginEmpty (bodies_of (cut (nl ++ rest))) (heard rest)
+end_first : (nl rest : List ℕ) → IsNl nl → BeginEmpty (bodies_of (cut (nl ++ rest))) (sources_of rest)
 end_first nl rest (inl is) = rw (is, step cr rest) (return_first (bodies_of (cut rest)))
 end_first nl rest (inr (inl is)) =
     rw (is, step lf rest) (record { more = bodies_of (cut rest); whole = refl; same = refl })
@@ -71,14 +70,14 @@ body_first (b ∷ body) text more bare first =
       bare_other b cr bare.0 (omega arith) (omega arith),
     ) refl
 
-line_heard : (body nl rest : List ℕ) → Each IsBare body → IsNl nl
-    → heard ((body ++ nl) ++ rest) ≡ filter matters (told_of body ∷ []) ++ heard rest
-line_heard body nl rest bare is =
+line_sources : (body nl rest : List ℕ) → Each IsBare body → IsNl nl
+    → sources_of ((body ++ nl) ++ rest) ≡ filter is_not_raw (source_of body ∷ []) ++ sources_of rest
+line_sources body nl rest bare is =
     let first = end_first nl rest is in
-    ap (λ t. heard_in (bodies_of (cut t))) (append_assoc body nl rest)
-    ∙ ap heard_in (body_first body (nl ++ rest) first.more bare first.whole)
-    ∙ filter-append matters (told_of body ∷ []) (map told_of first.more)
-    ∙ ap (λ t. filter matters (told_of body ∷ []) ++ t) first.same
+    ap (λ t. sources_in (bodies_of (cut t))) (append_assoc body nl rest)
+    ∙ ap sources_in (body_first body (nl ++ rest) first.more bare first.whole)
+    ∙ filter-append is_not_raw (source_of body ∷ []) (map source_of first.more)
+    ∙ ap (λ t. filter is_not_raw (source_of body ∷ []) ++ t) first.same
 
 -- ---- a text that is made of lines
 
@@ -87,9 +86,9 @@ abbrev pub BeginsLow : List ℕ → Type 0
 BeginsLow [] = Unit {0}
 BeginsLow (byte ∷ text) = byte < 128
 
--- the text is made of lines, which tell this, and it holds no NUL
-pub record Reads (tolds : List Told) (text : List ℕ) : Type 0 where
-  pub heard : (rest : List ℕ) → heard (text ++ rest) ≡ tolds ++ heard rest
+-- the text is made of lines, with these source lines, and it holds no NUL
+pub record Reads (sources : List Source) (text : List ℕ) : Type 0 where
+  pub sources_of : (rest : List ℕ) → sources_of (text ++ rest) ≡ sources ++ sources_of rest
   pub no_nul : Each (λ byte. byte ≢ 0) text
   pub low : BeginsLow text
 
@@ -98,16 +97,17 @@ low_append [] ys low more = more
 low_append (x ∷ xs) ys low more = low
 
 pub reads_nothing : Reads [] []
-reads_nothing = record { heard = λ rest. refl; no_nul = tt; low = tt }
+reads_nothing = record { sources_of = λ rest. refl; no_nul = tt; low = tt }
 
-pub reads_both : (tolds more : List Told) (text later : List ℕ) → Reads tolds text → Reads more later
-    → Reads (tolds ++ more) (text ++ later)
-reads_both tolds more text later is also = record {
-  heard = λ rest.
-      ap heard (append_assoc text later rest)
-      ∙ is.heard (later ++ rest)
-      ∙ ap (λ ls. tolds ++ ls) (also.heard rest)
-      ∙ sym (append_assoc tolds more (heard rest));
+pub reads_both : (sources more : List Source) (text later : List ℕ) → Reads sources text
+    → Reads more later
+    → Reads (sources ++ more) (text ++ later)
+reads_both sources more text later is also = record {
+  sources_of = λ rest.
+      ap sources_of (append_assoc text later rest)
+      ∙ is.sources_of (later ++ rest)
+      ∙ ap (λ ls. sources ++ ls) (also.sources_of rest)
+      ∙ sym (append_assoc sources more (sources_of rest));
   no_nul = each_append (λ byte. byte ≢ 0) text later is.no_nul also.no_nul;
   low = low_append text later is.low also.low;
 }
@@ -130,13 +130,14 @@ end_low nl (inl is) = rw is (omega arith)
 end_low nl (inr (inl is)) = rw is (omega arith)
 end_low nl (inr (inr is)) = rw is (omega arith)
 
--- a body that tells this, and its end
-pub reads_line : (told : Told) (body nl : List ℕ) → told_of body ≡ told
+-- a body with this source line, and its end
+pub reads_line : (source : Source) (body nl : List ℕ) → source_of body ≡ source
     → Each IsBare body → BeginsLow body
-    → IsNl nl → Reads (filter matters (told ∷ [])) (body ++ nl)
-reads_line told body nl same bare low is = record {
-  heard = λ rest.
-      line_heard body nl rest bare is ∙ ap (λ (t : Told). filter matters (t ∷ []) ++ heard rest) same;
+    → IsNl nl → Reads (filter is_not_raw (source ∷ [])) (body ++ nl)
+reads_line source body nl same bare low is = record {
+  sources_of = λ rest.
+      line_sources body nl rest bare is
+      ∙ ap (λ (t : Source). filter is_not_raw (t ∷ []) ++ sources_of rest) same;
   no_nul = each_append (λ byte. byte ≢ 0) body nl (bare_no_nul body bare) (end_no_nul nl is);
   low = low_append body nl low (end_low nl is);
 }

@@ -3,32 +3,33 @@ use Rattle.std.proofs.Common.{inl, inr, ℕ, List, [], ◌∷◌, ◌++◌, flat
 use Rattle.std.specs.List.{AllByRecursion as Each}
 use Rattle.robots_standard.specs.Rfc9309 as rfc
 use Rattle.robots_standard.proofs.ReadLemmas.{Reads, reads_both, reads_nothing}
-use Rattle.robots_standard.proofs.Told.{Told}
+use Rattle.robots_standard.proofs.Sources.{Source}
 
--- the text is made of lines, and what they tell belongs to these items
-pub record ReadBy {X : Type 0} (Belong : List X → List Told → Type 0)
+-- the text is made of lines, and their source lines belong to these items
+pub record ReadBy {X : Type 0} (Belong : List X → List Source → Type 0)
     (items : List X) (text : List ℕ) : Type 0 where
-  pub tolds : List Told
-  pub belong : Belong items tolds
-  pub reads : Reads tolds text
+  pub sources : List Source
+  pub belong : Belong items sources
+  pub reads : Reads sources text
 
--- what is told of items, and then of others, is told of both
-pub record IsJoin {X : Type 0} (Belong : List X → List Told → Type 0) : Type 0 where
+-- the source lines of items, and then those of others, are those of both
+pub record IsJoin {X : Type 0} (Belong : List X → List Source → Type 0) : Type 0 where
   pub none : Belong [] []
-  pub both : (items more : List X) (tolds later : List Told) → Belong items tolds → Belong more later
-      → Belong (items ++ more) (tolds ++ later)
+  pub both : (items more : List X) (sources later : List Source) → Belong items sources
+      → Belong more later
+      → Belong (items ++ more) (sources ++ later)
 
-module _ {X : Type 0} (Belong : List X → List Told → Type 0) (join : IsJoin Belong) where
+module _ {X : Type 0} (Belong : List X → List Source → Type 0) (join : IsJoin Belong) where
   pub none_read : ReadBy Belong [] []
-  none_read = record { tolds = []; belong = join.none; reads = reads_nothing }
+  none_read = record { sources = []; belong = join.none; reads = reads_nothing }
 
   pub both_read : (items more : List X) (text later : List ℕ) → ReadBy Belong items text
       → ReadBy Belong more later
       → ReadBy Belong (items ++ more) (text ++ later)
   both_read items more text later first rest = record {
-    tolds = first.tolds ++ rest.tolds;
-    belong = join.both items more first.tolds rest.tolds first.belong rest.belong;
-    reads = reads_both first.tolds rest.tolds text later first.reads rest.reads;
+    sources = first.sources ++ rest.sources;
+    belong = join.both items more first.sources rest.sources first.belong rest.belong;
+    reads = reads_both first.sources rest.sources text later first.reads rest.reads;
   }
 
   pieces_read : (P : List X → List ℕ → Type 0)

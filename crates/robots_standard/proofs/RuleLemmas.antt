@@ -26,20 +26,20 @@ use Rattle.robots_standard.proofs.KeyedLemmas.{only_blanks, key_word}
 use Rattle.robots_standard.proofs.ReadLemmas.{Reads, reads_line}
 use Rattle.robots_standard.proofs.ValueLemmas.{IsVisible, trim_some, trim_utf8, visible_trim}
 use Rattle.robots_standard.proofs.ValueLemmas.{visible_utf8}
-use Rattle.robots_standard.proofs.Told.{IsToldFor, Told, blanks_gone, matters, no_blank, text_kept}
-use Rattle.robots_standard.proofs.Told.{told_of, token_told, written}
+use Rattle.robots_standard.proofs.Sources.{IsSourceOf, Source, blanks_gone, is_not_raw, no_blank, text_kept}
+use Rattle.robots_standard.proofs.Sources.{source_of, token_source, written}
 
--- what a keyed text tells, where its value is trimmed to this
+-- the source line of a keyed text, where its value is trimmed to this
 pub reads_keyed : (word value text : List ℕ) (k : Keyed word value text) (kind : Kind) (read : List ℕ)
     → Contains (spellings kind) word → IsTrimOf read (k.gap ++ (value ++ k.behind))
-    → Reads (filter matters ((line_with kind read k.body, filter no_blank value) ∷ [])) text
+    → Reads (filter is_not_raw ((line_with kind read k.body, filter no_blank value) ∷ [])) text
 reads_keyed word value text k kind read has trim =
-    let told : Told = (line_with kind read k.body, filter no_blank value) in
-    let same : told_of k.body ≡ told =
+    let source : Source = (line_with kind read k.body, filter no_blank value) in
+    let same : source_of k.body ≡ source =
     ap (λ line. (line, written k.body)) (keyed_line kind read k.body (k.states kind read has trim))
     ∙ ap (λ value. (line_with kind read k.body, value)) k.written in
-    subst (Reads (filter matters (told ∷ []))) (sym k.whole)
-    (reads_line told k.body k.nl same k.bare k.low k.is_nl)
+    subst (Reads (filter is_not_raw (source ∷ []))) (sym k.whole)
+    (reads_line source k.body k.nl same k.bare k.low k.is_nl)
 
 -- a value of blanks is read as an empty one
 blank_trim : (gap value behind : List ℕ) → Each IsBlank gap → Each IsBlank value → Each IsBlank behind
@@ -84,7 +84,7 @@ pub plain_kept : (bytes : List ℕ) → Each IsPlain bytes → filter no_blank b
 plain_kept bytes plain = text_kept bytes (each_weaker IsPlain (λ b. 32 < b) (λ b is. is.0.0) bytes plain)
 
 pub token_line : (token text : List ℕ) → rfc.IsStartGroupLine token text
-    → Reads (token_told token ∷ []) text
+    → Reads (token_source token ∷ []) text
 token_line token text line =
     let plain = token_plain token line.0 in
     let value = each_weaker IsPlain IsValueByte plain_value token plain in
@@ -95,11 +95,11 @@ token_line token text line =
 
 -- ---- rules
 
--- a text that tells a member
+-- a text whose source line is a member's
 pub record MemberRead (member : rfc.Member) (text : List ℕ) : Type 0 where
-  pub told : Told
-  pub is_told : IsToldFor member told
-  pub reads : Reads (told ∷ []) text
+  pub source : Source
+  pub is_source : IsSourceOf member source
+  pub reads : Reads (source ∷ []) text
 
 given_rule : (value : List ℕ) (is_allow : Bool) → IsUtf8 value
     → rule_with value is_allow ≡ Some (escaped value, is_allow)
@@ -139,8 +139,8 @@ allow_begun (b ∷ rest) text (visible, chars) line =
     let utf8 = trim_utf8 pattern read chars.utf8 trim in
     let rule : Rule = (escaped read, true) in
     record {
-      told = (Allow read, pattern);
-      is_told = record {
+      source = (Allow read, pattern);
+      is_source = record {
         line = record { group = refl; gives = (rule, given_rule read true utf8, (read, trim, refl)) };
         spelled = refl;
       };
@@ -167,14 +167,14 @@ disallow_begun (b ∷ rest) text (visible, chars) line =
     let utf8 = trim_utf8 pattern read chars.utf8 trim in
     let rule : Rule = (escaped read, false) in
     record {
-      told = (Disallow read, pattern);
-      is_told = record {
+      source = (Disallow read, pattern);
+      is_source = record {
         line = record { group = refl; gives = (rule, given_rule read false utf8, (read, trim, refl)) };
         spelled = refl;
       };
       reads =
           subst (λ value. Reads ((Disallow read, value) ∷ []) text) (chars_kept pattern chars.bytes)
-          (subst (λ l. Reads (filter matters ((l, filter no_blank pattern) ∷ [])) text)
+          (subst (λ l. Reads (filter is_not_raw ((l, filter no_blank pattern) ∷ [])) text)
           (disallow_line read k.body (trim_some b rest read visible trim))
           (reads_keyed (codes "disallow") pattern text k kind.Disallow read (0, omega arith, refl)
           (between_blanks k.gap k.behind pattern read (k.gap_blank, k.behind_blank) chars.utf8 trim)));
@@ -187,8 +187,8 @@ allow_empty value text all line =
     keyed (codes "allow") value text (key_word (codes "allow") refl) (blanks_value value all) line in
     let rule : Rule = ([], true) in
     record {
-      told = (Allow [], []);
-      is_told = record {
+      source = (Allow [], []);
+      is_source = record {
         line = record {
           group = refl;
           gives = (rule, given_rule [] true IsUtf8-nil, ([], visible_trim [] tt, refl));
@@ -211,8 +211,8 @@ disallow_empty value text all line =
     let rule : Rule = (slash, true) in
     let utf8 : IsUtf8 slash = (char_text slash (inl (inr (inr (omega arith, omega arith))))).utf8 in
     record {
-      told = (Allow slash, []);
-      is_told = record {
+      source = (Allow slash, []);
+      is_source = record {
         line = record { group = refl; gives = (rule, given_rule slash true utf8, refl) };
         spelled = refl;
       };

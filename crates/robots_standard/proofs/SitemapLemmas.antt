@@ -9,40 +9,40 @@ use Rattle.texting_robots.specs.Computed.{file_lines}
 use Rattle.texting_robots.specs.Computed.{sitemap_in, sitemaps_in}
 use Rattle.texting_robots.specs.Trim.{IsTrimOf}
 use Rattle.robots_standard.specs.Rfc9309 as rfc
-use Rattle.robots_standard.proofs.EndLemmas.{file_heard, file_same, lines_in, told_in}
+use Rattle.robots_standard.proofs.EndLemmas.{file_sources_are, file_same, lines_in, file_sources}
 use Rattle.robots_standard.proofs.GroupLemmas.{zip_append}
 use Rattle.robots_standard.proofs.MemberLemmas.{member_line, sitemap_line}
 use Rattle.robots_standard.proofs.OtherLemmas.{empty_line, other_line}
 use Rattle.robots_standard.proofs.RepeatLemmas.{IsJoin, ReadBy, repeated}
 use Rattle.robots_standard.proofs.RuleLemmas.{token_line}
 use Rattle.robots_standard.proofs.SyntaxLemmas.{repeats_both, repeats_none, repeats_one}
-use Rattle.robots_standard.proofs.Told.{Told, token_told}
-use Rattle.robots_standard.proofs.ToldLemmas.{no_sitemap}
+use Rattle.robots_standard.proofs.Sources.{Source, token_source}
+use Rattle.robots_standard.proofs.SourceLemmas.{no_sitemap}
 
--- the addresses that are told, as they are written
-abbrev addresses_in : List Told → List (List ℕ)
-addresses_in tolds = map (λ told. told.1) (filter (λ told. is_sitemap told.0) tolds)
+-- the addresses, as they are written
+abbrev addresses_in : List Source → List (List ℕ)
+addresses_in sources = map (λ source. source.1) (filter (λ source. is_sitemap source.0) sources)
 
--- what lines with these addresses tell
-record AreAddresses (addresses : List (List ℕ)) (tolds : List Told) : Type 0 where
-  spelled : addresses_in tolds ≡ addresses
-  read : AllZip IsTrimOf (sitemaps_in (lines_in tolds)) addresses
+-- the source lines of lines with these addresses
+record AreAddresses (addresses : List (List ℕ)) (sources : List Source) : Type 0 where
+  spelled : addresses_in sources ≡ addresses
+  read : AllZip IsTrimOf (sitemaps_in (lines_in sources)) addresses
 
 addresses_join : IsJoin AreAddresses
 addresses_join = record {
   none = record { spelled = refl; read = tt };
-  both = λ addresses more tolds later is also. record {
+  both = λ addresses more sources later is also. record {
     spelled =
-        ap (map (λ told. told.1)) (filter-append (λ told. is_sitemap told.0) tolds later)
-        ∙ map-append (λ told. told.1) (filter (λ told. is_sitemap told.0) tolds) _
+        ap (map (λ source. source.1)) (filter-append (λ source. is_sitemap source.0) sources later)
+        ∙ map-append (λ source. source.1) (filter (λ source. is_sitemap source.0) sources) _
         ∙ ap (λ a. a ++ addresses_in later) is.spelled
         ∙ ap (λ a. addresses ++ a) also.spelled;
     read =
         subst (λ s. AllZip IsTrimOf s (addresses ++ more))
         (sym (
-        ap sitemaps_in (map-append (λ (told : Told). told.0) tolds later)
-        ∙ filter_map-append sitemap_in (lines_in tolds) (lines_in later)))
-        (zip_append IsTrimOf (sitemaps_in (lines_in tolds)) _ addresses more is.read also.read);
+        ap sitemaps_in (map-append (λ (source : Source). source.0) sources later)
+        ∙ filter_map-append sitemap_in (lines_in sources) (lines_in later)))
+        (zip_append IsTrimOf (sitemaps_in (lines_in sources)) _ addresses more is.read also.read);
   };
 }
 
@@ -51,29 +51,29 @@ address_read : (address text : List ℕ) → rfc.IsSitemapLine address text
 address_read address text is =
     let read = sitemap_line address text is in
     record {
-      tolds = (Sitemap read.value, address) ∷ [];
+      sources = (Sitemap read.value, address) ∷ [];
       belong = record { spelled = refl; read = rw read.utf8 (read.trim, tt) };
       reads = read.reads;
     }
 
 unlisted_read : (text : List ℕ) → rfc.IsUnlisted text → ReadBy AreAddresses [] text
 unlisted_read text (inl (token, is)) = record {
-  tolds = token_told token ∷ [];
+  sources = token_source token ∷ [];
   belong = record { spelled = refl; read = tt };
   reads = token_line token text is;
 }
 unlisted_read text (inr (inl (member, is))) =
     let read = member_line member text is in
-    let none = no_sitemap read.told.0 read.is_told.line.group in
+    let none = no_sitemap read.source.0 read.is_source.line.group in
     record {
-      tolds = read.told ∷ [];
+      sources = read.source ∷ [];
       belong = record { spelled = rw none.0 refl; read = rw none.1 tt };
       reads = read.reads;
     }
 unlisted_read text (inr (inr (inl is))) =
-    record { tolds = []; belong = addresses_join.none; reads = empty_line text is }
+    record { sources = []; belong = addresses_join.none; reads = empty_line text is }
 unlisted_read text (inr (inr (inr is))) =
-    record { tolds = []; belong = addresses_join.none; reads = other_line text is }
+    record { sources = []; belong = addresses_join.none; reads = other_line text is }
 
 -- ---- a file
 
@@ -92,12 +92,12 @@ module _ (text : List ℕ) (addresses : List (List ℕ)) (file : rfc.ListsSitema
   pub sitemaps_are_read : AllZip IsTrimOf (sitemaps_in (file_lines text)) addresses
   sitemaps_are_read =
       subst (λ s. AllZip IsTrimOf s addresses)
-      (sym (file_same content text file file_read.tolds file_read.reads []).1)
+      (sym (file_same content text file file_read.sources file_read.reads []).1)
       file_read.belong.read
 
-  pub addresses_are : addresses_in (told_in text) ≡ addresses
+  pub addresses_are : addresses_in (file_sources text) ≡ addresses
   addresses_are =
-      ap addresses_in (file_heard content text file file_read.tolds file_read.reads)
+      ap addresses_in (file_sources_are content text file file_read.sources file_read.reads)
       ∙ file_read.belong.spelled
 
 -- ---- each file is a file of lines

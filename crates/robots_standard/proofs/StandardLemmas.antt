@@ -9,8 +9,8 @@ use Rattle.robots_standard.proofs.EndLemmas.{lines_in}
 use Rattle.robots_standard.proofs.FileLemmas.{file_read}
 use Rattle.robots_standard.proofs.GroupLemmas.{rules_spelled}
 use Rattle.robots_standard.proofs.SitemapLemmas.{addresses_are, file_lists}
-use Rattle.robots_standard.proofs.Told.{Told}
-use Rattle.robots_standard.proofs.ToldLemmas.{front_lines, group_lines, told_groups, told_once}
+use Rattle.robots_standard.proofs.Sources.{Source}
+use Rattle.robots_standard.proofs.SourceLemmas.{front_lines, group_lines, source_groups, sources_once}
 use Rattle.std.proofs.Common.{◌≡◌, ℕ, List}
 use Rattle.texting_robots.specs.Computed.{file_lines}
 
@@ -19,7 +19,7 @@ pub standard_files_are_read_so : (text : List ℕ) (groups : List rfc.Group) (ag
     → AllZip IsReadAs (rfc.rules_for agent (rfc.merged groups)) (rules_for agent (file_lines text))
 standard_files_are_read_so text groups agent file =
     let read = file_read text groups file in
-    let both = map-append (λ (told : Told). told.0) read.front read.behind in
+    let both = map-append (λ (source : Source). source.0) read.front read.behind in
     subst (AllZip IsReadAs (rfc.rules_for agent (rfc.merged groups)))
     (sym (read.rules agent ∙ ap (rules_for agent) both))
     (rules_spelled agent groups (lines_in read.front) (lines_in read.behind)
@@ -30,9 +30,9 @@ pub standard_files_spell_once : (text : List ℕ) (groups others : List rfc.Grou
 standard_files_spell_once text groups others file other =
     let read = file_read text groups file in
     let again = file_read text others other in
-    sym (told_once groups read.front read.behind read.are_front read.are_groups)
-    ∙ ap told_groups (sym read.heard ∙ again.heard)
-    ∙ told_once others again.front again.behind again.are_front again.are_groups
+    sym (sources_once groups read.front read.behind read.are_front read.are_groups)
+    ∙ ap source_groups (sym read.sources_of ∙ again.sources_of)
+    ∙ sources_once others again.front again.behind again.are_front again.are_groups
 
 -- each file has one list of sitemaps
 pub standard_sitemaps_once : (text : List ℕ) (groups : List rfc.Group) → rfc.IsFile groups text

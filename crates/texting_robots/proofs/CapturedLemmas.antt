@@ -188,11 +188,11 @@ named_in name lines i =
     named_at (passes_at is_agent lines) (passes_at is_group lines) (passes_at (is_agent_named name) lines) i
 
 -- the walk's state says what the definition says of this place
-pub record StandsAt (name : List ℕ) (lines : List LineValue) (i : ℕ) (walk : Walk) : Type 0 where
+pub record IsWalkAt (name : List ℕ) (lines : List LineValue) (i : ℕ) (walk : Walk) : Type 0 where
   pub captured : is_captured name lines i ≡ walk.captured
   pub named : open_in name lines i ≡ walk.named
 
-pub stands_first : (name : List ℕ) (lines : List LineValue) → StandsAt name lines 0 (start_of lines)
+pub stands_first : (name : List ℕ) (lines : List LineValue) → IsWalkAt name lines 0 (start_of lines)
 stands_first name lines = record { captured = or-false _; named = refl }
 
 -- the tests at the place are those of its line
@@ -222,8 +222,8 @@ only_agents name (UserAgent value) isnt = absurd (false≢true (sym isnt))
 only_agents name _ isnt = refl
 
 pub stands_next : (name : List ℕ) (lines : List LineValue) (i : ℕ) (walk : Walk) (line : LineValue)
-    → slice_get lines i ≡ Some line → StandsAt name lines i walk
-    → StandsAt name lines (i + 1) (step name walk line)
+    → slice_get lines i ≡ Some line → IsWalkAt name lines i walk
+    → IsWalkAt name lines (i + 1) (step name walk line)
 stands_next name lines i walk line at stands = record {
   captured = named_on name lines i line at ∙ elim (cases_Bool (is_agent line)) [
     | inl is ↦ rw (is, (some_passes is_agent lines).1 (i, rw (at, is) refl), stands.named) refl
@@ -250,14 +250,15 @@ cond_same true x = refl
 cond_same false x = refl
 
 kept_next : {X Y : Type 0} (keeps : Bool) (given : Y → Option X) (y : Y) (ys : List Y)
-    → filter_map given (cond keeps (y ∷ ys) ys) ≡ cons_option (cond keeps (given y) None) (filter_map given ys)
+    → filter_map given (cond keeps (y ∷ ys) ys)
+    ≡ cons_option (cond keeps (given y) None) (filter_map given ys)
 kept_next true given y ys = refl
 kept_next false given y ys = refl
 
 -- the walk finds what the definition's captured lines give
 captured_left : {X : Type 0} (given : ℕ × LineValue → Option X) (name : List ℕ) (all : List LineValue)
     (walk : Walk) (place : ℕ) (lines : List LineValue)
-    → StandsAt name all place walk → drop place all ≡ lines
+    → IsWalkAt name all place walk → drop place all ≡ lines
     → filter_map given (filter (λ p. is_captured name all p.0) (enumerate_from place lines))
     ≡ from_captured given name walk place lines
 captured_left given name all walk place [] stands left = refl
@@ -268,7 +269,8 @@ captured_left given name all walk place (line ∷ lines) stands left =
     (captured_left given name all (step name walk line) (place + 1) lines
     (stands_next name all place walk line at stands) next))
 
-pub captured_walked : {X : Type 0} (given : ℕ × LineValue → Option X) (name : List ℕ) (lines : List LineValue)
+pub captured_walked : {X : Type 0} (given : ℕ × LineValue → Option X) (name : List ℕ)
+    (lines : List LineValue)
     → filter_map given (captured_lines name lines) ≡ from_captured given name (start_of lines) 0 lines
 captured_walked given name lines =
     captured_left given name lines (start_of lines) 0 lines (stands_first name lines) refl

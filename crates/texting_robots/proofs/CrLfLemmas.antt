@@ -1,14 +1,15 @@
--- A CR LF and a LF end a line alike.
+-- The bodies of a text, byte by byte from its back. A CR LF and a LF end a line alike.
 use Rattle.std.proofs.Common.{◌≡◌, ℕ, false, ◌==◌, ◌&&◌, inl, inr, List}
-use Rattle.std.proofs.Common.{[], ◌∷◌, map, slice_index, arith, sym, refl, ap, ◌∙◌}
-use Rattle.std.proofs.lemmas.Bool.{cases_Bool, cond-true, cond-false, and_parts, eqb-true}
+use Rattle.std.proofs.Common.{[], ◌∷◌, if◌then◌else◌, map, slice_index, arith}
+use Rattle.std.proofs.Common.{sym, refl, ap, ◌∙◌}
+use Rattle.std.proofs.lemmas.Bool.{cases_Bool, cond-true, cond-false, and_parts, eqb-true, ne_eqb}
 use Rattle.texting_robots.specs.Cut.{Pair, cr, lf}
 use Rattle.texting_robots.specs.Steps.Cut.{before_body, before_byte, before_end, cut}
 use Rattle.texting_robots.specs.Line.{without, without_front}
 use Rattle.texting_robots.specs.Computed.{parsed}
 use Rattle.texting_robots.specs.Steps.Line.{line_of, lines_of}
 use Rattle.texting_robots.specs.Laws.{feeds_alone}
-use Rattle.texting_robots.proofs.CutLemmas.{at_other, byte_cases, cut_cons, pair_of}
+use Rattle.texting_robots.proofs.CutLemmas.{byte_cases, cut_cons, pair_of}
 use Rattle.texting_robots.proofs.LineLemmas.{each_text_has_its_lines}
 use Rattle.std.proofs.Common.{◌↔◌}
 use Rattle.texting_robots.specs.Line.{AreLinesOf, LineValue}
@@ -18,36 +19,44 @@ use Rattle.texting_robots.specs.Line.{AreLinesOf, LineValue}
 abbrev pub bodies_of : List Pair → List (List ℕ)
 bodies_of pairs = map (λ pair. pair.body) pairs
 
--- where two cuts have the same bodies, so have the cuts with one more byte in front
-abbrev Keeps : (List Pair → List Pair) → Type 0
-Keeps change = (pairs others : List Pair) → bodies_of pairs ≡ bodies_of others
-    → bodies_of (change pairs) ≡ bodies_of (change others)
+abbrev pub body_byte : ℕ → List (List ℕ) → List (List ℕ)
+body_byte b [] = (b ∷ []) ∷ []
+body_byte b (body ∷ bodies) = (b ∷ body) ∷ bodies
 
-body_keeps : (b : ℕ) → Keeps (before_body b)
-body_keeps b [] [] same = refl
-body_keeps b [] (other ∷ others) same = cc
-body_keeps b (pair ∷ pairs) [] same = cc
-body_keeps b (pair ∷ pairs) (other ∷ others) same = cc
+abbrev pub body_return : List (List ℕ) → List (List ℕ)
+body_return [] = [] ∷ []
+body_return ([] ∷ bodies) = [] ∷ bodies
+body_return ((b ∷ body) ∷ bodies) = [] ∷ (b ∷ body) ∷ bodies
 
-return_keeps : Keeps before_end
-return_keeps [] [] same = refl
-return_keeps [] (other ∷ others) same = cc
-return_keeps (pair ∷ pairs) [] same = cc
-return_keeps (pair ∷ pairs) (other ∷ others) same = at pair.body other.body pair.ending other.ending same
+-- the bodies with one more byte in front
+abbrev pub body_step : ℕ → List (List ℕ) → List (List ℕ)
+body_step b bodies =
+    if b == lf then [] ∷ bodies else (if b == cr then body_return bodies else body_byte b bodies)
+
+with_byte : (b : ℕ) (pairs : List Pair)
+    → bodies_of (before_body b pairs) ≡ body_byte b (bodies_of pairs)
+with_byte b [] = refl
+with_byte b (pair ∷ pairs) = refl
+
+with_return : (pairs : List Pair) → bodies_of (before_end pairs) ≡ body_return (bodies_of pairs)
+with_return [] = refl
+with_return (pair ∷ pairs) = at pair.body pair.ending
   where
-    at : (x y e f : List ℕ) → bodies_of (pair_of x e ∷ pairs) ≡ bodies_of (pair_of y f ∷ others)
-        → bodies_of (before_end (pair_of x e ∷ pairs)) ≡ bodies_of (before_end (pair_of y f ∷ others))
-    at [] [] e f same = same
-    at [] (c ∷ y) e f same = cc
-    at (b ∷ x) [] e f same = cc
-    at (b ∷ x) (c ∷ y) e f same = ap (λ bodies. [] ∷ bodies) same
+    at : (body ending : List ℕ)
+        → bodies_of (before_end (pair_of body ending ∷ pairs)) ≡ body_return (body ∷ bodies_of pairs)
+    at [] ending = refl
+    at (b ∷ body) ending = refl
 
-byte_keeps : (b : ℕ) → Keeps (before_byte b)
-byte_keeps b pairs others same = elim (byte_cases b) [
-  | inl feed ↦ rw feed (ap (λ bodies. [] ∷ bodies) same)
-  | inr (inl return) ↦ rw return (return_keeps pairs others same)
-  | inr (inr other) ↦ rw (at_other b pairs other, at_other b others other) (body_keeps b pairs others same)
+with_step : (b : ℕ) (pairs : List Pair)
+    → bodies_of (before_byte b pairs) ≡ body_step b (bodies_of pairs)
+with_step b pairs = elim (byte_cases b) [
+  | inl feed ↦ rw feed refl
+  | inr (inl return) ↦ rw return (with_return pairs)
+  | inr (inr other) ↦ rw (ne_eqb b lf other.1, ne_eqb b cr other.0) (with_byte b pairs)
 ]
+
+pub step : (b : ℕ) (text : List ℕ) → bodies_of (cut (b ∷ text)) ≡ body_step b (bodies_of (cut text))
+step b text = ap bodies_of (cut_cons b text) ∙ with_step b (cut text)
 
 -- a CR before an LF adds no body
 return_before_feed : (b : ℕ) (text : List ℕ) → b ≡ cr → slice_index text 0 ≡ lf
@@ -63,8 +72,7 @@ same_bodies (b ∷ text) = elim (cases_Bool (b == cr && slice_index text 0 == lf
       let (return, feed) = and_parts (b == cr) (slice_index text 0 == lf) pair in
       rw pair (same_bodies text
       ∙ sym (return_before_feed b text (eqb-true b cr return) (eqb-true (slice_index text 0) lf feed)))
-  | inr single ↦ rw (single, cut_cons b (feeds_alone text), cut_cons b text)
-      (byte_keeps b (cut (feeds_alone text)) (cut text) (same_bodies text))
+  | inr single ↦ rw (single, step b (feeds_alone text), step b text) (ap (body_step b) (same_bodies text))
 ]
 
 pub lines_by_bodies : (pairs : List Pair)

@@ -164,18 +164,18 @@ mark third b =
 
 pub ends_marked : (n : Bool) (third : ℕ) → third ≡ (if n then 0 else lf)
     → Ends n (λ b. top 7 (mark third b))
-ends_marked n third is b = told (b == cr) (b == lf) (b == third) ∙ rw is (by n)
+ends_marked n third is b = marked_by (b == cr) (b == lf) (b == third) ∙ rw is (by n)
   where
-    told : (x y z : Bool) → top 7 (bit_or (bit_or (cond x 255 0) (cond y 255 0)) (cond z 255 0))
+    marked_by : (x y z : Bool) → top 7 (bit_or (bit_or (cond x 255 0) (cond y 255 0)) (cond z 255 0))
         ≡ (x || y || z)
-    told true true true = refl
-    told true true false = refl
-    told true false true = refl
-    told true false false = refl
-    told false true true = refl
-    told false true false = refl
-    told false false true = refl
-    told false false false = refl
+    marked_by true true true = refl
+    marked_by true true false = refl
+    marked_by true false true = refl
+    marked_by true false false = refl
+    marked_by false true true = refl
+    marked_by false true false = refl
+    marked_by false false true = refl
+    marked_by false false false = refl
 
     by : (n : Bool) → is_byte3 cr lf (if n then 0 else lf) b
         ≡ (read_byte n b == lf || read_byte n b == cr)

@@ -9,7 +9,7 @@ use Rattle.std.proofs.lemmas.List.{append-nil, drop_more, get_or_at, length-appe
 use Rattle.std.proofs.lemmas.List.{take-append-drop}
 use Rattle.std.proofs.lemmas.List.Elements.{All-from_recursion, All-head, All-replicate, All-tail}
 use Rattle.std.proofs.lemmas.List.Elements.{recursion_from_All}
-use Rattle.texting_robots.specs.Cut.{IsBodyByte, IsCut, IsEnding, Pair, cr, joined, lf}
+use Rattle.texting_robots.specs.Cut.{IsBodyByte, IsCut, IsLineEnd, Pair, cr, joined, lf}
 use Rattle.texting_robots.specs.Steps.Cut.{before_body, before_byte, before_end, cut}
 
 abbrev pub pair_of : List ℕ → List ℕ → Pair
@@ -49,30 +49,30 @@ data EndsBy : List ℕ → List ℕ → List Pair → Type 0 where
       → EndsBy body (replicate (suc k) cr) later
   feed : {body : List ℕ} {later : List Pair} (k : ℕ) → EndsBy body (replicate k cr ++ lf ∷ []) later
 
-record Stands (pair : Pair) (later : List Pair) : Type 0 where
+record IsPairBefore (pair : Pair) (later : List Pair) : Type 0 where
   body : Each IsBodyByte pair.body
   ends : EndsBy pair.body pair.ending later
 
-abbrev AreStanding : List Pair → Type 0
-AreStanding [] = Unit {0}
-AreStanding (pair ∷ later) = Stands pair later × AreStanding later
+abbrev ArePairs : List Pair → Type 0
+ArePairs [] = Unit {0}
+ArePairs (pair ∷ later) = IsPairBefore pair later × ArePairs later
 
 -- ---- pairs that stand so are a cut
 
-stands_at : (pairs : List Pair) → AreStanding pairs
-    → (front back : List Pair) (pair : Pair) → pairs ≡ front ++ pair ∷ back → Stands pair back
-stands_at [] are [] back pair e = cc
-stands_at [] are (x ∷ front) back pair e = cc
-stands_at (first ∷ later) are [] back pair e =
+pair_at : (pairs : List Pair) → ArePairs pairs
+    → (front back : List Pair) (pair : Pair) → pairs ≡ front ++ pair ∷ back → IsPairBefore pair back
+pair_at [] are [] back pair e = cc
+pair_at [] are (x ∷ front) back pair e = cc
+pair_at (first ∷ later) are [] back pair e =
     let here : first ≡ pair = cc in
     let rest : later ≡ back = cc in
-    subst (λ p. Stands p back) here (subst (Stands first) rest are.0)
-stands_at (first ∷ later) are (x ∷ front) back pair e = stands_at later are.1 front back pair cc
+    subst (λ p. IsPairBefore p back) here (subst (IsPairBefore first) rest are.0)
+pair_at (first ∷ later) are (x ∷ front) back pair e = pair_at later are.1 front back pair cc
 
-is_ending : {body ending : List ℕ} {later : List Pair} → EndsBy body ending later → IsEnding ending
-is_ending nothing = (0, inl refl)
-is_ending (returns k begin) = (suc k, inl refl)
-is_ending (feed k) = (k, inr refl)
+is_line_end : {body ending : List ℕ} {later : List Pair} → EndsBy body ending later → IsLineEnd ending
+is_line_end nothing = (0, inl refl)
+is_line_end (returns k begin) = (suc k, inl refl)
+is_line_end (feed k) = (k, inr refl)
 
 is_last : {body ending : List ℕ} {later : List Pair} → EndsBy body ending later → ending ≡ []
     → (later ≡ []) × (body ≢ [])
@@ -87,23 +87,23 @@ goes_on (returns k begin) none = begin
 goes_on (feed k) none = absurd (none k 0 (simp (length-append, length-replicate) (omega arith))
     (get_or_at (replicate k cr) lf [] 0 k (length-replicate k cr)))
 
-standing_cut : (pairs : List Pair) → AreStanding pairs → IsCut pairs (joined pairs)
+standing_cut : (pairs : List Pair) → ArePairs pairs → IsCut pairs (joined pairs)
 standing_cut pairs are =
     let at = λ (k : ℕ) (d : Pair) (below : k < length pairs).
-    stands_at pairs are (take k pairs) (drop (k + 1) pairs) (get_or pairs k d)
+    pair_at pairs are (take k pairs) (drop (k + 1) pairs) (get_or pairs k d)
     (sym (take-append-drop k pairs) ∙ ap (λ t. take k pairs ++ t) (drop_more pairs k d below)) in
     record {
       whole = refl;
       bodies = λ k d below. All-from_recursion IsBodyByte (get_or pairs k d).body (at k d below).body;
-      endings = λ k d below. is_ending (at k d below).ends;
-      empty_ending = λ front back pair e. is_last (stands_at pairs are front back pair e).ends;
+      endings = λ k d below. is_line_end (at k d below).ends;
+      empty_ending = λ front back pair e. is_last (pair_at pairs are front back pair e).ends;
       open_ending =
-          λ front back pair next e. goes_on (stands_at pairs are front (next ∷ back) pair e).ends;
+          λ front back pair next e. goes_on (pair_at pairs are front (next ∷ back) pair e).ends;
     }
 
 -- ---- and the pairs of a cut stand so
 
-ends_by : (body ending : List ℕ) (later : List Pair) → IsEnding ending
+ends_by : (body ending : List ℕ) (later : List Pair) → IsLineEnd ending
     → (ending ≡ [] → (later ≡ []) × (body ≢ []))
     → ((next : Pair) (more : List Pair) → later ≡ next ∷ more → All (λ byte. byte ≢ lf) ending
     → next.body ≢ [])
@@ -115,20 +115,20 @@ ends_by body ending (next ∷ more) (suc k, inl e) last begin = rw e (returns k 
     (rw e (All-replicate (λ byte. byte ≢ lf) (suc k) cr (λ is. omega arith)))))
 ends_by body ending later (k, inr e) last begin = rw e (feed k)
 
-cut_stands : (pairs : List Pair) (text : List ℕ) → IsCut pairs text → AreStanding pairs
+cut_stands : (pairs : List Pair) (text : List ℕ) → IsCut pairs text → ArePairs pairs
 cut_stands [] text is = tt
 cut_stands (pair ∷ later) text is = (
   record {
     body = recursion_from_All IsBodyByte pair.body
         (All-head (λ p. All IsBodyByte p.body) pair later is.bodies);
-    ends = ends_by pair.body pair.ending later (All-head (λ p. IsEnding p.ending) pair later is.endings)
+    ends = ends_by pair.body pair.ending later (All-head (λ p. IsLineEnd p.ending) pair later is.endings)
         (is.empty_ending [] later pair refl)
         (λ next more e. is.open_ending [] more pair next (ap (λ l. pair ∷ l) e));
   },
   cut_stands later (joined later) (record {
     whole = refl;
     bodies = All-tail (λ p. All IsBodyByte p.body) pair later is.bodies;
-    endings = All-tail (λ p. IsEnding p.ending) pair later is.endings;
+    endings = All-tail (λ p. IsLineEnd p.ending) pair later is.endings;
     empty_ending = λ front back p e. is.empty_ending (pair ∷ front) back p (ap (λ l. pair ∷ l) e);
     open_ending =
         λ front back p next e. is.open_ending (pair ∷ front) back p next (ap (λ l. pair ∷ l) e);
@@ -139,9 +139,9 @@ cut_stands (pair ∷ later) text is = (
 
 -- these pairs stand, and are the others with one byte in front
 abbrev Adds : ℕ → List Pair → List Pair → Type 0
-Adds b pairs more = AreStanding more × (joined more ≡ b ∷ joined pairs)
+Adds b pairs more = ArePairs more × (joined more ≡ b ∷ joined pairs)
 
-return_adds : (pairs : List Pair) → AreStanding pairs → Adds cr pairs (before_end pairs)
+return_adds : (pairs : List Pair) → ArePairs pairs → Adds cr pairs (before_end pairs)
 return_adds [] are = ((record { body = tt; ends = returns 0 tt }, tt), refl)
 return_adds (pair ∷ later) are = at pair.body pair.ending are
   where
@@ -149,7 +149,7 @@ return_adds (pair ∷ later) are = at pair.body pair.ending are
     longer (returns k begin) = returns (suc k) begin
     longer (feed k) = feed (suc k)
 
-    at : (body ending : List ℕ) → AreStanding (pair_of body ending ∷ later)
+    at : (body ending : List ℕ) → ArePairs (pair_of body ending ∷ later)
         → Adds cr (pair_of body ending ∷ later) (before_end (pair_of body ending ∷ later))
     at [] ending are = ((record { body = tt; ends = longer are.0.ends }, are.1), refl)
     at (b ∷ body) ending are = ((record { body = tt; ends = returns 0 (λ e. cc) }, are), refl)
@@ -160,20 +160,20 @@ longer nothing = nothing
 longer (returns k begin) = returns k begin
 longer (feed k) = feed k
 
-body_adds : (b : ℕ) (pairs : List Pair) → IsBodyByte b → AreStanding pairs
+body_adds : (b : ℕ) (pairs : List Pair) → IsBodyByte b → ArePairs pairs
     → Adds b pairs (before_body b pairs)
 body_adds b [] other are = ((record { body = (other, tt); ends = nothing }, tt), refl)
 body_adds b (pair ∷ later) other are =
     ((record { body = (other, are.0.body); ends = longer are.0.ends }, are.1), refl)
 
-byte_adds : (b : ℕ) (pairs : List Pair) → AreStanding pairs → Adds b pairs (before_byte b pairs)
+byte_adds : (b : ℕ) (pairs : List Pair) → ArePairs pairs → Adds b pairs (before_byte b pairs)
 byte_adds b pairs are = elim (byte_cases b) [
   | inl is ↦ rw is ((record { body = tt; ends = feed 0 }, are), refl)
   | inr (inl return) ↦ rw return (return_adds pairs are)
   | inr (inr other) ↦ rw (at_other b pairs other) (body_adds b pairs other are)
 ]
 
-walked : (text : List ℕ) → AreStanding (cut text) × (joined (cut text) ≡ text)
+walked : (text : List ℕ) → ArePairs (cut text) × (joined (cut text) ≡ text)
 walked [] = rw cut_nil (tt, refl)
 walked (b ∷ text) =
     let (are, whole) = walked text in
@@ -228,7 +228,7 @@ pair_cut {body} text all (returns k begin) whole same =
     rw (sym same) (body_cut body _ all (returns_cut k text (rw same begin)))
 pair_cut {body} text all (feed k) whole same = rw (sym same) (body_cut body _ all (feed_cut k text))
 
-joined_cut : (pairs : List Pair) → AreStanding pairs → cut (joined pairs) ≡ pairs
+joined_cut : (pairs : List Pair) → ArePairs pairs → cut (joined pairs) ≡ pairs
 joined_cut [] are = cut_nil
 joined_cut (pair ∷ later) are = ap cut (append_assoc pair.body pair.ending (joined later))
     ∙ pair_cut (joined later) are.0.body are.0.ends refl (joined_cut later are.1)

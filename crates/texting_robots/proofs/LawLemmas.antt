@@ -19,7 +19,7 @@ use Rattle.texting_robots.specs.Pattern.{IsOverlong}
 use Rattle.texting_robots.specs.Verdict.{IsVerdict}
 use Rattle.texting_robots.specs.Steps.Group.{start_of, step}
 use Rattle.texting_robots.specs.Laws.{IsSameKind, Same, SameButSitemaps}
-use Rattle.texting_robots.proofs.CapturedLemmas.{StandsAt, at_front, delays_are, given_captured}
+use Rattle.texting_robots.proofs.CapturedLemmas.{IsWalkAt, at_front, delays_are, given_captured}
 use Rattle.texting_robots.proofs.CapturedLemmas.{is_captured_decides}
 use Rattle.texting_robots.proofs.RulesLemmas.{before_agent, before_agents}
 use Rattle.texting_robots.proofs.CapturedLemmas.{only_agents, rules_are, stands_first, stands_next}
@@ -228,8 +228,8 @@ walked name walk (line ∷ lines) = walked name (step name walk line) lines
 
 stands_walked : (name : List ℕ) (all : List LineValue) (walk : Walk) (place : ℕ)
     (front back : List LineValue)
-    → StandsAt name all place walk → drop place all ≡ front ++ back
-    → StandsAt name all (place + length front) (walked name walk front)
+    → IsWalkAt name all place walk → drop place all ≡ front ++ back
+    → IsWalkAt name all (place + length front) (walked name walk front)
 stands_walked name all walk place [] back stands left = rw (add-zero place) stands
 stands_walked name all walk place (line ∷ front) back stands left =
     let (at, next) = at_front all place line (front ++ back) left in
@@ -268,7 +268,7 @@ uncaptured_reaches_nothing agent front back line other kind uncaptured =
     let alike = same_kind line other kind in
     let stands = stands_walked name lines (start_of lines) 0 front (line ∷ back)
     (stands_first name lines) refl in
-    let here : StandsAt name lines (length front) (walked name (start_of lines) front) =
+    let here : IsWalkAt name lines (length front) (walked name (start_of lines) front) =
     rw (zero-add (length front)) at stands in
     let free =
     false_from_ne_true _ (λ h. uncaptured ((is_captured_decides _ _ _).0 (here.captured ∙ h))) in (

@@ -14,7 +14,8 @@ use Rattle.texting_robots.specs.Steps.Statement.{kind_by, skip_blanks, statement
 use Rattle.texting_robots.specs.Group.{is_agent}
 use Rattle.texting_robots.specs.Line.{AreLinesOf, HoldRangesOf, HoldsRangeOf}
 use Rattle.texting_robots.specs.Line.{IsLineOf, IsLineWith, IsRangeOf, LineValue, Raw}
-use Rattle.texting_robots.specs.Line.{CrawlDelay, Sitemap, UserAgent, delay_in, is_sitemap, without, without_front}
+use Rattle.texting_robots.specs.Line.{CrawlDelay, Sitemap, UserAgent, delay_in, is_sitemap}
+use Rattle.texting_robots.specs.Line.{without, without_front}
 use Rattle.texting_robots.specs.Computed.{parsed}
 use Rattle.texting_robots.specs.Steps.Line.{delay_or_raw, line_by, line_of, line_with}
 use Rattle.texting_robots.specs.Steps.Delay.{delay_of}

@@ -2,17 +2,20 @@
 use Rattle.std.proofs.Common.{◌≡◌, ◌⊎◌, inl, inr, ℕ, zero, suc, ◌+◌, ◌<◌, ◌≤◌}
 use Rattle.std.proofs.Common.{◌↔◌, Bool, true, false, not}
 use Rattle.std.proofs.Common.{◌&&◌, ◌||◌, List, [], ◌∷◌, Option, Some, None, slice_get}
-use Rattle.std.proofs.Common.{length, cond}
+use Rattle.std.proofs.Common.{◌-◌, length, length-drop, cond, slice_index_or}
 use Rattle.std.proofs.Common.{drop, take, map, ap, sym, refl, ◌∙◌, arith}
 use Rattle.std.specs.Bool.{Decides}
-use Rattle.std.specs.List.{enumerate_from, list_any, position_or_len}
+use Rattle.std.specs.List.{enumerate_from, list_any}
 use Rattle.std.proofs.lemmas.Bool.{cases_Bool, cases_lt, cases_order, false≢true, or_left, or_right}
 use Rattle.std.proofs.lemmas.Bool.Decides.{Decides-like}
+use Rattle.std.proofs.lemmas.List.Sums.{fails_before_first, passes_at_first}
+use Rattle.std.proofs.lemmas.List.{get_or-drop}
+use Rattle.std.proofs.lemmas.Option.{slice_get-get_or}
 use Rattle.std.proofs.Math.Nat.{add-zero, zero-add}
 use Rattle.texting_robots.specs.declared.marks.Standing.{Standing}
 use Rattle.texting_robots.specs.declared.marks.Standing.TheVariants.{Own, Other, Outside}
 use Rattle.texting_robots.specs.Group.{IsCaptured, is_agent, is_agent_named, is_group, passes_at}
-use Rattle.texting_robots.specs.Line.{LineValue, UserAgent}
+use Rattle.texting_robots.specs.Line.{LineValue, Raw, UserAgent}
 use Rattle.texting_robots.specs.Marks.{AreMarksOf, AreOneRun, IsInGroup, IsInOwnGroup, Mark, StandsAs}
 use Rattle.texting_robots.specs.Marks.{mark_at, marks_of, next_group, standing_of}
 use Rattle.texting_robots.specs.Steps.Captured.{is_captured}
@@ -74,57 +77,28 @@ pub record IsNext (lines : List LineValue) (place next : ℕ) : Type 0 where
   pub none : (k : ℕ) → place ≤ k → k < next → ¬ (passes_at is_group lines k ≡ true)
   pub stop : (passes_at is_group lines next ≡ true) ⊎ (length lines ≤ next)
 
-first_is_next : (lines : List LineValue) → IsNext lines 0 (position_or_len is_group lines)
-first_is_next [] = record {
-  from = omega arith;
-  none = λ k least less. absurd (omega arith);
-  stop = inr (omega arith);
-}
-first_is_next (line ∷ lines) = elim (cases_Bool (is_group line)) [
-  | inl is ↦ rw is (record {
-    from = omega arith;
-    none = λ k least less. absurd (omega arith);
-    stop = inl is;
-  })
-  | inr isnt ↦
-      let more : 1 + position_or_len is_group lines ≡ suc (position_or_len is_group lines) = omega arith in
-      rw (isnt, more) (later isnt (first_is_next lines))
-]
-  where
-    none : {n : ℕ} → is_group line ≡ false → IsNext lines 0 n → (k : ℕ) → 0 ≤ k → k < suc n
-        → ¬ (passes_at is_group (line ∷ lines) k ≡ true)
-    none isnt is zero least less = λ group. false≢true (sym isnt ∙ group)
-    none isnt is (suc k) least less = is.none k (omega arith) (omega arith)
-
-    later : {n : ℕ} → is_group line ≡ false → IsNext lines 0 n → IsNext (line ∷ lines) 0 (suc n)
-    later isnt is = record {
-      from = omega arith;
-      none = none isnt is;
-      stop = elim is.stop [ inl group ↦ inl group | inr past ↦ inr (omega arith) ];
-    }
-
 is_next : (lines : List LineValue) (place : ℕ) → IsNext lines place (next_group lines place)
-is_next lines zero = rw zero-add (first_is_next lines)
-is_next [] (suc n) = record {
+is_next lines place = record {
   from = omega arith;
-  none = λ k least less. absurd (omega arith);
-  stop = inr (omega arith);
+  none = λ k least less group. false≢true
+      (sym (fails_before_first is_group left (k - place) (Raw []) (omega arith))
+      ∙ ap is_group (get_or-drop place lines (k - place) (Raw []))
+      ∙ ap (λ i. is_group (slice_index_or lines i (Raw []))) (omega arith)
+      ∙ sym (at k (within is_group lines k group))
+      ∙ group);
+  stop = elim (cases_lt (next_group lines place) (length lines)) [
+    | inl less ↦ inl (at _ less ∙ sym (ap is_group (get_or-drop place lines _ (Raw [])))
+        ∙ passes_at_first is_group left (Raw []) (omega (arith, length-drop place lines)))
+    | inr past ↦ inr past
+  ];
 }
-is_next (line ∷ lines) (suc n) =
-    let same : next_group (line ∷ lines) (suc n) ≡ suc (next_group lines n) = omega arith in
-    rw same (behind (is_next lines n))
   where
-    none : {m : ℕ} → IsNext lines n m → (k : ℕ) → suc n ≤ k → k < suc m
-        → ¬ (passes_at is_group (line ∷ lines) k ≡ true)
-    none is zero least less = absurd (omega arith)
-    none is (suc k) least less = is.none k (omega arith) (omega arith)
+    left : List LineValue
+    left = drop place lines
 
-    behind : {m : ℕ} → IsNext lines n m → IsNext (line ∷ lines) (suc n) (suc m)
-    behind is = record {
-      from = let from = is.from in omega arith;
-      none = none is;
-      stop = elim is.stop [ inl group ↦ inl group | inr past ↦ inr (omega arith) ];
-    }
+    at : (k : ℕ) → k < length lines
+        → passes_at is_group lines k ≡ is_group (slice_index_or lines k (Raw []))
+    at k less = rw (slice_get-get_or lines k (Raw []) less) refl
 
 -- ---- user-agent lines
 

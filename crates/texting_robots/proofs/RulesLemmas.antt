@@ -1,5 +1,5 @@
 -- What the code's loops keep.
-use Rattle.std.proofs.Common.{◌≡◌, ℕ, Bool, true, false, cond, List, [], ◌∷◌, ◌++◌, Option, Some}
+use Rattle.std.proofs.Common.{◌≡◌, ℕ, Bool, true, false, not, cond, List, [], ◌∷◌, ◌++◌, Option, Some}
 use Rattle.std.proofs.Common.{None, length, slice_get, append_assoc, length-append}
 use Rattle.std.proofs.Common.{subst, sym, refl, ap, ◌∙◌, arith, suc, take, ◌+◌, inl, inr}
 use Rattle.std.specs.List.{All, Any, before_first, cons_option, filter_map, last_or, list_any}
@@ -8,6 +8,7 @@ use Rattle.std.specs.Str.{IsUtf8, is_utf8}
 use Rattle.std.proofs.lemmas.Bool.{cases_Bool, false_from_ne_true, false≢true}
 use Rattle.std.proofs.lemmas.List.{append-nil, get_or-map, get_or_at, length-map}
 use Rattle.std.proofs.lemmas.List.Elements.{All-push}
+use Rattle.std.proofs.lemmas.List.Sums.{take_while-cons}
 use Rattle.std.proofs.lemmas.Str.{IsUtf8-from_is_utf8, is_utf8-from_IsUtf8}
 use Rattle.texting_robots.specs.declared.error.Error.{Error}
 use Rattle.texting_robots.specs.declared.error.Error.TheVariants as mine
@@ -58,15 +59,11 @@ abbrev pub before_agent : List LineValue → List LineValue
 before_agent [] = []
 before_agent (line ∷ lines) = cond (is_agent line) [] (line ∷ before_agent lines)
 
-take_next : (n : ℕ) (line : LineValue) (lines : List LineValue)
-    → take (1 + n) (line ∷ lines) ≡ line ∷ take n lines
-take_next n line lines = let more : 1 + n ≡ suc n = omega arith in rw more refl
-
 pub before_agents : (lines : List LineValue) → before_first is_agent lines ≡ before_agent lines
 before_agents [] = refl
-before_agents (line ∷ lines) = elim (cases_Bool (is_agent line)) [
+before_agents (line ∷ lines) = take_while-cons (λ l. not (is_agent l)) line lines ∙ elim (cases_Bool (is_agent line)) [
   | inl agent ↦ rw agent refl
-  | inr other ↦ rw (other, take_next) (ap (λ t. line ∷ t) (before_agents lines))
+  | inr other ↦ rw other (ap (λ t. line ∷ t) (before_agents lines))
 ]
 
 -- the last delay before the first agent line of the lines that are left
@@ -133,10 +130,6 @@ pub none_unplaced : (P : Rule → Type 0) (rules : List PlacedRule)
 none_unplaced P rules none (k, rule, below, at, is) =
     let (placed, (n, less, here), same) = placed_of rules rule (k, below, at) in
     none n placed less (subst P (sym (rw here same)) is)
-
-pub no_rules : (rules : List PlacedRule) → unplaced rules ≡ [] → rules ≡ []
-no_rules [] none = refl
-no_rules (placed ∷ rules) none = absurd (let k : placed.rule ∷ unplaced rules ≡ [] = none in cc)
 
 -- ---- the rule for which a file is refused
 

@@ -15,16 +15,16 @@ use Rattle.texting_robots.specs.Marks.{is_own, mark_at, marks_of}
 use Rattle.texting_robots.specs.Computed.{placed_in, placed_rules, rule_in}
 use Rattle.texting_robots.specs.Rules.{Rule}
 use Rattle.texting_robots.specs.Steps.Captured.{is_captured}
-use Rattle.texting_robots.specs.Steps.Group.{captured_ahead, from_captured, if_captured, marks_from, own_rule_at}
-use Rattle.texting_robots.specs.Steps.Group.{placed, standing_by, start_of, step}
-use Rattle.texting_robots.proofs.CapturedLemmas.{StandsAt, at_front, captured_walked, cond_same}
+use Rattle.texting_robots.specs.Steps.Group.{captured_ahead, from_captured, if_captured, marks_from}
+use Rattle.texting_robots.specs.Steps.Group.{own_rule_at, placed, standing_by, start_of, step}
+use Rattle.texting_robots.proofs.CapturedLemmas.{IsWalkAt, at_front, captured_walked, cond_same}
 use Rattle.texting_robots.proofs.CapturedLemmas.{stands_first, stands_next}
 
 -- ---- the marks of the definition
 
 -- what the walk finds ahead is what the test says of the next group line's place, or of the end
 ahead_is : (name : List ℕ) (all : List LineValue) (walk : Walk) (place : ℕ) (lines : List LineValue)
-    → StandsAt name all place walk → drop place all ≡ lines
+    → IsWalkAt name all place walk → drop place all ≡ lines
     → captured_ahead name walk lines ≡ is_captured name all (place + position_or_len is_group lines)
 ahead_is name all walk place [] stands left = rw add-zero (sym stands.captured)
 ahead_is name all walk place (line ∷ lines) stands left = elim (cases_Bool (is_group line)) [
@@ -64,7 +64,7 @@ begun_next (x ∷ all) (suc n) line at =
     rw add-one (rw or_assoc (ap (λ b. is_agent x || b) (rw add-one at (begun_next all n line at))))
 
 marks_left : (name : List ℕ) (all : List LineValue) (walk : Walk) (place : ℕ) (lines : List LineValue)
-    → StandsAt name all place walk → drop place all ≡ lines
+    → IsWalkAt name all place walk → drop place all ≡ lines
     → map (mark_at name all) (enumerate_from place lines)
     ≡ marks_from name walk (list_any is_agent (take place all)) place lines
 marks_left name all walk place [] stands left = refl

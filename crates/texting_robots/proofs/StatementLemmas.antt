@@ -23,7 +23,7 @@ use Rattle.texting_robots.specs.declared.parser.statement.Kind.TheVariants.{User
 use Rattle.texting_robots.specs.declared.parser.statement.Kind.TheVariants.{Sitemap, CrawlDelay}
 use Rattle.texting_robots.specs.Statement.{spellings, IsBlank}
 use Rattle.texting_robots.specs.Statement.{BeginsPlain, IsBehindBlanks, IsBehindColon, IsStatement}
-use Rattle.texting_robots.specs.Steps.Statement.{space, tab, colon, hash, IsComment}
+use Rattle.texting_robots.specs.Steps.Statement.{space, tab, colon, hash, IsOptionalComment}
 use Rattle.texting_robots.specs.Steps.Statement.{skip_blanks, kind_with, kind_by, begins, after_any}
 use Rattle.texting_robots.specs.Steps.Statement.{after_blanks, after_separator, tail_of, tail_as}
 use Rattle.texting_robots.specs.Steps.Statement.{region_of, trimmed, value_of, statement_of}
@@ -200,7 +200,7 @@ region_step b tail = take_while-cons (λ byte. not (byte == hash)) b tail
 -- the tail is a region with no hash and a comment
 abbrev Parted : List ℕ → List ℕ → Type 0
 Parted region tail = (comment : List ℕ) × (tail ≡ region ++ comment)
-    × Each (λ byte. byte ≢ hash) region × IsComment comment
+    × Each (λ byte. byte ≢ hash) region × IsOptionalComment comment
 
 parted : (tail : List ℕ) → Parted (region_of tail) tail
 parted [] = ([], refl, tt, inl refl)
@@ -211,8 +211,8 @@ parted (b ∷ tail) = rw (region_step b tail) (elim (cases_Bool (b == hash)) [
       rw isnt (comment, ap (λ t. b ∷ t) whole, (eqb-false b hash isnt, plain), is)
 ])
 
-pub region_is : (region comment : List ℕ) → Each (λ byte. byte ≢ hash) region → IsComment comment
-    → region_of (region ++ comment) ≡ region
+pub region_is : (region comment : List ℕ) → Each (λ byte. byte ≢ hash) region
+    → IsOptionalComment comment → region_of (region ++ comment) ≡ region
 region_is [] comment plain (inl empty) = ap region_of empty
 region_is [] comment plain (inr (text, is)) = ap region_of is ∙ region_step hash text
 region_is (b ∷ region) comment plain is =

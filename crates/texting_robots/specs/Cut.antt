@@ -18,8 +18,8 @@ abbrev pub IsBodyByte : ℕ → Type 0
 IsBodyByte byte = (byte ≢ cr) × (byte ≢ lf)
 
 -- some CRs or none, and then at most one LF
-abbrev pub IsEnding : List ℕ → Type 0
-IsEnding bytes = (k : ℕ) × ((bytes ≡ replicate k cr) ⊎ (bytes ≡ replicate k cr ++ lf ∷ []))
+abbrev pub IsLineEnd : List ℕ → Type 0
+IsLineEnd bytes = (k : ℕ) × ((bytes ≡ replicate k cr) ⊎ (bytes ≡ replicate k cr ++ lf ∷ []))
 
 -- the bytes of the pairs, in order
 abbrev pub joined : List Pair → List ℕ
@@ -32,7 +32,7 @@ joined pairs = flat_map (λ pair. pair.body ++ pair.ending) pairs
 pub record IsCut (pairs : List Pair) (text : List ℕ) : Type 0 where
   pub whole : joined pairs ≡ text
   pub bodies : All (λ pair. All IsBodyByte pair.body) pairs
-  pub endings : All (λ pair. IsEnding pair.ending) pairs
+  pub endings : All (λ pair. IsLineEnd pair.ending) pairs
   pub empty_ending : (front back : List Pair) (pair : Pair) → pairs ≡ front ++ pair ∷ back
       → pair.ending ≡ [] → (back ≡ []) × (pair.body ≢ [])
   pub open_ending : (front back : List Pair) (pair next : Pair) → pairs ≡ front ++ pair ∷ next ∷ back

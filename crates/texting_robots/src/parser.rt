@@ -162,6 +162,7 @@ impl<'a> Iterator for UnreadLines<'a> {
 
     ghost remaining = { item_count (λ s. s) };
 
+    #[inline(always)]
     fn next(&mut self) -> Option<Unread<'a>> {
         let rest = self.rest;
         if rest.is_empty() {

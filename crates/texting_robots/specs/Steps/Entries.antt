@@ -51,12 +51,12 @@ rules_in all = map (placed_at (string_bytes all.text)) all.entries.items
 abbrev pub rank_in : Entry → ℕ
 rank_in entry = entry.rank
 
-abbrev pub line_of : Entry → ℕ
-line_of entry = entry.line
+abbrev pub line_in : Entry → ℕ
+line_in entry = entry.line
 
 -- which of two is asked first
 abbrev pub entry_cmp : Entry → Entry → Ordering
-entry_cmp = then_cmp (flip_args (on rank_in nat_cmp)) (on line_of nat_cmp)
+entry_cmp = then_cmp (flip_args (on rank_in nat_cmp)) (on line_in nat_cmp)
 
 -- the one that ranks higher goes first, of two that rank alike the one of the earlier line
 pub record GoesBefore (first second : Entry) : Type 0 where

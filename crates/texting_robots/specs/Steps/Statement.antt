@@ -24,8 +24,8 @@ abbrev pub hash : ℕ
 hash = 35
 
 -- nothing, or a hash and anything
-abbrev pub IsComment : List ℕ → Type 0
-IsComment bytes = (bytes ≡ []) ⊎ ((text : List ℕ) × (bytes ≡ hash ∷ text))
+abbrev pub IsOptionalComment : List ℕ → Type 0
+IsOptionalComment bytes = (bytes ≡ []) ⊎ ((text : List ℕ) × (bytes ≡ hash ∷ text))
 
 -- the text from its first byte that is no blank on
 abbrev pub skip_blanks : List ℕ → List ℕ

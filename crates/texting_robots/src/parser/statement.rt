@@ -56,6 +56,7 @@ pub(crate) fn skip_blanks<'a>(text: &'a [u8]) -> &'a [u8]
 }
 
 /// The kind that a key at the front of the text has, if one stands there. The first letter tells the kinds apart.
+#[inline(always)]
 pub(crate) fn kind_by(text: &[u8]) -> Option<Kind>
     ensures { result ≡ kind_by text.now }
 {

@@ -24,7 +24,8 @@ invariant-loop-place l =
       rules : rules_in l.reading.rules ++ from_captured placed_in name walk place left
           ≡ placed_rules l.agent lines;
       sitemaps : map string_bytes l.reading.sitemaps.items ++ sitemaps_in left ≡ sitemaps_in lines;
-      delay : option_or l.reading.delay (slice_get (from_captured (λ p. delay_in p.1) name walk place left) 0)
+      delay : option_or l.reading.delay
+          (slice_get (from_captured (λ p. delay_in p.1) name walk place left) 0)
           ≡ slice_get (captured_delays l.agent lines) 0;
       accepted : All (λ (placed : PlacedRule). IsOverlong placed.rule.0 → ⊥) (rules_in l.reading.rules);
     }

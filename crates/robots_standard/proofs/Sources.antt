@@ -1,4 +1,4 @@
--- What a body tells: the line that it is read as, and the value as it is written.
+-- Source lines: the line that a body is read as, with the value as it is written.
 use Rattle.std.proofs.Common.{◌≡◌, ◌≢◌, ℕ, ◌<◌, Bool, false, true, not}
 use Rattle.std.proofs.Common.{◌==◌, ◌||◌, if◌then◌else◌, List, [], ◌∷◌}
 use Rattle.std.proofs.Common.{◌++◌, filter, refl, ap, ◌∙◌, append-nil, inl, inr, arith}
@@ -7,7 +7,7 @@ use Rattle.std.proofs.lemmas.Bool.{cond-false, cond-true, ne_eqb}
 use Rattle.std.proofs.lemmas.List.Elements.{filter-append}
 use Rattle.texting_robots.specs.Line.{LineValue, UserAgent, Allow, Disallow, is_raw, is_sitemap}
 use Rattle.texting_robots.specs.Statement.{IsBlank}
-use Rattle.texting_robots.specs.Steps.Statement.{IsComment, colon, hash, space, tab}
+use Rattle.texting_robots.specs.Steps.Statement.{IsOptionalComment, colon, hash, space, tab}
 use Rattle.texting_robots.specs.Steps.Line.{line_of}
 use Rattle.texting_robots.specs.Steps.Statement.{region_of}
 use Rattle.robots_standard.specs.Rfc9309 as rfc
@@ -35,7 +35,8 @@ behind_front (b ∷ front) tail all = cond-false _ _ _ (ne_eqb b colon all.0)
 
 pub written_is : (front region comment : List ℕ) → Each (λ b. b ≢ colon) front
     → Each (λ b. b ≢ hash) region
-    → IsComment comment → written (front ++ colon ∷ (region ++ comment)) ≡ filter no_blank region
+    → IsOptionalComment comment
+    → written (front ++ colon ∷ (region ++ comment)) ≡ filter no_blank region
 unfolding written
 written_is front region comment no_colon no_hash is =
     ap (λ t. filter no_blank (region_of t)) (behind_front front (region ++ comment) no_colon)
@@ -66,25 +67,25 @@ between_gone gap value behind before after =
     ∙ ap (λ t. filter no_blank value ++ t) (blanks_gone behind after)
     ∙ append-nil (filter no_blank value)
 
--- ---- what is told
+-- ---- source lines
 
-abbrev pub Told : Type 0
-Told = LineValue × List ℕ
+abbrev pub Source : Type 0
+Source = LineValue × List ℕ
 
-abbrev pub told_of : List ℕ → Told
-told_of body = (line_of body, written body)
+abbrev pub source_of : List ℕ → Source
+source_of body = (line_of body, written body)
 
--- a raw line tells nothing
-abbrev pub matters : Told → Bool
-matters told = not (is_raw told.0)
+-- any line but a raw one
+abbrev pub is_not_raw : Source → Bool
+is_not_raw source = not (is_raw source.0)
 
--- a sitemap plays no part in groups
-abbrev pub in_groups : Told → Bool
-in_groups told = not (is_sitemap told.0)
+-- any line but a sitemap, which counts in no group
+abbrev pub in_groups : Source → Bool
+in_groups source = not (is_sitemap source.0)
 
--- what a product token tells
-abbrev pub token_told : List ℕ → Told
-token_told token = (UserAgent token, token)
+-- the source line of a product token
+abbrev pub token_source : List ℕ → Source
+token_source token = (UserAgent token, token)
 
 -- the member of an Allow: with nothing written, and yet a value, it was an empty Disallow
 abbrev pub allowed_in : List ℕ → List ℕ → rfc.Member
@@ -92,13 +93,13 @@ allowed_in (b ∷ pattern) value = rfc.Allow (b ∷ pattern)
 allowed_in [] [] = rfc.Allow []
 allowed_in [] (b ∷ value) = rfc.Disallow []
 
--- the member that is told
+-- the member that a source line spells
 abbrev pub member_in : LineValue → List ℕ → rfc.Member
 member_in (Allow value) pattern = allowed_in pattern value
 member_in (Disallow value) pattern = rfc.Disallow pattern
 member_in _ number = rfc.Delay number
 
--- this member is told
-pub record IsToldFor (member : rfc.Member) (told : Told) : Type 0 where
-  pub line : IsLineFor member told.0
-  pub spelled : member_in told.0 told.1 ≡ member
+-- the source line is this member's
+pub record IsSourceOf (member : rfc.Member) (source : Source) : Type 0 where
+  pub line : IsLineFor member source.0
+  pub spelled : member_in source.0 source.1 ≡ member
