@@ -84,7 +84,8 @@ impl Robot {
 
     /// The text that rules are matched with: of a URL its path, query and fragment, as the crate `url` writes them.
     ///
-    /// The empty text gives `/`. What is no URL, as a path by itself, is escaped as rules are.
+    /// The empty text gives `/`. What is no URL, as a path by itself, is escaped as rules are, and so matched as it stands: a text with
+    /// no scheme and no slash in front, as `example.com/a`, mostly matches no rule, and is allowed.
     ///
     /// # Errors
     ///
@@ -96,7 +97,8 @@ impl Robot {
         Ok(prepare(alloc, url)?.into_owned(alloc)?)
     }
 
-    /// Whether the crawler may fetch a URL, or a path by itself. A path of which nothing is escaped takes no memory, nor does a
+    /// Whether the crawler may fetch a URL, or a path by itself; what is neither is matched as it stands, as [`Robot::prepare_url`]
+    /// says, and so mostly allowed. A path of which nothing is escaped takes no memory, nor does a
     /// whole URL of `http` or `https` with a host that is a name, with no user, and of which `url` would change nothing but put a
     /// missing slash behind the host.
     ///
