@@ -1,7 +1,7 @@
 -- What the code's loops keep.
 use Rattle.std.proofs.Common.{◌≡◌, ℕ, Bool, true, false, not, cond, List, [], ◌∷◌, ◌++◌, Option, Some}
 use Rattle.std.proofs.Common.{None, length, slice_get, append_assoc, length-append}
-use Rattle.std.proofs.Common.{subst, sym, refl, ap, ◌∙◌, arith, suc, take, ◌+◌, inl, inr}
+use Rattle.std.proofs.Common.{subst, sym, refl, ap, ◌∙◌, arith, inl, inr}
 use Rattle.std.specs.List.{All, Any, before_first, cons_option, filter_map, last_or, list_any}
 use Rattle.std.specs.Option.{option_to_list, option_or, IfSome, IsSomeAnd}
 use Rattle.std.specs.Str.{IsUtf8, is_utf8}

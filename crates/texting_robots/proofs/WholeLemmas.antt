@@ -3,8 +3,13 @@ use Rattle.std.proofs.Common.{◌≡◌, ℕ, ◌<◌, ◌≤◌, Bool, true, fa
 use Rattle.std.proofs.Common.{List, [], ◌∷◌, ◌++◌, length, get_or, drop, drop_at, take_at, All, sym}
 use Rattle.std.proofs.Common.{refl, ap, ◌∙◌, ◌≢◌, subst, ⊎_elim, inl, inr, arith, append_assoc}
 use Rattle.std.proofs.Common.{take-append-drop, None, Some, decimal, cond, take, ◌+◌, Option, codes}
-use Rattle.std.proofs.Common.{nat_lt, option_map, slice_index}
-use Rattle.std.specs.{Char.is_ascii_lowercase, Char.is_ascii_uppercase, Int.IsInRange, List.prefix_len}
+use Rattle.std.proofs.Common.{◌^◌, nat_lt, option_map, slice_index, suc, zero}
+use Rattle.std.specs.{Char.is_ascii_digit, Char.is_ascii_lowercase, Char.is_ascii_uppercase}
+use Rattle.std.specs.{Int.IsInRange, List.prefix_len}
+use Rattle.std.specs.Str.Parse.{IsNumeral, digits_value, without_leading_plus}
+use Rattle.std.proofs.lemmas.Fmt.{decimal-digits_value, decimal_digit, first_decimal}
+use Rattle.std.proofs.lemmas.Str.Parse.{numerals_by_value, tells_digits}
+use Rattle.std.proofs.lemmas.Bool.{and_parts, Decides.nat_tests}
 use Rattle.url.proofs.{HostRoundTrip.All-decimal, PathLemmas.push_valid, PathLemmas.rooted}
 use Rattle.std.proofs.lemmas.Bool.{agree_below, agree_below_at, cases_lt, false≢true, le-ltb, cond-true}
 use Rattle.std.proofs.lemmas.Bool.{cond-false, ne_eqb, eq-eqb}
@@ -19,7 +24,7 @@ use Rattle.url.specs.{Scheme.is_slash, Input.rsplit_once, Path.IsSegment, Path.d
 use Rattle.url.proofs.InputLemmas.{Passes, StopsAt, All-take-prefix_len, prefix_len_at}
 use Rattle.texting_robots.specs.{declared.whole.TheConstants.STANDS, Prepared.marked}
 use Rattle.texting_robots.specs.Plain.{EndsSite, IsAuthority, IsName, IsPath, IsPort}
-use Rattle.texting_robots.specs.Steps.Whole.{EndsPath, IsOther, Leaves, after, front_of, stands}
+use Rattle.texting_robots.specs.Steps.Whole.{EndsPath, IsOther, Leaves, after, begins_plainly, front_of, stands}
 
 -- ---- bytes that stand
 
@@ -170,6 +175,39 @@ unfolding stands
 number_stands b digit =
     let test = agree_below_at (λ x. nat_lt x 48 || stands 16 x) (λ x. true) 58 b refl (omega arith) in
     rw (le-ltb b 48 (omega arith)) at test
+
+plain_first : (digits : List ℕ) → begins_plainly digits ≡ true
+    → (is_ascii_digit (get_or digits 0 0) ≡ true) × (get_or digits 0 0 ≡ 48 → length digits ≡ 1)
+plain_first [] plain = absurd (false≢true plain)
+plain_first (b ∷ []) plain = (plain, λ zero. refl)
+plain_first (b ∷ d ∷ digits) plain =
+    let both = and_parts (is_ascii_digit b) (not (b == 48)) plain in
+    (both.0, λ zero. absurd (false≢true (rw zero at both.1)))
+
+-- digits that begin plainly are what their number is written as
+pub decimal_read : (digits : List ℕ) (port : ℕ) → begins_plainly digits ≡ true
+    → (IsNumeral 10 (without_leading_plus digits)
+    × (digits_value 10 (without_leading_plus digits) < 2 ^ 16))
+    × (port ≡ digits_value 10 (without_leading_plus digits)) → digits ≡ decimal port
+decimal_read digits port plain parses =
+    let first = plain_first digits plain in
+    let no_plus : (get_or digits 0 0 == 43) ≡ false = let digit = first.0 in grind (arith, nat_tests) in
+    let same : without_leading_plus digits ≡ digits = rw no_plus refl in
+    let read = rw same at parses in
+    sym (decimal-digits_value (numerals_by_value _ tells_digits) digits read.0.0.1 read.0.0.0 first.1
+    (omega (arith, read.0.1))) ∙ ap decimal (sym read.1)
+
+pub decimal_plain : (port : ℕ) → port < 2 ^ 16 → begins_plainly (decimal port) ≡ true
+decimal_plain zero small = rw (decimal_digit 0 (omega arith)) refl
+decimal_plain (suc n) small =
+    by (decimal (suc n)) (All-decimal (suc n) (omega arith))
+    (first_decimal (suc n) (omega arith) (omega arith))
+  where
+    by : (digits : List ℕ) → All (IsInRange 48 57) digits → 48 < get_or digits 0 0
+        → begins_plainly digits ≡ true
+    by [] range above = absurd (omega arith)
+    by (b ∷ []) range above = let first = range 0 0 (omega arith) in grind (arith, nat_tests)
+    by (b ∷ d ∷ digits) range above = let first = range 0 0 (omega arith) in grind (arith, nat_tests)
 
 -- what is written as a port is read as one
 pub port_left : (own : ℕ) (text rest : List ℕ) → get_or text 0 0 ≡ 58 → EndsSite rest

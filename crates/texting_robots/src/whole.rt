@@ -6,10 +6,8 @@ ghost use Rattle.std.specs.List.{prefix_len};
 ghost use Rattle.url.specs.{Input.rsplit_once, Path.dot_count, Path.dot_len};
 ghost use Rattle.texting_robots.specs.Plain.{EndsSite, IsAuthority, IsPath, IsPlainUrl, IsPort, IsSite, IsTarget};
 ghost use Rattle.texting_robots.specs.Prepared.{prepared};
-ghost use Rattle.texting_robots.specs.Steps.Whole.{after, after_marked, front_of, stands};
+ghost use Rattle.texting_robots.specs.Steps.Whole.{after, after_marked, begins_plainly, front_of, stands};
 ghost use Rattle.texting_robots.specs.Steps.Whole.{EndsPath, IsOther, Leaves};
-
-use itoa::Buffer;
 
 /// Where each byte stands as it is, by bits: in a name, a segment of a path, a query, a fragment and a number.
 const STANDS: [u8; 256] = [
@@ -95,6 +93,16 @@ fn begins_with_letter(text: &[u8]) -> bool
     }
 }
 
+/// Whether the text begins as a number does that has no sign and no zero in front.
+fn begins_plainly(digits: &[u8]) -> bool
+    ensures { result ≡ begins_plainly digits.now }
+{
+    match digits {
+        [b'0'] | [b'1'..=b'9', ..] => true,
+        _ => false,
+    }
+}
+
 /// Whether these are the digits of a port that isn't the scheme's own, as a port is written: with no zero in front.
 fn is_port(own: u16, digits: &[u8]) -> bool
     ensures some { IsTrue result → IsOther own digits.now }
@@ -104,7 +112,7 @@ fn is_port(own: u16, digits: &[u8]) -> bool
         return false;
     };
     match u16::from_str_radix(text, 10) {
-        Ok(port) => (port != own) & (Buffer::new().format(port) == text),
+        Ok(port) => (port != own) & begins_plainly(digits),
         Err(_) => false,
     }
 }

@@ -2,7 +2,8 @@
 use Rattle.std.specs.Prelude.{◌≡◌, ◌⊎◌, ℕ, ◌==◌, Bool, not, List, [], ◌∷◌, ◌++◌}
 use Rattle.std.specs.Prelude.{take, drop}
 use Rattle.std.specs.Prelude.{slice_index, if◌then◌else◌}
-use Rattle.std.specs.Prelude.{◌≢◌, ◌<◌, ◌^◌, decimal}
+use Rattle.std.specs.Prelude.{◌≢◌, ◌<◌, ◌^◌, ◌&&◌, false, decimal}
+use Rattle.std.specs.Char.{is_ascii_digit}
 use Rattle.std.specs.{Int.Bits.bit_and, List.prefix_len, Str.byte}
 use Rattle.texting_robots.specs.declared.whole.TheConstants.{STANDS}
 
@@ -21,6 +22,12 @@ after part text = drop (prefix_len (stands part) text) text
 abbrev pub after_marked : ℕ → ℕ → List ℕ → List ℕ
 after_marked mark part [] = []
 after_marked mark part (b ∷ text) = if b == mark then after part text else b ∷ text
+
+-- one digit, or a first one that isn't zero
+abbrev pub begins_plainly : List ℕ → Bool
+begins_plainly [] = false
+begins_plainly (b ∷ []) = is_ascii_digit b
+begins_plainly (b ∷ rest) = is_ascii_digit b && not (b == byte "0")
 
 -- the digits of a port that isn't this one, as a port is written
 abbrev pub IsOther : ℕ → List ℕ → Type 0
