@@ -1,5 +1,4 @@
-use Rattle.std.proofs.Common.{◌≡◌, ◌∷◌, [], None, Some, sym, subst, ◌∙◌}
-use Rattle.std.proofs.lemmas.Bool.{false≢true}
+use Rattle.std.proofs.Common.{◌≡◌, ◌∷◌, [], Some, sym, subst, ◌∙◌}
 use Rattle.std.proofs.lemmas.Bool.Decides.{Decides-eqb}
 use Rattle.std.proofs.lemmas.Slice.Eq.{strip_prefix_is}
 use Rattle.texting_robots.specs.Pattern.{dollar, Matches}
@@ -18,8 +17,3 @@ returns-in-Some c =
           let same : h.behind ≡ behind = cc (h.dollar, split) in
           c.only_marks.ensures ∙ match (subst (λ q. Matches q []) same h.empty),
     )
-
-pub returns-in-None : goal.returns-in-None
-returns-in-None c =
-    let none = strip_prefix_is Decides-eqb c.args.pattern.now (dollar ∷ []) None c.in-None.ensures.cases in
-    (λ e. absurd (false≢true e), λ h. absurd (none h.behind h.dollar))
