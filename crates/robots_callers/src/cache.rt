@@ -15,7 +15,7 @@ use url::ParseError;
 /// How many robots are kept at most.
 pub const MOST: usize = 64;
 
-/// Why a robot isn't kept.
+/// Why a robot isn't kept. Its cause stands in the variant and in the text.
 #[derive(Debug, Drop, Error)]
 pub enum CacheError {
     /// The URL has no address of a robots.txt file, or memory for it was refused.

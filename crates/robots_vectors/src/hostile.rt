@@ -1,4 +1,4 @@
-//! Long files, long texts and long numbers: each is answered, and no call wants memory.
+//! Long files and long texts: each is answered, and no call wants memory.
 use crate::helpers::{
     BOB, TextParts, check, check_equal, check_no_delay_or_sitemap, check_nothing, check_prepared,
     check_text, check_url, indented, long_robot, long_text, robot_of,
@@ -8,7 +8,7 @@ use crate::patterns::{check_looks, check_match, regex_of};
 use crate::urls::{check_address, check_prepared_text};
 use std::process::Abort;
 use texting_robots::Robot;
-use texting_robots::parser::{Line, read_delay, robots_txt_parse};
+use texting_robots::parser::{Line, robots_txt_parse};
 use texting_robots::view::View;
 
 /// A file and texts, and whether each may be fetched.
@@ -89,29 +89,6 @@ const LOOKS: &[LookCase] = &[
         allowed: false,
         most: 2_010,
     },
-];
-
-/// A name, a delay text, and the delay.
-const DELAYS: &[(&str, TextParts, u64)] = &[
-    ("many_nines", &[("9", 1_000_000)], u64::MAX),
-    (
-        "many_zeros_in_the_fraction",
-        &[("0.", 1), ("0", 1_000_000), ("1", 1)],
-        0,
-    ),
-    (
-        "exponent_down",
-        &[("1", 1), ("0", 1_000_000), ("e-1000000", 1)],
-        1_000_000,
-    ),
-    (
-        "exponent_up",
-        &[("0.", 1), ("0", 999_999), ("1e1000000", 1)],
-        1_000_000,
-    ),
-    ("long_exponent", &[("1e", 1), ("9", 1_000_000)], u64::MAX),
-    ("long_exponent_down", &[("1e-", 1), ("9", 1_000_000)], 0),
-    ("long_exponent_of_zero", &[("0e", 1), ("9", 1_000_000)], 0),
 ];
 
 /// Texts that stars match.
@@ -251,14 +228,6 @@ fn a_million_stars_are_one(rt: HostRuntime) {
     check_text(&rt, "stars", regex.as_str(), "*$");
     for text in STARRED {
         check_match(&rt, text, &regex, text, true);
-    }
-}
-
-#[test]
-fn long_delays_are_exact(rt: HostRuntime) {
-    for (name, parts, want) in DELAYS {
-        let text = long_text(&rt, name, parts);
-        check_equal(&rt, name, &read_delay(text.as_bytes()), &Some(*want));
     }
 }
 
