@@ -7,17 +7,19 @@ use Rattle.texting_robots.specs.Callers.{delay_for, escaped, lines_read, placed_
 use Rattle.texting_robots.proofs.BestLemmas.{each_text_answered}
 use Rattle.robots_io.specs.Lines.{delay_line, ended}
 use Rattle.robots_io.proofs.VerdictsLemmas.{lines_once, some_lines}
-use Rattle.robots_audit.specs.Report.{AreAllowed, IsReport, IsReportText, group_line, note_lines}
-use Rattle.robots_audit.specs.Rows.{marks_for, rows}
+use Rattle.robots_audit.specs.Report.{AreAllowed, Asked, IsReport, IsReportText, group_line}
+use Rattle.robots_audit.specs.Report.{note_lines, row_lines}
+use Rattle.robots_audit.specs.Rows.{marks_for}
 use Rattle.robots_audit.proofs.ReportLemmas.{allowed-append, allowed_one}
 
-text_once : (agent : List ℕ) (urls : List (List ℕ)) (file text other : List ℕ)
-    → IsReportText agent urls file text → IsReportText agent urls file other → text ≡ other
-text_once agent urls file text other one two =
+text_once : (asked : Asked) (file text other : List ℕ)
+    → IsReportText asked file text → IsReportText asked file other → text ≡ other
+text_once asked file text other one two =
+    let agent = asked.agent in
     let lines = lines_read file in
-    let with_verdicts = λ (verdicts : List (List ℕ)). ended (rows (marks_for agent lines)
+    let with_verdicts = λ (verdicts : List (List ℕ)). ended (row_lines asked.is_quiet (marks_for agent lines)
     ++ (group_line agent lines ∷ delay_line (delay_for agent lines) ∷ (note_lines file ++ verdicts))) in
-    let same = lines_once escaped (placed_rules agent lines) urls one.verdict_lines two.verdict_lines
+    let same = lines_once escaped (placed_rules agent lines) asked.urls one.verdict_lines two.verdict_lines
     one.verdicts two.verdicts in
     one.whole ∙ ap with_verdicts same ∙ sym two.whole
 
@@ -32,13 +34,13 @@ allowed_once rules urls false true (url, (k, below, here), denied) too =
     absurd (allowed denied)
 allowed_once rules urls false false are too = refl
 
-pub one_report : (agent : List ℕ) (urls : List (List ℕ)) (file text other : List ℕ)
+pub one_report : (asked : Asked) (file text other : List ℕ)
     (answer another : Bool)
-    → IsReport agent urls file text answer → IsReport agent urls file other another
+    → IsReport asked file text answer → IsReport asked file other another
     → (text ≡ other) × (answer ≡ another)
-one_report agent urls file text other answer another one two = (
-  text_once agent urls file text other one.whole two.whole,
-  allowed_once _ urls answer another one.answer two.answer,
+one_report asked file text other answer another one two = (
+  text_once asked file text other one.whole two.whole,
+  allowed_once _ asked.urls answer another one.answer two.answer,
 )
 
 -- ---- there is one
@@ -54,14 +56,15 @@ some_answer rules (url ∷ urls) =
           (allowed_one (unplaced rules) url first.allowed first.verdict) are,
     )
 
-pub some_report : (agent : List ℕ) (urls : List (List ℕ)) (file : List ℕ)
-    → ¬ IsRefused agent (lines_read file)
-    → (text : List ℕ) × (answer : Bool) × IsReport agent urls file text answer
-some_report agent urls file accepted =
+pub some_report : (asked : Asked) (file : List ℕ)
+    → ¬ IsRefused asked.agent (lines_read file)
+    → (text : List ℕ) × (answer : Bool) × IsReport asked file text answer
+some_report asked file accepted =
+    let agent = asked.agent in
     let lines = lines_read file in
-    let (verdicts, are) = some_lines escaped (placed_rules agent lines) urls in
-    let (answer, allowed) = some_answer (placed_rules agent lines) urls in (
-      ended (rows (marks_for agent lines)
+    let (verdicts, are) = some_lines escaped (placed_rules agent lines) asked.urls in
+    let (answer, allowed) = some_answer (placed_rules agent lines) asked.urls in (
+      ended (row_lines asked.is_quiet (marks_for agent lines)
           ++ (group_line agent lines ∷ delay_line (delay_for agent lines)
           ∷ (note_lines file ++ verdicts))),
       answer,

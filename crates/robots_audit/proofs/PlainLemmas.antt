@@ -21,7 +21,7 @@ use Rattle.texting_robots.specs.Escape.{escape_byte, is_escaped}
 use Rattle.robots_io.specs.Lines.{delay_line, ended, lf}
 use Rattle.robots_io.specs.Verdicts.{IsVerdictLine, line_text, verdict_front, verdict_word}
 use Rattle.robots_audit.specs.Laws.{IsPlain, is_plain}
-use Rattle.robots_audit.specs.Report.{IsReport, group_line, note_lines, unnamed_group}
+use Rattle.robots_audit.specs.Report.{Asked, IsReport, group_line, note_lines, row_lines, unnamed_group}
 use Rattle.texting_robots.specs.declared.marks.Standing.{Standing}
 use Rattle.texting_robots.specs.declared.marks.Standing.TheVariants.{Own, Other, Outside}
 use Rattle.robots_audit.specs.Rows.{has_value, kind_text, mark_text, marks_for, right_aligned, row, rows}
@@ -211,19 +211,24 @@ verdicts_plain rules (url ∷ urls) (line ∷ lines) (first, later) =
       verdicts_plain rules urls lines later,
     )
 
-pub report_plain : (agent : List ℕ) (urls : List (List ℕ)) (file text : List ℕ) (answer : Bool)
-    → IsReport agent urls file text answer → IsPlain text
-report_plain agent urls file text answer is =
+row_lines_plain : (is_quiet : Bool) (marks : List Mark) → Each IsPlain (row_lines is_quiet marks)
+row_lines_plain true marks = tt
+row_lines_plain false marks = rows_plain marks
+
+pub report_plain : (asked : Asked) (file text : List ℕ) (answer : Bool)
+    → IsReport asked file text answer → IsPlain text
+report_plain asked file text answer is =
+    let agent = asked.agent in
     let lines = lines_read file in
     let said = is.whole.verdict_lines in
     let delay = delay_for agent lines in
     let back : List (List ℕ) = group_line agent lines ∷ delay_line delay ∷ (note_lines file ++ said) in
-    let verdicts : Each IsPlain said = verdicts_plain (placed_rules agent lines) urls said
+    let verdicts : Each IsPlain said = verdicts_plain (placed_rules agent lines) asked.urls said
     is.whole.verdicts in
     let ending = each_both (note_lines file) said (notes_plain file) verdicts in
-    let above : List (List ℕ) = rows (marks_for agent lines) in
+    let above : List (List ℕ) = row_lines asked.is_quiet (marks_for agent lines) in
     let all : Each IsPlain (above ++ back) =
-    each_both above back (rows_plain (marks_for agent lines))
+    each_both above back (row_lines_plain asked.is_quiet (marks_for agent lines))
     (group_plain agent lines, (delay_plain delay, ending)) in
     subst IsPlain (sym is.whole.whole) (in_lines (above ++ back) all)
 

@@ -20,8 +20,8 @@ use Rattle.robots_io.specs.Lines.{delay_line, ended}
 use Rattle.robots_io.specs.Verdicts.{AddsVerdict}
 use Rattle.robots_io.proofs.LinesLemmas.{lines_added}
 use Rattle.robots_io.proofs.VerdictsLemmas.{adds_next, adds_nothing, lines_like}
-use Rattle.robots_audit.specs.Report.{AreAllowed, IsReport, group_line, note_lines}
-use Rattle.robots_audit.specs.Rows.{lines_of, marks_for, rows}
+use Rattle.robots_audit.specs.Report.{AreAllowed, Asked, IsReport, group_line, note_lines, row_lines}
+use Rattle.robots_audit.specs.Rows.{lines_of, marks_for}
 use Rattle.robots_audit.specs.Steps.{Judges, front_lines}
 
 -- ---- the lines of marks
@@ -97,31 +97,31 @@ allowed_like agent lines rules alike urls false are =
 -- ---- the report
 
 -- the front of a report and then the verdicts are the report
-pub report_made : (agent file front text : List ℕ) (urls : List (List ℕ))
-    (answer : Bool) (robot : RobotValue)
-    → IsRobotOfFile agent (take file_limit file) robot
-    → front ≡ ended (front_lines agent file (marks_for agent (lines_read file)) robot.delay)
-    → Judges robot.rules urls front text answer → IsReport agent urls file text answer
-report_made agent file front text urls answer robot of first last =
+pub report_made : (asked : Asked) (file front text : List ℕ) (answer : Bool) (robot : RobotValue)
+    → IsRobotOfFile asked.agent (take file_limit file) robot
+    → front ≡ ended (front_lines asked file (marks_for asked.agent (lines_read file)) robot.delay)
+    → Judges robot.rules asked.urls front text answer → IsReport asked file text answer
+report_made asked file front text answer robot of first last =
+    let agent = asked.agent in
     let lines = lines_read file in
     let is = read_robot agent file robot of in
     let delayed = (delay_is_computed agent lines robot.delay).0 is.delay in
     let alike = answers_computed agent lines robot.rules is.rules in
     let back : List (List ℕ) =
     group_line agent lines ∷ delay_line (delay_for agent lines) ∷ note_lines file in
-    let above : List (List ℕ) = rows (marks_for agent lines) in
+    let above : List (List ℕ) = row_lines asked.is_quiet (marks_for agent lines) in
     record {
       accepted = is.accepted;
       whole = record {
         verdict_lines = last.added.lines;
-        verdicts = lines_like escaped robot.rules (placed_rules agent lines) alike urls last.added.lines
-            last.added.verdicts;
+        verdicts = lines_like escaped robot.rules (placed_rules agent lines) alike asked.urls
+            last.added.lines last.added.verdicts;
         whole =
             lines_added [] front text (above ++ back) last.added.lines
             (rw (delayed, lines_marked agent lines) at first) last.added.whole
             ∙ ap ended (append_assoc above back last.added.lines);
       };
-      answer = allowed_like agent lines robot.rules alike urls answer last.answer;
+      answer = allowed_like agent lines robot.rules alike asked.urls answer last.answer;
     }
 
 -- ---- a line, and a run

@@ -1,13 +1,10 @@
 //! How a run ends.
 ghost use Rattle.std.specs.Prelude.{◌≡◌};
-ghost use Rattle.robots_audit.specs.Fault.{status_after};
+ghost use Rattle.robots_audit.specs.Fault.{status_after, usage_behind};
 
 use robots_io::ends::{ReadFault, WriteFault};
 use std::alloc::{AllocError, AllocFailed};
 use std::fmt;
-
-/// How the program is called, as a line.
-pub const USAGE: &str = "usage: robots_audit AGENT [URL..] < robots.txt\n";
 
 /// What a run that wrote its report found.
 #[derive(Drop)]
@@ -16,15 +13,21 @@ pub struct Outcome {
     pub all_allowed: bool,
     /// What is warned of, a line each.
     pub warnings: String,
+    /// Whether a warning counts as a URL that is denied.
+    pub is_strict: bool,
 }
 
 /// Why the program stopped.
 #[derive(Drop)]
 pub enum Fault {
+    /// The words can't be read so; this is what `clap` says of them, usage included.
+    Words(String),
     /// No agent was given.
     Usage,
     /// An argument isn't UTF-8.
     NotUtf8,
+    /// The file with this name, as it is shown, can't be read.
+    File(String),
     /// A read failed, or the file didn't end within the reads that are made.
     Read,
     /// A write failed, or took nothing.
@@ -43,9 +46,11 @@ impl fmt::Display for Fault {
 
     fn fmt<W: fmt::Write>(&self, f: &mut fmt::Formatter<W>) -> fmt::Result {
         match self {
+            Fault::Words(text) => f.write_str(text),
             Fault::Usage => f.write_str("no agent was given"),
             Fault::NotUtf8 => f.write_str("an argument isn't UTF-8"),
-            Fault::Read => f.write_str("reading the file failed"),
+            Fault::File(name) => write!(f, "the file {name} can't be read"),
+            Fault::Read => f.write_str("reading standard input failed"),
             Fault::Write => f.write_str("writing the report failed"),
             Fault::InvalidRule(line) => write!(
                 f,
@@ -103,6 +108,16 @@ impl From<WriteFault> for Fault {
     }
 }
 
+/// How the program is called, behind a fault in the words.
+fn usage_behind(fault: &Fault) -> &'static str
+    ensures { result.now ≡ usage_behind fault.now }
+{
+    match fault {
+        Fault::Usage | Fault::NotUtf8 => "; usage: robots_audit [OPTIONS] AGENT [URL]..",
+        _ => "",
+    }
+}
+
 /// What the process says on standard error after a run that answered this. Whoever prints it asks for no memory.
 #[derive(Drop)]
 pub struct Said<'a> {
@@ -118,7 +133,8 @@ impl<'a> fmt::Display for Said<'a> {
     fn fmt<W: fmt::Write>(&self, f: &mut fmt::Formatter<W>) -> fmt::Result {
         match self.outcome {
             Ok(outcome) => f.write_str(&outcome.warnings),
-            Err(fault) => write!(f, "robots_audit: {fault}; {USAGE}"),
+            Err(Fault::Words(text)) => f.write_str(text),
+            Err(fault) => writeln!(f, "robots_audit: {fault}{}", usage_behind(fault)),
         }
     }
 }
@@ -128,8 +144,9 @@ pub fn status_after(outcome: &Result<Outcome, Fault>) -> u8
     ensures { result ≡ status_after outcome.now }
 {
     match outcome {
-        Ok(outcome) if outcome.all_allowed => 0,
-        Ok(_) => 1,
+        Ok(outcome) if !outcome.all_allowed => 1,
+        Ok(outcome) if outcome.is_strict && !outcome.warnings.is_empty() => 1,
+        Ok(_) => 0,
         Err(_) => 2,
     }
 }

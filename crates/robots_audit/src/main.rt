@@ -2,7 +2,7 @@
 //! 512,000 bytes with its number, whether it is in the crawler's group, and what it was read as; the group and the delay
 //! that the crawler gets; and for each URL whether the crawler may fetch it, and which line says so.
 //!
-//! `robots_audit AGENT [URL..] < robots.txt`
+//! `robots_audit [OPTIONS] AGENT [URL]..`
 //!
 //! The status is 0 where every URL is allowed, 1 where some is denied, and 2 where the program couldn't answer.
 #![tactic(auto)]
@@ -16,29 +16,61 @@ mod report;
 mod rows;
 mod warnings;
 
+use clap::error::ErrorKind as WordsKind;
+use command::{Request, command, requested};
 use fault::{Fault, Outcome, Said, status_after};
-use program::answer;
+use program::{help, run, unread};
 use std::alloc::Global;
 use std::env;
+use std::fs::File;
 use std::io::ErrorKind;
 use std::process::ExitCode;
 
-/// The words behind the program's name.
+/// The words, from the program's name on.
 fn words(rt: &HostRuntime) -> Result<Vec<String>, Fault> {
     match env::args(rt) {
-        Ok(mut args) => {
-            let _ = args.next();
-            Ok(args.collect(rt.alloc())?)
-        }
+        Ok(args) => Ok(args.collect(rt.alloc())?),
         Err(error) if error.kind() == ErrorKind::InvalidData => Err(Fault::NotUtf8),
         Err(_) => Err(Fault::Memory),
     }
 }
 
-/// Does what the words behind the program's name ask for.
+/// What `clap` answers of words that ask for help or the version, or can't be read.
+fn told(rt: &HostRuntime, error: clap::Error) -> Result<Outcome, Fault> {
+    if error.kind() == WordsKind::OutOfMemory {
+        return Err(Fault::Memory);
+    }
+    let text = error.to_string(rt.alloc())?;
+    if error.use_stderr() {
+        Err(Fault::Words(text))
+    } else {
+        help(rt.alloc(), &text, &mut rt.stdout())
+    }
+}
+
+/// Audits the file that has this name.
+fn audit_named(rt: &HostRuntime, request: &Request<'_>, name: &str) -> Result<Outcome, Fault> {
+    let Ok(mut file) = File::open(rt, name) else {
+        return Err(unread(rt.alloc(), name));
+    };
+    match run(rt.alloc(), request, &mut file, &mut rt.stdout()) {
+        Err(Fault::Read) => Err(unread(rt.alloc(), name)),
+        outcome => outcome,
+    }
+}
+
+/// Does what the words ask for.
 fn outcome(rt: &HostRuntime) -> Result<Outcome, Fault> {
     let words = words(rt)?;
-    answer(rt.alloc(), &words, &mut rt.stdin(), &mut rt.stdout())
+    let matches = match command(rt.alloc())?.try_get_matches_from(&words) {
+        Ok(matches) => matches,
+        Err(error) => return told(rt, error),
+    };
+    let request = requested(rt.alloc(), &matches)?;
+    match request.file {
+        Some(name) => audit_named(rt, &request, name),
+        None => run(rt.alloc(), &request, &mut rt.stdin(), &mut rt.stdout()),
+    }
 }
 
 fn main(rt: HostRuntime) -> ExitCode {

@@ -6,10 +6,12 @@ ghost use Rattle.texting_robots.specs.Callers.{IsRobotOfFile, IsVerdict, by_valu
 ghost use Rattle.texting_robots.specs.Group.{is_agent};
 ghost use Rattle.robots_io.specs.Lines.{ended};
 ghost use Rattle.robots_io.specs.Verdicts.{AddsVerdict};
-ghost use Rattle.robots_audit.specs.Report.{IsReport, MayFail, group_line, note_lines, unnamed_group};
+ghost use Rattle.robots_audit.specs.Report.{IsReport, MayFail, group_line, note_lines, row_lines, unnamed_group};
+ghost use Rattle.robots_audit.specs.Answer.{asked_by};
 ghost use Rattle.robots_audit.specs.Rows.{lines_of, marks_for};
 ghost use Rattle.robots_audit.specs.Steps.{Judges, front_lines};
 
+use crate::command::Request;
 use crate::fault::Fault;
 use crate::file::counted;
 use crate::rows::push_rows;
@@ -143,9 +145,10 @@ fn push_verdicts(
     alloc: Global,
     text: &mut String,
     robot: &Robot,
-    urls: &[String],
+    urls: &[&str],
 ) -> Result<bool, Error>
-    ensures ok { IfOk result (Judges robot.now.rules (map string_bytes urls.now) (string_bytes text.old) (string_bytes text.new)) }
+    ensures ok { IfOk result (Judges robot.now.rules (map (λ url. url.now) urls.now)
+        (string_bytes text.old) (string_bytes text.new)) }
     ensures memory { IfErr result (λ error. error ≡ Error.Memory) }
 {
     let mut all_allowed = true;
@@ -171,40 +174,54 @@ fn robot_for(alloc: Global, agent: &str, lines: &[u8]) -> Result<Robot, Fault>
     }
 }
 
+/// Adds the rows, if they are wanted.
+fn push_row_lines(
+    text: &mut String,
+    is_quiet: bool,
+    marks: &[MarkedLine<'_>],
+) -> Result<(), AllocError>
+    ensures { OnOk result (string_bytes text.new ≡ string_bytes text.old
+        ++ ended (row_lines is_quiet (map mark_by_value marks.now))) }
+{
+    if !is_quiet {
+        push_rows(text, marks)?;
+    }
+    Ok(())
+}
+
 /// Adds what stands before the verdicts.
 fn push_front(
     text: &mut String,
-    agent: &str,
+    request: &Request<'_>,
     file: &[u8],
     marks: &[MarkedLine<'_>],
     delay: Option<u64>,
 ) -> Result<(), AllocError>
     ensures { OnOk result (string_bytes text.new ≡ string_bytes text.old
-        ++ ended (front_lines agent.now file.now (map mark_by_value marks.now) delay)) }
+        ++ ended (front_lines (asked_by request.now) file.now (map mark_by_value marks.now) delay)) }
 {
-    push_rows(text, marks)?;
-    push_group(text, agent, marks)?;
+    push_row_lines(text, request.is_quiet, marks)?;
+    push_group(text, request.agent, marks)?;
     push_delay(text, delay)?;
     push_note(text, file)
 }
 
-/// The report of a file, whose lines these are, for an agent and URLs.
+/// The report of a file, whose lines these are.
 pub(crate) fn report_of(
     alloc: Global,
-    agent: &str,
-    urls: &[String],
+    request: &Request<'_>,
     file: &[u8],
     marks: &[MarkedLine<'_>],
 ) -> Result<Report, Fault>
-    requires { map mark_by_value marks.now ≡ marks_for agent.now (lines_read file.now) }
-    ensures ok { IfOk result (λ report. IsReport agent.now (map string_bytes urls.now) file.now
+    requires { map mark_by_value marks.now ≡ marks_for request.now.agent.now (lines_read file.now) }
+    ensures ok { IfOk result (λ report. IsReport (asked_by request.now) file.now
         (string_bytes report.text) report.all_allowed) }
-    ensures fault { IfErr result (λ fault. (fault ≢ Fault.Write) × MayFail agent.now fault file.now) }
+    ensures fault { IfErr result (λ fault. (fault ≢ Fault.Write) × MayFail request.now.agent.now fault file.now) }
 {
-    let robot = robot_for(alloc, agent, file)?;
+    let robot = robot_for(alloc, request.agent, file)?;
     let mut text = String::with_capacity(alloc, file.len())?;
-    push_front(&mut text, agent, file, marks, robot.delay)?;
-    match push_verdicts(alloc, &mut text, &robot, urls) {
+    push_front(&mut text, request, file, marks, robot.delay)?;
+    match push_verdicts(alloc, &mut text, &robot, &request.urls) {
         Ok(all_allowed) => Ok(Report { text, all_allowed }),
         Err(_) => Err(Fault::Memory),
     }

@@ -199,9 +199,9 @@ fn warn_of_line(
 }
 
 /// Adds the warnings of the URLs.
-fn warn_of_urls(alloc: Global, text: &mut String, urls: &[String]) -> Result<(), AllocError>
+fn warn_of_urls(alloc: Global, text: &mut String, urls: &[&str]) -> Result<(), AllocError>
     ensures { OnOk result (string_bytes text.new ≡ string_bytes text.old
-        ++ ended (flat_map url_warnings (map string_bytes urls.now))) }
+        ++ ended (flat_map url_warnings (map (λ url. url.now) urls.now))) }
 {
     for url in urls {
         warn_of_url(alloc, text, url)?;
@@ -225,11 +225,11 @@ fn warn_of_lines(text: &mut String, marks: &[MarkedLine<'_>]) -> Result<(), Allo
 pub(crate) fn warnings(
     alloc: Global,
     agent: &str,
-    urls: &[String],
+    urls: &[&str],
     marks: &[MarkedLine<'_>],
 ) -> Result<String, AllocError>
     ensures { IfOk result (λ text. string_bytes text
-        ≡ ended (warnings agent.now (map string_bytes urls.now) (map mark_by_value marks.now))) }
+        ≡ ended (warnings agent.now (map (λ url. url.now) urls.now) (map mark_by_value marks.now))) }
 {
     let mut text = String::new(alloc);
     warn_of_agent(&mut text, agent)?;

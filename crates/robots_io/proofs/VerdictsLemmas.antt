@@ -1,5 +1,5 @@
--- Lines of verdicts: how they are added one after another, that URLs have them in one way, and that rules which
--- answer alike have the same.
+-- Lines of verdicts: how they are added one after another, that URLs have them in one way, and that rules
+-- which answer alike have the same.
 use Rattle.std.proofs.Common.{◌≡◌, ℕ, ◌+◌, ◌<◌, List, [], ◌∷◌, ◌++◌}
 use Rattle.std.proofs.Common.{length, map, take}
 use Rattle.std.proofs.Common.{append_assoc, slice_index_or, refl, sym, ap, ◌∙◌}

@@ -4,5 +4,5 @@ use Rattle.robots_audit.proofs.report.push_verdicts.Given as goal
 
 abbrev pub invariant-loop-url : goal.invariant-loop-url
 invariant-loop-url l =
-    Judges l.robot.rules (map string_bytes (take l.url-index l.urls)) (string_bytes l.fn.text)
+    Judges l.robot.rules (map (λ url. url.now) (take l.url-index l.urls)) (string_bytes l.fn.text)
     (string_bytes l.text) l.all_allowed
