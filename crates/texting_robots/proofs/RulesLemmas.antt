@@ -61,10 +61,11 @@ before_agent (line ∷ lines) = cond (is_agent line) [] (line ∷ before_agent l
 
 pub before_agents : (lines : List LineValue) → before_first is_agent lines ≡ before_agent lines
 before_agents [] = refl
-before_agents (line ∷ lines) = take_while-cons (λ l. not (is_agent l)) line lines ∙ elim (cases_Bool (is_agent line)) [
-  | inl agent ↦ rw agent refl
-  | inr other ↦ rw other (ap (λ t. line ∷ t) (before_agents lines))
-]
+before_agents (line ∷ lines) =
+    take_while-cons (λ l. not (is_agent l)) line lines ∙ elim (cases_Bool (is_agent line)) [
+      | inl agent ↦ rw agent refl
+      | inr other ↦ rw other (ap (λ t. line ∷ t) (before_agents lines))
+    ]
 
 -- the last delay before the first agent line of the lines that are left
 abbrev pub delay_from : Option ℕ → List LineValue → Option ℕ

@@ -3,7 +3,7 @@
 -- `Computed` and `Marks` compute. They are tied to the definitions by the laws `each_text_has_one_cut`,
 -- `each_text_has_one_delay`, `each_text_has_its_lines` and `captured_agrees`, and `Statement` by the lemmas
 -- `statement_found` and `found_statement`. `Group` has a walk along the lines, tied to captured lines by
--- `passed_are_walked` and to `marks_of` by `marks_are`. The others are inner words of proofs, on which no
+-- `captured_walked` and to `marks_of` by `marks_are`. The others are inner words of proofs, on which no
 -- public clause rests.
 pub mod Cut
 pub mod Statement
