@@ -1,4 +1,4 @@
-//! Questions about a robots.txt file, for C and for any language that calls C: `c/robots.h` declares the calls.
+//! Questions about a robots.txt file, for C and for any language that calls C: `robots.h`, beside `src/`, declares the calls.
 //!
 //! Each call but those of a handle reads what it is given anew, and keeps nothing. It answers 0, or a status that says why it has
 //! no answer; only a call that answers 0 writes one.
