@@ -1,13 +1,10 @@
 -- The characters of the standard's syntax are UTF-8, and none of their bytes is a control, a space or a hash.
-use Rattle.std.proofs.Common.{◌≡◌, ◌≢◌, inl, inr, ℕ, ◌<◌, ◌≤◌}
-use Rattle.std.proofs.Common.{true, List, [], ◌∷◌, ◌++◌, length, drop}
-use Rattle.std.proofs.Common.{flat_map, sym, ap, ◌∙◌, subst, append-nil, arith}
-use Rattle.std.specs.List.{AllByRecursion as Each}
-use Rattle.std.specs.Char.{encode_utf8}
-use Rattle.std.specs.Str.{IsUtf8}
+use Rattle.std.proofs.Common.{◌≡◌, ◌≢◌, inl, inr, ℕ, ◌<◌, ◌≤◌, true, List, []}
+use Rattle.std.proofs.Common.{◌∷◌, ◌++◌, length, drop, flat_map, sym, ap, ◌∙◌, subst}
+use Rattle.std.proofs.Common.{append-nil, arith}
+use Rattle.std.specs.{List.AllByRecursion as Each, Char.encode_utf8, Str.IsUtf8}
 use Rattle.std.proofs.lemmas.Bool.Decides.{nat_tests}
-use Rattle.std.proofs.lemmas.List.{drop_all}
-use Rattle.std.proofs.lemmas.Str.{IsUtf8-append, IsUtf8-encode, IsUtf8-nil}
+use Rattle.std.proofs.lemmas.{List.drop_all, Str.IsUtf8-append, Str.IsUtf8-encode, Str.IsUtf8-nil}
 use Rattle.bstr.specs.Utf8.{code_of_2, code_of_3, code_of_4, continues, decoded, good, second}
 use Rattle.bstr.proofs.lemmas.PieceLemmas.{value-1, value-6, value-9, value-12}
 use Rattle.bstr.proofs.lemmas.SoundLemmas.{SpellsChar-decoded}

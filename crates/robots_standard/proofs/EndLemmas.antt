@@ -3,19 +3,13 @@ use Rattle.std.proofs.Common.{◌≡◌, ◌≢◌, ◌⊎◌, inl, inr, ℕ, Bo
 use Rattle.std.proofs.Common.{◌++◌, map, filter, sym, refl, ap, ◌∙◌, append-nil, arith, eqb}
 use Rattle.std.specs.List.{AllByRecursion as Each}
 use Rattle.std.proofs.lemmas.Bool.{cases_Bool, cond-false, ne_eqb}
-use Rattle.std.proofs.lemmas.List.{map-append}
-use Rattle.std.proofs.lemmas.List.Elements.{filter-append}
-use Rattle.texting_robots.specs.Cut.{cr, lf}
-use Rattle.texting_robots.specs.Laws.{Same}
-use Rattle.texting_robots.specs.Line.{LineValue, is_raw, nul_as_lf, without_front}
-use Rattle.texting_robots.specs.Steps.Cut.{cut}
-use Rattle.texting_robots.specs.Computed.{file_lines}
-use Rattle.texting_robots.specs.Steps.Line.{line_of}
+use Rattle.std.proofs.lemmas.List.{map-append, Elements.filter-append}
+use Rattle.texting_robots.specs.{Cut.cr, Cut.lf, Laws.Same, Line.LineValue, Line.is_raw, Line.nul_as_lf}
+use Rattle.texting_robots.specs.{Line.without_front, Steps.Cut.cut, Computed.file_lines, Steps.Line.line_of}
 use Rattle.robots_standard.specs.Rfc9309.{IsFileOf, IsLastNl, IsMark, IsNl}
-use Rattle.texting_robots.proofs.CutLemmas.{cut_nil}
-use Rattle.texting_robots.proofs.CrLfLemmas.{bodies_of, body_byte, body_return, body_step}
-use Rattle.texting_robots.proofs.CrLfLemmas.{lines_by_bodies, step}
-use Rattle.texting_robots.proofs.LawLemmas.{raw_changes_nothing}
+use Rattle.texting_robots.proofs.{CutLemmas.cut_nil, LawLemmas.raw_changes_nothing}
+use Rattle.texting_robots.proofs.CrLfLemmas.{bodies_of, body_byte, body_return, body_step, lines_by_bodies}
+use Rattle.texting_robots.proofs.CrLfLemmas.{step}
 use Rattle.robots_standard.proofs.CharLemmas.{each_front}
 use Rattle.robots_standard.proofs.Sources.{Source, is_not_raw, source_of}
 use Rattle.robots_standard.proofs.ReadLemmas.{BeginsLow, Reads, empty_adds_none, sources_of, sources_in}

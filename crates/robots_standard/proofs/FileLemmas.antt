@@ -2,24 +2,18 @@
 use Rattle.std.proofs.Common.{◌≡◌, inl, inr, ℕ, true, not, List, [], ◌∷◌, ◌++◌, filter, map}
 use Rattle.std.proofs.Common.{flat_map, sym, refl, ap, ◌∙◌, subst, append_assoc, append-nil}
 use Rattle.std.specs.List.{AllZip, AllByRecursion as Each}
-use Rattle.std.proofs.lemmas.List.{map-append}
-use Rattle.texting_robots.specs.Computed.{rules_for}
-use Rattle.texting_robots.specs.Computed.{file_lines}
-use Rattle.std.proofs.lemmas.List.Elements.{filter-append}
-use Rattle.texting_robots.specs.Group.{is_group}
-use Rattle.texting_robots.specs.Line.{Sitemap, is_sitemap}
-use Rattle.robots_standard.specs.Rfc9309 as rfc
-use Rattle.texting_robots.proofs.LawLemmas.{sitemaps_change_nothing_else}
-use Rattle.texting_robots.proofs.TrimLemmas.{each_append}
-use Rattle.robots_standard.proofs.GroupLemmas.{zip_append}
+use Rattle.std.proofs.lemmas.List.{map-append, Elements.filter-append}
+use Rattle.texting_robots.specs.Computed.{rules_for, file_lines}
+use Rattle.texting_robots.specs.{Group.is_group, Line.Sitemap, Line.is_sitemap}
+use Rattle.texting_robots.proofs.{LawLemmas.sitemaps_change_nothing_else, TrimLemmas.each_append}
+use Rattle.robots_standard.proofs.{GroupLemmas.zip_append, RuleLemmas.token_line, OtherLemmas.empty_line}
+use Rattle.robots_standard.proofs.{OtherLemmas.other_line, ReadLemmas.Reads, ReadLemmas.reads_both}
 use Rattle.robots_standard.proofs.SourceLemmas.{AreGroups, IsFrontSource, no_sitemap}
 use Rattle.robots_standard.proofs.Sources.{IsSourceOf, Source, in_groups, token_source}
 use Rattle.robots_standard.proofs.EndLemmas.{file_sources_are, file_same, kept_lines, lines_in, file_sources}
 use Rattle.robots_standard.proofs.MemberLemmas.{front_line, member_line, sitemap_line}
-use Rattle.robots_standard.proofs.RuleLemmas.{token_line}
-use Rattle.robots_standard.proofs.OtherLemmas.{empty_line, other_line}
-use Rattle.robots_standard.proofs.ReadLemmas.{Reads, reads_both}
 use Rattle.robots_standard.proofs.RepeatLemmas.{IsJoin, ReadBy, both_read, none_read, repeated}
+use Rattle.robots_standard.specs.Rfc9309 as rfc
 
 -- ---- the source lines of groups
 

@@ -1,27 +1,22 @@
 -- Of lines in groups an agent gets the rules that the groups spell for it.
-use Rattle.std.proofs.Common.{◌≡◌, ◌≢◌, ℕ, Bool, true, false, ◌||◌}
-use Rattle.std.proofs.Common.{List, [], ◌∷◌, ◌++◌, Option, None, map}
-use Rattle.std.proofs.Common.{flat_map, filter, cond, sym, refl, ap, ◌∙◌, subst}
+use Rattle.std.proofs.Common.{◌≡◌, ◌≢◌, ℕ, Bool, true, false, ◌||◌, List, [], ◌∷◌}
+use Rattle.std.proofs.Common.{◌++◌, Option, None, map, flat_map, filter, cond, sym, refl, ap, ◌∙◌}
+use Rattle.std.proofs.Common.{subst}
 use Rattle.std.specs.Str.{str_to_ascii_lowercase}
 use Rattle.std.specs.List.{AllZip, AllByRecursion as Each, list_any, filter_map, cons_option}
-use Rattle.std.proofs.lemmas.Bool.{false≢true}
-use Rattle.std.proofs.lemmas.List.Elements.{filter-append}
-use Rattle.std.proofs.lemmas.List.Folds.{list_any-append}
-use Rattle.texting_robots.specs.declared.groups.Walk.{Walk}
+use Rattle.std.proofs.lemmas.{Bool.false≢true, List.Elements.filter-append, List.Folds.list_any-append}
+use Rattle.texting_robots.specs.{declared.groups.Walk.Walk, Computed.rule_in, Computed.rules_for, Rules.Rule}
 use Rattle.texting_robots.specs.Line.{LineValue, UserAgent, Allow, Disallow, Sitemap, CrawlDelay, Raw}
 use Rattle.texting_robots.specs.Group.{group_name, is_agent_named, is_group}
-use Rattle.texting_robots.specs.Computed.{rule_in, rules_for}
-use Rattle.texting_robots.specs.Rules.{Rule}
 use Rattle.texting_robots.specs.Steps.Group.{start_of, step}
 use Rattle.robots_standard.specs.ReadAs.{IsReadAs}
 use Rattle.robots_standard.specs.Rfc9309.{Group, Member, merged, is_rule, has_token, groups_for}
-use Rattle.robots_standard.specs.Rfc9309 as rfc
 use Rattle.texting_robots.proofs.CapturedLemmas.{rules_are}
-use Rattle.robots_standard.proofs.MergeLemmas.{AreApart, AreGroupLines, GivesRuleOf, IsLineFor}
-use Rattle.robots_standard.proofs.MergeLemmas.{merged_apart, merged_lines}
-use Rattle.robots_standard.proofs.WalkLemmas.{behind, found, group_step}
-use Rattle.robots_standard.proofs.WalkLemmas.{group_steps, is_named, members_found, nothing}
-use Rattle.robots_standard.proofs.WalkLemmas.{run, run_found}
+use Rattle.robots_standard.proofs.MergeLemmas.{AreApart, AreGroupLines, GivesRuleOf, IsLineFor, merged_apart}
+use Rattle.robots_standard.proofs.MergeLemmas.{merged_lines}
+use Rattle.robots_standard.proofs.WalkLemmas.{behind, found, group_step, group_steps, is_named, members_found}
+use Rattle.robots_standard.proofs.WalkLemmas.{nothing, run, run_found}
+use Rattle.robots_standard.specs.Rfc9309 as rfc
 
 -- ---- the rules of groups
 

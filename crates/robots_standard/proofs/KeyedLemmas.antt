@@ -2,25 +2,19 @@
 use Rattle.std.proofs.Common.{◌≡◌, ◌≢◌, ◌⊎◌, inl, inr, ℕ, ◌<◌, List, [], ◌∷◌}
 use Rattle.std.proofs.Common.{◌++◌, map, flat_map, codes, Bool, true, ◌&&◌, nat_lt, sym, refl, ap}
 use Rattle.std.proofs.Common.{◌∙◌, subst, append_assoc, append-nil, arith, filter, not, ◌==◌}
-use Rattle.std.specs.List.{AllByRecursion as Each, Contains}
-use Rattle.std.specs.Char.{to_ascii_lowercase}
-use Rattle.std.specs.Str.{IsUtf8}
-use Rattle.std.proofs.lemmas.Bool.{and_parts, eqb-false, ltb-true, not-true}
-use Rattle.std.proofs.lemmas.Bool.Decides.{nat_tests}
+use Rattle.std.specs.{List.AllByRecursion as Each, List.Contains, Char.to_ascii_lowercase, Str.IsUtf8}
+use Rattle.std.proofs.lemmas.Bool.{and_parts, eqb-false, ltb-true, not-true, Decides.nat_tests}
 use Rattle.texting_robots.specs.declared.parser.statement.Kind.{Kind}
 use Rattle.texting_robots.specs.Statement.{IsBlank, IsStatement, spellings}
 use Rattle.texting_robots.specs.Steps.Statement.{IsOptionalComment, colon, hash}
-use Rattle.texting_robots.specs.Trim.{IsTrimOf}
-use Rattle.texting_robots.specs.Steps.Line.{line_of, line_with}
-use Rattle.robots_standard.specs.Rfc9309 as rfc
-use Rattle.texting_robots.proofs.LineLemmas.{line_stated}
-use Rattle.texting_robots.proofs.StatementLemmas.{statement_found}
-use Rattle.texting_robots.proofs.TrimLemmas.{blanks_skipped, same_trim}
+use Rattle.texting_robots.specs.{Trim.IsTrimOf, Steps.Line.line_of, Steps.Line.line_with}
+use Rattle.texting_robots.proofs.{LineLemmas.line_stated, StatementLemmas.statement_found}
+use Rattle.texting_robots.proofs.TrimLemmas.{blanks_skipped, same_trim, each_append}
 use Rattle.robots_standard.proofs.CharLemmas.{IsCharByte, char_text}
-use Rattle.texting_robots.proofs.TrimLemmas.{each_append}
 use Rattle.robots_standard.proofs.ReadLemmas.{BeginsLow, IsBare, low_append}
 use Rattle.robots_standard.proofs.ValueLemmas.{IsVisible, blanks_after, visible_trim}
 use Rattle.robots_standard.proofs.Sources.{between_gone, no_blank, written, written_is}
+use Rattle.robots_standard.specs.Rfc9309 as rfc
 
 -- ---- bytes
 

@@ -1,35 +1,23 @@
 -- The lines of delays, of members and of sitemaps.
-use Rattle.std.proofs.Common.{◌≡◌, inl, inr, ℕ, true, false, List, [], ◌∷◌, ◌++◌}
-use Rattle.std.proofs.Common.{filter, codes, All, Some, sym, refl, subst, append-nil, arith}
-use Rattle.std.specs.List.{AllByRecursion as Each}
-use Rattle.std.specs.Char.{IsAsciiDigit}
-use Rattle.std.specs.Str.{is_utf8}
-use Rattle.std.specs.Str.Parse.{starts_with_minus, without_leading_plus}
-use Rattle.std.proofs.lemmas.Bool.{ne_eqb}
+use Rattle.std.proofs.Common.{◌≡◌, inl, inr, ℕ, true, false, List, [], ◌∷◌, ◌++◌, filter}
+use Rattle.std.proofs.Common.{codes, All, Some, sym, refl, subst, append-nil, arith}
+use Rattle.std.specs.{List.AllByRecursion as Each, Char.IsAsciiDigit}
+use Rattle.std.specs.Str.{is_utf8, Parse.starts_with_minus, Parse.without_leading_plus}
+use Rattle.std.proofs.lemmas.{Bool.ne_eqb, Str.is_utf8-from_IsUtf8, Str.Parse.without_leading_plus_none}
 use Rattle.std.proofs.lemmas.List.Elements.{All-from_recursion, All-nil}
-use Rattle.std.proofs.lemmas.Str.{is_utf8-from_IsUtf8}
-use Rattle.std.proofs.lemmas.Str.Parse.{without_leading_plus_none}
-use Rattle.texting_robots.specs.declared.parser.statement.Kind.TheVariants as kind
 use Rattle.texting_robots.specs.Delay.{Decimal, NamesDelay, Spells}
-use Rattle.texting_robots.specs.Line.{CrawlDelay, Sitemap}
-use Rattle.texting_robots.specs.Steps.Delay.{delay_of, rounded}
-use Rattle.texting_robots.specs.Steps.Line.{delay_or_raw}
-use Rattle.texting_robots.specs.Steps.Statement.{trimmed}
-use Rattle.texting_robots.specs.Trim.{IsTrimOf}
-use Rattle.robots_standard.specs.Rfc9309 as rfc
+use Rattle.texting_robots.specs.{Line.CrawlDelay, Line.Sitemap, Trim.IsTrimOf}
+use Rattle.texting_robots.specs.Steps.{Delay.delay_of, Delay.rounded, Line.delay_or_raw, Statement.trimmed}
 use Rattle.texting_robots.proofs.DelayLemmas.{is_delay_of, rounded_rounds}
-use Rattle.texting_robots.proofs.TrimLemmas.{trimmed_is_trim}
-use Rattle.robots_standard.proofs.CharLemmas.{chars_text}
-use Rattle.texting_robots.proofs.TrimLemmas.{each_append}
-use Rattle.robots_standard.proofs.KeyedLemmas.{IsValueByte, between_blanks, chars_value, each_weaker}
-use Rattle.robots_standard.proofs.KeyedLemmas.{keyed, key_word}
-use Rattle.robots_standard.proofs.ValueLemmas.{trim_utf8}
-use Rattle.robots_standard.proofs.ReadLemmas.{Reads}
-use Rattle.robots_standard.proofs.GroupLemmas.{IsFront}
-use Rattle.robots_standard.proofs.RuleLemmas.{IsPlain, MemberRead, chars_kept, plain_kept}
-use Rattle.robots_standard.proofs.RuleLemmas.{plain_trim, plain_value, reads_keyed, rule_line}
-use Rattle.robots_standard.proofs.RuleLemmas.{star_line}
-use Rattle.robots_standard.proofs.Sources.{Source, is_not_raw, no_blank}
+use Rattle.texting_robots.proofs.TrimLemmas.{trimmed_is_trim, each_append}
+use Rattle.robots_standard.proofs.{CharLemmas.chars_text, ValueLemmas.trim_utf8, ReadLemmas.Reads}
+use Rattle.robots_standard.proofs.{GroupLemmas.IsFront, Sources.Source, Sources.is_not_raw, Sources.no_blank}
+use Rattle.robots_standard.proofs.KeyedLemmas.{IsValueByte, between_blanks, chars_value, each_weaker, keyed}
+use Rattle.robots_standard.proofs.KeyedLemmas.{key_word}
+use Rattle.robots_standard.proofs.RuleLemmas.{IsPlain, MemberRead, chars_kept, plain_kept, plain_trim}
+use Rattle.robots_standard.proofs.RuleLemmas.{plain_value, reads_keyed, rule_line, star_line}
+use Rattle.texting_robots.specs.declared.parser.statement.Kind.TheVariants as kind
+use Rattle.robots_standard.specs.Rfc9309 as rfc
 
 -- ---- delays
 

@@ -1,12 +1,8 @@
 -- The lines of groups are those of the merged groups.
-use Rattle.std.proofs.Common.{◌≡◌, ◌≢◌, ℕ, Bool, true, false, List, [], ◌∷◌}
-use Rattle.std.proofs.Common.{◌++◌, Option, Some, None, map, refl, ap, ◌∙◌, append_assoc}
-use Rattle.std.specs.List.{AllZip}
-use Rattle.std.proofs.lemmas.List.{map-append}
-use Rattle.texting_robots.specs.Group.{is_group}
-use Rattle.texting_robots.specs.Line.{LineValue, UserAgent}
-use Rattle.texting_robots.specs.Computed.{rule_in}
-use Rattle.texting_robots.specs.Rules.{Rule}
+use Rattle.std.proofs.Common.{◌≡◌, ◌≢◌, ℕ, Bool, true, false, List, [], ◌∷◌, ◌++◌}
+use Rattle.std.proofs.Common.{Option, Some, None, map, refl, ap, ◌∙◌, append_assoc}
+use Rattle.std.{specs.List.AllZip, proofs.lemmas.List.map-append}
+use Rattle.texting_robots.specs.{Group.is_group, Line.LineValue, Line.UserAgent, Computed.rule_in, Rules.Rule}
 use Rattle.robots_standard.specs.ReadAs.{IsReadAs}
 use Rattle.robots_standard.specs.Rfc9309.{Group, Member, merged, put_before, is_rule}
 

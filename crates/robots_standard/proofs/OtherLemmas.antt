@@ -1,25 +1,20 @@
 -- Empty lines, comments and records that aren't read.
-use Rattle.std.proofs.Common.{◌≡◌, ◌⊎◌, ◌≢◌, inl, inr, ℕ, List, [], ◌∷◌}
-use Rattle.std.proofs.Common.{◌++◌, Option, Some, None, map, get_or, sym, refl, ap}
-use Rattle.std.proofs.Common.{◌∙◌, subst, append_assoc, arith}
-use Rattle.std.specs.List.{AllByRecursion as Each, Contains}
-use Rattle.std.specs.Char.{to_ascii_lowercase}
-use Rattle.std.proofs.lemmas.Bool.Decides.{nat_tests}
-use Rattle.std.proofs.lemmas.List.{map-append}
-use Rattle.texting_robots.specs.declared.parser.statement.Kind.{Kind}
-use Rattle.texting_robots.specs.Line.{Raw}
+use Rattle.std.proofs.Common.{◌≡◌, ◌⊎◌, ◌≢◌, inl, inr, ℕ, List, [], ◌∷◌, ◌++◌}
+use Rattle.std.proofs.Common.{Option, Some, None, map, get_or, sym, refl, ap, ◌∙◌, subst, append_assoc}
+use Rattle.std.proofs.Common.{arith}
+use Rattle.std.specs.{List.AllByRecursion as Each, List.Contains, Char.to_ascii_lowercase}
+use Rattle.std.proofs.lemmas.{Bool.Decides.nat_tests, List.map-append}
+use Rattle.texting_robots.specs.{declared.parser.statement.Kind.Kind, Line.Raw}
 use Rattle.texting_robots.specs.Statement.{IsBehindBlanks, IsBehindColon, IsBlank, IsStatement}
-use Rattle.texting_robots.specs.Steps.Statement.{IsOptionalComment}
-use Rattle.texting_robots.specs.Steps.Statement.{kind_by, skip_blanks, statement_of}
-use Rattle.robots_standard.specs.Rfc9309 as rfc
-use Rattle.texting_robots.proofs.LineLemmas.{line_raw, line_without_kind}
+use Rattle.texting_robots.specs.Steps.Statement.{IsOptionalComment, kind_by, skip_blanks, statement_of}
+use Rattle.texting_robots.proofs.{LineLemmas.line_raw, LineLemmas.line_without_kind, TrimLemmas.each_append}
 use Rattle.texting_robots.proofs.StatementLemmas.{NoBlank, found_statement, kept, skip_front}
-use Rattle.texting_robots.proofs.TrimLemmas.{each_append}
-use Rattle.robots_standard.proofs.KeyedLemmas.{blanks_bare, blanks_low, comment_is, comment_text}
-use Rattle.robots_standard.proofs.KeyedLemmas.{each_weaker, end_bare}
+use Rattle.robots_standard.proofs.KeyedLemmas.{blanks_bare, blanks_low, comment_is, comment_text, each_weaker}
+use Rattle.robots_standard.proofs.KeyedLemmas.{end_bare}
 use Rattle.robots_standard.proofs.ReadLemmas.{BeginsLow, IsBare, Reads, low_append, reads_line}
 use Rattle.robots_standard.proofs.WordLemmas.{IsSpelled, Stops, identifier_bounds, same_word, spelled}
 use Rattle.robots_standard.proofs.Sources.{written}
+use Rattle.robots_standard.specs.Rfc9309 as rfc
 
 -- ---- empty lines and comments
 

@@ -1,17 +1,13 @@
 -- The source lines of a text that is made of lines; raw ones are left out.
-use Rattle.std.proofs.Common.{◌≡◌, ◌≢◌, ◌⊎◌, inl, inr, ℕ, ◌<◌}
-use Rattle.std.proofs.Common.{◌≤◌, false, List, [], ◌∷◌, ◌++◌, map, filter}
-use Rattle.std.proofs.Common.{cond, not, sym, refl, ap, ◌∙◌, append_assoc, arith, eqb}
+use Rattle.std.proofs.Common.{◌≡◌, ◌≢◌, ◌⊎◌, inl, inr, ℕ, ◌<◌, ◌≤◌, false, List}
+use Rattle.std.proofs.Common.{[], ◌∷◌, ◌++◌, map, filter, cond, not, sym, refl, ap, ◌∙◌}
+use Rattle.std.proofs.Common.{append_assoc, arith, eqb}
 use Rattle.std.specs.List.{AllByRecursion as Each}
-use Rattle.std.proofs.lemmas.Bool.{ne_eqb}
-use Rattle.std.proofs.lemmas.List.Elements.{filter-append}
-use Rattle.texting_robots.specs.Cut.{cr, lf}
-use Rattle.texting_robots.specs.Line.{is_raw}
-use Rattle.texting_robots.specs.Steps.Cut.{cut}
+use Rattle.std.proofs.lemmas.{Bool.ne_eqb, List.Elements.filter-append}
+use Rattle.texting_robots.specs.{Cut.cr, Cut.lf, Line.is_raw, Steps.Cut.cut}
 use Rattle.robots_standard.specs.Rfc9309.{IsNl}
 use Rattle.texting_robots.proofs.CrLfLemmas.{bodies_of, body_return, body_step, step}
-use Rattle.texting_robots.proofs.LineLemmas.{line_without_kind}
-use Rattle.texting_robots.proofs.TrimLemmas.{each_append}
+use Rattle.texting_robots.proofs.{LineLemmas.line_without_kind, TrimLemmas.each_append}
 use Rattle.robots_standard.proofs.Sources.{Source, is_not_raw, source_of, written}
 
 -- ---- the source lines of a text

@@ -1,9 +1,9 @@
 -- A text that repeats a production is made of the lines of its pieces.
 use Rattle.std.proofs.Common.{inl, inr, ℕ, List, [], ◌∷◌, ◌++◌, flat_map, sym, subst}
 use Rattle.std.specs.List.{AllByRecursion as Each}
-use Rattle.robots_standard.specs.Rfc9309 as rfc
 use Rattle.robots_standard.proofs.ReadLemmas.{Reads, reads_both, reads_nothing}
 use Rattle.robots_standard.proofs.Sources.{Source}
+use Rattle.robots_standard.specs.Rfc9309 as rfc
 
 -- the text is made of lines, and their source lines belong to these items
 pub record ReadBy {X : Type 0} (Belong : List X → List Source → Type 0)

@@ -1,33 +1,22 @@
 -- The lines of product tokens and of rules.
 use Rattle.std.proofs.Common.{◌≡◌, ◌≢◌, inl, inr, ℕ, true, false, List, [], ◌∷◌, ◌++◌}
 use Rattle.std.proofs.Common.{filter, codes, Bool, Some, sym, refl, subst, arith, ◌<◌, ap, ◌∙◌}
-use Rattle.std.specs.List.{AllByRecursion as Each, Contains}
-use Rattle.std.specs.Str.{IsUtf8}
-use Rattle.std.proofs.lemmas.Bool.{cond-true}
-use Rattle.std.proofs.lemmas.Str.{IsUtf8-nil, is_utf8-from_IsUtf8}
+use Rattle.std.specs.{List.AllByRecursion as Each, List.Contains, Str.IsUtf8}
+use Rattle.std.proofs.lemmas.{Bool.cond-true, Str.IsUtf8-nil, Str.is_utf8-from_IsUtf8}
 use Rattle.texting_robots.specs.declared.parser.statement.Kind.{Kind}
-use Rattle.texting_robots.specs.declared.parser.statement.Kind.TheVariants as kind
-use Rattle.texting_robots.specs.Escape.{escaped}
-use Rattle.texting_robots.specs.Line.{UserAgent, Allow, Disallow}
-use Rattle.texting_robots.specs.Computed.{rule_with}
-use Rattle.texting_robots.specs.Rules.{Rule}
-use Rattle.texting_robots.specs.Statement.{IsBlank, spellings}
-use Rattle.texting_robots.specs.Trim.{IsTrimOf}
-use Rattle.texting_robots.specs.Steps.Line.{line_with}
-use Rattle.texting_robots.specs.Steps.Statement.{trimmed}
-use Rattle.robots_standard.specs.Rfc9309 as rfc
-use Rattle.texting_robots.proofs.TrimLemmas.{trimmed_is_trim}
-use Rattle.robots_standard.proofs.CharLemmas.{IsCharByte, IsCharText, char_text}
-use Rattle.texting_robots.proofs.TrimLemmas.{each_append}
-use Rattle.robots_standard.proofs.CharLemmas.{pattern_text}
-use Rattle.robots_standard.proofs.KeyedLemmas.{IsValueByte, Keyed, between_blanks, blanks_value}
-use Rattle.robots_standard.proofs.KeyedLemmas.{chars_value, each_weaker, keyed, keyed_line}
-use Rattle.robots_standard.proofs.KeyedLemmas.{only_blanks, key_word}
+use Rattle.texting_robots.specs.{Escape.escaped, Line.UserAgent, Line.Allow, Line.Disallow}
+use Rattle.texting_robots.specs.{Computed.rule_with, Rules.Rule, Statement.IsBlank, Statement.spellings}
+use Rattle.texting_robots.specs.{Trim.IsTrimOf, Steps.Line.line_with, Steps.Statement.trimmed}
+use Rattle.texting_robots.proofs.TrimLemmas.{trimmed_is_trim, each_append}
+use Rattle.robots_standard.proofs.CharLemmas.{IsCharByte, IsCharText, char_text, pattern_text}
+use Rattle.robots_standard.proofs.KeyedLemmas.{IsValueByte, Keyed, between_blanks, blanks_value, chars_value}
+use Rattle.robots_standard.proofs.KeyedLemmas.{each_weaker, keyed, keyed_line, only_blanks, key_word}
 use Rattle.robots_standard.proofs.ReadLemmas.{Reads, reads_line}
-use Rattle.robots_standard.proofs.ValueLemmas.{IsVisible, trim_some, trim_utf8, visible_trim}
-use Rattle.robots_standard.proofs.ValueLemmas.{visible_utf8}
+use Rattle.robots_standard.proofs.ValueLemmas.{IsVisible, trim_some, trim_utf8, visible_trim, visible_utf8}
 use Rattle.robots_standard.proofs.Sources.{IsSourceOf, Source, blanks_gone, is_not_raw, no_blank, text_kept}
 use Rattle.robots_standard.proofs.Sources.{source_of, token_source, written}
+use Rattle.texting_robots.specs.declared.parser.statement.Kind.TheVariants as kind
+use Rattle.robots_standard.specs.Rfc9309 as rfc
 
 -- the source line of a keyed text, where its value is trimmed to this
 pub reads_keyed : (word value text : List ℕ) (k : Keyed word value text) (kind : Kind) (read : List ℕ)

@@ -1,16 +1,15 @@
 -- The samples in `specs/Rfc9309Sample.antt` are files of the syntax, line by line.
-use Rattle.std.proofs.Common.{◌≡◌, inl, inr, ℕ, Bool, true, false, not, List, [], ◌∷◌}
-use Rattle.std.proofs.Common.{◌++◌, codes}
-use Rattle.std.proofs.Common.{◌==◌, ◌||◌, ◌&&◌, bytes_eq, flat_map, drop, nat_le, refl, ap, arith}
+use Rattle.std.proofs.Common.{◌≡◌, inl, inr, ℕ, Bool, true, false, not, List, [], ◌∷◌, ◌++◌}
+use Rattle.std.proofs.Common.{codes, ◌==◌, ◌||◌, ◌&&◌, bytes_eq, flat_map, drop, nat_le, refl, ap}
+use Rattle.std.proofs.Common.{arith}
 use Rattle.std.specs.List.{AllByRecursion as Each, Contains, list_all}
-use Rattle.std.proofs.lemmas.Bool.{and_parts, cases_Bool, eqb-true}
-use Rattle.std.proofs.lemmas.Bool.Decides.{nat_tests}
+use Rattle.std.proofs.lemmas.Bool.{and_parts, cases_Bool, eqb-true, Decides.nat_tests}
 use Rattle.std.proofs.lemmas.List.Elements.{All-contains, All-from_recursion}
-use Rattle.robots_standard.specs.Rfc9309 as rfc
 use Rattle.robots_standard.specs.Sample.{cr, cr_lf, lf, path}
-use Rattle.robots_standard.specs.Sample as sample
 use Rattle.robots_standard.proofs.BareLemmas.{group_is_wide, repeats_weaker}
 use Rattle.robots_standard.proofs.SyntaxLemmas.{repeats_both, repeats_none, repeats_one}
+use Rattle.robots_standard.specs.Rfc9309 as rfc
+use Rattle.robots_standard.specs.Sample as sample
 
 -- ---- texts whose parts pass a test, as is computed
 

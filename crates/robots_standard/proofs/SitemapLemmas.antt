@@ -1,23 +1,18 @@
 -- The sitemaps of a file are those of its sitemap lines.
-use Rattle.std.proofs.Common.{◌≡◌, inl, inr, ℕ, List, [], ◌∷◌, ◌++◌, filter, map}
-use Rattle.std.proofs.Common.{flat_map, sym, refl, ap, ◌∙◌, subst}
+use Rattle.std.proofs.Common.{◌≡◌, inl, inr, ℕ, List, [], ◌∷◌, ◌++◌, filter, map, flat_map}
+use Rattle.std.proofs.Common.{sym, refl, ap, ◌∙◌, subst}
 use Rattle.std.specs.List.{AllZip, AllByRecursion as Each}
-use Rattle.std.proofs.lemmas.List.{map-append}
-use Rattle.std.proofs.lemmas.List.Elements.{filter-append, filter_map-append}
-use Rattle.texting_robots.specs.Line.{Sitemap, is_sitemap}
-use Rattle.texting_robots.specs.Computed.{file_lines}
-use Rattle.texting_robots.specs.Computed.{sitemap_in, sitemaps_in}
-use Rattle.texting_robots.specs.Trim.{IsTrimOf}
-use Rattle.robots_standard.specs.Rfc9309 as rfc
+use Rattle.std.proofs.lemmas.List.{map-append, Elements.filter-append, Elements.filter_map-append}
+use Rattle.texting_robots.specs.{Line.Sitemap, Line.is_sitemap, Trim.IsTrimOf}
+use Rattle.texting_robots.specs.Computed.{file_lines, sitemap_in, sitemaps_in}
 use Rattle.robots_standard.proofs.EndLemmas.{file_sources_are, file_same, lines_in, file_sources}
-use Rattle.robots_standard.proofs.GroupLemmas.{zip_append}
+use Rattle.robots_standard.proofs.{GroupLemmas.zip_append, RuleLemmas.token_line, SourceLemmas.no_sitemap}
 use Rattle.robots_standard.proofs.MemberLemmas.{member_line, sitemap_line}
 use Rattle.robots_standard.proofs.OtherLemmas.{empty_line, other_line}
 use Rattle.robots_standard.proofs.RepeatLemmas.{IsJoin, ReadBy, repeated}
-use Rattle.robots_standard.proofs.RuleLemmas.{token_line}
 use Rattle.robots_standard.proofs.SyntaxLemmas.{repeats_both, repeats_none, repeats_one}
 use Rattle.robots_standard.proofs.Sources.{Source, token_source}
-use Rattle.robots_standard.proofs.SourceLemmas.{no_sitemap}
+use Rattle.robots_standard.specs.Rfc9309 as rfc
 
 -- the addresses, as they are written
 abbrev addresses_in : List Source → List (List ℕ)

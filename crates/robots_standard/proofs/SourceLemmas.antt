@@ -1,18 +1,15 @@
 -- The source lines of groups: their lines, and the groups themselves once merged.
-use Rattle.std.proofs.Common.{◌≡◌, ◌≢◌, ℕ, true, false, None, List, [], ◌∷◌}
-use Rattle.std.proofs.Common.{◌++◌, map, refl, ap, ◌∙◌, append-nil}
+use Rattle.std.proofs.Common.{◌≡◌, ◌≢◌, ℕ, true, false, None, List, [], ◌∷◌, ◌++◌}
+use Rattle.std.proofs.Common.{map, refl, ap, ◌∙◌, append-nil}
 use Rattle.std.specs.List.{AllZip, AllByRecursion as Each}
-use Rattle.std.proofs.lemmas.Bool.{false≢true}
-use Rattle.std.proofs.lemmas.List.{map-append}
+use Rattle.std.proofs.lemmas.{Bool.false≢true, List.map-append}
 use Rattle.texting_robots.specs.Line.{LineValue, UserAgent, Allow, Disallow, Sitemap, CrawlDelay, Raw}
 use Rattle.texting_robots.specs.Line.{is_sitemap}
-use Rattle.texting_robots.specs.Group.{is_group}
-use Rattle.texting_robots.specs.Computed.{sitemap_in}
-use Rattle.robots_standard.specs.Rfc9309 as rfc
-use Rattle.robots_standard.proofs.EndLemmas.{lines_in}
-use Rattle.robots_standard.proofs.GroupLemmas.{IsFront}
+use Rattle.texting_robots.specs.{Group.is_group, Computed.sitemap_in}
+use Rattle.robots_standard.proofs.{EndLemmas.lines_in, GroupLemmas.IsFront}
 use Rattle.robots_standard.proofs.MergeLemmas.{AreGroupLines, IsLineFor}
 use Rattle.robots_standard.proofs.Sources.{IsSourceOf, Source, member_in, token_source}
+use Rattle.robots_standard.specs.Rfc9309 as rfc
 
 -- the source lines of a group's tokens and members, and then such
 pub record AreSourcesThen (group : rfc.Group) (Later : List Source → Type 0)

@@ -1,18 +1,15 @@
 -- Source lines: the line that a body is read as, with the value as it is written.
-use Rattle.std.proofs.Common.{◌≡◌, ◌≢◌, ℕ, ◌<◌, Bool, false, true, not}
-use Rattle.std.proofs.Common.{◌==◌, ◌||◌, if◌then◌else◌, List, [], ◌∷◌}
-use Rattle.std.proofs.Common.{◌++◌, filter, refl, ap, ◌∙◌, append-nil, inl, inr, arith}
+use Rattle.std.proofs.Common.{◌≡◌, ◌≢◌, ℕ, ◌<◌, Bool, false, true, not, ◌==◌, ◌||◌}
+use Rattle.std.proofs.Common.{if◌then◌else◌, List, [], ◌∷◌, ◌++◌, filter, refl, ap, ◌∙◌}
+use Rattle.std.proofs.Common.{append-nil, inl, inr, arith}
 use Rattle.std.specs.List.{AllByRecursion as Each}
-use Rattle.std.proofs.lemmas.Bool.{cond-false, cond-true, ne_eqb}
-use Rattle.std.proofs.lemmas.List.Elements.{filter-append}
+use Rattle.std.proofs.lemmas.{Bool.cond-false, Bool.cond-true, Bool.ne_eqb, List.Elements.filter-append}
 use Rattle.texting_robots.specs.Line.{LineValue, UserAgent, Allow, Disallow, is_raw, is_sitemap}
-use Rattle.texting_robots.specs.Statement.{IsBlank}
-use Rattle.texting_robots.specs.Steps.Statement.{IsOptionalComment, colon, hash, space, tab}
-use Rattle.texting_robots.specs.Steps.Line.{line_of}
-use Rattle.texting_robots.specs.Steps.Statement.{region_of}
-use Rattle.robots_standard.specs.Rfc9309 as rfc
+use Rattle.texting_robots.specs.{Statement.IsBlank, Steps.Line.line_of}
+use Rattle.texting_robots.specs.Steps.Statement.{IsOptionalComment, colon, hash, space, tab, region_of}
 use Rattle.texting_robots.proofs.StatementLemmas.{region_is}
 use Rattle.robots_standard.proofs.MergeLemmas.{IsLineFor}
+use Rattle.robots_standard.specs.Rfc9309 as rfc
 
 -- ---- the value as it is written
 

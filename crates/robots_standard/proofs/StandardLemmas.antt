@@ -1,18 +1,12 @@
 -- The law: a file of the standard's syntax is read as the groups and rules that it spells, in one way.
-use Rattle.std.proofs.Common.{sym, ap, ◌∙◌, subst}
-use Rattle.std.specs.List.{AllZip}
-use Rattle.std.proofs.lemmas.List.{map-append}
-use Rattle.texting_robots.specs.Computed.{rules_for}
+use Rattle.std.proofs.Common.{sym, ap, ◌∙◌, subst, ◌≡◌, ℕ, List}
+use Rattle.std.{specs.List.AllZip, proofs.lemmas.List.map-append}
+use Rattle.texting_robots.specs.Computed.{rules_for, file_lines}
 use Rattle.robots_standard.specs.ReadAs.{IsReadAs}
-use Rattle.robots_standard.specs.Rfc9309 as rfc
-use Rattle.robots_standard.proofs.EndLemmas.{lines_in}
-use Rattle.robots_standard.proofs.FileLemmas.{file_read}
-use Rattle.robots_standard.proofs.GroupLemmas.{rules_spelled}
-use Rattle.robots_standard.proofs.SitemapLemmas.{addresses_are, file_lists}
-use Rattle.robots_standard.proofs.Sources.{Source}
+use Rattle.robots_standard.proofs.{EndLemmas.lines_in, FileLemmas.file_read, GroupLemmas.rules_spelled}
+use Rattle.robots_standard.proofs.{SitemapLemmas.addresses_are, SitemapLemmas.file_lists, Sources.Source}
 use Rattle.robots_standard.proofs.SourceLemmas.{front_lines, group_lines, source_groups, sources_once}
-use Rattle.std.proofs.Common.{◌≡◌, ℕ, List}
-use Rattle.texting_robots.specs.Computed.{file_lines}
+use Rattle.robots_standard.specs.Rfc9309 as rfc
 
 pub standard_files_are_read_so : (text : List ℕ) (groups : List rfc.Group) (agent : List ℕ)
     → rfc.IsFile groups text

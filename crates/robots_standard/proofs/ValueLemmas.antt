@@ -1,20 +1,14 @@
 -- What is left of a value between blanks.
 use Rattle.std.proofs.Common.{◌≡◌, ◌≢◌, ℕ, ◌<◌, true, false, List, [], ◌∷◌, ◌++◌}
-use Rattle.std.proofs.Common.{length, IsTrue}
-use Rattle.std.proofs.Common.{sym, refl, ap, ◌∙◌, subst, append_assoc, append-nil, arith}
-use Rattle.std.specs.List.{AllByRecursion as Each}
+use Rattle.std.proofs.Common.{length, IsTrue, sym, refl, ap, ◌∙◌, subst, append_assoc, append-nil}
+use Rattle.std.proofs.Common.{arith}
+use Rattle.std.specs.{List.AllByRecursion as Each, Str.IsUtf8, Str.encode_utf8_all}
 use Rattle.std.specs.Char.{is_ascii_graphic, is_whitespace, encode_utf8}
-use Rattle.std.specs.Str.{IsUtf8, encode_utf8_all}
-use Rattle.std.proofs.Math.Seq.{drop-nil, take-nil}
-use Rattle.std.proofs.lemmas.List.Elements.{All-from_recursion}
-use Rattle.std.proofs.Math.Utf8.{scalars}
-use Rattle.std.proofs.lemmas.Bool.Decides.{nat_tests}
-use Rattle.std.proofs.lemmas.List.{take_at}
-use Rattle.std.proofs.lemmas.Str.{IsCharBoundary-at_seam, IsUtf8-from_ascii, IsUtf8-past_char, IsUtf8-take}
-use Rattle.std.proofs.lemmas.Str.{char_from_byte}
-use Rattle.std.proofs.lemmas.Str.Ascii.{IsAscii-from_all}
-use Rattle.texting_robots.specs.Statement.{IsBlank}
-use Rattle.texting_robots.specs.Trim.{IsSpaces, IsTrimOf}
+use Rattle.std.proofs.Math.{Seq.drop-nil, Seq.take-nil, Utf8.scalars}
+use Rattle.std.proofs.lemmas.{List.Elements.All-from_recursion, Bool.Decides.nat_tests, List.take_at}
+use Rattle.std.proofs.lemmas.{Str.IsCharBoundary-at_seam, Str.IsUtf8-from_ascii, Str.IsUtf8-past_char}
+use Rattle.std.proofs.lemmas.{Str.IsUtf8-take, Str.char_from_byte, Str.Ascii.IsAscii-from_all}
+use Rattle.texting_robots.specs.{Statement.IsBlank, Trim.IsSpaces, Trim.IsTrimOf}
 use Rattle.texting_robots.proofs.TrimLemmas.{blanks_behind, graphic_trim, same_trim, trimmed_is_trim}
 use Rattle.texting_robots.proofs.TrimLemmas.{white_scalar}
 

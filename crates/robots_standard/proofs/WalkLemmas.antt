@@ -1,20 +1,12 @@
 -- The walk along the lines of a group.
-use Rattle.std.proofs.Common.{◌≡◌, ◌≢◌, ℕ, Bool, true, false}
-use Rattle.std.proofs.Common.{◌||◌, List, [], ◌∷◌, ◌++◌, Option, Some}
-use Rattle.std.proofs.Common.{None, map, bytes_eq, cond, refl, ap, ◌∙◌}
-use Rattle.std.specs.Str.{str_to_ascii_lowercase}
+use Rattle.std.proofs.Common.{◌≡◌, ◌≢◌, ℕ, Bool, true, false, ◌||◌, List, [], ◌∷◌}
+use Rattle.std.proofs.Common.{◌++◌, Option, Some, None, map, bytes_eq, cond, refl, ap, ◌∙◌}
+use Rattle.std.{specs.Str.str_to_ascii_lowercase, proofs.Math.Bool.or-false, proofs.lemmas.Bool.false≢true}
 use Rattle.std.specs.List.{AllZip, list_any, filter_map, cons_option}
-use Rattle.std.proofs.Math.Bool.{or-false}
-use Rattle.std.proofs.lemmas.Bool.{false≢true}
-use Rattle.texting_robots.specs.declared.groups.Walk.{Walk}
+use Rattle.texting_robots.{specs.declared.groups.Walk.Walk, proofs.CapturedLemmas.given_captured}
 use Rattle.texting_robots.specs.Line.{LineValue, UserAgent, Allow, Disallow, Sitemap, CrawlDelay, Raw}
-use Rattle.texting_robots.specs.Group.{is_group}
-use Rattle.texting_robots.specs.Computed.{rule_in}
-use Rattle.texting_robots.specs.Rules.{Rule}
-use Rattle.texting_robots.specs.Steps.Group.{step}
-use Rattle.robots_standard.specs.Rfc9309.{Member}
-use Rattle.texting_robots.proofs.CapturedLemmas.{given_captured}
-use Rattle.robots_standard.proofs.MergeLemmas.{IsLineFor}
+use Rattle.texting_robots.specs.{Group.is_group, Computed.rule_in, Rules.Rule, Steps.Group.step}
+use Rattle.robots_standard.{specs.Rfc9309.Member, proofs.MergeLemmas.IsLineFor}
 
 -- ---- the walk along such lines
 

@@ -1,14 +1,12 @@
 -- Words of identifier bytes, and the spellings of keys.
-use Rattle.std.proofs.Common.{◌≡◌, ◌≢◌, ◌⊎◌, inl, inr, ℕ, ◌<◌, nat_le}
-use Rattle.std.proofs.Common.{Bool, true, ◌==◌, ◌&&◌, ◌||◌, List, [], ◌∷◌}
-use Rattle.std.proofs.Common.{◌++◌, slice_index_or, codes, sym, refl, subst, append-nil, arith}
+use Rattle.std.proofs.Common.{◌≡◌, ◌≢◌, ◌⊎◌, inl, inr, ℕ, ◌<◌, nat_le, Bool, true}
+use Rattle.std.proofs.Common.{◌==◌, ◌&&◌, ◌||◌, List, [], ◌∷◌, ◌++◌, slice_index_or}
+use Rattle.std.proofs.Common.{codes, sym, refl, subst, append-nil, arith}
 use Rattle.std.specs.List.{AllByRecursion as Each, Contains}
-use Rattle.std.proofs.lemmas.Bool.{and_parts, eqb-true, or_cases}
-use Rattle.std.proofs.lemmas.Bool.Decides.{nat_tests}
+use Rattle.std.proofs.lemmas.Bool.{and_parts, eqb-true, or_cases, Decides.nat_tests}
 use Rattle.std.proofs.lemmas.List.Elements.{All-contains, All-from_recursion}
-use Rattle.texting_robots.specs.declared.parser.statement.Kind.{Kind}
+use Rattle.texting_robots.specs.{declared.parser.statement.Kind.Kind, Statement.spellings}
 use Rattle.texting_robots.specs.declared.parser.statement.Kind.TheVariants as kind
-use Rattle.texting_robots.specs.Statement.{spellings}
 use Rattle.robots_standard.specs.Rfc9309 as rfc
 
 -- ---- words of identifier bytes

@@ -3,20 +3,16 @@ use Rattle.std.proofs.Common.{◌≡◌, ◌≢◌, ◌⊎◌, inl, inr, ℕ, ze
 use Rattle.std.proofs.Common.{◌≤◌, Bool, true, false, ◌==◌, ◌&&◌, ◌||◌, List, [], ◌∷◌}
 use Rattle.std.proofs.Common.{◌++◌, length, Option, Some, None, option_map, refl, sym, ap, subst}
 use Rattle.std.proofs.Common.{◌∙◌, arith}
-use Rattle.std.specs.Bool.{Decides, MatchBool}
-use Rattle.std.specs.List.{All, Contains}
-use Rattle.std.specs.Prelude.{bytes_eq}
+use Rattle.std.specs.{Bool.Decides, Bool.MatchBool, List.All, List.Contains, Prelude.bytes_eq}
 use Rattle.std.proofs.lemmas.Bool.{cases_Bool, cases_lt, cases_order}
 use Rattle.std.proofs.lemmas.Bool.Decides.{Decides-and, Decides-eqb, Decides-like, Decides-or, nat_tests}
 use Rattle.std.proofs.lemmas.Bool.Decides.{not_from_Decides, when_false, when_true}
-use Rattle.std.proofs.lemmas.List.{get_or-map, length-map}
+use Rattle.std.proofs.lemmas.{List.get_or-map, List.length-map, Slice.Eq.bytes_eq-Decides}
 use Rattle.std.proofs.lemmas.List.Elements.{All-cons, All-contains, All-nil}
-use Rattle.std.proofs.lemmas.Slice.Eq.{bytes_eq-Decides}
 use Rattle.texting_robots.specs.Decision.{IsBetter, IsDecidingRule, IsDecidingLine}
 use Rattle.texting_robots.specs.Pattern.{IsSuffix, Matches, MatchesWith, dollar, star}
 use Rattle.texting_robots.specs.Rules.{PlacedRule, Rule, unplaced}
-use Rattle.texting_robots.specs.Steps.Entries.{rank}
-use Rattle.texting_robots.specs.Verdict.{IsVerdict, robots_file}
+use Rattle.texting_robots.specs.{Steps.Entries.rank, Verdict.IsVerdict, Verdict.robots_file}
 
 -- it holds, or it doesn't
 abbrev pub Either : Type 0 → Type 0

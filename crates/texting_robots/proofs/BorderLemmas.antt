@@ -2,11 +2,10 @@
 -- `place` is the next place of the text to look at, and `matched` bytes before it agree with the piece.
 -- That the leftmost place of a piece loses no match is `first_is_enough` of PlacingLemmas; how many looks a
 -- search takes is in the invariant of `find`.
-use Rattle.std.proofs.Common.{◌≡◌, ◌≢◌, ◌↔◌, ⊎_elim, ℕ, ◌+◌, ◌-◌}
-use Rattle.std.proofs.Common.{◌<◌, ◌≤◌, Some, None, List, [], ◌∷◌, ◌++◌, length}
-use Rattle.std.proofs.Common.{get_or, sym, ap, subst, subst₂, ◌∙◌, arith, append_assoc}
-use Rattle.std.proofs.lemmas.Bool.{cases_eq, cases_lt}
-use Rattle.std.proofs.lemmas.Grind.{get_or_default_zero}
+use Rattle.std.proofs.Common.{◌≡◌, ◌≢◌, ◌↔◌, ⊎_elim, ℕ, ◌+◌, ◌-◌, ◌<◌}
+use Rattle.std.proofs.Common.{◌≤◌, Some, None, List, [], ◌∷◌, ◌++◌, length, get_or, sym, ap}
+use Rattle.std.proofs.Common.{subst, subst₂, ◌∙◌, arith, append_assoc}
+use Rattle.std.proofs.lemmas.{Bool.cases_eq, Bool.cases_lt, Grind.get_or_default_zero}
 use Rattle.std.proofs.lemmas.List.{get_or_append_left, get_or_push, get_or-append-add, length_push}
 use Rattle.memchr.specs.Find.{FindsNeedle, Nowhere, OccursAt}
 use Rattle.texting_robots.specs.Steps.Border.{Agrees, AreBorders, IsLongestBorder}

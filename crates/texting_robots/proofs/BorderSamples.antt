@@ -1,13 +1,12 @@
 -- The longest borders of all beginnings of three pieces, to see what the definition comes to. The whole piece
 -- is among them, which a table leaves out.
 use Rattle.std.proofs.Common.{◌≡◌, ℕ, zero, suc, ◌+◌, ◌-◌, ◌<◌, nat_lt, ◌==◌, Bool}
-use Rattle.std.proofs.Common.{true, not, ◌&&◌, ◌||◌, inl, inr, List, [], ◌∷◌, length}
-use Rattle.std.proofs.Common.{codes, refl, arith}
-use Rattle.std.specs.Prelude.{slice_index}
-use Rattle.std.specs.Bool.{Decides}
+use Rattle.std.proofs.Common.{true, not, ◌&&◌, ◌||◌, inl, inr, List, [], ◌∷◌, length, codes}
+use Rattle.std.proofs.Common.{refl, arith}
+use Rattle.std.specs.{Prelude.slice_index, Bool.Decides}
 use Rattle.std.proofs.lemmas.Bool.{cases_Bool, or_right}
-use Rattle.std.proofs.lemmas.Bool.Decides.{Decides-and, Decides-below_and, Decides-eqb}
-use Rattle.std.proofs.lemmas.Bool.Decides.{Decides-like, Decides-ltb, Decides-not, Decides-or}
+use Rattle.std.proofs.lemmas.Bool.Decides.{Decides-and, Decides-below_and, Decides-eqb, Decides-like}
+use Rattle.std.proofs.lemmas.Bool.Decides.{Decides-ltb, Decides-not, Decides-or}
 use Rattle.texting_robots.specs.Steps.Border.{Agrees, AreBorders, IsLongestBorder}
 
 -- the test passes for each number below this one

@@ -1,26 +1,19 @@
 -- The walk along the lines says what the definition by places says.
-use Rattle.std.proofs.Common.{◌≡◌, ◌≤◌, inl, inr, ℕ, zero, suc}
-use Rattle.std.proofs.Common.{◌+◌, ◌<◌, nat_lt, Bool, true, false, not, ◌&&◌}
-use Rattle.std.proofs.Common.{◌||◌, List, [], ◌∷◌, Option, Some, None, slice_get}
-use Rattle.std.proofs.Common.{drop, cond, add-one, ap, sym, refl, ◌∙◌, arith}
-use Rattle.std.specs.Prelude.{IsTrue, filter}
-use Rattle.std.specs.Bool.{Decides}
+use Rattle.std.proofs.Common.{◌≡◌, ◌≤◌, inl, inr, ℕ, zero, suc, ◌+◌, ◌<◌, nat_lt, Bool}
+use Rattle.std.proofs.Common.{true, false, not, ◌&&◌, ◌||◌, List, [], ◌∷◌, Option, Some, None}
+use Rattle.std.proofs.Common.{slice_get, drop, cond, add-one, ap, sym, refl, ◌∙◌, arith}
+use Rattle.std.specs.{Prelude.IsTrue, Prelude.filter, Bool.Decides}
 use Rattle.std.proofs.Math.Bool.{and-true, and-false, or-false}
 use Rattle.std.specs.List.{list_any, cons_option, filter_map, enumerate_from}
-use Rattle.std.proofs.lemmas.Bool.Decides.{Decides-below_or, Decides-and, Decides-or}
-use Rattle.std.proofs.lemmas.Bool.Decides.{Decides-not, Decides-ltb, Decides-like}
-use Rattle.std.proofs.lemmas.Bool.{cases_Bool, or_left, or_right, and_left}
-use Rattle.std.proofs.lemmas.Bool.{and_right, le-ltb, lt-ltb, false≢true}
-use Rattle.std.proofs.lemmas.List.Folds.{Any-from_list_any}
-use Rattle.std.proofs.lemmas.Option.{slice_get-get_or}
-use Rattle.texting_robots.specs.declared.groups.Walk.{Walk}
-use Rattle.texting_robots.specs.Line.{LineValue, UserAgent}
-use Rattle.texting_robots.specs.Group.{IsCaptured, group_name, is_agent, is_agent_named, is_group}
-use Rattle.texting_robots.specs.Group.{passes_at}
+use Rattle.std.proofs.lemmas.Bool.{Decides.Decides-below_or, Decides.Decides-and, Decides.Decides-or}
+use Rattle.std.proofs.lemmas.Bool.{Decides.Decides-not, Decides.Decides-ltb, Decides.Decides-like, cases_Bool}
+use Rattle.std.proofs.lemmas.Bool.{or_left, or_right, and_left, and_right, le-ltb, lt-ltb, false≢true}
+use Rattle.std.proofs.lemmas.{List.Folds.Any-from_list_any, Option.slice_get-get_or}
+use Rattle.texting_robots.specs.{declared.groups.Walk.Walk, Rules.PlacedRule, Rules.Rule, Rules.unplaced}
+use Rattle.texting_robots.specs.Line.{LineValue, UserAgent, delay_in}
+use Rattle.texting_robots.specs.Group.{IsCaptured, group_name, is_agent, is_agent_named, is_group, passes_at}
 use Rattle.texting_robots.specs.Steps.Captured.{is_captured, some_below}
-use Rattle.texting_robots.specs.Line.{delay_in}
 use Rattle.texting_robots.specs.Computed.{captured_delays, captured_lines, placed_in, rule_in, rules_for}
-use Rattle.texting_robots.specs.Rules.{PlacedRule, Rule, unplaced}
 use Rattle.texting_robots.specs.Steps.Group.{from_captured, if_captured, placed, start_of, step}
 
 -- ---- tests of places: of agent lines, group lines and agent lines of the name

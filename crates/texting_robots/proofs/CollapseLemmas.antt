@@ -1,9 +1,8 @@
 -- Collapsing a pattern.
 use Rattle.std.proofs.Common.{◌≡◌, ◌≢◌, ◌↔◌, ℕ, suc, ◌<◌, ◌≤◌, Bool, true}
-use Rattle.std.proofs.Common.{false, eqb, ◌==◌, ◌&&◌, inl, inr, List, [], ◌∷◌, ◌++◌}
-use Rattle.std.proofs.Common.{length, get_or, arith, refl, sym, ap, ◌∙◌, append_assoc, append-nil}
-use Rattle.std.specs.List.{starts_with}
-use Rattle.std.proofs.lemmas.Cmp.{nat_eq_equiv}
+use Rattle.std.proofs.Common.{false, eqb, ◌==◌, ◌&&◌, inl, inr, List, [], ◌∷◌, ◌++◌, length}
+use Rattle.std.proofs.Common.{get_or, arith, refl, sym, ap, ◌∙◌, append_assoc, append-nil}
+use Rattle.std.{specs.List.starts_with, proofs.lemmas.Cmp.nat_eq_equiv}
 use Rattle.std.proofs.lemmas.Bool.{and_parts, cases_Bool, eq-eqb, eqb-true, ne_eqb}
 use Rattle.texting_robots.specs.Pattern.{MatchesWith, collapsed, star}
 use Rattle.texting_robots.proofs.PatternLemmas.{behind_byte, star_star}

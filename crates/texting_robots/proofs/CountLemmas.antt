@@ -1,11 +1,10 @@
 -- A text has no more lines than bytes.
-use Rattle.std.proofs.Common.{ℕ, ◌+◌, ◌≤◌, ◌==◌, Bool, true, false}
-use Rattle.std.proofs.Common.{List, [], ◌∷◌, arith, if◌then◌else◌, length}
+use Rattle.std.proofs.Common.{ℕ, ◌+◌, ◌≤◌, ◌==◌, Bool, true, false, List, [], ◌∷◌}
+use Rattle.std.proofs.Common.{arith, if◌then◌else◌, length}
 use Rattle.std.proofs.lemmas.List.{length-map}
-use Rattle.texting_robots.specs.Cut.{Pair, cr, lf}
+use Rattle.texting_robots.specs.{Cut.Pair, Cut.cr, Cut.lf, Line.without, Line.without_front}
 use Rattle.texting_robots.specs.Steps.Cut.{before_body, before_end, cut, read_as, read_byte}
 use Rattle.texting_robots.specs.Steps.Line.{line_of, lines_of}
-use Rattle.texting_robots.specs.Line.{without, without_front}
 use Rattle.texting_robots.proofs.CutLemmas.{pair_of}
 
 ended_at : (body ending : List ℕ) (later : List Pair)

@@ -1,18 +1,14 @@
 -- The bodies of a text, byte by byte from its back. A CR LF and a LF end a line alike.
-use Rattle.std.proofs.Common.{◌≡◌, ℕ, false, ◌==◌, ◌&&◌, inl, inr, List}
-use Rattle.std.proofs.Common.{[], ◌∷◌, if◌then◌else◌, map, slice_index, arith}
-use Rattle.std.proofs.Common.{sym, refl, ap, ◌∙◌}
+use Rattle.std.proofs.Common.{◌≡◌, ℕ, false, ◌==◌, ◌&&◌, inl, inr, List, [], ◌∷◌}
+use Rattle.std.proofs.Common.{if◌then◌else◌, map, slice_index, arith, sym, refl, ap, ◌∙◌}
+use Rattle.std.proofs.Common.{◌↔◌}
 use Rattle.std.proofs.lemmas.Bool.{cases_Bool, cond-true, cond-false, and_parts, eqb-true, ne_eqb}
-use Rattle.texting_robots.specs.Cut.{Pair, cr, lf}
+use Rattle.texting_robots.specs.{Cut.Pair, Cut.cr, Cut.lf, Computed.parsed, Laws.feeds_alone}
 use Rattle.texting_robots.specs.Steps.Cut.{before_body, before_byte, before_end, cut}
-use Rattle.texting_robots.specs.Line.{without, without_front}
-use Rattle.texting_robots.specs.Computed.{parsed}
+use Rattle.texting_robots.specs.Line.{without, without_front, AreLinesOf, LineValue}
 use Rattle.texting_robots.specs.Steps.Line.{line_of, lines_of}
-use Rattle.texting_robots.specs.Laws.{feeds_alone}
 use Rattle.texting_robots.proofs.CutLemmas.{byte_cases, cut_cons, pair_of}
 use Rattle.texting_robots.proofs.LineLemmas.{each_text_has_its_lines}
-use Rattle.std.proofs.Common.{◌↔◌}
-use Rattle.texting_robots.specs.Line.{AreLinesOf, LineValue}
 
 -- ---- the bodies of a text, from its back
 

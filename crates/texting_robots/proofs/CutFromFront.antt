@@ -1,26 +1,21 @@
 -- The cut read from the front: the first line of a text, and the lines of the rest.
 use Rattle.std.proofs.Common.{◌≡◌, ◌≢◌, ℕ, suc, ◌+◌, ◌%◌, ◌^◌, ◌<◌, ◌≤◌}
 use Rattle.std.proofs.Common.{Bool, true, false, not, ◌==◌, ◌||◌, inl, inr, List, [], ◌∷◌}
-use Rattle.std.proofs.Common.{length}
-use Rattle.std.proofs.Common.{take, drop, get_or, map, sym, refl, ap, ◌∙◌, arith, cond}
+use Rattle.std.proofs.Common.{length, take, drop, get_or, map, sym, refl, ap, ◌∙◌, arith, cond}
 use Rattle.std.proofs.Common.{if◌then◌else◌, map-id, Option, Some, None, MatchOption, bit_or}
-use Rattle.std.specs.List.{position_or_len}
+use Rattle.std.specs.{List.position_or_len, Int.trailing_zeros, Int.w64}
 use Rattle.std.proofs.lemmas.Bool.{cases_Bool, cond-true, cond-false, eq-eqb, eqb-true, ne_eqb}
-use Rattle.std.proofs.lemmas.List.{drop-map, get_or-take, take-append-drop, take-map, length-map}
-use Rattle.std.proofs.lemmas.List.{length-take, length-take-le}
+use Rattle.std.proofs.lemmas.List.{drop-map, get_or-take, take-append-drop, take-map, length-map, length-take}
+use Rattle.std.proofs.lemmas.List.{length-take-le, Recursion.is_position_or_len}
 use Rattle.std.proofs.lemmas.List.Folds.{map_fixed, prefix_len-append}
-use Rattle.std.proofs.lemmas.List.Recursion.{is_position_or_len}
 use Rattle.std.proofs.lemmas.List.Sums.{fails_before_first, prefix_len-le-length}
 use Rattle.std.proofs.lemmas.Simd.{first_set_mask_l, map-map, mask_l-mod}
-use Rattle.std.specs.Int.{trailing_zeros, w64}
 use lib.Lanes.{mask_l, top}
 use Rattle.std.proofs.Math.Bool.{or_assoc, or_comm, or_self, or-false}
 use Rattle.memchr.specs.Find.{is_byte2, is_byte3, IsFirstByte}
 use Rattle.texting_robots.proofs.RegionLemmas.{place_is, end_is}
-use Rattle.texting_robots.specs.Cut.{Pair, cr, lf}
-use Rattle.texting_robots.specs.Steps.Cut.{cut, body_len, end_len, read_byte}
-use Rattle.texting_robots.specs.Steps.Cut.{read_as}
-use Rattle.texting_robots.specs.Steps.Line.{line_of, lines_of}
+use Rattle.texting_robots.specs.{Cut.Pair, Cut.cr, Cut.lf, Steps.Line.line_of, Steps.Line.lines_of}
+use Rattle.texting_robots.specs.Steps.Cut.{cut, body_len, end_len, read_byte, read_as}
 use Rattle.texting_robots.proofs.CutLemmas.{byte_cases, cut_cons, cut_nil, pair_of}
 
 -- ---- the first pair

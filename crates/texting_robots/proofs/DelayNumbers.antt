@@ -1,19 +1,15 @@
 -- The number that digits write: bounded, cut off and rounded.
 use Rattle.std.proofs.Common.{◌≡◌, inl, inr, ℕ, zero, suc, ◌+◌, ◌-◌, ◌*◌, ◌/◌}
-use Rattle.std.proofs.Common.{◌^◌, ◌<◌, ◌≤◌, min, List, [], ◌∷◌, ◌++◌, All}
-use Rattle.std.proofs.Common.{length, get_or, take, drop, replicate, refl, sym, ap, ◌∙◌, append_assoc}
-use Rattle.std.proofs.Common.{add-one, arith, drop-cons}
+use Rattle.std.proofs.Common.{◌^◌, ◌<◌, ◌≤◌, min, List, [], ◌∷◌, ◌++◌, All, length}
+use Rattle.std.proofs.Common.{get_or, take, drop, replicate, refl, sym, ap, ◌∙◌, append_assoc, add-one}
+use Rattle.std.proofs.Common.{arith, drop-cons}
 use Rattle.std.specs.Char.{IsAsciiDigit, digit_value}
-use Rattle.std.specs.Str.{byte}
-use Rattle.std.specs.Str.Parse.{digits_value, digits_value_after}
+use Rattle.std.specs.Str.{byte, Parse.digits_value, Parse.digits_value_after}
 use Rattle.std.proofs.Math.Nat.{div-div-eq-div-mul, div-one, mul-div-mul_right, mul-le-mul_right, mul_assoc}
 use Rattle.std.proofs.Math.Nat.{one-le-pow, pow-le-pow_right, pow-suc, pow-zero, suc-sub-suc}
-use Rattle.std.proofs.lemmas.Bool.{cases_lt}
-use Rattle.std.proofs.lemmas.Int.Digits.{digits_value_more}
+use Rattle.std.proofs.lemmas.{Bool.cases_lt, Int.Digits.digits_value_more, List.Elements.All-append}
+use Rattle.std.proofs.lemmas.{List.Elements.All-get_or, Nat.div-mul-add, Nat.pow-add, Str.digit_value_digit}
 use Rattle.std.proofs.lemmas.List.{drop_all, length-append, take-replicate, take_all}
-use Rattle.std.proofs.lemmas.List.Elements.{All-append, All-get_or}
-use Rattle.std.proofs.lemmas.Nat.{div-mul-add, pow-add}
-use Rattle.std.proofs.lemmas.Str.{digit_value_digit}
 use Rattle.texting_robots.specs.Delay.{Decimal, greatest_delay, negative_exponent, positive_exponent}
 use Rattle.texting_robots.specs.Steps.Delay.{HasDigits, bounded, places, rounded}
 

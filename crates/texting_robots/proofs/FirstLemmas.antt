@@ -2,21 +2,16 @@
 use Rattle.std.proofs.Common.{◌≡◌, ◌≢◌, inl, inr, ℕ, zero, suc, ◌-◌, ◌+◌, ◌*◌}
 use Rattle.std.proofs.Common.{◌<◌, ◌≤◌, count_by, cond, leb, Bool, true, List, [], ◌∷◌}
 use Rattle.std.proofs.Common.{AllPairs, length, get_or, string_bytes, refl, sym, arith}
-use Rattle.std.proofs.Math.Nat.{mul-le-mul_left}
+use Rattle.std.proofs.{Math.Nat.mul-le-mul_left, lemmas.List.Elements.All-map, lemmas.List.Sums.sum_by-cons}
 use Rattle.std.proofs.lemmas.Bool.{cases_lt, cases_order, le-leb}
 use Rattle.std.proofs.lemmas.List.{get_or-map, get_or_default, length-drop, length-map, length-take}
-use Rattle.std.proofs.lemmas.List.Elements.{All-map}
-use Rattle.std.proofs.lemmas.List.Sums.{sum_by-cons}
-use Rattle.texting_robots.specs.declared.pieces.Span.{Span}
-use Rattle.texting_robots.specs.declared.rules.Entry.{Entry}
-use Rattle.texting_robots.specs.declared.rules.Gathered.{Gathered}
+use Rattle.texting_robots.specs.declared.{pieces.Span.Span, rules.Entry.Entry, rules.Gathered.Gathered}
 use Rattle.texting_robots.specs.Steps.Entries.{AreEntries, GoesBefore, IsEntryOf, IsFirstMatch, NoneMatches}
 use Rattle.texting_robots.specs.Steps.Entries.{no_entry, placed_at, rules_in}
 use Rattle.texting_robots.specs.Steps.Pieces.{IsSpan, part_of}
 use Rattle.texting_robots.specs.Decision.{IsDecidingRule, IsLongestMatch, LooksForRules, as_long_as}
-use Rattle.texting_robots.specs.Rules.{PlacedRule, unplaced}
+use Rattle.texting_robots.specs.{Rules.PlacedRule, Rules.unplaced, View.LooksAtMost, View.ViewValue}
 use Rattle.texting_robots.specs.Verdict.{IsVerdict, robots_file}
-use Rattle.texting_robots.specs.View.{LooksAtMost, ViewValue}
 use Rattle.texting_robots.proofs.BestLemmas.{IsAbove, IsBest, IsPreferred, NoMatch, best_decides}
 use Rattle.texting_robots.proofs.BestLemmas.{deciding_longest, longer, rank_of, verdict_by}
 

@@ -1,16 +1,12 @@
 -- The delay and the sitemaps that lines give an agent are those that are computed of them.
 use Rattle.std.proofs.Common.{◌≡◌, ◌↔◌, inl, inr, ℕ, zero, suc, ◌+◌, ◌<◌, ◌≤◌}
-use Rattle.std.proofs.Common.{Bool, true, false}
-use Rattle.std.proofs.Common.{cond, List, [], ◌∷◌, Option, Some, None, slice_get}
+use Rattle.std.proofs.Common.{Bool, true, false, cond, List, [], ◌∷◌, Option, Some, None, slice_get}
 use Rattle.std.proofs.Common.{refl, sym, ap, ◌∙◌, arith, subst, add-zero, zero-add}
-use Rattle.std.specs.Prelude.{◌⊎◌, IsTrue, filter}
+use Rattle.std.specs.{Prelude.◌⊎◌, Prelude.IsTrue, Prelude.filter, Option.option_or, Str.is_utf8}
 use Rattle.std.specs.List.{cons_option, enumerate_from, filter_map, last_or, list_any}
-use Rattle.std.specs.Option.{option_or}
-use Rattle.std.specs.Str.{is_utf8}
-use Rattle.std.proofs.lemmas.Bool.{cases_Bool, false≢true}
-use Rattle.std.proofs.lemmas.Option.{slice_get_within}
-use Rattle.texting_robots.specs.Computed.{captured_delays, delay_before_agents, delay_for}
-use Rattle.texting_robots.specs.Computed.{sitemap_in, sitemaps_in}
+use Rattle.std.proofs.lemmas.{Bool.cases_Bool, Bool.false≢true, Option.slice_get_within}
+use Rattle.texting_robots.specs.Computed.{captured_delays, delay_before_agents, delay_for, sitemap_in}
+use Rattle.texting_robots.specs.Computed.{sitemaps_in}
 use Rattle.texting_robots.specs.Group.{group_name, is_agent, passes_at}
 use Rattle.texting_robots.specs.Line.{LineValue, Allow, CrawlDelay, Disallow, Raw, Sitemap, UserAgent}
 use Rattle.texting_robots.specs.Line.{delay_in}

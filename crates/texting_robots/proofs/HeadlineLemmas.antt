@@ -1,29 +1,22 @@
 -- What the rules that lines hold answer, in whatever order they are listed.
-use Rattle.std.proofs.Common.{◌≡◌, inl, inr, ℕ, ◌+◌, ◌*◌, Bool, true, false}
-use Rattle.std.proofs.Common.{cond, List, Option, Some}
-use Rattle.std.proofs.Common.{[], ◌∷◌, None, IsPermutation, Result, Ok, Err}
-use Rattle.std.proofs.Common.{length, map, refl, sym}
-use Rattle.std.proofs.Common.{subst, take, ◌∙◌, arith}
+use Rattle.std.proofs.Common.{◌≡◌, inl, inr, ℕ, ◌+◌, ◌*◌, Bool, true, false, cond, List}
+use Rattle.std.proofs.Common.{Option, Some, [], ◌∷◌, None, IsPermutation, Result, Ok, Err, length, map}
+use Rattle.std.proofs.Common.{refl, sym, subst, take, ◌∙◌, arith}
 use Rattle.std.specs.Result.{IsErrAnd}
-use Rattle.std.proofs.lemmas.List.Sorted.{IsPermutation-sym}
-use Rattle.std.proofs.lemmas.List.Sorted.{length_permutation, sum_by-IsPermutation}
+use Rattle.std.proofs.lemmas.List.Sorted.{IsPermutation-sym, length_permutation, sum_by-IsPermutation}
 use Rattle.texting_robots.specs.declared.error.Error.{Error}
 use Rattle.texting_robots.specs.Computed.{file_lines, lines_read, placed_rules, sitemaps_in}
 use Rattle.texting_robots.specs.Decision.{IsDecidingLine, IsDecidingRule, LooksForRules, as_long_as}
-use Rattle.texting_robots.specs.Error.{IsMemoryOr}
-use Rattle.texting_robots.specs.Headline.{IsAnswerOf}
+use Rattle.texting_robots.specs.{Error.IsMemoryOr, Headline.IsAnswerOf, Steps.Robot.IsComputedRobot}
+use Rattle.texting_robots.specs.{Verdict.IsVerdict, View.LooksAtMost, View.ViewValue}
 use Rattle.texting_robots.specs.Line.{AreFileLinesOf, HasLines, LineValue, Allow, Disallow, nul_as_lf}
 use Rattle.texting_robots.specs.Robot.{AnswerAlike, IsFileRefused, IsRobotOf, IsRobotOfFile, RobotValue}
 use Rattle.texting_robots.specs.Robot.{file_limit}
 use Rattle.texting_robots.specs.Rules.{AreRulesFor, GivesNothing, HoldsRule, IsFirstOverlong, IsRefused}
 use Rattle.texting_robots.specs.Rules.{PlacedRule, Rule, unplaced}
-use Rattle.texting_robots.specs.Steps.Robot.{IsComputedRobot}
-use Rattle.texting_robots.specs.Verdict.{IsVerdict}
-use Rattle.texting_robots.specs.View.{LooksAtMost, ViewValue}
 use Rattle.texting_robots.proofs.BestLemmas.{none_denies, verdict_by}
 use Rattle.texting_robots.proofs.GivenLemmas.{delay_is_computed, sitemaps_are_computed}
-use Rattle.texting_robots.proofs.HeldLemmas.{computed_are, one_list, refusal_is_computed}
-use Rattle.texting_robots.proofs.HeldLemmas.{rules_are_computed}
+use Rattle.texting_robots.proofs.HeldLemmas.{computed_are, one_list, refusal_is_computed, rules_are_computed}
 use Rattle.texting_robots.proofs.LineLemmas.{each_text_has_its_lines}
 use Rattle.texting_robots.proofs.RulesLemmas.{refused_wider, some_overlong}
 use Rattle.texting_robots.proofs.VerdictLemmas.{longest_permuted, same_lines, same_verdicts}

@@ -1,38 +1,24 @@
 -- The rules that lines hold are those that `placed_rules` computes, in any order.
 use Rattle.std.proofs.Common.{◌≡◌, ◌≢◌, ◌⊎◌, inl, inr, ℕ, zero, suc, ◌+◌, ◌<◌}
-use Rattle.std.proofs.Common.{Bool, true, false}
-use Rattle.std.proofs.Common.{cond, List, [], ◌∷◌, Option, Some, None, AllPairs, IsPermutation}
-use Rattle.std.proofs.Common.{get_or, length, refl, sym, ap, subst, ◌∙◌, ◌↔◌, arith, swap}
-use Rattle.std.proofs.Common.{zero-add}
+use Rattle.std.proofs.Common.{Bool, true, false, cond, List, [], ◌∷◌, Option, Some, None, AllPairs}
+use Rattle.std.proofs.Common.{IsPermutation, get_or, length, refl, sym, ap, subst, ◌∙◌, ◌↔◌}
+use Rattle.std.proofs.Common.{arith, swap, zero-add}
 use Rattle.std.specs.List.{All, Any, Contains, cons_option, enumerate_from, filter_map}
-use Rattle.std.specs.Prelude.{filter}
-use Rattle.std.proofs.lemmas.Bool.{cases_Bool, cases_eq}
+use Rattle.std.specs.{Prelude.filter, Prelude.IsTrue, Str.is_utf8}
+use Rattle.std.proofs.lemmas.{Bool.cases_Bool, Bool.cases_eq, List.Kept.AllPairs-cons}
 use Rattle.std.proofs.lemmas.List.Edits.{Swapped, swapped_from_swap, length-swap}
 use Rattle.std.proofs.lemmas.List.Elements.{All-cons, All-nil, All-weaker}
-use Rattle.std.proofs.lemmas.List.Kept.{AllPairs-cons}
 use Rattle.std.proofs.lemmas.List.Sorted.{Contains-permutation, IsPermutation-cons, IsPermutation-keeps}
 use Rattle.std.proofs.lemmas.List.Sorted.{IsPermutation-refl, IsPermutation-remove, IsPermutation-sym}
 use Rattle.std.proofs.lemmas.List.Sorted.{IsPermutation-trans}
-use Rattle.texting_robots.specs.Computed.{placed_in, placed_rules, rule_in}
-use Rattle.texting_robots.specs.Rules.{PlacedRule, Rule}
-use Rattle.texting_robots.specs.Line.{LineValue, Allow, Disallow}
-use Rattle.texting_robots.specs.Rules.{AreRulesFor}
+use Rattle.texting_robots.specs.Computed.{placed_in, placed_rules, rule_in, rules_for}
+use Rattle.texting_robots.specs.Rules.{PlacedRule, Rule, AreRulesFor, HoldsRule, IsRefused}
+use Rattle.texting_robots.specs.{Line.LineValue, Line.Allow, Line.Disallow, Escape.escaped, Group.group_name}
+use Rattle.texting_robots.specs.{Steps.Captured.is_captured, Steps.Group.placed, Pattern.IsOverlong}
 use Rattle.std.proofs.lemmas.Option.{get_or_from_slice_get, slice_get_within}
-use Rattle.std.specs.Prelude.{IsTrue}
-use Rattle.std.specs.Str.{is_utf8}
 use Rattle.std.proofs.lemmas.List.FromFn.{get_or-enumerate_from, length-enumerate_from}
-use Rattle.texting_robots.specs.Escape.{escaped}
-use Rattle.texting_robots.specs.Group.{group_name}
-use Rattle.texting_robots.specs.Rules.{HoldsRule}
-use Rattle.texting_robots.specs.Steps.Captured.{is_captured}
-use Rattle.texting_robots.specs.Steps.Group.{placed}
 use Rattle.texting_robots.proofs.CapturedLemmas.{is_captured_decides}
-use Rattle.texting_robots.proofs.PlacedLemmas.{rule_on_line}
-use Rattle.texting_robots.proofs.RulesLemmas.{any_unplaced}
-use Rattle.texting_robots.proofs.BestLemmas.{placed_of}
-use Rattle.texting_robots.specs.Pattern.{IsOverlong}
-use Rattle.texting_robots.specs.Computed.{rules_for}
-use Rattle.texting_robots.specs.Rules.{IsRefused}
+use Rattle.texting_robots.proofs.{PlacedLemmas.rule_on_line, RulesLemmas.any_unplaced, BestLemmas.placed_of}
 
 -- ---- lists in which no line stands twice
 

@@ -1,9 +1,7 @@
 -- A key against a spelling.
 use Rattle.std.proofs.Common.{◌≡◌, ℕ, true, false, List, length, take, map, sym, ap, ◌∙◌}
 use Rattle.std.specs.Char.{to_ascii_lowercase}
-use Rattle.std.proofs.lemmas.Bool.{false_from_ne_true}
-use Rattle.std.proofs.lemmas.Slice.Eq.{bytes_eq-Decides}
-use Rattle.std.proofs.lemmas.List.{length-map}
+use Rattle.std.proofs.lemmas.{Bool.false_from_ne_true, Slice.Eq.bytes_eq-Decides, List.length-map}
 use Rattle.texting_robots.specs.Steps.Statement.{begins}
 
 module _ (spelling text key : List ℕ) (front : key ≡ take (length spelling) text) where

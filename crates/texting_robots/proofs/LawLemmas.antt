@@ -1,29 +1,21 @@
 -- What a change of the lines leaves as it was.
 use Rattle.std.proofs.Common.{◌≡◌, ◌↔◌, inl, inr, ℕ, suc, ◌+◌, Bool, true, false, not}
-use Rattle.std.proofs.Common.{◌||◌, List, [], ◌∷◌, ◌++◌, Option, None, length, drop}
-use Rattle.std.proofs.Common.{filter, cond, codes, zero-add, add-zero, arith, sym, refl, ap, ◌∙◌, subst}
-use Rattle.std.specs.List.{Any, cons_option, filter_map, list_any}
-use Rattle.std.specs.Str.{str_to_ascii_lowercase}
+use Rattle.std.proofs.Common.{◌||◌, List, [], ◌∷◌, ◌++◌, Option, None, length, drop, filter}
+use Rattle.std.proofs.Common.{cond, codes, zero-add, add-zero, arith, sym, refl, ap, ◌∙◌, subst}
+use Rattle.std.specs.{List.Any, List.cons_option, List.filter_map, List.list_any, Str.str_to_ascii_lowercase}
 use Rattle.std.proofs.lemmas.Bool.{cases_Bool, false≢true, false_from_ne_true}
-use Rattle.std.proofs.lemmas.List.Elements.{filter_map-append}
-use Rattle.std.proofs.lemmas.List.Folds.{list_any-append}
-use Rattle.texting_robots.specs.declared.groups.Walk.{Walk}
-use Rattle.texting_robots.specs.Line.{LineValue, Allow, Disallow, Sitemap, CrawlDelay, Raw}
-use Rattle.texting_robots.specs.Line.{delay_in, is_raw, is_sitemap}
-use Rattle.texting_robots.specs.Group.{group_name, is_agent}
-use Rattle.texting_robots.specs.Group.{is_agent_named, is_group}
-use Rattle.texting_robots.specs.Computed.{delay_for}
-use Rattle.texting_robots.specs.Rules.{Rule}
-use Rattle.texting_robots.specs.Computed.{rule_in, rules_for, sitemap_in, sitemaps_in}
-use Rattle.texting_robots.specs.Pattern.{IsOverlong}
-use Rattle.texting_robots.specs.Verdict.{IsVerdict}
+use Rattle.std.proofs.lemmas.List.{Elements.filter_map-append, Folds.list_any-append}
+use Rattle.texting_robots.specs.{declared.groups.Walk.Walk, Rules.Rule, Pattern.IsOverlong, Verdict.IsVerdict}
+use Rattle.texting_robots.specs.Line.{LineValue, Allow, Disallow, Sitemap, CrawlDelay, Raw, delay_in, is_raw}
+use Rattle.texting_robots.specs.Line.{is_sitemap}
+use Rattle.texting_robots.specs.Group.{group_name, is_agent, is_agent_named, is_group, IsCaptured}
+use Rattle.texting_robots.specs.Computed.{delay_for, rule_in, rules_for, sitemap_in, sitemaps_in}
 use Rattle.texting_robots.specs.Steps.Group.{start_of, step}
 use Rattle.texting_robots.specs.Laws.{IsSameKind, Same, SameButSitemaps}
 use Rattle.texting_robots.proofs.CapturedLemmas.{IsWalkAt, at_front, delays_are, given_captured}
-use Rattle.texting_robots.proofs.CapturedLemmas.{is_captured_decides}
+use Rattle.texting_robots.proofs.CapturedLemmas.{is_captured_decides, only_agents, rules_are, stands_first}
+use Rattle.texting_robots.proofs.CapturedLemmas.{stands_next}
 use Rattle.texting_robots.proofs.RulesLemmas.{before_agent, before_agents}
-use Rattle.texting_robots.proofs.CapturedLemmas.{only_agents, rules_are, stands_first, stands_next}
-use Rattle.texting_robots.specs.Group.{IsCaptured}
 use Rattle.texting_robots.proofs.HeldLemmas.{refusal_is_computed}
 
 -- ---- lists that give the same

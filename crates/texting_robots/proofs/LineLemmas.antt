@@ -1,30 +1,21 @@
 -- The lines that the walk gives are those of the text, and hold ranges of it.
-use Rattle.std.proofs.Common.{◌≡◌, ◌⊎◌, ℕ, false, inl, inr}
-use Rattle.std.proofs.Common.{List, [], ◌∷◌, ◌++◌, map, sym, refl, ap}
-use Rattle.std.proofs.Common.{◌∙◌, append_assoc, append-nil, Option, Some, None, ◌==◌, subst}
+use Rattle.std.proofs.Common.{◌≡◌, ◌⊎◌, ℕ, false, inl, inr, List, [], ◌∷◌, ◌++◌, map}
+use Rattle.std.proofs.Common.{sym, refl, ap, ◌∙◌, append_assoc, append-nil, Option, Some, None}
+use Rattle.std.proofs.Common.{◌==◌, subst, ◌↔◌}
 use Rattle.std.specs.List.{AllZip}
 use Rattle.std.proofs.lemmas.Bool.{cases_Bool, cond-true, cond-false}
-use Rattle.texting_robots.specs.declared.parser.statement.Kind.{Kind}
-use Rattle.texting_robots.specs.declared.parser.statement.Kind.TheVariants as kind
-use Rattle.texting_robots.specs.Cut.{Pair}
-use Rattle.texting_robots.specs.Steps.Cut.{cut}
+use Rattle.texting_robots.specs.{declared.parser.statement.Kind.Kind, Cut.Pair, Steps.Cut.cut, Group.is_agent}
+use Rattle.texting_robots.specs.{Computed.parsed, Steps.Delay.delay_of, Delay.IsDelay}
 use Rattle.texting_robots.specs.Statement.{IsBehindBlanks, IsBehindColon, IsStatement}
-use Rattle.texting_robots.specs.Steps.Statement.{colon}
-use Rattle.texting_robots.specs.Steps.Statement.{kind_by, skip_blanks, statement_of, tail_as, value_of}
-use Rattle.texting_robots.specs.Group.{is_agent}
-use Rattle.texting_robots.specs.Line.{AreLinesOf, HoldRangesOf, HoldsRangeOf}
-use Rattle.texting_robots.specs.Line.{IsLineOf, IsLineWith, IsRangeOf, LineValue, Raw}
-use Rattle.texting_robots.specs.Line.{CrawlDelay, Sitemap, UserAgent, delay_in, is_sitemap}
+use Rattle.texting_robots.specs.Steps.Statement.{colon, kind_by, skip_blanks, statement_of, tail_as, value_of}
+use Rattle.texting_robots.specs.Line.{AreLinesOf, HoldRangesOf, HoldsRangeOf, IsLineOf, IsLineWith, IsRangeOf}
+use Rattle.texting_robots.specs.Line.{LineValue, Raw, CrawlDelay, Sitemap, UserAgent, delay_in, is_sitemap}
 use Rattle.texting_robots.specs.Line.{without, without_front}
-use Rattle.texting_robots.specs.Computed.{parsed}
 use Rattle.texting_robots.specs.Steps.Line.{delay_or_raw, line_by, line_of, line_with}
-use Rattle.texting_robots.specs.Steps.Delay.{delay_of}
-use Rattle.texting_robots.specs.Delay.{IsDelay}
 use Rattle.texting_robots.proofs.DelayLemmas.{delay_of_is, is_delay_of}
 use Rattle.texting_robots.proofs.CutLemmas.{is_cut, only_cut}
-use Rattle.texting_robots.proofs.StatementLemmas.{statement_found, found_statement}
-use Rattle.texting_robots.proofs.StatementLemmas.{unstated}
-use Rattle.std.proofs.Common.{◌↔◌}
+use Rattle.texting_robots.proofs.StatementLemmas.{statement_found, found_statement, unstated}
+use Rattle.texting_robots.specs.declared.parser.statement.Kind.TheVariants as kind
 
 -- ---- the line of a body
 

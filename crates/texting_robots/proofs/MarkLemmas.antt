@@ -1,24 +1,19 @@
 -- Each line stands where the definition by places has it.
 use Rattle.std.proofs.Common.{◌≡◌, ◌⊎◌, inl, inr, ℕ, zero, suc, ◌+◌, ◌<◌, ◌≤◌}
-use Rattle.std.proofs.Common.{◌↔◌, Bool, true, false, not}
-use Rattle.std.proofs.Common.{◌&&◌, ◌||◌, List, [], ◌∷◌, Option, Some, None, slice_get}
-use Rattle.std.proofs.Common.{◌-◌, length, length-drop, cond, slice_index_or}
-use Rattle.std.proofs.Common.{drop, take, map, ap, sym, refl, ◌∙◌, arith}
-use Rattle.std.specs.Bool.{Decides}
-use Rattle.std.specs.List.{enumerate_from, list_any}
+use Rattle.std.proofs.Common.{◌↔◌, Bool, true, false, not, ◌&&◌, ◌||◌, List, [], ◌∷◌}
+use Rattle.std.proofs.Common.{Option, Some, None, slice_get, ◌-◌, length, length-drop, cond}
+use Rattle.std.proofs.Common.{slice_index_or, drop, take, map, ap, sym, refl, ◌∙◌, arith}
+use Rattle.std.specs.{Bool.Decides, List.enumerate_from, List.list_any}
 use Rattle.std.proofs.lemmas.Bool.{cases_Bool, cases_lt, cases_order, false≢true, or_left, or_right}
-use Rattle.std.proofs.lemmas.Bool.Decides.{Decides-like}
+use Rattle.std.proofs.lemmas.{Bool.Decides.Decides-like, List.get_or-drop, Option.slice_get-get_or}
 use Rattle.std.proofs.lemmas.List.Sums.{fails_before_first, passes_at_first}
-use Rattle.std.proofs.lemmas.List.{get_or-drop}
-use Rattle.std.proofs.lemmas.Option.{slice_get-get_or}
 use Rattle.std.proofs.Math.Nat.{add-zero, zero-add}
 use Rattle.texting_robots.specs.declared.marks.Standing.{Standing}
 use Rattle.texting_robots.specs.declared.marks.Standing.TheVariants.{Own, Other, Outside}
 use Rattle.texting_robots.specs.Group.{IsCaptured, is_agent, is_agent_named, is_group, passes_at}
-use Rattle.texting_robots.specs.Line.{LineValue, Raw, UserAgent}
+use Rattle.texting_robots.specs.{Line.LineValue, Line.Raw, Line.UserAgent, Steps.Captured.is_captured}
 use Rattle.texting_robots.specs.Marks.{AreMarksOf, AreOneRun, IsInGroup, IsInOwnGroup, Mark, StandsAs}
 use Rattle.texting_robots.specs.Marks.{mark_at, marks_of, next_group, standing_of}
-use Rattle.texting_robots.specs.Steps.Captured.{is_captured}
 use Rattle.texting_robots.proofs.CapturedLemmas.{at_front, is_captured_decides, only_agents}
 
 -- ---- tests of places

@@ -1,19 +1,14 @@
 -- What a pattern matches begins as its first piece, and has the pairs of neighbouring bytes of its searched
 -- pieces.
-use Rattle.std.proofs.Common.{◌≡◌, ℕ, ◌*◌, ◌^◌, ◌%◌, ◌<◌}
-use Rattle.std.proofs.Common.{◌≤◌, List, [], ◌∷◌, ◌++◌, length, min}
-use Rattle.std.proofs.Common.{get_or, drop, take, sym, refl, ap, subst, ◌∙◌, arith}
-use Rattle.std.specs.Int.RustNames.{bit_and, bit_or}
-use Rattle.std.specs.Int.Bits.{or_self, or_zero_l}
-use Rattle.std.proofs.lemmas.Nat.{and_mask, or_comm}
-use Rattle.std.proofs.lemmas.Nat.Bits.{bit_at_or, same_from_bits}
-use Rattle.texting_robots.specs.declared.needs.Needs.{Needs}
-use Rattle.texting_robots.specs.declared.needs.head.Head.{Head}
-use Rattle.texting_robots.specs.declared.pieces.Ending.{Ending}
-use Rattle.texting_robots.specs.declared.pieces.Ends.{Ends}
-use Rattle.texting_robots.specs.declared.pieces.Piece.{Piece}
-use Rattle.texting_robots.specs.Steps.Needs.{AreNeeds, AreWithin, Fits, IsHeadOf}
-use Rattle.texting_robots.specs.Steps.Needs.{front_bit, front_of, ones_below, pair_bit, pair_set}
+use Rattle.std.proofs.Common.{◌≡◌, ℕ, ◌*◌, ◌^◌, ◌%◌, ◌<◌, ◌≤◌, List, []}
+use Rattle.std.proofs.Common.{◌∷◌, ◌++◌, length, min, get_or, drop, take, sym, refl, ap, subst}
+use Rattle.std.proofs.Common.{◌∙◌, arith}
+use Rattle.std.specs.Int.{RustNames.bit_and, RustNames.bit_or, Bits.or_self, Bits.or_zero_l}
+use Rattle.std.proofs.lemmas.Nat.{and_mask, or_comm, Bits.bit_at_or, Bits.same_from_bits}
+use Rattle.texting_robots.specs.declared.needs.{Needs.Needs, head.Head.Head}
+use Rattle.texting_robots.specs.declared.pieces.{Ending.Ending, Ends.Ends, Piece.Piece}
+use Rattle.texting_robots.specs.Steps.Needs.{AreNeeds, AreWithin, Fits, IsHeadOf, front_bit, front_of}
+use Rattle.texting_robots.specs.Steps.Needs.{ones_below, pair_bit, pair_set}
 use Rattle.texting_robots.specs.Steps.Pieces.{AreLeft, ArePieces, part_of}
 use Rattle.texting_robots.specs.Pattern.{Matches}
 

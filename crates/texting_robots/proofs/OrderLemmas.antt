@@ -1,13 +1,12 @@
 -- What the order of patterns says in words.
-use Rattle.std.proofs.Common.{◌≡◌, ◌↔◌, ◌⊎◌, ℕ, ◌<◌, inl, inr, suc, arith, List}
-use Rattle.std.proofs.Common.{[], ◌∷◌, length, slice_index, take, zero, sym, refl, ap, ◌∙◌}
-use Rattle.std.proofs.Common.{Less, Equal, Greater}
-use Rattle.std.specs.Cmp.{IsTotalOrder, nat_cmp_is}
-use Rattle.std.specs.Cmp.Lexicographic.{slice_cmp}
+use Rattle.std.proofs.Common.{◌≡◌, ◌↔◌, ◌⊎◌, ℕ, ◌<◌, inl, inr, suc, arith, List, []}
+use Rattle.std.proofs.Common.{◌∷◌, length, slice_index, take, zero, sym, refl, ap, ◌∙◌, Less}
+use Rattle.std.proofs.Common.{Equal, Greater}
+use Rattle.std.specs.Cmp.{IsTotalOrder, nat_cmp_is, Lexicographic.slice_cmp}
 use Rattle.std.specs.Ordering.{MatchOrdering, nat_cmp, ordering_reverse, ordering_then}
 use Rattle.std.specs.declared.cmp.Ordering.{Ordering}
-use Rattle.std.proofs.lemmas.Cmp.{back_total, by_ranked, nat_cmp_total, nat_list_cmp_total, on_total}
-use Rattle.std.proofs.lemmas.Cmp.{ranked, then_total, tied_itself}
+use Rattle.std.proofs.lemmas.Cmp.{back_total, by_ranked, nat_cmp_total, nat_list_cmp_total, on_total, ranked}
+use Rattle.std.proofs.lemmas.Cmp.{then_total, tied_itself}
 use Rattle.texting_robots.specs.Order.{IsBefore, pattern_cmp}
 
 pub cmp_less : (x y : ℕ) → x < y → nat_cmp x y ≡ Less

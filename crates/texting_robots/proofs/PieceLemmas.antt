@@ -1,21 +1,16 @@
 -- Cutting a pattern from left to right, and what its pieces decide.
-use Rattle.std.proofs.Common.{◌≡◌, ◌≢◌, ◌↔◌, ◌==◌, ℕ, ◌+◌, ◌-◌}
-use Rattle.std.proofs.Common.{true, List, [], ◌∷◌, ◌++◌, All}
-use Rattle.std.proofs.Common.{length, take, refl, sym, ap, subst, ◌∙◌, append_assoc}
-use Rattle.std.proofs.Common.{append-nil, take-append-drop, length-append, arith}
+use Rattle.std.proofs.Common.{◌≡◌, ◌≢◌, ◌↔◌, ◌==◌, ℕ, ◌+◌, ◌-◌, true, List}
+use Rattle.std.proofs.Common.{[], ◌∷◌, ◌++◌, All, length, take, refl, sym, ap, subst, ◌∙◌}
+use Rattle.std.proofs.Common.{append_assoc, append-nil, take-append-drop, length-append, arith}
 use Rattle.std.specs.List.{prefix_len}
-use Rattle.std.proofs.lemmas.List.{drop_at, take_at}
+use Rattle.std.proofs.lemmas.List.{drop_at, take_at, Prefix.end_rest, Prefix.front_rest}
 use Rattle.std.proofs.lemmas.List.Elements.{All-cons, All-nil}
-use Rattle.std.proofs.lemmas.List.Prefix.{end_rest, front_rest}
-use Rattle.texting_robots.specs.declared.pieces.Ends.{Ends}
-use Rattle.texting_robots.specs.declared.pieces.Ending.{Ending}
+use Rattle.texting_robots.specs.declared.pieces.{Ends.Ends, Ending.Ending, Piece.Piece, Span.Span}
 use Rattle.texting_robots.specs.declared.pieces.Ending.TheVariants.{Open, Closed, Last, Never}
-use Rattle.texting_robots.specs.declared.pieces.Piece.{Piece}
-use Rattle.texting_robots.specs.declared.pieces.Span.{Span}
 use Rattle.texting_robots.specs.Steps.Border.{IsTable}
-use Rattle.texting_robots.specs.Steps.Pieces.{AddsPieces, AreLeft, ArePieces, behind_stars, part_of}
-use Rattle.texting_robots.specs.Steps.Pieces.{Closes, EndsAs, IsAtMark, IsCutAtMark, IsEnding, IsLeft}
-use Rattle.texting_robots.specs.Steps.Pieces.{IsPiece, IsSpan, Somewhere}
+use Rattle.texting_robots.specs.Steps.Pieces.{AddsPieces, AreLeft, ArePieces, behind_stars, part_of, Closes}
+use Rattle.texting_robots.specs.Steps.Pieces.{EndsAs, IsAtMark, IsCutAtMark, IsEnding, IsLeft, IsPiece}
+use Rattle.texting_robots.specs.Steps.Pieces.{IsSpan, Somewhere}
 use Rattle.texting_robots.specs.Pattern.{IsSuffix, Matches, star}
 use Rattle.texting_robots.proofs.PatternLemmas.{closes_decides, end_matches, grows_at_mark, in_front}
 use Rattle.texting_robots.proofs.PatternLemmas.{mark_matches_none, plain_marks, somewhere, star_stars}

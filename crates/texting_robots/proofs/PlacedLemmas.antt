@@ -1,20 +1,15 @@
 -- Each rule that is computed of lines stands on its line.
-use Rattle.std.proofs.Common.{◌≡◌, ℕ, zero, suc, ◌+◌, ◌<◌, Bool, true, false}
-use Rattle.std.proofs.Common.{cond, List, [], ◌∷◌, Option, Some, None}
-use Rattle.std.proofs.Common.{get_or, length, refl, sym, ap, ◌∙◌, arith, zero-add}
-use Rattle.std.specs.List.{Contains, cons_option, enumerate_from, filter_map}
+use Rattle.std.proofs.Common.{◌≡◌, ℕ, zero, suc, ◌+◌, ◌<◌, Bool, true, false, cond, List, []}
+use Rattle.std.proofs.Common.{◌∷◌, Option, Some, None, get_or, length, refl, sym, ap, ◌∙◌, arith}
+use Rattle.std.proofs.Common.{zero-add}
+use Rattle.std.specs.{List.Contains, List.cons_option, List.enumerate_from, List.filter_map, Str.is_utf8}
 use Rattle.std.proofs.lemmas.List.Elements.{All-contains, All-contains_itself, All-filter, filter_passes}
 use Rattle.std.proofs.lemmas.List.FromFn.{get_or-enumerate_from, length-enumerate_from}
 use Rattle.std.proofs.lemmas.Option.{slice_get-get_or}
-use Rattle.std.specs.Str.{is_utf8}
-use Rattle.texting_robots.specs.Escape.{escaped}
-use Rattle.texting_robots.specs.Group.{group_name}
-use Rattle.texting_robots.specs.Steps.Captured.{is_captured}
-use Rattle.texting_robots.specs.Rules.{HoldsRule}
+use Rattle.texting_robots.specs.{Escape.escaped, Group.group_name, Rules.HoldsRule, Rules.PlacedRule}
+use Rattle.texting_robots.specs.Steps.{Captured.is_captured, Group.placed}
 use Rattle.texting_robots.specs.Line.{LineValue, Allow, Disallow}
 use Rattle.texting_robots.specs.Computed.{captured_lines, placed_in, placed_rules, rule_in}
-use Rattle.texting_robots.specs.Rules.{PlacedRule}
-use Rattle.texting_robots.specs.Steps.Group.{placed}
 use Rattle.texting_robots.proofs.CapturedLemmas.{is_captured_decides}
 
 -- what is found in a list comes from one of its elements

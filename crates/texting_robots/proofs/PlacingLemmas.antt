@@ -1,13 +1,11 @@
 -- A piece may be placed where it first stands, and what is found by its place.
-use Rattle.std.proofs.Common.{◌≡◌, ◌↔◌, ⊎_elim, ℕ, ◌+◌, ◌-◌, ◌≤◌, Some}
-use Rattle.std.proofs.Common.{None, List, [], ◌++◌, length, take, drop, sym, ap, subst, ◌∙◌}
-use Rattle.std.proofs.Common.{arith, append-nil, take-append-drop, drop-drop, length-append, length-drop}
+use Rattle.std.proofs.Common.{◌≡◌, ◌↔◌, ⊎_elim, ℕ, ◌+◌, ◌-◌, ◌≤◌, Some, None}
+use Rattle.std.proofs.Common.{List, [], ◌++◌, length, take, drop, sym, ap, subst, ◌∙◌, arith}
+use Rattle.std.proofs.Common.{append-nil, take-append-drop, drop-drop, length-append, length-drop}
 use Rattle.std.proofs.lemmas.Bool.{cases_lt}
-use Rattle.std.proofs.lemmas.List.{drop_all}
-use Rattle.std.proofs.lemmas.List.Prefix.{at_from_reads, at_reads, front_rest}
+use Rattle.std.proofs.lemmas.List.{drop_all, Prefix.at_from_reads, Prefix.at_reads, Prefix.front_rest}
 use Rattle.memchr.specs.Find.{FindsNeedle, OccursAt}
-use Rattle.texting_robots.specs.Pattern.{IsSuffix}
-use Rattle.texting_robots.specs.Steps.Stars.{IsBehindFirst, StandsNowhere}
+use Rattle.texting_robots.specs.{Pattern.IsSuffix, Steps.Stars.IsBehindFirst, Steps.Stars.StandsNowhere}
 
 -- where R holds of a text if it holds of an end of it, the first place of the piece is enough
 pub first_is_enough : (R : List ℕ → Type 0) (piece t : List ℕ)

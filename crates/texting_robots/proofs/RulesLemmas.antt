@@ -1,26 +1,21 @@
 -- What the code's loops keep.
-use Rattle.std.proofs.Common.{◌≡◌, ℕ, Bool, true, false, not, cond, List, [], ◌∷◌, ◌++◌, Option, Some}
-use Rattle.std.proofs.Common.{None, length, slice_get, append_assoc, length-append}
-use Rattle.std.proofs.Common.{subst, sym, refl, ap, ◌∙◌, arith, inl, inr}
+use Rattle.std.proofs.Common.{◌≡◌, ℕ, Bool, true, false, not, cond, List, [], ◌∷◌, ◌++◌}
+use Rattle.std.proofs.Common.{Option, Some, None, length, slice_get, append_assoc, length-append, subst, sym}
+use Rattle.std.proofs.Common.{refl, ap, ◌∙◌, arith, inl, inr}
 use Rattle.std.specs.List.{All, Any, before_first, cons_option, filter_map, last_or, list_any}
 use Rattle.std.specs.Option.{option_to_list, option_or, IfSome, IsSomeAnd}
 use Rattle.std.specs.Str.{IsUtf8, is_utf8}
 use Rattle.std.proofs.lemmas.Bool.{cases_Bool, false_from_ne_true, false≢true}
-use Rattle.std.proofs.lemmas.List.{append-nil, get_or-map, get_or_at, length-map}
+use Rattle.std.proofs.lemmas.List.{append-nil, get_or-map, get_or_at, length-map, Sums.take_while-cons}
 use Rattle.std.proofs.lemmas.List.Elements.{All-push}
-use Rattle.std.proofs.lemmas.List.Sums.{take_while-cons}
 use Rattle.std.proofs.lemmas.Str.{IsUtf8-from_is_utf8, is_utf8-from_IsUtf8}
 use Rattle.texting_robots.specs.declared.error.Error.{Error}
-use Rattle.texting_robots.specs.declared.error.Error.TheVariants as mine
 use Rattle.texting_robots.specs.Line.{LineValue, Sitemap, delay_in, is_sitemap}
-use Rattle.texting_robots.specs.Computed.{sitemap_in}
-use Rattle.texting_robots.specs.Pattern.{IsOverlong}
+use Rattle.texting_robots.specs.{Computed.sitemap_in, Pattern.IsOverlong, Error.IsMemoryOr, Group.is_agent}
 use Rattle.texting_robots.specs.Rules.{IsFirstOverlong, PlacedRule, Rule, unplaced}
-use Rattle.texting_robots.specs.Steps.Group.{placed}
-use Rattle.texting_robots.specs.Steps.Robot.{IsRefusalOf, refusal_at}
-use Rattle.texting_robots.specs.Error.{IsMemoryOr}
+use Rattle.texting_robots.specs.Steps.{Group.placed, Robot.IsRefusalOf, Robot.refusal_at}
 use Rattle.texting_robots.proofs.BestLemmas.{placed_of}
-use Rattle.texting_robots.specs.Group.{is_agent}
+use Rattle.texting_robots.specs.declared.error.Error.TheVariants as mine
 
 -- ---- what lines give
 

@@ -1,15 +1,12 @@
 -- What stands in shared vectors stays there when more is added.
-use Rattle.std.proofs.Common.{◌≡◌, ℕ, ◌+◌, ◌-◌, List, [], ◌∷◌, ◌++◌, All}
-use Rattle.std.proofs.Common.{length, drop, map, slice_range, take, refl, sym, ap, ◌∙◌, arith}
-use Rattle.std.proofs.lemmas.List.{drop-append-le, drop_at, length-append}
-use Rattle.std.proofs.lemmas.List.{length-drop, map_push, take-append-le, take_all}
+use Rattle.std.proofs.Common.{◌≡◌, ℕ, ◌+◌, ◌-◌, List, [], ◌∷◌, ◌++◌, All, length}
+use Rattle.std.proofs.Common.{drop, map, slice_range, take, refl, sym, ap, ◌∙◌, arith}
+use Rattle.std.proofs.lemmas.List.{drop-append-le, drop_at, length-append, length-drop, map_push}
+use Rattle.std.proofs.lemmas.List.{take-append-le, take_all}
 use Rattle.std.proofs.lemmas.List.Elements.{All-head, All-push, All-tail, All-weaker}
-use Rattle.texting_robots.specs.declared.pieces.Ends.{Ends}
-use Rattle.texting_robots.specs.declared.pieces.Piece.{Piece}
-use Rattle.texting_robots.specs.declared.pieces.Span.{Span}
+use Rattle.texting_robots.specs.declared.pieces.{Ends.Ends, Piece.Piece, Span.Span}
 use Rattle.texting_robots.specs.declared.rules.Entry.{Entry}
-use Rattle.texting_robots.specs.Steps.Entries.{IsEntry, placed_at, rank}
-use Rattle.texting_robots.specs.Steps.Needs.{AreNeeds}
+use Rattle.texting_robots.specs.Steps.{Entries.IsEntry, Entries.placed_at, Entries.rank, Needs.AreNeeds}
 use Rattle.texting_robots.specs.Steps.Pieces.{ArePieces, IsPiece, IsSpan, part_of}
 
 -- the range of what was added

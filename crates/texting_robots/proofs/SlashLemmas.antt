@@ -1,18 +1,13 @@
 -- A text with a slash in front is no absolute URL, so it is prepared by escaping it.
-use Rattle.std.proofs.Common.{◌≡◌, ℕ, ◌+◌, ◌-◌, ◌≤◌, None, Ok, Err}
-use Rattle.std.proofs.Common.{List, [], ◌∷◌, ◌++◌, length, take, suc, ap, arith}
-use Rattle.std.specs.List.{prefix_len, suffix_len}
-use Rattle.std.specs.Prelude.{reverse, slice_index}
-use Rattle.std.proofs.lemmas.Bool.{cond_both}
-use Rattle.std.proofs.lemmas.List.{length-reverse, reverse-append}
+use Rattle.std.proofs.Common.{◌≡◌, ℕ, ◌+◌, ◌-◌, ◌≤◌, None, Ok, Err, List, [], ◌∷◌}
+use Rattle.std.proofs.Common.{◌++◌, length, take, suc, ap, arith}
+use Rattle.std.specs.{List.prefix_len, List.suffix_len, Prelude.reverse, Prelude.slice_index}
+use Rattle.std.proofs.lemmas.{Bool.cond_both, List.length-reverse, List.reverse-append}
 use Rattle.url.specs.declared.error.ParseError.TheVariants.{RelativeUrlWithoutBase}
-use Rattle.url.specs.Input.{is_c0_control_or_space, trim_c0_control_and_space}
-use Rattle.url.specs.Input.{strip_tabs_and_new_lines, split_once}
-use Rattle.url.specs.Scheme.{scheme_len}
-use Rattle.url.specs.Parts.{Parts}
+use Rattle.url.specs.{Input.is_c0_control_or_space, Input.trim_c0_control_and_space}
+use Rattle.url.specs.{Input.strip_tabs_and_new_lines, Input.split_once, Scheme.scheme_len, Parts.Parts}
 use Rattle.url.specs.Parser.{Parsed, parse_by_scheme, split_scheme, parse_url}
-use Rattle.texting_robots.specs.Escape.{escaped}
-use Rattle.texting_robots.specs.Prepared.{prepared, target_of}
+use Rattle.texting_robots.specs.{Escape.escaped, Prepared.prepared, Prepared.target_of}
 
 abbrev slash : ℕ
 slash = 47

@@ -5,20 +5,16 @@ use Rattle.std.proofs.Common.{arith, ap, refl, sym, add-one, ◌∙◌}
 use Rattle.std.specs.List.{enumerate_from, filter_map, list_any, position_or_len}
 use Rattle.std.specs.{Bool.then_some, Option.IfSome}
 use Rattle.std.proofs.lemmas.Bool.{cases_Bool, cond-false, cond-true}
-use Rattle.std.proofs.Math.Bool.{or-false, or_assoc}
-use Rattle.std.proofs.Math.Nat.{add-zero}
-use Rattle.texting_robots.specs.declared.groups.Walk.{Walk}
+use Rattle.std.proofs.Math.{Bool.or-false, Bool.or_assoc, Nat.add-zero}
+use Rattle.texting_robots.specs.{declared.groups.Walk.Walk, Group.group_name, Group.is_agent, Group.is_group}
+use Rattle.texting_robots.specs.{Line.Allow, Line.Disallow, Line.LineValue, Marks.is_own, Marks.mark_at}
+use Rattle.texting_robots.specs.{Marks.marks_of, Rules.Rule, Steps.Captured.is_captured}
 use Rattle.texting_robots.specs.declared.marks.Standing.TheVariants.{Own, Other, Outside}
-use Rattle.texting_robots.specs.Group.{group_name, is_agent, is_group}
-use Rattle.texting_robots.specs.Line.{Allow, Disallow, LineValue}
-use Rattle.texting_robots.specs.Marks.{is_own, mark_at, marks_of}
 use Rattle.texting_robots.specs.Computed.{placed_in, placed_rules, rule_in}
-use Rattle.texting_robots.specs.Rules.{Rule}
-use Rattle.texting_robots.specs.Steps.Captured.{is_captured}
 use Rattle.texting_robots.specs.Steps.Group.{captured_ahead, from_captured, if_captured, marks_from}
 use Rattle.texting_robots.specs.Steps.Group.{own_rule_at, placed, standing_by, start_of, step}
-use Rattle.texting_robots.proofs.CapturedLemmas.{IsWalkAt, at_front, captured_walked, cond_same}
-use Rattle.texting_robots.proofs.CapturedLemmas.{stands_first, stands_next}
+use Rattle.texting_robots.proofs.CapturedLemmas.{IsWalkAt, at_front, captured_walked, cond_same, stands_first}
+use Rattle.texting_robots.proofs.CapturedLemmas.{stands_next}
 
 -- ---- the marks of the definition
 

@@ -1,33 +1,27 @@
 -- A body is a statement of one kind with one value at most: the one that the walk gives.
 use Rattle.std.proofs.Common.{◌≡◌, ◌⊎◌, ◌≢◌, ℕ, ◌<◌, ◌==◌, not, ◌||◌, inl}
-use Rattle.std.proofs.Common.{inr, List, []}
-use Rattle.std.proofs.Common.{◌∷◌, ◌++◌, length}
-use Rattle.std.proofs.Common.{take, drop, map, sym, refl, ap, ◌∙◌, arith, rules, cond}
-use Rattle.std.proofs.Common.{if◌then◌else◌, subst}
-use Rattle.std.proofs.Common.{Option, Some, None, length-append, nat_lt}
-use Rattle.std.specs.Bool.{Decides}
+use Rattle.std.proofs.Common.{inr, List, [], ◌∷◌, ◌++◌, length, take, drop, map, sym, refl, ap}
+use Rattle.std.proofs.Common.{◌∙◌, arith, rules, cond, if◌then◌else◌, subst, Option, Some, None}
+use Rattle.std.proofs.Common.{length-append, nat_lt}
+use Rattle.std.specs.{Bool.Decides, Char.to_ascii_lowercase, Str.bytes_eq}
 use Rattle.std.specs.List.{AllByRecursion as Each, Contains}
-use Rattle.std.specs.Char.{to_ascii_lowercase}
-use Rattle.std.specs.Str.{bytes_eq}
-use Rattle.std.proofs.lemmas.Bool.{cases_Bool, cond-true, cond-false, eqb-true, eqb-false}
-use Rattle.std.proofs.lemmas.Bool.{ne_eqb, ltb-true, lt-ltb, false_from_ne_true, true≢false}
+use Rattle.std.proofs.lemmas.Bool.{cases_Bool, cond-true, cond-false, eqb-true, eqb-false, ne_eqb, ltb-true}
+use Rattle.std.proofs.lemmas.Bool.{lt-ltb, false_from_ne_true, true≢false}
 use Rattle.std.proofs.lemmas.Bool.Decides.{Decides-or, Decides-eqb}
 use Rattle.std.proofs.lemmas.Option.{option_and_then_some, same_Some, some_pair_parts}
-use Rattle.std.proofs.lemmas.Slice.Eq.{bytes_eq-Decides}
+use Rattle.std.proofs.lemmas.{Slice.Eq.bytes_eq-Decides, List.Sums.take_while-cons}
 use Rattle.std.proofs.lemmas.List.{length-map, map-append, take-append-drop, take-map, drop_at}
-use Rattle.std.proofs.lemmas.List.Sums.{take_while-cons}
 use Rattle.std.proofs.lemmas.Str.Ascii.{lowercase-lowercase}
 use Rattle.std.proofs.lemmas.List.Elements.{All-contains, All-from_recursion, Contains-append_right}
-use Rattle.texting_robots.specs.declared.parser.statement.Kind.{Kind}
+use Rattle.texting_robots.specs.{declared.parser.statement.Kind.Kind, Trim.IsTrimOf}
 use Rattle.texting_robots.specs.declared.parser.statement.Kind.TheVariants.{UserAgent, Allow, Disallow}
 use Rattle.texting_robots.specs.declared.parser.statement.Kind.TheVariants.{Sitemap, CrawlDelay}
-use Rattle.texting_robots.specs.Statement.{spellings, IsBlank}
-use Rattle.texting_robots.specs.Statement.{BeginsPlain, IsBehindBlanks, IsBehindColon, IsStatement}
-use Rattle.texting_robots.specs.Steps.Statement.{space, tab, colon, hash, IsOptionalComment}
-use Rattle.texting_robots.specs.Steps.Statement.{skip_blanks, kind_with, kind_by, begins, after_any}
-use Rattle.texting_robots.specs.Steps.Statement.{after_blanks, after_separator, tail_of, tail_as}
-use Rattle.texting_robots.specs.Steps.Statement.{region_of, trimmed, value_of, statement_of}
-use Rattle.texting_robots.specs.Trim.{IsTrimOf}
+use Rattle.texting_robots.specs.Statement.{spellings, IsBlank, BeginsPlain, IsBehindBlanks, IsBehindColon}
+use Rattle.texting_robots.specs.Statement.{IsStatement}
+use Rattle.texting_robots.specs.Steps.Statement.{space, tab, colon, hash, IsOptionalComment, skip_blanks}
+use Rattle.texting_robots.specs.Steps.Statement.{kind_with, kind_by, begins, after_any, after_blanks}
+use Rattle.texting_robots.specs.Steps.Statement.{after_separator, tail_of, tail_as, region_of, trimmed}
+use Rattle.texting_robots.specs.Steps.Statement.{value_of, statement_of}
 use Rattle.texting_robots.proofs.TrimLemmas.{trimmed_is_trim, is_trimmed, blanks_skipped}
 
 -- ---- blanks

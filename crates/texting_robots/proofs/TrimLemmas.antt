@@ -1,17 +1,12 @@
 -- What `trim` leaves is the trim of its text, and there is no other.
 use Rattle.std.proofs.Common.{◌≡◌, ℕ, zero, suc, ◌+◌, ◌≤◌, ◌<◌, ◌-◌, Bool, true}
-use Rattle.std.proofs.Common.{false, cond, inl, inr, ◌⊎◌}
-use Rattle.std.proofs.Common.{List, [], ◌∷◌, ◌++◌, length, take, drop, sym, refl, ap, ap₂, subst}
-use Rattle.std.proofs.Common.{◌∙◌}
-use Rattle.std.proofs.Common.{append_assoc, append-nil, arith, IsTrue, Option, Some, None, length-append}
-use Rattle.std.proofs.Common.{slice_get, get_or}
-use Rattle.std.proofs.Math.Seq.{drop-nil}
-use Rattle.std.specs.List.{AllByRecursion as Each}
+use Rattle.std.proofs.Common.{false, cond, inl, inr, ◌⊎◌, List, [], ◌∷◌, ◌++◌, length, take}
+use Rattle.std.proofs.Common.{drop, sym, refl, ap, ap₂, subst, ◌∙◌, append_assoc, append-nil, arith}
+use Rattle.std.proofs.Common.{IsTrue, Option, Some, None, length-append, slice_get, get_or}
+use Rattle.std.proofs.Math.{Seq.drop-nil, Utf8.scalars}
+use Rattle.std.specs.{List.AllByRecursion as Each, Str.IsUtf8, Str.encode_utf8_all}
 use Rattle.std.specs.Char.{is_ascii_graphic, is_whitespace, encode_utf8}
-use Rattle.std.specs.Str.{IsUtf8, encode_utf8_all}
-use Rattle.std.proofs.Math.Utf8.{scalars}
-use Rattle.std.proofs.lemmas.Bool.{and_parts, cases_Bool, cond-true, cond-false}
-use Rattle.std.proofs.lemmas.Bool.Decides.{nat_tests}
+use Rattle.std.proofs.lemmas.Bool.{and_parts, cases_Bool, cond-true, cond-false, Decides.nat_tests}
 use Rattle.std.proofs.lemmas.List.{append_cancel_right, drop_all, drop_at, drop-append-le, drop-drop}
 use Rattle.std.proofs.lemmas.List.{length-drop, length-take, take-append-drop, take-append-le, take_all}
 use Rattle.std.proofs.lemmas.List.{take_at, take_more}
@@ -19,15 +14,12 @@ use Rattle.std.proofs.lemmas.Option.{same_Some, slice_get-get_or}
 use Rattle.std.proofs.lemmas.Str.{encode_ascii, encodes-append, IsUtf8-encode, IsCharBoundary-start}
 use Rattle.bstr.specs.Utf8.{Decoded, decoded, good, or_replacement, pieces, spans_from, IsLastPiece}
 use Rattle.bstr.specs.Trim.{kept_start, kept_end, trim_start_by, trim_end_by}
-use Rattle.bstr.proofs.lemmas.PieceLemmas.{piece-bounds, spans-first, spans-last, spans-nil}
-use Rattle.bstr.proofs.lemmas.PieceLemmas.{pieces-append, pieces-step, pieces-nil, StartsClean}
+use Rattle.bstr.proofs.lemmas.PieceLemmas.{piece-bounds, spans-first, spans-last, spans-nil, pieces-append}
+use Rattle.bstr.proofs.lemmas.PieceLemmas.{pieces-step, pieces-nil, StartsClean}
 use Rattle.bstr.proofs.lemmas.EncodeLemmas.{decoded-encode}
-use Rattle.bstr.proofs.lemmas.SoundLemmas.{SpellsChar-decoded}
-use Rattle.bstr.proofs.lemmas.TrimLemmas.{kept_end-snoc}
+use Rattle.bstr.proofs.lemmas.{SoundLemmas.SpellsChar-decoded, TrimLemmas.kept_end-snoc}
 use lib.Utf8.{low_scalar, scalar}
-use Rattle.texting_robots.specs.Trim.{IsSpaces, IsTrimOf}
-use Rattle.texting_robots.specs.Statement.{IsBlank}
-use Rattle.texting_robots.specs.Steps.Statement.{trimmed}
+use Rattle.texting_robots.specs.{Trim.IsSpaces, Trim.IsTrimOf, Statement.IsBlank, Steps.Statement.trimmed}
 
 -- ---- pieces
 

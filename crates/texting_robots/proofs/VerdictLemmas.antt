@@ -2,14 +2,12 @@
 use Rattle.std.proofs.Common.{◌≡◌, ◌≢◌, ◌<◌, ◌↔◌, ◌⊎◌, inl, inr, ℕ, zero, suc}
 use Rattle.std.proofs.Common.{Bool, true, false, List, [], ◌∷◌, ◌++◌, length, Option, Some, None}
 use Rattle.std.proofs.Common.{IsPermutation, ap, sym, subst, refl, ◌∙◌, arith}
-use Rattle.std.specs.Cmp.{both_ways}
-use Rattle.std.specs.List.{Contains}
+use Rattle.std.specs.{Cmp.both_ways, List.Contains}
 use Rattle.std.proofs.lemmas.Bool.{cases_Bool, cases_order, false≢true}
 use Rattle.std.proofs.lemmas.List.Sorted.{Contains-permutation, IsPermutation-map, IsPermutation-middle}
 use Rattle.std.proofs.lemmas.List.Sorted.{IsPermutation-sym}
 use Rattle.texting_robots.specs.Decision.{IsBetter, IsDecidingLine, IsLongestMatch}
-use Rattle.texting_robots.specs.Pattern.{Matches}
-use Rattle.texting_robots.specs.Rules.{PlacedRule, Rule, unplaced}
+use Rattle.texting_robots.specs.{Pattern.Matches, Rules.PlacedRule, Rules.Rule, Rules.unplaced}
 use Rattle.texting_robots.specs.Verdict.{IsDenied, IsVerdict, robots_file}
 
 -- where each Disallow of these is one of the others, and each Allow of the others one of these, the others

@@ -4,15 +4,14 @@ use Rattle.std.proofs.Common.{List, [], ◌∷◌, ◌++◌, length, get_or, dro
 use Rattle.std.proofs.Common.{refl, ap, ◌∙◌, ◌≢◌, subst, ⊎_elim, inl, inr, arith, append_assoc}
 use Rattle.std.proofs.Common.{take-append-drop, None, Some, decimal, cond, take, ◌+◌, Option, codes}
 use Rattle.std.proofs.Common.{◌^◌, nat_lt, option_map, slice_index, suc, zero}
-use Rattle.std.specs.{Char.is_ascii_digit, Char.is_ascii_lowercase, Char.is_ascii_uppercase}
+use Rattle.std.specs.Char.{is_ascii_digit, is_ascii_lowercase, is_ascii_uppercase}
 use Rattle.std.specs.{Int.IsInRange, List.prefix_len}
 use Rattle.std.specs.Str.Parse.{IsNumeral, digits_value, without_leading_plus}
 use Rattle.std.proofs.lemmas.Fmt.{decimal-digits_value, decimal_digit, first_decimal}
 use Rattle.std.proofs.lemmas.Str.Parse.{numerals_by_value, tells_digits}
-use Rattle.std.proofs.lemmas.Bool.{and_parts, Decides.nat_tests}
+use Rattle.std.proofs.lemmas.Bool.{and_parts, agree_below, agree_below_at, cases_lt, false≢true, le-ltb}
+use Rattle.std.proofs.lemmas.Bool.{cond-true, cond-false, ne_eqb, eq-eqb, Decides.nat_tests}
 use Rattle.url.proofs.{HostRoundTrip.All-decimal, PathLemmas.push_valid, PathLemmas.rooted}
-use Rattle.std.proofs.lemmas.Bool.{agree_below, agree_below_at, cases_lt, false≢true, le-ltb, cond-true}
-use Rattle.std.proofs.lemmas.Bool.{cond-false, ne_eqb, eq-eqb}
 use Rattle.std.proofs.lemmas.List.{get_or_past, length-take-le, drop-drop, Sums.prefix_len-le-length}
 use Rattle.std.proofs.lemmas.List.Folds.{prefix_len-append}
 use Rattle.std.proofs.lemmas.List.Elements.{All-head, All-tail, All-weaker}
@@ -24,7 +23,8 @@ use Rattle.url.specs.{Scheme.is_slash, Input.rsplit_once, Path.IsSegment, Path.d
 use Rattle.url.proofs.InputLemmas.{Passes, StopsAt, All-take-prefix_len, prefix_len_at}
 use Rattle.texting_robots.specs.{declared.whole.TheConstants.STANDS, Prepared.marked}
 use Rattle.texting_robots.specs.Plain.{EndsSite, IsAuthority, IsName, IsPath, IsPort}
-use Rattle.texting_robots.specs.Steps.Whole.{EndsPath, IsOther, Leaves, after, begins_plainly, front_of, stands}
+use Rattle.texting_robots.specs.Steps.Whole.{EndsPath, IsOther, Leaves, after, begins_plainly, front_of}
+use Rattle.texting_robots.specs.Steps.Whole.{stands}
 
 -- ---- bytes that stand
 

@@ -1,7 +1,6 @@
-use Rattle.robots_standard.proofs.BareLemmas.{robotstxt_is_file}
-use Rattle.robots_standard.proofs.SitemapLemmas.{sitemaps_are_read}
-use Rattle.robots_standard.proofs.StandardLemmas.{standard_files_are_read_so}
-use Rattle.robots_standard.proofs.StandardLemmas.{standard_files_spell_once, standard_sitemaps_once}
+use Rattle.robots_standard.proofs.{BareLemmas.robotstxt_is_file, SitemapLemmas.sitemaps_are_read}
+use Rattle.robots_standard.proofs.StandardLemmas.{standard_files_are_read_so, standard_files_spell_once}
+use Rattle.robots_standard.proofs.StandardLemmas.{standard_sitemaps_once}
 use Rattle.robots_standard.proofs.standard_files_are_read_so.Goals as goal
 
 pub returns-clause-read : goal.returns-clause-read

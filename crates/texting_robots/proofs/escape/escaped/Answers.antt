@@ -1,6 +1,5 @@
 use Rattle.std.proofs.Common.{◌∙◌, Err, Ok, refl}
-use Rattle.std.specs.Prelude.{IsOk, IsOkAnd}
-use Rattle.std.specs.Cow.{IsBorrowedStr}
+use Rattle.std.specs.{Prelude.IsOk, Prelude.IsOkAnd, Cow.IsBorrowedStr}
 use Rattle.texting_robots.proofs.EscapeLemmas.{same_escape, same_test}
 use Rattle.texting_robots.proofs.escape.escaped.Goals as goal
 

@@ -1,5 +1,4 @@
-use Rattle.texting_robots.proofs.CollapseLemmas.{collapse_keeps_meaning as kept}
-use Rattle.texting_robots.proofs.VerdictLemmas.{length_decides}
+use Rattle.texting_robots.proofs.{CollapseLemmas.collapse_keeps_meaning as kept, VerdictLemmas.length_decides}
 use Rattle.texting_robots.proofs.laws.collapse_keeps_meaning.Goals as goal
 
 pub returns-clause-meaning : goal.returns-clause-meaning

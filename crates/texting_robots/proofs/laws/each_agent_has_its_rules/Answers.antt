@@ -1,5 +1,4 @@
-use Rattle.texting_robots.specs.Computed.{placed_rules}
-use Rattle.texting_robots.proofs.HeadlineLemmas.{answer_alike}
+use Rattle.texting_robots.{specs.Computed.placed_rules, proofs.HeadlineLemmas.answer_alike}
 use Rattle.texting_robots.proofs.HeldLemmas.{computed_are, one_list, refusal_is_computed, rules_are_computed}
 use Rattle.texting_robots.proofs.laws.each_agent_has_its_rules.Goals as goal
 

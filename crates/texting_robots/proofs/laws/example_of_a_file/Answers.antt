@@ -1,18 +1,15 @@
-use Rattle.std.proofs.Common.{Some, codes, refl}
-use Rattle.std.proofs.lemmas.Bool.Decides.{not_from_Decides}
+use Rattle.std.proofs.{Common.Some, Common.codes, Common.refl, lemmas.Bool.Decides.not_from_Decides}
 use Rattle.std.specs.Str.{chars, is_utf8}
-use Rattle.bstr.specs.Trim.{kept_end, kept_start}
-use Rattle.bstr.specs.Utf8.{pieces_from, spans_from}
+use Rattle.bstr.specs.{Trim.kept_end, Trim.kept_start, Utf8.pieces_from, Utf8.spans_from}
 use Rattle.texting_robots.specs.Examples.{ferris_lines, ferris_robot, ferris_rules}
-use Rattle.texting_robots.specs.Pattern.{collapsed}
+use Rattle.texting_robots.specs.{Pattern.collapsed, Rules.unplaced}
 use Rattle.texting_robots.specs.Steps.{Cut.cut, Delay.delay_of, Line.line_of, Statement.statement_of}
 use Rattle.texting_robots.proofs.ExampleLemmas.{answers, any_overlong_decides}
-use Rattle.texting_robots.specs.Rules.{unplaced}
 use Rattle.texting_robots.proofs.GivenLemmas.{delay_is_computed, sitemaps_are_computed}
 use Rattle.texting_robots.proofs.HeldLemmas.{computed_are, refusal_is_computed}
 use Rattle.texting_robots.proofs.LineLemmas.{lines_are}
-use Rattle.texting_robots.proofs.laws.example_of_a_file.Goals as goal
 use lib.Utf8.{encode}
+use Rattle.texting_robots.proofs.laws.example_of_a_file.Goals as goal
 
 pub returns : goal.returns
 unfolding cut line_of statement_of delay_of kept_end kept_start spans_from pieces_from is_utf8 chars encode

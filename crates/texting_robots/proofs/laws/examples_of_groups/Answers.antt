@@ -1,17 +1,14 @@
-use Rattle.std.proofs.Common.{refl}
-use Rattle.std.proofs.lemmas.Bool.Decides.{not_from_Decides}
-use Rattle.std.specs.Prelude.{codes}
-use Rattle.std.specs.Str.{chars, is_utf8}
-use Rattle.bstr.specs.Trim.{kept_end, kept_start}
-use Rattle.bstr.specs.Utf8.{pieces_from, spans_from}
-use Rattle.texting_robots.specs.Examples.{early_delays, groups, one_rule, refused_delay, simple}
-use Rattle.texting_robots.specs.Examples.{three_values, two_delays}
+use Rattle.std.proofs.{Common.refl, lemmas.Bool.Decides.not_from_Decides}
+use Rattle.std.specs.{Prelude.codes, Str.chars, Str.is_utf8}
+use Rattle.bstr.specs.{Trim.kept_end, Trim.kept_start, Utf8.pieces_from, Utf8.spans_from}
+use Rattle.texting_robots.specs.Examples.{early_delays, groups, one_rule, refused_delay, simple, three_values}
+use Rattle.texting_robots.specs.Examples.{two_delays}
 use Rattle.texting_robots.specs.Steps.{Cut.cut, Delay.delay_of, Line.line_of, Statement.statement_of}
 use Rattle.texting_robots.specs.Computed.{file_lines}
 use Rattle.texting_robots.proofs.{CapturedLemmas.is_captured_decides, HeadlineLemmas.has_lines}
 use Rattle.texting_robots.proofs.ExampleLemmas.{gives_delay, gives_rules}
-use Rattle.texting_robots.proofs.laws.examples_of_groups.Goals as goal
 use lib.Utf8.{encode}
+use Rattle.texting_robots.proofs.laws.examples_of_groups.Goals as goal
 
 pub returns : goal.returns
 unfolding cut line_of statement_of delay_of kept_end kept_start spans_from pieces_from is_utf8 chars encode

@@ -1,6 +1,5 @@
 use Rattle.std.proofs.Common.{refl}
-use Rattle.bstr.specs.Trim.{kept_end, kept_start}
-use Rattle.bstr.specs.Utf8.{pieces_from, spans_from}
+use Rattle.bstr.specs.{Trim.kept_end, Trim.kept_start, Utf8.pieces_from, Utf8.spans_from}
 use Rattle.texting_robots.specs.Steps.{Cut.cut, Delay.delay_of, Line.line_of, Statement.statement_of}
 use Rattle.texting_robots.proofs.{LineLemmas.lines_are, StatementLemmas.found_statement}
 use Rattle.texting_robots.proofs.laws.examples_of_lines.Goals as goal

@@ -1,10 +1,8 @@
-use Rattle.std.proofs.Common.{refl}
-use Rattle.std.specs.Fmt.{digits}
+use Rattle.std.{proofs.Common.refl, specs.Fmt.digits}
 use Rattle.percent_encoding.specs.AsciiSet.{should_percent_encode}
 use Rattle.percent_encoding.specs.Percent.{percent_decode, percent_encode}
-use Rattle.url.specs.Host.{ascii_domain, parse_special_host}
+use Rattle.url.specs.{Host.ascii_domain, Host.parse_special_host, Ipv4.ends_in_a_number, Ipv4.parse_number}
 use Rattle.url.specs.Input.{rsplit_once, split_once, strip_tabs_and_new_lines, trim_c0_control_and_space}
-use Rattle.url.specs.{Ipv4.ends_in_a_number, Ipv4.parse_number}
 use Rattle.url.specs.Parser.{after_double_slash, host_len, leading_slashes, parse_authority, parse_body}
 use Rattle.url.specs.Parser.{parse_non_special, parse_parts, parse_port, parse_url, split_scheme}
 use Rattle.url.specs.Path.{dot_count, parse_path_start, parse_segments, push_segment}

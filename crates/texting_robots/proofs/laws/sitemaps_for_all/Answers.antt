@@ -1,6 +1,5 @@
 use Rattle.std.proofs.Common.{sym, ◌∙◌}
-use Rattle.texting_robots.proofs.GivenLemmas.{sitemaps_are_computed}
-use Rattle.texting_robots.proofs.LawLemmas.{sitemaps_change_nothing_else}
+use Rattle.texting_robots.proofs.{GivenLemmas.sitemaps_are_computed, LawLemmas.sitemaps_change_nothing_else}
 use Rattle.texting_robots.proofs.laws.sitemaps_for_all.Goals as goal
 
 pub returns-clause-others : goal.returns-clause-others

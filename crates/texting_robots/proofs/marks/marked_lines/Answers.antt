@@ -1,9 +1,5 @@
-use Rattle.std.proofs.Common.{refl}
-use Rattle.std.proofs.lemmas.List.{length-map}
-use Rattle.std.proofs.lemmas.List.FromFn.{length-enumerate_from}
-use Rattle.texting_robots.specs.Group.{group_name}
-use Rattle.texting_robots.specs.Computed.{file_lines}
-use Rattle.texting_robots.proofs.StandingLemmas.{marks_are}
+use Rattle.std.proofs.{Common.refl, lemmas.List.length-map, lemmas.List.FromFn.length-enumerate_from}
+use Rattle.texting_robots.{specs.Group.group_name, specs.Computed.file_lines, proofs.StandingLemmas.marks_are}
 use Rattle.texting_robots.proofs.marks.marked_lines.Goals as goal
 
 pub returns : goal.returns

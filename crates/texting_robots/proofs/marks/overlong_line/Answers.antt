@@ -1,6 +1,6 @@
 use Rattle.texting_robots.proofs.HeldLemmas.{refusal_is_computed}
-use Rattle.texting_robots.proofs.marks.overlong_line.Goals as goal
 use Rattle.texting_robots.proofs.marks.overlong_line.Goals.{in-Ok, in-Err-Overlong, in-Err-Memory}
+use Rattle.texting_robots.proofs.marks.overlong_line.Goals as goal
 
 pub returns : goal.returns
 returns c = elim c.match-read_file.branch [

@@ -1,5 +1,4 @@
-use Rattle.std.proofs.Common.{arith}
-use Rattle.std.proofs.lemmas.Grind.{common_steps}
+use Rattle.std.proofs.{Common.arith, lemmas.Grind.common_steps}
 use Rattle.texting_robots.proofs.parser.collected.Goals as goal
 
 pub loop-line-preserved : goal.loop-line-preserved

@@ -1,8 +1,6 @@
 use Rattle.std.proofs.Common.{◌≤◌, ◌∙◌, ap, false, length, subst, sym}
-use Rattle.texting_robots.specs.Steps.Cut.{read_as}
-use Rattle.texting_robots.specs.Steps.Line.{lines_of}
-use Rattle.texting_robots.proofs.CountLemmas.{lines_within}
-use Rattle.texting_robots.proofs.CutFromFront.{read_as_is}
+use Rattle.texting_robots.specs.Steps.{Cut.read_as, Line.lines_of}
+use Rattle.texting_robots.proofs.{CountLemmas.lines_within, CutFromFront.read_as_is}
 use Rattle.texting_robots.proofs.LineLemmas.{lines_are, lines_range}
 use Rattle.texting_robots.proofs.parser.lines.Goals as goal
 

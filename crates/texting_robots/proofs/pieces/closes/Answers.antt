@@ -1,8 +1,6 @@
 use Rattle.std.proofs.Common.{◌≡◌, ◌∷◌, [], Some, sym, subst, ◌∙◌}
-use Rattle.std.proofs.lemmas.Bool.Decides.{Decides-eqb}
-use Rattle.std.proofs.lemmas.Slice.Eq.{strip_prefix_is}
-use Rattle.texting_robots.specs.Pattern.{dollar, Matches}
-use Rattle.texting_robots.proofs.PatternLemmas.{only_marks_match}
+use Rattle.std.proofs.lemmas.{Bool.Decides.Decides-eqb, Slice.Eq.strip_prefix_is}
+use Rattle.texting_robots.{specs.Pattern.dollar, specs.Pattern.Matches, proofs.PatternLemmas.only_marks_match}
 use Rattle.texting_robots.proofs.pieces.closes.Goals as goal
 
 pub returns-in-Some : goal.returns-in-Some

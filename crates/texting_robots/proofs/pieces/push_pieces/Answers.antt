@@ -1,8 +1,6 @@
 use Rattle.std.proofs.Common.{◌≡◌, ◌∷◌, [], Some, None, drop, length, arith, sym, ap, ◌∙◌}
-use Rattle.std.proofs.lemmas.Bool.{eqb-true, false≢true, iff_false}
-use Rattle.std.proofs.lemmas.Bool.Decides.{Decides-eqb}
-use Rattle.std.proofs.lemmas.List.{take_all}
-use Rattle.std.proofs.lemmas.Slice.Eq.{strip_prefix_is}
+use Rattle.std.proofs.lemmas.Bool.{eqb-true, false≢true, iff_false, Decides.Decides-eqb}
+use Rattle.std.proofs.lemmas.{List.take_all, Slice.Eq.strip_prefix_is}
 use Rattle.texting_robots.specs.Pattern.{star}
 use Rattle.texting_robots.proofs.PieceLemmas.{cut_closed, cut_first, cut_last, cut_more, cut_never, cut_open}
 use Rattle.texting_robots.proofs.PieceLemmas.{IsFromStar}

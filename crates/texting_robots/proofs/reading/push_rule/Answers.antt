@@ -1,5 +1,4 @@
-use Rattle.std.proofs.Common.{refl}
-use Rattle.std.proofs.lemmas.List.{append-nil}
+use Rattle.std.proofs.{Common.refl, lemmas.List.append-nil}
 use Rattle.texting_robots.proofs.RulesLemmas.{if_none}
 use Rattle.texting_robots.proofs.reading.push_rule.Goals as goal
 

@@ -1,16 +1,9 @@
-use Rattle.std.proofs.Common.{ℕ, List, IsPermutation, ap}
-use Rattle.std.proofs.Common.{arith, refl, slice_get, subst, sym, ◌∙◌}
-use Rattle.std.specs.Option.{option_or}
-use Rattle.std.proofs.lemmas.List.{append-nil}
-use Rattle.std.proofs.lemmas.Bool.{false≢true}
+use Rattle.std.proofs.Common.{ℕ, List, IsPermutation, ap, arith, refl, slice_get, subst, sym, ◌∙◌}
+use Rattle.std.{specs.Option.option_or, proofs.lemmas.List.append-nil, proofs.lemmas.Bool.false≢true}
 use Rattle.texting_robots.specs.Computed.{delay_before_agents, file_lines, placed_in, rule_in}
-use Rattle.texting_robots.specs.Group.{group_name}
-use Rattle.texting_robots.specs.Line.{delay_in}
-use Rattle.texting_robots.specs.Pattern.{IsOverlong}
-use Rattle.texting_robots.specs.Rules.{PlacedRule, Rule}
-use Rattle.texting_robots.proofs.CapturedLemmas.{captured_walked}
-use Rattle.texting_robots.proofs.RulesLemmas.{all_added, first_more}
-use Rattle.texting_robots.proofs.RulesLemmas.{given_more, given_none, none_unplaced}
+use Rattle.texting_robots.specs.{Group.group_name, Line.delay_in, Pattern.IsOverlong}
+use Rattle.texting_robots.{specs.Rules.PlacedRule, specs.Rules.Rule, proofs.CapturedLemmas.captured_walked}
+use Rattle.texting_robots.proofs.RulesLemmas.{all_added, first_more, given_more, given_none, none_unplaced}
 use Rattle.texting_robots.proofs.RulesLemmas.{option_or_none, refused_at}
 use Rattle.texting_robots.proofs.reading.read_file.Goals as goal
 

@@ -1,14 +1,9 @@
 use Rattle.std.proofs.Common.{◌≡◌, ◌++◌, map, slice_get, string_bytes}
-use Rattle.std.specs.List.{All}
-use Rattle.std.specs.Option.{option_or}
+use Rattle.std.specs.{List.All, Option.option_or}
 use Rattle.std.specs.Iterator.Adapters.{enumerate_count, enumerate_source}
-use Rattle.texting_robots.specs.Steps.Entries.{AreEntries, rules_in}
+use Rattle.texting_robots.specs.Steps.{Entries.AreEntries, Entries.rules_in, Group.from_captured}
 use Rattle.texting_robots.specs.Computed.{captured_delays, file_lines, placed_in, placed_rules, sitemaps_in}
-use Rattle.texting_robots.specs.Group.{group_name}
-use Rattle.texting_robots.specs.Line.{delay_in}
-use Rattle.texting_robots.specs.Pattern.{IsOverlong}
-use Rattle.texting_robots.specs.Rules.{PlacedRule}
-use Rattle.texting_robots.specs.Steps.Group.{from_captured}
+use Rattle.texting_robots.specs.{Group.group_name, Line.delay_in, Pattern.IsOverlong, Rules.PlacedRule}
 use Rattle.texting_robots.proofs.reading.read_file.Given as goal
 
 -- what was read, and what the lines that are left give, is what the file gives

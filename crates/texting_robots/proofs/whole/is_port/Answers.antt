@@ -1,8 +1,8 @@
 use Rattle.std.proofs.Common.{◌≡◌, ◌==◌, ◌∙◌, Ok, ap, arith, not, sym}
-use Rattle.std.proofs.lemmas.{Bool.and_parts, Bool.ne_eqb, Bool.Decides.nat_tests}
+use Rattle.std.proofs.lemmas.Bool.{and_parts, ne_eqb, Decides.nat_tests}
 use Rattle.std.proofs.lemmas.{Fmt.IsAscii-decimal, Fmt.parse-decimal, Str.IsUtf8-from_ascii}
-use Rattle.texting_robots.{specs.Steps.Whole.IsOther, proofs.whole.is_port.Goals.After-from_str_radix}
-use Rattle.texting_robots.specs.Steps.Whole.{begins_plainly}
+use Rattle.texting_robots.specs.Steps.Whole.{IsOther, begins_plainly}
+use Rattle.texting_robots.proofs.whole.is_port.Goals.{After-from_str_radix}
 use Rattle.texting_robots.proofs.WholeLemmas.{decimal_plain, decimal_read}
 use Rattle.texting_robots.proofs.whole.is_port.Goals as goal
 

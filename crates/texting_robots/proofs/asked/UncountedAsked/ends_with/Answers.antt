@@ -1,6 +1,5 @@
 use Rattle.std.proofs.Common.{length, take, ◌-◌}
-use Rattle.std.proofs.lemmas.Bool.Decides.{Decides-eqb}
-use Rattle.std.proofs.lemmas.Slice.Eq.{ends_is}
+use Rattle.std.proofs.lemmas.{Bool.Decides.Decides-eqb, Slice.Eq.ends_is}
 use Rattle.texting_robots.proofs.asked.UncountedAsked.ends_with.Goals as goal
 
 pub returns-clause-answer : goal.returns-clause-answer

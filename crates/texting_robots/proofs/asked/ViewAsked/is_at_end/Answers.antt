@@ -1,6 +1,5 @@
 use Rattle.std.proofs.Common.{length, ap, eq-eqb, arith, length-drop}
-use Rattle.std.proofs.lemmas.Bool.{eqb-true}
-use Rattle.std.proofs.lemmas.List.{drop_all}
+use Rattle.std.proofs.lemmas.{Bool.eqb-true, List.drop_all}
 use Rattle.texting_robots.proofs.asked.ViewAsked.is_at_end.Goals as goal
 
 pub returns : goal.returns

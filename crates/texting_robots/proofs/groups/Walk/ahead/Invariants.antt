@@ -1,5 +1,4 @@
-use Rattle.std.proofs.Common.{◌≡◌}
-use Rattle.std.specs.Str.{str_to_ascii_lowercase}
+use Rattle.std.{proofs.Common.◌≡◌, specs.Str.str_to_ascii_lowercase}
 use Rattle.texting_robots.specs.Steps.Group.{captured_ahead}
 use Rattle.texting_robots.proofs.groups.Walk.ahead.Given as goal
 

@@ -1,9 +1,8 @@
 use Rattle.std.proofs.Common.{◌≡◌, arith, sym}
 use Rattle.std.specs.Str.{str_to_ascii_lowercase}
-use Rattle.texting_robots.specs.Steps.Group.{captured_ahead}
-use Rattle.texting_robots.proofs.StandingLemmas.{known_next}
-use Rattle.texting_robots.proofs.marks.MarkedLineIterIterator.next.Goals as goal
+use Rattle.texting_robots.{specs.Steps.Group.captured_ahead, proofs.StandingLemmas.known_next}
 use Rattle.texting_robots.proofs.marks.MarkedLineIterIterator.next.Goals.{in-Some, in-None}
+use Rattle.texting_robots.proofs.marks.MarkedLineIterIterator.next.Goals as goal
 
 pub invariant_of-self-2 : goal.invariant_of-self-2
 invariant_of-self-2 c =

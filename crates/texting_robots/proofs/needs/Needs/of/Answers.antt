@@ -1,10 +1,8 @@
 use Rattle.std.proofs.Common.{◌≡◌, ◌+◌, List, drop, get_or, sym, ap, ◌∙◌}
-use Rattle.std.specs.Int.RustNames.{bit_or}
-use Rattle.std.specs.Int.Bits.{or_zero_r}
+use Rattle.std.specs.Int.{RustNames.bit_or, Bits.or_zero_r}
 use Rattle.std.proofs.lemmas.List.{drop_all, drop_more}
 use Rattle.texting_robots.specs.declared.pieces.Piece.{Piece}
-use Rattle.texting_robots.specs.Steps.Needs.{pair_set}
-use Rattle.texting_robots.specs.Steps.Pieces.{no_piece, part_of}
+use Rattle.texting_robots.specs.Steps.{Needs.pair_set, Pieces.no_piece, Pieces.part_of}
 use Rattle.texting_robots.proofs.NeedLemmas.{are_needs, or_assoc, piece_pairs}
 use Rattle.texting_robots.proofs.needs.Needs.of.Goals as goal
 

@@ -1,5 +1,4 @@
-use Rattle.std.proofs.Common.{◌≡◌, drop}
-use Rattle.std.specs.Int.RustNames.{bit_or}
+use Rattle.std.{proofs.Common.◌≡◌, proofs.Common.drop, specs.Int.RustNames.bit_or}
 use Rattle.texting_robots.proofs.NeedLemmas.{piece_pairs}
 use Rattle.texting_robots.proofs.needs.Needs.of.Given as goal
 

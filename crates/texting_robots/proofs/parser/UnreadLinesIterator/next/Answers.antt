@@ -1,8 +1,6 @@
 use Rattle.std.proofs.Common.{◌∙◌, sym, ap, arith}
-use Rattle.std.proofs.lemmas.Bool.Decides.{nat_tests}
-use Rattle.std.proofs.lemmas.List.{nil_from_length}
-use Rattle.texting_robots.specs.Steps.Cut.{read_as}
-use Rattle.texting_robots.specs.Steps.Line.{lines_of}
+use Rattle.std.proofs.lemmas.{Bool.Decides.nat_tests, List.nil_from_length}
+use Rattle.texting_robots.specs.Steps.{Cut.read_as, Line.lines_of}
 use Rattle.texting_robots.proofs.CutFromFront.{lines_nil, next_line}
 use Rattle.texting_robots.proofs.parser.UnreadLinesIterator.next.Goals as goal
 

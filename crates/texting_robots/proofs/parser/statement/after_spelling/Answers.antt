@@ -1,7 +1,5 @@
 use Rattle.std.proofs.Common.{◌∙◌, ap, map, sym, drop}
-use Rattle.std.specs.Char.{to_ascii_lowercase}
-use Rattle.std.proofs.lemmas.Bool.{true≢false}
-use Rattle.std.proofs.lemmas.List.{length-map}
+use Rattle.std.{specs.Char.to_ascii_lowercase, proofs.lemmas.Bool.true≢false, proofs.lemmas.List.length-map}
 use Rattle.texting_robots.proofs.KeyLemmas.{spelled_same, spelled_other}
 use Rattle.texting_robots.proofs.parser.statement.after_spelling.Goals as goal
 

@@ -1,7 +1,5 @@
 use Rattle.std.proofs.Common.{◌↔◌, List, ℕ, drop}
-use Rattle.texting_robots.specs.Steps.Asked.{PassesTo}
-use Rattle.texting_robots.specs.Steps.Pieces.{AreLeft}
-use Rattle.texting_robots.specs.Pattern.{Matches}
+use Rattle.texting_robots.specs.{Steps.Asked.PassesTo, Steps.Pieces.AreLeft, Pattern.Matches}
 use Rattle.texting_robots.proofs.pieces.Pattern.matches.Given as goal
 
 -- what is left of the pattern decides on what is left of the text

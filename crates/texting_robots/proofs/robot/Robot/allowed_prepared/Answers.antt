@@ -1,7 +1,5 @@
 use Rattle.std.proofs.Common.{List, subst, ap}
-use Rattle.texting_robots.specs.Robot.{RobotValue}
-use Rattle.texting_robots.specs.Rules.{PlacedRule, unplaced}
-use Rattle.texting_robots.specs.Verdict.{IsVerdict}
+use Rattle.texting_robots.specs.{Robot.RobotValue, Rules.PlacedRule, Rules.unplaced, Verdict.IsVerdict}
 use Rattle.texting_robots.proofs.robot.Robot.allowed_prepared.Goals as goal
 
 pub returns : goal.returns

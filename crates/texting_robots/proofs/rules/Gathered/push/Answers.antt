@@ -1,8 +1,6 @@
-use Rattle.std.proofs.Common.{◌≡◌, ℕ, ◌-◌, List, length, slice_range, string_bytes}
-use Rattle.std.proofs.Common.{ap, subst, ◌∙◌, arith, length-append}
-use Rattle.texting_robots.specs.Steps.Needs.{AreNeeds}
-use Rattle.texting_robots.specs.Steps.Pieces.{ArePieces}
-use Rattle.texting_robots.specs.Escape.{escaped}
+use Rattle.std.proofs.Common.{◌≡◌, ℕ, ◌-◌, List, length, slice_range, string_bytes, ap, subst}
+use Rattle.std.proofs.Common.{◌∙◌, arith, length-append}
+use Rattle.texting_robots.specs.{Steps.Needs.AreNeeds, Steps.Pieces.ArePieces, Escape.escaped}
 use Rattle.texting_robots.proofs.SharingLemmas.{IsPushed, behind_old, entries_pushed, entry_new, rules_pushed}
 use Rattle.texting_robots.proofs.rules.Gathered.push.Goals as goal
 

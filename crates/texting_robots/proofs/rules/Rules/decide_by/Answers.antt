@@ -1,12 +1,9 @@
 use Rattle.std.proofs.Common.{true, List, inr, slice_index_or, string_bytes, sym, ap, subst}
 use Rattle.std.specs.List.{Contains}
-use Rattle.std.proofs.lemmas.Bool.{iff_false}
-use Rattle.std.proofs.lemmas.List.{get_or_read, length-map}
+use Rattle.std.proofs.lemmas.{Bool.iff_false, List.get_or_read, List.length-map}
 use Rattle.texting_robots.specs.declared.rules.Entry.{Entry}
 use Rattle.texting_robots.specs.Steps.Entries.{no_entry, placed_at, rules_in}
-use Rattle.texting_robots.specs.Decision.{IsDecidingRule}
-use Rattle.texting_robots.specs.Rules.{PlacedRule, unplaced}
-use Rattle.texting_robots.specs.Verdict.{IsVerdict}
+use Rattle.texting_robots.specs.{Decision.IsDecidingRule, Rules.PlacedRule, Rules.unplaced, Verdict.IsVerdict}
 use Rattle.texting_robots.proofs.FirstLemmas.{first_decides, first_line, first_looks, none_stands}
 use Rattle.texting_robots.proofs.BestLemmas.{none_denies}
 use Rattle.texting_robots.proofs.rules.Rules.decide_by.Goals as goal

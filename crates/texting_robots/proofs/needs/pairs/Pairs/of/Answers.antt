@@ -1,7 +1,5 @@
-use Rattle.std.proofs.Common.{sym, ap, ◌∙◌}
-use Rattle.std.specs.Int.RustNames.{bit_or}
-use Rattle.std.specs.Int.Bits.{or_zero_r}
-use Rattle.std.proofs.lemmas.List.{take_rest}
+use Rattle.std.proofs.{Common.sym, Common.ap, Common.◌∙◌, lemmas.List.take_rest}
+use Rattle.std.specs.Int.{RustNames.bit_or, Bits.or_zero_r}
 use Rattle.texting_robots.specs.Steps.Needs.{pair_set}
 use Rattle.texting_robots.proofs.NeedLemmas.{no_pairs, pairs_step}
 use Rattle.texting_robots.proofs.needs.pairs.Pairs.of.Goals as goal

@@ -1,5 +1,4 @@
-use Rattle.std.proofs.Common.{◌≡◌, length}
-use Rattle.std.specs.Int.RustNames.{bit_or}
+use Rattle.std.{proofs.Common.◌≡◌, proofs.Common.length, specs.Int.RustNames.bit_or}
 use Rattle.texting_robots.specs.Steps.Needs.{pair_set}
 use Rattle.texting_robots.proofs.needs.pairs.Pairs.of.Given as goal
 
