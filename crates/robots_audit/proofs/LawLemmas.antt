@@ -5,7 +5,8 @@ use Rattle.std.proofs.lemmas.List.Elements.{All-nil}
 use Rattle.texting_robots.specs.Callers.{IsRefused, IsVerdict, PlacedRule, Rule}
 use Rattle.texting_robots.specs.Callers.{delay_for, escaped, lines_read, placed_rules, prepared, unplaced}
 use Rattle.texting_robots.proofs.BestLemmas.{each_text_answered}
-use Rattle.robots_io.specs.Lines.{delay_line, ended}
+use Rattle.robots_io.specs.Lines.{ended}
+use Rattle.robots_audit.specs.Delay.{delay_line}
 use Rattle.robots_io.proofs.VerdictsLemmas.{lines_once, some_lines}
 use Rattle.robots_audit.specs.Report.{AreAllowed, Asked, IsReport, IsReportText, group_line}
 use Rattle.robots_audit.specs.Report.{note_lines, row_lines}
@@ -17,7 +18,8 @@ text_once : (asked : Asked) (file text other : List ℕ)
 text_once asked file text other one two =
     let agent = asked.agent in
     let lines = lines_read file in
-    let with_verdicts = λ (verdicts : List (List ℕ)). ended (row_lines asked.is_quiet (marks_for agent lines)
+    let above = row_lines asked.is_quiet (marks_for agent lines) in
+    let with_verdicts = λ (verdicts : List (List ℕ)). ended (above
     ++ (group_line agent lines ∷ delay_line (delay_for agent lines) ∷ (note_lines file ++ verdicts))) in
     let same = lines_once escaped (placed_rules agent lines) asked.urls one.verdict_lines two.verdict_lines
     one.verdicts two.verdicts in

@@ -1,4 +1,5 @@
 pub mod AnswerLemmas
+pub mod DelayLemmas
 pub mod LawLemmas
 pub mod PlainLemmas
 pub mod ReportLemmas

@@ -1,5 +1,6 @@
 -- A report and its warnings steer no terminal.
-use Rattle.std.proofs.Common.{◌≡◌, ℕ, zero, suc, ◌<◌, ◌%◌, ◌/◌, ◌-◌, ◌==◌, Bool}
+use Rattle.std.proofs.Common.{◌≡◌, ℕ, zero, suc, ◌<◌, ◌%◌, ◌/◌, ◌*◌}
+use Rattle.std.proofs.Common.{◌-◌, ◌==◌, Bool}
 use Rattle.std.proofs.Common.{true, false}
 use Rattle.std.proofs.Common.{List, [], ◌∷◌, ◌++◌, Option, Some, None, arith, codes, cond}
 use Rattle.std.proofs.Common.{decimal}
@@ -18,7 +19,8 @@ use Rattle.texting_robots.specs.Callers.{lines_read, placed_rules}
 use Rattle.texting_robots.specs.Callers.{delay_for, file_limit, is_named}
 use Rattle.texting_robots.specs.Group.{is_agent}
 use Rattle.texting_robots.specs.Escape.{escape_byte, is_escaped}
-use Rattle.robots_io.specs.Lines.{delay_line, ended, lf}
+use Rattle.robots_io.specs.Lines.{ended, lf}
+use Rattle.robots_audit.specs.Delay.{delay_line, delay_text, fraction, million, seconds}
 use Rattle.robots_io.specs.Verdicts.{IsVerdictLine, line_text, verdict_front, verdict_word}
 use Rattle.robots_audit.specs.Laws.{IsPlain, is_plain}
 use Rattle.robots_audit.specs.Report.{Asked, IsReport, group_line, note_lines, row_lines, unnamed_group}
@@ -126,12 +128,30 @@ kind (CrawlDelay delay) = refl
 kind (Sitemap value) = refl
 kind (Raw body) = one_of _ (codes "blank") (codes "unread") refl refl
 
+fraction_plain : (digits millionths : ℕ) → IsPlain (fraction digits millionths)
+fraction_plain zero millionths = refl
+fraction_plain (suc digits) millionths =
+    let digit = decimal (millionths * 10 / million) in
+    let later = fraction digits (millionths * 10 % million) in
+    one_of (millionths == 0) [] (digit ++ later) refl
+    (both digit later (number (millionths * 10 / million))
+    (fraction_plain digits (millionths * 10 % million)))
+
+delay_shown : (micros : ℕ) → IsPlain (delay_text micros)
+delay_shown micros =
+    let millionths = micros % million in
+    let behind = cond (millionths == 0) [] (codes "." ++ fraction 6 millionths) in
+    let behind_is : IsPlain behind =
+    one_of (millionths == 0) [] (codes "." ++ fraction 6 millionths) refl (fraction_plain 6 millionths) in
+    of_four (seconds micros) (codes " s (") (decimal micros) (codes " microseconds)")
+    (both (decimal (micros / million)) behind (number (micros / million)) behind_is) refl (number micros) refl
+
 value_shown : (line : LineValue) → IsPlain (value_text line)
 value_shown (UserAgent value) = shown value
 value_shown (Allow value) = shown value
 value_shown (Disallow value) = shown value
 value_shown (CrawlDelay None) = refl
-value_shown (CrawlDelay (Some micros)) = number micros
+value_shown (CrawlDelay (Some micros)) = delay_shown micros
 value_shown (Sitemap value) = shown value
 value_shown (Raw body) = shown body
 
@@ -177,7 +197,7 @@ group_plain agent lines = elim (cases_Bool (is_named agent lines)) [
 
 delay_plain : (delay : Option ℕ) → IsPlain (delay_line delay)
 delay_plain None = refl
-delay_plain (Some micros) = number micros
+delay_plain (Some micros) = delay_shown micros
 
 notes_plain : (file : List ℕ) → Each IsPlain (note_lines file)
 notes_plain file = elim (cases_Bool (nat_lt file_limit (length file))) [

@@ -16,7 +16,8 @@ use Rattle.texting_robots.specs.Callers.{prepared, rules_for, unplaced}
 use Rattle.texting_robots.specs.Marks.{mark_at}
 use Rattle.texting_robots.proofs.GivenLemmas.{delay_is_computed}
 use Rattle.texting_robots.proofs.HeadlineLemmas.{answers_computed, read_robot}
-use Rattle.robots_io.specs.Lines.{delay_line, ended}
+use Rattle.robots_io.specs.Lines.{ended}
+use Rattle.robots_audit.specs.Delay.{delay_line}
 use Rattle.robots_io.specs.Verdicts.{AddsVerdict}
 use Rattle.robots_io.proofs.LinesLemmas.{lines_added}
 use Rattle.robots_io.proofs.VerdictsLemmas.{adds_next, adds_nothing, lines_like}

@@ -50,7 +50,8 @@ pub record Audits (request : Request) (ends : Ends) (result : Result Outcome Fau
   pub nothing_written : IfErr result (λ fault. fault ≢ Write → Keeps ends.old ends.new)
 
 -- help or the version is written, nothing is warned of, and the status is that of URLs which are all allowed
-pub record Helps (text : List ℕ) (old new : Option (List ℕ)) (result : Result Outcome Fault) : Type 0 where
+pub record Helps (text : List ℕ) (old new : Option (List ℕ)) (result : Result Outcome Fault)
+    : Type 0 where
   pub ok : IfOk result (λ outcome. Appends old new text)
   pub quiet : IfOk result (λ outcome. (outcome.all_allowed ≡ true) × (outcome.is_strict ≡ false)
       × (string_bytes outcome.warnings ≡ []))

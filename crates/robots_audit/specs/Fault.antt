@@ -43,8 +43,8 @@ abbrev pub said_after : Result Outcome Fault → List ℕ
 said_after (Ok outcome) = string_bytes outcome.warnings
 said_after (Err fault) = fault_text fault
 
--- the status that the process ends with: 0 where every URL is allowed, and in a strict run nothing is warned of;
--- else 1, and 2 after a fault
+-- the status that the process ends with: 0 where every URL is allowed, and in a strict run nothing is warned
+-- of; else 1, and 2 after a fault
 abbrev pub status_after : Result Outcome Fault → ℕ
 status_after (Ok outcome) =
     if not outcome.all_allowed then 1

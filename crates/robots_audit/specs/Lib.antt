@@ -1,5 +1,6 @@
 pub mod Command
 pub mod Fault
+pub mod Delay
 pub mod Rows
 pub mod Report
 pub mod Warnings

@@ -8,7 +8,8 @@ use Rattle.texting_robots.specs.Callers.{delay_for, escaped, file_limit, is_name
 use Rattle.texting_robots.specs.Callers.{placed_rules, prepared, rules_for}
 use Rattle.texting_robots.specs.Group.{is_agent}
 use Rattle.robots_io.specs.Ends.{AppendsBeginning}
-use Rattle.robots_io.specs.Lines.{delay_line, ended}
+use Rattle.robots_io.specs.Lines.{ended}
+use Rattle.robots_audit.specs.Delay.{delay_line}
 use Rattle.robots_io.specs.Verdicts.{IsVerdictLine}
 use Rattle.robots_audit.specs.declared.fault.Fault.{Fault}
 use Rattle.robots_audit.specs.declared.fault.Fault.TheVariants.{File, InvalidRule, Memory}

@@ -14,6 +14,14 @@ pub(crate) fn counted<'a>(file: &'a [u8]) -> &'a [u8]
     &file[..FILE_LIMIT.min(file.len())]
 }
 
+/// How many lines a file has at most, by the bytes that end one.
+fn most_lines(file: &[u8]) -> usize {
+    let ends = counted(file)
+        .iter()
+        .filter(|byte| matches!(**byte, b'\n' | b'\r' | 0));
+    ends.count().saturating_add(1)
+}
+
 /// The lines of a file, each with its number and where it stands to the agent.
 pub(crate) fn marks_for<'a>(
     alloc: Global,
@@ -22,7 +30,7 @@ pub(crate) fn marks_for<'a>(
 ) -> Result<Vec<MarkedLine<'a>>, AllocError>
     ensures { IfOk result (λ marks. map mark_by_value marks.items ≡ marks_for agent.now (lines_read file.now)) }
 {
-    let mut marks = Vec::new(alloc);
+    let mut marks = Vec::with_capacity(alloc, most_lines(file))?;
     for marked in marked_lines(agent, counted(file)) {
         marks.push(marked)?;
     }

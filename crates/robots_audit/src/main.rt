@@ -8,6 +8,7 @@
 #![tactic(auto)]
 
 mod command;
+mod delay;
 mod fault;
 mod file;
 mod laws;

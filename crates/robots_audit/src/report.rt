@@ -12,10 +12,11 @@ ghost use Rattle.robots_audit.specs.Rows.{lines_of, marks_for};
 ghost use Rattle.robots_audit.specs.Steps.{Judges, front_lines};
 
 use crate::command::Request;
+use crate::delay::push_delay;
 use crate::fault::Fault;
 use crate::file::counted;
 use crate::rows::push_rows;
-use robots_io::lines::{push_delay, push_line};
+use robots_io::lines::push_line;
 use robots_io::verdicts::{decision_on, push_decision};
 use std::alloc::{AllocError, Global};
 use texting_robots::marks::{MarkedLine, overlong_line};

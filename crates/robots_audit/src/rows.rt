@@ -4,8 +4,8 @@ ghost use Rattle.texting_robots.specs.Callers.{by_value, mark_by_value};
 ghost use Rattle.robots_io.specs.Lines.{ended};
 ghost use Rattle.robots_audit.specs.Rows.{has_value, is_blank, kind_text, mark_text, right_aligned, row, rows, space, value_text, word_and_value};
 
+use crate::delay::push_delay_text;
 use itoa::Buffer;
-use robots_io::lines::push_number;
 use std::alloc::AllocError;
 use texting_robots::marks::{MarkedLine, Standing};
 use texting_robots::parser::Line;
@@ -88,7 +88,7 @@ fn has_value(line: Line<'_>) -> bool
     }
 }
 
-/// Adds the value of a line, escaped as rules are, or the microseconds of a delay.
+/// Adds the value of a line, escaped as rules are, or how a delay is shown.
 fn push_value(text: &mut String, line: Line<'_>) -> Result<(), AllocError>
     ensures { OnOk result (string_bytes text.new ≡ string_bytes text.old ++ value_text (by_value line.entry)) }
 {
@@ -98,7 +98,7 @@ fn push_value(text: &mut String, line: Line<'_>) -> Result<(), AllocError>
         | Line::Disallow(value)
         | Line::Sitemap(value)
         | Line::Raw(value) => push_escaped_bytes(text, value),
-        Line::CrawlDelay(Some(micros)) => push_number(text, micros),
+        Line::CrawlDelay(Some(micros)) => push_delay_text(text, micros),
         Line::CrawlDelay(None) => Ok(()),
     }
 }

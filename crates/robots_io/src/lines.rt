@@ -1,6 +1,6 @@
 //! The lines that reports have in common.
 ghost use Rattle.std.specs.Prelude.{◌≡◌, ◌++◌, ◌∷◌, [], OnOk, string_bytes};
-ghost use Rattle.robots_io.specs.Lines.{delay_line, ended};
+ghost use Rattle.robots_io.specs.Lines.{ended};
 
 use itoa::{Buffer, Integer};
 use std::alloc::AllocError;
@@ -20,15 +20,4 @@ pub fn push_number<I: Integer>(text: &mut String, number: I) -> Result<(), Alloc
     ensures { OnOk result (string_bytes text.new ≡ string_bytes text.old ++ I.text number) }
 {
     text.push_str(Buffer::new().format(number))
-}
-
-/// Adds the line of the delay, in microseconds.
-pub fn push_delay(text: &mut String, delay: Option<u64>) -> Result<(), AllocError>
-    ensures { OnOk result (string_bytes text.new ≡ string_bytes text.old
-        ++ ended (delay_line delay ∷ [])) }
-{
-    match delay {
-        Some(micros) => push_line(text, "delay ", Buffer::new().format(micros)),
-        None => push_line(text, "delay ", "none"),
-    }
 }

@@ -19,10 +19,10 @@ use Rattle.texting_robots.proofs.HeldLemmas.{refusal_is_computed}
 use Rattle.texting_robots.proofs.BestLemmas.{Either}
 use Rattle.robots_verdict.specs.declared.fault.Fault.{Fault}
 use Rattle.robots_verdict.specs.declared.fault.Fault.TheVariants.{HeaderNotUtf8, InvalidRule, NoEmptyLine}
-use Rattle.robots_io.specs.Lines.{delay_line, ended, lf}
+use Rattle.robots_io.specs.Lines.{ended, lf}
 use Rattle.robots_io.proofs.VerdictsLemmas.{some_lines}
 use Rattle.robots_verdict.specs.Input.{BeginsWithLine, IsInput, IsOneLine, cr}
-use Rattle.robots_verdict.specs.Report.{IsReport, IsReportText, as_is, sitemap_line}
+use Rattle.robots_verdict.specs.Report.{IsReport, IsReportText, as_is, delay_line, sitemap_line}
 use Rattle.robots_verdict.proofs.InputLemmas.{GoesOn, goes_first, goes_more, no_split, no_split_first}
 use Rattle.robots_verdict.proofs.InputLemmas.{rest_shorter, split_found}
 

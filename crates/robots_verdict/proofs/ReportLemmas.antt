@@ -11,13 +11,13 @@ use Rattle.robots_verdict.specs.declared.fault.Fault.{Fault}
 use Rattle.robots_verdict.specs.declared.fault.Fault.TheVariants.{HeaderNotUtf8, InvalidRule}
 use Rattle.robots_verdict.specs.declared.fault.Fault.TheVariants.{Memory, NoEmptyLine, Read, Write}
 use Rattle.robots_io.specs.Ends.{AppendsBeginning}
-use Rattle.robots_io.specs.Lines.{delay_line, ended}
+use Rattle.robots_io.specs.Lines.{ended}
 use Rattle.robots_io.specs.Verdicts.{AddsVerdicts}
 use Rattle.robots_io.proofs.LinesLemmas.{ended-append, lines_added}
 use Rattle.robots_io.proofs.VerdictsLemmas.{lines_like, lines_once}
 use Rattle.robots_verdict.specs.Input.{AreUtf8, HoldNotUtf8, IsInput}
 use Rattle.robots_verdict.specs.Report.{AppendsReport, AppendsReportBeginning}
-use Rattle.robots_verdict.specs.Report.{HasFault, IsReport, IsReportText, as_is, sitemap_line}
+use Rattle.robots_verdict.specs.Report.{HasFault, IsReport, IsReportText, as_is, delay_line, sitemap_line}
 use Rattle.robots_verdict.proofs.InputLemmas.{not_both, one_split}
 
 -- ---- the report

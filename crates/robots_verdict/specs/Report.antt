@@ -1,12 +1,12 @@
 -- What the program writes of what it reads.
 use Rattle.std.specs.Prelude.{◌≡◌, ℕ, List, ◌∷◌}
-use Rattle.std.specs.Prelude.{◌++◌, Option, Result, Ok, Err, codes, map, take}
+use Rattle.std.specs.Prelude.{◌++◌, Option, Some, None, Result, Ok, Err, codes, decimal, map, take}
 use Rattle.std.specs.List.{AllZip}
 use Rattle.std.specs.Io.KnownBytes.{Appends}
 use Rattle.texting_robots.specs.Callers.{IsFileRefused, delay_for, file_limit, lines_read, placed_rules}
 use Rattle.texting_robots.specs.Callers.{sitemaps_in}
 use Rattle.robots_io.specs.Ends.{AppendsBeginning}
-use Rattle.robots_io.specs.Lines.{delay_line, ended}
+use Rattle.robots_io.specs.Lines.{ended}
 use Rattle.robots_io.specs.Verdicts.{IsVerdictLine}
 use Rattle.robots_verdict.specs.declared.fault.Fault.{Fault}
 use Rattle.robots_verdict.specs.declared.fault.Fault.TheVariants.{HeaderNotUtf8, InvalidRule}
@@ -14,6 +14,10 @@ use Rattle.robots_verdict.specs.declared.fault.Fault.TheVariants.{Memory, NoEmpt
 use Rattle.robots_verdict.specs.Input.{AreUtf8, HoldNotUtf8, IsInput}
 
 -- ---- the lines of a report
+
+abbrev pub delay_line : Option ℕ → List ℕ
+delay_line None = codes "delay none"
+delay_line (Some micros) = codes "delay " ++ decimal micros
 
 abbrev pub sitemap_line : List ℕ → List ℕ
 sitemap_line sitemap = codes "sitemap " ++ sitemap

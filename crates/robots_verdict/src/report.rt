@@ -2,14 +2,26 @@
 ghost use Rattle.std.specs.Prelude.{◌≡◌, ◌≢◌, ◌++◌, ◌∷◌, [], IfErr, IfOk, OnOk, Ok, map, string_bytes};
 ghost use Rattle.robots_io.specs.Lines.{ended};
 ghost use Rattle.robots_io.specs.Verdicts.{AddsVerdict, AddsVerdicts};
-ghost use Rattle.robots_verdict.specs.Report.{HasFault, IsReport, as_is, sitemap_line};
+ghost use Rattle.robots_verdict.specs.Report.{HasFault, IsReport, as_is, delay_line, sitemap_line};
 
 use crate::fault::Fault;
 use crate::header::read_header;
-use robots_io::lines::{push_delay, push_line};
+use itoa::Buffer;
+use robots_io::lines::push_line;
 use robots_io::verdicts::{decision_on, push_decision};
 use std::alloc::{AllocError, Global};
 use texting_robots::{Error, Robot};
+
+/// Adds the line of the delay, in microseconds.
+fn push_delay(text: &mut String, delay: Option<u64>) -> Result<(), AllocError>
+    ensures { OnOk result (string_bytes text.new ≡ string_bytes text.old
+        ++ ended (delay_line delay ∷ [])) }
+{
+    match delay {
+        Some(micros) => push_line(text, "delay ", Buffer::new().format(micros)),
+        None => push_line(text, "delay ", "none"),
+    }
+}
 
 /// Adds the lines of the sitemaps.
 fn push_sitemaps(text: &mut String, sitemaps: &[String]) -> Result<(), AllocError>

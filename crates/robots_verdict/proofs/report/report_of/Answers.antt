@@ -3,8 +3,7 @@ use Rattle.std.proofs.Common.{◌∙◌}
 use Rattle.texting_robots.specs.Robot.{RobotValue, file_limit}
 use Rattle.texting_robots.proofs.HeadlineLemmas.{not_refused, read_robot}
 use Rattle.robots_io.specs.Lines.{ended}
-use Rattle.robots_io.specs.Lines.{delay_line}
-use Rattle.robots_verdict.specs.Report.{sitemap_line}
+use Rattle.robots_verdict.specs.Report.{delay_line, sitemap_line}
 use Rattle.robots_verdict.proofs.ReportLemmas.{text_made}
 use Rattle.robots_verdict.proofs.report.report_of.Goals as goal
 

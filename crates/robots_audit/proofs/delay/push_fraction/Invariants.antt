@@ -1,0 +1,14 @@
+use Rattle.std.proofs.Common.{◌≡◌, ◌++◌, ◌<◌, string_bytes}
+use Rattle.robots_audit.specs.Delay.{fraction, million}
+use Rattle.robots_audit.proofs.delay.push_fraction.Given as goal
+
+-- the digits that were added and those that are still to come are all
+abbrev pub invariant-loop-rest : goal.invariant-loop-rest
+invariant-loop-rest l = record {
+  less : l.rest < million;
+  whole : string_bytes l.text ++ fraction l.digits l.rest
+      ≡ string_bytes l.fn.text ++ fraction 6 l.millionths;
+}
+
+abbrev pub decreases-loop-rest : goal.decreases-loop-rest
+decreases-loop-rest l = l.digits

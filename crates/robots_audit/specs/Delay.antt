@@ -1,0 +1,26 @@
+-- How a delay is shown: in seconds, exactly, and in microseconds.
+use Rattle.std.specs.Prelude.{ℕ, zero, suc, ◌*◌, ◌/◌, ◌%◌, ◌==◌, List, []}
+use Rattle.std.specs.Prelude.{◌++◌, Option, Some, None}
+use Rattle.std.specs.Prelude.{codes, decimal, if◌then◌else◌}
+
+abbrev pub million : ℕ
+million = 1000000
+
+-- so many millionths as digits behind a point, so many at most, without zeros at the end
+abbrev pub fraction : ℕ → ℕ → List ℕ
+fraction zero millionths = []
+fraction (suc digits) millionths =
+    if millionths == 0 then []
+    else decimal (millionths * 10 / million) ++ fraction digits (millionths * 10 % million)
+
+abbrev pub seconds : ℕ → List ℕ
+seconds micros =
+    let millionths = micros % million in
+    decimal (micros / million) ++ (if millionths == 0 then [] else codes "." ++ fraction 6 millionths)
+
+abbrev pub delay_text : ℕ → List ℕ
+delay_text micros = seconds micros ++ codes " s (" ++ decimal micros ++ codes " microseconds)"
+
+abbrev pub delay_line : Option ℕ → List ℕ
+delay_line None = codes "delay none"
+delay_line (Some micros) = codes "delay " ++ delay_text micros

@@ -1,0 +1,64 @@
+//! How a delay is shown.
+ghost use Rattle.std.specs.Prelude.{◌≡◌, ◌++◌, ◌∷◌, ◌<◌, [], OnOk, string_bytes};
+ghost use Rattle.robots_io.specs.Lines.{ended};
+ghost use Rattle.robots_audit.specs.Delay.{delay_line, delay_text, fraction, million, seconds};
+
+use robots_io::lines::{push_line, push_number};
+use std::alloc::AllocError;
+
+/// How many microseconds a second has.
+const MILLION: u64 = 1_000_000;
+
+/// How many digits stand behind the point at most.
+const DIGITS: u32 = 6;
+
+/// Adds so many millionths as digits, without zeros at the end.
+fn push_fraction(text: &mut String, millionths: u64) -> Result<(), AllocError>
+    requires { millionths < million }
+    ensures { OnOk result (string_bytes text.new ≡ string_bytes text.old ++ fraction 6 millionths) }
+{
+    let mut rest = millionths;
+    let mut digits = DIGITS;
+    while rest > 0 && digits > 0 {
+        push_number(text, rest * 10 / MILLION)?;
+        rest = rest * 10 % MILLION;
+        digits -= 1;
+    }
+    Ok(())
+}
+
+/// Adds so many microseconds in seconds.
+fn push_seconds(text: &mut String, micros: u64) -> Result<(), AllocError>
+    ensures { OnOk result (string_bytes text.new ≡ string_bytes text.old ++ seconds micros) }
+{
+    push_number(text, micros / MILLION)?;
+    let millionths = micros % MILLION;
+    if millionths > 0 {
+        text.push('.')?;
+        push_fraction(text, millionths)?;
+    }
+    Ok(())
+}
+
+/// Adds so many microseconds, in seconds and as they are.
+pub(crate) fn push_delay_text(text: &mut String, micros: u64) -> Result<(), AllocError>
+    ensures { OnOk result (string_bytes text.new ≡ string_bytes text.old ++ delay_text micros) }
+{
+    push_seconds(text, micros)?;
+    text.push_str(" s (")?;
+    push_number(text, micros)?;
+    text.push_str(" microseconds)")?;
+    Ok(())
+}
+
+/// Adds the line of the delay.
+pub(crate) fn push_delay(text: &mut String, delay: Option<u64>) -> Result<(), AllocError>
+    ensures { OnOk result (string_bytes text.new ≡ string_bytes text.old ++ ended (delay_line delay ∷ [])) }
+{
+    let Some(micros) = delay else {
+        return push_line(text, "delay ", "none");
+    };
+    text.push_str("delay ")?;
+    push_delay_text(text, micros)?;
+    push_line(text, "", "")
+}
