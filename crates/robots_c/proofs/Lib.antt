@@ -1,2 +1,1 @@
 mod NumberLemmas
-mod OverlongLemmas

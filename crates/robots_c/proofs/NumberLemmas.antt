@@ -3,16 +3,19 @@ use Rattle.std.proofs.Common.{◌≡◌, ℕ, zero, suc, ◌+◌, ◌<◌, ◌�
 use Rattle.std.proofs.Common.{true, false}
 use Rattle.std.proofs.Common.{List, [], ◌∷◌, ◌++◌, Option, Some, None, IfSome, ℤ}
 use Rattle.std.proofs.Common.{arith, length, map, refl, slice_index_or, subst, take}
-use Rattle.std.specs.List.{AllZip}
+use Rattle.std.specs.List.{AllZip, Contains}
 use Rattle.std.proofs.lemmas.List.{length-map, length-take, take_more}
+use Rattle.std.proofs.lemmas.List.Elements.{Contains-append_right}
 use Rattle.std.proofs.lemmas.Option.{slice_get_within}
-use Rattle.texting_robots.specs.Callers.{IsDecidingLine, IsRobotOfFile, IsVerdict, PlacedRule, RobotValue}
-use Rattle.texting_robots.specs.Callers.{file_limit, file_lines, lines_read, nul_as_lf, prepared, unplaced}
+use Rattle.texting_robots.specs.Callers.{IsDecidingLine, IsFirstOverlong, IsRobotOfFile, IsVerdict}
+use Rattle.texting_robots.specs.Callers.{PlacedRule, RobotValue, file_limit, file_lines, lines_read}
+use Rattle.texting_robots.specs.Callers.{nul_as_lf, placed_rules, prepared, unplaced}
 use Rattle.texting_robots.specs.Line.{without_front}
 use Rattle.texting_robots.specs.Steps.Line.{lines_of}
 use Rattle.texting_robots.proofs.CountLemmas.{lines_within}
 use Rattle.texting_robots.proofs.CutFromFront.{read_as_is}
 use Rattle.texting_robots.proofs.HeadlineLemmas.{deciding_line_holds_its_rule, no_line_allows, read_robot}
+use Rattle.texting_robots.proofs.HeldLemmas.{computed_are}
 use Rattle.robots_c.specs.Answer.{IsAnswer, LinesFit, number_of}
 
 -- ---- one answer more
@@ -64,6 +67,17 @@ lines_fit agent file robot of text line decides =
     deciding_line_holds_its_rule agent lines robot.rules text line is.rules decides in
     let below : place < length lines = slice_get_within lines place _ held.line.0 in
     (omega (arith, number), omega (arith, number, below, few_lines file))
+
+pub overlong_fits : (agent file : List ℕ) (number : ℕ)
+    → IsFirstOverlong (placed_rules agent (lines_read file)) number
+    → (place : ℕ) × (number ≡ place + 1) × (number < 2 ^ 31)
+overlong_fits agent file number first =
+    let lines = lines_read file in
+    let has : Contains (placed_rules agent lines) first.placed = rw first.whole
+    (Contains-append_right first.front (first.placed ∷ first.back) first.placed (0, omega arith, refl)) in
+    let (place, at, holds) = ((computed_are agent lines).held first.placed).0 has in
+    let below : place < length lines = slice_get_within lines place _ holds.line.0 in
+    (place, omega (arith, first.line, at), omega (arith, first.line, at, below, few_lines file))
 
 -- ---- a number says a decision
 

@@ -1,5 +1,4 @@
 pub mod Answer
 pub mod File
 pub mod Status
-pub mod Steps
 pub mod Text

@@ -1,11 +1,12 @@
 -- What C is told where there is no answer.
-use Rattle.std.specs.Prelude.{◌≡◌, ◌⊎◌, ℕ, ◌<◌, ℤ, pos, negsuc, List, ⊤}
+use Rattle.std.specs.Prelude.{◌≡◌, ◌⊎◌, ℕ, ◌+◌, ◌<◌, ℤ, pos, negsuc, List, ⊤}
 use Rattle.std.specs.Prelude.{None, Ok, Err, IsUtf8, length}
 use Rattle.robots_io.specs.Lines.{ended}
-use Rattle.texting_robots.specs.Callers.{RobotValue, robots_address}
+use Rattle.texting_robots.specs.Callers.{IsFirstOverlong, RobotValue, lines_read, placed_rules}
+use Rattle.texting_robots.specs.Callers.{robots_address}
 use Rattle.url.specs.declared.error.ParseError.{ParseError}
 use Rattle.robots_c.specs.Answer.{urls_in}
-use Rattle.robots_c.specs.File.{GivesRobot, IsFirstOverlongOf}
+use Rattle.robots_c.specs.File.{GivesRobot}
 use Rattle.robots_c.specs.declared.fault.Fault.{Fault}
 use Rattle.robots_c.specs.declared.fault.Fault.TheVariants.{Memory, NoAddress, NoDelay, NoRoom, NotUtf8}
 use Rattle.robots_c.specs.declared.fault.Fault.TheVariants.{Overlong}
@@ -23,10 +24,11 @@ status_of (Overlong line) = line
 abbrev pub HasFault : (Fault → Type 0) → ℤ → Type 0
 HasFault Why status = (status ≡ pos 0) ⊎ ((fault : Fault) × Why fault × (status ≡ status_of fault))
 
--- the number is that of the first line with an overlong rule for the agent
+-- the number, counted from 1, is that of the first line with an overlong rule for the agent; only the first
+-- bytes of the file count
 abbrev pub IsOverlongLine : List ℕ → List ℕ → ℤ → Type 0
-IsOverlongLine agent file line =
-    (number : ℕ) × (line ≡ pos number) × IsFirstOverlongOf agent file number
+IsOverlongLine agent file line = (place : ℕ) × (line ≡ pos (place + 1))
+    × IsFirstOverlong (placed_rules agent (lines_read file)) (place + 1)
 
 -- this fault is why the file gives no robot; want of memory can always be
 abbrev pub IsWhyNoRobot : List ℕ → List ℕ → Fault → Type 0
