@@ -21,15 +21,15 @@ is_allowed (pos n) = true
 is_allowed (negsuc n) = false
 
 -- 0 names no line, and n and -n name line n
-abbrev pub line_of : ℤ → Option ℕ
-line_of (pos zero) = None
-line_of (pos (suc n)) = Some (suc n)
-line_of (negsuc n) = Some (suc n)
+abbrev pub line_named : ℤ → Option ℕ
+line_named (pos zero) = None
+line_named (pos (suc n)) = Some (suc n)
+line_named (negsuc n) = Some (suc n)
 
 -- the number says the rules' verdict on the URL, and names the line that decides
 pub record IsAnswer (rules : List PlacedRule) (url : List ℕ) (number : ℤ) : Type 0 where
   pub verdict : IsVerdict (unplaced rules) (prepared url) (is_allowed number)
-  pub deciding : IsDecidingLine rules (prepared url) (line_of number)
+  pub deciding : IsDecidingLine rules (prepared url) (line_named number)
 
 -- ---- how the number is made
 
