@@ -1,15 +1,17 @@
 -- What a pattern matches begins as its first piece, and has the pairs of neighbouring bytes of its searched
 -- pieces.
-use Rattle.std.proofs.Common.{◌≡◌, ℕ, ◌*◌, ◌^◌, ◌%◌, ◌<◌, ◌≤◌, List, []}
-use Rattle.std.proofs.Common.{◌∷◌, ◌++◌, length, min, get_or, drop, take, sym, refl, ap, subst}
-use Rattle.std.proofs.Common.{◌∙◌, arith}
+use Rattle.std.proofs.Common.{◌≡◌, ℕ, ◌*◌, ◌^◌, ◌%◌, ◌<◌, ◌≤◌, List}
+use Rattle.std.proofs.Common.{[], ◌∷◌, ◌++◌, length, min, get_or, drop, take, sym, refl, ap, subst}
+use Rattle.std.proofs.Common.{◌∙◌, append_assoc, take-append-drop, arith}
 use Rattle.std.specs.Int.{RustNames.bit_and, RustNames.bit_or, Bits.or_self, Bits.or_zero_l}
+use Rattle.std.proofs.lemmas.List.{take-take}
 use Rattle.std.proofs.lemmas.Nat.{and_mask, or_comm, Bits.bit_at_or, Bits.same_from_bits}
 use Rattle.texting_robots.specs.declared.needs.{Needs.Needs, head.Head.Head}
 use Rattle.texting_robots.specs.declared.pieces.{Ending.Ending, Ends.Ends, Piece.Piece}
-use Rattle.texting_robots.specs.Steps.Needs.{AreNeeds, AreWithin, Fits, IsHeadOf, front_bit, front_of}
-use Rattle.texting_robots.specs.Steps.Needs.{ones_below, pair_bit, pair_set}
-use Rattle.texting_robots.specs.Steps.Pieces.{AreLeft, ArePieces, part_of}
+use Rattle.texting_robots.specs.declared.pieces.Ending.TheVariants.{Last}
+use Rattle.texting_robots.specs.Steps.Needs.{AreNeeds, AreWithin, Fits, IsHeadOf, ending_pairs, front_bit}
+use Rattle.texting_robots.specs.Steps.Needs.{front_of, ones_below, pair_bit, pair_set}
+use Rattle.texting_robots.specs.Steps.Pieces.{AreLeft, ArePieces, EndsAs, part_of}
 use Rattle.texting_robots.specs.Pattern.{Matches}
 
 -- ---- the beginning
@@ -17,15 +19,8 @@ use Rattle.texting_robots.specs.Pattern.{Matches}
 -- the piece's bytes are those of the text, as far as both go
 same_below : (piece rest : List ℕ) → front_of (piece ++ rest) % 2 ^ (8 * min (length piece) 8)
     ≡ front_of piece % 2 ^ (8 * min (length piece) 8)
-same_below [] rest = omega arith
-same_below (a ∷ []) rest = omega arith
-same_below (a ∷ b ∷ []) rest = omega arith
-same_below (a ∷ b ∷ c ∷ []) rest = omega arith
-same_below (a ∷ b ∷ c ∷ d ∷ []) rest = omega arith
-same_below (a ∷ b ∷ c ∷ d ∷ e ∷ []) rest = omega arith
-same_below (a ∷ b ∷ c ∷ d ∷ e ∷ f ∷ []) rest = omega arith
-same_below (a ∷ b ∷ c ∷ d ∷ e ∷ f ∷ g ∷ []) rest = omega arith
 same_below (a ∷ b ∷ c ∷ d ∷ e ∷ f ∷ g ∷ h ∷ piece) rest = refl
+same_below piece rest = omega arith
 
 -- and so a mask over the piece hides what stands behind it
 pub same_masked : (piece rest : List ℕ) → bit_and (front_of (piece ++ rest)) (ones_below (length piece))
@@ -56,7 +51,7 @@ within_later few more many h =
     sym (or_assoc few more many) ∙ ap (λ x. bit_or x many) (or_comm few more)
     ∙ or_assoc more few many ∙ ap (bit_or more) h
 
-within_both : (one other many : ℕ) → AreWithin one many → AreWithin other many
+pub within_both : (one other many : ℕ) → AreWithin one many → AreWithin other many
     → AreWithin (bit_or one other) many
 within_both one other many h k = or_assoc one other many ∙ ap (bit_or one) k ∙ h
 
@@ -89,11 +84,21 @@ pub pairs_step : (bits bit whole : ℕ) (rest : List ℕ) → 2 ≤ length rest
     → bit ≡ pair_bit (get_or rest 0 0) (get_or rest 1 0) → bit_or bits (pair_set rest) ≡ whole
     → bit_or (bit_or bits bit) (pair_set (drop 1 rest)) ≡ whole
 unfolding pair_set
-pairs_step bits bit whole [] long is h = absurd (omega arith)
-pairs_step bits bit whole (b ∷ []) long is h = absurd (omega arith)
 pairs_step bits bit whole (b ∷ c ∷ rest) long is h =
     or_assoc bits bit (pair_set (c ∷ rest)) ∙ ap (λ x. bit_or bits (bit_or x (pair_set (c ∷ rest)))) is
     ∙ h
+pairs_step bits bit whole rest long is h = absurd (omega arith)
+
+-- and so do the first two, one after the other
+pub two_pairs : (bits one two whole : ℕ) (rest : List ℕ) → 3 ≤ length rest
+    → one ≡ pair_bit (get_or rest 0 0) (get_or rest 1 0)
+    → two ≡ pair_bit (get_or rest 1 0) (get_or rest 2 0)
+    → bit_or bits (pair_set rest) ≡ whole
+    → bit_or (bit_or (bit_or bits one) two) (pair_set (drop 2 rest)) ≡ whole
+two_pairs bits one two whole (b ∷ c ∷ d ∷ rest) long first second h =
+    pairs_step _ two whole (c ∷ d ∷ rest) (omega arith) second
+    (pairs_step bits one whole (b ∷ c ∷ d ∷ rest) (omega arith) first h)
+two_pairs bits one two whole rest long first second h = absurd (omega arith)
 
 pub no_pairs : (rest : List ℕ) → length rest < 2 → pair_set rest ≡ 0
 unfolding pair_set
@@ -103,35 +108,56 @@ no_pairs (b ∷ c ∷ rest) short = absurd (omega arith)
 
 -- ---- over the pieces
 
--- the pairs of all pieces together
-abbrev pub piece_pairs : List ℕ → List Piece → ℕ
-piece_pairs pattern [] = 0
-piece_pairs pattern (piece ∷ pieces) =
-    bit_or (pair_set (part_of pattern piece.span)) (piece_pairs pattern pieces)
+-- the pairs of all pieces together, and of the ending
+abbrev pub piece_pairs : List ℕ → Ending → List Piece → ℕ
+piece_pairs pattern ending [] = ending_pairs pattern ending
+piece_pairs pattern ending (piece ∷ pieces) =
+    bit_or (pair_set (part_of pattern piece.span)) (piece_pairs pattern ending pieces)
+
+ending_within : (pattern : List ℕ) (ending : Ending) (t : List ℕ) → EndsAs pattern ending t
+    → AreWithin (ending_pairs pattern ending) (pair_set t)
+ending_within pattern (Last span) t (front, e) =
+    let part = part_of pattern span in
+    subst (λ x. AreWithin (pair_set part) (pair_set x)) (sym e) (end_within front part)
+ending_within pattern ending t ends = or_zero_l (pair_set t)
 
 -- what is left of a pattern matches only texts with the pairs of the pieces that are left
 left_within : (pattern : List ℕ) (ending : Ending) (pieces : List Piece) (left : List ℕ)
     → AreLeft pattern ending pieces left → (t : List ℕ) → Matches left t
-    → AreWithin (piece_pairs pattern pieces) (pair_set t)
-left_within pattern ending [] left are t m = or_zero_l (pair_set t)
+    → AreWithin (piece_pairs pattern ending pieces) (pair_set t)
+left_within pattern ending [] left are t m = ending_within pattern ending t ((are t).0 m)
 left_within pattern ending (piece ∷ pieces) left (rest, is, more) t m =
     let (after, (front, e), n) = (is.decides t).0 m in
     let part = part_of pattern piece.span in
-    let pairs = piece_pairs pattern (piece ∷ pieces) in
-    let ending_pairs = within_through (piece_pairs pattern pieces) (pair_set after) (pair_set (part ++ after))
+    let pairs = piece_pairs pattern ending (piece ∷ pieces) in
+    let later = piece_pairs pattern ending pieces in
+    let behind = within_through later (pair_set after) (pair_set (part ++ after))
     (left_within pattern ending pieces rest more after n) (end_within part after) in
-    let both = within_both (pair_set part) (piece_pairs pattern pieces) (pair_set (part ++ after))
-    (front_within part after) ending_pairs in
+    let both = within_both _ later (pair_set (part ++ after)) (front_within part after) behind in
     subst (λ x. AreWithin pairs (pair_set x)) (sym e)
     (within_through pairs (pair_set (part ++ after)) _ both (end_within front (part ++ after)))
 
 -- what a pattern matches meets its needs
 pub are_needs : {pattern : List ℕ} {ends : Ends} {pieces : List Piece} {borders : List ℕ} (needs : Needs)
     → ArePieces pattern ends pieces borders → IsHeadOf (take ends.first_len pattern) needs.head
-    → needs.pairs.bits ≡ piece_pairs pattern pieces → AreNeeds pattern needs
+    → needs.pairs.bits ≡ piece_pairs pattern ends.ending pieces → AreNeeds pattern needs
 are_needs {pattern} {ends} {pieces} needs are head pairs text m =
     let first = take ends.first_len pattern in
     let (rest, e, n) = (are.decides text).0 m in
-    let within = within_through (piece_pairs pattern pieces) (pair_set rest) (pair_set (first ++ rest))
+    let pairs_of = piece_pairs pattern ends.ending pieces in
+    let within = within_through pairs_of (pair_set rest) (pair_set (first ++ rest))
     (left_within pattern ends.ending pieces are.rest are.left rest n) (end_within first rest) in
     rw (e, pairs) (record { head = beginning_fits first rest needs.head head; pairs = within })
+
+-- a text that begins with a piece has the pairs of the piece's first bytes
+pub beginning_within : (pattern rest text : List ℕ) (few first : ℕ) → few ≤ first
+    → text ≡ take first pattern ++ rest → AreWithin (pair_set (take few pattern)) (pair_set text)
+beginning_within pattern rest text few first less e =
+    let front = take first pattern in
+    let parts = sym (take-append-drop few front) in
+    let same : take few front ≡ take few pattern = take-take few first pattern less in
+    let all : text ≡ take few pattern ++ (drop few front ++ rest) =
+    e ∙ ap (λ x. x ++ rest) (parts ∙ ap (λ x. x ++ drop few front) same)
+    ∙ append_assoc (take few pattern) (drop few front) rest in
+    subst (λ x. AreWithin (pair_set (take few pattern)) (pair_set x)) (sym all)
+    (front_within (take few pattern) (drop few front ++ rest))

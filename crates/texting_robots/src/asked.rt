@@ -1,16 +1,17 @@
 //! Texts that patterns are matched against, with their looks counted or not.
-ghost use Rattle.std.specs.Prelude.{◌≡◌, ◌≢◌, ℕ, ◌+◌, ◌≤◌, ◌↔◌, ◌++◌, List, [], IfNone, IfSome, IsTrue, MatchOption, codes, drop, length};
+ghost use Rattle.std.specs.Prelude.{◌≡◌, ◌≢◌, ℕ, ◌+◌, ◌<◌, ◌≤◌, ◌↔◌, ◌++◌, List, [], IfNone, IfSome, IsTrue, MatchOption, codes, drop, length};
 ghost use Rattle.std.specs.Option.{option_map_or};
 ghost use Rattle.memchr.specs.Find.{OccursAt};
 ghost use Rattle.texting_robots.specs.Steps.Border.{IsTable};
-ghost use Rattle.texting_robots.specs.Steps.Needs.{Meets, pair_set};
+ghost use Rattle.texting_robots.specs.Steps.Needs.{AreApart, Meets, pair_set};
 ghost use Rattle.texting_robots.specs.Steps.Stars.{IsBehindFirst, StandsNowhere};
 ghost use Rattle.texting_robots.specs.Pattern.{IsSuffix};
 ghost use Rattle.texting_robots.specs.Steps.Asked.{PassesTo};
 
-use crate::needs::Needs;
 use crate::needs::head::front;
 use crate::needs::pairs::Pairs;
+use crate::needs::{Needs, first_near};
+use crate::pieces::Span;
 use crate::view::View;
 use memchr::memmem;
 use std::marker::Model;
@@ -35,6 +36,22 @@ pub(crate) trait Asked {
     /// Whether it is `/robots.txt`. It is no look.
     fn is_robots_file(&self) -> bool
         ensures { IsTrue result ↔ ((seen self.now).text ≡ codes "/robots.txt") };
+
+    /// Whether rules are passed over by these signs, or all are asked from the first one on. Either is right: it is a matter of
+    /// speed.
+    fn passes_over(&self, signs: &[u64]) -> bool;
+
+    /// Which rules are to be asked next, from this place up to the end, by the signs that there are: none between can match
+    /// it. It is no look.
+    fn next(&mut self, signs: &[u64], from: usize, end: usize) -> Span
+        requires from { from < end }
+        requires signs { length signs.now ≤ end }
+        ensures from { from ≤ result.start }
+        ensures some { from < result.end }
+        ensures ordered { result.start ≤ result.end }
+        ensures end { result.end ≤ end }
+        ensures apart { AreApart signs.now (pair_set (seen self.old).text) from result.start }
+        ensures same { seen self.new ≡ seen self.old };
 
     /// Whether a pattern with these needs may match it: where it meets them, it may. It is no look.
     fn may_match(&mut self, needs: Needs) -> bool
@@ -82,6 +99,14 @@ impl<'a> Asked for View<'a> {
 
     fn is_robots_file(&self) -> bool {
         View::is_robots_file(self)
+    }
+
+    fn passes_over(&self, _signs: &[u64]) -> bool {
+        false
+    }
+
+    fn next(&mut self, _signs: &[u64], from: usize, end: usize) -> Span {
+        Span { start: from, end }
     }
 
     fn may_match(&mut self, _needs: Needs) -> bool {
@@ -202,6 +227,18 @@ impl<'a> Asked for Uncounted<'a> {
 
     fn is_robots_file(&self) -> bool {
         self.text == b"/robots.txt".as_slice()
+    }
+
+    fn passes_over(&self, signs: &[u64]) -> bool {
+        !signs.is_empty()
+    }
+
+    fn next(&mut self, signs: &[u64], from: usize, end: usize) -> Span {
+        let start = first_near(signs, from, self.pairs().bits);
+        Span {
+            start,
+            end: start + (end - start).min(8),
+        }
     }
 
     /// The text's pairs are asked for only where some are needed.

@@ -1,10 +1,12 @@
 //! What a text needs so that a pattern can match it, by which most rules are passed over.
-ghost use Rattle.texting_robots.specs.Steps.Needs.{AreNeeds};
+ghost use Rattle.std.specs.Prelude.{◌≡◌, ◌+◌, ◌≤◌, length, max, true};
+ghost use Rattle.texting_robots.specs.Steps.Needs.{AreApart, AreNeeds, ending_pairs};
+ghost use Rattle.texting_robots.specs.Steps.Pieces.{IsEnding};
 
 pub(crate) mod head;
 pub(crate) mod pairs;
 
-use crate::pieces::Pattern;
+use crate::pieces::{Ending, Pattern};
 use head::Head;
 use pairs::Pairs;
 
@@ -25,6 +27,51 @@ impl Needs {
         for piece in pattern.pieces {
             pairs = pairs.and(Pairs::of(&pattern.bytes[piece.span.start..piece.span.end]));
         }
-        Needs { head, pairs }
+        Needs {
+            head,
+            pairs: pairs.and(ending_pairs(pattern.bytes, pattern.ends.ending)),
+        }
     }
+}
+
+/// The pairs of the bytes that a text has to end with.
+fn ending_pairs(pattern: &[u8], ending: Ending) -> Pairs
+    requires { IsEnding pattern.now ending }
+    ensures { result.bits ≡ ending_pairs pattern.now ending }
+{
+    match ending {
+        Ending::Last(span) => Pairs::of(&pattern[span.start..span.end]),
+        _ => Pairs::none(),
+    }
+}
+
+/// Whether none of eight signs from this place on is within the text's pairs. All are tested: where most are apart, stopping early
+/// costs more than it saves.
+fn are_apart(signs: &[u64], from: usize, text: u64) -> bool
+    requires { from + 8 ≤ length signs.now }
+    ensures { result ≡ true → AreApart signs.now text from (from + 8) }
+{
+    let mut apart = true;
+    for k in 0..8 {
+        apart &= signs[from + k] | text != text;
+    }
+    apart
+}
+
+/// Where the first eight signs from this place on begin of which one is within the text's pairs, or where fewer are left.
+/// It stands by itself, so that few rules are asked without what it takes.
+#[inline(never)]
+pub(crate) fn first_near(signs: &[u64], from: usize, text: u64) -> usize
+    ensures from { from ≤ result }
+    ensures within { result ≤ max from (length signs.now) }
+    ensures apart { AreApart signs.now text from result }
+{
+    let Some(last) = signs.len().checked_sub(8) else {
+        return from;
+    };
+    let mut at = from;
+    while at <= last && are_apart(signs, at, text) {
+        at += 8;
+    }
+    at
 }

@@ -1,7 +1,8 @@
 -- Rules by their ranges of shared vectors.
 use Rattle.std.specs.Prelude.{◌≡◌, ℕ, ◌+◌, ◌-◌, ◌*◌, ◌<◌}
-use Rattle.std.specs.Prelude.{◌≤◌, Bool, false, List, All, length}
-use Rattle.std.specs.Prelude.{map, slice_index_or, string_bytes, if◌then◌else◌}
+use Rattle.std.specs.Prelude.{◌≤◌, Bool, false, List, All, EachIndex, length}
+use Rattle.std.specs.Prelude.{bit_or, map, min, slice_index, slice_index_or, take, string_bytes}
+use Rattle.std.specs.Prelude.{if◌then◌else◌}
 use Rattle.std.specs.Ordering.{flip_args, nat_cmp, on, then_cmp}
 use Rattle.std.specs.declared.cmp.Ordering.{Ordering}
 use Rattle.texting_robots.specs.declared.pieces.Span.{Span}
@@ -9,7 +10,7 @@ use Rattle.texting_robots.specs.declared.pieces.Piece.{Piece}
 use Rattle.texting_robots.specs.declared.pieces.Ending.TheVariants.{Open}
 use Rattle.texting_robots.specs.declared.rules.Entry.{Entry}
 use Rattle.texting_robots.specs.declared.rules.Gathered.{Gathered}
-use Rattle.texting_robots.specs.Steps.Needs.{AreNeeds}
+use Rattle.texting_robots.specs.Steps.Needs.{AreNeeds, pair_set}
 use Rattle.texting_robots.specs.Steps.Pieces.{ArePieces, IsSpan, part_of}
 use Rattle.texting_robots.specs.Pattern.{Matches}
 use Rattle.texting_robots.specs.Rules.{PlacedRule}
@@ -33,8 +34,10 @@ pub record IsEntry (text : List ℕ) (pieces : List Piece) (borders : List ℕ) 
 abbrev pub IsEntryOf : Gathered → Entry → Type 0
 IsEntryOf all entry = IsEntry (string_bytes all.text) all.pieces.items all.borders.items entry
 
-abbrev pub AreEntries : Gathered → Type 0
-AreEntries all = All (IsEntryOf all) all.entries.items
+-- there are no more signs
+pub record AreEntries (all : Gathered) : Type 0 where
+  pub known : All (IsEntryOf all) all.entries.items
+  pub signs : length all.signs.items ≤ length all.entries.items
 
 abbrev pub pattern_of : Gathered → Entry → List ℕ
 pattern_of all entry = part_of (string_bytes all.text) entry.pattern
@@ -78,6 +81,16 @@ no_entry =
       rank = 0;
       line = 0;
     }
+
+-- the pairs that a text needs anywhere, and those of the bytes that it needs in front, up to nine
+abbrev pub sign_in : List ℕ → Entry → ℕ
+sign_in text entry =
+    bit_or entry.needs.pairs.bits
+    (pair_set (take (min entry.ends.first_len 9) (part_of text entry.pattern)))
+
+abbrev pub AreSigned : List ℕ → List Entry → List ℕ → Type 0
+AreSigned text entries signs =
+    EachIndex signs (λ k. slice_index signs k ≡ sign_in text (slice_index_or entries k no_entry))
 
 -- the rule at this place matches the text
 abbrev pub MatchesAt : Gathered → ℕ → List ℕ → Type 0

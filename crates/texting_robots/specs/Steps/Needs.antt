@@ -1,11 +1,14 @@
 -- What a text needs so that a pattern can match it.
-use Rattle.std.specs.Prelude.{◌≡◌, ℕ, ◌+◌, ◌*◌, ◌-◌, ◌%◌, ◌^◌, List}
-use Rattle.std.specs.Prelude.{[], ◌∷◌, Option, IfSome, bit_and, bit_or, length, min}
+use Rattle.std.specs.Prelude.{◌≡◌, ℕ, ◌+◌, ◌*◌, ◌-◌, ◌%◌, ◌^◌, ◌<◌, ◌≤◌}
+use Rattle.std.specs.Prelude.{List, [], ◌∷◌, Option, IfSome, bit_and, bit_or, length, min, slice_index}
 use Rattle.std.specs.Int.{w64, from_le_bytes}
 use Rattle.texting_robots.specs.declared.needs.Needs.{Needs}
 use Rattle.texting_robots.specs.declared.needs.head.Head.{Head}
 use Rattle.texting_robots.specs.declared.needs.pairs.Pairs.{Pairs}
+use Rattle.texting_robots.specs.declared.pieces.Ending.{Ending}
+use Rattle.texting_robots.specs.declared.pieces.Ending.TheVariants.{Open, Closed, Last, Never}
 use Rattle.texting_robots.specs.Pattern.{Matches}
+use Rattle.texting_robots.specs.Steps.Pieces.{part_of}
 
 -- ---- the beginning
 
@@ -30,7 +33,7 @@ Fits head front = bit_and front head.mask ≡ head.bytes
 
 -- the bit of a pair
 abbrev pub pair_bit : ℕ → ℕ → ℕ
-pair_bit first second = 2 ^ ((29 * first + 7 * second) % 64)
+pair_bit first second = 2 ^ ((first + 2 * second) % 64)
 
 -- the bit of the byte and its neighbour, if there is one
 abbrev pub front_bit : ℕ → List ℕ → ℕ
@@ -49,6 +52,20 @@ AreWithin few many = bit_or few many ≡ many
 -- the pairs are those of the text, where they are known
 abbrev pub ArePairsOf : List ℕ → Option Pairs → Type 0
 ArePairsOf text pairs = IfSome pairs (λ known. known.bits ≡ pair_set text)
+
+-- the pairs of the bytes at a text's end
+abbrev pub ending_pairs : List ℕ → Ending → ℕ
+ending_pairs pattern Open = 0
+ending_pairs pattern Closed = 0
+ending_pairs pattern (Last span) = pair_set (part_of pattern span)
+ending_pairs pattern Never = 0
+
+-- ---- signs: some pairs that a rule needs, by which many rules are passed over at once
+
+-- the signs of a range are there, and aren't within the text's pairs
+abbrev pub AreApart : List ℕ → ℕ → ℕ → ℕ → Type 0
+AreApart signs text from to =
+    (k : ℕ) → from ≤ k → k < to → (k < length signs) × ¬ AreWithin (slice_index signs k) text
 
 -- ---- both
 

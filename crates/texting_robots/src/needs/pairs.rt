@@ -16,17 +16,23 @@ impl Pairs {
         Pairs { bits: 0 }
     }
 
-    /// The pairs of neighbours in the text.
+    /// The pairs of neighbours in the text. Two are put in at a time.
     pub(crate) fn of(text: &[u8]) -> Self
         ensures { result.bits ≡ pair_set text.now }
     {
         let mut bits = 0;
         let mut rest = text;
-        while let [first, second, ..] = rest {
+        while let [first, second, third, ..] = rest {
             bits |= bit_of(*first, *second);
-            rest = &rest[1..];
+            bits |= bit_of(*second, *third);
+            rest = &rest[2..];
         }
-        Pairs { bits }
+        match rest {
+            [first, second, ..] => Pairs {
+                bits: bits | bit_of(*first, *second),
+            },
+            _ => Pairs { bits },
+        }
     }
 
     /// Whether no pair is in the set.
@@ -57,5 +63,5 @@ impl Pairs {
 fn bit_of(first: u8, second: u8) -> u64
     ensures { result ≡ pair_bit first second }
 {
-    1 << ((29 * u32::from(first) + 7 * u32::from(second)) % 64)
+    1 << ((u32::from(first) + 2 * u32::from(second)) % 64)
 }

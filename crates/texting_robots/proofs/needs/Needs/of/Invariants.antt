@@ -7,5 +7,5 @@ abbrev pub invariant-loop-piece : goal.invariant-loop-piece
 invariant-loop-piece l =
     let inside = l.pattern-inside in
     let bytes = inside.bytes.now in
-    bit_or l.pairs.bits (piece_pairs bytes (drop l.piece-index inside.pieces.now))
-    ≡ piece_pairs bytes inside.pieces.now
+    bit_or l.pairs.bits (piece_pairs bytes inside.ends.ending (drop l.piece-index inside.pieces.now))
+    ≡ piece_pairs bytes inside.ends.ending inside.pieces.now

@@ -1,5 +1,13 @@
-use Rattle.std.proofs.Common.{rules}
+use Rattle.std.proofs.Common.{arith}
+use Rattle.texting_robots.proofs.FirstLemmas.{apart_tried}
 use Rattle.texting_robots.proofs.rules.Gathered.first_match.Goals as goal
 
-pub returns-then-is_match-clause-looks : goal.returns-then-is_match-clause-looks
-returns-then-is_match-clause-looks c = search rules
+pub rules-preserved : goal.rules-preserved
+rules-preserved g c =
+    let next = rw c.deref-in-rules.ensures.value at c.next-next.ensures in
+    record {
+      within = omega arith;
+      end = omega arith;
+      tried = rw next.same (apart_tried c.args.self.now _ _ c.loop-at.at _ c.requires.known c.requires.signed
+          next.from (omega arith) next.apart c.loop-at.invariant.tried);
+    }

@@ -1,14 +1,24 @@
-use Rattle.std.proofs.Common.{◌≡◌, ℕ, ◌+◌, ◌*◌, ◌<◌, ◌≤◌, length}
-use Rattle.texting_robots.specs.Steps.Entries.{MatchesAt}
+use Rattle.std.proofs.Common.{◌-◌, ◌≤◌}
+use Rattle.texting_robots.proofs.FirstLemmas.{AreTried}
 use Rattle.texting_robots.proofs.rules.Gathered.first_match.Given as goal
+
+abbrev pub invariant-rules : goal.invariant-rules
+invariant-rules g l =
+    record {
+      within : l.at ≤ l.len;
+      end : l.end ≤ l.len;
+      tried : AreTried l.self (g.A.Asked.seen l.fn.asked) (g.A.Asked.seen l.asked) l.at;
+    }
+
+abbrev pub decreases-rules : goal.decreases-rules
+decreases-rules g l = l.len - l.end
 
 abbrev pub invariant-loop-at : goal.invariant-loop-at
 invariant-loop-at g l =
-    let old = g.A.Asked.seen l.fn.asked in
-    let now = g.A.Asked.seen l.asked in
     record {
-      text : now.text ≡ old.text;
-      before : (k : ℕ) → k < l.at → MatchesAt l.self k old.text → ⊥;
-      grows : old.looks ≤ now.looks;
-      cost : now.looks ≤ old.looks + 2 * length old.text * l.at;
+      within : l.at ≤ l.len;
+      tried : AreTried l.self (g.A.Asked.seen l.fn.asked) (g.A.Asked.seen l.asked) l.at;
     }
+
+abbrev pub decreases-loop-at : goal.decreases-loop-at
+decreases-loop-at g l = l.end - l.at

@@ -1,5 +1,5 @@
-use Rattle.std.proofs.Common.{◌≡◌, ℕ, ◌-◌, List, length, slice_range, string_bytes, ap, subst}
-use Rattle.std.proofs.Common.{◌∙◌, arith, length-append}
+use Rattle.std.proofs.Common.{◌≡◌, ℕ, ◌-◌, ◌≤◌, List, length, slice_range, string_bytes, ap}
+use Rattle.std.proofs.Common.{subst, ◌∙◌, arith, length-append}
 use Rattle.texting_robots.specs.{Steps.Needs.AreNeeds, Steps.Pieces.ArePieces, Escape.escaped}
 use Rattle.texting_robots.proofs.SharingLemmas.{IsPushed, behind_old, entries_pushed, entry_new, rules_pushed}
 use Rattle.texting_robots.proofs.rules.Gathered.push.Goals as goal
@@ -32,6 +32,8 @@ returns-clause-known c =
     same added.are_pieces in
     let needed = subst (λ (p : List ℕ). AreNeeds p c.of-needs.result)
     (c.new.ensures ∙ same) c.of-needs.ensures in
+    let room : length c.make_room.new.signs.items ≤ length c.push.new.self.items =
+    omega arith in
     let pushed : IsPushed old_text more old.pieces.items added.pieces c.push_pieces.new.borders.items _ =
     record {
       pattern_span = record { start = first_byte; end = end_byte ∙ ap length text };
@@ -40,9 +42,13 @@ returns-clause-known c =
       needed = needed;
       ranked = rw (← len) c.rank_of.ensures;
     } in
-    rw (c.in_ok-push.ensures.items, text, added.put_pieces, added.put_tables)
-    (entries_pushed old_text more old.pieces.items added.pieces old.borders.items added.tables
-    old.entries.items _ c.requires (rw (← added.put_tables) (entry_new _ _ _ _ _ _ pushed)))
+    record {
+      known = rw (c.in_ok-push.ensures.items, text, added.put_pieces, added.put_tables)
+          (entries_pushed old_text more old.pieces.items added.pieces old.borders.items added.tables
+          old.entries.items _ c.requires.known
+          (rw (← added.put_tables) (entry_new _ _ _ _ _ _ pushed)));
+      signs = room;
+    }
 
 pub returns-clause-added : goal.returns-clause-added
 returns-clause-added c =
@@ -53,5 +59,5 @@ returns-clause-added c =
     let end_byte : c.len-end_byte.result ≡ length (string_bytes c.push_escaped.new.out) = omega arith in
     let more = escaped c.args.value.now in
     rw (c.in_ok-push.ensures.items, text)
-    (rules_pushed old_text more old.pieces.items old.borders.items old.entries.items _ c.requires
+    (rules_pushed old_text more old.pieces.items old.borders.items old.entries.items _ c.requires.known
     (record { start = first_byte; end = end_byte ∙ ap length text }))

@@ -17,7 +17,7 @@ returns-in-Some-clause-verdict g c =
     let is = get_or_read all.entries.items c.in-Some.at entry found.0 c.index-entry.ensures no_entry in
     subst (λ (rules : List PlacedRule). IsVerdict (unplaced rules) text entry.is_allow) c.self.view_is
     (subst (λ (e : Entry). IsVerdict (unplaced (rules_in all)) text e.is_allow) (sym is)
-    (first_decides all c.self.invariant.0 c.self.invariant.1 text c.in-Some.at found
+    (first_decides all c.self.invariant.0.known c.self.invariant.1 text c.in-Some.at found
     (iff_false c.is_robots_file.ensures c.if-is_robots_file.false)))
 
 pub returns-in-Some-clause-line : goal.returns-in-Some-clause-line
@@ -28,7 +28,7 @@ returns-in-Some-clause-line g c =
     let entry = c.index-entry.result.now in
     let is = get_or_read all.entries.items c.in-Some.at entry found.0 c.index-entry.ensures no_entry in
     let placed = placed_at (string_bytes all.text) (slice_index_or all.entries.items c.in-Some.at no_entry) in
-    let decides = first_line all c.self.invariant.0 c.self.invariant.1 text c.in-Some.at found in (
+    let decides = first_line all c.self.invariant.0.known c.self.invariant.1 text c.in-Some.at found in (
       iff_false c.is_robots_file.ensures c.if-is_robots_file.false,
       placed,
       subst (λ (rules : List PlacedRule). IsDecidingRule rules text placed) c.self.view_is decides,
@@ -37,26 +37,26 @@ returns-in-Some-clause-line g c =
 
 pub returns-in-Some-clause-looks : goal.returns-in-Some-clause-looks
 returns-in-Some-clause-looks g c =
-    rw (← c.self.view_is) (first_looks c.self.inside.gathered c.self.invariant.0 c.self.invariant.1 _ _
-    c.in-Some.at c.in-Some.ensures.some c.in-Some.ensures.looks)
+    rw (← c.self.view_is) (first_looks c.self.inside.gathered c.self.invariant.0.known c.self.invariant.1 _
+    _ c.in-Some.at c.in-Some.ensures.some c.in-Some.ensures.looks)
 
 pub returns-in-None-clause-verdict : goal.returns-in-None-clause-verdict
 returns-in-None-clause-verdict g c =
     let all = c.self.inside.gathered in
     let text = (g.A.Asked.seen c.args.asked.now).text in
     subst (λ (rules : List PlacedRule). IsVerdict (unplaced rules) text true) c.self.view_is
-    (none_denies (rules_in all) text (none_stands all c.self.invariant.0 text c.in-None.ensures.none))
+    (none_denies (rules_in all) text (none_stands all c.self.invariant.0.known text c.in-None.ensures.none))
 
 pub returns-in-None-clause-line : goal.returns-in-None-clause-line
 returns-in-None-clause-line g c =
-    let none = none_stands c.self.inside.gathered c.self.invariant.0 _ c.in-None.ensures.none in
+    let none = none_stands c.self.inside.gathered c.self.invariant.0.known _ c.in-None.ensures.none in
     inr (λ placed stands matches.
     none placed (subst (λ (rules : List PlacedRule). Contains rules placed) (sym c.self.view_is) stands)
     matches)
 
 pub returns-in-None-clause-looks : goal.returns-in-None-clause-looks
 returns-in-None-clause-looks g c =
-    let none = none_stands c.self.inside.gathered c.self.invariant.0 _ c.in-None.ensures.none in
+    let none = none_stands c.self.inside.gathered c.self.invariant.0.known _ c.in-None.ensures.none in
     rw (← c.self.view_is) (record {
       all = rw length-map c.in-None.ensures.looks;
       tried = λ placed is. absurd (none placed is.listed is.matches);

@@ -1,13 +1,29 @@
-use Rattle.std.proofs.Common.{string_bytes}
-use Rattle.std.proofs.lemmas.List.Sorted.{All-permutation, IsPermutation-map}
+use Rattle.std.proofs.Common.{string_bytes, arith}
+use Rattle.std.proofs.lemmas.List.Sorted.{All-permutation, IsPermutation-map, length_permutation}
 use Rattle.texting_robots.specs.Steps.Entries.{IsEntry, placed_at}
 use Rattle.texting_robots.proofs.rules.Rules.sorted.Goals as goal
+
+pub put_signs-requires : goal.put_signs-requires
+put_signs-requires c =
+    let all = c.args.gathered in
+    let order = c.sort_entries.ensures.permutation in
+    let is = IsEntry (string_bytes all.text) all.pieces.items all.borders.items in
+    let known = All-permutation is _ _ order c.requires.known in
+    let size = length_permutation _ _ order in
+    rw (c.deref.ensures.value, c.as_bytes.ensures.value) (record {
+      room = omega arith;
+      spans = λ k d below. (known k d below).pattern;
+      firsts = λ k d below. (known k d below).is_cut.first;
+    })
 
 pub invariant_of-result : goal.invariant_of-result
 invariant_of-result c =
     let all = c.args.gathered in
-    let known = IsEntry (string_bytes all.text) all.pieces.items all.borders.items in
-    (All-permutation known _ _ c.sort_entries.ensures.permutation c.requires, c.sort_entries.ensures.sorted)
+    let order = c.sort_entries.ensures in
+    let is = IsEntry (string_bytes all.text) all.pieces.items all.borders.items in
+    let known = All-permutation is _ _ order.permutation c.requires.known in
+    let put = rw (c.deref.ensures.value, c.as_bytes.ensures.value) at c.put_signs.ensures in
+    (record { known = known; signs = put.as_many }, order.sorted, put.signed)
 
 pub returns : goal.returns
 returns c =

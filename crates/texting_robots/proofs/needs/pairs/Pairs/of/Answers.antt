@@ -1,19 +1,25 @@
-use Rattle.std.proofs.{Common.sym, Common.ap, Common.◌∙◌, lemmas.List.take_rest}
+use Rattle.std.proofs.Common.{drop, sym, ap, ◌∙◌, arith}
+use Rattle.std.proofs.lemmas.List.{length-drop, take_rest}
 use Rattle.std.specs.Int.{RustNames.bit_or, Bits.or_zero_r}
-use Rattle.texting_robots.specs.Steps.Needs.{pair_set}
-use Rattle.texting_robots.proofs.NeedLemmas.{no_pairs, pairs_step}
+use Rattle.texting_robots.proofs.NeedLemmas.{no_pairs, pairs_step, two_pairs}
 use Rattle.texting_robots.proofs.needs.pairs.Pairs.of.Goals as goal
 
 pub loop-rest-preserved : goal.loop-rest-preserved
 loop-rest-preserved c =
     let rest = c.loop-rest.rest.now in
-    rw (take_rest rest 1)
-    (
-    pairs_step c.loop-rest.bits c.bit_of-bits.result (pair_set c.args.text.now) rest
-    c.in-len2-up.len_at_least c.bit_of-bits.ensures c.loop-rest.invariant
-    )
+    rw (take_rest rest 2)
+    (two_pairs _ _ _ _ rest c.in-len3-up.len_at_least c.bit_of-bits.ensures c.bit_of-bits-in-len3-up.ensures
+    c.loop-rest.invariant)
 
-pub returns : goal.returns
-returns c =
-    let none = no_pairs c.loop-rest.rest.now c.in_default.len_below in
+pub returns-in-len2-up : goal.returns-in-len2-up
+returns-in-len2-up c =
+    let rest = c.loop-rest.rest.now in
+    let bits = bit_or c.loop-rest.bits c.bit_of.result in
+    let none = no_pairs (drop 1 rest) (omega (arith, length-drop 1 rest)) in
+    sym (or_zero_r bits) ∙ ap (bit_or bits) (sym none)
+    ∙ pairs_step c.loop-rest.bits _ _ rest c.in-len2-up.len_at_least c.bit_of.ensures c.loop-rest.invariant
+
+pub returns-in_default-rest : goal.returns-in_default-rest
+returns-in_default-rest c =
+    let none = no_pairs c.loop-rest.rest.now (omega arith) in
     sym (or_zero_r c.loop-rest.bits) ∙ ap (bit_or c.loop-rest.bits) (sym none) ∙ c.loop-rest.invariant
