@@ -32,13 +32,14 @@ use Rattle.url.proofs.InputLemmas.{prefix_len_is, split_once_none}
 use Rattle.url.proofs.{PathLemmas.root_only, Theorems.parse_url-serialize_special}
 use Rattle.url.proofs.RoundTrip.{special_body, split_own_scheme}
 use Rattle.texting_robots.specs.Prepared.{marked, prepared, target_of}
+use Rattle.texting_robots.specs.declared.whole.TheConstants.{FRAGMENT as TAIL, QUERY}
 use Rattle.texting_robots.specs.Plain.{IsAuthority, IsMarked, IsName, IsPath, IsSite, IsTarget}
 use Rattle.texting_robots.specs.Steps.Whole.{EndsPath, Leaves, after_marked, front_of, stands}
 use Rattle.texting_robots.proofs.WholeLemmas.{after_at, kept_all, not_ended, stands_all}
 
 -- ---- the query and the fragment
 
-module _ (mark part : ℕ) (set : AsciiSet)
+module _ (mark : ℕ) (part : List ℕ) (set : AsciiSet)
     (same : agree_below (stands part) (λ b. not (should_percent_encode set b || false)) 256 ≡ true) where
   pub marked_read : (text : List ℕ)
       → Leaves (IsMarked (mark ∷ []) set) text (after_marked mark part text)
@@ -327,16 +328,18 @@ module _ (target : List ℕ) (is : IsTarget target) where
       by None (Some fragment) = inr refl
       by None None = tt
 
-  pub tail_left : after_marked 35 8 (after_marked 63 4 (is.query ++ is.fragment)) ≡ []
+  pub tail_left : after_marked 35 TAIL.now (after_marked 63 QUERY.now (is.query ++ is.fragment)) ≡ []
   unfolding stands should_percent_encode
   tail_left =
       let (stop, stay) = stops is.is_fragment.0 is.is_fragment.1 in
-      ap (after_marked 35 8) (marked_left 63 4 SPECIAL_QUERY refl is.query is.fragment is.is_query stop stay
+      ap (after_marked 35 TAIL.now)
+      (marked_left 63 QUERY.now SPECIAL_QUERY refl is.query is.fragment is.is_query stop stay
       ∙ sym (append-nil is.fragment))
-      ∙ marked_left 35 8 FRAGMENT refl is.fragment [] is.is_fragment tt refl
+      ∙ marked_left 35 TAIL.now FRAGMENT refl is.fragment [] is.is_fragment tt refl
     where
       stops : (part : Option (List ℕ)) → is.fragment ≡ marked (codes "#") part
-          → StopsAt (stands 4) is.fragment × (after_marked 63 4 is.fragment ≡ is.fragment)
+          → StopsAt (stands QUERY.now) is.fragment
+          × (after_marked 63 QUERY.now is.fragment ≡ is.fragment)
       stops None written = rw written (tt, refl)
       stops (Some part) written = rw written (refl, refl)
 
@@ -349,11 +352,12 @@ module _ (target : List ℕ) (is : IsTarget target) where
 
 -- what was read from the front
 pub target_read : (target tail rest end : List ℕ) → Leaves IsPath target tail
-    → rest ≡ after_marked 63 4 tail → end ≡ after_marked 35 8 rest → end ≡ [] → IsTarget target
+    → rest ≡ after_marked 63 QUERY.now tail → end ≡ after_marked 35 TAIL.now rest → end ≡ []
+    → IsTarget target
 unfolding stands should_percent_encode
 target_read target tail rest end (path, spelled, is_path) behind last none =
-    let (query, tail_is, is_query) = marked_read 63 4 SPECIAL_QUERY refl tail in
-    let (fragment, rest_is, is_fragment) = marked_read 35 8 FRAGMENT refl rest in
+    let (query, tail_is, is_query) = marked_read 63 QUERY.now SPECIAL_QUERY refl tail in
+    let (fragment, rest_is, is_fragment) = marked_read 35 TAIL.now FRAGMENT refl rest in
     let whole =
     sym behind ∙ rest_is ∙ ap (λ t. fragment ++ t) (sym last ∙ none) ∙ append-nil fragment in
     record {

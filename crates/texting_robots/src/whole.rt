@@ -1,62 +1,87 @@
 //! Whole URLs that the URL parser would leave as they are: the text that rules are matched with stands at their end.
-ghost use Rattle.std.specs.Prelude.{◌≡◌, ◌≤◌, ◌≢◌, ℕ, List, false, true, length, slice_index};
+ghost use Rattle.std.specs.Prelude.{◌≡◌, ◌==◌, ◌||◌, ◌<◌, ◌≤◌, ◌≢◌, ℕ, List, false, true, length, map, slice_index};
 ghost use Rattle.std.specs.Prelude.{IfSome, IsSome, IsSomeAnd, IsTrue};
 ghost use Rattle.std.specs.Char.{is_ascii_lowercase};
 ghost use Rattle.std.specs.List.{prefix_len};
+ghost use Rattle.std.specs.Simd.Lanes.{Each1};
 ghost use Rattle.url.specs.{Input.rsplit_once, Path.dot_count, Path.dot_len};
 ghost use Rattle.texting_robots.specs.Plain.{EndsSite, IsAuthority, IsPath, IsPlainUrl, IsPort, IsSite, IsTarget};
 ghost use Rattle.texting_robots.specs.Prepared.{prepared};
 ghost use Rattle.texting_robots.specs.Steps.Whole.{after, after_marked, begins_plainly, front_of, stands};
-ghost use Rattle.texting_robots.specs.Steps.Whole.{EndsPath, IsOther, Leaves};
+ghost use Rattle.texting_robots.specs.Steps.Whole.{EndsPath, IsOther, Leaves, Passed};
 
-/// Where each byte stands as it is, by bits: in a name, a segment of a path, a query, a fragment and a number.
-const STANDS: [u8; 256] = [
-    0, 0, 0, 0, 0, 0, 0, 0, 0, 0, 0, 0, 0, 0, 0, 0, 0, 0, 0, 0, 0, 0, 0, 0, 0, 0, 0, 0, 0, 0, 0, 0,
-    0, 15, 1, 8, 15, 14, 15, 11, 15, 15, 15, 15, 15, 15, 15, 12, 31, 31, 31, 31, 31, 31, 31, 31,
-    31, 31, 14, 15, 0, 15, 0, 12, 14, 14, 14, 14, 14, 14, 14, 14, 14, 14, 14, 14, 14, 14, 14, 14,
-    14, 14, 14, 14, 14, 14, 14, 14, 14, 14, 14, 14, 12, 14, 12, 15, 5, 15, 15, 15, 15, 15, 15, 15,
-    15, 15, 15, 15, 15, 15, 15, 15, 15, 15, 15, 15, 15, 15, 15, 15, 15, 15, 15, 13, 14, 13, 15, 0,
-    0, 0, 0, 0, 0, 0, 0, 0, 0, 0, 0, 0, 0, 0, 0, 0, 0, 0, 0, 0, 0, 0, 0, 0, 0, 0, 0, 0, 0, 0, 0, 0,
-    0, 0, 0, 0, 0, 0, 0, 0, 0, 0, 0, 0, 0, 0, 0, 0, 0, 0, 0, 0, 0, 0, 0, 0, 0, 0, 0, 0, 0, 0, 0, 0,
-    0, 0, 0, 0, 0, 0, 0, 0, 0, 0, 0, 0, 0, 0, 0, 0, 0, 0, 0, 0, 0, 0, 0, 0, 0, 0, 0, 0, 0, 0, 0, 0,
-    0, 0, 0, 0, 0, 0, 0, 0, 0, 0, 0, 0, 0, 0, 0, 0, 0, 0, 0, 0, 0, 0, 0, 0, 0, 0, 0, 0, 0, 0, 0, 0,
+use std::simd::prelude::*;
+
+/// The upper halves of the bytes of ASCII, each a bit. A part is a table: at the lower half of a byte it has the bits of the upper
+/// halves with which the byte stands as it is.
+const UPPER: &[u8; 16] = &[1, 2, 4, 8, 16, 32, 64, 128, 0, 0, 0, 0, 0, 0, 0, 0];
+
+const NAME: &[u8; 16] = &[
+    200, 204, 204, 200, 204, 200, 204, 204, 204, 204, 196, 204, 68, 204, 196, 96,
 ];
 
-const NAME: u8 = 1;
+const SEGMENT: &[u8; 16] = &[
+    184, 252, 248, 248, 252, 252, 252, 252, 252, 252, 252, 124, 212, 124, 212, 112,
+];
 
-const SEGMENT: u8 = 2;
+/// What stands in a segment but dots and escapes, and slashes.
+const OPEN: &[u8; 16] = &[
+    184, 252, 248, 248, 252, 248, 252, 252, 252, 252, 252, 124, 212, 124, 208, 116,
+];
 
-const QUERY: u8 = 4;
+const QUERY: &[u8; 16] = &[
+    248, 252, 248, 248, 252, 252, 252, 248, 252, 252, 252, 252, 244, 252, 244, 124,
+];
 
-const FRAGMENT: u8 = 8;
+const FRAGMENT: &[u8; 16] = &[
+    184, 252, 248, 252, 252, 252, 252, 252, 252, 252, 252, 252, 244, 252, 244, 124,
+];
 
-const NUMBER: u8 = 16;
+const NUMBER: &[u8; 16] = &[8, 8, 8, 8, 8, 8, 8, 8, 8, 8, 0, 0, 0, 0, 0, 0];
 
-/// Whether a byte stands as it is in such a part.
-#[tactic(auto, unfolding(crate::specs::Steps::Whole::stands))]
-fn stands(part: u8, byte: u8) -> bool
-    ensures { result ≡ stands part byte }
+/// What a table has at each of the places.
+fn looked_up(table: &[u8; 16], places: u8x16) -> u8x16
+    requires { Each1 (λ k. k < 16) places }
+    ensures { result ≡ map (slice_index table.now) places }
 {
-    STANDS[usize::from(byte)] & part != 0
+    u8x16::from_array(*table).swizzle_dyn_within::<16>(places)
 }
 
-/// How many bytes at the front stand in such a part.
-fn front_len(part: u8, text: &[u8]) -> usize
-    ensures value { result ≡ prefix_len (stands part) text.now }
+/// How many of sixteen bytes stand in such a part before one that doesn't.
+fn front_of_sixteen(part: &[u8; 16], bytes: u8x16) -> usize
+    ensures { result ≡ prefix_len (stands part.now) bytes }
+{
+    let lower = looked_up(part, bytes & u8x16::splat(15));
+    let upper = looked_up(UPPER, bytes >> u8x16::splat(4));
+    let others = (lower & upper).simd_eq(u8x16::splat(0)).to_bitmask();
+    if others == 0 {
+        16
+    } else {
+        others.trailing_zeros() as usize
+    }
+}
+
+/// The same of a text of fewer bytes. It is a call of its own, so that where it isn't needed there is no room made for the bytes.
+#[inline(never)]
+fn front_len(part: &[u8; 16], text: &[u8]) -> usize
+    requires { length text.now < 16 }
+    ensures value { result ≡ prefix_len (stands part.now) text.now }
     ensures within { result ≤ length text.now }
 {
-    text.iter().take_while(|byte| stands(part, **byte)).count()
+    let mut bytes = [0; 16];
+    bytes[..text.len()].copy_from_slice(text);
+    front_of_sixteen(part, u8x16::from_array(bytes)).min(text.len())
 }
 
-/// What follows the bytes at the front that stand in such a part. Eight are looked at without a look for the end of the text.
+/// What follows the bytes at the front that stand in such a part.
 #[tactic(auto, using(crate::proofs::WholeLemmas::after_few, crate::proofs::WholeLemmas::after_all))]
-fn after(part: u8, text: &[u8]) -> &[u8]
-    ensures { result.now ≡ after part text.now }
+fn after<'a>(part: &[u8; 16], text: &'a [u8]) -> &'a [u8]
+    ensures { result.now ≡ after part.now text.now }
 {
     let mut rest = text;
-    while let Some((eight, more)) = rest.split_first_chunk::<8>() {
-        let len = front_len(part, eight);
-        if len < 8 {
+    while let Some((sixteen, more)) = rest.split_first_chunk::<16>() {
+        let len = front_of_sixteen(part, u8x16::from_array(*sixteen));
+        if len != 16 {
             return &rest[len..];
         }
         rest = more;
@@ -65,9 +90,9 @@ fn after(part: u8, text: &[u8]) -> &[u8]
 }
 
 /// The bytes at the front that stand in such a part, and what follows them.
-fn split(part: u8, text: &[u8]) -> (&[u8], &[u8])
-    ensures front { result.0.now ≡ front_of part text.now }
-    ensures rest { result.1.now ≡ after part text.now }
+fn split<'a>(part: &[u8; 16], text: &'a [u8]) -> (&'a [u8], &'a [u8])
+    ensures front { result.0.now ≡ front_of part.now text.now }
+    ensures rest { result.1.now ≡ after part.now text.now }
 {
     let rest = after(part, text);
     (&text[..text.len() - rest.len()], rest)
@@ -103,7 +128,9 @@ fn begins_plainly(digits: &[u8]) -> bool
     }
 }
 
-/// Whether these are the digits of a port that isn't the scheme's own, as a port is written: with no zero in front.
+/// Whether these are the digits of a port that isn't the scheme's own, as a port is written: with no zero in front. Few URLs have
+/// one, so it is a call of its own too.
+#[inline(never)]
 fn is_port(own: u16, digits: &[u8]) -> bool
     ensures some { IsTrue result → IsOther own digits.now }
     ensures whole { IsOther own digits.now → IsTrue result }
@@ -135,6 +162,7 @@ fn after_port(own: u16, text: &[u8]) -> Option<&[u8]>
 }
 
 /// What follows a host and its port.
+#[inline(always)]
 fn after_authority(own: u16, text: &[u8]) -> Option<&[u8]>
     ensures some { IfSome result (λ rest. Leaves (IsAuthority own) text.now rest.now) }
     ensures whole { (rest : List ℕ) → EndsSite rest → Leaves (IsAuthority own) text.now rest
@@ -183,26 +211,56 @@ fn is_dots(segment: &[u8]) -> bool
     dot != 0 && dot_len(rest) == rest.len()
 }
 
+/// Whether the text begins with a dot or an escape.
+fn begins_dotted(text: &[u8]) -> bool
+    ensures { result ≡ (slice_index text.now 0 == 46 || slice_index text.now 0 == 37) }
+{
+    match text {
+        [b'.' | b'%', ..] => true,
+        _ => false,
+    }
+}
+
+/// What follows the segments at the front that begin with no dot and no escape.
+#[inline(always)]
+fn after_plain(text: &[u8]) -> &[u8]
+    ensures passed { Passed text.now result.now }
+    ensures within { length result.now ≤ length text.now }
+{
+    let [b'/', behind @ ..] = text else {
+        return text;
+    };
+    let (plain, rest) = split(OPEN, behind);
+    if text[plain.len()] == b'/' {
+        return &text[plain.len()..];
+    }
+    if begins_dotted(rest) {
+        after(SEGMENT, rest)
+    } else {
+        rest
+    }
+}
+
 /// What follows a path, unless a segment of it is `.` or `..`.
 fn after_path(text: &[u8]) -> Option<&[u8]>
     ensures some { IfSome result (λ rest. Leaves IsPath text.now rest.now) }
     ensures whole { (rest : List ℕ) → EndsPath rest → Leaves IsPath text.now rest
         → IsSomeAnd result (λ found. found.now ≡ rest) }
 {
-    let mut rest = text;
+    let mut rest = after_plain(text);
     while let [b'/', behind @ ..] = rest {
         let (segment, more) = split(SEGMENT, behind);
         if is_dots(segment) {
             return None;
         }
-        rest = more;
+        rest = after_plain(more);
     }
     Some(rest)
 }
 
 /// What follows a mark and the bytes behind it that stand in such a part, or all of the text where the mark isn't first.
-fn after_marked(mark: u8, part: u8, text: &[u8]) -> &[u8]
-    ensures { result.now ≡ after_marked mark part text.now }
+fn after_marked<'a>(mark: u8, part: &[u8; 16], text: &'a [u8]) -> &'a [u8]
+    ensures { result.now ≡ after_marked mark part.now text.now }
 {
     match text {
         [first, behind @ ..] if *first == mark => after(part, behind),

@@ -3,9 +3,9 @@ use Rattle.std.specs.List.{prefix_len}
 use Rattle.texting_robots.{specs.Steps.Whole.stands, proofs.WholeLemmas.after_all}
 use Rattle.texting_robots.proofs.whole.after.Goals as goal
 
-pub loop-eight-preserved : goal.loop-eight-preserved
-loop-eight-preserved c =
-    let (eight, more, longer) = c.in-Some.ensures.cases in
-    let front = c.front_len-len.ensures.value ∙ ap (prefix_len (stands c.args.part)) eight in
-    rw more (after_all c.args.part 8 _ c.loop-eight.rest.now (c.in-Some.ensures.variant.0 refl) front
-    (omega arith) ∙ c.loop-eight.invariant)
+pub loop-sixteen-preserved : goal.loop-sixteen-preserved
+loop-sixteen-preserved c =
+    let (sixteen, more, longer) = c.in-Some.ensures.cases in
+    let front = c.front_of_sixteen-len.ensures ∙ ap (prefix_len (stands c.args.part.now)) sixteen in
+    rw more (after_all c.args.part.now 16 _ c.loop-sixteen.rest.now (c.in-Some.ensures.variant.0 refl) front
+    (omega arith) ∙ c.loop-sixteen.invariant)

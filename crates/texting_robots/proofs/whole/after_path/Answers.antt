@@ -1,7 +1,7 @@
-use Rattle.std.proofs.Common.{◌≡◌, ◌≢◌, ◌∙◌, ap, arith, get_or, sym}
+use Rattle.std.proofs.Common.{◌≢◌, ◌∙◌, [], ap, arith, get_or, refl, sym}
 use Rattle.std.proofs.lemmas.List.{take_rest, get_or_past}
 use Rattle.url.specs.Path.{dot_count}
-use Rattle.texting_robots.proofs.WholeLemmas.{path_behind, path_end, path_more}
+use Rattle.texting_robots.proofs.WholeLemmas.{path_behind, path_end, passed_more, segment_passed}
 use Rattle.texting_robots.proofs.whole.after_path.Goals.{in_default, in_default-2}
 use Rattle.texting_robots.proofs.whole.after_path.Goals as goal
 
@@ -15,15 +15,16 @@ returns-then-is_dots-clause-whole c rest ends leaves =
 pub loop-rest-preserved : goal.loop-rest-preserved
 loop-rest-preserved c =
     let here = c.loop-rest.rest.now in
-    let slash : get_or here 0 0 ≡ 47 = omega arith in
     let front = ap dot_count (rw take_rest at c.split.ensures.front) in
     let more = rw take_rest at c.split.ensures.rest in
     let resolved = sym front ∙ c.is_dots.ensures.none c.if-is_dots.false in
-    record {
-      read = rw more (path_more c.args.text.now here slash c.loop-rest.invariant.read resolved);
-      left = λ rest ends leaves.
-          rw more (path_behind here rest slash ends (c.loop-rest.invariant.left rest ends leaves)).1;
-    }
+    passed_more _ _ _ c.loop-rest.invariant (passed_more _ _ _ (segment_passed here (omega arith) resolved)
+    (rw more at c.after_plain-rest-in-47.ensures.passed))
+
+pub returns-clause-some : goal.returns-clause-some
+returns-clause-some c =
+    c.loop-rest.invariant.read c.args.text.now
+    ([], refl, record { segments = []; joined = refl; each = λ k d inside. absurd (omega arith) })
 
 pub returns-clause-whole : goal.returns-clause-whole
 returns-clause-whole c rest ends leaves =
