@@ -10,10 +10,7 @@ use Rattle.std.proofs.lemmas.Option.{slice_get_within}
 use Rattle.texting_robots.specs.Callers.{IsDecidingLine, IsFirstOverlong, IsRobotOfFile, IsVerdict}
 use Rattle.texting_robots.specs.Callers.{PlacedRule, RobotValue, file_limit, file_lines, lines_read}
 use Rattle.texting_robots.specs.Callers.{nul_as_lf, placed_rules, prepared, unplaced}
-use Rattle.texting_robots.specs.Line.{without_front}
-use Rattle.texting_robots.specs.Steps.Line.{lines_of}
 use Rattle.texting_robots.proofs.CountLemmas.{lines_within}
-use Rattle.texting_robots.proofs.CutFromFront.{read_as_is}
 use Rattle.texting_robots.proofs.HeadlineLemmas.{deciding_line_holds_its_rule, no_line_allows, read_robot}
 use Rattle.texting_robots.proofs.HeldLemmas.{computed_are}
 use Rattle.robots_c.specs.Answer.{IsAnswer, LinesFit, number_of}
@@ -48,12 +45,7 @@ as_many rules (url ∷ urls) (number ∷ numbers) (first, later) =
 -- ---- lines have numbers that fit
 
 lines_counted : (text : List ℕ) → length (file_lines text) ≤ length text
-lines_counted text =
-    let read : List ℕ = map nul_as_lf text in
-    let within : length (lines_of (without_front read)) ≤ length read =
-    subst (λ t. length (lines_of t) ≤ length read) (read_as_is (without_front read))
-    (lines_within false read) in
-    omega (arith, within, length-map text nul_as_lf)
+lines_counted text = omega (arith, lines_within (map nul_as_lf text), length-map text nul_as_lf)
 
 pub few_lines : (file : List ℕ) → length (lines_read file) ≤ file_limit
 few_lines file = omega (arith, lines_counted (take file_limit file), length-take file_limit file)

@@ -5,11 +5,11 @@ use Rattle.std.specs.List.{AllByRecursion as Each}
 use Rattle.std.proofs.lemmas.Bool.{cases_Bool, cond-false, ne_eqb}
 use Rattle.std.proofs.lemmas.List.{map-append, Elements.filter-append}
 use Rattle.texting_robots.specs.{Cut.cr, Cut.lf, Laws.Same, Line.LineValue, Line.is_raw, Line.nul_as_lf}
-use Rattle.texting_robots.specs.{Line.without_front, Steps.Cut.cut, Computed.file_lines, Steps.Line.line_of}
+use Rattle.texting_robots.specs.{Line.without_front, Steps.Cut.bodies_of, Steps.Line.line_of}
+use Rattle.texting_robots.specs.Computed.{file_bodies, file_lines}
 use Rattle.robots_standard.specs.Rfc9309.{IsFileOf, IsLastNl, IsMark, IsNl}
-use Rattle.texting_robots.proofs.{CutLemmas.cut_nil, LawLemmas.raw_changes_nothing}
-use Rattle.texting_robots.proofs.CrLfLemmas.{bodies_of, body_byte, body_return, body_step, lines_by_bodies}
-use Rattle.texting_robots.proofs.CrLfLemmas.{step}
+use Rattle.texting_robots.proofs.{CutFromFront.bodies_nil, LawLemmas.raw_changes_nothing}
+use Rattle.texting_robots.proofs.CrLfLemmas.{body_byte, body_return, body_step, step}
 use Rattle.robots_standard.proofs.CharLemmas.{each_front}
 use Rattle.robots_standard.proofs.Sources.{Source, is_not_raw, source_of}
 use Rattle.robots_standard.proofs.ReadLemmas.{BeginsLow, Reads, empty_adds_none, sources_of, sources_in}
@@ -43,18 +43,18 @@ step_follows b bodies others (inr more) = rw more (elim (cases_Bool (eqb b lf)) 
 ])
 
 end_follows : (text nl : List ℕ) → IsNl nl
-    → OneMayFollow (bodies_of (cut text)) (bodies_of (cut (text ++ nl)))
-end_follows [] nl (inl is) = rw (is, step cr [], cut_nil) (inr refl)
-end_follows [] nl (inr (inl is)) = rw (is, step lf [], cut_nil) (inr refl)
-end_follows [] nl (inr (inr is)) = rw (is, step cr (lf ∷ []), step lf [], cut_nil) (inr refl)
+    → OneMayFollow (bodies_of text) (bodies_of (text ++ nl))
+end_follows [] nl (inl is) = rw (is, step cr [], bodies_nil) (inr refl)
+end_follows [] nl (inr (inl is)) = rw (is, step lf [], bodies_nil) (inr refl)
+end_follows [] nl (inr (inr is)) = rw (is, step cr (lf ∷ []), step lf [], bodies_nil) (inr refl)
 end_follows (b ∷ text) nl is =
     rw (step b (text ++ nl), step b text)
-    (step_follows b (bodies_of (cut text)) (bodies_of (cut (text ++ nl))) (end_follows text nl is))
+    (step_follows b (bodies_of text) (bodies_of (text ++ nl)) (end_follows text nl is))
 
 end_adds_none : (text nl : List ℕ) → IsNl nl → sources_of (text ++ nl) ≡ sources_of text
 end_adds_none text nl is = elim (end_follows text nl is) [
   | inl same ↦ ap sources_in same
-  | inr more ↦ ap sources_in more ∙ last (bodies_of (cut text))
+  | inr more ↦ ap sources_in more ∙ last (bodies_of text)
 ]
   where
     last : (bodies : List (List ℕ)) → sources_in (bodies ++ [] ∷ []) ≡ sources_in bodies
@@ -98,7 +98,7 @@ low_of_front (b ∷ text) more low = low
 
 -- the source lines of a file, its front taken off
 abbrev pub file_sources : List ℕ → List Source
-file_sources text = sources_of (without_front (map nul_as_lf text))
+file_sources text = sources_in (file_bodies text)
 
 -- the lines of source lines
 abbrev pub lines_in : List Source → List LineValue
@@ -129,17 +129,15 @@ module _ (Content : List ℕ → Type 0) (text : List ℕ) (file : IsFileOf Cont
       ∙ sym (last_end_adds_none file.rest file.nl file.is_nl)
       ∙ sym (ap sources_of (append-nil (file.rest ++ file.nl)))
       ∙ reads.sources_of []
-      ∙ ap (λ ps. sources ++ sources_in (bodies_of ps)) cut_nil
+      ∙ ap (λ bodies. sources ++ sources_in bodies) bodies_nil
       ∙ append-nil sources
 
   -- an agent gets the same of a file and of its source lines
   pub file_same : (agent : List ℕ) → Same agent (file_lines text) agent (lines_in sources)
   file_same agent =
-      let bodies = bodies_of (cut (without_front (map nul_as_lf text))) in
       let keep : LineValue → Bool = λ line. not (is_raw line) in
       raw_changes_nothing agent (file_lines text) (lines_in sources) (
-      ap (filter keep) (lines_by_bodies (cut (without_front (map nul_as_lf text))))
-      ∙ ap (filter keep) (sym (source_lines bodies))
-      ∙ kept_lines keep (map source_of bodies)
+      ap (filter keep) (sym (source_lines (file_bodies text)))
+      ∙ kept_lines keep (map source_of (file_bodies text))
       ∙ ap (λ ts. filter keep (lines_in ts)) file_sources_are
       )

@@ -4,9 +4,9 @@ use Rattle.std.proofs.Common.{[], ◌∷◌, ◌++◌, map, filter, cond, not, s
 use Rattle.std.proofs.Common.{append_assoc, arith, eqb}
 use Rattle.std.specs.List.{AllByRecursion as Each}
 use Rattle.std.proofs.lemmas.{Bool.ne_eqb, List.Elements.filter-append}
-use Rattle.texting_robots.specs.{Cut.cr, Cut.lf, Line.is_raw, Steps.Cut.cut}
+use Rattle.texting_robots.specs.{Cut.cr, Cut.lf, Line.is_raw, Steps.Cut.bodies_of}
 use Rattle.robots_standard.specs.Rfc9309.{IsNl}
-use Rattle.texting_robots.proofs.CrLfLemmas.{bodies_of, body_return, body_step, step}
+use Rattle.texting_robots.proofs.CrLfLemmas.{body_return, body_step, step}
 use Rattle.texting_robots.proofs.{LineLemmas.line_without_kind, TrimLemmas.each_append}
 use Rattle.robots_standard.proofs.Sources.{Source, is_not_raw, source_of, written}
 
@@ -18,7 +18,7 @@ sources_in bodies = filter is_not_raw (map source_of bodies)
 
 -- those of a text
 abbrev pub sources_of : List ℕ → List Source
-sources_of text = sources_in (bodies_of (cut text))
+sources_of text = sources_in (bodies_of text)
 
 pub empty_adds_none : (bodies : List (List ℕ)) → sources_in ([] ∷ bodies) ≡ sources_in bodies
 empty_adds_none bodies =
@@ -38,13 +38,13 @@ return_first [] = record { more = []; whole = refl; same = refl }
 return_first ([] ∷ bodies) = record { more = bodies; whole = refl; same = sym (empty_adds_none bodies) }
 return_first ((b ∷ body) ∷ bodies) = record { more = (b ∷ body) ∷ bodies; whole = refl; same = refl }
 
-end_first : (nl rest : List ℕ) → IsNl nl → BeginEmpty (bodies_of (cut (nl ++ rest))) (sources_of rest)
-end_first nl rest (inl is) = rw (is, step cr rest) (return_first (bodies_of (cut rest)))
+end_first : (nl rest : List ℕ) → IsNl nl → BeginEmpty (bodies_of (nl ++ rest)) (sources_of rest)
+end_first nl rest (inl is) = rw (is, step cr rest) (return_first (bodies_of rest))
 end_first nl rest (inr (inl is)) =
-    rw (is, step lf rest) (record { more = bodies_of (cut rest); whole = refl; same = refl })
+    rw (is, step lf rest) (record { more = bodies_of rest; whole = refl; same = refl })
 end_first nl rest (inr (inr is)) =
     rw (is, step cr (lf ∷ rest), step lf rest)
-    (record { more = bodies_of (cut rest); whole = refl; same = refl })
+    (record { more = bodies_of rest; whole = refl; same = refl })
 
 -- a tab, or no control
 abbrev pub IsBare : ℕ → Type 0
@@ -55,8 +55,8 @@ bare_other byte other (inl is) low high = ne_eqb byte other (λ e. omega arith)
 bare_other byte other (inr is) low high = ne_eqb byte other (λ e. omega arith)
 
 body_first : (body text : List ℕ) (more : List (List ℕ)) → Each IsBare body
-    → bodies_of (cut text) ≡ [] ∷ more
-    → bodies_of (cut (body ++ text)) ≡ body ∷ more
+    → bodies_of text ≡ [] ∷ more
+    → bodies_of (body ++ text) ≡ body ∷ more
 body_first [] text more bare first = first
 body_first (b ∷ body) text more bare first =
     step b (body ++ text)
@@ -70,7 +70,7 @@ line_sources : (body nl rest : List ℕ) → Each IsBare body → IsNl nl
     → sources_of ((body ++ nl) ++ rest) ≡ filter is_not_raw (source_of body ∷ []) ++ sources_of rest
 line_sources body nl rest bare is =
     let first = end_first nl rest is in
-    ap (λ t. sources_in (bodies_of (cut t))) (append_assoc body nl rest)
+    ap (λ t. sources_in (bodies_of t)) (append_assoc body nl rest)
     ∙ ap sources_in (body_first body (nl ++ rest) first.more bare first.whole)
     ∙ filter-append is_not_raw (source_of body ∷ []) (map source_of first.more)
     ∙ ap (λ t. filter is_not_raw (source_of body ∷ []) ++ t) first.same

@@ -2,7 +2,9 @@
 use crate::files::NUL_AS_LF;
 use crate::helpers::{check_equal, indented};
 use std::process::Abort;
-use texting_robots::parser::{Line, LineIter, file_lines, lines, robots_txt_parse};
+use texting_robots::parser::{
+    BodyIter, Line, LineIter, file_bodies, file_lines, lines, robots_txt_parse,
+};
 
 /// A text and its lines.
 struct LinesCase {
@@ -274,6 +276,47 @@ const NUL_TEXTS: &[LinesCase] = &[
     },
 ];
 
+/// A file and the bodies of its lines.
+struct BodiesCase {
+    name: &'static str,
+    file: &'static [u8],
+    bodies: &'static [&'static [u8]],
+}
+
+/// Files whose lines end in several ways.
+const BODIES: &[BodiesCase] = &[
+    BodiesCase {
+        name: "bodies_as_they_stand",
+        file: b"User-agent: * # all\n\n  Disallow /a \nno rule",
+        bodies: &[b"User-agent: * # all", b"", b"  Disallow /a ", b"no rule"],
+    },
+    BodiesCase {
+        name: "bodies_before_cr",
+        file: b"Allow: /a\rb\r",
+        bodies: &[b"Allow: /a", b"b"],
+    },
+    BodiesCase {
+        name: "bodies_before_cr_lf",
+        file: b"Allow: /a\r\nb\r\r\n\r\nc",
+        bodies: &[b"Allow: /a", b"b", b"", b"c"],
+    },
+    BodiesCase {
+        name: "bodies_before_nul",
+        file: b"Allow: /a\r\0b\0\0c",
+        bodies: &[b"Allow: /a", b"b", b"", b"c"],
+    },
+    BodiesCase {
+        name: "bodies_behind_a_mark",
+        file: b"\xEF\xBB\xBFAllow: /a\n\xEF\xBB\xBFb",
+        bodies: &[b"Allow: /a", b"\xEF\xBB\xBFb"],
+    },
+    BodiesCase {
+        name: "no_bodies",
+        file: b"",
+        bodies: &[],
+    },
+];
+
 /// The line is the wanted one, with these blanks before it if it is raw.
 fn check_line(rt: &impl Abort, name: &str, line: Line<'_>, want: Line<'_>, blanks: &[u8]) {
     let is_wanted = match (line, want) {
@@ -291,6 +334,16 @@ fn check_each<'a>(rt: &impl Abort, name: &str, lines: LineIter<'a>, want: &[Line
     }
     check_equal(rt, name, &lines.next(), &None);
     check_equal(rt, name, &lines.next(), &None);
+}
+
+/// The iterator gives these bodies, and then nothing more.
+fn check_bodies(rt: &impl Abort, name: &str, bodies: BodyIter<'_>, want: &[&[u8]]) {
+    let mut bodies = bodies;
+    for body in want {
+        check_equal(rt, name, &bodies.next(), &Some(*body));
+    }
+    check_equal(rt, name, &bodies.next(), &None);
+    check_equal(rt, name, &bodies.next(), &None);
 }
 
 /// The vector of the text's lines, and the lines one by one. Where no NUL is in the text, those of the file are the same.
@@ -356,5 +409,12 @@ fn texts_have_their_lines(rt: HostRuntime) {
 fn nul_ends_a_line_of_a_file(rt: HostRuntime) {
     for case in NUL_TEXTS {
         check_each(&rt, case.name, file_lines(case.text), case.lines);
+    }
+}
+
+#[test]
+fn lines_have_their_bodies(rt: HostRuntime) {
+    for case in BODIES {
+        check_bodies(&rt, case.name, file_bodies(case.file), case.bodies);
     }
 }

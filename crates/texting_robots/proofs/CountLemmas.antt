@@ -1,10 +1,11 @@
 -- A text has no more lines than bytes.
 use Rattle.std.proofs.Common.{ℕ, ◌+◌, ◌≤◌, ◌==◌, Bool, true, false, List, [], ◌∷◌}
-use Rattle.std.proofs.Common.{arith, if◌then◌else◌, length}
+use Rattle.std.proofs.Common.{arith, if◌then◌else◌, length, map}
 use Rattle.std.proofs.lemmas.List.{length-map}
-use Rattle.texting_robots.specs.{Cut.Pair, Cut.cr, Cut.lf, Line.without, Line.without_front}
-use Rattle.texting_robots.specs.Steps.Cut.{before_body, before_end, cut, read_as, read_byte}
-use Rattle.texting_robots.specs.Steps.Line.{line_of, lines_of}
+use Rattle.texting_robots.specs.{Cut.Pair, Cut.cr, Cut.lf, Steps.Line.line_of}
+use Rattle.texting_robots.specs.Line.{nul_as_lf, without, without_front}
+use Rattle.texting_robots.specs.Steps.Cut.{before_body, before_end, bodies_of, cut}
+use Rattle.texting_robots.specs.Computed.{file_bodies, parsed}
 use Rattle.texting_robots.proofs.CutLemmas.{pair_of}
 
 ended_at : (body ending : List ℕ) (later : List Pair)
@@ -46,15 +47,15 @@ front_within text =
     let one = without 0xEF text in
     omega (arith, without_within 0xEF text, without_within 0xBB one, without_within 0xBF (without 0xBB one))
 
-pub lines_within : (nul_ends : Bool) (text : List ℕ)
-    → length (lines_of (read_as nul_ends (without_front text))) ≤ length text
-lines_within nul_ends text =
+pub bodies_within : (text : List ℕ) → length (bodies_of (without_front text)) ≤ length text
+bodies_within text =
     let rest = without_front text in
-    let pairs = cut (read_as nul_ends rest) in
-    omega (
-      arith,
-      length-map pairs (λ pair. line_of pair.body),
-      cut_within (read_as nul_ends rest),
-      length-map rest (read_byte nul_ends),
-      front_within text,
-    )
+    omega (arith, length-map (cut rest) (λ pair. pair.body), cut_within rest, front_within text)
+
+pub file_bodies_within : (text : List ℕ) → length (file_bodies text) ≤ length text
+file_bodies_within text =
+    omega (arith, bodies_within (map nul_as_lf text), length-map text nul_as_lf)
+
+pub lines_within : (text : List ℕ) → length (parsed text) ≤ length text
+lines_within text =
+    omega (arith, length-map (bodies_of (without_front text)) line_of, bodies_within text)

@@ -4,7 +4,7 @@ use Rattle.std.proofs.Common.{if◌then◌else◌, map, slice_index, arith, sym,
 use Rattle.std.proofs.Common.{◌↔◌}
 use Rattle.std.proofs.lemmas.Bool.{cases_Bool, cond-true, cond-false, and_parts, eqb-true, ne_eqb}
 use Rattle.texting_robots.specs.{Cut.Pair, Cut.cr, Cut.lf, Computed.parsed, Laws.feeds_alone}
-use Rattle.texting_robots.specs.Steps.Cut.{before_body, before_byte, before_end, cut}
+use Rattle.texting_robots.specs.Steps.Cut.{before_body, before_byte, before_end, bodies_of, cut}
 use Rattle.texting_robots.specs.Line.{without, without_front, AreLinesOf, LineValue}
 use Rattle.texting_robots.specs.Steps.Line.{line_of, lines_of}
 use Rattle.texting_robots.proofs.CutLemmas.{byte_cases, cut_cons, pair_of}
@@ -12,8 +12,8 @@ use Rattle.texting_robots.proofs.LineLemmas.{each_text_has_its_lines}
 
 -- ---- the bodies of a text, from its back
 
-abbrev pub bodies_of : List Pair → List (List ℕ)
-bodies_of pairs = map (λ pair. pair.body) pairs
+abbrev bodies_in : List Pair → List (List ℕ)
+bodies_in pairs = map (λ pair. pair.body) pairs
 
 abbrev pub body_byte : ℕ → List (List ℕ) → List (List ℕ)
 body_byte b [] = (b ∷ []) ∷ []
@@ -30,38 +30,38 @@ body_step b bodies =
     if b == lf then [] ∷ bodies else (if b == cr then body_return bodies else body_byte b bodies)
 
 with_byte : (b : ℕ) (pairs : List Pair)
-    → bodies_of (before_body b pairs) ≡ body_byte b (bodies_of pairs)
+    → bodies_in (before_body b pairs) ≡ body_byte b (bodies_in pairs)
 with_byte b [] = refl
 with_byte b (pair ∷ pairs) = refl
 
-with_return : (pairs : List Pair) → bodies_of (before_end pairs) ≡ body_return (bodies_of pairs)
+with_return : (pairs : List Pair) → bodies_in (before_end pairs) ≡ body_return (bodies_in pairs)
 with_return [] = refl
 with_return (pair ∷ pairs) = at pair.body pair.ending
   where
     at : (body ending : List ℕ)
-        → bodies_of (before_end (pair_of body ending ∷ pairs)) ≡ body_return (body ∷ bodies_of pairs)
+        → bodies_in (before_end (pair_of body ending ∷ pairs)) ≡ body_return (body ∷ bodies_in pairs)
     at [] ending = refl
     at (b ∷ body) ending = refl
 
 with_step : (b : ℕ) (pairs : List Pair)
-    → bodies_of (before_byte b pairs) ≡ body_step b (bodies_of pairs)
+    → bodies_in (before_byte b pairs) ≡ body_step b (bodies_in pairs)
 with_step b pairs = elim (byte_cases b) [
   | inl feed ↦ rw feed refl
   | inr (inl return) ↦ rw return (with_return pairs)
   | inr (inr other) ↦ rw (ne_eqb b lf other.1, ne_eqb b cr other.0) (with_byte b pairs)
 ]
 
-pub step : (b : ℕ) (text : List ℕ) → bodies_of (cut (b ∷ text)) ≡ body_step b (bodies_of (cut text))
-step b text = ap bodies_of (cut_cons b text) ∙ with_step b (cut text)
+pub step : (b : ℕ) (text : List ℕ) → bodies_of (b ∷ text) ≡ body_step b (bodies_of text)
+step b text = ap bodies_in (cut_cons b text) ∙ with_step b (cut text)
 
 -- a CR before an LF adds no body
 return_before_feed : (b : ℕ) (text : List ℕ) → b ≡ cr → slice_index text 0 ≡ lf
-    → bodies_of (cut (b ∷ text)) ≡ bodies_of (cut text)
+    → bodies_of (b ∷ text) ≡ bodies_of text
 return_before_feed b [] return feed = absurd (omega (arith, feed))
 return_before_feed b (c ∷ text) return feed =
     rw (return, feed, cut_cons cr (lf ∷ text), cut_cons lf text) refl
 
-same_bodies : (text : List ℕ) → bodies_of (cut (feeds_alone text)) ≡ bodies_of (cut text)
+same_bodies : (text : List ℕ) → bodies_of (feeds_alone text) ≡ bodies_of text
 same_bodies [] = refl
 same_bodies (b ∷ text) = elim (cases_Bool (b == cr && slice_index text 0 == lf)) [
   | inl pair ↦
@@ -70,15 +70,6 @@ same_bodies (b ∷ text) = elim (cases_Bool (b == cr && slice_index text 0 == lf
       ∙ sym (return_before_feed b text (eqb-true b cr return) (eqb-true (slice_index text 0) lf feed)))
   | inr single ↦ rw (single, step b (feeds_alone text), step b text) (ap (body_step b) (same_bodies text))
 ]
-
-pub lines_by_bodies : (pairs : List Pair)
-    → map (λ pair. line_of pair.body) pairs ≡ map line_of (bodies_of pairs)
-lines_by_bodies [] = refl
-lines_by_bodies (pair ∷ pairs) = ap (λ t. line_of pair.body ∷ t) (lines_by_bodies pairs)
-
-same_lines : (text : List ℕ) → lines_of (feeds_alone text) ≡ lines_of text
-same_lines text = lines_by_bodies (cut (feeds_alone text)) ∙ ap (map line_of) (same_bodies text)
-    ∙ sym (lines_by_bodies (cut text))
 
 feed_stays : (byte : ℕ) (text : List ℕ) → (lf == byte) ≡ false → slice_index text 0 ≡ lf
     → without byte text ≡ text
@@ -110,7 +101,7 @@ front_alone text =
     ∙ without_alone 0xBF (without 0xBB (without 0xEF text)) refl refl
 
 same_parsed : (text : List ℕ) → parsed (feeds_alone text) ≡ parsed text
-same_parsed text = ap lines_of (front_alone text) ∙ same_lines (without_front text)
+same_parsed text = ap lines_of (front_alone text) ∙ ap (map line_of) (same_bodies (without_front text))
 
 pub cr_lf_is_lf : (text : List ℕ) (lines : List LineValue)
     → AreLinesOf lines (feeds_alone text) ↔ AreLinesOf lines text

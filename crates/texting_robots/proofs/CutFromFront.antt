@@ -14,8 +14,8 @@ use lib.Lanes.{mask_l, top}
 use Rattle.std.proofs.Math.Bool.{or_assoc, or_comm, or_self, or-false}
 use Rattle.memchr.specs.Find.{is_byte2, is_byte3, IsFirstByte}
 use Rattle.texting_robots.proofs.RegionLemmas.{place_is, end_is}
-use Rattle.texting_robots.specs.{Cut.Pair, Cut.cr, Cut.lf, Steps.Line.line_of, Steps.Line.lines_of}
-use Rattle.texting_robots.specs.Steps.Cut.{cut, body_len, end_len, read_byte, read_as}
+use Rattle.texting_robots.specs.Cut.{Pair, cr, lf}
+use Rattle.texting_robots.specs.Steps.Cut.{bodies_of, cut, body_len, end_len, read_byte, read_as}
 use Rattle.texting_robots.proofs.CutLemmas.{byte_cases, cut_cons, cut_nil, pair_of}
 
 -- ---- the first pair
@@ -56,13 +56,13 @@ first_line b (c ∷ text) =
       | inr (inr other) ↦ rw (cut_cons b, ne_eqb b lf other.1, ne_eqb b cr other.0, next) refl
     ]
 
-lines_first : (text : List ℕ) → 0 < length text
-    → lines_of text ≡ line_of (take (body_len text) text) ∷ lines_of (rest_of text)
-lines_first [] some = absurd (omega (arith, some))
-lines_first (b ∷ text) some = ap (λ ps. map (λ p. line_of p.body) ps) (first_line b text)
+bodies_first : (text : List ℕ) → 0 < length text
+    → bodies_of text ≡ take (body_len text) text ∷ bodies_of (rest_of text)
+bodies_first [] some = absurd (omega (arith, some))
+bodies_first (b ∷ text) some = ap (map (λ (p : Pair). p.body)) (first_line b text)
 
-pub lines_nil : lines_of [] ≡ []
-lines_nil = ap (λ ps. map (λ p. line_of p.body) ps) cut_nil
+pub bodies_nil : bodies_of [] ≡ []
+bodies_nil = ap (map (λ (p : Pair). p.body)) cut_nil
 
 -- ---- reading NUL as LF
 
@@ -211,16 +211,16 @@ body_plain n text =
       | inr other ↦ cond-false _ _ _ other
     ]
 
--- ---- the next line
+-- ---- the next body
 
-pub next_line : (n : Bool) (rest : List ℕ) → 0 < length rest
+pub next_body : (n : Bool) (rest : List ℕ) → 0 < length rest
     → (let k = body_len (read_as n rest) in
     let after = drop k rest in
-    lines_of (read_as n rest)
-    ≡ line_of (take k rest) ∷ lines_of (read_as n (drop (end_len (read_as n after)) after)))
-next_line n rest some =
+    bodies_of (read_as n rest)
+    ≡ take k rest ∷ bodies_of (read_as n (drop (end_len (read_as n after)) after)))
+next_body n rest some =
     let text = read_as n rest in
     let k = body_len text in
     let after = drop k rest in
-    lines_first text (rw (length-map rest (read_byte n)) some)
+    bodies_first text (rw (length-map rest (read_byte n)) some)
     ∙ rw (body_plain n rest, drop-map (read_byte n) k rest, drop-map (read_byte n) _ after) refl

@@ -4,13 +4,15 @@ use Rattle.std.proofs.Common.{sym, refl, ap, ◌∙◌, append_assoc, append-nil
 use Rattle.std.proofs.Common.{◌==◌, subst, ◌↔◌}
 use Rattle.std.specs.List.{AllZip}
 use Rattle.std.proofs.lemmas.Bool.{cases_Bool, cond-true, cond-false}
-use Rattle.texting_robots.specs.{declared.parser.statement.Kind.Kind, Cut.Pair, Steps.Cut.cut, Group.is_agent}
-use Rattle.texting_robots.specs.{Computed.parsed, Steps.Delay.delay_of, Delay.IsDelay}
+use Rattle.texting_robots.specs.{declared.parser.statement.Kind.Kind, Cut.Pair, Group.is_agent, Delay.IsDelay}
+use Rattle.texting_robots.specs.Computed.{file_bodies, file_lines, parsed}
+use Rattle.texting_robots.specs.Steps.{Cut.bodies_of, Cut.cut, Delay.delay_of}
 use Rattle.texting_robots.specs.Statement.{IsBehindBlanks, IsBehindColon, IsStatement}
 use Rattle.texting_robots.specs.Steps.Statement.{colon, kind_by, skip_blanks, statement_of, tail_as, value_of}
-use Rattle.texting_robots.specs.Line.{AreLinesOf, HoldRangesOf, HoldsRangeOf, IsLineOf, IsLineWith, IsRangeOf}
+use Rattle.texting_robots.specs.Line.{AreFileBodiesOf, AreLinesOf, HoldRangesOf, HoldsRangeOf, IsLineOf}
+use Rattle.texting_robots.specs.Line.{IsLineWith, IsRangeOf}
 use Rattle.texting_robots.specs.Line.{LineValue, Raw, CrawlDelay, Sitemap, UserAgent, delay_in, is_sitemap}
-use Rattle.texting_robots.specs.Line.{without, without_front}
+use Rattle.texting_robots.specs.Line.{nul_as_lf, without, without_front}
 use Rattle.texting_robots.specs.Steps.Line.{delay_or_raw, line_by, line_of, line_with}
 use Rattle.texting_robots.proofs.DelayLemmas.{delay_of_is, is_delay_of}
 use Rattle.texting_robots.proofs.CutLemmas.{is_cut, only_cut}
@@ -73,36 +75,47 @@ only_line line body None none (inr (not_one, line_is)) = line_is ∙ sym (line_r
 only_line line body (Some (kind, value)) found (inr (not_one, line_is)) =
     absurd (not_one kind value (found_statement kind value body found))
 
-are_lines : (pairs : List Pair) → AllZip IsLineOf (map (λ pair. line_of pair.body) pairs)
-    (map (λ pair. pair.body) pairs)
+are_lines : (bodies : List (List ℕ)) → AllZip IsLineOf (map line_of bodies) bodies
 are_lines [] = tt
-are_lines (pair ∷ pairs) = (is_line pair.body (statement_of pair.body) refl, are_lines pairs)
+are_lines (body ∷ bodies) = (is_line body (statement_of body) refl, are_lines bodies)
 
-only_lines : (lines : List LineValue) (pairs : List Pair)
-    → AllZip IsLineOf lines (map (λ pair. pair.body) pairs)
-    → lines ≡ map (λ pair. line_of pair.body) pairs
+only_lines : (lines : List LineValue) (bodies : List (List ℕ)) → AllZip IsLineOf lines bodies
+    → lines ≡ map line_of bodies
 only_lines [] [] all = refl
-only_lines [] (pair ∷ pairs) all = absurd all
+only_lines [] (body ∷ bodies) all = absurd all
 only_lines (line ∷ lines) [] all = absurd all
-only_lines (line ∷ lines) (pair ∷ pairs) all = ap (λ x. x ∷ lines)
-    (only_line line pair.body (statement_of pair.body) refl all.0) ∙ ap (λ t. line_of pair.body ∷ t)
-    (only_lines lines pairs all.1)
+only_lines (line ∷ lines) (body ∷ bodies) all = ap (λ x. x ∷ lines)
+    (only_line line body (statement_of body) refl all.0) ∙ ap (λ t. line_of body ∷ t)
+    (only_lines lines bodies all.1)
 
 parsed_are_lines : (text : List ℕ) → AreLinesOf (parsed text) text
 parsed_are_lines text =
     record {
       pairs = cut (without_front text);
       is_cut = is_cut (without_front text);
-      each = are_lines (cut (without_front text));
+      each = are_lines (bodies_of (without_front text));
     }
 
 pub each_text_has_its_lines : (text : List ℕ) (lines : List LineValue)
     → AreLinesOf lines text ↔ lines ≡ parsed text
 each_text_has_its_lines text lines = (
-  λ is. only_lines lines is.pairs is.each ∙ ap (λ pairs. map (λ pair. line_of pair.body) pairs)
+  λ is. only_lines lines _ is.each
+      ∙ ap (λ (pairs : List Pair). map line_of (map (λ pair. pair.body) pairs))
       (only_cut (without_front text) is.pairs is.is_cut),
   λ same. subst (λ all. AreLinesOf all text) (sym same) (parsed_are_lines text),
 )
+
+-- ---- the bodies of a file
+
+pub file_bodies_are : (text : List ℕ) (bodies : List (List ℕ)) → bodies ≡ file_bodies text
+    → AreFileBodiesOf bodies text
+file_bodies_are text bodies same =
+    let rest = without_front (map nul_as_lf text) in (cut rest, is_cut rest, same)
+
+pub lines_of_file_bodies : (text : List ℕ) (bodies : List (List ℕ)) → bodies ≡ file_bodies text
+    → AllZip IsLineOf (file_lines text) bodies
+lines_of_file_bodies text bodies same =
+    subst (AllZip IsLineOf (file_lines text)) (sym same) (are_lines (file_bodies text))
 
 -- ---- a line that is read by its kind
 
@@ -217,11 +230,10 @@ line_range body (inl (kind, value, is, line_is)) = subst (λ l. HoldsRangeOf l b
     (sym (only_line_with kind value body _ line_is)) (with_range kind value body is)
 line_range body (inr (none, line_is)) = subst (λ l. HoldsRangeOf l body) (sym line_is) refl
 
-line_ranges : (pairs : List Pair) → AllZip HoldsRangeOf (map (λ pair. line_of pair.body) pairs)
-    (map (λ pair. pair.body) pairs)
+line_ranges : (bodies : List (List ℕ)) → AllZip HoldsRangeOf (map line_of bodies) bodies
 line_ranges [] = tt
-line_ranges (pair ∷ pairs) =
-    (line_range pair.body (is_line pair.body (statement_of pair.body) refl), line_ranges pairs)
+line_ranges (body ∷ bodies) =
+    (line_range body (is_line body (statement_of body) refl), line_ranges bodies)
 
 taken_off : (byte : ℕ) (text : List ℕ) → (taken : List ℕ) × (text ≡ taken ++ without byte text)
 taken_off byte [] = ([], refl)
@@ -248,7 +260,7 @@ parsed_ranges text =
       is_cut = is_cut (without_front text);
       whole = (end.0, end.1 ∙ ap (λ t. end.0 ++ t) (sym (is_cut (without_front text)).whole));
       each =
-          line_ranges (cut (without_front text));
+          line_ranges (bodies_of (without_front text));
     }
 
 pub lines_range : (text : List ℕ) (lines : List LineValue) → lines ≡ parsed text

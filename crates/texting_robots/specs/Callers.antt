@@ -3,7 +3,7 @@
 -- the lines of a file
 pub use Rattle.texting_robots.specs.Line.{LineValue, UserAgent, Allow, Disallow, Sitemap, CrawlDelay, Raw}
 pub use Rattle.texting_robots.specs.Line.{AreFileLinesOf, AreLinesOf, HasLines, HoldRangesOf, by_value}
-pub use Rattle.texting_robots.specs.Line.{nul_as_lf}
+pub use Rattle.texting_robots.specs.Line.{AreFileBodiesOf, IsLineOf, nul_as_lf}
 pub use Rattle.texting_robots.specs.{Line.value_in, Delay.IsDelay}
 -- what an agent gets of them
 pub use Rattle.texting_robots.specs.Group.{IsCaptured, group_name, is_agent_named}
@@ -14,8 +14,8 @@ pub use Rattle.texting_robots.specs.Robot.{file_limit}
 pub use Rattle.texting_robots.specs.Marks.{AreMarksOf, Mark, StandsAs, is_named, is_own, mark_by_value}
 pub use Rattle.texting_robots.specs.Marks.{marks_of}
 -- the same, computed
-pub use Rattle.texting_robots.specs.Computed.{parsed, file_lines, lines_read, placed_rules, rules_for}
-pub use Rattle.texting_robots.specs.Computed.{delay_for, sitemaps_in}
+pub use Rattle.texting_robots.specs.Computed.{parsed, file_lines, lines_read, file_bodies, bodies_read}
+pub use Rattle.texting_robots.specs.Computed.{placed_rules, rules_for, delay_for, sitemaps_in}
 -- URLs, texts and patterns
 pub use Rattle.texting_robots.specs.Pattern.{Matches, MatchesStars, IsOverlong, collapsed}
 pub use Rattle.texting_robots.specs.{Address.robots_address, Address.robots_address_of, Escape.escaped}

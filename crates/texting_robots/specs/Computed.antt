@@ -1,6 +1,7 @@
 -- What the relations say, as functions that compute it: for contracts that are equations, as a report's.
--- Laws say that they agree: `each_text_has_its_lines`, `each_file_has_its_lines`, `each_agent_has_its_rules`,
--- `each_agent_has_its_delay`, `each_file_has_its_sitemaps`. No contract of a robot rests on them.
+-- Laws say that they agree: `each_text_has_one_cut`, `each_text_has_its_lines`, `each_file_has_its_lines`,
+-- `each_agent_has_its_rules`, `each_agent_has_its_delay`, `each_file_has_its_sitemaps`. No contract of a
+-- robot rests on them.
 use Rattle.std.specs.Prelude.{ℕ, ◌+◌, Bool, true, false, List, Option, Some, None, filter, map}
 use Rattle.std.specs.Prelude.{option_map, slice_get, take, if◌then◌else◌}
 use Rattle.std.specs.List.{before_first, enumerate_from, filter_map, last_or, list_any}
@@ -9,7 +10,7 @@ use Rattle.texting_robots.specs.Group.{group_name, is_agent}
 use Rattle.texting_robots.specs.Line.{LineValue, Allow, Disallow, Sitemap, delay_in, nul_as_lf, without_front}
 use Rattle.texting_robots.specs.Rules.{PlacedRule, Rule, unplaced}
 use Rattle.texting_robots.specs.{Escape.escaped, Robot.file_limit}
-use Rattle.texting_robots.specs.{Steps.Captured.is_captured, Steps.Line.lines_of}
+use Rattle.texting_robots.specs.Steps.{Captured.is_captured, Cut.bodies_of, Line.lines_of}
 
 -- ---- lines
 
@@ -21,9 +22,17 @@ parsed text = lines_of (without_front text)
 abbrev pub file_lines : List ℕ → List LineValue
 file_lines text = parsed (map nul_as_lf text)
 
+-- the bodies of these lines, one for each: a body is a line as it stands, without its end
+abbrev pub file_bodies : List ℕ → List (List ℕ)
+file_bodies text = bodies_of (without_front (map nul_as_lf text))
+
 -- the lines of the bytes that count
 abbrev pub lines_read : List ℕ → List LineValue
 lines_read file = file_lines (take file_limit file)
+
+-- and their bodies
+abbrev pub bodies_read : List ℕ → List (List ℕ)
+bodies_read file = file_bodies (take file_limit file)
 
 -- ---- rules
 

@@ -66,6 +66,11 @@ nul_as_lf byte = if byte == 0 then lf else byte
 abbrev pub AreFileLinesOf : List LineValue → List ℕ → Type 0
 AreFileLinesOf lines text = AreLinesOf lines (map nul_as_lf text)
 
+-- these are the bodies of the file, one for each of its lines: those of the same cut
+abbrev pub AreFileBodiesOf : List (List ℕ) → List ℕ → Type 0
+AreFileBodiesOf bodies text = (pairs : List Pair) × IsCut pairs (without_front (map nul_as_lf text))
+    × (bodies ≡ map (λ pair. pair.body) pairs)
+
 -- the file has lines, of which P holds
 abbrev pub HasLines : List ℕ → (List LineValue → Type 0) → Type 0
 HasLines file P = (lines : List LineValue) × AreFileLinesOf lines file × P lines

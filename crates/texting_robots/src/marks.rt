@@ -41,9 +41,9 @@ pub struct MarkedLine<'a> {
 
 /// An iterator over the marked lines of a file, which takes no memory.
 #[derive(Drop)]
-pub struct MarkedLineIter<'a> {
+pub struct MarkedLineIter<'n, 'a> {
     /// The name whose groups the agent gets.
-    name: &'a [u8],
+    name: &'n [u8],
     lines: UnreadLines<'a>,
     /// How many lines were passed.
     place: usize,
@@ -54,7 +54,7 @@ pub struct MarkedLineIter<'a> {
     ahead: Option<bool>,
 }
 
-impl<'a> Model for MarkedLineIter<'a> {
+impl<'n, 'a> Model for MarkedLineIter<'n, 'a> {
     ghost use Rattle.std.specs.Prelude.{◌≡◌, ◌+◌, ◌<◌, ◌^◌, List, length};
     ghost use Rattle.std.specs.Option.{IfSome};
     ghost use Rattle.std.specs.Str.{str_to_ascii_lowercase};
@@ -81,7 +81,7 @@ fn standing_of(captured: bool, begun: bool, line: Line<'_>) -> Standing
     }
 }
 
-impl<'a> Iterator for MarkedLineIter<'a> {
+impl<'n, 'a> Iterator for MarkedLineIter<'n, 'a> {
     type Item = MarkedLine<'a>;
 
     ghost next_gives = { YieldsFirstBy mark_by_value (λ s. s) };
@@ -111,7 +111,7 @@ impl<'a> Iterator for MarkedLineIter<'a> {
 ///
 /// A robot reads the first [`FILE_LIMIT`](crate::robot::FILE_LIMIT) bytes: whoever sets these lines beside a robot's rules or
 /// decisions hands in the same beginning of the file.
-pub fn marked_lines<'a>(agent: &'a str, txt: &'a [u8]) -> MarkedLineIter<'a>
+pub fn marked_lines<'n, 'a>(agent: &'n str, txt: &'a [u8]) -> MarkedLineIter<'n, 'a>
     ensures marks { result ≡ marks_of (group_name agent.now (file_lines txt.now)) (file_lines txt.now) }
     ensures count { length result ≤ length txt.now }
 {

@@ -1,11 +1,13 @@
 //! The lines of a robots.txt file.
 ghost use Rattle.std.specs.Prelude.{◌≡◌, ◌⊎◌, ◌≤◌, IfErr, IfOk, None, Some, false, length, map, option_map};
 ghost use Rattle.std.specs.Iterator.{YieldsFirst, YieldsFirstBy, item_count};
-ghost use Rattle.texting_robots.specs.Computed.{file_lines, parsed};
+ghost use Rattle.std.specs.List.{AllZip};
+ghost use Rattle.texting_robots.specs.Computed.{file_bodies, file_lines, parsed};
 ghost use Rattle.texting_robots.specs.Steps.Line.{line_of, line_with};
 ghost use Rattle.texting_robots.specs.Group.{is_agent, is_group};
-ghost use Rattle.texting_robots.specs.Line.{AreFileLinesOf, AreLinesOf, HoldRangesOf, by_value, delay_in};
-ghost use Rattle.texting_robots.specs.Line.{is_sitemap, nul_as_lf, value_in, without_front};
+ghost use Rattle.texting_robots.specs.Line.{AreFileBodiesOf, AreFileLinesOf, AreLinesOf, HoldRangesOf};
+ghost use Rattle.texting_robots.specs.Line.{IsLineOf, by_value, delay_in, is_sitemap, nul_as_lf, value_in};
+ghost use Rattle.texting_robots.specs.Line.{without_front};
 
 mod cut;
 mod delay;
@@ -125,22 +127,55 @@ impl<'a> Unread<'a> {
     }
 }
 
-/// An iterator over the lines of a text, none of them read to its value.
+/// An iterator over the bodies of a file's lines, which takes no memory.
 #[derive(Drop)]
-pub(crate) struct UnreadLines<'a> {
+pub struct BodyIter<'a> {
     rest: &'a [u8],
     nul_ends: bool,
 }
 
+impl<'a> Model for BodyIter<'a> {
+    ghost use Rattle.std.specs.Prelude.{ℕ, List};
+    ghost use Rattle.texting_robots.specs.Steps.Cut.{bodies_of, read_as};
+
+    ghost Value = { List (List ℕ) };
+
+    ghost view = { λ s. bodies_of (read_as s.nul_ends s.rest.now) };
+}
+
+impl<'a> Iterator for BodyIter<'a> {
+    type Item = &'a [u8];
+
+    ghost next_gives = { YieldsFirstBy (λ body. body.now) (λ s. s) };
+
+    ghost remaining = { item_count (λ s. s) };
+
+    #[inline(always)]
+    fn next(&mut self) -> Option<&'a [u8]> {
+        let rest = self.rest;
+        if rest.is_empty() {
+            return None;
+        }
+        let (body, after) = rest.split_at(body_len(rest, self.nul_ends));
+        self.rest = after_end(after, self.nul_ends);
+        Some(body)
+    }
+}
+
+/// An iterator over the lines of a text, none of them read to its value.
+#[derive(Drop)]
+pub(crate) struct UnreadLines<'a> {
+    bodies: BodyIter<'a>,
+}
+
 impl<'a> Model for UnreadLines<'a> {
-    ghost use Rattle.std.specs.Prelude.{List};
+    ghost use Rattle.std.specs.Prelude.{List, map};
     ghost use Rattle.texting_robots.specs.Line.{LineValue};
-    ghost use Rattle.texting_robots.specs.Steps.Line.{lines_of};
-    ghost use Rattle.texting_robots.specs.Steps.Cut.{read_as};
+    ghost use Rattle.texting_robots.specs.Steps.Line.{line_of};
 
     ghost Value = { List LineValue };
 
-    ghost view = { λ s. lines_of (read_as s.nul_ends s.rest.now) };
+    ghost view = { λ s. map line_of s.bodies };
 }
 
 impl<'a> UnreadLines<'a> {
@@ -148,9 +183,12 @@ impl<'a> UnreadLines<'a> {
     pub(crate) fn again(&self) -> Self
         ensures { result ≡ self.now }
     {
+        let bodies = &self.bodies;
         UnreadLines {
-            rest: self.rest,
-            nul_ends: self.nul_ends,
+            bodies: BodyIter {
+                rest: bodies.rest,
+                nul_ends: bodies.nul_ends,
+            },
         }
     }
 }
@@ -164,13 +202,7 @@ impl<'a> Iterator for UnreadLines<'a> {
 
     #[inline(always)]
     fn next(&mut self) -> Option<Unread<'a>> {
-        let rest = self.rest;
-        if rest.is_empty() {
-            return None;
-        }
-        let (body, after) = rest.split_at(body_len(rest, self.nul_ends));
-        self.rest = after_end(after, self.nul_ends);
-        Some(Unread::new(body))
+        Some(Unread::new(self.bodies.next()?))
     }
 }
 
@@ -220,9 +252,26 @@ pub fn lines<'a>(input: &'a [u8]) -> LineIter<'a>
 {
     LineIter {
         unread: UnreadLines {
-            rest: without_front(input),
-            nul_ends: false,
+            bodies: BodyIter {
+                rest: without_front(input),
+                nul_ends: false,
+            },
         },
+    }
+}
+
+/// The bodies of a file's lines: each of the lines that [`file_lines`] gives, as it stands and without its end. They are slices
+/// of `input`, and hold no CR, LF or NUL. It takes no memory.
+#[tactic(auto, using(crate::proofs::LineLemmas::file_bodies_are, crate::proofs::LineLemmas::lines_of_file_bodies))]
+pub fn file_bodies<'a>(input: &'a [u8]) -> BodyIter<'a>
+    ensures value { result ≡ file_bodies input.now }
+    ensures bodies { AreFileBodiesOf result input.now }
+    ensures lines { AllZip IsLineOf (file_lines input.now) result }
+    ensures count { length result ≤ length input.now }
+{
+    BodyIter {
+        rest: without_front(input),
+        nul_ends: true,
     }
 }
 
@@ -232,8 +281,7 @@ pub(crate) fn unread_file_lines<'a>(input: &'a [u8]) -> UnreadLines<'a>
     ensures count { length result ≤ length input.now }
 {
     UnreadLines {
-        rest: without_front(input),
-        nul_ends: true,
+        bodies: file_bodies(input),
     }
 }
 

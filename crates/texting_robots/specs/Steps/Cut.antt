@@ -28,6 +28,10 @@ unfoldable pub cut : List ℕ → List Pair
 cut [] = []
 cut (byte ∷ text) = before_byte byte (cut text)
 
+-- the bodies of a text
+abbrev pub bodies_of : List ℕ → List (List ℕ)
+bodies_of text = map (λ pair. pair.body) (cut text)
+
 -- how many bytes stand before the first CR or LF
 abbrev pub body_len : List ℕ → ℕ
 body_len [] = 0

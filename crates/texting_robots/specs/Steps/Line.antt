@@ -1,7 +1,7 @@
 -- The lines of a text, computed.
 use Rattle.std.specs.Prelude.{ℕ, List, [], ◌∷◌, codes, map, Option, Some, None}
 use Rattle.texting_robots.specs.declared.parser.statement.Kind.{Kind}
-use Rattle.texting_robots.specs.Steps.Cut.{cut}
+use Rattle.texting_robots.specs.Steps.Cut.{bodies_of}
 use Rattle.texting_robots.specs.Steps.Delay.{delay_of}
 use Rattle.texting_robots.specs.Steps.Statement.{statement_of}
 use Rattle.texting_robots.specs.declared.parser.statement.Kind.TheVariants as kind
@@ -31,4 +31,4 @@ line_of body = line_by (statement_of body) body
 
 -- the lines of the bodies of a text
 abbrev pub lines_of : List ℕ → List LineValue
-lines_of text = map (λ pair. line_of pair.body) (cut text)
+lines_of text = map line_of (bodies_of text)

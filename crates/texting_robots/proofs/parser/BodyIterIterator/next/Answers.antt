@@ -1,28 +1,27 @@
 use Rattle.std.proofs.Common.{◌∙◌, sym, ap, arith}
 use Rattle.std.proofs.lemmas.{Bool.Decides.nat_tests, List.nil_from_length}
-use Rattle.texting_robots.specs.Steps.{Cut.read_as, Line.lines_of}
-use Rattle.texting_robots.proofs.CutFromFront.{lines_nil, next_line}
-use Rattle.texting_robots.proofs.parser.UnreadLinesIterator.next.Goals as goal
+use Rattle.texting_robots.specs.Steps.Cut.{bodies_of, read_as}
+use Rattle.texting_robots.proofs.CutFromFront.{bodies_nil, next_body}
+use Rattle.texting_robots.proofs.parser.BodyIterIterator.next.Goals as goal
 
 pub returns-then-is_empty-clause-steps : goal.returns-then-is_empty-clause-steps
 returns-then-is_empty-clause-steps c =
     let none = sym c.self.view_is
-    ∙ ap (λ text. lines_of (read_as c.self.inside.nul_ends text))
+    ∙ ap (λ text. bodies_of (read_as c.self.inside.nul_ends text))
     (nil_from_length _ (grind (arith, nat_tests, c.is_empty.ensures, c.if-is_empty.true)))
-    ∙ lines_nil in
+    ∙ bodies_nil in
     (none, none)
 
 pub returns-clause-steps : goal.returns-clause-steps
 returns-clause-steps c =
     rw (
       ← c.self.view_is,
-      c.new.ensures,
       c.after_end-self-inside.ensures,
       c.split_at.ensures.front,
       c.split_at.ensures.back,
       c.body_len.ensures.value,
     )
-    (next_line c.self.inside.nul_ends c.self.inside.rest.now
+    (next_body c.self.inside.nul_ends c.self.inside.rest.now
     (grind (arith, nat_tests, c.is_empty.ensures, c.if-is_empty.false)))
 
 pub returns-clause-goes : goal.returns-clause-goes
