@@ -1,78 +1,129 @@
--- A file has a report, and no other.
-use Rattle.std.proofs.Common.{◌≡◌, ℕ, Bool, true, false, List, [], ◌∷◌, ◌++◌}
-use Rattle.std.proofs.Common.{◌&&◌, ap, refl, subst, sym, ◌∙◌}
-use Rattle.std.proofs.lemmas.List.Elements.{All-nil}
-use Rattle.texting_robots.specs.Callers.{IsRefused, IsVerdict, PlacedRule, Rule}
-use Rattle.texting_robots.specs.Callers.{delay_for, escaped, lines_read, placed_rules, prepared, unplaced}
+-- A file has an audit, and no other.
+use Rattle.std.proofs.Common.{◌≡◌, ℕ, suc, List, [], ◌∷◌, Contains, ap, ap₂, arith, refl, sym}
+use Rattle.std.proofs.Common.{◌∙◌}
+use Rattle.std.specs.List.{AllZip}
+use Rattle.texting_robots.specs.Callers.{IsRefused, LineValue, PlacedRule}
+use Rattle.texting_robots.specs.Callers.{bodies_read, delay_for, lines_read, placed_rules, prepared, unplaced}
+use Rattle.texting_robots.specs.declared.decision.Decision.{Decision}
 use Rattle.texting_robots.proofs.BestLemmas.{each_text_answered}
-use Rattle.robots_io.specs.Lines.{ended}
-use Rattle.robots_audit.specs.Delay.{delay_line}
-use Rattle.robots_io.proofs.VerdictsLemmas.{lines_once, some_lines}
-use Rattle.robots_audit.specs.Report.{AreAllowed, Asked, IsReport, IsReportText, group_line}
-use Rattle.robots_audit.specs.Report.{note_lines, row_lines}
+use Rattle.texting_robots.proofs.VerdictLemmas.{one_line_decides, one_verdict}
+use Rattle.robots_io.specs.Verdicts.{IsDecisionOn}
+use Rattle.robots_audit.specs.Audit.{AgentValue, Asked, AuditValue, IsAgentAudit, IsAuditOf, IsVerdictOn}
+use Rattle.robots_audit.specs.Audit.{VerdictValue, agents_asked, group_of, marking_agent}
 use Rattle.robots_audit.specs.Rows.{marks_for}
-use Rattle.robots_audit.proofs.ReportLemmas.{allowed-append, allowed_one}
+use Rattle.robots_audit.specs.Warnings.{warnings}
 
-text_once : (asked : Asked) (file text other : List ℕ)
-    → IsReportText asked file text → IsReportText asked file other → text ≡ other
-text_once asked file text other one two =
-    let agent = asked.agent in
+-- ---- one at most
+
+zip_once : {A B : Type 0} (R : A → B → Type 0) → ((x : A) (y z : B) → R x y → R x z → y ≡ z)
+    → (xs : List A) (ys zs : List B) → AllZip R xs ys → AllZip R xs zs → ys ≡ zs
+zip_once R once [] [] [] one two = refl
+zip_once R once [] [] (z ∷ zs) one two = absurd two
+zip_once R once [] (y ∷ ys) zs one two = absurd one
+zip_once R once (x ∷ xs) [] zs one two = absurd one
+zip_once R once (x ∷ xs) (y ∷ ys) [] one two = absurd two
+zip_once R once (x ∷ xs) (y ∷ ys) (z ∷ zs) (one, more) (two, rest) =
+    let first = once x y z one two in
+    let later = zip_once R once xs ys zs more rest in
+    cc
+
+decided_once : (rules : List PlacedRule) (url : List ℕ) (one two : Decision)
+    → IsDecisionOn rules url one → IsDecisionOn rules url two → one ≡ two
+decided_once rules url one two is too =
+    let text = prepared url in
+    ap₂ (λ allowed line. record { allowed = allowed; line = line })
+    (one_verdict (unplaced rules) text one.allowed two.allowed is.verdict too.verdict)
+    (one_line_decides rules text one.line two.line is.deciding too.deciding)
+
+verdict_once : (rules : List PlacedRule) (url : List ℕ) (one two : VerdictValue)
+    → IsVerdictOn rules url one → IsVerdictOn rules url two → one ≡ two
+verdict_once rules url one two is too =
+    ap₂ (λ url decision. record { url = url; decision = decision }) (is.url_is ∙ sym too.url_is)
+    (decided_once rules url one.decision two.decision is.decided too.decided)
+
+agent_once : (urls : List (List ℕ)) (lines : List LineValue) (agent : List ℕ) (one two : AgentValue)
+    → IsAgentAudit urls lines agent one → IsAgentAudit urls lines agent two → one ≡ two
+agent_once urls lines agent one two is too =
+    let rules = placed_rules agent lines in
+    let verdicts = zip_once (IsVerdictOn rules) (verdict_once rules) urls one.verdicts two.verdicts
+    is.verdicts_are too.verdicts_are in
+    ap₂ (λ agent group. record {
+      agent = agent;
+      group = group;
+      delay = one.delay;
+      verdicts = one.verdicts;
+    }) (is.agent_is ∙ sym too.agent_is) (is.group_is ∙ sym too.group_is)
+    ∙ ap₂ (λ delay verdicts. record {
+      agent = two.agent;
+      group = two.group;
+      delay = delay;
+      verdicts = verdicts;
+    }) (is.delay_is ∙ sym too.delay_is) verdicts
+
+pub one_audit : (asked : Asked) (file : List ℕ) (audit other : AuditValue)
+    → IsAuditOf asked file audit → IsAuditOf asked file other → audit ≡ other
+one_audit asked file audit other is too =
     let lines = lines_read file in
-    let above = row_lines asked.is_quiet (marks_for agent lines) in
-    let with_verdicts = λ (verdicts : List (List ℕ)). ended (above
-    ++ (group_line agent lines ∷ delay_line (delay_for agent lines) ∷ (note_lines file ++ verdicts))) in
-    let same = lines_once escaped (placed_rules agent lines) asked.urls one.verdict_lines two.verdict_lines
-    one.verdicts two.verdicts in
-    one.whole ∙ ap with_verdicts same ∙ sym two.whole
-
-allowed_once : (rules : List Rule) (urls : List (List ℕ)) (one two : Bool) → AreAllowed rules urls one
-    → AreAllowed rules urls two → one ≡ two
-allowed_once rules urls true true are too = refl
-allowed_once rules urls true false are (url, (k, below, here), denied) =
-    let allowed = subst (λ u. IsVerdict rules (prepared u) true) here (are k url below) in
-    absurd (allowed denied)
-allowed_once rules urls false true (url, (k, below, here), denied) too =
-    let allowed = subst (λ u. IsVerdict rules (prepared u) true) here (too k url below) in
-    absurd (allowed denied)
-allowed_once rules urls false false are too = refl
-
-pub one_report : (asked : Asked) (file text other : List ℕ)
-    (answer another : Bool)
-    → IsReport asked file text answer → IsReport asked file other another
-    → (text ≡ other) × (answer ≡ another)
-one_report asked file text other answer another one two = (
-  text_once asked file text other one.whole two.whole,
-  allowed_once _ asked.urls answer another one.answer two.answer,
-)
+    let agents = zip_once (IsAgentAudit asked.urls lines) (agent_once asked.urls lines)
+    (agents_asked asked.agent lines) audit.agents other.agents is.agents_are too.agents_are in
+    ap₂ (λ marks warnings. record { marks = marks; agents = audit.agents; warnings = warnings })
+    (is.marks_are ∙ sym too.marks_are) (is.warnings_are ∙ sym too.warnings_are)
+    ∙ ap (λ agents. record { marks = other.marks; agents = agents; warnings = other.warnings }) agents
 
 -- ---- there is one
 
-some_answer : (rules : List PlacedRule) (urls : List (List ℕ))
-    → (answer : Bool) × AreAllowed (unplaced rules) urls answer
-some_answer rules [] = (true, All-nil _)
-some_answer rules (url ∷ urls) =
-    let first = each_text_answered rules (prepared url) in
-    let (later, are) = some_answer rules urls in (
-      first.allowed && later,
-      allowed-append (unplaced rules) (url ∷ []) urls first.allowed later
-          (allowed_one (unplaced rules) url first.allowed first.verdict) are,
+zip_some : {A B : Type 0} (R : A → B → Type 0) (xs : List A)
+    → ((x : A) → Contains xs x → (y : B) × R x y) → (ys : List B) × AllZip R xs ys
+zip_some R [] some = ([], tt)
+zip_some R (x ∷ xs) some =
+    let (y, is) = some x (0, omega arith, refl) in
+    let (ys, are) = zip_some R xs (λ other (k, below, here). some other (suc k, omega arith, here)) in
+    (y ∷ ys, (is, are))
+
+some_verdict : (rules : List PlacedRule) (url : List ℕ)
+    → (verdict : VerdictValue) × IsVerdictOn rules url verdict
+some_verdict rules url =
+    let answered = each_text_answered rules (prepared url) in (
+      record { url = url; decision = record { allowed = answered.allowed; line = answered.number } },
+      record {
+        url_is = refl;
+        decided = record { verdict = answered.verdict; deciding = answered.deciding };
+      },
     )
 
-pub some_report : (asked : Asked) (file : List ℕ)
-    → ¬ IsRefused asked.agent (lines_read file)
-    → (text : List ℕ) × (answer : Bool) × IsReport asked file text answer
-some_report asked file accepted =
-    let agent = asked.agent in
-    let lines = lines_read file in
-    let (verdicts, are) = some_lines escaped (placed_rules agent lines) asked.urls in
-    let (answer, allowed) = some_answer (placed_rules agent lines) asked.urls in (
-      ended (row_lines asked.is_quiet (marks_for agent lines)
-          ++ (group_line agent lines ∷ delay_line (delay_for agent lines)
-          ∷ (note_lines file ++ verdicts))),
-      answer,
+some_agent : (urls : List (List ℕ)) (lines : List LineValue) (agent : List ℕ) → ¬ IsRefused agent lines
+    → (value : AgentValue) × IsAgentAudit urls lines agent value
+some_agent urls lines agent accepted =
+    let rules = placed_rules agent lines in
+    let (verdicts, are) = zip_some (IsVerdictOn rules) urls (λ url has. some_verdict rules url) in (
+      record {
+        agent = agent;
+        group = group_of agent lines;
+        delay = delay_for agent lines;
+        verdicts = verdicts;
+      },
       record {
         accepted = accepted;
-        whole = record { verdict_lines = verdicts; verdicts = are; whole = refl };
-        answer = allowed;
+        agent_is = refl;
+        group_is = refl;
+        delay_is = refl;
+        verdicts_are = are;
       },
+    )
+
+pub some_audit : (asked : Asked) (file : List ℕ)
+    → ((agent : List ℕ) → Contains (agents_asked asked.agent (lines_read file)) agent
+    → ¬ IsRefused agent (lines_read file))
+    → (audit : AuditValue) × IsAuditOf asked file audit
+some_audit asked file accepted =
+    let lines = lines_read file in
+    let marks = marks_for (marking_agent asked.agent) lines in
+    let (agents, are) = zip_some (IsAgentAudit asked.urls lines) (agents_asked asked.agent lines)
+    (λ agent has. some_agent asked.urls lines agent (accepted agent has)) in (
+      record {
+        marks = marks;
+        agents = agents;
+        warnings = warnings asked.agent asked.urls file marks (bodies_read file);
+      },
+      record { marks_are = refl; agents_are = are; warnings_are = refl },
     )

@@ -1,299 +1,279 @@
--- A report and its warnings steer no terminal.
-use Rattle.std.proofs.Common.{◌≡◌, ℕ, zero, suc, ◌<◌, ◌%◌, ◌/◌, ◌*◌}
-use Rattle.std.proofs.Common.{◌-◌, ◌==◌, Bool}
-use Rattle.std.proofs.Common.{true, false}
-use Rattle.std.proofs.Common.{List, [], ◌∷◌, ◌++◌, Option, Some, None, arith, codes, cond}
-use Rattle.std.proofs.Common.{decimal}
-use Rattle.std.proofs.Common.{flat_map}
-use Rattle.std.proofs.Common.{inl, inr, length, map, nat_lt, not, refl, replicate, subst, sym}
-use Rattle.std.proofs.lemmas.Bool.{cases_Bool}
-use Rattle.std.proofs.lemmas.Bool.Decides.{nat_tests}
-use Rattle.std.proofs.lemmas.List.Folds.{list_all-append}
-use Rattle.std.specs.Fmt.{digit_glyph, digits, digits_onto}
-use Rattle.std.specs.Str.{is_utf8}
-use Rattle.std.specs.List.{AllByRecursion as Each, AllZip, list_any}
-use Rattle.texting_robots.specs.Callers.{Allow, CrawlDelay, Disallow, LineValue, Mark, PlacedRule, Raw}
-use Rattle.texting_robots.specs.Callers.{is_own}
-use Rattle.texting_robots.specs.Callers.{Sitemap, UserAgent, escaped}
-use Rattle.texting_robots.specs.Callers.{lines_read, placed_rules}
-use Rattle.texting_robots.specs.Callers.{delay_for, file_limit, is_named}
-use Rattle.texting_robots.specs.Group.{is_agent}
-use Rattle.texting_robots.specs.Escape.{escape_byte, is_escaped}
-use Rattle.robots_io.specs.Lines.{ended, lf}
-use Rattle.robots_audit.specs.Delay.{delay_line, delay_text, fraction, million, seconds}
-use Rattle.robots_io.specs.Verdicts.{IsVerdictLine, line_text, verdict_front, verdict_word}
-use Rattle.robots_audit.specs.Laws.{IsPlain, is_plain}
-use Rattle.robots_audit.specs.Report.{Asked, IsReport, group_line, note_lines, row_lines, unnamed_group}
+-- What is written of an audit steers no terminal, nor what is said of it.
+use Rattle.std.proofs.Common.{ℕ, zero, suc, ◌*◌, ◌-◌, ◌/◌, ◌%◌, ◌==◌, Bool, true, false}
+use Rattle.std.proofs.Common.{List, [], ◌∷◌, ◌++◌, Option, Some, None, codes, decimal, flat_map}
+use Rattle.std.proofs.Common.{length, map, refl, replicate}
+use Rattle.std.specs.Prelude.{IsTrue, if◌then◌else◌}
+use Rattle.std.specs.List.{AllByRecursion as Each, list_all}
+use Rattle.texting_robots.specs.Callers.{Allow, CrawlDelay, Disallow, LineValue, Mark, Raw, Sitemap}
+use Rattle.texting_robots.specs.Callers.{UserAgent}
 use Rattle.texting_robots.specs.declared.marks.Standing.{Standing}
-use Rattle.texting_robots.specs.declared.marks.Standing.TheVariants.{Own, Other, Outside}
-use Rattle.robots_audit.specs.Rows.{has_value, kind_text, mark_text, marks_for, right_aligned, row, rows}
-use Rattle.robots_audit.specs.Rows.{space, value_text, word_and_value, word_width}
-use Rattle.robots_audit.specs.Warnings.{agent_warnings, byte_warnings}
-use Rattle.robots_audit.specs.Warnings.{mark_warnings, rule_text, rule_warnings}
-use Rattle.robots_audit.specs.Warnings.{begins_as_rule, holds_otherwise, space_warnings, start_warnings}
-use Rattle.robots_audit.specs.Warnings.{url_warnings, value_warnings, warned, warnings}
+use Rattle.texting_robots.specs.declared.marks.Standing.TheVariants.{Other, Outside, Own}
+use Rattle.texting_robots.specs.declared.parser.Kind.{Kind}
+use Rattle.texting_robots.specs.declared.parser.Kind.TheVariants as kind
+use Rattle.texting_robots.proofs.TrimLemmas.{each_append}
+use Rattle.robots_io.specs.Lines.{ended}
+use Rattle.robots_io.specs.Verdicts.{verdict_front}
+use Rattle.robots_audit.specs.declared.file_faults.FileFault.{FileFault}
+use Rattle.robots_audit.specs.declared.file_faults.FileFault.TheVariants as file
+use Rattle.robots_audit.specs.declared.group.Group.{Group}
+use Rattle.robots_audit.specs.declared.group.Group.TheVariants.{Everyone, Named, Nobody, Star}
+use Rattle.robots_audit.specs.declared.key_faults.KeyFault.{KeyFault}
+use Rattle.robots_audit.specs.declared.key_faults.KeyFault.TheVariants as key
+use Rattle.robots_audit.specs.declared.name_faults.NameFault.TheVariants.{NotAToken}
+use Rattle.robots_audit.specs.declared.other_keys.OtherKey.{OtherKey}
+use Rattle.robots_audit.specs.declared.other_keys.OtherKey.TheVariants as other
+use Rattle.robots_audit.specs.declared.place_faults.PlaceFault.{PlaceFault}
+use Rattle.robots_audit.specs.declared.place_faults.PlaceFault.TheVariants as place
+use Rattle.robots_audit.specs.declared.rule_faults.RuleFault.{RuleFault}
+use Rattle.robots_audit.specs.declared.rule_faults.RuleFault.TheVariants as rule
+use Rattle.robots_audit.specs.declared.value_faults.DelayFault.TheVariants.{AboveADay}
+use Rattle.robots_audit.specs.declared.value_faults.SitemapFault.TheVariants.{NoWholeUrl}
+use Rattle.robots_audit.specs.declared.warning.Cause.{Cause}
+use Rattle.robots_audit.specs.declared.warning.Cause.TheVariants as cause
+use Rattle.robots_audit.specs.declared.word_faults.AgentFault.{AgentFault}
+use Rattle.robots_audit.specs.declared.word_faults.AgentFault.TheVariants as agent
+use Rattle.robots_audit.specs.declared.word_faults.UrlFault.{UrlFault}
+use Rattle.robots_audit.specs.declared.word_faults.UrlFault.TheVariants as url
+use Rattle.robots_audit.specs.Answer.{has_rows, output, said}
+use Rattle.robots_audit.specs.Audit.{AgentValue, Asked, AuditValue, VerdictValue}
+use Rattle.robots_audit.specs.Delay.{delay_line, delay_text, fraction, million, seconds}
+use Rattle.robots_audit.specs.FileFaults.{file_fault_name, file_fault_text}
+use Rattle.robots_audit.specs.Json.{json_text}
+use Rattle.robots_audit.specs.KeyFaults.{key_fault_name, key_fault_text}
+use Rattle.robots_audit.specs.OtherKeys.{other_key_name, other_key_text}
+use Rattle.robots_audit.specs.PlaceFaults.{place_fault_name, place_fault_text}
+use Rattle.robots_audit.specs.Report.{agent_lines, group_line, report_lines, verdict_line}
+use Rattle.robots_audit.specs.Rows.{has_value, kind_text, mark_text, right_aligned, row, rows, space}
+use Rattle.robots_audit.specs.Rows.{value_text, word_and_value, word_width}
+use Rattle.robots_audit.specs.RuleFaults.{rule_fault_name, rule_fault_text}
+use Rattle.robots_audit.specs.Shown.{IsPlain, is_plain_byte}
+use Rattle.robots_audit.specs.Warnings.{WarningValue, cause_name, cause_text, name_text, place_text}
+use Rattle.robots_audit.specs.Warnings.{warning_line, warning_lines, warning_text}
+use Rattle.robots_audit.specs.WordFaults.{agent_fault_name, agent_fault_text, url_fault_name, url_fault_text}
+use Rattle.robots_audit.proofs.JsonLemmas.{json_plain, kind_plain, warning_text_plain}
+use Rattle.robots_audit.proofs.ShownLemmas.{append_plain, ascii_plain, blanks_plain, decimal_plain}
+use Rattle.robots_audit.proofs.ShownLemmas.{ended_plain, nil_plain, shown_plain}
 
--- ---- texts
+-- ---- lists and cases
 
-both : (a b : List ℕ) → IsPlain a → IsPlain b → IsPlain (a ++ b)
-both a b one two = rw (list_all-append is_plain a b, one) two
-
-blanks : (n : ℕ) → IsPlain (replicate n space)
-blanks zero = refl
-blanks (suc n) = blanks n
-
-of_four : (a b c d : List ℕ) → IsPlain a → IsPlain b → IsPlain c → IsPlain d
-    → IsPlain (a ++ b ++ c ++ d)
-of_four a b c d one two three four =
-    both (a ++ b ++ c) d (both (a ++ b) c (both a b one two) three) four
-
--- a digit, of base 16 or less
-glyph : (d : ℕ) → d < 16 → is_plain (digit_glyph true d) ≡ true
-glyph d below = elim (cases_Bool (nat_lt d 10)) [
-  | inl is ↦ rw is (grind (arith, nat_tests))
-  | inr isnt ↦ rw isnt (grind (arith, nat_tests))
-]
-
-decimal_glyph : (d : ℕ) → d < 10 → is_plain (digit_glyph false d) ≡ true
-decimal_glyph d below = grind (arith, nat_tests)
-
-digits_plain : (k n : ℕ) (text : List ℕ) → IsPlain text → IsPlain (digits_onto k 10 false n text)
-digits_plain zero n text is = is
-digits_plain (suc k) n text is =
-    let more : IsPlain (digit_glyph false (n % 10) ∷ text) =
-    rw (decimal_glyph (n % 10) (omega arith)) is in
-    elim (cases_Bool (n / 10 == 0)) [
-      | inl last ↦ rw last more
-      | inr other ↦ rw other (digits_plain k (n / 10) (digit_glyph false (n % 10) ∷ text) more)
-    ]
-
-number : (n : ℕ) → IsPlain (decimal n)
-unfolding digits
-number n = digits_plain 64 n [] refl
-
-plain_byte : (byte : ℕ) → is_escaped byte ≡ false → is_plain byte ≡ true
-plain_byte byte isnt = grind (arith, nat_tests)
-
-escaped_byte : (byte : ℕ) → IsPlain (escape_byte byte)
-escaped_byte byte = elim (cases_Bool (is_escaped byte)) [
-  | inl is ↦
-      let high = glyph (byte / 16 % 16) (omega arith) in
-      let low = glyph (byte % 16) (omega arith) in
-      rw (is, high, low) refl
-  | inr isnt ↦ rw (isnt, plain_byte byte isnt) refl
-]
-
-shown : (bytes : List ℕ) → IsPlain (escaped bytes)
-shown [] = refl
-shown (byte ∷ bytes) = both (escape_byte byte) (escaped bytes) (escaped_byte byte) (shown bytes)
-
--- ---- lines
-
-in_lines : (lines : List (List ℕ)) → Each IsPlain lines → IsPlain (ended lines)
-in_lines [] are = refl
-in_lines (line ∷ lines) (first, later) =
-    both (line ++ lf ∷ []) (ended lines) (both line (lf ∷ []) first refl) (in_lines lines later)
-
-each_both : (one two : List (List ℕ)) → Each IsPlain one → Each IsPlain two
-    → Each IsPlain (one ++ two)
-each_both [] two are too = too
-each_both (line ∷ one) two (first, later) too = (first, each_both one two later too)
-
-each_mapped : {X : Type 0} (f : X → List ℕ) → ((x : X) → IsPlain (f x)) → (xs : List X)
+each_map : {X : Type 0} (f : X → List ℕ) → ((x : X) → IsPlain (f x)) → (xs : List X)
     → Each IsPlain (map f xs)
-each_mapped f is [] = tt
-each_mapped f is (x ∷ xs) = (is x, each_mapped f is xs)
+each_map f are [] = tt
+each_map f are (x ∷ xs) = (are x, each_map f are xs)
 
 each_flat : {X : Type 0} (f : X → List (List ℕ)) → ((x : X) → Each IsPlain (f x)) → (xs : List X)
     → Each IsPlain (flat_map f xs)
 each_flat f are [] = tt
-each_flat f are (x ∷ xs) = each_both (f x) (flat_map f xs) (are x) (each_flat f are xs)
+each_flat f are (x ∷ xs) = each_append IsPlain (f x) (flat_map f xs) (are x) (each_flat f are xs)
 
--- ---- a report
+either_plain : (b : Bool) (one two : List ℕ) → IsPlain one → IsPlain two
+    → IsPlain (if b then one else two)
+either_plain true one two is too = is
+either_plain false one two is too = too
 
-marked : (standing : Standing) → IsPlain (mark_text standing)
-marked Own = refl
-marked Other = refl
-marked Outside = refl
+-- ---- what is said of a cause
 
-one_of : (b : Bool) (x y : List ℕ) → IsPlain x → IsPlain y → IsPlain (cond b x y)
-one_of true x y is other = is
-one_of false x y is other = other
+-- two literals of printable ASCII
+abbrev AreAscii : List ℕ → List ℕ → Type 0
+AreAscii name text =
+    IsTrue (list_all (is_plain_byte true) name) × IsTrue (list_all (is_plain_byte true) text)
 
-kind : (line : LineValue) → IsPlain (kind_text line)
-kind (UserAgent value) = refl
-kind (Allow value) = refl
-kind (Disallow value) = refl
-kind (CrawlDelay delay) = refl
-kind (Sitemap value) = refl
-kind (Raw body) = one_of _ (codes "blank") (codes "unread") refl refl
+of_file : (fault : FileFault) → AreAscii (file_fault_name fault) (file_fault_text fault)
+of_file file.SeemsPage = (refl, refl)
+of_file file.SeemsUtf16 = (refl, refl)
+of_file file.NothingRead = (refl, refl)
+of_file file.BytesBeyond = (refl, refl)
+
+of_agent : (fault : AgentFault) → AreAscii (agent_fault_name fault) (agent_fault_text fault)
+of_agent agent.SpaceAround = (refl, refl)
+of_agent agent.Slash = (refl, refl)
+of_agent agent.NamedBeyond = (refl, refl)
+
+of_url : (fault : UrlFault) → AreAscii (url_fault_name fault) (url_fault_text fault)
+of_url url.NoUrl = (refl, refl)
+of_url url.Refused = (refl, refl)
+
+of_other : (key : OtherKey) → AreAscii (other_key_name key) (other_key_text key)
+of_other other.Noindex = (refl, refl)
+of_other other.Nofollow = (refl, refl)
+of_other other.Host = (refl, refl)
+of_other other.RequestRate = (refl, refl)
+of_other other.VisitTime = (refl, refl)
+of_other other.CleanParam = (refl, refl)
+of_other other.ContentSignal = (refl, refl)
+of_other other.ContentUsage = (refl, refl)
+of_other other.RobotVersion = (refl, refl)
+of_other other.Comment = (refl, refl)
+
+of_kind : (kind : Kind)
+    → AreAscii (key_fault_name (key.UnreadLike kind)) (key_fault_text (key.UnreadLike kind))
+of_kind kind.UserAgent = (refl, refl)
+of_kind kind.Allow = (refl, refl)
+of_kind kind.Disallow = (refl, refl)
+of_kind kind.CrawlDelay = (refl, refl)
+of_kind kind.Sitemap = (refl, refl)
+
+of_key : (fault : KeyFault) → AreAscii (key_fault_name fault) (key_fault_text fault)
+of_key key.DelayNotRead = (refl, refl)
+of_key (key.Other other) = of_other other
+of_key (key.UnreadLike kind) = of_kind kind
+of_key key.Unread = (refl, refl)
+of_key key.MisspelledKey = (refl, refl)
+of_key key.NoColon = (refl, refl)
+
+of_rule : (fault : RuleFault) → AreAscii (rule_fault_name fault) (rule_fault_text fault)
+of_rule rule.NotUtf8 = (refl, refl)
+of_rule rule.OddStart = (refl, refl)
+of_rule rule.WholeUrl = (refl, refl)
+of_rule rule.SpelledOtherwise = (refl, refl)
+of_rule rule.Quoted = (refl, refl)
+of_rule rule.RegularExpression = (refl, refl)
+of_rule rule.DollarInside = (refl, refl)
+of_rule rule.EscapeOtherwise = (refl, refl)
+of_rule rule.DotSegment = (refl, refl)
+
+of_place : (fault : PlaceFault) → AreAscii (place_fault_name fault) (place_fault_text fault)
+of_place place.RuleAboveAgents = (refl, refl)
+of_place place.EmptyGroup = (refl, refl)
+of_place place.PartedByDelay = (refl, refl)
+of_place place.BothWays = (refl, refl)
+
+of_cause : (cause : Cause) → AreAscii (cause_name cause) (cause_text cause)
+of_cause (cause.File fault) = of_file fault
+of_cause (cause.Agent fault) = of_agent fault
+of_cause (cause.Url fault) = of_url fault
+of_cause (cause.Key fault) = of_key fault
+of_cause (cause.Name NotAToken) = (refl, refl)
+of_cause (cause.Rule fault) = of_rule fault
+of_cause (cause.Delay AboveADay) = (refl, refl)
+of_cause (cause.Sitemap NoWholeUrl) = (refl, refl)
+of_cause (cause.Place fault) = of_place fault
+
+pub names_plain : (cause : Cause) → IsPlain (cause_name cause)
+names_plain cause = ascii_plain true (cause_name cause) (of_cause cause).0
+
+pub texts_plain : (cause : Cause) → IsPlain (cause_text cause)
+texts_plain cause = ascii_plain true (cause_text cause) (of_cause cause).1
+
+-- ---- warnings
+
+place_plain : (line : Option ℕ) → IsPlain (place_text line)
+place_plain None = nil_plain true
+place_plain (Some number) = search (append_plain true, ascii_plain true, decimal_plain true)
+
+name_plain : (cause : Cause) → IsPlain (name_text cause)
+name_plain cause = search (append_plain true, ascii_plain true, names_plain)
+
+warning_plain : (warning : WarningValue) → IsPlain (warning_line warning)
+warning_plain warning =
+    let head = codes "robots_audit: warning: " in
+    let place = place_text warning.line in
+    let front : IsPlain (head ++ place) =
+    append_plain true head place (ascii_plain true head refl) (place_plain warning.line) in
+    let text = warning_text_plain names_plain texts_plain warning in
+    let name = name_text warning.cause in
+    append_plain true (head ++ place) (warning_text warning ++ name) front
+    (append_plain true (warning_text warning) name text (name_plain warning.cause))
+
+pub said_plain : (asked : Asked) (audit : AuditValue) → IsPlain (said asked audit)
+said_plain asked audit =
+    either_plain asked.is_json [] (ended (warning_lines audit.warnings)) (nil_plain true)
+    (ended_plain (warning_lines audit.warnings) (each_map warning_line warning_plain audit.warnings))
+
+-- ---- rows
 
 fraction_plain : (digits millionths : ℕ) → IsPlain (fraction digits millionths)
-fraction_plain zero millionths = refl
+fraction_plain zero millionths = nil_plain true
 fraction_plain (suc digits) millionths =
-    let digit = decimal (millionths * 10 / million) in
-    let later = fraction digits (millionths * 10 % million) in
-    one_of (millionths == 0) [] (digit ++ later) refl
-    (both digit later (number (millionths * 10 / million))
-    (fraction_plain digits (millionths * 10 % million)))
+    either_plain (millionths == 0) [] _ (nil_plain true)
+    (append_plain true (decimal (millionths * 10 / million)) (fraction digits (millionths * 10 % million))
+    (decimal_plain true (millionths * 10 / million)) (fraction_plain digits (millionths * 10 % million)))
 
-delay_shown : (micros : ℕ) → IsPlain (delay_text micros)
-delay_shown micros =
+seconds_plain : (micros : ℕ) → IsPlain (seconds micros)
+seconds_plain micros =
     let millionths = micros % million in
-    let behind = cond (millionths == 0) [] (codes "." ++ fraction 6 millionths) in
-    let behind_is : IsPlain behind =
-    one_of (millionths == 0) [] (codes "." ++ fraction 6 millionths) refl (fraction_plain 6 millionths) in
-    of_four (seconds micros) (codes " s (") (decimal micros) (codes " microseconds)")
-    (both (decimal (micros / million)) behind (number (micros / million)) behind_is) refl (number micros) refl
+    let behind = codes "." ++ fraction 6 millionths in
+    let point : IsPlain behind =
+    append_plain true (codes ".") _ (ascii_plain true (codes ".") refl) (fraction_plain 6 millionths) in
+    append_plain true (decimal (micros / million)) _ (decimal_plain true (micros / million))
+    (either_plain (millionths == 0) [] behind (nil_plain true) point)
 
-value_shown : (line : LineValue) → IsPlain (value_text line)
-value_shown (UserAgent value) = shown value
-value_shown (Allow value) = shown value
-value_shown (Disallow value) = shown value
-value_shown (CrawlDelay None) = refl
-value_shown (CrawlDelay (Some micros)) = delay_shown micros
-value_shown (Sitemap value) = shown value
-value_shown (Raw body) = shown body
+delay_plain : (micros : ℕ) → IsPlain (delay_text micros)
+delay_plain micros = search (append_plain true, ascii_plain true, decimal_plain true, seconds_plain)
 
-in_column : (line : LineValue) → IsPlain (word_and_value line)
-in_column line =
+value_plain : (line : LineValue) → IsPlain (value_text line)
+value_plain (UserAgent value) = shown_plain value
+value_plain (Allow value) = shown_plain value
+value_plain (Disallow value) = shown_plain value
+value_plain (CrawlDelay None) = nil_plain true
+value_plain (CrawlDelay (Some micros)) = delay_plain micros
+value_plain (Sitemap value) = shown_plain value
+value_plain (Raw body) = shown_plain body
+
+mark_plain : (standing : Standing) → IsPlain (mark_text standing)
+mark_plain Own = ascii_plain true (codes "+") refl
+mark_plain Other = ascii_plain true (codes "-") refl
+mark_plain Outside = ascii_plain true (codes " ") refl
+
+column_plain : (line : LineValue) → IsPlain (word_and_value line)
+column_plain line =
     let word = kind_text line in
-    let wide : ℕ = word_width - length word in
-    one_of (has_value line) (word ++ replicate wide space ++ value_text line) word
-    (both (word ++ replicate wide space) (value_text line)
-    (both word (replicate wide space) (kind line) (blanks wide)) (value_shown line)) (kind line)
+    let blanks = replicate (word_width - length word) space in
+    either_plain (has_value line) (word ++ blanks ++ value_text line) word
+    (append_plain true (word ++ blanks) (value_text line)
+    (append_plain true word blanks (kind_plain line) (blanks_plain true (word_width - length word)))
+    (value_plain line)) (kind_plain line)
+
+aligned_plain : (width : ℕ) (text : List ℕ) → IsPlain text → IsPlain (right_aligned width text)
+aligned_plain width text is =
+    append_plain true (replicate (width - length text) space) text
+    (blanks_plain true (width - length text)) is
 
 row_plain : (width : ℕ) (mark : Mark) → IsPlain (row width mark)
 row_plain width mark =
-    let digits_of = decimal mark.number in
-    let front = right_aligned width digits_of in
-    let sign_of = mark_text mark.standing in
-    let aligned : IsPlain front =
-    both (replicate (width - length digits_of) space) digits_of (blanks (width - length digits_of))
-    (number mark.number) in
-    both (front ++ codes " " ++ sign_of ++ codes " ") (word_and_value mark.line)
-    (of_four front (codes " ") sign_of (codes " ") aligned refl (marked mark.standing) refl)
-    (in_column mark.line)
+    search (append_plain true, ascii_plain true, aligned_plain, decimal_plain true, mark_plain, column_plain)
+    depth 9
 
-rows_plain : (marks : List Mark) → Each IsPlain (rows marks)
-rows_plain marks =
-    let width = length (decimal (length marks)) in
-    each_mapped (row width) (row_plain width) marks
+-- ---- what each agent gets
 
-unnamed_plain : (lines : List LineValue) → IsPlain (unnamed_group lines)
-unnamed_plain lines = elim (cases_Bool (is_named (codes "*") lines)) [
-  | inl is ↦ rw is refl
-  | inr isnt ↦ rw isnt (elim (cases_Bool (list_any is_agent lines)) [
-    | inl some ↦ rw some refl
-    | inr none ↦ rw none refl
-  ])
-]
+group_plain : (agent : List ℕ) (group : Group) → IsPlain (group_line agent group)
+group_plain agent Named = search (append_plain true, ascii_plain true, shown_plain)
+group_plain agent Star = ascii_plain true (group_line agent Star) refl
+group_plain agent Nobody = ascii_plain true (group_line agent Nobody) refl
+group_plain agent Everyone = ascii_plain true (group_line agent Everyone) refl
 
-group_plain : (agent : List ℕ) (lines : List LineValue) → IsPlain (group_line agent lines)
-group_plain agent lines = elim (cases_Bool (is_named agent lines)) [
-  | inl is ↦ rw (is, list_all-append, shown agent) refl
-  | inr isnt ↦ rw isnt (unnamed_plain lines)
-]
-
-delay_plain : (delay : Option ℕ) → IsPlain (delay_line delay)
-delay_plain None = refl
-delay_plain (Some micros) = delay_shown micros
-
-notes_plain : (file : List ℕ) → Each IsPlain (note_lines file)
-notes_plain file = elim (cases_Bool (nat_lt file_limit (length file))) [
-  | inl is ↦ rw is (refl, tt)
-  | inr isnt ↦ rw isnt tt
-]
-
-word_plain : (allowed : Bool) → IsPlain (verdict_word allowed)
-word_plain true = refl
-word_plain false = refl
-
-line_plain : (line : Option ℕ) → IsPlain (line_text line)
-line_plain None = refl
-line_plain (Some n) = number n
+delay_line_plain : (delay : Option ℕ) → IsPlain (delay_line delay)
+delay_line_plain None = ascii_plain true (codes "delay none") refl
+delay_line_plain (Some micros) = search (append_plain true, ascii_plain true, delay_plain)
 
 front_plain : (allowed : Bool) (line : Option ℕ) → IsPlain (verdict_front allowed line)
-front_plain allowed line =
-    both (verdict_word allowed ++ line_text line) (codes " ")
-    (both (verdict_word allowed) (line_text line) (word_plain allowed) (line_plain line)) refl
+front_plain true None = ascii_plain true (verdict_front true None) refl
+front_plain false None = ascii_plain true (verdict_front false None) refl
+front_plain true (Some line) = search (append_plain true, ascii_plain true, decimal_plain true)
+front_plain false (Some line) = search (append_plain true, ascii_plain true, decimal_plain true)
 
-verdicts_plain : (rules : List PlacedRule) (urls lines : List (List ℕ))
-    → AllZip (IsVerdictLine escaped rules) urls lines → Each IsPlain lines
-verdicts_plain rules [] [] are = tt
-verdicts_plain rules [] (line ∷ lines) are = absurd are
-verdicts_plain rules (url ∷ urls) [] are = absurd are
-verdicts_plain rules (url ∷ urls) (line ∷ lines) (first, later) =
-    let decision = first.decision in (
-      subst IsPlain (sym first.whole)
-          (both (verdict_front decision.allowed decision.line) (escaped url)
-          (front_plain decision.allowed decision.line) (shown url)),
-      verdicts_plain rules urls lines later,
-    )
+verdict_plain : (verdict : VerdictValue) → IsPlain (verdict_line verdict)
+verdict_plain verdict = search (append_plain true, front_plain, shown_plain)
 
-row_lines_plain : (is_quiet : Bool) (marks : List Mark) → Each IsPlain (row_lines is_quiet marks)
-row_lines_plain true marks = tt
-row_lines_plain false marks = rows_plain marks
+agent_plain : (agent : AgentValue) → Each IsPlain (agent_lines agent)
+agent_plain agent = (
+  group_plain agent.agent agent.group,
+  (delay_line_plain agent.delay, each_map verdict_line verdict_plain agent.verdicts),
+)
 
-pub report_plain : (asked : Asked) (file text : List ℕ) (answer : Bool)
-    → IsReport asked file text answer → IsPlain text
-report_plain asked file text answer is =
-    let agent = asked.agent in
-    let lines = lines_read file in
-    let said = is.whole.verdict_lines in
-    let delay = delay_for agent lines in
-    let back : List (List ℕ) = group_line agent lines ∷ delay_line delay ∷ (note_lines file ++ said) in
-    let verdicts : Each IsPlain said = verdicts_plain (placed_rules agent lines) asked.urls said
-    is.whole.verdicts in
-    let ending = each_both (note_lines file) said (notes_plain file) verdicts in
-    let above : List (List ℕ) = row_lines asked.is_quiet (marks_for agent lines) in
-    let all : Each IsPlain (above ++ back) =
-    each_both above back (row_lines_plain asked.is_quiet (marks_for agent lines))
-    (group_plain agent lines, (delay_plain delay, ending)) in
-    subst IsPlain (sym is.whole.whole) (in_lines (above ++ back) all)
+-- ---- all
 
--- ---- the warnings
+report_plain : (has_rows : Bool) (audit : AuditValue) → Each IsPlain (report_lines has_rows audit)
+report_plain true audit =
+    each_append IsPlain (rows audit.marks) (flat_map agent_lines audit.agents)
+    (each_map (row (length (decimal (length audit.marks))))
+    (row_plain (length (decimal (length audit.marks)))) audit.marks)
+    (each_flat agent_lines agent_plain audit.agents)
+report_plain false audit = each_flat agent_lines agent_plain audit.agents
 
-warned_plain : (cause : Bool) (text : List ℕ) → IsPlain text → Each IsPlain (warned cause text)
-warned_plain true text is = (is, tt)
-warned_plain false text is = tt
-
-rule_plain : (cause : Bool) (n : ℕ) (said : List ℕ) → IsPlain said
-    → Each IsPlain (warned cause (rule_text n said))
-rule_plain cause n said is =
-    warned_plain cause (rule_text n said)
-    (of_four (codes "the rule in line ") (decimal n) (codes " ") said refl (number n) refl is)
-
-start_plain : (n : ℕ) (value : List ℕ) → Each IsPlain (start_warnings n value)
-start_plain n value = rule_plain (not (begins_as_rule value)) n _ refl
-
-bytes_plain : (n : ℕ) (value : List ℕ) → Each IsPlain (byte_warnings n value)
-bytes_plain n value = rule_plain (holds_otherwise false value) n _ refl
-
-value_plain : (b : Bool) (n : ℕ) (value : List ℕ) → Each IsPlain (cond b (value_warnings n value) [])
-value_plain false n value = tt
-value_plain true n value = elim (cases_Bool (is_utf8 value)) [
-  | inl is ↦ rw is (each_both (start_warnings n value) (byte_warnings n value) (start_plain n value)
-      (bytes_plain n value))
-  | inr isnt ↦ rw isnt (rule_plain true n (codes "isn't UTF-8, so it is left out") refl)
-]
-
-mark_plain : (mark : Mark) → Each IsPlain (mark_warnings mark)
-mark_plain mark = of_line (is_own mark.standing) mark.number mark.line
-  where
-    of_line : (captured : Bool) (n : ℕ) (line : LineValue) → Each IsPlain (rule_warnings captured n line)
-    of_line captured n (UserAgent value) = tt
-    of_line captured n (Allow value) = value_plain captured n value
-    of_line captured n (Disallow value) = value_plain captured n value
-    of_line captured n (CrawlDelay delay) = tt
-    of_line captured n (Sitemap value) = tt
-    of_line captured n (Raw body) = tt
-
-pub warnings_plain : (agent : List ℕ) (urls : List (List ℕ)) (marks : List Mark)
-    → IsPlain (ended (warnings agent urls marks))
-warnings_plain agent urls marks =
-    in_lines _ (each_both (agent_warnings agent) _
-    (each_both (space_warnings agent) _ (warned_plain _ _ refl) (warned_plain _ _ refl))
-    (each_both (flat_map url_warnings urls) _
-    (each_flat url_warnings (λ url. warned_plain _ _ (shown url)) urls)
-    (each_flat mark_warnings mark_plain marks)))
+pub output_plain : (asked : Asked) (audit : AuditValue) → IsPlain (output asked audit)
+output_plain asked audit =
+    let rows = has_rows asked in
+    either_plain asked.is_json (json_text rows audit) (ended (report_lines rows audit))
+    (json_plain names_plain texts_plain rows audit)
+    (ended_plain (report_lines rows audit) (report_plain rows audit))

@@ -1,13 +1,15 @@
--- How warnings are made.
-use Rattle.std.proofs.Common.{◌≡◌, ℕ, ◌+◌, ◌<◌, ◌==◌, ◌||◌}
-use Rattle.std.proofs.Common.{drop, length, refl, slice_index_or, Bool, List}
-use Rattle.std.proofs.lemmas.List.{drop_more}
-use Rattle.robots_audit.specs.Warnings.{holds_otherwise}
-use Rattle.robots_audit.specs.Warnings.{is_spelled_otherwise}
+-- How warnings are found one after another.
+use Rattle.std.proofs.Common.{◌≡◌, ℕ, ◌+◌, ◌<◌, List, ◌++◌, append_assoc, flat_map}
+use Rattle.std.proofs.Common.{length}
+use Rattle.std.proofs.Common.{slice_index_or, take}
+use Rattle.std.proofs.lemmas.Grind.{flat_map-append}
+use Rattle.std.proofs.lemmas.List.{append-nil, take_more}
+use Rattle.robots_audit.specs.Warnings.{WarningValue}
 
--- whether a value holds such a byte from one place on, by its byte there
-pub otherwise_at : (in_query : Bool) (value : List ℕ) (at byte : ℕ) → at < length value
-    → holds_otherwise in_query (drop at value)
-    ≡ (is_spelled_otherwise in_query (slice_index_or value at byte)
-    || holds_otherwise (in_query || slice_index_or value at byte == 63) (drop (at + 1) value))
-otherwise_at in_query value at byte below = rw (drop_more value at byte below) refl
+-- what is found of one item more
+pub found_next : {X : Type 0} (f : X → List WarningValue) (items : List X) (place : ℕ) (item : X)
+    (old mid new : List WarningValue) → place < length items
+    → mid ≡ old ++ flat_map f (take place items) → new ≡ mid ++ f (slice_index_or items place item)
+    → new ≡ old ++ flat_map f (take (place + 1) items)
+found_next f items place item old mid new below before added =
+    rw (added, before, take_more items place item below, flat_map-append) (simp (append_assoc, append-nil))

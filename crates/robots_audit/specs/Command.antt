@@ -1,6 +1,7 @@
 -- What the words behind the program's name ask for, by what `clap` found in them.
-use Rattle.std.specs.Prelude.{◌≡◌, ◌⊎◌, ℕ, Bool, true, false, List, [], Option, Some, None}
-use Rattle.std.specs.Prelude.{Result, Ok, Err, bytes_eq, codes, if◌then◌else◌, map, option_map}
+use Rattle.std.specs.Prelude.{◌≡◌, ◌⊎◌, ℕ, Bool, true, false, List, [], ◌∷◌, ◌++◌}
+use Rattle.std.specs.Prelude.{Option, Some, None}
+use Rattle.std.specs.Prelude.{Result, Ok, Err, bytes_eq, codes, if◌then◌else◌, is_none, map, option_map}
 use Rattle.std.specs.Option.{option_map_or}
 use Rattle.clap.specs.Words.{first_value, found_of, matched_of, one_text, raw_values}
 use Rattle.clap.specs.declared.parser.matches.ArgMatches.{ArgMatches}
@@ -16,6 +17,10 @@ value_of matches id = first_value (found_of matches) id
 abbrev pub values_of : ArgMatches → List ℕ → List (List ℕ)
 values_of matches id = option_map_or raw_values (matched_of (found_of matches) id) []
 
+-- the words that are no options
+abbrev pub words_of : ArgMatches → List (List ℕ)
+words_of matches = values_of matches (codes "agent") ++ values_of matches (codes "url")
+
 -- an option is on, or off
 abbrev pub IsOn : ArgMatches → List ℕ → Bool → Type 0
 IsOn matches id answer =
@@ -28,15 +33,21 @@ abbrev pub file_read : Option (List ℕ) → Option (List ℕ)
 file_read None = None
 file_read (Some name) = if bytes_eq name (codes "-") then None else Some name
 
+-- the words are an agent and URLs; where each agent is asked for, all of them are URLs
+abbrev pub AreWordsOf : Option (List ℕ) → List (List ℕ) → List (List ℕ) → Type 0
+AreWordsOf (Some agent) urls words = words ≡ agent ∷ urls
+AreWordsOf None urls words = words ≡ urls
+
 pub record IsRequestOf (matches : ArgMatches) (request : Request) : Type 0 where
   pub file : option_map (λ name. name.now) request.file ≡ file_read (value_of matches (codes "file"))
   pub quiet : IsOn matches (codes "quiet") request.is_quiet
+  pub json : IsOn matches (codes "json") request.is_json
   pub strict : IsOn matches (codes "strict") request.is_strict
-  pub agent : value_of matches (codes "agent") ≡ Some request.agent.now
-  pub urls : map (λ url. url.now) request.urls.items ≡ values_of matches (codes "url")
+  pub agents : IsOn matches (codes "agents") (is_none request.agent)
+  pub words : AreWordsOf (option_map (λ agent. agent.now) request.agent)
+      (map (λ url. url.now) request.urls.items) (words_of matches)
 
 -- a request, or a fault: no agent was given, or memory is wanting
 abbrev pub Asks : ArgMatches → Result Request Fault → Type 0
 Asks matches (Ok request) = IsRequestOf matches request
-Asks matches (Err fault) =
-    ((value_of matches (codes "agent") ≡ None) × (fault ≡ Usage)) ⊎ (fault ≡ Memory)
+Asks matches (Err fault) = ((words_of matches ≡ []) × (fault ≡ Usage)) ⊎ (fault ≡ Memory)

@@ -1,6 +1,7 @@
 -- What the program says where it stops, and the status that it ends with.
-use Rattle.std.specs.Prelude.{ℕ, ◌==◌, not, ◌&&◌, List, [], ◌∷◌, ◌++◌, Result, Ok, Err}
-use Rattle.std.specs.Prelude.{codes, decimal, if◌then◌else◌, length, string_bytes}
+use Rattle.std.specs.Prelude.{ℕ, not, ◌&&◌, List, [], ◌∷◌, ◌++◌, Result, Ok, Err}
+use Rattle.std.specs.Prelude.{⊤, Contains, codes, decimal, if◌then◌else◌, string_bytes}
+use Rattle.texting_robots.specs.Callers.{IsFirstOverlong, lines_read, placed_rules}
 use Rattle.robots_io.specs.Lines.{lf}
 use Rattle.robots_io.specs.declared.ends.ReadFault.{ReadFault}
 use Rattle.robots_io.specs.declared.ends.ReadFault.TheVariants as read
@@ -48,8 +49,23 @@ said_after (Err fault) = fault_text fault
 abbrev pub status_after : Result Outcome Fault → ℕ
 status_after (Ok outcome) =
     if not outcome.all_allowed then 1
-    else if outcome.is_strict && not (length (string_bytes outcome.warnings) == 0) then 1 else 0
+    else if outcome.is_strict && outcome.is_warned then 1 else 0
 status_after (Err fault) = 2
+
+-- ---- when
+
+-- a run on the file for these agents may end with this fault: nothing is claimed of when a read, a write or a
+-- request for memory fails
+abbrev pub MayFail : List (List ℕ) → Fault → List ℕ → Type 0
+MayFail agents (Words text) file = ⊥
+MayFail agents Usage file = ⊥
+MayFail agents NotUtf8 file = ⊥
+MayFail agents (File name) file = ⊥
+MayFail agents Read file = ⊤
+MayFail agents Write file = ⊤
+MayFail agents (InvalidRule line) file =
+    (agent : List ℕ) × Contains agents agent × IsFirstOverlong (placed_rules agent (lines_read file)) line
+MayFail agents Memory file = ⊤
 
 -- what a fault of reading comes to
 abbrev pub fault_of_read : ReadFault → Fault

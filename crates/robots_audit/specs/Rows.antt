@@ -3,9 +3,10 @@ use Rattle.std.specs.Prelude.{ℕ, ◌-◌, ◌==◌, Bool, true, not, ◌||◌}
 use Rattle.std.specs.Prelude.{◌&&◌, List, [], ◌∷◌, ◌++◌, Some, None, codes}
 use Rattle.std.specs.Prelude.{decimal, if◌then◌else◌, is_some, length, map, replicate}
 use Rattle.texting_robots.specs.Callers.{Allow, CrawlDelay, Disallow, LineValue, Mark, Raw, Sitemap}
-use Rattle.texting_robots.specs.Callers.{UserAgent, escaped, group_name, marks_of}
+use Rattle.texting_robots.specs.Callers.{UserAgent, group_name, marks_of}
 use Rattle.texting_robots.specs.declared.marks.Standing.{Standing}
 use Rattle.robots_audit.specs.Delay.{delay_text}
+use Rattle.robots_audit.specs.Shown.{shown}
 use Rattle.texting_robots.specs.declared.marks.Standing.TheVariants.{Other, Outside, Own}
 
 -- ---- columns
@@ -49,15 +50,15 @@ kind_text (CrawlDelay delay) = codes "crawl-delay"
 kind_text (Sitemap value) = codes "sitemap"
 kind_text (Raw body) = if is_blank body then codes "blank" else codes "unread"
 
--- its value, escaped as rules are, or how a delay is shown
+-- its value as it is shown, or how a delay is shown
 abbrev pub value_text : LineValue → List ℕ
-value_text (UserAgent value) = escaped value
-value_text (Allow value) = escaped value
-value_text (Disallow value) = escaped value
+value_text (UserAgent value) = shown value
+value_text (Allow value) = shown value
+value_text (Disallow value) = shown value
 value_text (CrawlDelay None) = []
 value_text (CrawlDelay (Some micros)) = delay_text micros
-value_text (Sitemap value) = escaped value
-value_text (Raw body) = escaped body
+value_text (Sitemap value) = shown value
+value_text (Raw body) = shown body
 
 -- there is such a text
 abbrev pub has_value : LineValue → Bool

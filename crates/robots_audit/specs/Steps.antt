@@ -1,19 +1,32 @@
--- What the steps of the program do.
-use Rattle.std.specs.Prelude.{ℕ, Bool, List, ◌∷◌, ◌++◌, Option}
-use Rattle.texting_robots.specs.Callers.{Mark, PlacedRule, escaped, unplaced}
-use Rattle.robots_audit.specs.Delay.{delay_line}
-use Rattle.robots_io.specs.Verdicts.{AddsVerdicts}
-use Rattle.robots_audit.specs.Report.{AreAllowed, Asked, group_line, note_lines, row_lines}
-use Rattle.robots_audit.specs.Rows.{lines_of}
+-- What the program keeps, by value.
+pub mod BothWays
+use Rattle.std.specs.Prelude.{map, string_bytes}
+use Rattle.texting_robots.specs.Callers.{mark_by_value}
+use Rattle.robots_audit.specs.declared.audit.AgentAudit.{AgentAudit}
+use Rattle.robots_audit.specs.declared.audit.Audit.{Audit}
+use Rattle.robots_audit.specs.declared.audit.Verdict.{Verdict}
+use Rattle.robots_audit.specs.declared.warning.Warning.{Warning}
+use Rattle.robots_audit.specs.Audit.{AgentValue, AuditValue, VerdictValue}
+use Rattle.robots_audit.specs.Warnings.{WarningValue}
 
--- what stands in a report before the verdicts
-abbrev pub front_lines : Asked → List ℕ → List Mark → Option ℕ → List (List ℕ)
-front_lines asked file marks delay =
-    row_lines asked.is_quiet marks
-    ++ (group_line asked.agent (lines_of marks) ∷ delay_line delay ∷ note_lines file)
+abbrev pub verdict_value : Verdict → VerdictValue
+verdict_value verdict = record { url = verdict.url.now; decision = verdict.decision }
 
--- the verdict on each URL was added, a line each, and the answer says whether all are allowed
-pub record Judges (rules : List PlacedRule) (urls : List (List ℕ)) (old new : List ℕ) (all_allowed : Bool)
-    : Type 0 where
-  pub added : AddsVerdicts escaped rules urls old new
-  pub answer : AreAllowed (unplaced rules) urls all_allowed
+abbrev pub warning_value : Warning → WarningValue
+warning_value warning =
+    record { line = warning.line; cause = warning.cause; about = warning.about.now }
+
+abbrev pub agent_value : AgentAudit → AgentValue
+agent_value audit = record {
+  agent = string_bytes audit.agent;
+  group = audit.group;
+  delay = audit.delay;
+  verdicts = map verdict_value audit.verdicts.items;
+}
+
+abbrev pub audit_value : Audit → AuditValue
+audit_value audit = record {
+  marks = map mark_by_value audit.marks.items;
+  agents = map agent_value audit.agents.items;
+  warnings = map warning_value audit.warnings.items;
+}

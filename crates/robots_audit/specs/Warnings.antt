@@ -1,108 +1,205 @@
--- What the program warns of: what silently means something other than it seems.
-use Rattle.std.specs.Prelude.{ℕ, ◌==◌, nat_eq, Bool, true, false, not, ◌||◌, List, [], ◌∷◌}
-use Rattle.std.specs.Prelude.{◌++◌, bytes_eq, codes, decimal, flat_map, if◌then◌else◌}
-use Rattle.std.specs.List.{list_any, starts_with}
-use Rattle.std.specs.Str.{byte, is_utf8, str_to_ascii_lowercase, trim}
-use Rattle.texting_robots.specs.Callers.{Allow, CrawlDelay, Disallow, LineValue, Mark, Raw}
-use Rattle.texting_robots.specs.Callers.{Sitemap, UserAgent, escaped, is_own}
+-- What is warned of: what silently means something other than it seems.
+use Rattle.std.specs.Prelude.{ℕ, Bool, true, false, List, [], ◌∷◌, ◌++◌, Option, Some, None}
+use Rattle.std.specs.Prelude.{codes, decimal}
+use Rattle.std.specs.Prelude.{flat_map, if◌then◌else◌, map}
+use Rattle.std.specs.Option.{option_map_or}
+use Rattle.texting_robots.specs.Callers.{Allow, CrawlDelay, Disallow, LineValue, Mark, Raw, Sitemap}
+use Rattle.texting_robots.specs.Callers.{UserAgent, is_own}
+use Rattle.texting_robots.specs.declared.marks.Standing.{Standing}
+use Rattle.robots_audit.specs.declared.file_faults.FileFault.{FileFault}
+use Rattle.robots_audit.specs.declared.place_faults.PlaceFault.{PlaceFault}
+use Rattle.robots_audit.specs.declared.file_faults.FileFault.TheVariants.{BytesBeyond, NothingRead, SeemsPage}
+use Rattle.robots_audit.specs.declared.file_faults.FileFault.TheVariants.{SeemsUtf16}
+use Rattle.robots_audit.specs.declared.place_faults.PlaceFault.TheVariants.{BothWays}
+use Rattle.robots_audit.specs.declared.value_faults.DelayFault.TheVariants.{AboveADay}
+use Rattle.robots_audit.specs.declared.value_faults.SitemapFault.TheVariants.{NoWholeUrl}
+use Rattle.robots_audit.specs.declared.warning.Cause.{Cause}
+use Rattle.robots_audit.specs.declared.warning.Cause.TheVariants as cause
+use Rattle.robots_audit.specs.BothWays.{both_ways}
+use Rattle.robots_audit.specs.FileFaults.{file_fault, file_fault_name, file_fault_text, has_bytes_beyond}
+use Rattle.robots_audit.specs.FileFaults.{is_read}
+use Rattle.robots_audit.specs.KeyFaults.{key_fault_holds, key_fault_name, key_fault_text, read_faults}
+use Rattle.robots_audit.specs.KeyFaults.{unread_fault}
+use Rattle.robots_audit.specs.NameFaults.{name_fault_holds, name_fault_name, name_fault_text, name_faults}
+use Rattle.robots_audit.specs.PlaceFaults.{place_fault_name, place_fault_text, place_faults}
+use Rattle.robots_audit.specs.RuleFaults.{rule_fault_holds, rule_fault_name, rule_fault_text, rule_faults}
+use Rattle.robots_audit.specs.Scopes.{scoped_rules}
+use Rattle.robots_audit.specs.Shown.{shown}
+use Rattle.robots_audit.specs.ValueFaults.{delay_fault_holds, delay_fault_name, delay_fault_text}
+use Rattle.robots_audit.specs.ValueFaults.{sitemap_fault_holds, sitemap_fault_name, sitemap_fault_text}
+use Rattle.robots_audit.specs.WordFaults.{agent_fault_holds, agent_fault_name, agent_fault_text, agent_faults}
+use Rattle.robots_audit.specs.WordFaults.{url_fault, url_fault_name, url_fault_text}
+
+-- a warning: the number of its line, where it has one; why; and the URL that it is about, else nothing
+pub record WarningValue : Type 0 where
+  pub line : Option ℕ
+  pub cause : Cause
+  pub about : List ℕ
+
+-- what a warning's cause is called
+abbrev pub cause_name : Cause → List ℕ
+cause_name (cause.File fault) = file_fault_name fault
+cause_name (cause.Agent fault) = agent_fault_name fault
+cause_name (cause.Url fault) = url_fault_name fault
+cause_name (cause.Key fault) = key_fault_name fault
+cause_name (cause.Name fault) = name_fault_name fault
+cause_name (cause.Rule fault) = rule_fault_name fault
+cause_name (cause.Delay fault) = delay_fault_name fault
+cause_name (cause.Sitemap fault) = sitemap_fault_name fault
+cause_name (cause.Place fault) = place_fault_name fault
+
+-- what is said of it
+abbrev pub cause_text : Cause → List ℕ
+cause_text (cause.File fault) = file_fault_text fault
+cause_text (cause.Agent fault) = agent_fault_text fault
+cause_text (cause.Url fault) = url_fault_text fault
+cause_text (cause.Key fault) = key_fault_text fault
+cause_text (cause.Name fault) = name_fault_text fault
+cause_text (cause.Rule fault) = rule_fault_text fault
+cause_text (cause.Delay fault) = delay_fault_text fault
+cause_text (cause.Sitemap fault) = sitemap_fault_text fault
+cause_text (cause.Place fault) = place_fault_text fault
+
+-- ---- as text
+
+abbrev pub place_text : Option ℕ → List ℕ
+place_text None = []
+place_text (Some number) = codes "line " ++ decimal number ++ codes ": "
+
+-- the URL behind what is said of it
+abbrev pub about_text : List ℕ → List ℕ
+about_text [] = []
+about_text (b ∷ about) = codes ": " ++ shown (b ∷ about)
+
+abbrev pub name_text : Cause → List ℕ
+name_text cause = codes " [" ++ cause_name cause ++ codes "]"
+
+-- what is said
+abbrev pub warning_text : WarningValue → List ℕ
+warning_text warning = cause_text warning.cause ++ about_text warning.about
+
+-- what stands before that
+abbrev pub warning_front : Option ℕ → List ℕ
+warning_front line = codes "robots_audit: warning: " ++ place_text line
+
+abbrev pub warning_line : WarningValue → List ℕ
+warning_line warning =
+    warning_front warning.line ++ (warning_text warning ++ name_text warning.cause)
+
+abbrev pub warning_lines : List WarningValue → List (List ℕ)
+warning_lines warnings = map warning_line warnings
+
+-- ---- of the file, the agent and the URLs
+
+-- of the file or the agent
+abbrev pub general : Cause → WarningValue
+general cause = record { line = None; cause = cause; about = [] }
+
+-- of a line
+abbrev pub of_line : ℕ → Cause → WarningValue
+of_line number cause = record { line = Some number; cause = cause; about = [] }
 
 -- the warning, if there is cause for it
-abbrev pub warned : Bool → List ℕ → List (List ℕ)
-warned cause text = if cause then (codes "robots_audit: warning: " ++ text) ∷ [] else []
+abbrev pub warned : Bool → WarningValue → List WarningValue
+warned holds warning = if holds then warning ∷ [] else []
 
--- ---- the agent
+abbrev pub file_warnings : List ℕ → List Mark → List WarningValue
+file_warnings file marks =
+    option_map_or (λ fault. general (cause.File fault) ∷ []) (file_fault file marks) []
+    ++ warned (has_bytes_beyond file) (general (cause.File BytesBeyond))
 
--- white space, as Unicode has it, stands first or last in the text
-abbrev pub has_space_around : List ℕ → Bool
-has_space_around text = not (bytes_eq (trim text) text)
+abbrev pub agent_warnings : Option (List ℕ) → List ℕ → List WarningValue
+agent_warnings None file = []
+agent_warnings (Some agent) file =
+    flat_map (λ fault. warned (agent_fault_holds fault agent file) (general (cause.Agent fault)))
+    agent_faults
 
-abbrev pub space_warnings : List ℕ → List (List ℕ)
-space_warnings agent =
-    warned (has_space_around agent) (codes "the agent has white space around it, so no line names it")
-
-abbrev pub slash_warnings : List ℕ → List (List ℕ)
-slash_warnings agent =
-    warned (list_any (λ b. b == byte "/") agent)
-    (codes "the agent has a / in it: a name is compared whole, and a version isn't taken off")
-
-abbrev pub agent_warnings : List ℕ → List (List ℕ)
-agent_warnings agent = space_warnings agent ++ slash_warnings agent
-
--- ---- URLs
-
--- the text begins as a URL of a site does, ASCII letters of its scheme in any case
-abbrev pub is_url : List ℕ → Bool
-is_url url =
-    let lowered = str_to_ascii_lowercase url in
-    starts_with nat_eq lowered (codes "http://") || starts_with nat_eq lowered (codes "https://")
-
-abbrev pub is_url_or_path : List ℕ → Bool
-is_url_or_path url = is_url url || starts_with nat_eq url (codes "/")
-
-abbrev pub url_warnings : List ℕ → List (List ℕ)
+abbrev pub url_warnings : List ℕ → List WarningValue
 url_warnings url =
-    warned (not (is_url_or_path url))
-    (codes "a URL begins with neither http:// nor https:// nor /: " ++ escaped url)
+    option_map_or (λ fault. record { line = None; cause = cause.Url fault; about = url } ∷ [])
+    (url_fault url) []
 
--- ---- rules
+-- ---- of a line
 
--- the value begins with a slash or a star
-abbrev pub begins_as_rule : List ℕ → Bool
-begins_as_rule [] = false
-begins_as_rule (b ∷ value) = b == byte "/" || b == byte "*"
+abbrev pub name_warnings : ℕ → List ℕ → List WarningValue
+name_warnings number value =
+    flat_map (λ fault. warned (name_fault_holds fault value) (of_line number (cause.Name fault))) name_faults
 
--- a byte that, inside a rule, a URL of a site has otherwise: escaped in only one of the two, taken for `/`,
--- or taken out
-abbrev pub is_spelled_otherwise : Bool → ℕ → Bool
-is_spelled_otherwise in_query b =
-    if in_query then (b == byte "\t" || (b == byte "'" || b == byte "`"))
-    else (b == byte "\t" || (b == byte "\\" || (b == byte "^" || (b == byte "{" || b == byte "}"))))
+abbrev pub rule_warnings : ℕ → List ℕ → List WarningValue
+rule_warnings number value =
+    flat_map (λ fault. warned (rule_fault_holds fault value) (of_line number (cause.Rule fault))) rule_faults
 
--- the value holds such a byte; what follows a `?` is a query, and that a star may reach into one isn't
--- looked at
-abbrev pub holds_otherwise : Bool → List ℕ → Bool
-holds_otherwise in_query [] = false
-holds_otherwise in_query (b ∷ value) =
-    is_spelled_otherwise in_query b || holds_otherwise (in_query || b == byte "?") value
+-- of the key of a line that is read and has this body
+abbrev pub key_warnings : ℕ → List ℕ → List WarningValue
+key_warnings number body =
+    flat_map (λ fault. warned (key_fault_holds fault body) (of_line number (cause.Key fault))) read_faults
 
--- what is said of the rule in the line with this number
-abbrev pub rule_text : ℕ → List ℕ → List ℕ
-rule_text number said = codes "the rule in line " ++ decimal number ++ codes " " ++ said
+-- of a delay line; one that gives no delay isn't read as one
+abbrev pub delay_warnings : ℕ → Option ℕ → List WarningValue
+delay_warnings number None = []
+delay_warnings number (Some micros) =
+    warned (delay_fault_holds AboveADay micros) (of_line number (cause.Delay AboveADay))
 
-abbrev pub start_warnings : ℕ → List ℕ → List (List ℕ)
-start_warnings number value =
-    warned (not (begins_as_rule value)) (rule_text number (codes "begins with neither / nor *"))
+-- of what a line holds; rules are warned of where `is_asked` says so
+abbrev pub value_warnings : Bool → ℕ → LineValue → List WarningValue
+value_warnings is_asked number (UserAgent value) = name_warnings number value
+value_warnings is_asked number (Allow value) = if is_asked then rule_warnings number value else []
+value_warnings is_asked number (Disallow value) = if is_asked then rule_warnings number value else []
+value_warnings is_asked number (CrawlDelay delay) = delay_warnings number delay
+value_warnings is_asked number (Sitemap value) =
+    warned (sitemap_fault_holds NoWholeUrl value) (of_line number (cause.Sitemap NoWholeUrl))
+value_warnings is_asked number (Raw body) =
+    option_map_or (λ fault. of_line number (cause.Key fault) ∷ []) (unread_fault body) []
 
-abbrev pub byte_warnings : ℕ → List ℕ → List (List ℕ)
-byte_warnings number value =
-    warned (holds_otherwise false value)
-    (rule_text number (codes "has a byte that a whole URL spells otherwise: "
-    ++ codes "^, {, } or \\ in its path, ' or ` in its query, or a tab"))
+-- rules are warned of where they are captured, or everywhere
+abbrev pub is_asked_of : Bool → Standing → Bool
+is_asked_of everywhere standing = if everywhere then true else is_own standing
 
-abbrev pub text_warnings : ℕ → List ℕ → List (List ℕ)
-text_warnings number value = start_warnings number value ++ byte_warnings number value
+-- of a line with this body
+abbrev pub line_warnings : Bool → Mark → List ℕ → List WarningValue
+line_warnings everywhere mark body =
+    (if is_read mark.line then key_warnings mark.number body else [])
+    ++ value_warnings (is_asked_of everywhere mark.standing) mark.number mark.line
 
--- of a value that isn't UTF-8 nothing else is said
-abbrev pub value_warnings : ℕ → List ℕ → List (List ℕ)
-value_warnings number value =
-    if is_utf8 value then text_warnings number value
-    else warned true (rule_text number (codes "isn't UTF-8, so it is left out"))
+-- of lines, each with its body
+abbrev pub lines_warnings : Bool → List (List ℕ) → List Mark → List WarningValue
+lines_warnings everywhere [] marks = []
+lines_warnings everywhere (body ∷ bodies) [] = []
+lines_warnings everywhere (body ∷ bodies) (mark ∷ marks) =
+    line_warnings everywhere mark body ++ lines_warnings everywhere bodies marks
 
--- of a line: only a captured Allow or Disallow is warned of
-abbrev pub rule_warnings : Bool → ℕ → LineValue → List (List ℕ)
-rule_warnings captured number (Allow value) = if captured then value_warnings number value else []
-rule_warnings captured number (Disallow value) = if captured then value_warnings number value else []
-rule_warnings captured number (UserAgent value) = []
-rule_warnings captured number (CrawlDelay delay) = []
-rule_warnings captured number (Sitemap value) = []
-rule_warnings captured number (Raw body) = []
+-- the file seems to be something else, so that each of its lines would be warned of
+abbrev pub hides_lines : Option FileFault → Bool
+hides_lines (Some SeemsPage) = true
+hides_lines (Some SeemsUtf16) = true
+hides_lines (Some NothingRead) = false
+hides_lines (Some BytesBeyond) = false
+hides_lines None = false
 
-abbrev pub mark_warnings : Mark → List (List ℕ)
-mark_warnings mark = rule_warnings (is_own mark.standing) mark.number mark.line
+-- of the lines of a file
+abbrev pub file_lines_warnings : Bool → List ℕ → List Mark → List (List ℕ) → List WarningValue
+file_lines_warnings everywhere file marks bodies =
+    if hides_lines (file_fault file marks) then [] else lines_warnings everywhere bodies marks
+
+-- ---- of how lines stand to each other
+
+abbrev pub place_warning : ℕ × PlaceFault → WarningValue
+place_warning found = of_line found.0 (cause.Place found.1)
+
+abbrev pub both_ways_warning : ℕ → WarningValue
+both_ways_warning number = of_line number (cause.Place BothWays)
 
 -- ---- all
 
--- those of the agent, of the URLs, and of the agent's rules
-abbrev pub warnings : List ℕ → List (List ℕ) → List Mark → List (List ℕ)
-warnings agent urls marks =
-    agent_warnings agent ++ (flat_map url_warnings urls ++ flat_map mark_warnings marks)
+-- where no one agent is asked for, rules are warned of everywhere
+abbrev pub is_everywhere : Option (List ℕ) → Bool
+is_everywhere None = true
+is_everywhere (Some agent) = false
+
+-- those of the file, of the agent, of the URLs, of each line, and of how lines stand to each other
+abbrev pub warnings : Option (List ℕ) → List (List ℕ) → List ℕ → List Mark → List (List ℕ)
+    → List WarningValue
+warnings agent urls file marks bodies =
+    file_warnings file marks ++ (agent_warnings agent file ++ (flat_map url_warnings urls
+    ++ (file_lines_warnings (is_everywhere agent) file marks bodies ++ (map place_warning (place_faults marks)
+    ++ map both_ways_warning (both_ways (scoped_rules (is_everywhere agent) marks))))))

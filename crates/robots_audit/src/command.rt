@@ -1,6 +1,6 @@
 //! What the words behind the program's name ask for.
-ghost use Rattle.std.specs.Prelude.{◌≡◌, IfOk, map, option_map};
-ghost use Rattle.robots_audit.specs.Command.{Asks, file_read, values_of};
+ghost use Rattle.std.specs.Prelude.{◌≡◌, ◌++◌, IfOk, OnOk, map, option_map};
+ghost use Rattle.robots_audit.specs.Command.{Asks, file_read, values_of, words_of};
 
 use crate::fault::Fault;
 use clap::{Arg, ArgAction, ArgMatches, Command};
@@ -13,10 +13,12 @@ pub struct Request<'a> {
     pub file: Option<&'a str>,
     /// Whether the report has no rows.
     pub is_quiet: bool,
+    /// Whether the report is JSON.
+    pub is_json: bool,
     /// Whether a warning counts as a URL that is denied.
     pub is_strict: bool,
-    /// The crawler.
-    pub agent: &'a str,
+    /// The crawler; none for each that the file names.
+    pub agent: Option<&'a str>,
     /// The URLs.
     pub urls: Vec<&'a str>,
 }
@@ -42,6 +44,13 @@ pub fn command<'a>(alloc: Global) -> Result<Command<'a>, AllocError> {
         .long("file")
         .value_name("FILE")
         .help("The robots.txt file; without it, or for -, standard input");
+    let agents = switch(
+        alloc,
+        "agents",
+        "Instead of AGENT: * and each crawler that the file names",
+    )
+    .short('a');
+    let json = switch(alloc, "json", "Write JSON, with the warnings in it");
     let quiet = switch(alloc, "quiet", "Leave out the rows of the lines").short('q');
     let strict = switch(
         alloc,
@@ -55,7 +64,9 @@ pub fn command<'a>(alloc: Global) -> Result<Command<'a>, AllocError> {
         .arg(agent)?
         .arg(urls)?
         .arg(file)?
+        .arg(agents)?
         .arg(quiet)?
+        .arg(json)?
         .arg(strict)
 }
 
@@ -69,31 +80,47 @@ fn file_read<'a>(name: Option<&'a str>) -> Option<&'a str>
     }
 }
 
-/// All values that were given under a name.
-fn values_of<'a>(
-    alloc: Global,
+/// Adds all values that were given under a name.
+fn add_values<'a>(
+    words: &mut Vec<&'a str>,
     matches: &ArgMatches<'a>,
     id: &str,
-) -> Result<Vec<&'a str>, AllocError>
-    ensures { IfOk result (λ values. map (λ value. value.now) values.items ≡ values_of matches.now id.now) }
+) -> Result<(), AllocError>
+    ensures { OnOk result (map (λ word. word.now) words.new.items
+        ≡ map (λ word. word.now) words.old.items ++ values_of matches.now id.now) }
 {
     match matches.get_strs(id) {
-        Some(values) => Vec::from_slice(alloc, values),
-        None => Ok(Vec::new(alloc)),
+        Some(values) => words.extend_from_slice(values),
+        None => Ok(()),
     }
+}
+
+/// The words that are no options.
+fn words_of<'a>(alloc: Global, matches: &ArgMatches<'a>) -> Result<Vec<&'a str>, AllocError>
+    ensures { IfOk result (λ words. map (λ word. word.now) words.items ≡ words_of matches.now) }
+{
+    let mut words = Vec::new(alloc);
+    add_values(&mut words, matches, "agent")?;
+    add_values(&mut words, matches, "url")?;
+    Ok(words)
 }
 
 /// What was asked for.
 pub fn requested<'a>(alloc: Global, matches: &ArgMatches<'a>) -> Result<Request<'a>, Fault>
     ensures { Asks matches.now result }
 {
-    let Some(agent) = matches.get_str("agent") else {
+    let mut urls = words_of(alloc, matches)?;
+    let agent = if matches.get_flag("agents") {
+        None
+    } else if urls.is_empty() {
         return Err(Fault::Usage);
+    } else {
+        Some(urls.remove(0))
     };
-    let urls = values_of(alloc, matches, "url")?;
     Ok(Request {
         file: file_read(matches.get_str("file")),
         is_quiet: matches.get_flag("quiet"),
+        is_json: matches.get_flag("json"),
         is_strict: matches.get_flag("strict"),
         agent,
         urls,

@@ -11,7 +11,9 @@ use std::fmt;
 pub struct Outcome {
     /// Whether the agent may fetch every URL that was asked for.
     pub all_allowed: bool,
-    /// What is warned of, a line each.
+    /// Whether something is warned of.
+    pub is_warned: bool,
+    /// What is warned of, a line each; nothing where it stands in the report.
     pub warnings: String,
     /// Whether a warning counts as a URL that is denied.
     pub is_strict: bool,
@@ -145,7 +147,7 @@ pub fn status_after(outcome: &Result<Outcome, Fault>) -> u8
 {
     match outcome {
         Ok(outcome) if !outcome.all_allowed => 1,
-        Ok(outcome) if outcome.is_strict && !outcome.warnings.is_empty() => 1,
+        Ok(outcome) if outcome.is_strict && outcome.is_warned => 1,
         Ok(_) => 0,
         Err(_) => 2,
     }

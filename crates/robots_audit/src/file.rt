@@ -25,7 +25,7 @@ fn most_lines(file: &[u8]) -> usize {
 /// The lines of a file, each with its number and where it stands to the agent.
 pub(crate) fn marks_for<'a>(
     alloc: Global,
-    agent: &'a str,
+    agent: &str,
     file: &'a [u8],
 ) -> Result<Vec<MarkedLine<'a>>, AllocError>
     ensures { IfOk result (λ marks. map mark_by_value marks.items ≡ marks_for agent.now (lines_read file.now)) }

@@ -1,26 +1,44 @@
-//! Shows a site owner what a crawler makes of a robots.txt file, which comes from standard input: each line of its first
-//! 512,000 bytes with its number, whether it is in the crawler's group, and what it was read as; the group and the delay
-//! that the crawler gets; and for each URL whether the crawler may fetch it, and which line says so.
+//! Shows a site owner what a crawler makes of a robots.txt file, a named one or standard input: each line of its first 512,000
+//! bytes with its number, whether it is in the crawler's group, and what it was read as; the group and the delay that the crawler
+//! gets; and for each URL whether the crawler may fetch it, and which line says so. On standard error it warns of what means
+//! something other than it seems. All of it can be written as JSON.
 //!
 //! `robots_audit [OPTIONS] AGENT [URL]..`
 //!
-//! The status is 0 where every URL is allowed, 1 where some is denied, and 2 where the program couldn't answer.
+//! The status is 0 where every URL is allowed, 1 where some is denied or, in a strict run, something is warned of, and 2 where the
+//! program couldn't answer.
 #![tactic(auto)]
 
+mod agents;
+mod audit;
+mod both_ways;
 mod command;
 mod delay;
 mod fault;
 mod file;
+mod file_faults;
+mod group;
+mod json;
+mod key_faults;
 mod laws;
+mod name_faults;
+mod other_keys;
+mod place_faults;
 mod program;
 mod report;
 mod rows;
+mod rule_faults;
+mod scopes;
+mod shown;
+mod value_faults;
+mod warning;
 mod warnings;
+mod word_faults;
 
 use clap::error::ErrorKind as WordsKind;
 use command::{Request, command, requested};
 use fault::{Fault, Outcome, Said, status_after};
-use program::{help, run, unread};
+use program::{help, refused, run, unread};
 use std::alloc::Global;
 use std::env;
 use std::fs::File;
@@ -43,7 +61,7 @@ fn told(rt: &HostRuntime, error: clap::Error) -> Result<Outcome, Fault> {
     }
     let text = error.to_string(rt.alloc())?;
     if error.use_stderr() {
-        Err(Fault::Words(text))
+        Err(refused(rt.alloc(), &text))
     } else {
         help(rt.alloc(), &text, &mut rt.stdout())
     }

@@ -1,18 +1,50 @@
 //! The program over a reader and a writer.
-ghost use Rattle.std.specs.Prelude.{◌≡◌, ◌≢◌, IfErr, IfOk};
-ghost use Rattle.robots_audit.specs.Answer.{Audits, Helps, IsUnread};
+ghost use Rattle.std.specs.Prelude.{◌≡◌, ◌==◌, IfOk, length, not, string_bytes};
+ghost use Rattle.robots_audit.specs.Answer.{Audits, Helps, IsRefusal, IsUnread, asked_by, output, said};
+ghost use Rattle.robots_audit.specs.Steps.{audit_value};
 
+use crate::audit::{Audit, all_allowed, audit_of};
 use crate::command::Request;
 use crate::fault::{Fault, Outcome};
-use crate::file::marks_for;
-use crate::report::report_of;
-use crate::warnings::warnings;
+use crate::json::json_text;
+use crate::report::report_text;
+use crate::shown::{push_shown, push_shown_lines};
+use crate::warning::{Warning, warning_lines};
 use robots_io::ends::{read_all, write_out};
-use std::alloc::Global;
+use std::alloc::{AllocError, Global};
 use std::io::{Read, Write};
-use texting_robots::push_escaped_bytes;
 
-/// Reads a file to its end, makes its report and the warnings, and then writes the report.
+/// Whether something is warned of.
+fn is_warned(warnings: &[Warning<'_>]) -> bool
+    ensures { result ≡ not (length warnings.now == 0) }
+{
+    !warnings.is_empty()
+}
+
+/// What is written of an audit.
+fn output(alloc: Global, request: &Request<'_>, audit: &Audit<'_, '_>) -> Result<String, AllocError>
+    ensures { IfOk result (λ text. string_bytes text ≡ output (asked_by request.now) (audit_value audit.now)) }
+{
+    let has_rows = !request.is_quiet && request.agent.is_some();
+    if request.is_json {
+        json_text(alloc, has_rows, audit)
+    } else {
+        report_text(alloc, has_rows, audit)
+    }
+}
+
+/// What is said of it on standard error.
+fn said(alloc: Global, request: &Request<'_>, audit: &Audit<'_, '_>) -> Result<String, AllocError>
+    ensures { IfOk result (λ text. string_bytes text ≡ said (asked_by request.now) (audit_value audit.now)) }
+{
+    if request.is_json {
+        Ok(String::new(alloc))
+    } else {
+        warning_lines(alloc, &audit.warnings)
+    }
+}
+
+/// Reads a file to its end, audits it, and then writes what was found out.
 ///
 /// The clauses are about a reader and a writer that tell their bytes; of standard input and output nothing is claimed.
 ///
@@ -31,14 +63,13 @@ pub fn run<R: Read, W: Write>(
     }) result }
 {
     let input = read_all(alloc, reader)?;
-    let file = input.as_slice();
-    let lines = marks_for(alloc, request.agent, file)?;
-    let marks = lines.as_slice();
-    let report = report_of(alloc, request, file, marks)?;
-    let warnings = warnings(alloc, request.agent, &request.urls, marks)?;
-    write_out(writer, report.text.as_bytes())?;
+    let audit = audit_of(alloc, request, input.as_slice())?;
+    let text = output(alloc, request, &audit)?;
+    let warnings = said(alloc, request, &audit)?;
+    write_out(writer, text.as_bytes())?;
     Ok(Outcome {
-        all_allowed: report.all_allowed,
+        all_allowed: all_allowed(&audit.agents),
+        is_warned: is_warned(&audit.warnings),
         warnings,
         is_strict: request.is_strict,
     })
@@ -51,9 +82,21 @@ pub fn help<W: Write>(alloc: Global, text: &str, writer: &mut W) -> Result<Outco
     write_out(writer, text.as_bytes())?;
     Ok(Outcome {
         all_allowed: true,
+        is_warned: false,
         warnings: String::new(alloc),
         is_strict: false,
     })
+}
+
+/// The fault of words of which `clap` says this. It may repeat a word, so it is shown as texts of others are.
+pub fn refused(alloc: Global, text: &str) -> Fault
+    ensures { IsRefusal text.now result }
+{
+    let mut shown = String::new(alloc);
+    match push_shown_lines(&mut shown, text.as_bytes()) {
+        Ok(()) => Fault::Words(shown),
+        Err(_) => Fault::Memory,
+    }
 }
 
 /// The fault of a file with this name that can't be read.
@@ -61,7 +104,7 @@ pub fn unread(alloc: Global, name: &str) -> Fault
     ensures { IsUnread name.now result }
 {
     let mut shown = String::new(alloc);
-    match push_escaped_bytes(&mut shown, name.as_bytes()) {
+    match push_shown(&mut shown, name.as_bytes()) {
         Ok(()) => Fault::File(shown),
         Err(_) => Fault::Memory,
     }

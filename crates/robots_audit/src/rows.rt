@@ -5,11 +5,11 @@ ghost use Rattle.robots_io.specs.Lines.{ended};
 ghost use Rattle.robots_audit.specs.Rows.{has_value, is_blank, kind_text, mark_text, right_aligned, row, rows, space, value_text, word_and_value};
 
 use crate::delay::push_delay_text;
+use crate::shown::push_shown;
 use itoa::Buffer;
 use std::alloc::AllocError;
 use texting_robots::marks::{MarkedLine, Standing};
 use texting_robots::parser::Line;
-use texting_robots::push_escaped_bytes;
 
 /// How wide the column of the words is, with a blank behind the longest.
 const WORD_WIDTH: usize = 12;
@@ -46,7 +46,7 @@ fn mark_text(standing: Standing) -> &'static str
 
 /// Whether a body is nothing but blanks, or blanks and a comment.
 #[tactic(auto, using(crate::proofs::RowLemmas::blank_at))]
-fn is_blank(body: &[u8]) -> bool
+pub(crate) fn is_blank(body: &[u8]) -> bool
     ensures { result ≡ is_blank body.now }
 {
     for byte in body {
@@ -60,7 +60,7 @@ fn is_blank(body: &[u8]) -> bool
 }
 
 /// What a line was read as.
-fn kind_text(line: Line<'_>) -> &'static str
+pub(crate) fn kind_text(line: Line<'_>) -> &'static str
     ensures { result.now ≡ kind_text (by_value line.entry) }
 {
     match line {
@@ -75,7 +75,7 @@ fn kind_text(line: Line<'_>) -> &'static str
 }
 
 /// Whether a line has a value to show.
-fn has_value(line: Line<'_>) -> bool
+pub(crate) fn has_value(line: Line<'_>) -> bool
     ensures { result ≡ has_value (by_value line.entry) }
 {
     match line {
@@ -88,8 +88,8 @@ fn has_value(line: Line<'_>) -> bool
     }
 }
 
-/// Adds the value of a line, escaped as rules are, or how a delay is shown.
-fn push_value(text: &mut String, line: Line<'_>) -> Result<(), AllocError>
+/// Adds the value of a line, as it is shown, or how a delay is shown.
+pub(crate) fn push_value(text: &mut String, line: Line<'_>) -> Result<(), AllocError>
     ensures { OnOk result (string_bytes text.new ≡ string_bytes text.old ++ value_text (by_value line.entry)) }
 {
     match line {
@@ -97,7 +97,7 @@ fn push_value(text: &mut String, line: Line<'_>) -> Result<(), AllocError>
         | Line::Allow(value)
         | Line::Disallow(value)
         | Line::Sitemap(value)
-        | Line::Raw(value) => push_escaped_bytes(text, value),
+        | Line::Raw(value) => push_shown(text, value),
         Line::CrawlDelay(Some(micros)) => push_delay_text(text, micros),
         Line::CrawlDelay(None) => Ok(()),
     }

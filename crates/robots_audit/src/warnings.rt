@@ -1,239 +1,373 @@
-//! What the program warns of: what silently means something other than it seems.
-ghost use Rattle.std.specs.Prelude.{◌≡◌, ◌++◌, ◌==◌, IfOk, OnOk, false, flat_map, map, string_bytes};
-ghost use Rattle.std.specs.List.{list_any};
-ghost use Rattle.std.specs.Str.{byte};
-ghost use Rattle.texting_robots.specs.Callers.{by_value, mark_by_value};
-ghost use Rattle.robots_io.specs.Lines.{ended};
-ghost use Rattle.robots_audit.specs.Warnings.{agent_warnings, begins_as_rule, byte_warnings, has_space_around};
-ghost use Rattle.robots_audit.specs.Warnings.{holds_otherwise, is_spelled_otherwise, is_url, is_url_or_path, mark_warnings};
-ghost use Rattle.robots_audit.specs.Warnings.{rule_text, rule_warnings, slash_warnings, space_warnings};
-ghost use Rattle.robots_audit.specs.Warnings.{start_warnings, text_warnings, url_warnings, value_warnings, warned, warnings};
+//! What is warned of: what silently means something other than it seems.
+ghost use Rattle.std.specs.Prelude.{◌≡◌, ◌++◌, ◌∷◌, [], IfOk, OnOk, flat_map, if◌then◌else◌, map, option_map};
+ghost use Rattle.std.specs.Option.{option_map_or};
+ghost use Rattle.texting_robots.specs.Callers.{bodies_read, by_value, mark_by_value};
+ghost use Rattle.robots_audit.specs.BothWays.{both_ways};
+ghost use Rattle.robots_audit.specs.KeyFaults.{unread_fault};
+ghost use Rattle.robots_audit.specs.PlaceFaults.{place_faults};
+ghost use Rattle.robots_audit.specs.Scopes.{scoped_rules};
+ghost use Rattle.robots_audit.specs.FileFaults.{is_read};
+ghost use Rattle.robots_audit.specs.Steps.{warning_value};
+ghost use Rattle.robots_audit.specs.Warnings.{agent_warnings, both_ways_warning, delay_warnings, file_lines_warnings, file_warnings, general, hides_lines};
+ghost use Rattle.robots_audit.specs.Warnings.{is_asked_of, is_everywhere, key_warnings, line_warnings, lines_warnings};
+ghost use Rattle.robots_audit.specs.Warnings.{name_warnings, of_line, place_warning, rule_warnings, url_warnings};
+ghost use Rattle.robots_audit.specs.Warnings.{value_warnings, warned, warnings};
 
-use crate::report::push_shown_line;
-use robots_io::lines::{push_line, push_number};
+use crate::both_ways::both_ways;
+use crate::command::Request;
+use crate::file::counted;
+use crate::file_faults::{FileFault, file_fault, has_bytes_beyond};
+use crate::key_faults::{READ_FAULTS, unread_fault};
+use crate::name_faults::NAME_FAULTS;
+use crate::place_faults::{PlaceFault, place_faults};
+use crate::rule_faults::RULE_FAULTS;
+use crate::scopes::scoped_rules;
+use crate::value_faults::{DelayFault, SitemapFault};
+use crate::warning::{Cause, Warning};
+use crate::word_faults::{AGENT_FAULTS, url_fault};
 use std::alloc::{AllocError, Global};
 use texting_robots::marks::{MarkedLine, Standing};
-use texting_robots::parser::Line;
+use texting_robots::parser::{Line, file_bodies};
 
-/// Adds a warning, if there is cause for it.
-fn warn(text: &mut String, cause: bool, warning: &str) -> Result<(), AllocError>
-    ensures { OnOk result (string_bytes text.new ≡ string_bytes text.old ++ ended (warned cause warning.now)) }
+/// A list of warnings that grows.
+type Found<'a> = Vec<Warning<'a>>;
+
+/// Adds a warning of the file or the agent, if there is cause for it.
+fn warn(found: &mut Found<'_>, holds: bool, cause: Cause) -> Result<(), AllocError>
+    ensures { OnOk result (map warning_value found.new.items
+        ≡ map warning_value found.old.items ++ warned holds (general cause)) }
 {
-    if cause {
-        push_line(text, "robots_audit: warning: ", warning)?;
+    if holds {
+        found.push(Warning {
+            line: None,
+            cause,
+            about: "",
+        })?;
     }
     Ok(())
 }
 
-/// Whether white space stands around the text.
-fn has_space_around(text: &str) -> bool
-    ensures { result ≡ has_space_around text.now }
+/// Adds a warning of the line with this number, if there is cause for it.
+fn warn_at(
+    found: &mut Found<'_>,
+    holds: bool,
+    number: usize,
+    cause: Cause,
+) -> Result<(), AllocError>
+    ensures { OnOk result (map warning_value found.new.items
+        ≡ map warning_value found.old.items ++ warned holds (of_line number cause)) }
 {
-    text.trim() != text
-}
-
-/// Adds the warning of an agent with white space around it.
-fn warn_of_space(text: &mut String, agent: &str) -> Result<(), AllocError>
-    ensures { OnOk result (string_bytes text.new ≡ string_bytes text.old ++ ended (space_warnings agent.now)) }
-{
-    warn(
-        text,
-        has_space_around(agent),
-        "the agent has white space around it, so no line names it",
-    )
-}
-
-/// Whether the bytes have a slash among them.
-fn has_slash(bytes: &[u8]) -> bool
-    ensures { result ≡ list_any (λ b. b == byte "/") bytes.now }
-{
-    bytes.iter().any(|byte| *byte == b'/')
-}
-
-/// Adds the warning of an agent with a slash.
-fn warn_of_slash(text: &mut String, agent: &str) -> Result<(), AllocError>
-    ensures { OnOk result (string_bytes text.new ≡ string_bytes text.old ++ ended (slash_warnings agent.now)) }
-{
-    warn(
-        text,
-        has_slash(agent.as_bytes()),
-        "the agent has a / in it: a name is compared whole, and a version isn't taken off",
-    )
-}
-
-/// Adds the warnings of an agent.
-fn warn_of_agent(text: &mut String, agent: &str) -> Result<(), AllocError>
-    ensures { OnOk result (string_bytes text.new ≡ string_bytes text.old ++ ended (agent_warnings agent.now)) }
-{
-    warn_of_space(text, agent)?;
-    warn_of_slash(text, agent)?;
+    if holds {
+        found.push(Warning {
+            line: Some(number),
+            cause,
+            about: "",
+        })?;
+    }
     Ok(())
 }
 
-/// Whether the text begins as a URL of a site does.
-fn is_url(alloc: Global, url: &str) -> Result<bool, AllocError>
-    ensures { IfOk result (λ answer. answer ≡ is_url url.now) }
+/// Adds the warnings of the file.
+fn warn_of_file(
+    found: &mut Found<'_>,
+    file: &[u8],
+    marks: &[MarkedLine<'_>],
+) -> Result<(), AllocError>
+    ensures { OnOk result (map warning_value found.new.items
+        ≡ map warning_value found.old.items ++ file_warnings file.now (map mark_by_value marks.now)) }
 {
-    let lowered = url.to_ascii_lowercase(alloc)?;
-    Ok(lowered.starts_with("http://") || lowered.starts_with("https://"))
+    if let Some(fault) = file_fault(file, marks) {
+        warn(found, true, Cause::File(fault))?;
+    }
+    let beyond = Cause::File(FileFault::BytesBeyond);
+    warn(found, has_bytes_beyond(file), beyond)
 }
 
-/// Whether the text begins as a URL of a site or a path does.
-fn is_url_or_path(alloc: Global, url: &str) -> Result<bool, AllocError>
-    ensures { IfOk result (λ answer. answer ≡ is_url_or_path url.now) }
+/// Adds the warnings of the agent that is asked for, if one is.
+fn warn_of_agent(found: &mut Found<'_>, agent: Option<&str>, file: &[u8]) -> Result<(), AllocError>
+    ensures { OnOk result (map warning_value found.new.items ≡ map warning_value found.old.items
+        ++ agent_warnings (option_map (λ agent. agent.now) agent.entry) file.now) }
 {
-    Ok(is_url(alloc, url)? || url.starts_with("/"))
+    let Some(agent) = agent else {
+        return Ok(());
+    };
+    for fault in AGENT_FAULTS {
+        warn(found, fault.holds(agent, file), Cause::Agent(fault))?;
+    }
+    Ok(())
 }
 
 /// Adds the warning of a URL, if there is one.
-fn warn_of_url(alloc: Global, text: &mut String, url: &str) -> Result<(), AllocError>
-    ensures { OnOk result (string_bytes text.new ≡ string_bytes text.old ++ ended (url_warnings url.now)) }
+fn warn_of_url<'a>(alloc: Global, found: &mut Found<'a>, url: &'a str) -> Result<(), AllocError>
+    ensures { OnOk result (map warning_value found.new.items
+        ≡ map warning_value found.old.items ++ url_warnings url.now) }
 {
-    if is_url_or_path(alloc, url)? {
-        return Ok(());
+    if let Some(fault) = url_fault(alloc, url)? {
+        found.push(Warning {
+            line: None,
+            cause: Cause::Url(fault),
+            about: url,
+        })?;
     }
-    text.push_str("robots_audit: warning: a URL begins with neither http:// nor https:// nor /: ")?;
-    push_shown_line(text, url)?;
     Ok(())
-}
-
-/// Whether the value begins with a slash or a star.
-fn begins_as_rule(value: &[u8]) -> bool
-    ensures { result ≡ begins_as_rule value.now }
-{
-    matches!(value, [b'/' | b'*', ..])
-}
-
-/// Whether a whole URL has the byte otherwise than a rule, in its query or in its path.
-fn is_spelled_otherwise(in_query: bool, byte: u8) -> bool
-    ensures { result ≡ is_spelled_otherwise in_query byte }
-{
-    if in_query {
-        matches!(byte, b'\t' | b'\'' | b'`')
-    } else {
-        matches!(byte, b'\t' | b'\\' | b'^' | b'{' | b'}')
-    }
-}
-
-/// Whether the value has a byte that a whole URL has otherwise.
-#[tactic(auto, using(crate::proofs::WarningLemmas::otherwise_at))]
-fn holds_otherwise(value: &[u8]) -> bool
-    ensures { result ≡ holds_otherwise false value.now }
-{
-    let mut in_query = false;
-    for byte in value {
-        if is_spelled_otherwise(in_query, *byte) {
-            return true;
-        }
-        in_query = in_query || *byte == b'?';
-    }
-    false
-}
-
-/// Adds a warning of the rule in the line with this number, if there is cause for it.
-fn warn_of_rule(text: &mut String, number: usize, cause: bool, said: &str) -> Result<(), AllocError>
-    ensures { OnOk result (string_bytes text.new ≡ string_bytes text.old
-        ++ ended (warned cause (rule_text number said.now))) }
-{
-    if !cause {
-        return Ok(());
-    }
-    text.push_str("robots_audit: warning: the rule in line ")?;
-    push_number(text, number)?;
-    push_line(text, " ", said)?;
-    Ok(())
-}
-
-/// Adds the warning of a rule that begins with neither a slash nor a star.
-fn warn_of_start(text: &mut String, number: usize, value: &[u8]) -> Result<(), AllocError>
-    ensures { OnOk result (string_bytes text.new ≡ string_bytes text.old ++ ended (start_warnings number value.now)) }
-{
-    let said = "begins with neither / nor *";
-    warn_of_rule(text, number, !begins_as_rule(value), said)
-}
-
-/// Adds the warning of a rule with a byte that whole URLs have otherwise.
-fn warn_of_bytes(text: &mut String, number: usize, value: &[u8]) -> Result<(), AllocError>
-    ensures { OnOk result (string_bytes text.new ≡ string_bytes text.old ++ ended (byte_warnings number value.now)) }
-{
-    let said =
-        "has a byte that a whole URL spells otherwise: ^, {, } or \\ in its path, ' or ` in its query, or a tab";
-    warn_of_rule(text, number, holds_otherwise(value), said)
-}
-
-/// Adds the warnings of a captured rule.
-fn warn_of_text(text: &mut String, number: usize, value: &[u8]) -> Result<(), AllocError>
-    ensures { OnOk result (string_bytes text.new ≡ string_bytes text.old ++ ended (text_warnings number value.now)) }
-{
-    warn_of_start(text, number, value)?;
-    warn_of_bytes(text, number, value)?;
-    Ok(())
-}
-
-/// Adds the warnings of a captured line with this value.
-fn warn_of_value(text: &mut String, number: usize, value: &[u8]) -> Result<(), AllocError>
-    ensures { OnOk result (string_bytes text.new ≡ string_bytes text.old ++ ended (value_warnings number value.now)) }
-{
-    match std::str::from_utf8(value) {
-        Ok(_) => warn_of_text(text, number, value),
-        Err(_) => warn_of_rule(text, number, true, "isn't UTF-8, so it is left out"),
-    }
-}
-
-/// Adds the warnings of a line.
-fn warn_of_line(
-    text: &mut String,
-    captured: bool,
-    number: usize,
-    line: Line<'_>,
-) -> Result<(), AllocError>
-    ensures { OnOk result (string_bytes text.new ≡ string_bytes text.old
-        ++ ended (rule_warnings captured number (by_value line.entry))) }
-{
-    match line {
-        Line::Allow(value) | Line::Disallow(value) if captured => {
-            warn_of_value(text, number, value)
-        }
-        _ => Ok(()),
-    }
 }
 
 /// Adds the warnings of the URLs.
-fn warn_of_urls(alloc: Global, text: &mut String, urls: &[&str]) -> Result<(), AllocError>
-    ensures { OnOk result (string_bytes text.new ≡ string_bytes text.old
-        ++ ended (flat_map url_warnings (map (λ url. url.now) urls.now))) }
+fn warn_of_urls<'a>(
+    alloc: Global,
+    found: &mut Found<'a>,
+    urls: &[&'a str],
+) -> Result<(), AllocError>
+    ensures { OnOk result (map warning_value found.new.items
+        ≡ map warning_value found.old.items ++ flat_map url_warnings (map (λ url. url.now) urls.now)) }
 {
     for url in urls {
-        warn_of_url(alloc, text, url)?;
+        warn_of_url(alloc, found, url)?;
     }
     Ok(())
 }
 
-/// Adds the warnings of the lines.
-fn warn_of_lines(text: &mut String, marks: &[MarkedLine<'_>]) -> Result<(), AllocError>
-    ensures { OnOk result (string_bytes text.new ≡ string_bytes text.old
-        ++ ended (flat_map mark_warnings (map mark_by_value marks.now))) }
+/// Adds the warnings of a name in a user-agent line.
+fn warn_of_name(found: &mut Found<'_>, number: usize, value: &[u8]) -> Result<(), AllocError>
+    ensures { OnOk result (map warning_value found.new.items
+        ≡ map warning_value found.old.items ++ name_warnings number value.now) }
 {
-    for marked in marks {
-        let is_own = marked.standing == Standing::Own;
-        warn_of_line(text, is_own, marked.number, marked.line)?;
+    for fault in NAME_FAULTS {
+        warn_at(found, fault.holds(value), number, Cause::Name(fault))?;
     }
     Ok(())
 }
 
-/// All warnings, a line each.
-pub(crate) fn warnings(
+/// Adds the warnings of a rule, if it is asked about.
+fn warn_of_rule(
+    found: &mut Found<'_>,
+    is_asked: bool,
+    number: usize,
+    value: &[u8],
+) -> Result<(), AllocError>
+    ensures { OnOk result (map warning_value found.new.items ≡ map warning_value found.old.items
+        ++ (if is_asked then rule_warnings number value.now else [])) }
+{
+    if !is_asked {
+        return Ok(());
+    }
+    for fault in RULE_FAULTS {
+        warn_at(found, fault.holds(value), number, Cause::Rule(fault))?;
+    }
+    Ok(())
+}
+
+/// Adds the warnings of the key of a line that is read.
+fn warn_of_key(found: &mut Found<'_>, number: usize, body: &[u8]) -> Result<(), AllocError>
+    ensures { OnOk result (map warning_value found.new.items
+        ≡ map warning_value found.old.items ++ key_warnings number body.now) }
+{
+    for fault in READ_FAULTS {
+        warn_at(found, fault.holds(body), number, Cause::Key(fault))?;
+    }
+    Ok(())
+}
+
+/// Adds the warning of a delay, if there is one.
+fn warn_of_delay(found: &mut Found<'_>, number: usize, delay: Option<u64>) -> Result<(), AllocError>
+    ensures { OnOk result (map warning_value found.new.items
+        ≡ map warning_value found.old.items ++ delay_warnings number delay) }
+{
+    let Some(micros) = delay else {
+        return Ok(());
+    };
+    let fault = DelayFault::AboveADay;
+    warn_at(found, fault.holds(micros), number, Cause::Delay(fault))
+}
+
+/// Adds the warning of a line that isn't read, if there is one.
+fn warn_of_unread(
     alloc: Global,
-    agent: &str,
-    urls: &[&str],
-    marks: &[MarkedLine<'_>],
-) -> Result<String, AllocError>
-    ensures { IfOk result (λ text. string_bytes text
-        ≡ ended (warnings agent.now (map (λ url. url.now) urls.now) (map mark_by_value marks.now))) }
+    found: &mut Found<'_>,
+    number: usize,
+    body: &[u8],
+) -> Result<(), AllocError>
+    ensures { OnOk result (map warning_value found.new.items ≡ map warning_value found.old.items
+        ++ option_map_or (λ fault. of_line number (Cause.Key fault) ∷ []) (unread_fault body.now) []) }
 {
-    let mut text = String::new(alloc);
-    warn_of_agent(&mut text, agent)?;
-    warn_of_urls(alloc, &mut text, urls)?;
-    warn_of_lines(&mut text, marks)?;
-    Ok(text)
+    match unread_fault(alloc, body)? {
+        Some(fault) => warn_at(found, true, number, Cause::Key(fault)),
+        None => Ok(()),
+    }
+}
+
+/// Adds the warnings of what a line holds.
+fn warn_of_value(
+    alloc: Global,
+    found: &mut Found<'_>,
+    is_asked: bool,
+    number: usize,
+    line: Line<'_>,
+) -> Result<(), AllocError>
+    ensures { OnOk result (map warning_value found.new.items ≡ map warning_value found.old.items
+        ++ value_warnings is_asked number (by_value line.entry)) }
+{
+    let fault = SitemapFault::NoWholeUrl;
+    match line {
+        Line::UserAgent(value) => warn_of_name(found, number, value),
+        Line::Allow(value) => warn_of_rule(found, is_asked, number, value),
+        Line::Disallow(value) => warn_of_rule(found, is_asked, number, value),
+        Line::CrawlDelay(delay) => warn_of_delay(found, number, delay),
+        Line::Sitemap(value) => {
+            let holds = fault.holds(alloc, value)?;
+            warn_at(found, holds, number, Cause::Sitemap(fault))
+        }
+        Line::Raw(body) => warn_of_unread(alloc, found, number, body),
+    }
+}
+
+/// Whether a rule is warned of.
+fn is_asked_of(everywhere: bool, standing: Standing) -> bool
+    ensures { result ≡ is_asked_of everywhere standing }
+{
+    everywhere || standing == Standing::Own
+}
+
+/// Adds the warnings of the key of a line, if it is read.
+fn warn_of_read(
+    found: &mut Found<'_>,
+    marked: &MarkedLine<'_>,
+    body: &[u8],
+) -> Result<(), AllocError>
+    ensures { OnOk result (map warning_value found.new.items ≡ map warning_value found.old.items
+        ++ (if is_read (by_value marked.now.line) then key_warnings marked.now.number body.now else [])) }
+{
+    match marked.line {
+        Line::Raw(_) => Ok(()),
+        _ => warn_of_key(found, marked.number, body),
+    }
+}
+
+/// Adds the warnings of a line with this body.
+fn warn_of_line(
+    alloc: Global,
+    found: &mut Found<'_>,
+    everywhere: bool,
+    marked: &MarkedLine<'_>,
+    body: &[u8],
+) -> Result<(), AllocError>
+    ensures { OnOk result (map warning_value found.new.items ≡ map warning_value found.old.items
+        ++ line_warnings everywhere (mark_by_value marked.now) body.now) }
+{
+    warn_of_read(found, marked, body)?;
+    let is_asked = is_asked_of(everywhere, marked.standing);
+    warn_of_value(alloc, found, is_asked, marked.number, marked.line)
+}
+
+/// Adds the warnings of the lines of a file, given with their marks.
+fn warn_of_lines(
+    alloc: Global,
+    found: &mut Found<'_>,
+    everywhere: bool,
+    marks: &[MarkedLine<'_>],
+    file: &[u8],
+) -> Result<(), AllocError>
+    ensures { OnOk result (map warning_value found.new.items ≡ map warning_value found.old.items
+        ++ lines_warnings everywhere (bodies_read file.now) (map mark_by_value marks.now)) }
+{
+    let mut rest = marks;
+    for body in file_bodies(counted(file)) {
+        let [marked, after @ ..] = rest else {
+            return Ok(());
+        };
+        warn_of_line(alloc, found, everywhere, marked, body)?;
+        rest = after;
+    }
+    Ok(())
+}
+
+/// Whether the file seems to be something else, so that each of its lines would be warned of.
+fn hides_lines(fault: Option<FileFault>) -> bool
+    ensures { result ≡ hides_lines fault }
+{
+    matches!(fault, Some(FileFault::SeemsPage | FileFault::SeemsUtf16))
+}
+
+/// Adds the warnings of the lines of a file, unless it seems to be something else.
+fn warn_of_file_lines(
+    alloc: Global,
+    found: &mut Found<'_>,
+    everywhere: bool,
+    marks: &[MarkedLine<'_>],
+    file: &[u8],
+) -> Result<(), AllocError>
+    ensures { OnOk result (map warning_value found.new.items ≡ map warning_value found.old.items
+        ++ file_lines_warnings everywhere file.now (map mark_by_value marks.now) (bodies_read file.now)) }
+{
+    if hides_lines(file_fault(file, marks)) {
+        return Ok(());
+    }
+    warn_of_lines(alloc, found, everywhere, marks, file)
+}
+
+/// Adds the warnings of how lines stand to each other.
+fn warn_of_places(
+    alloc: Global,
+    found: &mut Found<'_>,
+    marks: &[MarkedLine<'_>],
+) -> Result<(), AllocError>
+    ensures { OnOk result (map warning_value found.new.items ≡ map warning_value found.old.items
+        ++ map place_warning (place_faults (map mark_by_value marks.now))) }
+{
+    let places = place_faults(alloc, marks)?;
+    for place in &places {
+        warn_at(found, true, place.0, Cause::Place(place.1))?;
+    }
+    Ok(())
+}
+
+/// Adds the warnings of what is allowed and disallowed.
+fn warn_of_both_ways(
+    alloc: Global,
+    found: &mut Found<'_>,
+    everywhere: bool,
+    marks: &[MarkedLine<'_>],
+) -> Result<(), AllocError>
+    ensures { OnOk result (map warning_value found.new.items ≡ map warning_value found.old.items
+        ++ map both_ways_warning (both_ways (scoped_rules everywhere (map mark_by_value marks.now)))) }
+{
+    let rules = scoped_rules(alloc, everywhere, marks)?;
+    let numbers = both_ways(alloc, &rules)?;
+    for number in &numbers {
+        warn_at(found, true, *number, Cause::Place(PlaceFault::BothWays))?;
+    }
+    Ok(())
+}
+
+/// Whether rules are warned of everywhere: where no one agent is asked for.
+fn is_everywhere(agent: Option<&str>) -> bool
+    ensures { result ≡ is_everywhere (option_map (λ agent. agent.now) agent.entry) }
+{
+    match agent {
+        Some(_) => false,
+        None => true,
+    }
+}
+
+/// All warnings of a file, whose lines these are.
+pub(crate) fn warnings<'a>(
+    alloc: Global,
+    request: &Request<'a>,
+    file: &[u8],
+    marks: &[MarkedLine<'_>],
+) -> Result<Vec<Warning<'a>>, AllocError>
+    ensures { IfOk result (λ found. map warning_value found.items
+        ≡ warnings (option_map (λ agent. agent.now) request.now.agent)
+        (map (λ url. url.now) request.now.urls.items) file.now (map mark_by_value marks.now)
+        (bodies_read file.now)) }
+{
+    let everywhere = is_everywhere(request.agent);
+    let mut found = Vec::new(alloc);
+    warn_of_file(&mut found, file, marks)?;
+    warn_of_agent(&mut found, request.agent, file)?;
+    warn_of_urls(alloc, &mut found, &request.urls)?;
+    warn_of_file_lines(alloc, &mut found, everywhere, marks, file)?;
+    warn_of_places(alloc, &mut found, marks)?;
+    warn_of_both_ways(alloc, &mut found, everywhere, marks)?;
+    Ok(found)
 }

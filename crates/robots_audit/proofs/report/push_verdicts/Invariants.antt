@@ -1,8 +1,11 @@
-use Rattle.std.proofs.Common.{map, string_bytes, take}
-use Rattle.robots_audit.specs.Steps.{Judges}
+use Rattle.std.proofs.Common.{◌≡◌, ◌++◌, map, string_bytes, take}
+use Rattle.robots_io.specs.Lines.{ended}
+use Rattle.robots_audit.specs.Report.{verdict_line}
+use Rattle.robots_audit.specs.Steps.{verdict_value}
 use Rattle.robots_audit.proofs.report.push_verdicts.Given as goal
 
-abbrev pub invariant-loop-url : goal.invariant-loop-url
-invariant-loop-url l =
-    Judges l.robot.rules (map (λ url. url.now) (take l.url-index l.urls)) (string_bytes l.fn.text)
-    (string_bytes l.text) l.all_allowed
+abbrev pub invariant-loop-verdict : goal.invariant-loop-verdict
+invariant-loop-verdict l =
+    string_bytes l.text
+    ≡ string_bytes l.fn.text
+    ++ ended (map verdict_line (map verdict_value (take l.verdict-index l.verdicts)))

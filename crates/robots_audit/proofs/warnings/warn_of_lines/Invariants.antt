@@ -1,11 +1,13 @@
-use Rattle.std.proofs.Common.{◌≡◌, ◌++◌, flat_map, map, string_bytes, take}
-use Rattle.texting_robots.specs.Callers.{mark_by_value}
-use Rattle.robots_io.specs.Lines.{ended}
-use Rattle.robots_audit.specs.Warnings.{mark_warnings}
+use Rattle.std.proofs.Common.{◌≡◌, ◌++◌, map}
+use Rattle.texting_robots.specs.Callers.{bodies_read, mark_by_value}
+use Rattle.robots_audit.specs.Steps.{warning_value}
+use Rattle.robots_audit.specs.Warnings.{lines_warnings}
 use Rattle.robots_audit.proofs.warnings.warn_of_lines.Given as goal
 
-abbrev pub invariant-loop-marked : goal.invariant-loop-marked
-invariant-loop-marked l =
-    string_bytes l.text
-    ≡ string_bytes l.fn.text
-    ++ ended (flat_map mark_warnings (map mark_by_value (take l.marked-index l.marks)))
+-- what was found and what is still to be found are all
+abbrev pub invariant-loop-body : goal.invariant-loop-body
+invariant-loop-body l =
+    map warning_value l.found.items
+    ++ lines_warnings l.everywhere l.body-iterator (map mark_by_value l.rest)
+    ≡ map warning_value l.fn.found.items
+    ++ lines_warnings l.everywhere (bodies_read l.file) (map mark_by_value l.marks)

@@ -1,0 +1,19 @@
+use Rattle.std.proofs.Common.{lit<, refl}
+use Rattle.texting_robots.proofs.HeadlineLemmas.{read_refused}
+use Rattle.robots_audit.proofs.audit.robot_for.Goals as goal
+
+pub unreachable-requires : goal.unreachable-requires
+unreachable-requires c =
+    let error = c.in-Err-InvalidRule in
+    (rw (c.in-None.is, c.counted.ensures) at c.in_ok-line-in-Err-InvalidRule.ensures)
+    (read_refused _ _ (rw error.field-0-is at error.ensures.refused))
+
+pub returns-in-Some-clause-fault : goal.returns-in-Some-clause-fault
+returns-in-Some-clause-fault c = (
+  λ is. absurd (cc),
+  (
+    c.args.agent.now,
+    (0, lit< tt, refl),
+    rw (c.in-Some.is, c.counted.ensures) at c.in_ok-line-in-Err-InvalidRule.ensures,
+  ),
+)

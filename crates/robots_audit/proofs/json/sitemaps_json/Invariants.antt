@@ -1,0 +1,12 @@
+use Rattle.std.proofs.Common.{◌≡◌, ◌++◌, drop, map}
+use Rattle.serde_json.specs.View.{view}
+use Rattle.texting_robots.specs.Callers.{mark_by_value, sitemaps_in}
+use Rattle.robots_audit.specs.Json.{shown_json}
+use Rattle.robots_audit.specs.Rows.{lines_of}
+use Rattle.robots_audit.proofs.json.sitemaps_json.Given as goal
+
+abbrev pub invariant-loop-marked : goal.invariant-loop-marked
+invariant-loop-marked l =
+    map view l.list.items
+    ++ map shown_json (sitemaps_in (lines_of (map mark_by_value (drop l.marked-index l.marks))))
+    ≡ map shown_json (sitemaps_in (lines_of (map mark_by_value l.marks)))

@@ -1,0 +1,109 @@
+-- What is found out about a file.
+use Rattle.std.specs.Prelude.{◌≡◌, ℕ, Bool, List, [], ◌∷◌, ◌++◌, Option, Some, None}
+use Rattle.std.specs.Prelude.{bytes_eq, codes}
+use Rattle.std.specs.Prelude.{if◌then◌else◌}
+use Rattle.std.specs.List.{AllZip, list_all, list_any}
+use Rattle.std.specs.Str.{is_utf8, str_to_ascii_lowercase}
+use Rattle.texting_robots.specs.Callers.{IsRefused, LineValue, Mark, PlacedRule, UserAgent}
+use Rattle.texting_robots.specs.Callers.{bodies_read, delay_for, is_named, lines_read, placed_rules}
+use Rattle.texting_robots.specs.Group.{is_agent}
+use Rattle.texting_robots.specs.declared.decision.Decision.{Decision}
+use Rattle.robots_io.specs.Verdicts.{IsDecisionOn}
+use Rattle.robots_audit.specs.declared.group.Group.{Group}
+use Rattle.robots_audit.specs.declared.group.Group.TheVariants.{Everyone, Named, Nobody, Star}
+use Rattle.robots_audit.specs.Rows.{marks_for}
+use Rattle.robots_audit.specs.Warnings.{WarningValue, warnings}
+
+-- what an audit is asked for: an agent, or none for each that the file names; URLs; whether there are rows;
+-- and whether it is written as JSON
+pub record Asked : Type 0 where
+  pub agent : Option (List ℕ)
+  pub urls : List (List ℕ)
+  pub is_quiet : Bool
+  pub is_json : Bool
+
+-- ---- which agents
+
+-- some name of these is the name, ASCII letters in any case
+abbrev pub is_among : List ℕ → List (List ℕ) → Bool
+is_among name names =
+    list_any (λ other. bytes_eq (str_to_ascii_lowercase other) (str_to_ascii_lowercase name)) names
+
+-- the names, and that of the line behind them where it is a new one; an agent is given as text, so a name
+-- that isn't UTF-8 is no agent's
+abbrev pub with_name : List (List ℕ) → LineValue → List (List ℕ)
+with_name names (UserAgent name) =
+    if is_utf8 name then (if is_among name names then names else names ++ name ∷ []) else names
+with_name names _ = names
+
+abbrev pub with_names : List (List ℕ) → List LineValue → List (List ℕ)
+with_names names [] = names
+with_names names (line ∷ lines) = with_names (with_name names line) lines
+
+-- `*` and each agent that the lines name, in their order and each once
+abbrev pub agents_in : List LineValue → List (List ℕ)
+agents_in lines = with_names (codes "*" ∷ []) lines
+
+abbrev pub agents_asked : Option (List ℕ) → List LineValue → List (List ℕ)
+agents_asked (Some agent) lines = agent ∷ []
+agents_asked None lines = agents_in lines
+
+-- ---- what an agent gets
+
+-- by which user-agent lines it gets what it gets
+abbrev pub group_of : List ℕ → List LineValue → Group
+group_of agent lines =
+    if is_named agent lines then Named
+    else if is_named (codes "*") lines then Star
+    else if list_any is_agent lines then Nobody else Everyone
+
+pub record VerdictValue : Type 0 where
+  pub url : List ℕ
+  pub decision : Decision
+
+pub record AgentValue : Type 0 where
+  pub agent : List ℕ
+  pub group : Group
+  pub delay : Option ℕ
+  pub verdicts : List VerdictValue
+
+-- what the rules decide on the URL
+pub record IsVerdictOn (rules : List PlacedRule) (url : List ℕ) (verdict : VerdictValue) : Type 0 where
+  pub url_is : verdict.url ≡ url
+  pub decided : IsDecisionOn rules url verdict.decision
+
+-- what an agent gets that can use the file
+pub record IsAgentAudit (urls : List (List ℕ)) (lines : List LineValue) (agent : List ℕ)
+    (value : AgentValue) : Type 0 where
+  pub accepted : ¬ IsRefused agent lines
+  pub agent_is : value.agent ≡ agent
+  pub group_is : value.group ≡ group_of agent lines
+  pub delay_is : value.delay ≡ delay_for agent lines
+  pub verdicts_are : AllZip (IsVerdictOn (placed_rules agent lines)) urls value.verdicts
+
+-- ---- a file
+
+pub record AuditValue : Type 0 where
+  pub marks : List Mark
+  pub agents : List AgentValue
+  pub warnings : List WarningValue
+
+-- the agent by which lines are marked: `*` where each is asked for
+abbrev pub marking_agent : Option (List ℕ) → List ℕ
+marking_agent (Some agent) = agent
+marking_agent None = codes "*"
+
+pub record IsAuditOf (asked : Asked) (file : List ℕ) (audit : AuditValue) : Type 0 where
+  pub marks_are : audit.marks ≡ marks_for (marking_agent asked.agent) (lines_read file)
+  pub agents_are : AllZip (IsAgentAudit asked.urls (lines_read file))
+      (agents_asked asked.agent (lines_read file)) audit.agents
+  pub warnings_are : audit.warnings ≡ warnings asked.agent asked.urls file
+      (marks_for (marking_agent asked.agent) (lines_read file)) (bodies_read file)
+
+-- each of these verdicts allows
+abbrev pub allows_all : List VerdictValue → Bool
+allows_all verdicts = list_all (λ (verdict : VerdictValue). verdict.decision.allowed) verdicts
+
+-- each agent may fetch each URL
+abbrev pub all_allowed : List AgentValue → Bool
+all_allowed agents = list_all (λ (agent : AgentValue). allows_all agent.verdicts) agents

@@ -1,0 +1,96 @@
+-- What is found out about a file, as JSON.
+use Rattle.std.specs.Prelude.{ℕ, Bool, List, [], ◌∷◌, ◌++◌, Option, Some, None, codes}
+use Rattle.std.specs.Prelude.{if◌then◌else◌, map}
+use Rattle.serde_json.specs.Data.{Data, array, boolean, member, no_members, null, number, object, string}
+use Rattle.serde_json.specs.Data.{unsigned}
+use Rattle.serde_json.specs.View.{items_of}
+use Rattle.serde_json.specs.Written.{compact_text}
+use Rattle.texting_robots.specs.Callers.{CrawlDelay, LineValue, Mark, sitemaps_in}
+use Rattle.texting_robots.specs.declared.marks.Standing.{Standing}
+use Rattle.texting_robots.specs.declared.marks.Standing.TheVariants.{Other, Outside, Own}
+use Rattle.robots_io.specs.Lines.{lf}
+use Rattle.robots_audit.specs.declared.group.Group.{Group}
+use Rattle.robots_audit.specs.declared.group.Group.TheVariants.{Everyone, Named, Nobody, Star}
+use Rattle.robots_audit.specs.Audit.{AgentValue, AuditValue, VerdictValue}
+use Rattle.robots_audit.specs.Rows.{has_value, kind_text, lines_of, value_text}
+use Rattle.robots_audit.specs.Shown.{shown}
+use Rattle.robots_audit.specs.Warnings.{WarningValue, cause_name, warning_text}
+
+-- ---- values
+
+-- a text of others, as it is shown
+abbrev pub shown_json : List ℕ → Data
+shown_json text = string (shown text)
+
+-- a number, or null where there is none
+abbrev pub number_json : Option ℕ → Data
+number_json None = null
+number_json (Some n) = number (unsigned n)
+
+-- the values of a list, in its order
+abbrev pub list_json : {X : Type 0} → (X → Data) → List X → Data
+list_json value xs = array (items_of (map value xs))
+
+-- ---- an agent
+
+-- what is decided on a URL, and by which line
+abbrev pub verdict_json : VerdictValue → Data
+verdict_json verdict = object
+    (member (codes "allowed") (boolean verdict.decision.allowed)
+    (member (codes "line") (number_json verdict.decision.line)
+    (member (codes "url") (shown_json verdict.url) no_members)))
+
+abbrev pub group_word : Group → List ℕ
+group_word Named = codes "named"
+group_word Star = codes "star"
+group_word Nobody = codes "none"
+group_word Everyone = codes "everyone"
+
+-- an agent, its group, its delay in microseconds, and what is decided on each URL
+abbrev pub agent_json : AgentValue → Data
+agent_json agent = object
+    (member (codes "agent") (shown_json agent.agent)
+    (member (codes "delay") (number_json agent.delay)
+    (member (codes "group") (string (group_word agent.group))
+    (member (codes "verdicts") (list_json verdict_json agent.verdicts) no_members))))
+
+-- ---- a line
+
+abbrev pub standing_word : Standing → List ℕ
+standing_word Own = codes "own"
+standing_word Other = codes "other"
+standing_word Outside = codes "outside"
+
+-- a delay in microseconds, and else the value as it is shown, or null where there is none
+abbrev pub value_json : LineValue → Data
+value_json (CrawlDelay delay) = number_json delay
+value_json line = if has_value line then string (value_text line) else null
+
+-- a line of the file: what it was read as, its number, where it stands, and its value
+abbrev pub line_json : Mark → Data
+line_json mark = object
+    (member (codes "kind") (string (kind_text mark.line))
+    (member (codes "number") (number (unsigned mark.number))
+    (member (codes "standing") (string (standing_word mark.standing))
+    (member (codes "value") (value_json mark.line) no_members))))
+
+-- ---- the audit
+
+-- a warning: the number of its line, what it is called, and what is said
+abbrev pub warning_json : WarningValue → Data
+warning_json warning = object
+    (member (codes "line") (number_json warning.line)
+    (member (codes "name") (string (cause_name warning.cause))
+    (member (codes "text") (string (warning_text warning)) no_members)))
+
+-- what each agent gets, the lines of the file, if rows are wanted, its sitemaps, and what is warned of
+abbrev pub audit_json : Bool → AuditValue → Data
+audit_json has_rows audit = object
+    (member (codes "agents") (list_json agent_json audit.agents)
+    (member (codes "lines") (list_json line_json (if has_rows then audit.marks else []))
+    (member (codes "sitemaps") (list_json shown_json (sitemaps_in (lines_of audit.marks)))
+    (member (codes "warnings") (list_json warning_json audit.warnings) no_members))))
+
+-- the same as text, in one line
+abbrev pub json_text : Bool → AuditValue → List ℕ
+json_text has_rows audit = compact_text (audit_json has_rows audit) ++ lf ∷ []

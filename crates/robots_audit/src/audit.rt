@@ -1,0 +1,201 @@
+//! What is found out about a file.
+ghost use Rattle.std.specs.Prelude.{◌≡◌, ◌≢◌, ◌∷◌, [], IfErr, IfOk, map, option_map, string_bytes, take};
+ghost use Rattle.std.specs.List.{AllZip};
+ghost use Rattle.texting_robots.specs.Callers.{IsRobotOfFile, file_limit, lines_read, mark_by_value};
+ghost use Rattle.robots_audit.specs.Answer.{asked_by};
+ghost use Rattle.robots_audit.specs.Audit.{IsAgentAudit, IsAuditOf, IsVerdictOn, agents_asked, all_allowed, allows_all, marking_agent};
+ghost use Rattle.robots_audit.specs.Fault.{MayFail};
+ghost use Rattle.robots_audit.specs.Rows.{lines_of, marks_for};
+ghost use Rattle.robots_audit.specs.Steps.{agent_value, audit_value, verdict_value};
+
+use crate::agents::agents_asked;
+use crate::command::Request;
+use crate::fault::Fault;
+use crate::file::{counted, marks_for};
+use crate::group::{Group, group_of};
+use crate::warning::Warning;
+use crate::warnings::warnings;
+use robots_io::verdicts::decision_on;
+use std::alloc::Global;
+use texting_robots::marks::{MarkedLine, overlong_line};
+use texting_robots::robot::Decision;
+use texting_robots::{Error, Robot};
+
+/// What is decided on a URL.
+#[derive(Drop)]
+pub(crate) struct Verdict<'a> {
+    pub(crate) url: &'a str,
+    pub(crate) decision: Decision,
+}
+
+/// What an agent gets.
+#[derive(Drop)]
+pub(crate) struct AgentAudit<'a> {
+    pub(crate) agent: String,
+    pub(crate) group: Group,
+    /// In microseconds.
+    pub(crate) delay: Option<u64>,
+    pub(crate) verdicts: Vec<Verdict<'a>>,
+}
+
+/// What is found out about a file.
+#[derive(Drop)]
+pub(crate) struct Audit<'a, 'b> {
+    pub(crate) marks: Vec<MarkedLine<'b>>,
+    pub(crate) agents: Vec<AgentAudit<'a>>,
+    pub(crate) warnings: Vec<Warning<'a>>,
+}
+
+/// What an agent gets of a file, or why it can't use it.
+fn robot_for(alloc: Global, agent: &str, file: &[u8]) -> Result<Robot, Fault>
+    ensures ok { IfOk result (IsRobotOfFile agent.now (take file_limit file.now)) }
+    ensures fault { IfErr result (λ fault. (fault ≢ Fault.Write) × MayFail (agent.now ∷ []) fault file.now) }
+{
+    match Robot::new(alloc, agent, file) {
+        Ok(robot) => Ok(robot),
+        Err(Error::InvalidRule) => match overlong_line(alloc, agent, counted(file))? {
+            Some(line) => Err(Fault::InvalidRule(line)),
+            None => unreachable!(),
+        },
+        Err(_) => Err(Fault::Memory),
+    }
+}
+
+/// What a robot decides on each URL.
+fn verdicts_on<'a>(
+    alloc: Global,
+    robot: &Robot,
+    urls: &[&'a str],
+) -> Result<Vec<Verdict<'a>>, Error>
+    ensures ok { IfOk result (λ verdicts. AllZip (IsVerdictOn robot.now.rules) (map (λ url. url.now) urls.now)
+        (map verdict_value verdicts.items)) }
+    ensures memory { IfErr result (λ error. error ≡ Error.Memory) }
+{
+    let mut verdicts = Vec::with_capacity(alloc, urls.len())?;
+    for url in urls {
+        let decision = decision_on(alloc, robot, url)?;
+        verdicts.push(Verdict { url, decision })?;
+    }
+    Ok(verdicts)
+}
+
+/// What an agent gets of a file, whose lines these are.
+fn agent_audit<'a>(
+    alloc: Global,
+    agent: &str,
+    file: &[u8],
+    marks: &[MarkedLine<'_>],
+    urls: &[&'a str],
+) -> Result<AgentAudit<'a>, Fault>
+    requires { lines_of (map mark_by_value marks.now) ≡ lines_read file.now }
+    ensures ok { IfOk result (λ audit. IsAgentAudit (map (λ url. url.now) urls.now) (lines_read file.now)
+        agent.now (agent_value audit)) }
+    ensures fault { IfErr result (λ fault. (fault ≢ Fault.Write)
+        × MayFail (agent.now ∷ []) fault file.now) }
+{
+    let robot = robot_for(alloc, agent, file)?;
+    let name = String::from_str(alloc, agent)?;
+    match verdicts_on(alloc, &robot, urls) {
+        Ok(verdicts) => Ok(AgentAudit {
+            agent: name,
+            group: group_of(agent, marks),
+            delay: robot.delay,
+            verdicts,
+        }),
+        Err(_) => Err(Fault::Memory),
+    }
+}
+
+/// What each of these agents gets of a file, whose lines these are.
+fn agent_audits<'a>(
+    alloc: Global,
+    agents: &[String],
+    file: &[u8],
+    marks: &[MarkedLine<'_>],
+    urls: &[&'a str],
+) -> Result<Vec<AgentAudit<'a>>, Fault>
+    requires { lines_of (map mark_by_value marks.now) ≡ lines_read file.now }
+    ensures ok { IfOk result (λ audits. AllZip (IsAgentAudit (map (λ url. url.now) urls.now) (lines_read file.now))
+        (map string_bytes agents.now) (map agent_value audits.items)) }
+    ensures fault { IfErr result (λ fault. (fault ≢ Fault.Write)
+        × MayFail (map string_bytes agents.now) fault file.now) }
+{
+    let mut audits = Vec::with_capacity(alloc, agents.len())?;
+    for agent in agents {
+        audits.push(agent_audit(alloc, agent, file, marks, urls)?)?;
+    }
+    Ok(audits)
+}
+
+/// What each agent gets that is asked for, of a file, whose lines these are.
+fn agents_of<'a>(
+    alloc: Global,
+    request: &Request<'a>,
+    file: &[u8],
+    marks: &[MarkedLine<'_>],
+) -> Result<Vec<AgentAudit<'a>>, Fault>
+    requires { lines_of (map mark_by_value marks.now) ≡ lines_read file.now }
+    ensures ok { IfOk result (λ audits. AllZip (IsAgentAudit (asked_by request.now).urls (lines_read file.now))
+        (agents_asked (asked_by request.now).agent (lines_read file.now)) (map agent_value audits.items)) }
+    ensures fault { IfErr result (λ fault. (fault ≢ Fault.Write)
+        × MayFail (agents_asked (asked_by request.now).agent (lines_read file.now)) fault file.now) }
+{
+    let names = agents_asked(alloc, request.agent, marks)?;
+    agent_audits(alloc, &names, file, marks, &request.urls)
+}
+
+/// The agent by which lines are marked.
+fn marking_agent<'a>(agent: Option<&'a str>) -> &'a str
+    ensures { result.now ≡ marking_agent (option_map (λ agent. agent.now) agent.entry) }
+{
+    match agent {
+        Some(agent) => agent,
+        None => "*",
+    }
+}
+
+/// What is found out about a file.
+pub(crate) fn audit_of<'a, 'b>(
+    alloc: Global,
+    request: &Request<'a>,
+    file: &'b [u8],
+) -> Result<Audit<'a, 'b>, Fault>
+    ensures ok { IfOk result (λ audit. IsAuditOf (asked_by request.now) file.now (audit_value audit)) }
+    ensures fault { IfErr result (λ fault. (fault ≢ Fault.Write)
+        × MayFail (agents_asked (asked_by request.now).agent (lines_read file.now)) fault file.now) }
+{
+    let marks = marks_for(alloc, marking_agent(request.agent), file)?;
+    let agents = agents_of(alloc, request, file, &marks)?;
+    let warnings = warnings(alloc, request, file, &marks)?;
+    Ok(Audit {
+        marks,
+        agents,
+        warnings,
+    })
+}
+
+/// Whether each of these verdicts allows.
+#[tactic(auto, using(crate::proofs::AuditLemmas::allows_next))]
+fn allows_all(verdicts: &[Verdict<'_>]) -> bool
+    ensures { result ≡ allows_all (map verdict_value verdicts.now) }
+{
+    for verdict in verdicts {
+        if !verdict.decision.allowed {
+            return false;
+        }
+    }
+    true
+}
+
+/// Whether each agent may fetch each URL.
+#[tactic(auto, using(crate::proofs::AuditLemmas::allowed_next))]
+pub(crate) fn all_allowed(agents: &[AgentAudit<'_>]) -> bool
+    ensures { result ≡ all_allowed (map agent_value agents.now) }
+{
+    for agent in agents {
+        if !allows_all(&agent.verdicts) {
+            return false;
+        }
+    }
+    true
+}
