@@ -34,13 +34,13 @@ use Rattle.url.proofs.RoundTrip.{special_body, split_own_scheme}
 use Rattle.texting_robots.specs.Prepared.{marked, prepared, target_of}
 use Rattle.texting_robots.specs.declared.whole.TheConstants.{FRAGMENT as TAIL, QUERY}
 use Rattle.texting_robots.specs.Plain.{IsAuthority, IsMarked, IsName, IsPath, IsSite, IsTarget}
-use Rattle.texting_robots.specs.Steps.Whole.{EndsPath, Leaves, after_marked, front_of, stands}
-use Rattle.texting_robots.proofs.WholeLemmas.{after_at, kept_all, not_ended, stands_all}
+use Rattle.texting_robots.specs.Steps.Whole.{EndsPath, Leaves, after_marked, front_of, past_path, stands}
+use Rattle.texting_robots.proofs.WholeLemmas.{after_at, kept_all, kept_but, not_ended, path_left, stands_all}
 
 -- ---- the query and the fragment
 
 module _ (mark : ℕ) (part : List ℕ) (set : AsciiSet)
-    (same : agree_below (stands part) (λ b. not (should_percent_encode set b || false)) 256 ≡ true) where
+    (same : agree_below (stands part) (kept_but set (λ x. false)) 256 ≡ true) where
   pub marked_read : (text : List ℕ)
       → Leaves (IsMarked (mark ∷ []) set) text (after_marked mark part text)
   marked_read [] = ([], refl, (None, refl, tt))
@@ -318,7 +318,7 @@ prepared_alone front is_site =
 -- ---- the path, the query and the fragment
 
 module _ (target : List ℕ) (is : IsTarget target) where
-  pub tail_ends : EndsPath (is.query ++ is.fragment)
+  tail_ends : EndsPath (is.query ++ is.fragment)
   tail_ends = subst EndsPath (λ i. sym is.is_query.1 i ++ sym is.is_fragment.1 i)
       (by is.is_query.0 is.is_fragment.0)
     where
@@ -327,6 +327,9 @@ module _ (target : List ℕ) (is : IsTarget target) where
       by (Some query) fragment = inl refl
       by None (Some fragment) = inr refl
       by None None = tt
+
+  pub target_past : past_path target ≡ Some (is.query ++ is.fragment)
+  target_past = path_left target _ tail_ends (is.path, is.spelled, is.is_path)
 
   pub tail_left : after_marked 35 TAIL.now (after_marked 63 QUERY.now (is.query ++ is.fragment)) ≡ []
   unfolding stands should_percent_encode

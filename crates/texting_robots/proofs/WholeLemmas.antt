@@ -3,52 +3,49 @@ use Rattle.std.proofs.Common.{◌≡◌, ℕ, ◌<◌, ◌≤◌, Bool, true, fa
 use Rattle.std.proofs.Common.{List, [], ◌∷◌, ◌++◌, length, get_or, drop, drop_at, take_at, All, sym}
 use Rattle.std.proofs.Common.{refl, ap, ◌∙◌, ◌≢◌, subst, ⊎_elim, inl, inr, arith, append_assoc}
 use Rattle.std.proofs.Common.{take-append-drop, None, Some, decimal, cond, take, ◌+◌, Option, codes}
-use Rattle.std.proofs.Common.{◌^◌, ◌/◌, ◌&&◌, nat_lt, option_map, slice_index, suc, zero}
-use Rattle.std.specs.Int.Bits.{and_zero_r}
-use Rattle.std.proofs.lemmas.{Bool.cases_Bool, Bool.cases_eq, List.Sums.prefix_len_passes}
-use Rattle.std.specs.Char.{is_ascii_digit, is_ascii_lowercase, is_ascii_uppercase}
-use Rattle.std.specs.{Int.IsInRange, List.prefix_len}
+use Rattle.std.proofs.Common.{◌^◌, ◌/◌, ◌&&◌, nat_lt, one-add, option_map, slice_index, suc, zero}
+use Rattle.std.specs.{Int.Bits.and_zero_r, Int.IsInRange, List.prefix_len}
+use Rattle.std.specs.Char.{is_ascii_lowercase, is_ascii_uppercase}
 use Rattle.std.specs.Str.Parse.{IsNumeral, digits_value, without_leading_plus}
+use Rattle.std.proofs.lemmas.{Option.none-some, Option.same_Some}
+use Rattle.std.proofs.lemmas.List.Sums.{prefix_len-le-length, prefix_len_passes}
 use Rattle.std.proofs.lemmas.Fmt.{decimal-digits_value, decimal_digit, first_decimal}
-use Rattle.std.proofs.lemmas.Str.Parse.{numerals_by_value, tells_digits}
-use Rattle.std.proofs.lemmas.Bool.{and_parts, agree_below, agree_below_at, cases_lt, false≢true, le-ltb}
-use Rattle.std.proofs.lemmas.Bool.{cond-true, cond-false, ne_eqb, eq-eqb, Decides.nat_tests}
-use Rattle.url.proofs.{HostRoundTrip.All-decimal, PathLemmas.push_valid, PathLemmas.rooted}
-use Rattle.std.proofs.lemmas.List.{get_or_past, length-take-le, drop-drop, Sums.prefix_len-le-length}
-use Rattle.std.proofs.lemmas.List.Folds.{length-prefix_len, prefix_len-append}
+use Rattle.std.proofs.lemmas.Str.Parse.{numerals_by_value, tells_digits, without_leading_plus_none}
+use Rattle.std.proofs.lemmas.Bool.{and_parts, agree_below, agree_below_at, cases_Bool, cases_eq, cases_lt}
+use Rattle.std.proofs.lemmas.Bool.{cond-true, cond-false, le-ltb, ne_eqb, not-true, eq-eqb, Decides.nat_tests}
+use Rattle.std.proofs.lemmas.List.{get_or_past, length-drop, length-take-le, drop-drop}
+use Rattle.std.proofs.lemmas.List.{Folds.length-prefix_len, Folds.prefix_len-append}
 use Rattle.std.proofs.lemmas.List.Elements.{All-head, All-tail, All-weaker}
 use Rattle.percent_encoding.specs.declared.ascii_set.AsciiSet.{AsciiSet}
 use Rattle.percent_encoding.specs.{AsciiSet.should_percent_encode, Percent.IsKept}
 use Rattle.url.specs.declared.sets.TheConstants.{FORBIDDEN_DOMAIN, PATH}
 use Rattle.url.specs.declared.scheme.SchemeType.TheVariants.{SpecialNotFile}
 use Rattle.url.specs.{Scheme.is_slash, Input.rsplit_once, Path.IsSegment, Path.dot_count, Path.join_segments}
+use Rattle.url.proofs.{HostRoundTrip.All-decimal, PathLemmas.push_valid, InputLemmas.prefix_len_at}
 use Rattle.url.proofs.InputLemmas.{Passes, StopsAt, All-take-prefix_len, StopsAt-drop-prefix_len}
-use Rattle.url.proofs.InputLemmas.{prefix_len_at}
-use Rattle.texting_robots.specs.Prepared.{marked}
 use Rattle.texting_robots.specs.declared.whole.TheConstants.{NAME, NUMBER, OPEN, SEGMENT, UPPER}
-use Rattle.texting_robots.specs.Plain.{EndsSite, IsAuthority, IsName, IsPath, IsPort}
-use Rattle.texting_robots.specs.Steps.Whole.{EndsPath, IsOther, Leaves, Passed, after, begins_plainly}
-use Rattle.texting_robots.specs.Steps.Whole.{front_of, stands}
+use Rattle.texting_robots.specs.{Plain.EndsSite, Plain.IsAuthority, Plain.IsName, Plain.IsPath, Plain.IsPort}
+use Rattle.texting_robots.specs.{Prepared.marked, Steps.Whole.IsOther, Steps.Whole.Leaves}
+use Rattle.texting_robots.specs.Steps.Whole.{EndsPath, after, begins_dotted, begins_plainly, front_of}
+use Rattle.texting_robots.specs.Steps.Whole.{past_path, past_segment, stands}
 
 -- ---- bytes that stand
-
-neither : (a b : Bool) → not (a || b) ≡ true → (a ≡ false) × (b ≡ false)
-neither true b e = absurd (false≢true e)
-neither false true e = absurd (false≢true e)
-neither false false e = (refl, refl)
 
 none_past : (part : List ℕ) (b : ℕ) → 256 ≤ b → stands part b ≡ false
 unfolding stands
 none_past part b high = rw (get_or_past UPPER.now (b / 16) 0 (omega arith), and_zero_r) refl
 
--- the bytes of a part are those that a set keeps, without some others
+-- what a set keeps, without some others
+abbrev pub kept_but : AsciiSet → (ℕ → Bool) → ℕ → Bool
+kept_but set other b = not (should_percent_encode set b) && not (other b)
+
+-- a part has such bytes
 module _ (part : List ℕ) (set : AsciiSet) (other : ℕ → Bool)
-    (same : agree_below (stands part) (λ b. not (should_percent_encode set b || other b)) 256 ≡ true) where
-  same_at : (b : ℕ) → stands part b ≡ not (should_percent_encode set b || other b)
+    (same : agree_below (stands part) (kept_but set other) 256 ≡ true) where
+  same_at : (b : ℕ) → stands part b ≡ kept_but set other b
   unfolding stands should_percent_encode
   same_at b = elim (cases_lt b 256) [
-    | inl low ↦
-        agree_below_at (stands part) (λ x. not (should_percent_encode set x || other x)) 256 b same low
+    | inl low ↦ agree_below_at (stands part) (kept_but set other) 256 b same low
     | inr high ↦ rw (none_past part b high, le-ltb b 128 (omega arith)) refl
   ]
 
@@ -56,8 +53,8 @@ module _ (part : List ℕ) (set : AsciiSet) (other : ℕ → Bool)
       → All (IsKept set) xs × All (λ b. other b ≡ false) xs
   kept_all xs passes =
       let each = λ (k d : ℕ) (inside : k < length xs).
-      neither _ _ (sym (same_at (get_or xs k d)) ∙ passes k d inside) in
-      (λ k d inside. (each k d inside).0, λ k d inside. (each k d inside).1)
+      and_parts _ _ (sym (same_at (get_or xs k d)) ∙ passes k d inside) in
+      (λ k d inside. not-true _ (each k d inside).0, λ k d inside. not-true _ (each k d inside).1)
 
   pub stands_all : (xs : List ℕ) → All (IsKept set) xs → All (λ b. other b ≡ false) xs
       → All (Passes (stands part)) xs
@@ -71,9 +68,8 @@ module _ (part : List ℕ) (n len : ℕ) (text : List ℕ) (inside : n ≤ lengt
   by_front : prefix_len (stands part) text
       ≡ cond (len == n) (n + prefix_len (stands part) (drop n text)) len
   by_front =
-      ap (prefix_len (stands part)) (sym (take-append-drop n text)) ∙ prefix_len-append _ (take n text) _
-      ∙ (λ i. cond (sym front i == length-take-le n text inside i)
-      (length-take-le n text inside i + prefix_len (stands part) (drop n text)) (sym front i))
+      let whole = prefix_len-append (stands part) (take n text) (drop n text) in
+      rw (take-append-drop, length-take-le n text inside, ← front) at whole
 
   pub after_few : len < n → drop len text ≡ after part text
   after_few less =
@@ -98,33 +94,75 @@ module _ (part xs ys : List ℕ) (passes : All (Passes (stands part)) xs)
 
 -- ---- the path
 
-is_segment : (segment : List ℕ) → All (Passes (stands SEGMENT.now)) segment → dot_count segment ≡ 0
-    → IsSegment SpecialNotFile segment
-unfolding stands should_percent_encode
-is_segment segment passes resolved =
-    let (escaped, whole) = kept_all SEGMENT.now PATH (is_slash SpecialNotFile) refl segment passes in
-    record { escaped = escaped; whole = whole; resolved = resolved }
+-- from within a segment on, past its end
+past_rest : (text : List ℕ) → past_segment text ≡ past_path (after SEGMENT.now text)
+unfolding past_segment stands
+past_rest [] = refl
+past_rest (b ∷ text) = elim (cases_eq b 47) [
+  | inl slash ↦ rw slash refl
+  | inr other ↦ elim (cases_Bool (stands SEGMENT.now b)) [
+    | inl inside ↦ rw (inside, one-add, ne_eqb b 47 other) (past_rest text)
+    | inr outside ↦ rw (outside, ne_eqb b 47 other) refl
+  ]
+]
 
-segment_stands : (segment : List ℕ) → IsSegment SpecialNotFile segment
-    → All (Passes (stands SEGMENT.now)) segment
-unfolding stands should_percent_encode
-segment_stands segment valid =
-    stands_all SEGMENT.now PATH (is_slash SpecialNotFile) refl segment valid.escaped valid.whole
+-- a first segment that is no dot segment is passed
+pub past_more : (text : List ℕ) → get_or text 0 0 ≡ 47
+    → dot_count (front_of SEGMENT.now (drop 1 text)) ≡ 0
+    → past_path text ≡ past_path (after SEGMENT.now (drop 1 text))
+unfolding past_segment
+past_more [] slash resolved = absurd (omega arith)
+past_more (b ∷ text) slash resolved = rw (slash, resolved) (past_rest text)
 
--- the path after one more segment
-pub path_more : (text here : List ℕ) → get_or here 0 0 ≡ 47 → Leaves IsPath text here
-    → dot_count (front_of SEGMENT.now (drop 1 here)) ≡ 0
-    → Leaves IsPath text (after SEGMENT.now (drop 1 here))
-path_more text [] slash left resolved = absurd (omega arith)
-path_more text (b ∷ behind) slash (path, spelled, is_path) resolved =
-    let segment = front_of SEGMENT.now behind in
-    let valid = is_segment segment (All-take-prefix_len (stands SEGMENT.now) behind) resolved in (
-      path ++ 47 ∷ segment,
-      spelled ∙ ap (λ c. path ++ c ∷ behind) slash
-          ∙ ap (λ t. path ++ 47 ∷ t) (sym (take-append-drop _ behind))
-          ∙ sym (append_assoc path (47 ∷ segment) (after SEGMENT.now behind)),
-      push_valid SpecialNotFile path segment is_path valid,
-    )
+pub past_dots : (text : List ℕ) → get_or text 0 0 ≡ 47
+    → dot_count (front_of SEGMENT.now (drop 1 text)) ≢ 0 → past_path text ≡ None
+unfolding past_segment
+past_dots [] slash dots = absurd (omega arith)
+past_dots (b ∷ text) slash dots = rw (slash, ne_eqb _ 0 dots) refl
+
+-- a slash ends a segment
+pub after_slash : (text : List ℕ) → get_or text 0 0 ≡ 47 → after SEGMENT.now text ≡ text
+unfolding stands
+after_slash [] slash = refl
+after_slash (b ∷ text) slash = rw slash refl
+
+pub two_dots : (text : List ℕ) → get_or text 0 0 ≡ 46 → get_or text 1 0 ≡ 46
+    → get_or text 2 0 ≡ 47
+    → dot_count (front_of SEGMENT.now text) ≡ 2
+unfolding stands dot_count
+two_dots (a ∷ b ∷ c ∷ text) one two slash = rw (one, two, slash) refl
+two_dots [] one two slash = absurd (omega arith)
+two_dots (a ∷ []) one two slash = absurd (omega arith)
+two_dots (a ∷ b ∷ []) one two slash = absurd (omega arith)
+
+-- what is passed is more of a path
+pub path_read : (n : ℕ) (path text rest : List ℕ) → IsPath path → length text ≤ n
+    → past_path text ≡ Some rest → Leaves IsPath (path ++ text) rest
+unfolding stands should_percent_encode
+path_read n path [] rest is_path within past = (path, ap (λ t. path ++ t) (same_Some _ _ past), is_path)
+path_read zero path (b ∷ text) rest is_path within past = absurd (omega arith)
+path_read (suc n) path (b ∷ text) rest is_path within past = elim (cases_eq b 47) [
+  | inl slash ↦
+      let len = prefix_len (stands SEGMENT.now) text in
+      let segment = take len text in
+      let behind = drop len text in
+      let split = sym (take-append-drop len text) in
+      let whole = (λ i. path ++ slash i ∷ split i) ∙ sym (append_assoc path (47 ∷ segment) behind) in
+      let (escaped, solid) = kept_all SEGMENT.now PATH (is_slash SpecialNotFile) refl segment
+      (All-take-prefix_len (stands SEGMENT.now) text) in
+      elim (cases_eq (dot_count segment) 0) [
+        | inl resolved ↦
+            let is_segment : IsSegment SpecialNotFile segment =
+            record { escaped = escaped; whole = solid; resolved = resolved } in
+            rw whole (path_read n (path ++ 47 ∷ segment) behind rest
+            (push_valid SpecialNotFile path segment is_path is_segment) (omega (arith, length-drop len text))
+            (sym (past_more (b ∷ text) slash resolved) ∙ past))
+        | inr dots ↦ absurd (none-some rest (sym (past_dots (b ∷ text) slash dots) ∙ past))
+      ]
+  | inr other ↦
+      let same = same_Some _ _ (sym (cond-false _ _ _ (ne_eqb b 47 other)) ∙ past) in
+      (path, ap (λ t. path ++ t) same, is_path)
+]
 
 joined_stops : (segments : List (List ℕ)) (rest : List ℕ) → EndsPath rest
     → StopsAt (stands SEGMENT.now) (join_segments segments ++ rest)
@@ -137,154 +175,101 @@ pub not_ended : (text : List ℕ) → get_or text 0 0 ≡ 47 → ¬ (EndsPath te
 not_ended [] e ends = omega arith
 not_ended (b ∷ text) e ends = ⊎_elim (λ mark. omega arith) (λ mark. omega arith) ends
 
--- a path that is left begins with a segment
-pub path_behind : (here rest : List ℕ) → get_or here 0 0 ≡ 47 → EndsPath rest
-    → Leaves IsPath here rest
-    → (dot_count (front_of SEGMENT.now (drop 1 here)) ≡ 0)
-    × Leaves IsPath (after SEGMENT.now (drop 1 here)) rest
-path_behind here rest slash ends (path, spelled, is_path) =
-    by is_path.segments is_path.each (spelled ∙ ap (λ p. p ++ rest) is_path.joined)
+-- a path is passed
+pub path_left : (text rest : List ℕ) → EndsPath rest → Leaves IsPath text rest
+    → past_path text ≡ Some rest
+unfolding stands should_percent_encode
+path_left text rest ends (path, spelled, is_path) =
+    ap past_path (spelled ∙ ap (λ p. p ++ rest) is_path.joined) ∙ by is_path.segments is_path.each
   where
     by : (segments : List (List ℕ)) → All (IsSegment SpecialNotFile) segments
-        → here ≡ join_segments segments ++ rest
-        → (dot_count (front_of SEGMENT.now (drop 1 here)) ≡ 0)
-        × Leaves IsPath (after SEGMENT.now (drop 1 here)) rest
-    by [] each same = absurd (not_ended here slash (subst EndsPath (sym same) ends))
-    by (s ∷ segments) each same =
+        → past_path (join_segments segments ++ rest) ≡ Some rest
+    by [] each = cond-false _ _ _ (ne_eqb _ 47 (λ slash. not_ended rest slash ends))
+    by (s ∷ segments) each =
         let later = join_segments segments ++ rest in
-        let whole : drop 1 here ≡ s ++ later = ap (drop 1) same ∙ append_assoc s _ rest in
         let valid = All-head (IsSegment SpecialNotFile) s segments each in
-        let stands = segment_stands s valid in
+        let passes = stands_all SEGMENT.now PATH (is_slash SpecialNotFile) refl s valid.escaped valid.whole in
         let stops = joined_stops segments rest ends in
-        let tail = All-tail (IsSegment SpecialNotFile) s segments each in
-        let front = ap (front_of SEGMENT.now) whole ∙ front_at SEGMENT.now s later stands stops in (
-          ap dot_count front ∙ valid.resolved,
-          (
-            join_segments segments,
-            ap (after SEGMENT.now) whole ∙ after_at SEGMENT.now s later stands stops,
-            record { segments = segments; joined = refl; each = tail },
-          ),
-        )
-
--- what begins with no slash holds no more of a path
-pub path_end : (text rest : List ℕ) → get_or text 0 0 ≢ 47 → Leaves IsPath text rest → text ≡ rest
-path_end text rest other ([], spelled, is_path) = spelled
-path_end text rest other (b ∷ path, spelled, is_path) =
-    let first : get_or text 0 0 ≡ b = rw spelled refl in
-    let slash = rooted SpecialNotFile (b ∷ path) is_path in
-    absurd (⊎_elim (λ none. cc) (λ slash. other (first ∙ slash)) slash)
+        ap (λ t. past_path (47 ∷ t)) (append_assoc s (join_segments segments) rest)
+        ∙ past_more (47 ∷ s ++ later) refl
+        (ap dot_count (front_at SEGMENT.now s later passes stops) ∙ valid.resolved)
+        ∙ ap past_path (after_at SEGMENT.now s later passes stops)
+        ∙ by segments (All-tail (IsSegment SpecialNotFile) s segments each)
 
 -- ---- segments that begin with no dot and no escape
 
-open_is : (b : ℕ) → stands OPEN.now b
-    ≡ (not (b == 46) && not (b == 37) && (b == 47 || stands SEGMENT.now b))
+abbrev is_open : ℕ → Bool
+is_open b = not (b == 46 || b == 37) && (b == 47 || stands SEGMENT.now b)
+
+open_is : (b : ℕ) → stands OPEN.now b ≡ is_open b
 unfolding stands
 open_is b = elim (cases_lt b 256) [
-  | inl low ↦ agree_below_at (stands OPEN.now)
-      (λ x. not (x == 46) && not (x == 37) && (x == 47 || stands SEGMENT.now x)) 256 b refl low
+  | inl low ↦ agree_below_at (stands OPEN.now) is_open 256 b refl low
   | inr high ↦ rw (none_past OPEN.now b high, none_past SEGMENT.now b high) (grind (arith, nat_tests))
 ]
 
--- a slash ends a segment, and another open byte belongs to it
-after_slash : (text : List ℕ) → get_or text 0 0 ≡ 47 → after SEGMENT.now text ≡ text
-unfolding stands
-after_slash [] slash = refl
-after_slash (b ∷ text) slash = rw slash refl
-
-after_other : (text : List ℕ) → 0 < prefix_len (stands OPEN.now) text → get_or text 0 0 ≢ 47
-    → after SEGMENT.now text ≡ after SEGMENT.now (drop 1 text)
-after_other [] some other = refl
-after_other (b ∷ text) some other =
-    let is = sym (open_is b) ∙ prefix_len_passes (stands OPEN.now) (b ∷ text) 0 0 some in
-    let inside : stands SEGMENT.now b ≡ true = grind (arith, nat_tests) in
-    let len = prefix_len (stands SEGMENT.now) text in
-    let more : 1 + len ≡ suc len = omega arith in
-    ap (λ k. drop k (b ∷ text)) (cond-true (stands SEGMENT.now b) (1 + len) 0 inside ∙ more)
-
--- no dot segment begins with an open byte
-open_resolved : (text : List ℕ) → 0 < prefix_len (stands OPEN.now) text
+pub undotted : (text : List ℕ) → begins_dotted text ≡ false
     → dot_count (front_of SEGMENT.now text) ≡ 0
 unfolding dot_count
-open_resolved [] some = refl
-open_resolved (b ∷ text) some =
-    let is = sym (open_is b) ∙ prefix_len_passes (stands OPEN.now) (b ∷ text) 0 0 some in
-    ⊎_elim
-    (λ (e : stands SEGMENT.now b ≡ true). rw e (grind (arith, nat_tests)))
-    (λ (e : stands SEGMENT.now b ≡ false). rw e refl) (cases_Bool (stands SEGMENT.now b))
+undotted [] plain = refl
+undotted (b ∷ text) plain = elim (cases_Bool (stands SEGMENT.now b)) [
+  | inl inside ↦ rw inside (grind (arith, nat_tests))
+  | inr outside ↦ rw outside refl
+]
+
+-- past a slash or a byte of a segment, where what follows begins with no dot and no escape
+past_one : (b : ℕ) (text : List ℕ) → (b == 47 || stands SEGMENT.now b) ≡ true
+    → begins_dotted text ≡ false → past_segment (b ∷ text) ≡ past_segment text
+unfolding past_segment
+past_one b text within plain = elim (cases_eq b 47) [
+  | inl slash ↦ rw (slash, undotted text plain) refl
+  | inr other ↦
+      let inside : stands SEGMENT.now b ≡ true = rw (ne_eqb b 47 other) at within in
+      rw (ne_eqb b 47 other, inside) refl
+]
+
+-- past open bytes: to the last one, and over it
+past_open : (n b : ℕ) (text : List ℕ) → n ≤ prefix_len (stands OPEN.now) text
+    → (b == 47 || stands SEGMENT.now b) ≡ true
+    → (past_segment (b ∷ text) ≡ past_segment (drop n (b ∷ text)))
+    × (begins_dotted (drop n text) ≡ false → past_segment (b ∷ text) ≡ past_segment (drop n text))
+past_open zero b text few within = (refl, past_one b text within)
+past_open (suc n) b [] few within = absurd (omega arith)
+past_open (suc n) b (c ∷ text) few within =
+    let stand = prefix_len_passes (stands OPEN.now) (c ∷ text) 0 0 (omega arith) in
+    let (plain, next) = and_parts _ _ (sym (open_is c) ∙ stand) in
+    let step = past_one b (c ∷ text) within (not-true _ plain) in
+    let more = past_open n c text (omega (arith, rw stand at few)) next in
+    (step ∙ more.0, λ last. step ∙ more.1 last)
 
 -- what neither is open nor begins like a dot is no part of a path
-closed : (text : List ℕ) → StopsAt (stands OPEN.now) text
-    → (get_or text 0 0 == 46 || get_or text 0 0 == 37) ≡ false
+closed : (text : List ℕ) → StopsAt (stands OPEN.now) text → begins_dotted text ≡ false
     → after SEGMENT.now text ≡ text
-closed [] stops other = refl
-closed (b ∷ text) stops other =
+closed [] stops plain = refl
+closed (b ∷ text) stops plain =
     let is = sym (open_is b) ∙ stops in
     let none : stands SEGMENT.now b ≡ false = grind (arith, nat_tests) in
     rw none refl
 
-pub passed_same : (here : List ℕ) → Passed here here
-passed_same here = record { read = λ text left. left; left = λ rest ends left. left }
-
-pub passed_more : (here next last : List ℕ) → Passed here next → Passed next last → Passed here last
-passed_more here next last first second = record {
-  read = λ text left. second.read text (first.read text left);
-  left = λ rest ends left. second.left rest ends (first.left rest ends left);
-}
-
-pub segment_passed : (here : List ℕ) → get_or here 0 0 ≡ 47
-    → dot_count (front_of SEGMENT.now (drop 1 here)) ≡ 0 → Passed here (after SEGMENT.now (drop 1 here))
-segment_passed here slash resolved = record {
-  read = λ text left. path_more text here slash left resolved;
-  left = λ rest ends left. (path_behind here rest slash ends left).1;
-}
-
--- past open bytes: to the last one, if it is a slash, and else to the end of its segment
-plain_passed : (n : ℕ) (start here : List ℕ) → n < prefix_len (stands OPEN.now) here
-    → Passed start (after SEGMENT.now here)
-    → (get_or here n 0 ≡ 47 → Passed start (drop n here))
-    × (get_or here n 0 ≢ 47 → Passed start (after SEGMENT.now (drop (suc n) here)))
-plain_passed zero start here some passed = (
-  λ slash. subst (Passed start) (after_slash here slash) passed,
-  λ other. subst (Passed start) (after_other here some other) passed,
-)
-plain_passed (suc n) start [] some passed = absurd (omega arith)
-plain_passed (suc n) start (b ∷ here) some passed =
-    let stand = prefix_len_passes (stands OPEN.now) (b ∷ here) 0 0 (omega arith) in
-    let less : n < prefix_len (stands OPEN.now) here = omega (arith, rw stand at some) in
-    plain_passed n start here less (⊎_elim
-    (λ (slash : b ≡ 47). passed_more start (b ∷ here) (after SEGMENT.now here)
-    (subst (Passed start) (after_slash (b ∷ here) slash) passed)
-    (segment_passed (b ∷ here) slash (open_resolved here (omega arith))))
-    (λ (other : b ≢ 47). subst (Passed start) (after_other (b ∷ here) (omega arith) other) passed)
-    (cases_eq b 47))
-
-pub record Ends (here plain rest : List ℕ) : Type 0 where
-  pub slashed : get_or here (length plain) 0 ≡ 47 → Passed here (drop (length plain) here)
-  pub behind : get_or here (length plain) 0 ≢ 47 → Passed here (after SEGMENT.now rest)
-  pub closes : get_or here (length plain) 0 ≢ 47
-      → (get_or rest 0 0 == 46 || get_or rest 0 0 == 37) ≡ false
-      → Passed here rest
-
+-- where the open bytes end, their segment ends, or it goes on
 pub plain_end : (here plain rest : List ℕ) → get_or here 0 0 ≡ 47
-    → plain ≡ front_of OPEN.now (drop 1 here)
-    → rest ≡ after OPEN.now (drop 1 here) → Ends here plain rest
-unfolding stands
+    → plain ≡ front_of OPEN.now (drop 1 here) → rest ≡ after OPEN.now (drop 1 here)
+    → (past_path here ≡ past_path (after SEGMENT.now (drop (length plain) here)))
+    × (begins_dotted rest ≡ false → past_path here ≡ past_path rest)
 plain_end [] plain rest slash front back = absurd (omega arith)
 plain_end (b ∷ text) plain rest slash front back =
     let here = b ∷ text in
+    let first = eq-eqb b 47 slash in
     let len = ap length front ∙ length-prefix_len (stands OPEN.now) text in
-    let less : length plain < prefix_len (stands OPEN.now) here = rw slash (omega arith) in
-    let start = subst (Passed here) (sym (after_slash here slash)) (passed_same here) in
-    let ends = plain_passed (length plain) here here less start in
-    let behind = λ (other : get_or here (length plain) 0 ≢ 47). subst (Passed here)
-    ((λ i. after SEGMENT.now (drop (len i) text)) ∙ ap (after SEGMENT.now) (sym back)) (ends.1 other) in
-    record {
-      slashed = ends.0;
-      behind = behind;
-      closes = λ other undotted. subst (Passed here) (closed rest
-          (subst (StopsAt (stands OPEN.now)) (sym back) (StopsAt-drop-prefix_len (stands OPEN.now) text))
-          undotted) (behind other);
-    }
+    let behind : drop (length plain) text ≡ rest = ap (λ k. drop k text) len ∙ sym back in
+    let (upto, over) = past_open (length plain) b text (omega (arith, len)) (rw first refl) in
+    let start = cond-true (b == 47) (past_segment here) (Some here) first in
+    let stops = subst (StopsAt (stands OPEN.now)) (sym back)
+    (StopsAt-drop-prefix_len (stands OPEN.now) text) in (
+      start ∙ upto ∙ past_rest (drop (length plain) here),
+      λ plain. start ∙ over (ap begins_dotted behind ∙ plain) ∙ ap past_segment behind
+          ∙ past_rest rest ∙ ap past_path (closed rest stops plain),
+    )
 
 -- ---- the port
 
@@ -302,38 +287,23 @@ number_stands b digit =
     (omega arith) in
     rw (le-ltb b 48 (omega arith)) at test
 
-plain_first : (digits : List ℕ) → begins_plainly digits ≡ true
-    → (is_ascii_digit (get_or digits 0 0) ≡ true) × (get_or digits 0 0 ≡ 48 → length digits ≡ 1)
-plain_first [] plain = absurd (false≢true plain)
-plain_first (b ∷ []) plain = (plain, λ zero. refl)
-plain_first (b ∷ d ∷ digits) plain =
-    let both = and_parts (is_ascii_digit b) (not (b == 48)) plain in
-    (both.0, λ zero. absurd (false≢true (rw zero at both.1)))
-
 -- digits that begin plainly are what their number is written as
 pub decimal_read : (digits : List ℕ) (port : ℕ) → begins_plainly digits ≡ true
     → (IsNumeral 10 (without_leading_plus digits)
     × (digits_value 10 (without_leading_plus digits) < 2 ^ 16))
     × (port ≡ digits_value 10 (without_leading_plus digits)) → digits ≡ decimal port
 decimal_read digits port plain parses =
-    let first = plain_first digits plain in
-    let no_plus : (get_or digits 0 0 == 43) ≡ false = let digit = first.0 in grind (arith, nat_tests) in
-    let same : without_leading_plus digits ≡ digits = rw no_plus refl in
-    let read = rw same at parses in
-    sym (decimal-digits_value (numerals_by_value _ tells_digits) digits read.0.0.1 read.0.0.0 first.1
+    let no_plus : get_or digits 0 0 ≢ 43 = λ e. absurd (grind (arith, nat_tests)) in
+    let read = rw (without_leading_plus_none digits no_plus) at parses in
+    let some = read.0.0.1 in
+    let first : get_or digits 0 0 ≡ 48 → length digits ≡ 1 = λ e. grind (arith, nat_tests) in
+    sym (decimal-digits_value (numerals_by_value _ tells_digits) digits read.0.0.1 read.0.0.0 first
     (omega (arith, read.0.1))) ∙ ap decimal (sym read.1)
 
 pub decimal_plain : (port : ℕ) → port < 2 ^ 16 → begins_plainly (decimal port) ≡ true
 decimal_plain zero small = rw (decimal_digit 0 (omega arith)) refl
 decimal_plain (suc n) small =
-    by (decimal (suc n)) (All-decimal (suc n) (omega arith))
-    (first_decimal (suc n) (omega arith) (omega arith))
-  where
-    by : (digits : List ℕ) → All (IsInRange 48 57) digits → 48 < get_or digits 0 0
-        → begins_plainly digits ≡ true
-    by [] range above = absurd (omega arith)
-    by (b ∷ []) range above = let first = range 0 0 (omega arith) in grind (arith, nat_tests)
-    by (b ∷ d ∷ digits) range above = let first = range 0 0 (omega arith) in grind (arith, nat_tests)
+    let first = first_decimal (suc n) (omega arith) (omega arith) in grind (arith, nat_tests)
 
 -- what is written as a port is read as one
 pub port_left : (own : ℕ) (text rest : List ℕ) → get_or text 0 0 ≡ 58 → EndsSite rest
@@ -369,24 +339,15 @@ port_read own (b ∷ behind) colon (port, digits, small, other) = (
 
 -- ---- the host and the port
 
-name_of : (host : List ℕ) → All (Passes (stands NAME.now)) host
-    → is_ascii_lowercase (slice_index (rsplit_once 46 host).1 0) ≡ true → IsName host
-unfolding stands should_percent_encode
-name_of host stand letter =
-    let (allowed, small) = kept_all NAME.now FORBIDDEN_DOMAIN is_ascii_uppercase refl host stand in
-    record { allowed = allowed; small = small; letter = letter }
-
-name_stands : (host : List ℕ) → IsName host → All (Passes (stands NAME.now)) host
-unfolding stands should_percent_encode
-name_stands host name =
-    stands_all NAME.now FORBIDDEN_DOMAIN is_ascii_uppercase refl host name.allowed name.small
-
 pub authority_read : (own : ℕ) (text rest : List ℕ)
     → is_ascii_lowercase (slice_index (rsplit_once 46 (front_of NAME.now text)).1 0) ≡ true
     → Leaves (IsPort own) (after NAME.now text) rest → Leaves (IsAuthority own) text rest
+unfolding stands should_percent_encode
 authority_read own text rest letter (port, spelled, is_port) =
     let host = front_of NAME.now text in
-    let name = name_of host (All-take-prefix_len (stands NAME.now) text) letter in (
+    let (allowed, small) = kept_all NAME.now FORBIDDEN_DOMAIN is_ascii_uppercase refl host
+    (All-take-prefix_len (stands NAME.now) text) in
+    let name : IsName host = record { allowed = allowed; small = small; letter = letter } in (
       host ++ port,
       sym (take-append-drop _ text) ∙ ap (λ t. host ++ t) spelled ∙ sym (append_assoc host port rest),
       record { host = host; port = port; spelled = refl; is_name = name; is_port = is_port },
@@ -396,15 +357,16 @@ pub authority_left : (own : ℕ) (text rest : List ℕ) → EndsSite rest
     → Leaves (IsAuthority own) text rest
     → (is_ascii_lowercase (slice_index (rsplit_once 46 (front_of NAME.now text)).1 0) ≡ true)
     × Leaves (IsPort own) (after NAME.now text) rest
-unfolding stands
+unfolding stands should_percent_encode
 authority_left own text rest ends (part, spelled, authority) =
     let host = authority.host in
     let whole =
     spelled ∙ ap (λ p. p ++ rest) authority.spelled ∙ append_assoc host authority.port rest in
-    let each = name_stands host authority.is_name in
+    let name = authority.is_name in
+    let each = stands_all NAME.now FORBIDDEN_DOMAIN is_ascii_uppercase refl host name.allowed name.small in
     let front =
     ap (front_of NAME.now) whole ∙ front_at NAME.now host (authority.port ++ rest) each stops in (
-      rw front authority.is_name.letter,
+      rw front name.letter,
       (
         authority.port,
         ap (after NAME.now) whole ∙ after_at NAME.now host (authority.port ++ rest) each stops,

@@ -1,14 +1,14 @@
 //! Whole URLs that the URL parser would leave as they are: the text that rules are matched with stands at their end.
-ghost use Rattle.std.specs.Prelude.{◌≡◌, ◌==◌, ◌||◌, ◌<◌, ◌≤◌, ◌≢◌, ℕ, List, false, true, length, map, slice_index};
-ghost use Rattle.std.specs.Prelude.{IfSome, IsSome, IsSomeAnd, IsTrue};
+ghost use Rattle.std.specs.Prelude.{◌≡◌, ◌<◌, ◌≤◌, ◌≢◌, ℕ, List, drop, false, true, length, map, slice_index};
+ghost use Rattle.std.specs.Prelude.{IfSome, IsSome, IsSomeAnd, IsTrue, decimal, option_map};
 ghost use Rattle.std.specs.Char.{is_ascii_lowercase};
 ghost use Rattle.std.specs.List.{prefix_len};
 ghost use Rattle.std.specs.Simd.Lanes.{Each1};
 ghost use Rattle.url.specs.{Input.rsplit_once, Path.dot_count, Path.dot_len};
 ghost use Rattle.texting_robots.specs.Plain.{EndsSite, IsAuthority, IsPath, IsPlainUrl, IsPort, IsSite, IsTarget};
 ghost use Rattle.texting_robots.specs.Prepared.{prepared};
-ghost use Rattle.texting_robots.specs.Steps.Whole.{after, after_marked, begins_plainly, front_of, stands};
-ghost use Rattle.texting_robots.specs.Steps.Whole.{EndsPath, IsOther, Leaves, Passed};
+ghost use Rattle.texting_robots.specs.Steps.Whole.{after, after_marked, begins_dotted, begins_plainly, front_of};
+ghost use Rattle.texting_robots.specs.Steps.Whole.{EndsPath, IsOther, Leaves, past_path, stands};
 
 use std::simd::prelude::*;
 
@@ -118,12 +118,23 @@ fn begins_with_letter(text: &[u8]) -> bool
     }
 }
 
-/// Whether the text begins as a number does that has no sign and no zero in front.
+/// Whether the digits have no sign, and a zero in front only where it stands alone.
 fn begins_plainly(digits: &[u8]) -> bool
     ensures { result ≡ begins_plainly digits.now }
 {
     match digits {
-        [b'0'] | [b'1'..=b'9', ..] => true,
+        [b'+', ..] | [b'0', _, ..] => false,
+        _ => true,
+    }
+}
+
+/// Whether these are the digits of such an own port of a scheme, which is told without reading a number.
+fn is_own(own: u16, digits: &[u8]) -> bool
+    ensures { IsTrue result → digits.now ≡ decimal own }
+{
+    match own {
+        443 => digits == b"443".as_slice(),
+        80 => digits == b"80".as_slice(),
         _ => false,
     }
 }
@@ -135,6 +146,9 @@ fn is_port(own: u16, digits: &[u8]) -> bool
     ensures some { IsTrue result → IsOther own digits.now }
     ensures whole { IsOther own digits.now → IsTrue result }
 {
+    if is_own(own, digits) {
+        return false;
+    }
     let Ok(text) = str::from_utf8(digits) else {
         return false;
     };
@@ -213,7 +227,7 @@ fn is_dots(segment: &[u8]) -> bool
 
 /// Whether the text begins with a dot or an escape.
 fn begins_dotted(text: &[u8]) -> bool
-    ensures { result ≡ (slice_index text.now 0 == 46 || slice_index text.now 0 == 37) }
+    ensures { result ≡ begins_dotted text.now }
 {
     match text {
         [b'.' | b'%', ..] => true,
@@ -224,36 +238,44 @@ fn begins_dotted(text: &[u8]) -> bool
 /// What follows the segments at the front that begin with no dot and no escape.
 #[inline(always)]
 fn after_plain(text: &[u8]) -> &[u8]
-    ensures passed { Passed text.now result.now }
+    ensures passed { past_path text.now ≡ past_path result.now }
     ensures within { length result.now ≤ length text.now }
 {
     let [b'/', behind @ ..] = text else {
         return text;
     };
-    let (plain, rest) = split(OPEN, behind);
-    if text[plain.len()] == b'/' {
-        return &text[plain.len()..];
+    if begins_dotted(behind) {
+        return text;
     }
-    if begins_dotted(rest) {
-        after(SEGMENT, rest)
-    } else {
-        rest
+    let (plain, rest) = split(OPEN, behind);
+    if !begins_dotted(rest) {
+        return rest;
+    }
+    match &text[plain.len()..] {
+        last @ [b'/', ..] => last,
+        last => after(SEGMENT, last),
     }
 }
 
 /// What follows a path, unless a segment of it is `.` or `..`.
 fn after_path(text: &[u8]) -> Option<&[u8]>
-    ensures some { IfSome result (λ rest. Leaves IsPath text.now rest.now) }
-    ensures whole { (rest : List ℕ) → EndsPath rest → Leaves IsPath text.now rest
-        → IsSomeAnd result (λ found. found.now ≡ rest) }
+    ensures { past_path text.now ≡ option_map (λ rest. rest.now) result }
 {
     let mut rest = after_plain(text);
     while let [b'/', behind @ ..] = rest {
-        let (segment, more) = split(SEGMENT, behind);
-        if is_dots(segment) {
-            return None;
+        if begins_dotted(behind) {
+            // the dot segment that is met most, without a look-up
+            if let [b'.', b'.', b'/', ..] = behind {
+                return None;
+            }
+            let (segment, more) = split(SEGMENT, behind);
+            if is_dots(segment) {
+                return None;
+            }
+            rest = more;
+        } else {
+            rest = after_plain(after(SEGMENT, behind));
         }
-        rest = after_plain(more);
     }
     Some(rest)
 }

@@ -1,12 +1,11 @@
 -- Whole URLs that `url` leaves as they are, from their front.
 use Rattle.std.specs.Prelude.{◌≡◌, ◌⊎◌, ℕ, ◌==◌, Bool, not, List, [], ◌∷◌, ◌++◌}
-use Rattle.std.specs.Prelude.{take, drop}
-use Rattle.std.specs.Prelude.{slice_index, if◌then◌else◌}
-use Rattle.std.specs.Prelude.{◌≢◌, ◌<◌, ◌^◌, ◌/◌, ◌&&◌, false, decimal}
-use Rattle.std.specs.Char.{is_ascii_digit}
+use Rattle.std.specs.Prelude.{take, drop, length, nat_lt, slice_index, if◌then◌else◌}
+use Rattle.std.specs.Prelude.{◌≢◌, ◌<◌, ◌^◌, ◌/◌, ◌&&◌, ◌||◌, decimal}
+use Rattle.std.specs.Prelude.{Option, None, Some}
 use Rattle.std.specs.{Int.Bits.bit_and, List.prefix_len, Str.byte}
-use Rattle.texting_robots.specs.Plain.{IsPath}
-use Rattle.texting_robots.specs.declared.whole.TheConstants.{UPPER}
+use Rattle.url.specs.Path.{dot_count}
+use Rattle.texting_robots.specs.declared.whole.TheConstants.{SEGMENT, UPPER}
 
 -- the byte stands as it is in such a part: the table has the bit of its upper half at its lower half
 unfoldable pub stands : List ℕ → ℕ → Bool
@@ -24,11 +23,10 @@ abbrev pub after_marked : ℕ → List ℕ → List ℕ → List ℕ
 after_marked mark part [] = []
 after_marked mark part (b ∷ text) = if b == mark then after part text else b ∷ text
 
--- one digit, or a first one that isn't zero
+-- no sign, and a zero only by itself
 abbrev pub begins_plainly : List ℕ → Bool
-begins_plainly [] = false
-begins_plainly (b ∷ []) = is_ascii_digit b
-begins_plainly (b ∷ rest) = is_ascii_digit b && not (b == byte "0")
+begins_plainly digits =
+    not (slice_index digits 0 == byte "+" || slice_index digits 0 == byte "0" && nat_lt 1 (length digits))
 
 -- the digits of a port that isn't this one, as a port is written
 abbrev pub IsOther : ℕ → List ℕ → Type 0
@@ -43,7 +41,19 @@ abbrev pub EndsPath : List ℕ → Type 0
 EndsPath [] = Unit {0}
 EndsPath (b ∷ rest) = (b ≡ byte "?") ⊎ (b ≡ byte "#")
 
--- what goes on with the one rest of a path goes on with the other
-pub record Passed (here next : List ℕ) : Type 0 where
-  pub read : (text : List ℕ) → Leaves IsPath text here → Leaves IsPath text next
-  pub left : (rest : List ℕ) → EndsPath rest → Leaves IsPath here rest → Leaves IsPath next rest
+-- the text begins with a dot or an escape
+abbrev pub begins_dotted : List ℕ → Bool
+begins_dotted text = slice_index text 0 == byte "." || slice_index text 0 == byte "%"
+
+-- what follows a path of which the text is the end, from within a segment on; nothing where a segment that
+-- begins in the text is a dot segment
+unfoldable pub past_segment : List ℕ → Option (List ℕ)
+past_segment [] = Some []
+past_segment (b ∷ text) =
+    if b == byte "/"
+    then (if dot_count (front_of SEGMENT.now text) == 0 then past_segment text else None)
+    else (if stands SEGMENT.now b then past_segment text else Some (b ∷ text))
+
+-- the same where a segment begins with its slash, or the path ends
+abbrev pub past_path : List ℕ → Option (List ℕ)
+past_path text = if slice_index text 0 == byte "/" then past_segment text else Some text

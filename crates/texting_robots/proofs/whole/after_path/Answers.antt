@@ -1,36 +1,43 @@
-use Rattle.std.proofs.Common.{◌≢◌, ◌∙◌, [], ap, arith, get_or, refl, sym}
+use Rattle.std.proofs.Common.{◌≢◌, ◌∙◌, ◌-◌, ap, arith, drop, get_or, length, sym, take}
+use Rattle.std.proofs.lemmas.Bool.{cond-false, ne_eqb}
 use Rattle.std.proofs.lemmas.List.{take_rest, get_or_past}
 use Rattle.url.specs.Path.{dot_count}
-use Rattle.texting_robots.proofs.WholeLemmas.{path_behind, path_end, passed_more, segment_passed}
+use Rattle.texting_robots.specs.Steps.Whole.{past_path}
+use Rattle.texting_robots.proofs.WholeLemmas.{past_dots, past_more, two_dots, undotted}
 use Rattle.texting_robots.proofs.whole.after_path.Goals.{in_default, in_default-2}
 use Rattle.texting_robots.proofs.whole.after_path.Goals as goal
 
-pub returns-then-is_dots-clause-whole : goal.returns-then-is_dots-clause-whole
-returns-then-is_dots-clause-whole c rest ends leaves =
-    let here = c.loop-rest.rest.now in
-    let behind = path_behind here rest (omega arith) ends (c.loop-rest.invariant.left rest ends leaves) in
+pub returns-in-46 : goal.returns-in-46
+returns-in-46 c =
+    let rest = c.loop-rest.rest.now in
+    let behind = take (length rest - 1) (drop 1 rest) in
+    let two = rw take_rest at (two_dots behind (omega arith) (omega arith) (omega arith)) in
+    c.loop-rest.invariant ∙ past_dots rest (omega arith) (λ none. omega (arith, two))
+
+pub returns-then-is_dots : goal.returns-then-is_dots
+returns-then-is_dots c =
     let front = ap dot_count (rw take_rest at c.split.ensures.front) in
-    c.is_dots.ensures.some c.if-is_dots.true (front ∙ behind.0)
+    c.loop-rest.invariant ∙ past_dots c.loop-rest.rest.now (omega arith)
+    (λ none. c.is_dots.ensures.some c.if-is_dots.true (front ∙ none))
+
+pub loop-rest-preserved-else-is_dots : goal.loop-rest-preserved-else-is_dots
+loop-rest-preserved-else-is_dots c =
+    let front = ap dot_count (rw take_rest at c.split.ensures.front) in
+    let none = sym front ∙ c.is_dots.ensures.none c.if-is_dots.false in
+    c.loop-rest.invariant ∙ past_more c.loop-rest.rest.now (omega arith) none
+    ∙ ap past_path (sym (rw take_rest at c.split.ensures.rest))
 
 pub loop-rest-preserved : goal.loop-rest-preserved
 loop-rest-preserved c =
-    let here = c.loop-rest.rest.now in
-    let front = ap dot_count (rw take_rest at c.split.ensures.front) in
-    let more = rw take_rest at c.split.ensures.rest in
-    let resolved = sym front ∙ c.is_dots.ensures.none c.if-is_dots.false in
-    passed_more _ _ _ c.loop-rest.invariant (passed_more _ _ _ (segment_passed here (omega arith) resolved)
-    (rw more at c.after_plain-rest-in-47.ensures.passed))
+    let plain = rw take_rest at (sym c.begins_dotted.ensures ∙ c.if-begins_dotted.false) in
+    c.loop-rest.invariant ∙ past_more c.loop-rest.rest.now (omega arith) (undotted _ plain)
+    ∙ ap past_path (sym (rw take_rest at c.after.ensures))
+    ∙ c.after_plain-rest-else-begins_dotted.ensures.passed
 
-pub returns-clause-some : goal.returns-clause-some
-returns-clause-some c =
-    c.loop-rest.invariant.read c.args.text.now
-    ([], refl, record { segments = []; joined = refl; each = λ k d inside. absurd (omega arith) })
-
-pub returns-clause-whole : goal.returns-clause-whole
-returns-clause-whole c rest ends leaves =
-    let here = c.loop-rest.rest.now in
-    let other : get_or here 0 0 ≢ 47 = elim c.if-rest-lt1.branch [
-      | in_default w ↦ λ e. omega (arith, get_or_past here 0 0)
+pub returns : goal.returns
+returns c =
+    let other : get_or c.loop-rest.rest.now 0 0 ≢ 47 = elim c.if-rest-lt1.branch [
+      | in_default w ↦ λ e. omega (arith, get_or_past c.loop-rest.rest.now 0 0)
       | in_default-2 w ↦ λ e. omega arith
     ] in
-    path_end here rest other (c.loop-rest.invariant.left rest ends leaves)
+    c.loop-rest.invariant ∙ cond-false _ _ _ (ne_eqb _ 47 other)

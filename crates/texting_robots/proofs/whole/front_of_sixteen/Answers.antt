@@ -23,11 +23,8 @@ module _ (part bytes lower upper : List ℕ) (long : length bytes ≡ 16)
 
   bits_are : bits ≡ mask_l (map other bytes)
   bits_are =
-      let low : lower ≡ map (λ b. slice_index part (bit_and b 15)) bytes = lower_is
-      ∙ ap (map (slice_index part)) (zip2_splat bit_and bytes 16 15 long) ∙ map-map _ _ bytes in
-      let up : upper ≡ map (λ b. slice_index UPPER.now (b / 16)) bytes = upper_is
-      ∙ ap (map (slice_index UPPER.now)) (zip2_splat (λ a b. a / 2 ^ b) bytes 16 4 long)
-      ∙ map-map _ _ bytes in
+      let low = rw (zip2_splat bit_and bytes 16 15 long, map-map) at lower_is in
+      let up = rw (zip2_splat (λ a b. a / 2 ^ b) bytes 16 4 long, map-map) at upper_is in
       let both = zip2_of_maps bit_and _ _ bytes low up in
       bitmask_splat w8 (λ a b. a == b) (zip2 bit_and lower upper) 16 0
       (ap length both ∙ length-map bytes _ ∙ long) (omega arith)

@@ -1,10 +1,16 @@
 use Rattle.std.proofs.Common.{◌≡◌, ◌==◌, ◌∙◌, Ok, ap, arith, not, sym}
 use Rattle.std.proofs.lemmas.Bool.{and_parts, ne_eqb, Decides.nat_tests}
-use Rattle.std.proofs.lemmas.{Fmt.IsAscii-decimal, Fmt.parse-decimal, Str.IsUtf8-from_ascii}
+use Rattle.std.proofs.lemmas.Fmt.{IsAscii-decimal, decimal_injective, parse-decimal}
+use Rattle.std.proofs.lemmas.Str.{IsUtf8-from_ascii}
 use Rattle.texting_robots.specs.Steps.Whole.{IsOther, begins_plainly}
 use Rattle.texting_robots.proofs.whole.is_port.Goals.{After-from_str_radix}
 use Rattle.texting_robots.proofs.WholeLemmas.{decimal_plain, decimal_read}
 use Rattle.texting_robots.proofs.whole.is_port.Goals as goal
+
+pub returns-then-is_own-clause-whole : goal.returns-then-is_own-clause-whole
+returns-then-is_own-clause-whole c (port, digits, small, other) =
+    let same = c.is_own.ensures c.if-is_own.true in
+    absurd (other (decimal_injective port c.args.own (omega arith) (omega arith) (sym digits ∙ same)))
 
 pub returns-in_default-clause-whole : goal.returns-in_default-clause-whole
 returns-in_default-clause-whole c (port, digits, small, other) =
