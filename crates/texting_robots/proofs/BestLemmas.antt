@@ -13,6 +13,7 @@ use Rattle.texting_robots.specs.Decision.{IsBetter, IsDecidingRule, IsDecidingLi
 use Rattle.texting_robots.specs.Pattern.{IsSuffix, Matches, MatchesWith, dollar, star}
 use Rattle.texting_robots.specs.Rules.{PlacedRule, Rule, unplaced}
 use Rattle.texting_robots.specs.{Steps.Entries.rank, Verdict.IsVerdict, Verdict.robots_file}
+use Rattle.texting_robots.proofs.PatternLemmas.{none_left}
 
 -- it holds, or it doesn't
 abbrev pub Either : Type 0 → Type 0
@@ -44,12 +45,8 @@ matches anchors (b ∷ q) t =
 module _ (P : List ℕ → Type 0) (test : List ℕ → Bool)
     (each : (t : List ℕ) → Decides (test t) (P t)) where
   some_end_decides : (t : List ℕ) → Decides (some_end test t) ((s : List ℕ) × IsSuffix s t × P s)
-  some_end_decides [] = Decides-like _ (λ is. ([], ([], refl), is)) only (each [])
-    where
-      only : (s : List ℕ) × IsSuffix s [] × P s → P []
-      only ([], (front, whole), is) = is
-      only (x ∷ s, ([], whole), is) = cc
-      only (x ∷ s, (y ∷ front, whole), is) = cc
+  some_end_decides [] = Decides-like _ (λ is. ([], ([], refl), is))
+      (λ (s, (front, whole), is). subst P (none_left front s whole) is) (each [])
   some_end_decides (x ∷ t) =
       Decides-like _ there back (Decides-or _ _ (each (x ∷ t)) (some_end_decides t))
     where
@@ -144,10 +141,7 @@ preferred_trans first second third one two =
 
 -- of two rules the one that ranks higher is as long
 no_longer : (m n : ℕ) (a b : Bool) → rank n b ≤ rank m a → n ≤ m
-no_longer m n true true h = omega arith
-no_longer m n true false h = omega arith
-no_longer m n false true h = omega arith
-no_longer m n false false h = omega arith
+no_longer m n a b h = grind (arith, nat_tests)
 
 pub longer : (first second : PlacedRule) → IsPreferred first second
     → length second.rule.0 ≤ length first.rule.0

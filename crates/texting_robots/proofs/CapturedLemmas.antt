@@ -1,14 +1,15 @@
 -- The walk along the lines says what the definition by places says.
-use Rattle.std.proofs.Common.{◌≡◌, ◌≤◌, inl, inr, ℕ, zero, suc, ◌+◌, ◌<◌, nat_lt, Bool}
+use Rattle.std.proofs.Common.{◌≡◌, ◌↔◌, ◌≤◌, inl, inr, ℕ, zero, suc, ◌+◌, ◌<◌}
+use Rattle.std.proofs.Common.{nat_lt, Bool}
 use Rattle.std.proofs.Common.{true, false, not, ◌&&◌, ◌||◌, List, [], ◌∷◌, Option, Some, None}
-use Rattle.std.proofs.Common.{slice_get, drop, cond, add-one, ap, sym, refl, ◌∙◌, arith}
+use Rattle.std.proofs.Common.{slice_get, drop, take, cond, length, add-one, ap, sym, refl, ◌∙◌, arith}
 use Rattle.std.specs.{Prelude.IsTrue, Prelude.filter, Bool.Decides}
-use Rattle.std.proofs.Math.Bool.{and-true, and-false, or-false}
+use Rattle.std.proofs.Math.Bool.{and-true, and-false, or_assoc, or_comm, or-false}
 use Rattle.std.specs.List.{list_any, cons_option, filter_map, enumerate_from}
 use Rattle.std.proofs.lemmas.Bool.{Decides.Decides-below_or, Decides.Decides-and, Decides.Decides-or}
 use Rattle.std.proofs.lemmas.Bool.{Decides.Decides-not, Decides.Decides-ltb, Decides.Decides-like, cases_Bool}
-use Rattle.std.proofs.lemmas.Bool.{or_left, or_right, and_left, and_right, le-ltb, lt-ltb, false≢true}
-use Rattle.std.proofs.lemmas.{List.Folds.Any-from_list_any, Option.slice_get-get_or}
+use Rattle.std.proofs.lemmas.Bool.{and_left, and_right, le-ltb, lt-ltb}
+use Rattle.std.proofs.lemmas.List.{take_all}
 use Rattle.texting_robots.specs.{declared.groups.Walk.Walk, Rules.PlacedRule, Rules.Rule, Rules.unplaced}
 use Rattle.texting_robots.specs.Line.{LineValue, UserAgent, delay_in}
 use Rattle.texting_robots.specs.Group.{IsCaptured, group_name, is_agent, is_agent_named, is_group, passes_at}
@@ -40,26 +41,38 @@ below_decides : (test : ℕ → Bool) (P : ℕ → Type 0) → ((k : ℕ) → De
     → (n : ℕ) → Decides (some_below test n) ((k : ℕ) × (k < n) × P k)
 below_decides test P each n = Decides-below_or test P (some_below test) each refl (λ _. refl) n
 
-itself : (b : Bool) → Decides b (b ≡ true)
+pub itself : (b : Bool) → Decides b (b ≡ true)
 itself b = (λ h. h, λ h. h)
 
-abbrev SomePasses : (LineValue → Bool) → List LineValue → Type 0
-SomePasses test lines = (k : ℕ) × (passes_at test lines k ≡ true)
+-- a place at which a test passes is that of a line
+pub within : (test : LineValue → Bool) (lines : List LineValue) (k : ℕ)
+    → passes_at test lines k ≡ true → k < length lines
+within test [] k h = cc
+within test (line ∷ lines) zero h = omega arith
+within test (line ∷ lines) (suc k) h = let less = within test lines k h in omega arith
+
+-- whether one of the first lines passes, one line further
+pub any_next : (test : LineValue → Bool) (lines : List LineValue) (n : ℕ)
+    → list_any test (take (suc n) lines) ≡ (passes_at test lines n || list_any test (take n lines))
+any_next test [] zero = refl
+any_next test [] (suc n) = refl
+any_next test (line ∷ lines) zero = refl
+any_next test (line ∷ lines) (suc n) = rw (any_next test lines n) (swapped (test line) _ _)
+  where
+    swapped : (a b c : Bool) → (a || (b || c)) ≡ (b || (a || c))
+    swapped a b c = sym (or_assoc a b c) ∙ ap (λ x. x || c) (or_comm a b) ∙ or_assoc b a c
+
+pub taken_decides : (test : LineValue → Bool) (lines : List LineValue) (n : ℕ)
+    → Decides (list_any test (take n lines)) ((j : ℕ) × (j < n) × (passes_at test lines j ≡ true))
+taken_decides test lines n =
+    Decides-below_or (passes_at test lines) (λ j. passes_at test lines j ≡ true)
+    (λ n. list_any test (take n lines)) (λ j. itself _) refl (any_next test lines) n
 
 pub some_passes : (test : LineValue → Bool) (lines : List LineValue)
-    → Decides (list_any test lines) (SomePasses test lines)
-some_passes test lines = (
-  λ h.
-      let (k, line, below, at, is) = Any-from_list_any test lines h in
-      (k, rw (slice_get-get_or lines k line below, at) is),
-  λ (k, h). passing lines k h,
-)
-  where
-    passing : (lines : List LineValue) (k : ℕ) → passes_at test lines k ≡ true
-        → list_any test lines ≡ true
-    passing [] k h = absurd (false≢true h)
-    passing (line ∷ lines) zero h = or_left _ _ h
-    passing (line ∷ lines) (suc k) h = or_right _ _ (passing lines k h)
+    → Decides (list_any test lines) ((k : ℕ) × (passes_at test lines k ≡ true))
+some_passes test lines =
+    Decides-like _ (λ (k, less, h). (k, h)) (λ (k, h). (k, within test lines k h, h))
+    (rw (take_all (length lines) lines (omega arith)) at (taken_decides test lines (length lines)))
 
 no_agent_decides : (lines : List LineValue)
     → Decides (not (list_any is_agent lines)) ((k : ℕ) → ¬ IsTrue (passes_at is_agent lines k))
@@ -211,7 +224,7 @@ open_on name lines i line at =
 
 pub only_agents : (name : List ℕ) (line : LineValue) → is_agent line ≡ false
     → is_agent_named name line ≡ false
-only_agents name (UserAgent value) isnt = absurd (false≢true (sym isnt))
+only_agents name (UserAgent value) isnt = cc
 only_agents name _ isnt = refl
 
 pub stands_next : (name : List ℕ) (lines : List LineValue) (i : ℕ) (walk : Walk) (line : LineValue)
@@ -229,10 +242,9 @@ stands_next name lines i walk line at stands = record {
 pub at_front : (lines : List LineValue) (place : ℕ) (line : LineValue) (rest : List LineValue)
     → drop place lines ≡ line ∷ rest → (slice_get lines place ≡ Some line)
     × (drop (place + 1) lines ≡ rest)
-at_front [] zero line rest h = absurd (let k : [] ≡ line ∷ rest = h in cc)
-at_front [] (suc n) line rest h = absurd (let k : [] ≡ line ∷ rest = h in cc)
-at_front (x ∷ lines) zero line rest h =
-    (let k : x ∷ lines ≡ line ∷ rest = h in cc, let k : x ∷ lines ≡ line ∷ rest = h in cc)
+at_front [] zero line rest h = cc
+at_front [] (suc n) line rest h = cc
+at_front (x ∷ lines) zero line rest h = (cc, cc)
 at_front (x ∷ lines) (suc n) line rest h =
     let (at, next) = at_front lines n line rest h in (at, rw add-one (rw add-one at next))
 
@@ -242,7 +254,12 @@ pub cond_same : {X : Type 0} (b : Bool) (x : X) → cond b x x ≡ x
 cond_same true x = refl
 cond_same false x = refl
 
-kept_next : {X Y : Type 0} (keeps : Bool) (given : Y → Option X) (y : Y) (ys : List Y)
+pub cond_given : {X : Type 0} (b : Bool) (o : Option X) (x : X)
+    → (cond b o None ≡ Some x) ↔ ((b ≡ true) × (o ≡ Some x))
+cond_given true o x = (λ is. (refl, is), λ (passes, is). is)
+cond_given false o x = (λ is. cc, λ (passes, is). cc)
+
+pub kept_next : {X Y : Type 0} (keeps : Bool) (given : Y → Option X) (y : Y) (ys : List Y)
     → filter_map given (cond keeps (y ∷ ys) ys)
     ≡ cons_option (cond keeps (given y) None) (filter_map given ys)
 kept_next true given y ys = refl

@@ -2,7 +2,7 @@
 use Rattle.std.proofs.Common.{◌≡◌, ◌≢◌, ◌↔◌, ℕ, suc, ◌<◌, ◌≤◌, Bool, true}
 use Rattle.std.proofs.Common.{false, eqb, ◌==◌, ◌&&◌, inl, inr, List, [], ◌∷◌, ◌++◌, length}
 use Rattle.std.proofs.Common.{get_or, arith, refl, sym, ap, ◌∙◌, append_assoc, append-nil}
-use Rattle.std.{specs.List.starts_with, proofs.lemmas.Cmp.nat_eq_equiv}
+use Rattle.std.{specs.List.starts_with, proofs.Math.Bool.and-true, proofs.lemmas.Cmp.nat_eq_equiv}
 use Rattle.std.proofs.lemmas.Bool.{and_parts, cases_Bool, eq-eqb, eqb-true, ne_eqb}
 use Rattle.texting_robots.specs.Pattern.{MatchesWith, collapsed, star}
 use Rattle.texting_robots.proofs.PatternLemmas.{behind_byte, star_star}
@@ -92,10 +92,6 @@ length_within (b ∷ q) = elim (cases_Bool ((b == star) && (get_or q 0 0 == star
   | inr other ↦ rw other (omega (arith, length_within q))
 ]
 
-and_true : (v : Bool) → (v && true) ≡ v
-and_true true = refl
-and_true false = refl
-
 pub star_starts : (q : List ℕ) → starts_with eqb q (star ∷ []) ≡ (get_or q 0 0 == star)
 star_starts [] = refl
-star_starts (b ∷ q) = and_true (eqb star b) ∙ nat_eq_equiv.symm star b
+star_starts (b ∷ q) = and-true (eqb star b) ∙ nat_eq_equiv.symm star b

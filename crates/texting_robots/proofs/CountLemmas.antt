@@ -1,7 +1,7 @@
 -- A text has no more lines than bytes.
-use Rattle.std.proofs.Common.{ℕ, ◌+◌, ◌≤◌, ◌==◌, Bool, true, false, List, [], ◌∷◌}
-use Rattle.std.proofs.Common.{arith, if◌then◌else◌, length, map}
-use Rattle.std.proofs.lemmas.List.{length-map}
+use Rattle.std.proofs.Common.{ℕ, ◌+◌, ◌≤◌, ◌==◌, List, [], ◌∷◌}
+use Rattle.std.proofs.Common.{arith, length, map}
+use Rattle.std.proofs.lemmas.{Bool.cond_both, List.length-map}
 use Rattle.texting_robots.specs.{Cut.Pair, Cut.cr, Cut.lf, Steps.Line.line_of}
 use Rattle.texting_robots.specs.Line.{nul_as_lf, without, without_front}
 use Rattle.texting_robots.specs.Steps.Cut.{before_body, before_end, bodies_of, cut}
@@ -21,26 +21,19 @@ body_adds : (byte : ℕ) (pairs : List Pair) → length (before_body byte pairs)
 body_adds byte [] = omega arith
 body_adds byte (pair ∷ later) = omega arith
 
-byte_adds : (is_lf is_cr : Bool) (byte : ℕ) (text : List ℕ) → length (cut text) ≤ length text
-    → length (if is_lf then pair_of [] (lf ∷ []) ∷ cut text
-    else (if is_cr then before_end (cut text) else before_body byte (cut text))) ≤ length (byte ∷ text)
-byte_adds true is_cr byte text within = omega (arith, within)
-byte_adds false true byte text within = omega (arith, within, end_adds (cut text))
-byte_adds false false byte text within = omega (arith, within, body_adds byte (cut text))
-
 cut_within : (text : List ℕ) → length (cut text) ≤ length text
 unfolding cut
 cut_within [] = omega arith
-cut_within (byte ∷ text) = byte_adds (byte == lf) (byte == cr) byte text (cut_within text)
-
-taken_if : (is : Bool) (first : ℕ) (text : List ℕ)
-    → length (if is then text else first ∷ text) ≤ length (first ∷ text)
-taken_if true first text = omega arith
-taken_if false first text = omega arith
+cut_within (byte ∷ text) =
+    let short = λ (pairs : List Pair). length pairs ≤ length (byte ∷ text) in
+    let within = cut_within text in
+    cond_both (byte == lf) _ _ short (λ _. omega arith) (λ _. cond_both (byte == cr) _ _ short
+    (λ _. omega (arith, end_adds (cut text))) (λ _. omega (arith, body_adds byte (cut text))))
 
 without_within : (byte : ℕ) (text : List ℕ) → length (without byte text) ≤ length text
 without_within byte [] = omega arith
-without_within byte (first ∷ text) = taken_if (first == byte) first text
+without_within byte (first ∷ text) = cond_both (first == byte) text (first ∷ text)
+    (λ rest. length rest ≤ length (first ∷ text)) (λ _. omega arith) (λ _. omega arith)
 
 front_within : (text : List ℕ) → length (without_front text) ≤ length text
 front_within text =

@@ -2,7 +2,7 @@
 use Rattle.std.proofs.Common.{◌≡◌, ℕ, false, ◌==◌, ◌&&◌, inl, inr, List, [], ◌∷◌}
 use Rattle.std.proofs.Common.{if◌then◌else◌, map, slice_index, arith, sym, refl, ap, ◌∙◌}
 use Rattle.std.proofs.Common.{◌↔◌}
-use Rattle.std.proofs.lemmas.Bool.{cases_Bool, cond-true, cond-false, and_parts, eqb-true, ne_eqb}
+use Rattle.std.proofs.lemmas.Bool.{cases_Bool, cond-false, and_parts, eqb-true, ne_eqb}
 use Rattle.texting_robots.specs.{Cut.Pair, Cut.cr, Cut.lf, Computed.parsed, Laws.feeds_alone}
 use Rattle.texting_robots.specs.Steps.Cut.{before_body, before_byte, before_end, bodies_of, cut}
 use Rattle.texting_robots.specs.Line.{without, without_front, AreLinesOf, LineValue}
@@ -84,13 +84,11 @@ without_alone byte (b ∷ text) no_lf no_cr = elim (cases_Bool (b == cr && slice
   | inl pair ↦
       let (return, feed) = and_parts (b == cr) (slice_index text 0 == lf) pair in
       let b_is : (b == byte) ≡ false = ap (λ x. x == byte) (eqb-true b cr return) ∙ no_cr in
-      ap (without byte) (cond-true _ _ _ pair) ∙ without_alone byte text no_lf no_cr
-      ∙ ap feeds_alone (feed_stays byte text no_lf (eqb-true (slice_index text 0) lf feed))
-      ∙ sym (cond-true _ _ _ pair) ∙ ap feeds_alone (sym (cond-false _ _ _ b_is))
-  | inr single ↦ ap (without byte) (cond-false _ _ _ single) ∙ elim (cases_Bool (b == byte)) [
-    | inl is ↦ cond-true _ _ _ is ∙ ap feeds_alone (sym (cond-true _ _ _ is))
-    | inr isnt ↦ cond-false _ _ _ isnt ∙ sym (cond-false _ _ _ single)
-        ∙ ap feeds_alone (sym (cond-false _ _ _ isnt))
+      rw (b_is, pair) (without_alone byte text no_lf no_cr
+      ∙ ap feeds_alone (feed_stays byte text no_lf (eqb-true (slice_index text 0) lf feed)))
+  | inr single ↦ elim (cases_Bool (b == byte)) [
+    | inl is ↦ rw (single, is) refl
+    | inr isnt ↦ rw (single, isnt, single) refl
   ]
 ]
 

@@ -64,7 +64,7 @@ pair_at [] are (x ∷ front) back pair e = cc
 pair_at (first ∷ later) are [] back pair e =
     let here : first ≡ pair = cc in
     let rest : later ≡ back = cc in
-    subst (λ p. IsPairBefore p back) here (subst (IsPairBefore first) rest are.0)
+    rw (← here, ← rest) are.0
 pair_at (first ∷ later) are (x ∷ front) back pair e = pair_at later are.1 front back pair cc
 
 is_line_end : {body ending : List ℕ} {later : List Pair} → EndsBy body ending later → IsLineEnd ending

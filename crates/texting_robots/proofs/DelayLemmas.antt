@@ -1,8 +1,9 @@
 -- The function gives the delay of a text, and each delay of a text is the one that it gives.
 use Rattle.std.proofs.Common.{◌≡◌, inl, inr, ℕ, ◌*◌, ◌/◌, ◌^◌, ◌<◌, ◌≤◌, Bool}
 use Rattle.std.proofs.Common.{true, false, eqb, leb, ltb, List, [], ◌∷◌, ◌++◌, All, Option, Some}
-use Rattle.std.proofs.Common.{None, codes, length, map, refl, sym, ap, subst, ◌∙◌, arith, ◌↔◌}
-use Rattle.std.specs.Prelude.{◌==◌, ◌||◌, ◌&&◌, Decides, MatchBool, nat_lt, slice_index}
+use Rattle.std.proofs.Common.{None, codes, get_or, length, map, refl, sym, ap, subst, ◌∙◌, arith}
+use Rattle.std.proofs.Common.{◌↔◌}
+use Rattle.std.specs.Prelude.{◌==◌, ◌||◌, Decides, MatchBool, slice_index}
 use Rattle.std.specs.Char.{IsAsciiDigit, is_ascii_digit, to_ascii_lowercase}
 use Rattle.std.specs.{Cmp.Lexicographic.bytes_decides, List.list_all, List.prefix_len, Option.option_and_then}
 use Rattle.std.specs.{Option.option_map, Str.byte, Str.str_eq_ignore_ascii_case, Str.str_to_ascii_lowercase}
@@ -13,8 +14,10 @@ use Rattle.std.proofs.lemmas.Bool.{and_parts, and_right, cases_Bool, cases_lt, c
 use Rattle.std.proofs.lemmas.Bool.{eqb-true, false_from_ne_true, le-leb, leb-true, lt-leb, lt-ltb, ltb-true}
 use Rattle.std.proofs.lemmas.Bool.{ne_eqb, or_cases}
 use Rattle.std.proofs.lemmas.Bool.Decides.{Decides-and, Decides-by_and, Decides-eqb, Decides-ltb, Decides-or}
-use Rattle.std.proofs.lemmas.List.{drop_at, length-append, take-append-drop, take_at, Sums.take_while-cons}
-use Rattle.std.proofs.lemmas.List.Elements.{All-cons, All-head, All-nil, All-same, All-tail}
+use Rattle.std.proofs.lemmas.List.{drop_at, get_or-take, length-append, length-take, take-append-drop}
+use Rattle.std.proofs.lemmas.List.{take_at}
+use Rattle.std.proofs.lemmas.{List.Sums.prefix_len_passes, Option.cond_some}
+use Rattle.std.proofs.lemmas.List.Elements.{All-head, All-nil, All-tail}
 use Rattle.std.proofs.lemmas.Str.Ascii.{lowercase_is}
 use Rattle.texting_robots.specs.Delay.{AtMost, Decimal, IsDelay, IsInfinite, IsNumeral, IsPoint, IsTail}
 use Rattle.texting_robots.specs.Delay.{NamesZero, NamesSeconds, Rounds, Spells, greatest_delay}
@@ -23,6 +26,7 @@ use Rattle.texting_robots.specs.Steps.Delay.{HasDigits, behind_digits, behind_fr
 use Rattle.texting_robots.specs.Steps.Delay.{delay_of, digits_in_front, exponent_of, fraction_in_front}
 use Rattle.texting_robots.specs.Steps.Delay.{is_infinite, is_numeral, is_zero, zero_of, number_of}
 use Rattle.texting_robots.specs.Steps.Delay.{number_with, rounded}
+use Rattle.texting_robots.proofs.CapturedLemmas.{cond_given}
 
 -- ---- what the tests say
 
@@ -104,18 +108,11 @@ number_read text n h =
 -- ---- what is read is what the text spells
 
 digits_are : (text : List ℕ) → All IsAsciiDigit (digits_in_front text)
-digits_are [] = All-nil IsAsciiDigit
-digits_are (b ∷ text) =
-    let next = take_while-cons is_ascii_digit b text in
-    let more = digits_in_front text in
-    elim (cases_Bool (is_ascii_digit b)) [
-      | inl digit ↦ All-same IsAsciiDigit (digits_in_front (b ∷ text)) (b ∷ more)
-          (next ∙ cond-true _ _ _ digit)
-          (All-cons IsAsciiDigit b more ((digit_decides b).0 digit) (digits_are text))
-      | inr other ↦ All-same IsAsciiDigit (digits_in_front (b ∷ text)) []
-          (next ∙ cond-false _ _ _ other)
-          (All-nil IsAsciiDigit)
-    ]
+digits_are text k d below =
+    let count = prefix_len is_ascii_digit text in
+    let short = length-take count text in
+    rw (get_or-take count text k d (omega arith))
+    ((digit_decides (get_or text k d)).0 (prefix_len_passes is_ascii_digit text k d (omega arith)))
 
 digits_whole : (text : List ℕ) → text ≡ digits_in_front text ++ behind_digits text
 digits_whole text = sym (take-append-drop (prefix_len is_ascii_digit text) text)
@@ -127,13 +124,8 @@ record IsFound (rest fraction tail : List ℕ) : Type 0 where
   digits : All IsAsciiDigit fraction
 
 no_fraction : (rest : List ℕ) → IsFound rest [] rest
-no_fraction rest = record {
-  point = [];
-  is_point = inr (refl, refl);
-  is_rest = refl;
-  digits =
-      All-nil IsAsciiDigit;
-}
+no_fraction rest =
+    record { point = []; is_point = inr (refl, refl); is_rest = refl; digits = All-nil IsAsciiDigit }
 
 fraction_found : (rest : List ℕ) → IsFound rest (fraction_in_front rest) (behind_fraction rest)
 fraction_found [] = no_fraction []
@@ -150,22 +142,15 @@ fraction_found (b ∷ rest) = elim (cases_Bool (b == byte ".")) [
 exponent_found : (tail exponent : List ℕ) → exponent_of tail ≡ Some exponent → IsTail tail exponent
 exponent_found [] exponent e = inl (refl, cc)
 exponent_found (b ∷ tail) exponent e =
-    let small = b == byte "e" in
-    let capital = b == byte "E" in
-    let numeral = is_numeral (without_leading_sign tail) in
-    elim (cases_Bool ((small || capital) && numeral)) [
-      | inl passes ↦ (let same : Some tail ≡ Some exponent = sym (cond-true _ _ _ passes) ∙ e in
-          let is : tail ≡ exponent = cc in
-          let parts = and_parts (small || capital) numeral passes in
-          rw (← is) (inr (
-            elim (or_cases small capital parts.0) [
-              | inl letter ↦ inl (ap (λ l. l ∷ tail) (eqb-true b (byte "e") letter))
-              | inr letter ↦ inr (ap (λ l. l ∷ tail) (eqb-true b (byte "E") letter))
-            ],
-            (numeral_decides (without_leading_sign tail)).0 parts.1,
-          )))
-      | inr fails ↦ (let none : None ≡ Some exponent = sym (cond-false _ _ _ fails) ∙ e in absurd cc)
-    ]
+    let (passes, is) = cond_some _ tail exponent e in
+    let (letter, numeral) = and_parts (b == byte "e" || b == byte "E") _ passes in
+    rw (← is) (inr (
+      elim (or_cases (b == byte "e") (b == byte "E") letter) [
+        | inl small ↦ inl (ap (λ l. l ∷ tail) (eqb-true b (byte "e") small))
+        | inr capital ↦ inr (ap (λ l. l ∷ tail) (eqb-true b (byte "E") capital))
+      ],
+      (numeral_decides (without_leading_sign tail)).0 numeral,
+    ))
 
 abbrev decimal : List ℕ → List ℕ → List ℕ → Decimal
 decimal whole fraction exponent = record { whole = whole; fraction = fraction; exponent = exponent }
@@ -174,14 +159,13 @@ with_found : (whole fraction : List ℕ) (o : Option (List ℕ)) (n : Decimal)
     → number_with whole fraction o ≡ Some n
     → (0 < length (whole ++ fraction))
     × ((e : List ℕ) × (o ≡ Some e) × (n ≡ decimal whole fraction e))
-with_found whole fraction o n is = elim (cases_Bool (nat_lt 0 (length (whole ++ fraction)))) [
-  | inl some ↦ (ltb-true 0 (length (whole ++ fraction)) some, made o (sym (cond-true _ _ _ some) ∙ is))
-  | inr none ↦ (let same : None ≡ Some n = sym (cond-false _ _ _ none) ∙ is in absurd cc)
-]
+with_found whole fraction o n is =
+    let (some, given) = (cond_given _ (option_map (decimal whole fraction) o) n).0 is in
+    (ltb-true 0 (length (whole ++ fraction)) some, made o given)
   where
     made : (o : Option (List ℕ)) → option_map (decimal whole fraction) o ≡ Some n
         → (e : List ℕ) × (o ≡ Some e) × (n ≡ decimal whole fraction e)
-    made None is = absurd cc
+    made None is = cc
     made (Some e) is = (e, refl, cc)
 
 number_found : (text : List ℕ) (n : Decimal) → number_of text ≡ Some n → Spells text n
@@ -214,8 +198,7 @@ has_digits text n e short =
     digits : (tail exponent : List ℕ) → IsTail tail exponent
         → All IsAsciiDigit (without_leading_sign exponent)
     digits tail exponent (inl (none, empty)) =
-        All-same IsAsciiDigit (without_leading_sign exponent) [] (ap without_leading_sign empty)
-        (All-nil IsAsciiDigit)
+        rw empty (All-nil IsAsciiDigit)
     digits tail exponent (inr (is, numeral)) = numeral.1
 
 -- ---- a number's microseconds
@@ -245,11 +228,11 @@ rounds_same n d e a b = omega (arith, b.greatest d a.bound a.at_most, a.greatest
 -- an infinite text begins with a letter
 infinite_number : (text word : List ℕ) → map to_ascii_lowercase text ≡ byte "i" ∷ word
     → number_of text ≡ None
-infinite_number [] word e = absurd cc
+infinite_number [] word e = cc
 infinite_number (b ∷ text) word e =
     let i : to_ascii_lowercase b ≡ byte "i" = cc in
     let letter : 64 < b = elim (cases_lt b 65) [
-      | inl low ↦ (let same : to_ascii_lowercase b ≡ b = (lowercase_is b).1 low in omega arith)
+      | inl low ↦ omega (arith, (lowercase_is b).1 low)
       | inr high ↦ omega arith
     ] in
     let no_digit : is_ascii_digit b ≡ false = and_right (leb 48 b) (leb b 57) (lt-leb b 57 (omega arith)) in
@@ -271,23 +254,19 @@ named false text delay (inr (n, spells, rounds)) =
     ∙ ap Some (rounds_same n (rounded n) delay (rounded_rounds n) rounds)
   where
     finite : IsInfinite text → ⊥
-    finite (inl e) = let same = number_read text n spells in let none = infinite_number text (codes "nf") e in
-        cc
-    finite (inr e) = let same = number_read text n spells in let none =
-        infinite_number text (codes "nfinity") e in cc
+    finite (inl e) = cc (number_read text n spells, infinite_number text (codes "nf") e)
+    finite (inr e) = cc (number_read text n spells, infinite_number text (codes "nfinity") e)
 
 zero_found : (text : List ℕ) (delay : ℕ) (o : Option Decimal) → number_of text ≡ o
     → option_and_then zero_of o ≡ Some delay → NamesZero text delay
-zero_found text delay None is e = absurd cc
-zero_found text delay (Some n) is e = elim (cases_Bool (is_zero n)) [
-  | inl zero ↦ (let same : Some 0 ≡ Some delay = sym (cond-true _ _ _ zero) ∙ e in
-      (n, number_found text n is, (zero_decides n).0 zero, cc))
-  | inr other ↦ (let same : None ≡ Some delay = sym (cond-false _ _ _ other) ∙ e in absurd cc)
-]
+zero_found text delay None is e = cc
+zero_found text delay (Some n) is e =
+    let (zero, none) = cond_some _ 0 delay e in
+    (n, number_found text n is, (zero_decides n).0 zero, sym none)
 
 seconds_found : (text : List ℕ) (delay : ℕ) (o : Option Decimal) → number_of text ≡ o
     → option_map rounded o ≡ Some delay → (n : Decimal) × Spells text n × Rounds n delay
-seconds_found text delay None is e = absurd cc
+seconds_found text delay None is e = cc
 seconds_found text delay (Some n) is e =
     let same : rounded n ≡ delay = cc in
     (n, number_found text n is, subst (Rounds n) same (rounded_rounds n))
@@ -326,4 +305,4 @@ module _ (text : List ℕ) where
       none (Some delay) e = absurd (h delay (found minus unsigned delay e))
 
 pub one_delay : (text : List ℕ) (delay : Option ℕ) → IsDelay text delay ↔ delay ≡ delay_of text
-one_delay text delay = (is_delay_of text delay, λ same. subst (IsDelay text) (sym same) (delay_of_is text))
+one_delay text delay = (is_delay_of text delay, λ same. rw same (delay_of_is text))

@@ -1,15 +1,18 @@
 -- The number that digits write: bounded, cut off and rounded.
 use Rattle.std.proofs.Common.{◌≡◌, inl, inr, ℕ, zero, suc, ◌+◌, ◌-◌, ◌*◌, ◌/◌}
-use Rattle.std.proofs.Common.{◌^◌, ◌<◌, ◌≤◌, min, List, [], ◌∷◌, ◌++◌, All, length}
+use Rattle.std.proofs.Common.{◌^◌, ◌<◌, ◌≤◌, List, [], ◌∷◌, ◌++◌, All, length}
 use Rattle.std.proofs.Common.{get_or, take, drop, replicate, refl, sym, ap, ◌∙◌, append_assoc, add-one}
+use Rattle.std.proofs.Common.{rules}
 use Rattle.std.proofs.Common.{arith, drop-cons}
 use Rattle.std.specs.Char.{IsAsciiDigit, digit_value}
 use Rattle.std.specs.Str.{byte, Parse.digits_value, Parse.digits_value_after}
-use Rattle.std.proofs.Math.Nat.{div-div-eq-div-mul, div-one, mul-div-mul_right, mul-le-mul_right, mul_assoc}
-use Rattle.std.proofs.Math.Nat.{one-le-pow, pow-le-pow_right, pow-suc, pow-zero, suc-sub-suc}
+use Rattle.std.proofs.Math.Nat.{div-div-eq-div-mul, div-one, mul-div_cancel, mul-div-mul_right}
+use Rattle.std.proofs.Math.Nat.{mul-le-mul_right, mul_assoc}
+use Rattle.std.proofs.Math.Nat.{one-le-pow, pow-le-pow_right, pow-suc, pow-zero}
 use Rattle.std.proofs.lemmas.{Bool.cases_lt, Int.Digits.digits_value_more, List.Elements.All-append}
-use Rattle.std.proofs.lemmas.{List.Elements.All-get_or, Nat.div-mul-add, Nat.pow-add, Str.digit_value_digit}
-use Rattle.std.proofs.lemmas.List.{drop_all, length-append, take-replicate, take_all}
+use Rattle.std.proofs.lemmas.{Nat.div-mul-add, Nat.pow-add, Str.digit_value_digit}
+use Rattle.std.proofs.lemmas.List.{drop_all, length-append, places as listed, same_lists, take-replicate}
+use Rattle.std.proofs.lemmas.List.{take_all}
 use Rattle.texting_robots.specs.Delay.{Decimal, greatest_delay, negative_exponent, positive_exponent}
 use Rattle.texting_robots.specs.Steps.Delay.{HasDigits, bounded, places, rounded}
 
@@ -30,20 +33,16 @@ bound_first n (d ∷ ds) =
 
 -- ---- the loop that appends digits
 
-digit_at : (ds : List ℕ) (i : ℕ) → All IsAsciiDigit ds → i < length ds
-    → IsAsciiDigit (get_or ds i 0)
-digit_at ds i digits within = All-get_or IsAsciiDigit ds i 0 within digits
-
 pub digit_there : (ds : List ℕ) (i : ℕ) → All IsAsciiDigit ds → i < length ds
     → byte "0" ≤ get_or ds i 0
-digit_there ds i digits within = (digit_at ds i digits within).0
+digit_there ds i digits within = (digits i 0 within).0
 
 pub one_more_digit : (n : ℕ) (ds : List ℕ) (i : ℕ) → All IsAsciiDigit ds → i < length ds
     → bounded (after (bounded (bounded (n * 10) + (get_or ds i 0 - byte "0"))) (drop (i + 1) ds))
     ≡ bounded (after n (drop i ds))
 one_more_digit n ds i digits within =
     let d = get_or ds i 0 in
-    let digit = digit_value_digit d (digit_at ds i digits within) in
+    let digit = digit_value_digit d (digits i 0 within) in
     let same : bounded (bounded (n * 10) + (d - 48)) ≡ bounded (n * 10 + digit_value d) =
     omega (arith, digit) in
     rw (same, add-one, drop-cons ds i 0) (bound_first (n * 10 + digit_value d) (drop (suc i) ds))
@@ -72,9 +71,7 @@ value_zeros : (ds : List ℕ) (k : ℕ) → value (ds ++ zeros k) ≡ value ds *
 value_zeros ds k = after-append 0 ds (zeros k) ∙ after_zeros (value ds) k
 
 take_parts : (n : ℕ) (xs ys : List ℕ) → take n xs ++ take (n - length xs) ys ≡ take n (xs ++ ys)
-take_parts zero xs ys = let none : 0 - length xs ≡ 0 = omega arith in rw none refl
-take_parts (suc n) [] ys = let all : suc n - 0 ≡ suc n = omega arith in rw all refl
-take_parts (suc n) (x ∷ xs) ys = rw (suc-sub-suc n (length xs)) (ap (λ zs. x ∷ zs) (take_parts n xs ys))
+take_parts n xs ys = same_lists _ _ (search (rules, listed)) (λ k d h. grind (arith, listed))
 
 -- ---- rounding down
 
@@ -91,30 +88,14 @@ cut_off ds digits (suc k) =
     ∙ elim (cases_lt k (length ds)) [
       | inl more ↦ (let i = length ds - suc k in
           let next : length ds - k ≡ i + 1 = omega arith in
-          let digit = digit_at ds i digits (omega arith) in
-          let small : digit_value (get_or ds i 0) < 10 =
-          omega (arith, digit_value_digit (get_or ds i 0) digit) in
+          let digit = digit_value_digit (get_or ds i 0) (digits i 0 (omega arith)) in
+          let small : digit_value (get_or ds i 0) < 10 = omega (arith, digit) in
           rw (next, digits_value_more 10 ds i (omega arith))
           (div-mul-add (value (take i ds)) 10 (digit_value (get_or ds i 0)) small))
       | inr none ↦ (let one : length ds - k ≡ 0 = omega arith in
           let other : length ds - suc k ≡ 0 = omega arith in
           rw (one, other) refl)
     ]
-
--- what two powers of ten have in common is divided away
-quotient : (m a b : ℕ) → m * 10 ^ a / 10 ^ b ≡ m * 10 ^ (a - b) / 10 ^ (b - a)
-quotient m a b =
-    let both = 10 ^ min a b in
-    let up : (a - b) + min a b ≡ a = omega arith in
-    let down : (b - a) + min a b ≡ b = omega arith in
-    let top : m * 10 ^ a ≡ m * 10 ^ (a - b) * both =
-    ap (λ i. m * 10 ^ i) (sym up) ∙ ap (λ x. m * x) (pow-add 10 (a - b) (min a b))
-    ∙ sym (mul_assoc m (10 ^ (a - b)) both) in
-    let bottom : 10 ^ b ≡ 10 ^ (b - a) * both = ap (λ i. 10 ^ i) (sym down)
-    ∙ pow-add 10 (b - a) (min a b) in
-    ap (λ x. x / 10 ^ b) top
-    ∙ ap (λ x. m * 10 ^ (a - b) * both / x) bottom
-    ∙ mul-div-mul_right (m * 10 ^ (a - b)) (10 ^ (b - a)) (one-le-pow (min a b) 10 (omega arith))
 
 -- the digits up to a place, and zeros for those that are missing, are the number rounded down
 at_place : (n : Decimal) → All IsAsciiDigit (n.whole ++ n.fraction) → let ds = n.whole ++ n.fraction in
@@ -134,19 +115,22 @@ at_place n digits = at (n.whole ++ n.fraction) digits (length n.whole) (length n
         ap (λ x. x / (10 ^ f * 10 ^ down))
         (mul_assoc m (10 ^ 6) (10 ^ up) ∙ ap (λ x. m * x) (sym (pow-add 10 6 up)))
         ∙ ap (λ x. m * 10 ^ a / x) (sym (pow-add 10 f down))
-        ∙ quotient m a b
         ∙ elim (cases_lt a b) [
-          | inl less ↦ (let up_none : a - b ≡ 0 = omega arith in
-              let missing : p - length ds ≡ 0 = omega arith in
+          | inl less ↦ (let missing : p - length ds ≡ 0 = omega arith in
               let place : length ds - (b - a) ≡ p = omega arith in
-              let cut : m / 10 ^ (b - a) ≡ value (take p ds) = cut_off ds digits (b - a)
-              ∙ ap (λ i. value (take i ds)) place in
-              rw (up_none, missing, pow-zero 10)
-              (ap (λ x. x / 10 ^ (b - a)) (omega arith) ∙ cut ∙ omega arith))
-          | inr more ↦ (let down_none : b - a ≡ 0 = omega arith in
-              let missing : p - length ds ≡ a - b = omega arith in
-              let all : take p ds ≡ ds = take_all p ds (omega arith) in
-              rw (down_none, missing, all, pow-zero 10) (div-one (m * 10 ^ (a - b))))
+              let parts : b ≡ (b - a) + a = omega arith in
+              let cut : value (take p ds) ≡ value (take p ds) * 10 ^ 0 = rw (pow-zero 10) (omega arith) in
+              ap (λ i. m * 10 ^ a / 10 ^ i) parts ∙ ap (λ x. m * 10 ^ a / x) (pow-add 10 (b - a) a)
+              ∙ mul-div-mul_right m (10 ^ (b - a)) (one-le-pow a 10 (omega arith))
+              ∙ cut_off ds digits (b - a) ∙ ap (λ i. value (take i ds)) place
+              ∙ cut ∙ ap (λ i. value (take p ds) * 10 ^ i) (sym missing))
+          | inr more ↦ (let missing : a - b ≡ p - length ds = omega arith in
+              let all : ds ≡ take p ds = sym (take_all p ds (omega arith)) in
+              let parts : a ≡ (a - b) + b = omega arith in
+              ap (λ i. m * 10 ^ i / 10 ^ b) parts ∙ ap (λ x. m * x / 10 ^ b) (pow-add 10 (a - b) b)
+              ∙ ap (λ x. x / 10 ^ b) (sym (mul_assoc m (10 ^ (a - b)) (10 ^ b)))
+              ∙ mul-div_cancel (m * 10 ^ (a - b)) (one-le-pow b 10 (omega arith))
+              ∙ ap (λ xs. value xs * 10 ^ (a - b)) all ∙ ap (λ i. value (take p ds) * 10 ^ i) missing)
         ]
 
 -- ---- twenty zeros

@@ -1,8 +1,9 @@
 -- The set of `escape.rt` escapes what the definition says.
-use Rattle.std.proofs.Common.{◌≡◌, ℕ, ◌<◌, ◌≤◌, Bool, true, false, ◌||◌, List, []}
-use Rattle.std.proofs.Common.{◌∷◌, ◌++◌, sym, refl, ap, ◌∙◌, inl, inr, arith, not}
+use Rattle.std.proofs.Common.{◌≡◌, ℕ, ◌<◌, ◌≤◌, true, List, []}
+use Rattle.std.proofs.Common.{◌∷◌, ◌++◌, refl, ap, inl, inr, arith, not}
 use Rattle.std.specs.List.{list_all}
-use Rattle.std.proofs.lemmas.Bool.{agree_below_at, cases_Bool, cases_lt, false≢true, lt-ltb, le-ltb}
+use Rattle.std.proofs.Math.Bool.{or-true}
+use Rattle.std.proofs.lemmas.Bool.{agree_below_at, cases_Bool, cases_lt, lt-ltb, le-ltb}
 use Rattle.percent_encoding.specs.AsciiSet.{should_percent_encode}
 use Rattle.percent_encoding.specs.Percent.{percent_encode, percent_encode_byte, encode_byte}
 use Rattle.texting_robots.specs.declared.escape.TheConstants.{ESCAPED}
@@ -12,19 +13,9 @@ same_ascii : (b : ℕ) → b < 128 → should_percent_encode ESCAPED b ≡ is_es
 unfolding should_percent_encode
 same_ascii b low = agree_below_at (should_percent_encode ESCAPED) is_escaped 128 b refl low
 
-or_true : (x : Bool) → (x || true) ≡ true
-or_true true = refl
-or_true false = refl
-
-past_ascii : (b : ℕ) → 128 ≤ b → should_percent_encode ESCAPED b ≡ true
-unfolding should_percent_encode
-past_ascii b high = rw (le-ltb b 128 high) refl
-
-past_escaped : (b : ℕ) → 128 ≤ b → is_escaped b ≡ true
-past_escaped b high = rw (lt-ltb 0x7E b (omega arith)) (or_true _)
-
 same_high : (b : ℕ) → 128 ≤ b → should_percent_encode ESCAPED b ≡ is_escaped b
-same_high b high = past_ascii b high ∙ sym (past_escaped b high)
+unfolding should_percent_encode
+same_high b high = rw (le-ltb b 128 high, lt-ltb 0x7E b (omega arith), or-true) refl
 
 pub same_test : (b : ℕ) → should_percent_encode ESCAPED b ≡ is_escaped b
 same_test b = elim (cases_lt b 128) [ inl low ↦ same_ascii b low | inr high ↦ same_high b high ]
@@ -43,6 +34,6 @@ pub plain_stays : (bytes : List ℕ) → list_all (λ b. not (is_escaped b)) byt
     → escaped bytes ≡ bytes
 plain_stays [] plain = refl
 plain_stays (b ∷ bytes) plain = elim (cases_Bool (is_escaped b)) [
-  | inl escapes ↦ absurd (false≢true (rw escapes at plain))
+  | inl escapes ↦ let wrong = rw escapes at plain in cc
   | inr stays ↦ rw (stays, plain_stays bytes (rw stays at plain)) refl
 ]

@@ -1,20 +1,20 @@
 -- The delay and the sitemaps that lines give an agent are those that are computed of them.
 use Rattle.std.proofs.Common.{◌≡◌, ◌↔◌, inl, inr, ℕ, zero, suc, ◌+◌, ◌<◌, ◌≤◌}
 use Rattle.std.proofs.Common.{Bool, true, false, cond, List, [], ◌∷◌, Option, Some, None, slice_get}
-use Rattle.std.proofs.Common.{refl, sym, ap, ◌∙◌, arith, subst, add-zero, zero-add}
-use Rattle.std.specs.{Prelude.◌⊎◌, Prelude.IsTrue, Prelude.filter, Option.option_or, Str.is_utf8}
+use Rattle.std.proofs.Common.{refl, sym, ap, ◌∙◌, arith, add-zero, zero-add}
+use Rattle.std.specs.{Prelude.IsTrue, Prelude.filter, Option.option_or, Str.is_utf8}
 use Rattle.std.specs.List.{cons_option, enumerate_from, filter_map, last_or, list_any}
-use Rattle.std.proofs.lemmas.{Bool.cases_Bool, Bool.false≢true, Option.slice_get_within}
+use Rattle.std.proofs.lemmas.{Bool.cases_Bool, Option.slice_get_within}
 use Rattle.texting_robots.specs.Computed.{captured_delays, delay_before_agents, delay_for, sitemap_in}
 use Rattle.texting_robots.specs.Computed.{sitemaps_in}
 use Rattle.texting_robots.specs.Group.{group_name, is_agent, passes_at}
-use Rattle.texting_robots.specs.Line.{LineValue, Allow, CrawlDelay, Disallow, Raw, Sitemap, UserAgent}
+use Rattle.texting_robots.specs.Line.{LineValue, CrawlDelay, Sitemap}
 use Rattle.texting_robots.specs.Line.{delay_in}
 use Rattle.texting_robots.specs.Rules.{AreSitemapsOf, IsCapturedDelay, IsDelayFor, IsEarlyDelay, IsFirst}
 use Rattle.texting_robots.specs.Rules.{IsLast, ListsSitemap, Nowhere}
 use Rattle.texting_robots.specs.Steps.Captured.{is_captured}
-use Rattle.texting_robots.proofs.CapturedLemmas.{is_captured_decides, some_passes}
-use Rattle.texting_robots.proofs.RulesLemmas.{before_agent, before_agents, last_more}
+use Rattle.texting_robots.proofs.CapturedLemmas.{cond_given, is_captured_decides, kept_next, some_passes}
+use Rattle.texting_robots.proofs.RulesLemmas.{before_agent, before_agents, last_more, option_or_none}
 
 -- ---- the first and the last place at which a number is found
 
@@ -23,10 +23,10 @@ abbrev FirstAt : (ℕ → ℕ → Type 0) → Option ℕ → Type 0
 FirstAt P None = Nowhere P
 FirstAt P (Some n) = IsFirst P n
 
--- the option is what is found last, or else what was found before
-abbrev LastAt : (ℕ → ℕ → Type 0) → Option ℕ → Option ℕ → Type 0
-LastAt P before None = (before ≡ None) × Nowhere P
-LastAt P before (Some n) = IsLast P n ⊎ ((before ≡ Some n) × Nowhere P)
+-- the option is what is found last
+abbrev LastOf : (ℕ → ℕ → Type 0) → Option ℕ → Type 0
+LastOf P None = Nowhere P
+LastOf P (Some n) = IsLast P n
 
 -- P finds this first, and then Q, one place on
 record Step (P Q : ℕ → ℕ → Type 0) (here : Option ℕ) : Type 0 where
@@ -34,7 +34,7 @@ record Step (P Q : ℕ → ℕ → Type 0) (here : Option ℕ) : Type 0 where
   later : (k n : ℕ) → P (suc k) n ↔ Q k n
 
 nowhere_next : (P Q : ℕ → ℕ → Type 0) → Step P Q None → Nowhere Q → Nowhere P
-nowhere_next P Q step none zero n is = absurd (let k = (step.at n).0 is in cc)
+nowhere_next P Q step none zero n is = let k = (step.at n).0 is in cc
 nowhere_next P Q step none (suc k) n is = none k n ((step.later k n).0 is)
 
 first_next : (P Q : ℕ → ℕ → Type 0) (here found : Option ℕ) → Step P Q here → FirstAt Q found
@@ -45,25 +45,18 @@ first_next P Q None (Some n) step (place, is, least) =
     (suc place, (step.later place n).1 is, sooner)
   where
     sooner : (other m : ℕ) → P other m → suc place ≤ other
-    sooner zero m has = absurd (let k = (step.at m).0 has in cc)
+    sooner zero m has = let k = (step.at m).0 has in cc
     sooner (suc other) m has = let k = least other m ((step.later other m).0 has) in omega arith
 
-last_behind : (P Q : ℕ → ℕ → Type 0) (here : Option ℕ) (n : ℕ) → Step P Q here → IsLast Q n
-    → IsLast P n
-last_behind P Q here n step (place, is, greatest) = (suc place, (step.later place n).1 is, before)
+last_next : (P Q : ℕ → ℕ → Type 0) (here found : Option ℕ) → Step P Q here → LastOf Q found
+    → LastOf P (option_or found here)
+last_next P Q here (Some n) step (place, is, greatest) = (suc place, (step.later place n).1 is, before)
   where
     before : (other m : ℕ) → P other m → other ≤ suc place
     before zero m has = omega arith
     before (suc other) m has = let k = greatest other m ((step.later other m).0 has) in omega arith
-
-last_next : (P Q : ℕ → ℕ → Type 0) (here before found : Option ℕ) → Step P Q here
-    → LastAt Q (option_or here before) found → LastAt P before found
-last_next P Q None before None step (is, none) = (is, nowhere_next P Q step none)
-last_next P Q None before (Some n) step (inl last) = inl (last_behind P Q None n step last)
-last_next P Q None before (Some n) step (inr (is, none)) = inr (is, nowhere_next P Q step none)
-last_next P Q (Some h) before None step (is, none) = absurd (cc)
-last_next P Q (Some h) before (Some n) step (inl last) = inl (last_behind P Q (Some h) n step last)
-last_next P Q (Some h) before (Some n) step (inr (is, none)) = inl (0, (step.at n).1 is, first)
+last_next P Q None None step none = nowhere_next P Q step none
+last_next P Q (Some h) None step none = (0, (step.at h).1 refl, first)
   where
     first : (other m : ℕ) → P other m → other ≤ 0
     first zero m has = omega arith
@@ -81,8 +74,7 @@ first_same P Q (Some n) same (place, is, least) =
 a_delay : (line : LineValue) (delay : ℕ) → delay_in line ≡ Some delay
     → line ≡ CrawlDelay (Some delay)
 a_delay (CrawlDelay (Some d)) delay is = ap (λ (o : Option ℕ). CrawlDelay o) is
-a_delay (CrawlDelay None) delay is = absurd (cc)
-a_delay _ delay is = absurd (let k : ◌≡◌ {A = Option ℕ} None (Some delay) = is in cc)
+a_delay _ delay is = cc
 
 -- the line at the place is a delay, and passes a test of places
 abbrev DelayAt : (ℕ → Bool) → ℕ → List LineValue → ℕ → ℕ → Type 0
@@ -95,14 +87,13 @@ tested test n line = cond (test n) (delay_in line) None
 delay_step : (test : ℕ → Bool) (n : ℕ) (line : LineValue) (lines : List LineValue)
     → Step (DelayAt test n (line ∷ lines)) (DelayAt test (n + 1) lines) (tested test n line)
 delay_step test n line lines = record {
-  at = λ delay. (
+  at = λ delay. let (to, from) = cond_given (test n) (delay_in line) delay in (
     λ (is, passes).
         let same : line ≡ CrawlDelay (Some delay) = cc in
-        rw (rw add-zero at passes, same) refl,
-    λ is. elim (cases_Bool (test n)) [
-      | inl passes ↦ (ap (λ l. Some l) (a_delay line delay (rw passes at is)), rw add-zero passes)
-      | inr fails ↦ absurd (let k : ◌≡◌ {A = Option ℕ} None (Some delay) = rw fails at is in cc)
-    ],
+        from (rw add-zero at passes, rw same refl),
+    λ is.
+        let (passes, gives) = to is in
+        (ap (λ l. Some l) (a_delay line delay gives), rw add-zero passes),
   );
   later = λ k delay. let same : n + suc k ≡ (n + 1) + k = omega arith in
       (λ is. (is.0, rw same at is.1), λ is. (is.0, rw same is.1));
@@ -117,11 +108,8 @@ delays_from : (test : ℕ → Bool) (n : ℕ) (lines : List LineValue) → First
     (slice_get (filter_map (λ p. delay_in p.1) (filter (λ p. test p.0) (enumerate_from n lines))) 0)
 delays_from test n [] = λ k delay (is, passes). let less = slice_get_within [] k _ is in absurd (omega arith)
 delays_from test n (line ∷ lines) =
-    let found = first_next _ _ _ _ (delay_step test n line lines) (delays_from test (n + 1) lines) in
-    elim (cases_Bool (test n)) [
-      | inl passes ↦ rw (passes, first_given) (rw passes at found)
-      | inr fails ↦ rw fails (rw fails at found)
-    ]
+    rw (kept_next (test n) (λ (p : ℕ × LineValue). delay_in p.1) (n, line), first_given)
+    (first_next _ _ _ _ (delay_step test n line lines) (delays_from test (n + 1) lines))
 
 captured_first : (agent : List ℕ) (lines : List LineValue)
     → FirstAt (IsCapturedDelay agent lines) (slice_get (captured_delays agent lines) 0)
@@ -156,65 +144,56 @@ before_step line lines isnt = record {
   where
     behind : {k : ℕ} → ((j : ℕ) → j < k → ¬ IsTrue (passes_at is_agent lines j))
         → (j : ℕ) → j < suc k → ¬ IsTrue (passes_at is_agent (line ∷ lines) j)
-    behind none zero less is = absurd (false≢true (sym isnt ∙ is))
+    behind none zero less is = cc
     behind none (suc j) less is = none j (omega arith) is
 
-last_before : (before : Option ℕ) (lines : List LineValue)
-    → LastAt (BeforeAgents lines) before (last_or before (filter_map delay_in (before_agent lines)))
-last_before before [] = nothing before
-  where
-    none : Nowhere (BeforeAgents [])
-    none k delay (is, early) = let less = slice_get_within [] k _ is in absurd (omega arith)
+-- what is last of all, or else before them
+last_some : (x : ℕ) (xs : List ℕ) → (n : ℕ) × (last_or (Some x) xs ≡ Some n)
+last_some x [] = (x, refl)
+last_some x (y ∷ xs) = last_some y xs
 
-    nothing : (o : Option ℕ) → LastAt (BeforeAgents []) o o
-    nothing None = (refl, none)
-    nothing (Some n) = inr (refl, none)
-last_before before (line ∷ lines) = elim (cases_Bool (is_agent line)) [
-  | inl agent ↦ rw agent (nothing agent before)
-  | inr other ↦ rw (other, last_more) (last_next _ _ _ _ _ (before_step line lines other)
-      (last_before (option_or (delay_in line) before) lines))
+last_given : (o : Option ℕ) (xs : List ℕ) → last_or o xs ≡ option_or (last_or None xs) o
+last_given o [] = refl
+last_given o (x ∷ xs) = rw (last_some x xs).1 refl
+
+last_before : (lines : List LineValue)
+    → LastOf (BeforeAgents lines) (last_or None (filter_map delay_in (before_agent lines)))
+last_before [] = λ k delay (is, early). let less = slice_get_within [] k _ is in absurd (omega arith)
+last_before (line ∷ lines) = elim (cases_Bool (is_agent line)) [
+  | inl agent ↦ rw agent (none agent)
+  | inr other ↦ rw (other, last_more, option_or_none, last_given)
+      (last_next _ _ _ _ (before_step line lines other) (last_before lines))
 ]
   where
     none : is_agent line ≡ true → Nowhere (BeforeAgents (line ∷ lines))
     none agent zero delay (is, early) =
         let same : line ≡ CrawlDelay (Some delay) = cc in
-        absurd (false≢true (rw same at agent))
+        let other = rw same at agent in cc
     none agent (suc k) delay (is, early) = early 0 (omega arith) agent
-
-    nothing : is_agent line ≡ true → (o : Option ℕ) → LastAt (BeforeAgents (line ∷ lines)) o o
-    nothing agent None = (refl, none agent)
-    nothing agent (Some n) = inr (refl, none agent)
-
--- the option is what is found last
-abbrev LastOf : (ℕ → ℕ → Type 0) → Option ℕ → Type 0
-LastOf P None = Nowhere P
-LastOf P (Some n) = IsLast P n
 
 -- a delay before all agent lines stands before the one at this place
 early : (lines : List LineValue) (at : ℕ) → passes_at is_agent lines at ≡ true → (k delay : ℕ)
     → BeforeAgents lines k delay → IsEarlyDelay lines k delay
 early lines at agent k delay (is, none) =
-    let not_here : k ≡ at → ⊥ = λ here. false≢true (rw (rw here at is) at agent) in
+    let not_here : k ≡ at → ⊥ = λ here. let wrong = rw (rw here at is) at agent in cc in
     let not_behind : at < k → ⊥ = λ less. none at less agent in
     (is, none, at, omega arith, agent)
 
 last_early : (lines : List LineValue) → LastOf (IsEarlyDelay lines) (delay_before_agents lines)
 last_early lines = elim (cases_Bool (list_any is_agent lines)) [
   | inl some ↦ rw (some, before_agents lines)
-      (given ((some_passes is_agent lines).0 some) _ (last_before None lines))
-  | inr none ↦ rw none (λ k delay is.
-      absurd (false≢true (sym none ∙ (some_passes is_agent lines).1 (is.2, is.4))))
+      (given ((some_passes is_agent lines).0 some) _ (last_before lines))
+  | inr none ↦ rw none (λ k delay is. cc ((some_passes is_agent lines).1 (is.2, is.4)))
 ]
   where
     given : (at : ℕ) × (passes_at is_agent lines at ≡ true) → (o : Option ℕ)
-        → LastAt (BeforeAgents lines) None o → LastOf (IsEarlyDelay lines) o
-    given agent None (is, none) = λ k delay has. none k delay (has.0, has.1)
-    given agent (Some n) (inl (place, is, greatest)) = (
+        → LastOf (BeforeAgents lines) o → LastOf (IsEarlyDelay lines) o
+    given agent None none = λ k delay has. none k delay (has.0, has.1)
+    given agent (Some n) (place, is, greatest) = (
       place,
       early lines agent.0 agent.1 place n is,
       λ other m has. greatest other m (has.0, has.1),
     )
-    given agent (Some n) (inr (is, none)) = absurd (cc)
 
 -- ---- the agent's delay
 
@@ -225,28 +204,21 @@ is_delay_for agent lines (Some delay) last is early = inl is
 is_delay_for agent lines None (Some delay) none is = inr (none, is)
 is_delay_for agent lines None None none is = (none, is)
 
-one_delay : (lines : List LineValue) (place a b : ℕ)
-    → slice_get lines place ≡ Some (CrawlDelay (Some a))
-    → slice_get lines place ≡ Some (CrawlDelay (Some b)) → ◌≡◌ {A = Option ℕ} (Some a) (Some b)
-one_delay lines place a b one two = cc
+one_delay : (lines : List LineValue) (p q a b : ℕ) → p ≤ q → q ≤ p
+    → slice_get lines p ≡ Some (CrawlDelay (Some a)) → slice_get lines q ≡ Some (CrawlDelay (Some b))
+    → ◌≡◌ {A = Option ℕ} (Some a) (Some b)
+one_delay lines p q a b low high one two = let same : p ≡ q = omega arith in cc
 
 one_first : (agent : List ℕ) (lines : List LineValue) (a b : ℕ)
-    → IsFirst (IsCapturedDelay agent lines) a
-    → IsFirst (IsCapturedDelay agent lines) b → ◌≡◌ {A = Option ℕ} (Some a) (Some b)
+    → IsFirst (IsCapturedDelay agent lines) a → IsFirst (IsCapturedDelay agent lines) b
+    → ◌≡◌ {A = Option ℕ} (Some a) (Some b)
 one_first agent lines a b (p, is, least) (q, has, lowest) =
-    let low = least q b has in
-    let high = lowest p a is in
-    let same : p ≡ q = omega arith in
-    one_delay lines q a b (rw same at is.0) has.0
+    one_delay lines p q a b (least q b has) (lowest p a is) is.0 has.0
 
 one_last : (lines : List LineValue) (a b : ℕ) → IsLast (IsEarlyDelay lines) a
-    → IsLast (IsEarlyDelay lines) b
-    → ◌≡◌ {A = Option ℕ} (Some a) (Some b)
+    → IsLast (IsEarlyDelay lines) b → ◌≡◌ {A = Option ℕ} (Some a) (Some b)
 one_last lines a b (p, is, greatest) (q, has, highest) =
-    let low = greatest q b has in
-    let high = highest p a is in
-    let same : p ≡ q = omega arith in
-    one_delay lines q a b (rw same at is.0) has.0
+    one_delay lines p q a b (highest p a is) (greatest q b has) is.0 has.0
 
 one_delay_for : (agent : List ℕ) (lines : List LineValue) (one two : Option ℕ)
     → IsDelayFor agent lines one
@@ -265,7 +237,7 @@ pub delay_is_computed : (agent : List ℕ) (lines : List LineValue) (delay : Opt
     → IsDelayFor agent lines delay ↔ delay ≡ delay_for agent lines
 delay_is_computed agent lines delay =
     let is = is_delay_for agent lines _ _ (captured_first agent lines) (last_early lines) in
-    (λ has. one_delay_for agent lines _ _ has is, λ same. subst (IsDelayFor agent lines) (sym same) is)
+    (λ has. one_delay_for agent lines _ _ has is, λ same. rw same is)
 
 -- ---- sitemaps
 
@@ -278,14 +250,9 @@ listed : (line : LineValue) → Lists line (sitemap_in line)
 listed (Sitemap value) = elim (cases_Bool (is_utf8 value)) [
   | inl text ↦ rw text (refl, text)
   | inr other ↦ rw other (λ sitemap is.
-      let same : value ≡ sitemap = cc in
-      false≢true (sym other ∙ rw same is.1))
+      let same : value ≡ sitemap = cc in cc)
 ]
-listed (UserAgent value) = λ sitemap is. let k = is.0 in cc
-listed (Allow value) = λ sitemap is. let k = is.0 in cc
-listed (Disallow value) = λ sitemap is. let k = is.0 in cc
-listed (CrawlDelay delay) = λ sitemap is. let k = is.0 in cc
-listed (Raw body) = λ sitemap is. let k = is.0 in cc
+listed _ = λ sitemap is. let k = is.0 in cc
 
 are_sitemaps : (lines : List LineValue) → AreSitemapsOf lines (sitemaps_in lines)
 are_sitemaps [] = refl
@@ -311,5 +278,5 @@ pub sitemaps_are_computed : (lines : List LineValue) (sitemaps : List (List ℕ)
     → AreSitemapsOf lines sitemaps ↔ sitemaps ≡ sitemaps_in lines
 sitemaps_are_computed lines sitemaps = (
   λ are. one_sitemaps lines _ _ are (are_sitemaps lines),
-  λ same. subst (AreSitemapsOf lines) (sym same) (are_sitemaps lines),
+  λ same. rw same (are_sitemaps lines),
 )

@@ -1,8 +1,9 @@
 -- What the rules that lines hold answer, in whatever order they are listed.
 use Rattle.std.proofs.Common.{◌≡◌, inl, inr, ℕ, ◌+◌, ◌*◌, Bool, true, false, cond, List}
-use Rattle.std.proofs.Common.{Option, Some, [], ◌∷◌, None, IsPermutation, Result, Ok, Err, length, map}
+use Rattle.std.proofs.Common.{Option, Some, [], None, IsPermutation, Result, Ok, Err, length, map}
 use Rattle.std.proofs.Common.{refl, sym, subst, take, ◌∙◌, arith}
 use Rattle.std.specs.Result.{IsErrAnd}
+use Rattle.std.proofs.lemmas.List.{nil_from_length}
 use Rattle.std.proofs.lemmas.List.Sorted.{IsPermutation-sym, length_permutation, sum_by-IsPermutation}
 use Rattle.texting_robots.specs.declared.error.Error.{Error}
 use Rattle.texting_robots.specs.Computed.{file_lines, lines_read, placed_rules, sitemaps_in}
@@ -114,12 +115,8 @@ pub nothing_of : (agent file : List ℕ) → HasLines file (GivesNothing agent)
 nothing_of agent file (lines, are, (rules, sitemaps)) =
     let same = (each_text_has_its_lines (map nul_as_lf file) lines).0 are in
     let moved = (rules_are_computed agent lines []).0 rules in
-    let none = no_members (placed_rules agent lines) (sym (length_permutation _ _ moved)) in
+    let none = nil_from_length (placed_rules agent lines) (sym (length_permutation _ _ moved)) in
     (rw same at none, rw same at (sym ((sitemaps_are_computed lines []).0 sitemaps)))
-  where
-    no_members : (all : List PlacedRule) → length all ≡ 0 → all ≡ []
-    no_members [] none = refl
-    no_members (placed ∷ all) none = absurd (omega arith)
 
 -- ---- an answer
 

@@ -1,24 +1,23 @@
 -- The rules that lines hold are those that `placed_rules` computes, in any order.
-use Rattle.std.proofs.Common.{◌≡◌, ◌≢◌, ◌⊎◌, inl, inr, ℕ, zero, suc, ◌+◌, ◌<◌}
-use Rattle.std.proofs.Common.{Bool, true, false, cond, List, [], ◌∷◌, Option, Some, None, AllPairs}
+use Rattle.std.proofs.Common.{◌≡◌, ◌≢◌, ◌⊎◌, inl, inr, ℕ, suc, ◌+◌, ◌<◌}
+use Rattle.std.proofs.Common.{Bool, cond, List, [], ◌∷◌, Option, Some, None, AllPairs}
 use Rattle.std.proofs.Common.{IsPermutation, get_or, length, refl, sym, ap, subst, ◌∙◌, ◌↔◌}
-use Rattle.std.proofs.Common.{arith, swap, zero-add}
-use Rattle.std.specs.List.{All, Any, Contains, cons_option, enumerate_from, filter_map}
-use Rattle.std.specs.{Prelude.filter, Prelude.IsTrue, Str.is_utf8}
-use Rattle.std.proofs.lemmas.{Bool.cases_Bool, Bool.cases_eq, List.Kept.AllPairs-cons}
+use Rattle.std.proofs.Common.{arith, swap}
+use Rattle.std.specs.List.{All, Any, Contains, cons_option}
+use Rattle.std.proofs.lemmas.{Bool.cases_eq, List.Kept.AllPairs-cons}
 use Rattle.std.proofs.lemmas.List.Edits.{Swapped, swapped_from_swap, length-swap}
-use Rattle.std.proofs.lemmas.List.Elements.{All-cons, All-nil, All-weaker}
-use Rattle.std.proofs.lemmas.List.Sorted.{Contains-permutation, IsPermutation-cons, IsPermutation-keeps}
+use Rattle.std.proofs.lemmas.List.Elements.{Contains-get_or}
+use Rattle.std.proofs.lemmas.List.Sorted.{IsPermutation-cons, IsPermutation-keeps}
 use Rattle.std.proofs.lemmas.List.Sorted.{IsPermutation-refl, IsPermutation-remove, IsPermutation-sym}
 use Rattle.std.proofs.lemmas.List.Sorted.{IsPermutation-trans}
 use Rattle.texting_robots.specs.Computed.{placed_in, placed_rules, rule_in, rules_for}
-use Rattle.texting_robots.specs.Rules.{PlacedRule, Rule, AreRulesFor, HoldsRule, IsRefused}
-use Rattle.texting_robots.specs.{Line.LineValue, Line.Allow, Line.Disallow, Escape.escaped, Group.group_name}
+use Rattle.texting_robots.specs.Rules.{PlacedRule, Rule, AreRulesFor, IsRefused}
+use Rattle.texting_robots.specs.{Line.LineValue, Group.group_name}
 use Rattle.texting_robots.specs.{Steps.Captured.is_captured, Steps.Group.placed, Pattern.IsOverlong}
-use Rattle.std.proofs.lemmas.Option.{get_or_from_slice_get, slice_get_within}
-use Rattle.std.proofs.lemmas.List.FromFn.{get_or-enumerate_from, length-enumerate_from}
-use Rattle.texting_robots.proofs.CapturedLemmas.{is_captured_decides}
-use Rattle.texting_robots.proofs.{PlacedLemmas.rule_on_line, RulesLemmas.any_unplaced, BestLemmas.placed_of}
+use Rattle.texting_robots.proofs.CapturedLemmas.{cond_given, kept_next}
+use Rattle.texting_robots.proofs.{PlacedLemmas.placed_held, PlacedLemmas.rules_come, PlacedLemmas.rules_from}
+use Rattle.texting_robots.proofs.{RulesLemmas.any_unplaced, BestLemmas.placed_of}
+use Rattle.texting_robots.proofs.VerdictLemmas.{behind_first, same_elements}
 
 -- ---- lists in which no line stands twice
 
@@ -71,165 +70,98 @@ apart_first : (first : PlacedRule) (rules : List PlacedRule) → AreApart (first
 apart_first first rules apart (k, below, at) =
     apart 0 (suc k) first (omega arith) (omega arith) (ap (λ (placed : PlacedRule). placed.line) (sym at))
 
-later : (first : PlacedRule) (rules : List PlacedRule) (placed : PlacedRule) → Contains rules placed
-    → Contains (first ∷ rules) placed
-later first rules placed (k, below, at) = (suc k, omega arith, at)
+-- the rule is listed, and isn't the first
+abbrev IsOther : PlacedRule → List PlacedRule → PlacedRule → Type 0
+IsOther first rules placed = Contains rules placed × ¬ ◌≡◌ {A = PlacedRule} first placed
 
--- what isn't the first stands behind it
-behind : (first : PlacedRule) (rules : List PlacedRule) (placed : PlacedRule)
-    → ¬ Contains rules first → ¬ ◌≡◌ {A = PlacedRule} first placed
-    → Contains (first ∷ rules) placed
-    → Contains rules placed
-behind first rules placed isnt other (zero, below, at) = absurd (other at)
-behind first rules placed isnt other (suc k, below, at) = (k, omega arith, at)
+behind : (first : PlacedRule) (rules : List PlacedRule) → AreApart (first ∷ rules)
+    → (placed : PlacedRule) → Contains rules placed ↔ IsOther first (first ∷ rules) placed
+behind first rules apart placed = (
+  λ (k, below, at). (
+    (suc k, omega arith, at),
+    λ same. apart_first first rules apart (k, omega arith, rw same at),
+  ),
+  λ (has, other). behind_first first rules placed other has,
+)
 
 -- lists with the same members, each once, are one list in two orders
 pub same_members : (rules others : List PlacedRule) → AreApart rules → AreApart others
-    → ((placed : PlacedRule) → Contains rules placed → Contains others placed)
-    → ((placed : PlacedRule) → Contains others placed → Contains rules placed)
+    → ((placed : PlacedRule) → Contains rules placed ↔ Contains others placed)
     → IsPermutation rules others
-same_members [] [] one two to back = IsPermutation-refl []
-same_members [] (other ∷ others) one two to back =
-    let (k, below, at) = back other (0, omega arith, refl) in absurd (omega arith)
-same_members (first ∷ rules) others one two to back =
-    let (i, below, at) = to first (0, omega arith, refl) in
+same_members [] [] one two same = IsPermutation-refl []
+same_members [] (other ∷ others) one two same =
+    let (k, below, at) = (same other).1 (0, omega arith, refl) in absurd (omega arith)
+same_members (first ∷ rules) others one two same =
+    let (i, below, at) = (same first).0 (0, omega arith, refl) in
     let moved = IsPermutation-remove others i first below (sym at) in
     let apart = apart_permuted others _ moved two in
-    let mine = apart_first first rules one in
-    let theirs = apart_first first _ apart in
-    let same = same_members rules _ (apart_tail first rules one) (apart_tail first _ apart)
-    (λ placed has. behind first _ placed theirs (λ e. mine (subst (Contains rules) (sym e) has))
-    (Contains-permutation others _ placed moved (to placed (later first rules placed has))))
-    (λ placed has. behind first rules placed mine (λ e. theirs (subst (Contains _) (sym e) has))
-    (back placed (Contains-permutation _ others placed (IsPermutation-sym _ _ moved)
-    (later first _ placed has)))) in
-    IsPermutation-trans _ _ _ (IsPermutation-cons first _ _ same) (IsPermutation-sym _ _ moved)
+    let alike = same_elements others _ moved in
+    let rest = same_members rules _ (apart_tail first rules one) (apart_tail first _ apart) (λ placed.
+    let (mine, back) = behind first rules one placed in
+    let (theirs, left) = behind first _ apart placed in (
+      λ has.
+          let (listed, other) = mine has in
+          left ((alike placed).0 ((same placed).0 listed), other),
+      λ has.
+          let (listed, other) = theirs has in
+          back ((same placed).1 ((alike placed).1 listed), other),
+    )) in
+    IsPermutation-trans _ _ _ (IsPermutation-cons first _ _ rest) (IsPermutation-sym _ _ moved)
 
 -- ---- each list of lines has its rules
 
--- what an element gives is found in the list
-found_of : {X Y : Type 0} (f : X → Option Y) (xs : List X) (x : X) (y : Y) → Contains xs x
-    → f x ≡ Some y → Contains (filter_map f xs) y
-found_of f [] x y (k, below, at) is = absurd (omega arith)
-found_of {X} {Y} f (z ∷ xs) x y (zero, below, at) is =
-    let here : f z ≡ Some y = ap f at ∙ is in rw here (0, omega arith, refl)
-found_of {X} {Y} f (z ∷ xs) x y (suc k, below, at) is =
-    added (f z) (found_of f xs x y (k, omega arith, at) is)
+-- the number of the line that gives a rule
+given_number : (passes : Bool) (place : ℕ) (line : LineValue) (found : PlacedRule)
+    → cond passes (placed_in (place, line)) None ≡ Some found → found.line ≡ place + 1
+given_number passes place line found is = at (rule_in line) ((cond_given passes _ found).0 is).1
   where
-    added : (o : Option Y) → Contains (filter_map f xs) y → Contains (cons_option o (filter_map f xs)) y
-    added None has = has
-    added (Some w) (n, less, there) = (suc n, omega arith, there)
+    at : (rule : Option Rule) → placed (place + 1) rule ≡ Some found → found.line ≡ place + 1
+    at None is = cc
+    at (Some rule) is = cc
 
--- what passes a test is kept
-kept : {X : Type 0} (test : X → Bool) (xs : List X) (x : X) → Contains xs x → test x ≡ true
-    → Contains (filter test xs) x
-kept test [] x (k, below, at) is = absurd (omega arith)
-kept test (z ∷ xs) x (zero, below, at) is =
-    let here : test z ≡ true = ap test at ∙ is in rw here (0, omega arith, at)
-kept {X} test (z ∷ xs) x (suc k, below, at) is = added (test z) (kept test xs x (k, omega arith, at) is)
-  where
-    added : (b : Bool) → Contains (filter test xs) x
-        → Contains (cond b (z ∷ filter test xs) (filter test xs)) x
-    added true (n, less, there) = (suc n, omega arith, there)
-    added false has = has
+-- a rule of a line that gives none of the others
+apart_with : (first : Option PlacedRule) (rules : List PlacedRule)
+    → ((found : PlacedRule) → first ≡ Some found
+    → All (λ (other : PlacedRule). found.line ≢ other.line) rules)
+    → AreApart rules → AreApart (cons_option first rules)
+apart_with None rules differs apart = apart
+apart_with (Some found) rules differs apart =
+    AllPairs-cons (λ (one other : PlacedRule). one.line ≢ other.line) found rules
+    (differs found refl) apart
 
--- rules on lines behind the n-th, each on a later line than those before it
-record Rise (n : ℕ) (rules : List PlacedRule) : Type 0 where
-  above : All (λ (placed : PlacedRule). n < placed.line) rules
-  rising : AllPairs (λ (one other : PlacedRule). one.line < other.line) rules
-
-rise_sooner : (n : ℕ) (rules : List PlacedRule) → Rise (n + 1) rules → Rise n rules
-rise_sooner n rules rise = record {
-  above = All-weaker (λ (placed : PlacedRule). n + 1 < placed.line) (λ placed. n < placed.line)
-      (λ placed more. omega arith) rules rise.above;
-  rising = rise.rising;
-}
-
-rise_with : (n : ℕ) (rules : List PlacedRule) (found : Option Rule) → Rise (n + 1) rules
-    → Rise n (cons_option (placed (n + 1) found) rules)
-rise_with n rules None rise = rise_sooner n rules rise
-rise_with n rules (Some rule) rise =
-    let made : PlacedRule = record { rule = rule; line = n + 1 } in
-    record {
-      above = All-cons (λ (other : PlacedRule). n < other.line) made rules (omega arith)
-          (rise_sooner n rules rise).above;
-      rising = AllPairs-cons (λ (one other : PlacedRule). one.line < other.line) made rules
-          rise.above rise.rising;
-    }
-
-rules_rise : (test : ℕ → Bool) (n : ℕ) (lines : List LineValue)
-    → Rise n (filter_map placed_in (filter (λ p. test p.0) (enumerate_from n lines)))
-rules_rise test n [] = record {
-  above = All-nil (λ (placed : PlacedRule). n < placed.line);
-  rising = λ i j d less within. absurd (omega arith);
-}
-rules_rise test n (line ∷ lines) = elim (cases_Bool (test n)) [
-  | inl is ↦ rw is (rise_with n _ (rule_in line) (rules_rise test (n + 1) lines))
-  | inr isnt ↦ rw isnt (rise_sooner n _ (rules_rise test (n + 1) lines))
-]
-
-rules_apart : (agent : List ℕ) (lines : List LineValue) → AreApart (placed_rules agent lines)
-rules_apart agent lines i j d less within same =
-    let rise = rules_rise (is_captured (group_name agent lines) lines) 0 lines in
-    let more = rise.rising i j d less within in
-    omega arith
-
--- the line gives the rule that it holds
-rule_given : (value : List ℕ) (is_allow : Bool) → IsTrue (is_utf8 value)
-    → rule_in (cond is_allow (Allow value) (Disallow value)) ≡ Some (escaped value, is_allow)
-rule_given value true text = rw text refl
-rule_given value false text = rw text refl
-
--- a rule that a line holds is among those that are computed
-rule_computed : (agent : List ℕ) (lines : List LineValue) (place : ℕ) (rule : Rule)
-    → HoldsRule agent lines place rule
-    → Contains (placed_rules agent lines) (record { rule = rule; line = place + 1 })
-rule_computed agent lines place rule holds =
-    let name = group_name agent lines in
-    let line = cond rule.1 (Allow holds.value) (Disallow holds.value) in
-    let within = slice_get_within lines place line holds.line.0 in
-    let at = get_or_from_slice_get lines place line line holds.line.0 in
-    let numbered : List (ℕ × LineValue) = enumerate_from 0 lines in
-    let there : Contains numbered (place, line) = (
-      place,
-      rw length-enumerate_from within,
-      get_or-enumerate_from 0 lines place (place, line) within
-          ∙ rw (zero-add, at) refl,
-    ) in
-    let captured = (is_captured_decides name lines place).1 holds.line.1 in
-    let same : ◌≡◌ {A = Rule} (escaped holds.value, rule.1) rule =
-    ap (λ p. (p, rule.1)) (sym holds.pattern) in
-    found_of placed_in _ (place, line) _
-    (kept (λ (p : ℕ × LineValue). is_captured name lines p.0) numbered (place, line) there captured)
-    (rw (rule_given holds.value rule.1 holds.utf8, same) refl)
-
--- a rule with its line is computed where the line holds it
-computed_held : (agent : List ℕ) (lines : List LineValue) (found : PlacedRule)
-    → (place : ℕ) × (found.line ≡ place + 1) × HoldsRule agent lines place found.rule
-    → Contains (placed_rules agent lines) found
-computed_held agent lines found (place, at, holds) =
-    rw at (rule_computed agent lines place found.rule holds)
+-- each line gives one rule at most
+rules_apart : (test : ℕ → Bool) (n : ℕ) (lines : List LineValue) → AreApart (rules_from test n lines)
+rules_apart test n [] = λ i j d less within. absurd (omega arith)
+rules_apart test n (line ∷ lines) =
+    let rules = rules_from test (n + 1) lines in
+    rw (kept_next (test n) placed_in (n, line)) (apart_with _ rules (λ found is k d below same.
+    let other = get_or rules k d in
+    let (far, place, behind, ahead, at, gives) =
+    (rules_come test (n + 1) lines other).0 (Contains-get_or rules k d below) in
+    let here = given_number _ n line found is in
+    let there = given_number _ place behind other gives in
+    omega arith)
+    (rules_apart test (n + 1) lines))
 
 pub computed_are : (agent : List ℕ) (lines : List LineValue)
     → AreRulesFor agent lines (placed_rules agent lines)
 computed_are agent lines = record {
-  held = λ placed. (rule_on_line agent lines placed, computed_held agent lines placed);
-  once = rules_apart agent lines;
+  held = placed_held agent lines;
+  once = rules_apart (is_captured (group_name agent lines) lines) 0 lines;
 }
 
 pub one_list : (agent : List ℕ) (lines : List LineValue) (rules others : List PlacedRule)
     → AreRulesFor agent lines rules → AreRulesFor agent lines others → IsPermutation rules others
-one_list agent lines rules others one two = same_members rules others one.once two.once
-    (λ placed has. (two.held placed).1 ((one.held placed).0 has))
-    (λ placed has. (one.held placed).1 ((two.held placed).0 has))
+one_list agent lines rules others one two = same_members rules others one.once two.once (λ placed. (
+  λ has. (two.held placed).1 ((one.held placed).0 has),
+  λ has. (one.held placed).1 ((two.held placed).0 has),
+))
 
 pub permuted_are : (agent : List ℕ) (lines : List LineValue) (rules others : List PlacedRule)
     → IsPermutation rules others → AreRulesFor agent lines rules → AreRulesFor agent lines others
 permuted_are agent lines rules others moved are = record {
-  held = λ placed. (
-    λ has. (are.held placed).0 (Contains-permutation others rules placed (IsPermutation-sym _ _ moved) has),
-    λ holds. Contains-permutation rules others placed moved ((are.held placed).1 holds),
-  );
+  held = λ placed. let (to, from) = same_elements rules others moved placed in
+      (λ has. (are.held placed).0 (from has), λ holds. to ((are.held placed).1 holds));
   once = apart_permuted rules others moved are.once;
 }
 
@@ -246,11 +178,12 @@ pub refusal_is_computed : (agent : List ℕ) (lines : List LineValue)
     → IsRefused agent lines ↔ Any (λ (rule : Rule). IsOverlong rule.0) (rules_for agent lines)
 refusal_is_computed agent lines = (
   λ (place, rule, holds, overlong).
-      let (k, below, at) = rule_computed agent lines place rule holds in
+      let found : PlacedRule = record { rule = rule; line = place + 1 } in
+      let (k, below, at) = (placed_held agent lines found).1 (place, refl, holds) in
       any_unplaced (λ (rule : Rule). IsOverlong rule.0) (placed_rules agent lines)
-      (k, record { rule = rule; line = place + 1 }, below, at, overlong),
+      (k, found, below, at, overlong),
   λ (k, rule, below, at, overlong).
       let (found, has, same) = placed_of (placed_rules agent lines) rule (k, below, at) in
-      let (place, number, holds) = rule_on_line agent lines found has in
+      let (place, number, holds) = (placed_held agent lines found).0 has in
       (place, found.rule, holds, subst (λ (r : Rule). IsOverlong r.0) (sym same) overlong),
 )

@@ -1,5 +1,5 @@
 -- What a change of the lines leaves as it was.
-use Rattle.std.proofs.Common.{◌≡◌, ◌↔◌, inl, inr, ℕ, suc, ◌+◌, Bool, true, false, not}
+use Rattle.std.proofs.Common.{◌≡◌, ◌↔◌, inl, inr, ℕ, suc, ◌+◌, Bool, false, not}
 use Rattle.std.proofs.Common.{◌||◌, List, [], ◌∷◌, ◌++◌, Option, None, length, drop, filter}
 use Rattle.std.proofs.Common.{cond, codes, zero-add, add-zero, arith, sym, refl, ap, ◌∙◌, subst}
 use Rattle.std.specs.{List.Any, List.cons_option, List.filter_map, List.list_any, Str.str_to_ascii_lowercase}
@@ -12,7 +12,7 @@ use Rattle.texting_robots.specs.Group.{group_name, is_agent, is_agent_named, is_
 use Rattle.texting_robots.specs.Computed.{delay_for, rule_in, rules_for, sitemap_in, sitemaps_in}
 use Rattle.texting_robots.specs.Steps.Group.{start_of, step}
 use Rattle.texting_robots.specs.Laws.{IsSameKind, Same, SameButSitemaps}
-use Rattle.texting_robots.proofs.CapturedLemmas.{IsWalkAt, at_front, delays_are, given_captured}
+use Rattle.texting_robots.proofs.CapturedLemmas.{IsWalkAt, at_front, cond_same, delays_are, given_captured}
 use Rattle.texting_robots.proofs.CapturedLemmas.{is_captured_decides, only_agents, rules_are, stands_first}
 use Rattle.texting_robots.proofs.CapturedLemmas.{stands_next}
 use Rattle.texting_robots.proofs.RulesLemmas.{before_agent, before_agents}
@@ -122,16 +122,12 @@ module _ (keep : LineValue → Bool)
         rw (
           dropped,
           drops line is.group,
-          nothing walk.captured,
+          cond_same {X = Option X} walk.captured None,
           is.agent,
           is.group,
           only_agents name line is.agent,
         ) (captured_kept given drops name walk lines)
   ]
-    where
-      nothing : (b : Bool) → ◌≡◌ {A = Option X} (cond b None None) None
-      nothing true = refl
-      nothing false = refl
 
   before_kept : (lines : List LineValue)
       → filter_map delay_in (before_agent lines) ≡ filter_map delay_in (before_agent (filter keep lines))

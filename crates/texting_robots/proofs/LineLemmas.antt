@@ -37,24 +37,18 @@ with_delay value body (Some delay) names = inl (delay, names, refl)
 
 is_line_with : (kind : Kind) (value body : List ℕ)
     → IsLineWith kind value body (line_with kind value body)
-is_line_with kind.UserAgent value body = refl
-is_line_with kind.Allow value body = refl
-is_line_with kind.Disallow [] body = refl
-is_line_with kind.Disallow (b ∷ value) body = refl
-is_line_with kind.Sitemap value body = refl
 is_line_with kind.CrawlDelay value body = with_delay value body (delay_of value) (delay_of_is value)
+is_line_with kind.Disallow [] body = refl
+is_line_with _ value body = refl
 
 only_line_with : (kind : Kind) (value body : List ℕ) (line : LineValue) → IsLineWith kind value body line
     → line ≡ line_with kind value body
-only_line_with kind.UserAgent value body line is = is
-only_line_with kind.Allow value body line is = is
-only_line_with kind.Disallow [] body line is = is
-only_line_with kind.Disallow (b ∷ value) body line is = is
-only_line_with kind.Sitemap value body line is = is
 only_line_with kind.CrawlDelay value body line (inl (delay, names, is)) =
     is ∙ ap (λ d. delay_or_raw d body) (is_delay_of value (Some delay) names)
 only_line_with kind.CrawlDelay value body line (inr (names, is)) =
     is ∙ ap (λ d. delay_or_raw d body) (is_delay_of value None names)
+only_line_with kind.Disallow [] body line is = is
+only_line_with _ value body line is = is
 
 is_line : (body : List ℕ) (found : Option (Kind × List ℕ)) → statement_of body ≡ found
     → IsLineOf (line_of body) body
@@ -148,10 +142,10 @@ IsKindOf kind line = (kind_in line ≡ kind) ⊎ (kind_in line ≡ None)
 
 kind_with_value : (k : Kind) (value body : List ℕ) → IsKindOf (Some k) (line_with k value body)
 kind_with_value kind.UserAgent value body = inl refl
+kind_with_value kind.Sitemap value body = inl refl
 kind_with_value kind.Allow value body = inr refl
 kind_with_value kind.Disallow [] body = inr refl
 kind_with_value kind.Disallow (b ∷ value) body = inr refl
-kind_with_value kind.Sitemap value body = inl refl
 kind_with_value kind.CrawlDelay value body = at (delay_of value)
   where
     at : (delay : Option ℕ) → IsKindOf (Some kind.CrawlDelay) (delay_or_raw delay body)
@@ -218,12 +212,10 @@ delay_range (Some delay) body = refl
 
 with_range : (kind : Kind) (value body : List ℕ) → IsStatement kind value body
     → HoldsRangeOf (line_with kind value body) body
-with_range kind.UserAgent value body s = value_range kind.UserAgent value body s
 with_range kind.Allow value body s = inl (value_range kind.Allow value body s)
 with_range kind.Disallow [] body s = inr (refl, s)
-with_range kind.Disallow (b ∷ value) body s = value_range kind.Disallow (b ∷ value) body s
-with_range kind.Sitemap value body s = value_range kind.Sitemap value body s
 with_range kind.CrawlDelay value body s = delay_range (delay_of value) body
+with_range kind value body s = value_range kind value body s
 
 line_range : (body : List ℕ) → IsLineOf (line_of body) body → HoldsRangeOf (line_of body) body
 line_range body (inl (kind, value, is, line_is)) = subst (λ l. HoldsRangeOf l body)

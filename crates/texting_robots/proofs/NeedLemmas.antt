@@ -1,7 +1,7 @@
 -- What a pattern matches begins as its first piece, and has the pairs of neighbouring bytes of its searched
 -- pieces.
 use Rattle.std.proofs.Common.{◌≡◌, ℕ, ◌*◌, ◌^◌, ◌%◌, ◌<◌, ◌≤◌, List}
-use Rattle.std.proofs.Common.{[], ◌∷◌, ◌++◌, length, min, get_or, drop, take, sym, refl, ap, subst}
+use Rattle.std.proofs.Common.{[], ◌∷◌, ◌++◌, length, min, get_or, drop, take, sym, refl, ap}
 use Rattle.std.proofs.Common.{◌∙◌, append_assoc, take-append-drop, arith}
 use Rattle.std.specs.Int.{RustNames.bit_and, RustNames.bit_or, Bits.or_self, Bits.or_zero_l}
 use Rattle.std.proofs.lemmas.List.{take-take}
@@ -34,8 +34,7 @@ same_masked piece rest =
 beginning_fits : (piece rest : List ℕ) (head : Head) → IsHeadOf piece head
     → Fits head (front_of (piece ++ rest))
 beginning_fits piece rest head is =
-    ap (bit_and (front_of (piece ++ rest))) is.mask ∙ same_masked piece rest
-    ∙ ap (bit_and (front_of piece)) (sym is.mask) ∙ sym is.bytes
+    rw (is.bytes, is.mask) (same_masked piece rest)
 
 -- ---- pairs of neighbouring bytes
 
@@ -53,7 +52,7 @@ within_later few more many h =
 
 pub within_both : (one other many : ℕ) → AreWithin one many → AreWithin other many
     → AreWithin (bit_or one other) many
-within_both one other many h k = or_assoc one other many ∙ ap (bit_or one) k ∙ h
+within_both one other many h k = rw (or_assoc, k) h
 
 within_through : (few some many : ℕ) → AreWithin few some → AreWithin some many → AreWithin few many
 within_through few some many h k =
@@ -85,8 +84,7 @@ pub pairs_step : (bits bit whole : ℕ) (rest : List ℕ) → 2 ≤ length rest
     → bit_or (bit_or bits bit) (pair_set (drop 1 rest)) ≡ whole
 unfolding pair_set
 pairs_step bits bit whole (b ∷ c ∷ rest) long is h =
-    or_assoc bits bit (pair_set (c ∷ rest)) ∙ ap (λ x. bit_or bits (bit_or x (pair_set (c ∷ rest)))) is
-    ∙ h
+    rw (or_assoc, is) h
 pairs_step bits bit whole rest long is h = absurd (omega arith)
 
 -- and so do the first two, one after the other
@@ -117,8 +115,7 @@ piece_pairs pattern ending (piece ∷ pieces) =
 ending_within : (pattern : List ℕ) (ending : Ending) (t : List ℕ) → EndsAs pattern ending t
     → AreWithin (ending_pairs pattern ending) (pair_set t)
 ending_within pattern (Last span) t (front, e) =
-    let part = part_of pattern span in
-    subst (λ x. AreWithin (pair_set part) (pair_set x)) (sym e) (end_within front part)
+    rw e (end_within front (part_of pattern span))
 ending_within pattern ending t ends = or_zero_l (pair_set t)
 
 -- what is left of a pattern matches only texts with the pairs of the pieces that are left
@@ -134,8 +131,7 @@ left_within pattern ending (piece ∷ pieces) left (rest, is, more) t m =
     let behind = within_through later (pair_set after) (pair_set (part ++ after))
     (left_within pattern ending pieces rest more after n) (end_within part after) in
     let both = within_both _ later (pair_set (part ++ after)) (front_within part after) behind in
-    subst (λ x. AreWithin pairs (pair_set x)) (sym e)
-    (within_through pairs (pair_set (part ++ after)) _ both (end_within front (part ++ after)))
+    rw e (within_through pairs (pair_set (part ++ after)) _ both (end_within front (part ++ after)))
 
 -- what a pattern matches meets its needs
 pub are_needs : {pattern : List ℕ} {ends : Ends} {pieces : List Piece} {borders : List ℕ} (needs : Needs)
@@ -159,5 +155,4 @@ beginning_within pattern rest text few first less e =
     let all : text ≡ take few pattern ++ (drop few front ++ rest) =
     e ∙ ap (λ x. x ++ rest) (parts ∙ ap (λ x. x ++ drop few front) same)
     ∙ append_assoc (take few pattern) (drop few front) rest in
-    subst (λ x. AreWithin (pair_set (take few pattern)) (pair_set x)) (sym all)
-    (front_within (take few pattern) (drop few front ++ rest))
+    rw all (front_within (take few pattern) (drop few front ++ rest))

@@ -1,9 +1,9 @@
 -- What a pattern matches, piece by piece.
 use Rattle.std.proofs.Common.{◌≡◌, ◌≢◌, ◌↔◌, ℕ, suc, ◌+◌, ◌==◌, ◌&&◌, Bool}
-use Rattle.std.proofs.Common.{true, false, inl, inr, List, [], ◌∷◌, ◌++◌, All, drop, get_or, refl}
-use Rattle.std.proofs.Common.{sym, ap, subst, ◌∙◌, append_assoc, arith}
+use Rattle.std.proofs.Common.{true, false, inl, inr, List, [], ◌∷◌, ◌++◌, All, get_or, refl}
+use Rattle.std.proofs.Common.{sym, ap, ◌∙◌, append_assoc, arith}
 use Rattle.std.specs.List.{list_all, prefix_len}
-use Rattle.std.proofs.lemmas.Bool.{cases_Bool, eqb-true, ne_eqb, or_cases, or_parts, false≢true}
+use Rattle.std.proofs.lemmas.Bool.{cases_Bool, eqb-true, ne_eqb, or_cases, or_parts}
 use Rattle.std.proofs.lemmas.List.Elements.{All-head, All-tail, All-weaker}
 use Rattle.texting_robots.specs.Pattern.{dollar, IsSuffix, Matches, MatchesWith, star}
 use Rattle.texting_robots.specs.Steps.Pieces.{behind_stars, is_mark, IsAtMark, Closes, Grows}
@@ -20,6 +20,11 @@ pub plain_marks : (piece : List ℕ) → All (λ b. is_mark b ≡ false) piece �
 plain_marks =
     All-weaker (λ b. is_mark b ≡ false) (IsPlain true)
     (λ b other. or_parts (b == star) (b == dollar) other)
+
+-- what holds of the same texts holds of the same texts that something else holds of
+under : {R : List ℕ → Type 0} (P Q : List ℕ → Type 0) → ((t : List ℕ) → P t ↔ Q t)
+    → ((t : List ℕ) × R t × P t) ↔ ((t : List ℕ) × R t × Q t)
+under P Q same = (λ (t, r, p). (t, r, (same t).0 p), λ (t, r, q). (t, r, (same t).1 q))
 
 -- an end of an end
 pub suffix_trans : {a b c : List ℕ} → IsSuffix a b → IsSuffix b c → IsSuffix a c
@@ -59,7 +64,7 @@ module _ (anchors : Bool) where
   pub star_star : (q t : List ℕ) → (get_or q 0 0 == star) ≡ true
       → MatchesWith anchors (star ∷ q) t ↔ MatchesWith anchors q t
   unfolding MatchesWith
-  star_star [] t two = absurd (false≢true two)
+  star_star [] t two = cc
   star_star (c ∷ q) t two =
       rw (eqb-true c star two) (λ (s, i, m). star_grows q s t i m, λ m. (t, ([], refl), m))
 
@@ -72,15 +77,9 @@ module _ (anchors : Bool) where
         let is = eqb-true b star first in
         let n = prefix_len (λ b. b == star) q in
         let one_more : 1 + n ≡ suc n = omega arith in
-        let skips : behind_stars (b ∷ q) ≡ behind_stars q =
-        rw first (ap (λ n. drop n (b ∷ q)) one_more) in
-        let (drops, adds) = star_star (b ∷ q) t first in
+        let (drops, adds) = star_star (star ∷ q) t refl in
         let (to, from) = star_stars q t in
-        subst (λ x. MatchesWith anchors (star ∷ x) t ↔ MatchesWith anchors (star ∷ b ∷ q) t)
-        (sym skips) (
-          λ m. adds (subst (λ x. MatchesWith anchors (x ∷ q) t) (sym is) (to m)),
-          λ m. from (subst (λ x. MatchesWith anchors (x ∷ q) t) is (drops m)),
-        )
+        rw (is, one_more) (λ m. adds (to m), λ m. from (drops m))
     | inr other ↦ rw other (λ m. m, λ m. m)
   ]
 
@@ -90,11 +89,10 @@ module _ (anchors : Bool) where
       → (t : List ℕ) → MatchesWith anchors (b ∷ p) t ↔ MatchesWith anchors (b ∷ q) t
   unfolding MatchesWith
   behind_byte b p q same t = elim (cases_Bool (b == star)) [
-    | inl star ↦ rw star (λ (s, i, m). (s, i, (same s).0 m), λ (s, i, m). (s, i, (same s).1 m))
+    | inl star ↦ rw star (under (MatchesWith anchors p) (MatchesWith anchors q) same)
     | inr other ↦ elim (cases_Bool (anchors && (b == dollar))) [
-      | inl end ↦ rw (other, end) (λ (s, e, m). (s, e, (same s).0 m), λ (s, e, m). (s, e, (same s).1 m))
-      | inr plain ↦ rw (other, plain)
-          (λ (s, e, m). (s, e, (same s).0 m), λ (s, e, m). (s, e, (same s).1 m))
+      | inl end ↦ rw (other, end) (under (MatchesWith anchors p) (MatchesWith anchors q) same)
+      | inr plain ↦ rw (other, plain) (under (MatchesWith anchors p) (MatchesWith anchors q) same)
     ]
   ]
 
@@ -104,7 +102,7 @@ unfolding MatchesWith
 end_matches anchors t = tt
 
 -- the empty text is matched just by stars and dollars
-none_left : (front s : List ℕ) → [] ≡ front ++ s → s ≡ []
+pub none_left : (front s : List ℕ) → [] ≡ front ++ s → s ≡ []
 none_left [] s e = sym e
 none_left (b ∷ front) s e = cc
 
@@ -121,7 +119,7 @@ only_marks_match (b ∷ q) =
       | inr other ↦ elim (cases_Bool (b == dollar)) [
         | inl end ↦ rw (other, end)
             (λ m. ([], (refl, refl), marks m), λ (s, (e, gone), m). match (rw gone at m))
-        | inr plain ↦ rw (other, plain) (λ e. absurd (false≢true e), λ (s, e, m). cc)
+        | inr plain ↦ rw (other, plain) (λ e. cc, λ (s, e, m). cc)
       ]
     ]
 

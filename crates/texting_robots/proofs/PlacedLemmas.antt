@@ -1,87 +1,125 @@
--- Each rule that is computed of lines stands on its line.
-use Rattle.std.proofs.Common.{◌≡◌, ℕ, zero, suc, ◌+◌, ◌<◌, Bool, true, false, cond, List, []}
-use Rattle.std.proofs.Common.{◌∷◌, Option, Some, None, get_or, length, refl, sym, ap, ◌∙◌, arith}
-use Rattle.std.proofs.Common.{zero-add}
+-- The rules that are computed of lines are those that the lines hold.
+use Rattle.std.proofs.Common.{◌≡◌, ◌↔◌, ◌⊎◌, inl, inr, ℕ, zero, suc, ◌+◌}
+use Rattle.std.proofs.Common.{Bool, true, false, cond, List, [], ◌∷◌, Option, Some, None, slice_get}
+use Rattle.std.proofs.Common.{refl, ap, arith}
 use Rattle.std.specs.{List.Contains, List.cons_option, List.enumerate_from, List.filter_map, Str.is_utf8}
-use Rattle.std.proofs.lemmas.List.Elements.{All-contains, All-contains_itself, All-filter, filter_passes}
-use Rattle.std.proofs.lemmas.List.FromFn.{get_or-enumerate_from, length-enumerate_from}
-use Rattle.std.proofs.lemmas.Option.{slice_get-get_or}
-use Rattle.texting_robots.specs.{Escape.escaped, Group.group_name, Rules.HoldsRule, Rules.PlacedRule}
+use Rattle.std.specs.{Prelude.filter}
+use Rattle.std.proofs.lemmas.Bool.{cases_Bool}
+use Rattle.texting_robots.specs.{Escape.escaped, Group.group_name}
+use Rattle.texting_robots.specs.Rules.{HoldsRule, IsCapturedAt, PlacedRule}
 use Rattle.texting_robots.specs.Steps.{Captured.is_captured, Group.placed}
 use Rattle.texting_robots.specs.Line.{LineValue, Allow, Disallow}
-use Rattle.texting_robots.specs.Computed.{captured_lines, placed_in, placed_rules, rule_in}
-use Rattle.texting_robots.proofs.CapturedLemmas.{is_captured_decides}
+use Rattle.texting_robots.specs.Computed.{placed_in, placed_rules, rule_in, rule_with}
+use Rattle.texting_robots.proofs.CapturedLemmas.{cond_given, is_captured_decides, kept_next}
 
--- what is found in a list comes from one of its elements
-abbrev ComesFrom : {X Y : Type 0} → (X → Option Y) → List X → Y → Type 0
-ComesFrom {X} f xs y = (x : X) × Contains xs x × (f x ≡ Some y)
+-- ---- what is computed of lines comes from one of them
 
-found_in : {X Y : Type 0} (f : X → Option Y) (xs : List X) (y : Y) → Contains (filter_map f xs) y
-    → ComesFrom f xs y
-found_in f [] y (k, below, at) = absurd (omega arith)
-found_in {X} {Y} f (x ∷ xs) y has = at (f x) refl (found_in f xs y) has
+-- the rules of the lines at which a test of places passes, where the first line stands at this place
+abbrev pub rules_from : (ℕ → Bool) → ℕ → List LineValue → List PlacedRule
+rules_from test n lines = filter_map placed_in (filter (λ p. test p.0) (enumerate_from n lines))
+
+-- such a line gives the rule
+abbrev pub GivesRule : (ℕ → Bool) → ℕ → List LineValue → PlacedRule → Type 0
+GivesRule test n lines found =
+    (k : ℕ) × (place : ℕ) × (line : LineValue) × (place ≡ n + k) × (slice_get lines k ≡ Some line)
+    × (cond (test place) (placed_in (place, line)) None ≡ Some found)
+
+-- what may stand first in a list, or in the rest
+cons_has : {X : Type 0} (o : Option X) (xs : List X) (x : X)
+    → Contains (cons_option o xs) x ↔ ((o ≡ Some x) ⊎ Contains xs x)
+cons_has None xs x = (λ has. inr has, λ either. elim either [ inl is ↦ cc | inr has ↦ has ])
+cons_has {X} (Some y) xs x = (to, from)
   where
-    later : ComesFrom f xs y → ComesFrom f (x ∷ xs) y
-    later (z, (k, below, here), is) = (z, (suc k, omega arith, here), is)
+    to : Contains (y ∷ xs) x → (Some y ≡ Some x) ⊎ Contains xs x
+    to (zero, below, at) = inl (ap (λ z. Some z) at)
+    to (suc k, below, at) = inr (k, omega arith, at)
 
-    at : (o : Option Y) → f x ≡ o → (Contains (filter_map f xs) y → ComesFrom f xs y)
-        → Contains (cons_option o (filter_map f xs)) y → ComesFrom f (x ∷ xs) y
-    at None is rest has = later (rest has)
-    at (Some z) is rest (zero, below, here) = (x, (0, omega arith, refl), is ∙ ap (λ w. Some w) here)
-    at (Some z) is rest (suc k, below, here) = later (rest (k, omega arith, here))
+    from : (Some y ≡ Some x) ⊎ Contains xs x → Contains (y ∷ xs) x
+    from (inl is) = (0, omega arith, cc)
+    from (inr (k, below, at)) = (suc k, omega arith, at)
 
--- the line gives the rule, and the rule has this number
-record Gives (number : ℕ) (line : LineValue) (found : PlacedRule) : Type 0 where
-  value : List ℕ
-  is_line : line ≡ cond found.rule.1 (Allow value) (Disallow value)
-  pattern : found.rule.0 ≡ escaped value
-  utf8 : is_utf8 value ≡ true
-  is_number : found.line ≡ number
+-- the first line gives the rule, or one of the later ones
+module _ (test : ℕ → Bool) (n : ℕ) (line : LineValue) (lines : List LineValue) (found : PlacedRule)
+    (later : Contains (rules_from test (n + 1) lines) found ↔ GivesRule test (n + 1) lines found) where
+  abbrev ComesNext : Type 0
+  ComesNext = (cond (test n) (placed_in (n, line)) None ≡ Some found)
+      ⊎ Contains (rules_from test (n + 1) lines) found
 
-value_gives : (number : ℕ) (value : List ℕ) (is_allow utf8 : Bool) (found : PlacedRule)
-    → is_utf8 value ≡ utf8
-    → placed number (cond utf8 (Some (escaped value, is_allow)) None) ≡ Some found
-    → Gives number (cond is_allow (Allow value) (Disallow value)) found
-value_gives number value is_allow true found text is =
-    let made : PlacedRule = record { rule = (escaped value, is_allow); line = number } in
-    let same : made ≡ found = cc in
-    rw (sym same) (record { value = value; is_line = refl; pattern = refl; utf8 = text; is_number = refl })
-value_gives number value is_allow false found text is =
-    absurd (let wrong : ◌≡◌ {A = Option PlacedRule} None (Some found) = is in cc)
+  there : ComesNext → GivesRule test n (line ∷ lines) found
+  there (inl is) = (0, n, line, omega arith, refl, is)
+  there (inr has) =
+      let (k, place, other, far, at, is) = later.0 has in (suc k, place, other, omega arith, at, is)
 
-line_gives : (number : ℕ) (line : LineValue) (found : PlacedRule)
-    → placed number (rule_in line) ≡ Some found
-    → Gives number line found
-line_gives number (Allow value) found is = value_gives number value true (is_utf8 value) found refl is
-line_gives number (Disallow value) found is = value_gives number value false (is_utf8 value) found refl is
-line_gives number _ found is = absurd (let k : ◌≡◌ {A = Option PlacedRule} None (Some found) = is in cc)
+  back : GivesRule test n (line ∷ lines) found → ComesNext
+  back (zero, place, other, far, at, is) =
+      let here : place ≡ n = omega arith in
+      let same : other ≡ line = cc in
+      inl (rw (here, same) at is)
+  back (suc k, place, other, far, at, is) = inr (later.1 (k, place, other, omega arith, at, is))
 
--- each rule stands on its line
-pub rule_on_line : (agent : List ℕ) (lines : List LineValue) (found : PlacedRule)
+pub rules_come : (test : ℕ → Bool) (n : ℕ) (lines : List LineValue) (found : PlacedRule)
+    → Contains (rules_from test n lines) found ↔ GivesRule test n lines found
+rules_come test n [] found = (λ (k, below, at). absurd (omega arith), λ (k, place, line, far, at, is). cc)
+rules_come test n (line ∷ lines) found =
+    let later = rules_come test (n + 1) lines found in
+    let here = cond (test n) (placed_in (n, line)) None in
+    let (to, from) = cons_has here (rules_from test (n + 1) lines) found in
+    rw (kept_next (test n) placed_in (n, line)) (
+      λ has. there test n line lines found later (to has),
+      λ gives. from (back test n line lines found later gives),
+    )
+
+-- ---- and such a line holds it
+
+module _ (agent : List ℕ) (lines : List LineValue) (place : ℕ) (found : PlacedRule) where
+  -- the rule has the number of this line, which holds it
+  abbrev IsHeld : Type 0
+  IsHeld = (found.line ≡ place + 1) × HoldsRule agent lines place found.rule
+
+  value_holds : (value : List ℕ) (is_allow : Bool)
+      → IsCapturedAt agent lines place (cond is_allow (Allow value) (Disallow value))
+      → placed (place + 1) (rule_with value is_allow) ≡ Some found → IsHeld
+  value_holds value is_allow at is = elim (cases_Bool (is_utf8 value)) [
+    | inl text ↦
+        let made : PlacedRule = record { rule = (escaped value, is_allow); line = place + 1 } in
+        let same : made ≡ found = let given = rw text at is in cc in
+        rw (← same) (refl, record { value = value; line = at; utf8 = text; pattern = refl })
+    | inr other ↦ let none = rw other at is in cc
+  ]
+
+  line_holds : (line : LineValue) → IsCapturedAt agent lines place line
+      → placed (place + 1) (rule_in line) ≡ Some found → IsHeld
+  line_holds (Allow value) at is = value_holds value true at is
+  line_holds (Disallow value) at is = value_holds value false at is
+  line_holds _ at is = cc
+
+  rule_given : (value : List ℕ) (is_allow : Bool) → is_utf8 value ≡ true
+      → rule_in (cond is_allow (Allow value) (Disallow value)) ≡ Some (escaped value, is_allow)
+  rule_given value true text = rw text refl
+  rule_given value false text = rw text refl
+
+  held_given : (holds : HoldsRule agent lines place found.rule) → found.line ≡ place + 1
+      → placed_in (place, cond found.rule.1 (Allow holds.value) (Disallow holds.value)) ≡ Some found
+  held_given holds number =
+      rw (rule_given holds.value found.rule.1 holds.utf8, ← holds.pattern, ← number) refl
+
+pub placed_held : (agent : List ℕ) (lines : List LineValue) (found : PlacedRule)
     → Contains (placed_rules agent lines) found
-    → (place : ℕ) × (found.line ≡ place + 1) × HoldsRule agent lines place found.rule
-rule_on_line agent lines found has =
-    let name = group_name agent lines in
-    let test = λ (p : ℕ × LineValue). is_captured name lines p.0 in
-    let numbered : List (ℕ × LineValue) = enumerate_from 0 lines in
-    let (p, there, is) = found_in placed_in (captured_lines name lines) found has in
-    let captured = All-contains (λ p. test p ≡ true) _ p (filter_passes test numbered) there in
-    let (place, below, at) = All-contains (Contains numbered) _ p
-    (All-filter test (Contains numbered) numbered (All-contains_itself numbered)) there in
-    let within : place < length lines = rw length-enumerate_from at below in
-    let line = get_or lines place p.1 in
-    let same : p ≡ (place, line) = sym at ∙ get_or-enumerate_from 0 lines place p within
-    ∙ ap (λ n. (n, line)) (zero-add place) in
-    let gives = line_gives (place + 1) line found (rw same at is) in (
-      place,
-      gives.is_number,
-      record {
-        value = gives.value;
-        line = (
-          slice_get-get_or lines place p.1 within ∙ ap (λ l. Some l) gives.is_line,
-          (is_captured_decides name lines place).0 (rw same at captured),
-        );
-        utf8 = gives.utf8;
-        pattern = gives.pattern;
-      },
+    ↔ ((place : ℕ) × (found.line ≡ place + 1) × HoldsRule agent lines place found.rule)
+placed_held agent lines found =
+    let test = is_captured (group_name agent lines) lines in
+    let decides = is_captured_decides (group_name agent lines) lines in
+    let (to, from) = rules_come test 0 lines found in (
+      λ has.
+          let (k, place, line, far, at, is) = to has in
+          let same : k ≡ place = omega arith in
+          let given = (cond_given (test place) (placed_in (place, line)) found).0 is in
+          let (number, holds) =
+          line_holds agent lines place found line (rw same at at, (decides place).0 given.0) given.1 in
+          (place, number, holds),
+      λ (place, number, holds).
+          let given = held_given agent lines place found holds number in
+          let passes = (decides place).1 holds.line.1 in
+          let is = (cond_given (test place) _ found).1 (passes, given) in
+          from (place, place, _, omega arith, holds.line.0, is),
     )

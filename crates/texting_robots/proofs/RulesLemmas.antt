@@ -5,7 +5,7 @@ use Rattle.std.proofs.Common.{refl, ap, ◌∙◌, arith, inl, inr}
 use Rattle.std.specs.List.{All, Any, before_first, cons_option, filter_map, last_or, list_any}
 use Rattle.std.specs.Option.{option_to_list, option_or, IfSome, IsSomeAnd}
 use Rattle.std.specs.Str.{IsUtf8, is_utf8}
-use Rattle.std.proofs.lemmas.Bool.{cases_Bool, false_from_ne_true, false≢true}
+use Rattle.std.proofs.lemmas.Bool.{cases_Bool, false_from_ne_true}
 use Rattle.std.proofs.lemmas.List.{append-nil, get_or-map, get_or_at, length-map, Sums.take_while-cons}
 use Rattle.std.proofs.lemmas.List.Elements.{All-push}
 use Rattle.std.proofs.lemmas.Str.{IsUtf8-from_is_utf8, is_utf8-from_IsUtf8}
@@ -20,7 +20,7 @@ use Rattle.texting_robots.specs.declared.error.Error.TheVariants as mine
 -- ---- what lines give
 
 pub no_sitemap : (line : LineValue) → is_sitemap line ≡ false → sitemap_in line ≡ None
-no_sitemap (Sitemap value) isnt = absurd (false≢true (sym isnt))
+no_sitemap (Sitemap value) isnt = cc
 no_sitemap _ isnt = refl
 
 -- ---- values that are texts
@@ -38,8 +38,7 @@ if_none value x isnt =
 pub no_text : {X : Type 0} (value : List ℕ) (x : X)
     → cond (is_utf8 value) (Some x) None ≡ None → ¬ IsUtf8 value
 no_text {X = X} value x none is =
-    let wrong : ◌≡◌ {A = Option X} (Some x) None = sym (if_text value x is) ∙ none in
-    cc
+    let wrong : ◌≡◌ {A = Option X} (Some x) None = sym (if_text value x is) ∙ none in cc
 
 -- a refusal for one cause is one for a wider cause
 pub refused_wider : (P Q : Type 0) (e : Error) → (P → Q) → IsMemoryOr P e → IsMemoryOr Q e
@@ -94,8 +93,8 @@ first_more o (Some z) new xs added = rw added refl
 pub given_none : {X : Type 0} (o : Option X) (xs old : List X) → old ++ cons_option o xs ≡ []
     → o ≡ None
 given_none None xs old none = refl
-given_none (Some x) xs [] none = absurd (let k : x ∷ xs ≡ [] = none in cc)
-given_none (Some x) xs (z ∷ old) none = absurd (let k : z ∷ (old ++ (x ∷ xs)) ≡ [] = none in cc)
+given_none (Some x) xs [] none = cc
+given_none (Some x) xs (z ∷ old) none = cc
 
 pub all_added : {X : Type 0} (P : X → Type 0) (old new : List X) (o : Option X)
     → new ≡ old ++ option_to_list o → IfSome o P → All P old → All P new

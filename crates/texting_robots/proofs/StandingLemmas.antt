@@ -1,11 +1,11 @@
 -- Where the lines stand, as the iterator says it and as the definition does.
-use Rattle.std.proofs.Common.{◌≡◌, ℕ, zero, suc, ◌+◌, Bool, true, false, not, ◌||◌, inl, inr}
+use Rattle.std.proofs.Common.{◌≡◌, ℕ, ◌+◌, Bool, true, false, not, ◌||◌, inl, inr}
 use Rattle.std.proofs.Common.{List, [], ◌∷◌, Option, Some, None, slice_get, cond, take, drop, map}
 use Rattle.std.proofs.Common.{arith, ap, refl, sym, add-one, ◌∙◌}
 use Rattle.std.specs.List.{enumerate_from, filter_map, list_any, position_or_len}
 use Rattle.std.specs.{Bool.then_some, Option.IfSome}
-use Rattle.std.proofs.lemmas.Bool.{cases_Bool, cond-false, cond-true}
-use Rattle.std.proofs.Math.{Bool.or-false, Bool.or_assoc, Nat.add-zero}
+use Rattle.std.proofs.lemmas.Bool.{cases_Bool}
+use Rattle.std.proofs.Math.{Bool.or_comm, Nat.add-zero}
 use Rattle.texting_robots.specs.{declared.groups.Walk.Walk, Group.group_name, Group.is_agent, Group.is_group}
 use Rattle.texting_robots.specs.{Line.Allow, Line.Disallow, Line.LineValue, Marks.is_own, Marks.mark_at}
 use Rattle.texting_robots.specs.{Marks.marks_of, Rules.Rule, Steps.Captured.is_captured}
@@ -13,7 +13,8 @@ use Rattle.texting_robots.specs.declared.marks.Standing.TheVariants.{Own, Other,
 use Rattle.texting_robots.specs.Computed.{placed_in, placed_rules, rule_in}
 use Rattle.texting_robots.specs.Steps.Group.{captured_ahead, from_captured, if_captured, marks_from}
 use Rattle.texting_robots.specs.Steps.Group.{own_rule_at, placed, standing_by, start_of, step}
-use Rattle.texting_robots.proofs.CapturedLemmas.{IsWalkAt, at_front, captured_walked, cond_same, stands_first}
+use Rattle.texting_robots.proofs.CapturedLemmas.{IsWalkAt, any_next, at_front, captured_walked, cond_same}
+use Rattle.texting_robots.proofs.CapturedLemmas.{stands_first}
 use Rattle.texting_robots.proofs.CapturedLemmas.{stands_next}
 
 -- ---- the marks of the definition
@@ -24,17 +25,14 @@ ahead_is : (name : List ℕ) (all : List LineValue) (walk : Walk) (place : ℕ) 
     → captured_ahead name walk lines ≡ is_captured name all (place + position_or_len is_group lines)
 ahead_is name all walk place [] stands left = rw add-zero (sym stands.captured)
 ahead_is name all walk place (line ∷ lines) stands left = elim (cases_Bool (is_group line)) [
-  | inl is ↦
-      let here : place ≡ place + position_or_len is_group (line ∷ lines) = rw (is, add-zero) refl in
-      cond-true _ _ _ is ∙ sym stands.captured ∙ ap (is_captured name all) here
+  | inl is ↦ rw (is, add-zero) (sym stands.captured)
   | inr isnt ↦
       let (at, next) = at_front all place line lines left in
-      let there : (place + 1) + position_or_len is_group lines
-      ≡ place + position_or_len is_group (line ∷ lines) = rw isnt (omega arith) in
-      cond-false _ _ _ isnt
-      ∙ ahead_is name all (step name walk line) (place + 1) lines
-      (stands_next name all place walk line at stands) next
-      ∙ ap (is_captured name all) there
+      let further = position_or_len is_group lines in
+      let there : place + (1 + further) ≡ (place + 1) + further = omega arith in
+      let ahead = ahead_is name all (step name walk line) (place + 1) lines
+      (stands_next name all place walk line at stands) next in
+      rw (isnt, there) (rw isnt at ahead)
 ]
 
 -- what is known ahead is known behind a line that is no group line
@@ -43,21 +41,17 @@ pub known_next : (name : List ℕ) (walk : Walk) (line : LineValue) (lines rest 
     → lines ≡ line ∷ rest → captured_ahead name walk lines ≡ known
     → IfSome (then_some (not (is_group line)) known)
     (λ ahead. captured_ahead name (step name walk line) rest ≡ ahead)
-known_next name walk line lines rest known next is = at (is_group line) refl
-  where
-    at : (group : Bool) → is_group line ≡ group → IfSome (then_some (not group) known)
-        (λ ahead. captured_ahead name (step name walk line) rest ≡ ahead)
-    at true group = tt
-    at false other = sym (cond-false _ _ _ other) ∙ rw next at is
+known_next name walk line lines rest known next is = elim (cases_Bool (is_group line)) [
+  | inl group ↦ rw group tt
+  | inr other ↦ rw other (rw (next, other) at is)
+]
 
 -- whether a user-agent line stands before the next place
 begun_next : (all : List LineValue) (place : ℕ) (line : LineValue) → slice_get all place ≡ Some line
     → list_any is_agent (take (place + 1) all) ≡ (list_any is_agent (take place all) || is_agent line)
-begun_next [] place line at = absurd (let k : ◌≡◌ {A = Option LineValue} None (Some line) = at in cc)
-begun_next (x ∷ all) zero line at =
-    let same : x ≡ line = cc in rw same (or-false (is_agent line))
-begun_next (x ∷ all) (suc n) line at =
-    rw add-one (rw or_assoc (ap (λ b. is_agent x || b) (rw add-one at (begun_next all n line at))))
+begun_next all place line at =
+    rw (add-one, any_next is_agent all place, at)
+    (or_comm (is_agent line) (list_any is_agent (take place all)))
 
 marks_left : (name : List ℕ) (all : List LineValue) (walk : Walk) (place : ℕ) (lines : List LineValue)
     → IsWalkAt name all place walk → drop place all ≡ lines

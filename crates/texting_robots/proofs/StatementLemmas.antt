@@ -14,8 +14,7 @@ use Rattle.std.proofs.lemmas.List.{length-map, map-append, take-append-drop, tak
 use Rattle.std.proofs.lemmas.Str.Ascii.{lowercase-lowercase}
 use Rattle.std.proofs.lemmas.List.Elements.{All-contains, All-from_recursion, Contains-append_right}
 use Rattle.texting_robots.specs.{declared.parser.statement.Kind.Kind, Trim.IsTrimOf}
-use Rattle.texting_robots.specs.declared.parser.statement.Kind.TheVariants.{UserAgent, Allow, Disallow}
-use Rattle.texting_robots.specs.declared.parser.statement.Kind.TheVariants.{Sitemap, CrawlDelay}
+use Rattle.texting_robots.specs.declared.parser.statement.Kind.TheVariants.{UserAgent}
 use Rattle.texting_robots.specs.Statement.{spellings, IsBlank, BeginsPlain, IsBehindBlanks, IsBehindColon}
 use Rattle.texting_robots.specs.Statement.{IsStatement}
 use Rattle.texting_robots.specs.Steps.Statement.{space, tab, colon, hash, IsOptionalComment, skip_blanks}
@@ -89,10 +88,7 @@ IsRead kind s = (more text : List ℕ) → (kind_by (s ++ more) ≡ Some kind)
 
 each_read : (kind : Kind) → Each (IsRead kind) (spellings kind)
 each_read UserAgent = search rules
-each_read Allow = search rules
-each_read Disallow = search rules
-each_read Sitemap = search rules
-each_read CrawlDelay = search rules
+each_read _ = search rules
 
 -- small letters are of the same kind
 kind_small : (text : List ℕ) → kind_by text ≡ kind_by (map to_ascii_lowercase text)

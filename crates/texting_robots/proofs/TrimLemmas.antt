@@ -1,6 +1,6 @@
 -- What `trim` leaves is the trim of its text, and there is no other.
 use Rattle.std.proofs.Common.{◌≡◌, ℕ, zero, suc, ◌+◌, ◌≤◌, ◌<◌, ◌-◌, Bool, true}
-use Rattle.std.proofs.Common.{false, cond, inl, inr, ◌⊎◌, List, [], ◌∷◌, ◌++◌, length, take}
+use Rattle.std.proofs.Common.{false, cond, inl, inr, List, [], ◌∷◌, ◌++◌, length, take}
 use Rattle.std.proofs.Common.{drop, sym, refl, ap, ap₂, subst, ◌∙◌, append_assoc, append-nil, arith}
 use Rattle.std.proofs.Common.{IsTrue, Option, Some, None, length-append, slice_get, get_or}
 use Rattle.std.proofs.Math.{Seq.drop-nil, Utf8.scalars}
@@ -10,7 +10,7 @@ use Rattle.std.proofs.lemmas.Bool.{and_parts, cases_Bool, cond-true, cond-false,
 use Rattle.std.proofs.lemmas.List.{append_cancel_right, drop_all, drop_at, drop-append-le, drop-drop}
 use Rattle.std.proofs.lemmas.List.{length-drop, length-take, take-append-drop, take-append-le, take_all}
 use Rattle.std.proofs.lemmas.List.{take_at, take_more}
-use Rattle.std.proofs.lemmas.Option.{same_Some, slice_get-get_or}
+use Rattle.std.proofs.lemmas.Option.{slice_get-get_or}
 use Rattle.std.proofs.lemmas.Str.{encode_ascii, encodes-append, IsUtf8-encode, IsCharBoundary-start}
 use Rattle.bstr.specs.Utf8.{Decoded, decoded, good, or_replacement, pieces, spans_from, IsLastPiece}
 use Rattle.bstr.specs.Trim.{kept_start, kept_end, trim_start_by, trim_end_by}
@@ -300,44 +300,33 @@ blanks_skipped blanks region all =
     ap (trim_end_by is_whitespace)
     (ap (λ t. from_start (t ++ region)) (sym same) ∙ start_spaces blanks region white)
 
--- behind a text they go with it where it is spaces, or stay behind what its front leaves
-start_blanks : (chars blanks : List ℕ) → scalars chars ≡ true → Each IsBlank blanks
-    → (let text = encode_utf8_all chars in
-    ((from_start (text ++ blanks) ≡ []) × (from_start text ≡ []))
-    ⊎ (from_start (text ++ blanks) ≡ from_start text ++ blanks))
-start_blanks [] blanks is all =
+-- nor at the back
+end_blanks : (left blanks : List ℕ) → Each IsBlank blanks
+    → trim_end_by is_whitespace (left ++ blanks) ≡ trim_end_by is_whitespace left
+end_blanks left blanks all =
     let (white, same) = blank_spaces blanks all in
-    let none : from_start [] ≡ [] = drop-nil _ in
-    inl (
-      ap from_start (sym same ∙ sym (append-nil (encode_utf8_all blanks)))
-          ∙ start_spaces blanks [] white ∙ none,
-      none,
-    )
-start_blanks (c ∷ cs) blanks is all =
+    let end : end_of (left ++ blanks) ≡ end_of left
+    = ap (λ t. end_of (left ++ t)) (sym same) ∙ end_spaces blanks left white in
+    ap (λ k. take k (left ++ blanks)) end
+    ∙ take-append-le (end_of left) left blanks (ended left [] 0 (omega arith, ([], tt, refl))).0
+
+blanks_behind_chars : (chars blanks : List ℕ) → scalars chars ≡ true → Each IsBlank blanks
+    → trimmed (encode_utf8_all chars ++ blanks) ≡ trimmed (encode_utf8_all chars)
+blanks_behind_chars [] blanks is all =
+    ap trimmed (sym (append-nil blanks)) ∙ blanks_skipped blanks [] all
+blanks_behind_chars (c ∷ cs) blanks is all =
     let both = and_parts (scalar c) (scalars cs) is in
     let text = encode_utf8_all cs in
     let bare = start_char c text both.0 in
     let more = rw (← append_assoc) at (start_char c (text ++ blanks) both.0) in
     elim (cases_Bool (is_whitespace c)) [
-      | inl white ↦ rw (bare, more, white) (start_blanks cs blanks both.1 all)
-      | inr dark ↦ inr (rw (bare, more, dark, append_assoc) refl)
+      | inl white ↦ rw (bare, more, white) (blanks_behind_chars cs blanks both.1 all)
+      | inr dark ↦ rw (bare, more, dark) (end_blanks (encode_utf8 c ++ text) blanks all)
     ]
 
--- and change no trim there
 pub blanks_behind : (text blanks : List ℕ) → IsUtf8 text → Each IsBlank blanks
     → trimmed (text ++ blanks) ≡ trimmed text
-blanks_behind text blanks (chars, (is, whole)) all = rw (← whole) (elim (start_blanks chars blanks is all) [
-  | inl (more, bare) ↦ ap (trim_end_by is_whitespace) (more ∙ sym bare)
-  | inr more ↦ ap (trim_end_by is_whitespace) more ∙ back (from_start (encode_utf8_all chars))
-])
-  where
-    back : (left : List ℕ) → trim_end_by is_whitespace (left ++ blanks) ≡ trim_end_by is_whitespace left
-    back left =
-        let (white, same) = blank_spaces blanks all in
-        let end : end_of (left ++ blanks) ≡ end_of left
-        = ap (λ t. end_of (left ++ t)) (sym same) ∙ end_spaces blanks left white in
-        ap (λ k. take k (left ++ blanks)) end
-        ∙ take-append-le (end_of left) left blanks (ended left [] 0 (omega arith, ([], tt, refl))).0
+blanks_behind text blanks (chars, (is, whole)) all = rw (← whole) (blanks_behind_chars chars blanks is all)
 
 -- ---- visible ends
 
@@ -379,5 +368,4 @@ graphic_ends [] first last here there first_is last_is = cc
 graphic_ends (b ∷ rest) first last here there first_is last_is =
     let n : length (b ∷ rest) - 1 ≡ length rest = omega arith in
     let same = slice_get-get_or (b ∷ rest) (length rest) 0 (omega arith) in
-    graphic_trim b rest (rw (same_Some first b here) at first_is)
-    (rw (same_Some last _ (there ∙ ap (slice_get (b ∷ rest)) n ∙ same)) at last_is)
+    graphic_trim b rest (cc) (cc)

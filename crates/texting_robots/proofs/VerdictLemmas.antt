@@ -20,10 +20,16 @@ denied_by rules others text denies allows (other, p, has, matches, longest) =
     (other, p, denies p has, matches, λ q stands. longest q (allows q stands))
 
 -- a list in another order has the same elements
-same_elements : {X : Type 0} (xs ys : List X) → IsPermutation xs ys → (x : X)
+pub same_elements : {X : Type 0} (xs ys : List X) → IsPermutation xs ys → (x : X)
     → Contains xs x ↔ Contains ys x
 same_elements xs ys same x =
     (Contains-permutation xs ys x same, Contains-permutation ys xs x (IsPermutation-sym xs ys same))
+
+-- what isn't the first stands behind it
+pub behind_first : {X : Type 0} (first : X) (rest : List X) (x : X) → ¬ ◌≡◌ {A = X} first x
+    → Contains (first ∷ rest) x → Contains rest x
+behind_first first rest x other (zero, below, at) = absurd (other at)
+behind_first first rest x other (suc k, below, at) = (k, omega arith, at)
 
 pub order_changes_nothing : (rules others : List Rule) (text : List ℕ) (answer : Bool)
     → IsPermutation rules others → IsVerdict rules text answer → IsVerdict others text answer
@@ -47,11 +53,7 @@ module _ (front back : List Rule) (added rule : Rule) where
   contains_more (k, below, at) = moved.1 (suc k, omega arith, at)
 
   contains_less : added ≢ rule → Contains (front ++ added ∷ back) rule → Contains (front ++ back) rule
-  contains_less differs has = behind (moved.0 has)
-    where
-      behind : Contains (added ∷ (front ++ back)) rule → Contains (front ++ back) rule
-      behind (zero, below, at) = absurd (differs at)
-      behind (suc k, below, at) = (k, omega arith, at)
+  contains_less differs has = behind_first added (front ++ back) rule differs (moved.0 has)
 
 kinds_differ : (p q : List ℕ) → ◌≢◌ {A = Rule} (p, false) (q, true)
 kinds_differ p q same = false≢true (ap (λ (r : Rule). r.1) same)

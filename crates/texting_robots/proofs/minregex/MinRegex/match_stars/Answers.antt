@@ -1,5 +1,5 @@
 use Rattle.std.proofs.Common.{false, None, Some, refl, sym, ◌∙◌}
-use Rattle.std.proofs.lemmas.Bool.{false≢true, Decides.Decides-eqb}
+use Rattle.std.proofs.lemmas.Bool.{Decides.Decides-eqb}
 use Rattle.std.proofs.lemmas.{List.Prefix.front_rest, Slice.Eq.strip_prefix_is}
 use Rattle.texting_robots.proofs.PatternLemmas.{end_matches}
 use Rattle.texting_robots.proofs.StarLemmas.{stars_here, stars_in_front, stars_nowhere}
@@ -8,7 +8,7 @@ use Rattle.texting_robots.proofs.minregex.MinRegex.match_stars.Goals as goal
 pub returns-in_default : goal.returns-in_default
 returns-in_default c =
     let none = strip_prefix_is Decides-eqb _ _ None c.in_default.ensures.cases in (
-      λ e. absurd (false≢true e),
+      λ e. cc,
       λ m. let (after, e, more) = (stars_in_front _ c.cut_at_star.ensures).0 m in absurd (none after e),
     )
 
@@ -34,7 +34,7 @@ loop-left-preserved c =
 pub returns-in_default-behind_first : goal.returns-in_default-behind_first
 returns-in_default-behind_first c =
     let none = stars_nowhere _ c.cut_at_star-in-Some-left.ensures c.in_default-behind_first.ensures in
-    (λ e. absurd (false≢true e), λ m. absurd (none (rw c.in-Some-left.is at (c.loop-left.invariant.0 m))))
+    (λ e. cc, λ m. absurd (none (rw c.in-Some-left.is at (c.loop-left.invariant.0 m))))
 
 pub returns : goal.returns
 returns c =

@@ -1,15 +1,14 @@
-use Rattle.std.proofs.Common.{◌≡◌, ℕ, ◌-◌, ◌≤◌, List, length, slice_range, string_bytes, ap}
+use Rattle.std.proofs.Common.{◌≡◌, ℕ, ◌-◌, List, length, slice_range, string_bytes, ap}
 use Rattle.std.proofs.Common.{subst, ◌∙◌, arith, length-append}
 use Rattle.texting_robots.specs.{Steps.Needs.AreNeeds, Steps.Pieces.ArePieces, Escape.escaped}
-use Rattle.texting_robots.proofs.SharingLemmas.{IsPushed, behind_old, entries_pushed, entry_new, rules_pushed}
+use Rattle.texting_robots.proofs.SharingLemmas.{behind_old, entries_pushed, entry_new, rules_pushed}
 use Rattle.texting_robots.proofs.rules.Gathered.push.Goals as goal
 
 pub new-requires : goal.new-requires
 new-requires c =
     let added = c.in_ok-ends.ensures in
     let old = c.args.self.now in
-    let first_piece : c.len-first_piece.result ≡ length old.pieces.items = omega arith in
-    let pieces = behind_old old.pieces.items added.pieces c.len-first_piece.result first_piece in
+    let pieces = behind_old old.pieces.items added.pieces c.len-first_piece.result (omega arith) in
     rw (c.deref.ensures.value, c.deref-2.ensures.value, added.put_pieces, pieces) added.are_pieces
 
 pub returns-clause-known : goal.returns-clause-known
@@ -20,34 +19,28 @@ returns-clause-known c =
     let old_text = string_bytes old.text in
     let more = escaped c.args.value.now in
     let put = ap length text ∙ length-append old_text more in
-    let first_byte : c.len-first_byte.result ≡ length old_text = omega arith in
-    let end_byte : c.len-end_byte.result ≡ length (string_bytes c.push_escaped.new.out) = omega arith in
-    let first_piece : c.len-first_piece.result ≡ length old.pieces.items = omega arith in
-    let end_piece : c.len-end_piece.result ≡ length c.push_pieces.new.pieces.items = omega arith in
+    let size = ap length text in
     let len : c.len-end_byte.result - c.len-first_byte.result ≡ length more = omega arith in
     let same = ap (λ (t : List ℕ). slice_range t c.len-first_byte.result (length t))
     (c.as_bytes.ensures.value ∙ text)
-    ∙ behind_old old_text more c.len-first_byte.result first_byte in
+    ∙ behind_old old_text more c.len-first_byte.result (omega arith) in
     let cut = subst (λ p. ArePieces p c.in_ok-ends.ends added.pieces c.push_pieces.new.borders.items)
     same added.are_pieces in
     let needed = subst (λ (p : List ℕ). AreNeeds p c.of-needs.result)
     (c.new.ensures ∙ same) c.of-needs.ensures in
-    let room : length c.make_room.new.signs.items ≤ length c.push.new.self.items =
-    omega arith in
-    let pushed : IsPushed old_text more old.pieces.items added.pieces c.push_pieces.new.borders.items _ =
-    record {
-      pattern_span = record { start = first_byte; end = end_byte ∙ ap length text };
-      searched_span = record { start = first_piece; end = end_piece ∙ ap length added.put_pieces };
-      is_cut = cut;
-      needed = needed;
-      ranked = rw (← len) c.rank_of.ensures;
-    } in
+    let pieces = ap length added.put_pieces in
     record {
       known = rw (c.in_ok-push.ensures.items, text, added.put_pieces, added.put_tables)
           (entries_pushed old_text more old.pieces.items added.pieces old.borders.items added.tables
           old.entries.items _ c.requires.known
-          (rw (← added.put_tables) (entry_new _ _ _ _ _ _ pushed)));
-      signs = room;
+          (rw (← added.put_tables) (entry_new old_text more old.pieces.items added.pieces _ _ (record {
+            pattern_span = record { start = omega arith; end = omega arith };
+            searched_span = record { start = omega arith; end = omega arith };
+            is_cut = cut;
+            needed = needed;
+            ranked = rw (← len) c.rank_of.ensures;
+          }))));
+      signs = omega arith;
     }
 
 pub returns-clause-added : goal.returns-clause-added
@@ -55,9 +48,8 @@ returns-clause-added c =
     let text = c.in_ok-push_escaped.ensures in
     let old = c.args.self.now in
     let old_text = string_bytes old.text in
-    let first_byte : c.len-first_byte.result ≡ length old_text = omega arith in
-    let end_byte : c.len-end_byte.result ≡ length (string_bytes c.push_escaped.new.out) = omega arith in
     let more = escaped c.args.value.now in
+    let size = ap length text in
     rw (c.in_ok-push.ensures.items, text)
     (rules_pushed old_text more old.pieces.items old.borders.items old.entries.items _ c.requires.known
-    (record { start = first_byte; end = end_byte ∙ ap length text }))
+    (record { start = omega arith; end = omega arith }))

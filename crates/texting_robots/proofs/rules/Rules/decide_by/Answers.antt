@@ -1,9 +1,6 @@
-use Rattle.std.proofs.Common.{true, List, inr, slice_index_or, string_bytes, sym, ap, subst}
-use Rattle.std.specs.List.{Contains}
+use Rattle.std.proofs.Common.{inr, sym, ap}
 use Rattle.std.proofs.lemmas.{Bool.iff_false, List.get_or_read, List.length-map}
-use Rattle.texting_robots.specs.declared.rules.Entry.{Entry}
-use Rattle.texting_robots.specs.Steps.Entries.{no_entry, placed_at, rules_in}
-use Rattle.texting_robots.specs.{Decision.IsDecidingRule, Rules.PlacedRule, Rules.unplaced, Verdict.IsVerdict}
+use Rattle.texting_robots.specs.{declared.rules.Entry.Entry, Steps.Entries.no_entry}
 use Rattle.texting_robots.proofs.FirstLemmas.{first_decides, first_line, first_looks, none_stands}
 use Rattle.texting_robots.proofs.BestLemmas.{none_denies}
 use Rattle.texting_robots.proofs.rules.Rules.decide_by.Goals as goal
@@ -13,25 +10,21 @@ returns-in-Some-clause-verdict g c =
     let all = c.self.inside.gathered in
     let text = (g.A.Asked.seen c.args.asked.now).text in
     let found = c.in-Some.ensures.some in
-    let entry = c.index-entry.result.now in
-    let is = get_or_read all.entries.items c.in-Some.at entry found.0 c.index-entry.ensures no_entry in
-    subst (λ (rules : List PlacedRule). IsVerdict (unplaced rules) text entry.is_allow) c.self.view_is
-    (subst (λ (e : Entry). IsVerdict (unplaced (rules_in all)) text e.is_allow) (sym is)
+    let is = get_or_read all.entries.items c.in-Some.at _ found.0 c.index-entry.ensures no_entry in
+    rw (is, ← c.self.view_is)
     (first_decides all c.self.invariant.0.known c.self.invariant.1 text c.in-Some.at found
-    (iff_false c.is_robots_file.ensures c.if-is_robots_file.false)))
+    (iff_false c.is_robots_file.ensures c.if-is_robots_file.false))
 
 pub returns-in-Some-clause-line : goal.returns-in-Some-clause-line
 returns-in-Some-clause-line g c =
     let all = c.self.inside.gathered in
     let text = (g.A.Asked.seen c.args.asked.now).text in
     let found = c.in-Some.ensures.some in
-    let entry = c.index-entry.result.now in
-    let is = get_or_read all.entries.items c.in-Some.at entry found.0 c.index-entry.ensures no_entry in
-    let placed = placed_at (string_bytes all.text) (slice_index_or all.entries.items c.in-Some.at no_entry) in
-    let decides = first_line all c.self.invariant.0.known c.self.invariant.1 text c.in-Some.at found in (
+    let is = get_or_read all.entries.items c.in-Some.at _ found.0 c.index-entry.ensures no_entry in
+    rw (← c.self.view_is) (
       iff_false c.is_robots_file.ensures c.if-is_robots_file.false,
-      placed,
-      subst (λ (rules : List PlacedRule). IsDecidingRule rules text placed) c.self.view_is decides,
+      _,
+      first_line all c.self.invariant.0.known c.self.invariant.1 text c.in-Some.at found,
       ap (λ (e : Entry). e.line) (sym is),
     )
 
@@ -43,16 +36,13 @@ returns-in-Some-clause-looks g c =
 pub returns-in-None-clause-verdict : goal.returns-in-None-clause-verdict
 returns-in-None-clause-verdict g c =
     let all = c.self.inside.gathered in
-    let text = (g.A.Asked.seen c.args.asked.now).text in
-    subst (λ (rules : List PlacedRule). IsVerdict (unplaced rules) text true) c.self.view_is
-    (none_denies (rules_in all) text (none_stands all c.self.invariant.0.known text c.in-None.ensures.none))
+    rw (← c.self.view_is)
+    (none_denies _ _ (none_stands all c.self.invariant.0.known _ c.in-None.ensures.none))
 
 pub returns-in-None-clause-line : goal.returns-in-None-clause-line
 returns-in-None-clause-line g c =
-    let none = none_stands c.self.inside.gathered c.self.invariant.0.known _ c.in-None.ensures.none in
-    inr (λ placed stands matches.
-    none placed (subst (λ (rules : List PlacedRule). Contains rules placed) (sym c.self.view_is) stands)
-    matches)
+    let all = c.self.inside.gathered in
+    rw (← c.self.view_is) (inr (none_stands all c.self.invariant.0.known _ c.in-None.ensures.none))
 
 pub returns-in-None-clause-looks : goal.returns-in-None-clause-looks
 returns-in-None-clause-looks g c =

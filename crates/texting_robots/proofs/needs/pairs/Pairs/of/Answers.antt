@@ -1,6 +1,6 @@
-use Rattle.std.proofs.Common.{drop, sym, ap, ◌∙◌, arith}
+use Rattle.std.proofs.Common.{drop, arith}
 use Rattle.std.proofs.lemmas.List.{length-drop, take_rest}
-use Rattle.std.specs.Int.{RustNames.bit_or, Bits.or_zero_r}
+use Rattle.std.specs.Int.{Bits.or_zero_r}
 use Rattle.texting_robots.proofs.NeedLemmas.{no_pairs, pairs_step, two_pairs}
 use Rattle.texting_robots.proofs.needs.pairs.Pairs.of.Goals as goal
 
@@ -14,12 +14,10 @@ loop-rest-preserved c =
 pub returns-in-len2-up : goal.returns-in-len2-up
 returns-in-len2-up c =
     let rest = c.loop-rest.rest.now in
-    let bits = bit_or c.loop-rest.bits c.bit_of.result in
     let none = no_pairs (drop 1 rest) (omega (arith, length-drop 1 rest)) in
-    sym (or_zero_r bits) ∙ ap (bit_or bits) (sym none)
-    ∙ pairs_step c.loop-rest.bits _ _ rest c.in-len2-up.len_at_least c.bit_of.ensures c.loop-rest.invariant
+    rw (none, or_zero_r)
+    at (pairs_step c.loop-rest.bits _ _ rest c.in-len2-up.len_at_least c.bit_of.ensures c.loop-rest.invariant)
 
 pub returns-in_default-rest : goal.returns-in_default-rest
 returns-in_default-rest c =
-    let none = no_pairs c.loop-rest.rest.now (omega arith) in
-    sym (or_zero_r c.loop-rest.bits) ∙ ap (bit_or c.loop-rest.bits) (sym none) ∙ c.loop-rest.invariant
+    let none = no_pairs c.loop-rest.rest.now (omega arith) in rw (none, or_zero_r) at c.loop-rest.invariant
