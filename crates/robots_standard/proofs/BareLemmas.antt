@@ -1,6 +1,6 @@
 -- A file of the standard's syntax is one of the wider syntax.
 use Rattle.std.proofs.Common.{inl, inr, ℕ, List, [], refl, sym, subst, append-nil}
-use Rattle.robots_standard.proofs.KeyedLemmas.{each_weaker}
+use Rattle.robots_standard.proofs.EachLemmas.{each_weaker}
 use Rattle.robots_standard.specs.Rfc9309 as rfc
 
 -- each P is a Q

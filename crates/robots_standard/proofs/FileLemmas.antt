@@ -1,205 +1,111 @@
 -- A file of the standard's syntax is made of the lines of its groups.
-use Rattle.std.proofs.Common.{◌≡◌, inl, inr, ℕ, true, not, List, [], ◌∷◌, ◌++◌, filter, map}
-use Rattle.std.proofs.Common.{flat_map, sym, refl, ap, ◌∙◌, subst, append_assoc, append-nil}
-use Rattle.std.specs.List.{AllZip, AllByRecursion as Each}
-use Rattle.std.proofs.lemmas.List.{map-append, Elements.filter-append}
-use Rattle.texting_robots.specs.Computed.{rules_for, file_lines}
-use Rattle.texting_robots.specs.{Group.is_group, Line.Sitemap, Line.is_sitemap}
-use Rattle.texting_robots.proofs.{LawLemmas.sitemaps_change_nothing_else, TrimLemmas.each_append}
-use Rattle.robots_standard.proofs.{GroupLemmas.zip_append, RuleLemmas.token_line, OtherLemmas.empty_line}
-use Rattle.robots_standard.proofs.{OtherLemmas.other_line, ReadLemmas.Reads, ReadLemmas.reads_both}
-use Rattle.robots_standard.proofs.SourceLemmas.{AreGroups, IsFrontSource, no_sitemap}
-use Rattle.robots_standard.proofs.Sources.{IsSourceOf, Source, in_groups, token_source}
-use Rattle.robots_standard.proofs.EndLemmas.{file_sources_are, file_same, kept_lines, lines_in, file_sources}
-use Rattle.robots_standard.proofs.MemberLemmas.{front_line, member_line, sitemap_line}
-use Rattle.robots_standard.proofs.RepeatLemmas.{IsJoin, ReadBy, both_read, none_read, repeated}
+use Rattle.std.proofs.Common.{◌≡◌, inl, inr, ℕ, List, [], ◌∷◌, ◌++◌, filter, flat_map, sym}
+use Rattle.std.proofs.Common.{refl, ap, ◌∙◌}
+use Rattle.std.proofs.Common.{subst}
+use Rattle.std.specs.List.{AllByRecursion as Each}
+use Rattle.robots_standard.proofs.{EndLemmas.file_sources, EndLemmas.file_sources_are, RuleLemmas.token_line}
+use Rattle.robots_standard.proofs.MemberLemmas.{member_line, sitemap_line}
+use Rattle.robots_standard.proofs.OtherLemmas.{empty_line, other_line}
+use Rattle.robots_standard.proofs.RepeatLemmas.{Makes, both_make, items_make, line_makes, listed}
+use Rattle.robots_standard.proofs.RepeatLemmas.{none_makes, nothing_makes}
+use Rattle.robots_standard.proofs.SourceLemmas.{delays_put, group_put, groups_put, with_delay, with_group}
+use Rattle.robots_standard.proofs.Sources.{IsRead, Parts, onto, parts_in, parts_of, with_member, with_source}
+use Rattle.robots_standard.proofs.Sources.{with_token}
 use Rattle.robots_standard.specs.Rfc9309 as rfc
 
--- ---- the source lines of groups
+-- the text's source lines make this of parts
+abbrev Spells : (Parts → Parts) → List ℕ → Type 0
+Spells make text = Makes with_source make text
 
--- the source lines that count in groups belong to these items
-abbrev InGroups : {X : Type 0} → (List X → List Source → Type 0) → List X → List Source → Type 0
-InGroups Belong items sources = Belong items (filter in_groups sources)
+-- ---- lines
 
-in_groups_join : {X : Type 0} (Belong : List X → List Source → Type 0) → IsJoin Belong
-    → IsJoin (InGroups Belong)
-in_groups_join Belong join = record {
-  none = join.none;
-  both = λ items more sources later is also.
-      subst (Belong (items ++ more)) (sym (filter-append in_groups sources later))
-      (join.both items more (filter in_groups sources) (filter in_groups later) is also);
-}
+skipped : (text : List ℕ) → rfc.IsSkipped text → Spells (λ parts. parts) text
+skipped text (inl is) =
+    none_makes (empty_line text is) (listed [] (inr (inr (inr (inl is)), refl)))
+skipped text (inr (inl (address, is))) =
+    line_makes (sitemap_line address text is) (λ parts. refl)
+    (listed (address ∷ []) (inl (address, is, refl)))
+skipped text (inr (inr is)) =
+    none_makes (other_line text is) (listed [] (inr (inr (inr (inr is)), refl)))
 
-skipped_read : {X : Type 0} (Belong : List X → List Source → Type 0) → IsJoin Belong
-    → (text : List ℕ) → rfc.IsSkipped text
-    → ReadBy (InGroups Belong) [] text
-skipped_read Belong join text (inl is) =
-    record { sources = []; belong = join.none; reads = empty_line text is }
-skipped_read Belong join text (inr (inl (address, is))) =
-    let read = sitemap_line address text is in
-    record { sources = (Sitemap read.value, address) ∷ []; belong = join.none; reads = read.reads }
-skipped_read Belong join text (inr (inr is)) =
-    record { sources = []; belong = join.none; reads = other_line text is }
+token_made : (token text : List ℕ) → rfc.IsStartGroupLine token text → Spells (with_token token) text
+token_made token text is =
+    line_makes (token_line token text is) (λ parts. refl) (listed [] (inr (inl (token, is), refl)))
 
--- items of a production, and lines that are skipped
-items_read : {X : Type 0} (P : X → List ℕ → Type 0) (Belong : List X → List Source → Type 0)
-    → IsJoin Belong
-    → ((item : X) (text : List ℕ) → P item text → ReadBy (InGroups Belong) (item ∷ []) text)
-    → (items : List X) (text : List ℕ) → rfc.Repeats (rfc.IsOneOr P rfc.IsSkipped) items text
-    → ReadBy (InGroups Belong) items text
-items_read P Belong join one items text is =
-    repeated (InGroups Belong) (in_groups_join Belong join) P rfc.IsSkipped one (skipped_read Belong join)
-    items text is
-
--- ---- groups
-
-abbrev AreTokens : List (List ℕ) → List Source → Type 0
-AreTokens tokens sources = sources ≡ map token_source tokens
-
-tokens_join : IsJoin AreTokens
-tokens_join = record {
-  none = refl;
-  both = λ tokens more sources later is also.
-      ap (λ ts. ts ++ later) is
-      ∙ ap (λ ts. map token_source tokens ++ ts) also
-      ∙ sym (map-append token_source tokens more);
-}
-
-abbrev AreMembers : List rfc.Member → List Source → Type 0
-AreMembers members sources = AllZip IsSourceOf members sources
-
-members_join : IsJoin AreMembers
-members_join = record {
-  none = tt;
-  both = zip_append IsSourceOf;
-}
-
-groups_both : (groups more : List rfc.Group) (sources later : List Source) → AreGroups groups sources
-    → AreGroups more later → AreGroups (groups ++ more) (sources ++ later)
-groups_both [] more sources later is also = subst (λ ts. AreGroups more (ts ++ later)) (sym is) also
-groups_both (group ∷ groups) more sources later is also = record {
-  own = is.own;
-  rest = is.rest ++ later;
-  whole = ap (λ ts. ts ++ later) is.whole ∙ simp append_assoc;
-  some = is.some;
-  members = is.members;
-  later = groups_both groups more is.rest later is.later also;
-}
-
-groups_join : IsJoin AreGroups
-groups_join = record { none = refl; both = groups_both }
-
-token_read : (token : List ℕ) (text : List ℕ) → rfc.IsStartGroupLine token text
-    → ReadBy (InGroups AreTokens) (token ∷ []) text
-token_read token text is =
-    record { sources = token_source token ∷ []; belong = refl; reads = token_line token text is }
-
--- a line of a group is no sitemap
-kept_alone : (Belong : List Source → Type 0) (source : Source) → is_group source.0 ≡ true
-    → Belong (source ∷ [])
-    → Belong (filter in_groups (source ∷ []))
-kept_alone Belong source group is = rw (no_sitemap source.0 group).0 is
-
-member_read : (member : rfc.Member) (text : List ℕ) → rfc.IsMemberLine member text
-    → ReadBy (InGroups AreMembers) (member ∷ []) text
-member_read member text is =
+member_made : (member : rfc.Member) (text : List ℕ) → rfc.IsMemberLine member text
+    → Spells (with_member member) text
+member_made member text is =
     let read = member_line member text is in
-    record {
-      sources = read.source ∷ [];
-      belong =
-          kept_alone (AreMembers (member ∷ [])) read.source read.is_source.line.group (read.is_source, tt);
-      reads = read.reads;
-    }
+    line_makes read.is_line read.spelled (listed [] (inr (inr (inl (member, is)), refl)))
 
-group_read : (group : rfc.Group) (text : List ℕ) → rfc.IsWideGroup group text
-    → ReadBy (InGroups AreGroups) (group ∷ []) text
-group_read group text is =
-    let tokens =
-    items_read rfc.IsStartGroupLine AreTokens tokens_join token_read is.tokens is.agents is.are_agents in
-    let members =
-    items_read rfc.IsMemberLine AreMembers members_join member_read group.members is.lines is.are_members in
-    let start : List Source = token_source is.token ∷ [] in
-    let own : List Source = filter in_groups members.sources in
-    record {
-      sources = start ++ (tokens.sources ++ members.sources);
-      belong = record {
-        own = own;
-        rest = [];
-        whole =
-            ap (λ ts. start ++ ts) (filter-append in_groups tokens.sources members.sources)
-            ∙ ap (λ ts. start ++ (ts ++ own)) tokens.belong
-            ∙ ap (λ ts. map token_source ts ++ own) (sym is.spelled)
-            ∙ ap (λ ts. map token_source group.tokens ++ ts) (sym (append-nil own));
-        some = λ none. let wrong : [] ≡ is.token ∷ is.tokens = sym none ∙ is.spelled in cc;
-        members = members.belong;
-        later = refl;
-      };
-      reads =
-          subst (Reads (start ++ (tokens.sources ++ members.sources))) (sym is.whole)
-          (reads_both start (tokens.sources ++ members.sources) is.start (is.agents ++ is.lines)
-          (token_line is.token is.start is.is_start)
-          (reads_both tokens.sources members.sources is.agents is.lines tokens.reads members.reads));
-    }
+-- ---- groups, and delays in front of them
 
--- ---- what stands in front of the groups
+group_made : (group : rfc.Group) (text : List ℕ) → rfc.IsWideGroup group text
+    → Spells (with_group group) text
+group_made group text is =
+    let all =
+    both_make (token_made is.token is.start is.is_start) (
+    both_make (items_make with_token rfc.IsStartGroupLine rfc.IsSkipped token_made skipped is.are_agents)
+    (items_make with_member rfc.IsMemberLine rfc.IsSkipped member_made skipped is.are_members)) in
+    rw is.whole (record {
+      sources = all.sources;
+      read = all.read;
+      same = λ parts. all.same parts ∙ group_put is.token is.tokens group parts is.spelled;
+      reads = all.reads;
+      listing = all.listing;
+    })
 
-abbrev AreFront : List (List ℕ) → List Source → Type 0
-AreFront none sources = Each IsFrontSource sources
-
-front_join : IsJoin AreFront
-front_join = record { none = tt; both = λ none more sources later. each_append IsFrontSource sources later }
-
-front_piece : (text : List ℕ) → rfc.IsFrontPiece text → ReadBy (InGroups AreFront) [] text
-front_piece text (inl (member, is)) =
-    let read = front_line member text is in
-    record {
-      sources = read.source ∷ [];
-      belong = kept_alone (AreFront []) read.source read.is_front.group (read.is_front, tt);
-      reads = read.reads;
-    }
-front_piece text (inr is) = skipped_read AreFront front_join text is
-
-front_pieces : (pieces : List (List ℕ)) → Each rfc.IsFrontPiece pieces
-    → ReadBy (InGroups AreFront) [] (flat_map (λ (piece : List ℕ). piece) pieces)
-front_pieces [] all = none_read (InGroups AreFront) (in_groups_join AreFront front_join)
-front_pieces (piece ∷ pieces) all =
-    both_read (InGroups AreFront) (in_groups_join AreFront front_join) [] [] piece _
-    (front_piece piece all.0) (front_pieces pieces all.1)
+front_made : (pieces : List (List ℕ)) → Each rfc.IsFrontPiece pieces
+    → (numbers : List (List ℕ)) × Spells (onto with_delay numbers) (flat_map (λ piece. piece) pieces)
+front_made [] all = ([], nothing_makes)
+front_made (piece ∷ pieces) (inr is, all) =
+    let (numbers, rest) = front_made pieces all in
+    (numbers, both_make (skipped piece is) rest)
+front_made (piece ∷ pieces) (inl (rfc.Allow pattern, is), all) = absurd is
+front_made (piece ∷ pieces) (inl (rfc.Disallow pattern, is), all) = absurd is
+front_made (piece ∷ pieces) (inl (rfc.Delay number, is), all) =
+    let (numbers, rest) = front_made pieces all in (
+      number ∷ numbers,
+      both_make (member_made (rfc.Delay number) piece (inr (inr is))) rest,
+    )
 
 -- ---- the file
 
--- a file's source lines: delays in front, and groups
+-- a file's source lines are read and spell its groups, with no rule in front of them; and it lists sitemaps
 pub record FileRead (groups : List rfc.Group) (text : List ℕ) : Type 0 where
-  pub front : List Source
-  pub behind : List Source
-  pub are_front : Each IsFrontSource front
-  pub are_groups : AreGroups groups behind
-  pub rules : (agent : List ℕ)
-      → rules_for agent (file_lines text) ≡ rules_for agent (lines_in (front ++ behind))
-  pub sources_of : filter in_groups (file_sources text) ≡ front ++ behind
+  pub read : Each IsRead (file_sources text)
+  pub spelled : (parts_in (file_sources text)).groups ≡ rfc.merged groups
+  pub none : filter rfc.is_rule (parts_in (file_sources text)).ungrouped ≡ []
+  pub lists : (addresses : List (List ℕ)) × rfc.ListsSitemaps addresses text
 
 pub file_read : (text : List ℕ) (groups : List rfc.Group) → rfc.IsFile groups text
     → FileRead groups text
 file_read text groups file =
     let content = file.is_content in
-    let front = front_pieces content.is_front.pieces content.is_front.each in
-    let behind =
-    items_read rfc.IsWideGroup AreGroups groups_join group_read groups content.rest content.are_groups in
-    let sources : List Source = front.sources ++ behind.sources in
-    let kept = filter-append in_groups front.sources behind.sources in
-    let reads : Reads sources (file.rest ++ file.nl) =
-    subst (Reads sources) (sym (content.whole ∙ ap (λ t. t ++ content.rest) content.is_front.whole))
-    (reads_both front.sources behind.sources _ content.rest front.reads behind.reads) in
+    let (numbers, front) = front_made content.is_front.pieces content.is_front.each in
+    let make : Parts → Parts = λ parts. onto with_delay numbers (onto with_group groups parts) in
+    let all : Spells make (file.rest ++ file.nl) =
+    rw (content.whole, content.is_front.whole) (
+    both_make front
+    (items_make with_group rfc.IsWideGroup rfc.IsSkipped group_made skipped content.are_groups)) in
+    let sources = file_sources_are (rfc.IsWideFile groups) text file all.sources all.reads in
+    let parts : parts_in (file_sources text) ≡ onto with_delay numbers (parts_of [] (rfc.merged groups)) =
+    ap parts_in sources ∙ all.same (parts_of [] []) ∙ ap (onto with_delay numbers) (groups_put groups) in
+    let front_put = delays_put numbers (parts_of [] (rfc.merged groups)) in
     record {
-      front = filter in_groups front.sources;
-      behind = filter in_groups behind.sources;
-      are_front = front.belong;
-      are_groups = behind.belong;
-      rules = λ agent.
-          (file_same (rfc.IsWideFile groups) text file sources reads agent).0.rules
-          ∙ (sitemaps_change_nothing_else agent (lines_in sources) (lines_in (filter in_groups sources))
-          (kept_lines (λ line. not (is_sitemap line)) sources)).rules
-          ∙ ap (λ ts. rules_for agent (lines_in ts)) kept;
-      sources_of =
-          ap (filter in_groups) (file_sources_are (rfc.IsWideFile groups) text file sources reads) ∙ kept;
+      read = subst (Each IsRead) (sym sources) all.read;
+      spelled = ap (λ (p : Parts). p.groups) parts ∙ front_put.0;
+      none = ap (λ (p : Parts). filter rfc.is_rule p.ungrouped) parts ∙ front_put.1;
+      lists = (
+        all.listing.0,
+        record {
+          mark = file.mark;
+          rest = file.rest;
+          nl = file.nl;
+          whole = file.whole;
+          is_mark = file.is_mark;
+          is_nl = file.is_nl;
+          is_content = all.listing.1;
+        },
+      );
     }

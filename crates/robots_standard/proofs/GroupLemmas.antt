@@ -1,181 +1,144 @@
--- Of lines in groups an agent gets the rules that the groups spell for it.
-use Rattle.std.proofs.Common.{◌≡◌, ◌≢◌, ℕ, Bool, true, false, ◌||◌, List, [], ◌∷◌}
-use Rattle.std.proofs.Common.{◌++◌, Option, None, map, flat_map, filter, cond, sym, refl, ap, ◌∙◌}
-use Rattle.std.proofs.Common.{subst}
+-- Of source lines an agent gets the rules that they spell for it.
+use Rattle.std.proofs.Common.{◌≡◌, ℕ, Bool, true, false, not, ◌||◌, List, [], ◌∷◌, ◌++◌}
+use Rattle.std.proofs.Common.{Option, Some, None}
+use Rattle.std.proofs.Common.{flat_map, filter, cond, bytes_eq, sym, refl, ap, ◌∙◌, subst}
+use Rattle.std.specs.{List.AllZip, List.AllByRecursion as Each, List.list_any, List.cons_option}
 use Rattle.std.specs.Str.{str_to_ascii_lowercase}
-use Rattle.std.specs.List.{AllZip, AllByRecursion as Each, list_any, filter_map, cons_option}
-use Rattle.std.proofs.lemmas.{Bool.false≢true, List.Elements.filter-append, List.Folds.list_any-append}
+use Rattle.std.proofs.{Math.Bool.or-false, Math.Bool.or_assoc, Math.Bool.or_comm}
+use Rattle.std.proofs.{lemmas.List.Elements.filter-append}
 use Rattle.texting_robots.specs.{declared.groups.Walk.Walk, Computed.rule_in, Computed.rules_for, Rules.Rule}
-use Rattle.texting_robots.specs.Line.{LineValue, UserAgent, Allow, Disallow, Sitemap, CrawlDelay, Raw}
-use Rattle.texting_robots.specs.Group.{group_name, is_agent_named, is_group}
-use Rattle.texting_robots.specs.Steps.Group.{start_of, step}
+use Rattle.texting_robots.specs.Line.{LineValue, UserAgent, Sitemap, Raw}
+use Rattle.texting_robots.specs.Group.{group_name, is_agent, is_agent_named}
+use Rattle.texting_robots.specs.Steps.Group.{start_of}
+use Rattle.texting_robots.proofs.CapturedLemmas.{cond_same, given_captured, rules_are}
 use Rattle.robots_standard.specs.ReadAs.{IsReadAs}
-use Rattle.robots_standard.specs.Rfc9309.{Group, Member, merged, is_rule, has_token, groups_for}
-use Rattle.texting_robots.proofs.CapturedLemmas.{rules_are}
-use Rattle.robots_standard.proofs.MergeLemmas.{AreApart, AreGroupLines, GivesRuleOf, IsLineFor, merged_apart}
-use Rattle.robots_standard.proofs.MergeLemmas.{merged_lines}
-use Rattle.robots_standard.proofs.WalkLemmas.{behind, found, group_step, group_steps, is_named, members_found}
-use Rattle.robots_standard.proofs.WalkLemmas.{nothing, run, run_found}
+use Rattle.robots_standard.specs.Rfc9309.{Group, Member, put_before, is_rule, has_token, groups_for}
+use Rattle.robots_standard.proofs.EndLemmas.{lines_in}
+use Rattle.robots_standard.proofs.Sources.{GivesRuleOf, IsRead, Source, member_in, parts_in}
 use Rattle.robots_standard.specs.Rfc9309 as rfc
 
--- ---- the rules of groups
+-- the state in which a run of agent lines has the name, or not, and that behind a member's line
+abbrev run : Bool → Walk
+run named = record { captured = named; named = named }
 
--- items and what they are read as, and more of both behind them
-pub zip_append : {X Y : Type 0} (R : X → Y → Type 0) (xs vs : List X) (ys ws : List Y)
-    → AllZip R xs ys → AllZip R vs ws → AllZip R (xs ++ vs) (ys ++ ws)
-zip_append R [] vs [] ws first second = second
-zip_append R [] vs (y ∷ ys) ws first second = absurd first
-zip_append R (x ∷ xs) vs [] ws first second = absurd first
-zip_append R (x ∷ xs) vs (y ∷ ys) ws first second = (first.0, zip_append R xs vs ys ws first.1 second)
+abbrev closed : Bool → Walk
+closed captured = record { captured = captured; named = false }
 
-member_read : (member : Member) (o : Option Rule) (is : Bool) (members : List Member) (rules : List Rule)
-    → GivesRuleOf member o is → AllZip IsReadAs members rules
-    → AllZip IsReadAs (cond is (member ∷ members) members) (cons_option o rules)
-member_read member o true members rules (rule, gives, is) all = rw gives (is, all)
-member_read member o false members rules none all = rw none all
+or_swapped : (a b c : Bool) → (a || (b || c)) ≡ ((b || a) || c)
+or_swapped a b c = sym (or_assoc a b c) ∙ ap (λ d. d || c) (or_comm a b)
 
-members_read : (members : List Member) (own : List LineValue) → AllZip IsLineFor members own
-    → AllZip IsReadAs (filter is_rule members) (filter_map rule_in own)
-members_read [] [] all = tt
-members_read [] (line ∷ own) all = absurd all
-members_read (member ∷ members) [] all = absurd all
-members_read (member ∷ members) (line ∷ own) all =
-    member_read member (rule_in line) (is_rule member) (filter is_rule members) (filter_map rule_in own)
-    all.0.gives (members_read members own all.1)
-
--- one of the group's product tokens is the name
-abbrev has : List ℕ → Group → Bool
-has name group = list_any (is_named name) group.tokens
+-- a member, and the rule that is found for it
+rule_given : (member : Member) (found : Option Rule) (members : List Member) (rules : List Rule)
+    → GivesRuleOf member found → AllZip IsReadAs (filter is_rule members) rules
+    → AllZip IsReadAs (filter is_rule (member ∷ members)) (cons_option found rules)
+rule_given member None members rules none all = rw none all
+rule_given (rfc.Allow pattern) (Some rule) members rules is all = (is, all)
+rule_given (rfc.Disallow pattern) (Some rule) members rules is all = (is, all)
+rule_given (rfc.Delay number) (Some rule) members rules is all = absurd is
 
 -- the members of these groups
 abbrev members_in : List Group → List Member
 members_in groups = flat_map (λ group. group.members) groups
 
-group_read : (is : Bool) (group : Group) (groups : List Group) (own rules : List Rule)
-    → AllZip IsReadAs (filter is_rule group.members) own
-    → AllZip IsReadAs (filter is_rule (members_in groups)) rules
-    → AllZip IsReadAs (filter is_rule (members_in (cond is (group ∷ groups) groups)))
-    (cond is own [] ++ rules)
-group_read false group groups own rules here later = later
-group_read true group groups own rules here later =
-    subst (λ m. AllZip IsReadAs m (own ++ rules))
-    (sym (filter-append is_rule group.members (members_in groups)))
-    (zip_append IsReadAs (filter is_rule group.members) (filter is_rule (members_in groups)) own rules
-    here later)
+first_if : (is : Bool) (group : Group) (groups : List Group)
+    → cond is group.members [] ++ members_in groups ≡ members_in (cond is (group ∷ groups) groups)
+first_if true group groups = refl
+first_if false group groups = refl
 
--- a group that comes next begins a run
-abbrev IsReady : List Group → Walk → Type 0
-IsReady [] walk = Unit {0}
-IsReady (group ∷ groups) walk = walk.named ≡ false
+module _ (name : List ℕ) where
+  abbrev is_named : List ℕ → Bool
+  is_named token = bytes_eq (str_to_ascii_lowercase token) name
 
-ready_behind : (group : Group) (later : List Group) (walk : Walk) → AreApart (group ∷ later)
-    → IsReady later (behind group.members walk)
-ready_behind group [] walk are = tt
-ready_behind group (next ∷ later) walk are = at group.members are.0
-  where
-    at : (members : List Member) → members ≢ [] → (behind members walk).named ≡ false
-    at [] some = absurd (some refl)
-    at (member ∷ members) some = refl
+  -- one of the group's product tokens is the name
+  abbrev has : Group → Bool
+  has group = list_any is_named group.tokens
 
-rest_apart : (group : Group) (later : List Group) → AreApart (group ∷ later) → AreApart later
-rest_apart group [] are = tt
-rest_apart group (next ∷ later) are = are.1
+  -- the members of the groups with the name
+  abbrev theirs : List Group → List Member
+  theirs groups = members_in (filter has groups)
 
-groups_read : (name : List ℕ) (walk : Walk) (groups : List Group) (lines : List LineValue)
-    → AreGroupLines groups lines → AreApart groups → IsReady groups walk
-    → AllZip IsReadAs (filter is_rule (members_in (filter (has name) groups))) (found name walk lines)
-groups_read name walk [] lines are apart ready = rw are tt
-groups_read name walk (group ∷ later) lines are apart ready =
-    let here = has name group in
-    let next : Walk = behind group.members (run here) in
-    let rules : found name walk lines ≡ cond here (filter_map rule_in are.own)
-    [] ++ found name next are.rest =
-    ap (found name walk) are.whole
-    ∙ run_found name walk group.tokens (are.own ++ are.rest) are.some ready
-    ∙ members_found name (run here) group.members are.own are.rest are.members in
-    rw rules (
-    group_read here group (filter (has name) later) (filter_map rule_in are.own) (found name next are.rest)
-    (members_read group.members are.own are.members)
-    (groups_read name next later are.rest are.later (rest_apart group later apart)
-    (ready_behind group later (run here) apart)))
+  -- the rules that the walk finds
+  abbrev found : Walk → List Source → List Rule
+  found walk sources = given_captured rule_in name walk (lines_in sources)
 
--- ---- whose groups they are
+  -- the members that the walk captures: those before any token if it captures here, and those of the
+  -- first group also if the run in which the walk stands has the name
+  abbrev captured : Walk → List Member → List Group → List Member
+  captured walk [] [] = []
+  captured walk [] (next ∷ later) = cond (walk.named || has next) next.members [] ++ theirs later
+  captured walk (member ∷ members) groups = cond walk.captured (member ∷ members) [] ++ theirs groups
 
-any_tokens : (name : List ℕ) (tokens : List (List ℕ))
-    → list_any (is_agent_named name) (map UserAgent tokens) ≡ list_any (is_named name) tokens
-any_tokens name [] = refl
-any_tokens name (token ∷ tokens) = ap (λ b. is_named name token || b) (any_tokens name tokens)
+  captured_closed : (is : Bool) (members : List Member) (groups : List Group)
+      → captured (closed is) members groups ≡ cond is members [] ++ theirs groups
+  captured_closed is [] [] = rw (cond_same {X = List Member} is []) refl
+  captured_closed is [] (next ∷ later) =
+      rw (cond_same {X = List Member} is []) (first_if (has next) next (filter has later))
+  captured_closed is (member ∷ members) groups = refl
 
-none_named : (name : List ℕ) (line : LineValue) → is_group line ≡ true
-    → is_agent_named name line ≡ false
-none_named name (UserAgent value) is = absurd (false≢true is)
-none_named name (Allow value) is = refl
-none_named name (Disallow value) is = refl
-none_named name (Sitemap value) is = refl
-none_named name (CrawlDelay delay) is = refl
-none_named name (Raw body) is = refl
+  -- behind a token more groups may be captured
+  captured_behind : (walk : Walk) (token : List ℕ) (members : List Member) (groups : List Group)
+      → captured walk [] (put_before (token ∷ []) members groups)
+      ≡ captured (run (is_named token || walk.named)) members groups
+  captured_behind walk token [] [] = rw (cond_same {X = List Member} _ []) refl
+  captured_behind walk token [] (next ∷ later) =
+      ap (λ b. cond b next.members [] ++ theirs later) (or_swapped walk.named (is_named token) (has next))
+  captured_behind walk token (member ∷ members) groups =
+      ap (λ b. cond b (member ∷ members) [] ++ theirs groups)
+      (or_swapped walk.named (is_named token) false ∙ or-false (is_named token || walk.named))
 
-none_member : (name : List ℕ) (members : List Member) (own : List LineValue)
-    → AllZip IsLineFor members own
-    → list_any (is_agent_named name) own ≡ false
-none_member name members [] all = refl
-none_member name [] (line ∷ own) all = absurd all
-none_member name (member ∷ members) (line ∷ own) all =
-    rw (none_named name line all.0.group) (none_member name members own all.1)
+  member_found : (is : Bool) (member : Member) (o : Option Rule) (members : List Member)
+      (groups : List Group) (rules : List Rule)
+      → GivesRuleOf member o
+      → AllZip IsReadAs (filter is_rule (captured (closed is) members groups)) rules
+      → AllZip IsReadAs (filter is_rule (cond is (member ∷ members) [] ++ theirs groups))
+      (cons_option (cond is o None) rules)
+  member_found is member o members groups rules gives all =
+      at is (rw (captured_closed is members groups) at all)
+    where
+      at : (is : Bool) → AllZip IsReadAs (filter is_rule (cond is members [] ++ theirs groups)) rules
+          → AllZip IsReadAs (filter is_rule (cond is (member ∷ members) [] ++ theirs groups))
+          (cons_option (cond is o None) rules)
+      at true all = rule_given member o (members ++ theirs groups) rules gives all
+      at false all = all
 
-any_named : (name : List ℕ) (groups : List Group) (lines : List LineValue) → AreGroupLines groups lines
-    → list_any (is_agent_named name) lines ≡ list_any (has name) groups
-any_named name [] lines are = ap (list_any (is_agent_named name)) are
-any_named name (group ∷ later) lines are =
-    ap (list_any (is_agent_named name)) are.whole
-    ∙ list_any-append (is_agent_named name) (map UserAgent group.tokens) (are.own ++ are.rest)
-    ∙ ap (λ b. b || list_any (is_agent_named name) (are.own ++ are.rest)) (any_tokens name group.tokens)
-    ∙ ap (λ b. has name group || b) (
-    list_any-append (is_agent_named name) are.own are.rest
-    ∙ ap (λ b. b || list_any (is_agent_named name) are.rest)
-    (none_member name group.members are.own are.members)
-    ∙ any_named name later are.rest are.later)
+  -- the walk finds the rules of the members that it captures
+  walk_finds : (walk : Walk) (sources : List Source) → Each IsRead sources
+      → AllZip IsReadAs
+      (filter is_rule (captured walk (parts_in sources).ungrouped (parts_in sources).groups))
+      (found walk sources)
+  walk_finds walk [] all = tt
+  walk_finds walk ((UserAgent token, text) ∷ sources) (is, all) =
+      let parts = parts_in sources in
+      rw (
+        cond_same {X = Option Rule} walk.captured None,
+        captured_behind walk token parts.ungrouped parts.groups,
+      )
+      (walk_finds (run (is_named token || walk.named)) sources all)
+  walk_finds walk ((Sitemap value, text) ∷ sources) (is, all) =
+      rw (cond_same {X = Option Rule} walk.captured None) (walk_finds walk sources all)
+  walk_finds walk ((Raw body, text) ∷ sources) (is, all) =
+      rw (cond_same {X = Option Rule} walk.captured None) (walk_finds walk sources all)
+  walk_finds walk ((line, text) ∷ sources) (is, all) =
+      let parts = parts_in sources in
+      member_found walk.captured (member_in line text) (rule_in line) parts.ungrouped parts.groups
+      (found (closed walk.captured) sources) is (walk_finds (closed walk.captured) sources all)
 
--- ---- lines in front of the groups
+  -- ---- whose groups they are
 
--- the line is one of a group, and gives no rule
-pub record IsFront (line : LineValue) : Type 0 where
-  pub group : is_group line ≡ true
-  pub none : rule_in line ≡ None
+  any_put : (token : List ℕ) (members : List Member) (groups : List Group)
+      → (is_named token || list_any has groups)
+      ≡ list_any has (put_before (token ∷ []) members groups)
+  any_put token [] [] = sym (or_assoc (is_named token) false false)
+  any_put token [] (next ∷ later) = sym (or_assoc (is_named token) (has next) (list_any has later))
+  any_put token (member ∷ members) groups = sym (or_assoc (is_named token) false (list_any has groups))
 
-none_front : (name : List ℕ) (front : List LineValue) → Each IsFront front
-    → list_any (is_agent_named name) front ≡ false
-none_front name [] all = refl
-none_front name (line ∷ front) all = rw (none_named name line all.0.group) (none_front name front all.1)
-
--- the walk behind them, which begins a run
-record FrontPassed (name : List ℕ) (walk : Walk) (front lines : List LineValue) : Type 0 where
-  next : Walk
-  closed : next.named ≡ false
-  same : found name walk (front ++ lines) ≡ found name next lines
-
-front_passed : (name : List ℕ) (walk : Walk) (front lines : List LineValue) → Each IsFront front
-    → walk.named ≡ false
-    → FrontPassed name walk front lines
-front_passed name walk [] lines all closed = record { next = walk; closed = closed; same = refl }
-front_passed name walk (line ∷ front) lines all closed =
-    let p = front_passed name (group_step walk) front lines all.1 refl in
-    let rest = found name (step name walk line) (front ++ lines) in
-    record {
-      next = p.next;
-      closed = p.closed;
-      same =
-          ap (λ o. cons_option (cond walk.captured o None) rest) all.0.none
-          ∙ ap (λ o. cons_option o rest) (nothing walk.captured)
-          ∙ ap (λ w. found name w (front ++ lines)) (group_steps name walk line all.0.group)
-          ∙ p.same;
-    }
-
--- ---- what an agent gets
-
-ready_if : (groups : List Group) (walk : Walk) → walk.named ≡ false → IsReady groups walk
-ready_if [] walk closed = tt
-ready_if (group ∷ groups) walk closed = closed
+  any_named : (sources : List Source)
+      → list_any (is_agent_named name) (lines_in sources) ≡ list_any has (parts_in sources).groups
+  any_named [] = refl
+  any_named ((UserAgent token, text) ∷ sources) =
+      ap (λ b. is_named token || b) (any_named sources)
+      ∙ any_put token (parts_in sources).ungrouped (parts_in sources).groups
+  any_named (_ ∷ sources) = any_named sources
 
 -- the agent's groups by the name that is captured
 named_groups : (agent : List ℕ) (groups : List Group) (lines : List LineValue) (some : Bool)
@@ -185,24 +148,25 @@ named_groups : (agent : List ℕ) (groups : List Group) (lines : List LineValue)
 named_groups agent groups lines true named has = rw (named, has) refl
 named_groups agent groups lines false named has = rw (named, has) refl
 
--- of the lines of groups, behind lines that give nothing, an agent gets the rules that they spell for it
-pub rules_spelled : (agent : List ℕ) (groups : List Group) (front lines : List LineValue)
-    → Each IsFront front
-    → AreGroupLines groups lines
-    → AllZip IsReadAs (rfc.rules_for agent (merged groups)) (rules_for agent (front ++ lines))
-rules_spelled agent groups front lines all are =
-    let whole = merged_lines groups lines are in
-    let low = str_to_ascii_lowercase agent in
-    let name = group_name agent (front ++ lines) in
-    let start = start_of (front ++ lines) in
-    let p = front_passed name start front lines all refl in
-    let named : list_any (is_agent_named low) (front ++ lines)
-    ≡ list_any (has_token agent) (merged groups) =
-    list_any-append (is_agent_named low) front lines
-    ∙ ap (λ b. b || list_any (is_agent_named low) lines) (none_front low front all)
-    ∙ any_named low (merged groups) lines whole in
-    let rules : rules_for agent (front ++ lines) ≡ found name p.next lines =
-    rules_are agent (front ++ lines) ∙ p.same in
-    rw (rules, ← named_groups agent (merged groups) (front ++ lines) _ named refl) (
-    groups_read name p.next (merged groups) lines whole (merged_apart groups)
-    (ready_if (merged groups) p.next p.closed))
+-- with no rule before any token an agent gets the rules that the groups spell for it
+pub rules_spelled : (agent : List ℕ) (sources : List Source) → Each IsRead sources
+    → filter is_rule (parts_in sources).ungrouped ≡ []
+    → AllZip IsReadAs (rfc.rules_for agent (parts_in sources).groups)
+    (rules_for agent (lines_in sources))
+rules_spelled agent sources all none =
+    let parts = parts_in sources in
+    let lines = lines_in sources in
+    let name = group_name agent lines in
+    let named = any_named (str_to_ascii_lowercase agent) sources in
+    rw (rules_are agent lines, ← named_groups agent parts.groups lines _ named refl) (
+    subst (λ members. AllZip IsReadAs members (found name (start_of lines) sources))
+    (ap (filter is_rule) (captured_closed name (not (list_any is_agent lines)) parts.ungrouped parts.groups)
+    ∙ grouped (not (list_any is_agent lines)) (theirs name parts.groups))
+    (walk_finds name (start_of lines) sources all))
+  where
+    grouped : (is : Bool) (members : List Member)
+        → filter is_rule (cond is (parts_in sources).ungrouped [] ++ members) ≡ filter is_rule members
+    grouped true members =
+        filter-append is_rule (parts_in sources).ungrouped members
+        ∙ ap (λ rules. rules ++ filter is_rule members) none
+    grouped false members = refl

@@ -1,56 +1,94 @@
--- A text that repeats a production is made of the lines of its pieces.
-use Rattle.std.proofs.Common.{inl, inr, ℕ, List, [], ◌∷◌, ◌++◌, flat_map, sym, subst}
+-- A text of the standard's productions is made of lines, whose source lines are read.
+use Rattle.std.proofs.Common.{◌≡◌, inl, inr, ℕ, List, [], ◌∷◌, ◌++◌, flat_map, refl, ap}
+use Rattle.std.proofs.Common.{◌∙◌}
 use Rattle.std.specs.List.{AllByRecursion as Each}
+use Rattle.texting_robots.proofs.TrimLemmas.{each_append}
 use Rattle.robots_standard.proofs.ReadLemmas.{Reads, reads_both, reads_nothing}
-use Rattle.robots_standard.proofs.Sources.{Source}
+use Rattle.robots_standard.proofs.{RuleLemmas.IsLineOf, Sources.IsRead, Sources.Source, Sources.onto}
+use Rattle.robots_standard.proofs.SyntaxLemmas.{repeats_both, repeats_none, repeats_one}
 use Rattle.robots_standard.specs.Rfc9309 as rfc
 
--- the text is made of lines, and their source lines belong to these items
-pub record ReadBy {X : Type 0} (Belong : List X → List Source → Type 0)
-    (items : List X) (text : List ℕ) : Type 0 where
+-- ---- each text of lines lists sitemaps
+
+abbrev pub IsAddressLine : List (List ℕ) → List ℕ → Type 0
+IsAddressLine addresses text = rfc.IsOneOr rfc.IsSitemapLine rfc.IsUnlisted addresses text
+
+-- the text is lines, which spell some sitemaps
+abbrev pub IsListing : List ℕ → Type 0
+IsListing text = (addresses : List (List ℕ)) × rfc.Repeats IsAddressLine addresses text
+
+pub listed : {text : List ℕ} (addresses : List (List ℕ)) → IsAddressLine addresses text
+    → IsListing text
+listed {text} addresses is = (addresses, repeats_one IsAddressLine addresses text is)
+
+both_listed : {text later : List ℕ} → IsListing text → IsListing later → IsListing (text ++ later)
+both_listed (addresses, is) (more, also) = (addresses ++ more, repeats_both is also)
+
+-- ---- what a text's source lines make
+
+-- the text's source lines, put before others, make this of what those make
+pub record Makes {A : Type 0} (put : Source → A → A) (make : A → A) (text : List ℕ) : Type 0 where
   pub sources : List Source
-  pub belong : Belong items sources
+  pub read : Each IsRead sources
+  pub same : (behind : A) → onto put sources behind ≡ make behind
   pub reads : Reads sources text
+  pub listing : IsListing text
 
--- the source lines of items, and then those of others, are those of both
-pub record IsJoin {X : Type 0} (Belong : List X → List Source → Type 0) : Type 0 where
-  pub none : Belong [] []
-  pub both : (items more : List X) (sources later : List Source) → Belong items sources
-      → Belong more later
-      → Belong (items ++ more) (sources ++ later)
+onto_both : {X A : Type 0} (put : X → A → A) (xs ys : List X) (behind : A)
+    → onto put (xs ++ ys) behind ≡ onto put xs (onto put ys behind)
+onto_both put [] ys behind = refl
+onto_both put (x ∷ xs) ys behind = ap (put x) (onto_both put xs ys behind)
 
-module _ {X : Type 0} (Belong : List X → List Source → Type 0) (join : IsJoin Belong) where
-  pub none_read : ReadBy Belong [] []
-  none_read = record { sources = []; belong = join.none; reads = reads_nothing }
-
-  pub both_read : (items more : List X) (text later : List ℕ) → ReadBy Belong items text
-      → ReadBy Belong more later
-      → ReadBy Belong (items ++ more) (text ++ later)
-  both_read items more text later first rest = record {
-    sources = first.sources ++ rest.sources;
-    belong = join.both items more first.sources rest.sources first.belong rest.belong;
-    reads = reads_both first.sources rest.sources text later first.reads rest.reads;
+module _ {A : Type 0} {put : Source → A → A} where
+  -- one source line, or none
+  pub line_makes : {make : A → A} {source : Source} {text : List ℕ} → IsLineOf source text
+      → ((behind : A) → put source behind ≡ make behind) → IsListing text
+      → Makes put make text
+  line_makes {source = source} is same listing = record {
+    sources = source ∷ [];
+    read = (is.read, tt);
+    same = same;
+    reads = is.reads;
+    listing = listing;
   }
 
-  pieces_read : (P : List X → List ℕ → Type 0)
-      → ((items : List X) (text : List ℕ) → P items text → ReadBy Belong items text)
-      → (pieces : List (rfc.Piece X)) → Each (λ piece. P piece.items piece.bytes) pieces
-      → ReadBy Belong (flat_map (λ piece. piece.items) pieces) (flat_map (λ piece. piece.bytes) pieces)
-  pieces_read P one [] all = none_read
-  pieces_read P one (piece ∷ pieces) all =
-      both_read piece.items _ piece.bytes _ (one piece.items piece.bytes all.0)
-      (pieces_read P one pieces all.1)
+  pub none_makes : {text : List ℕ} → Reads [] text → IsListing text
+      → Makes put (λ behind. behind) text
+  none_makes reads listing =
+      record { sources = []; read = tt; same = λ behind. refl; reads = reads; listing = listing }
+
+  pub nothing_makes : Makes put (λ behind. behind) []
+  nothing_makes = none_makes reads_nothing ([], repeats_none IsAddressLine)
+
+  pub both_make : {first second : A → A} {text later : List ℕ} → Makes put first text
+      → Makes put second later
+      → Makes put (λ behind. first (second behind)) (text ++ later)
+  both_make {second = second} is also = record {
+    sources = is.sources ++ also.sources;
+    read = each_append IsRead is.sources also.sources is.read also.read;
+    same = λ behind.
+        onto_both put is.sources also.sources behind ∙ ap (onto put is.sources) (also.same behind)
+        ∙ is.same (second behind);
+    reads = reads_both is.reads also.reads;
+    listing = both_listed is.listing also.listing;
+  }
 
   -- a text of one item each, or of none
-  pub repeated : (P : X → List ℕ → Type 0) (Q : List ℕ → Type 0)
-      → ((item : X) (text : List ℕ) → P item text → ReadBy Belong (item ∷ []) text)
-      → ((text : List ℕ) → Q text → ReadBy Belong [] text)
-      → (items : List X) (text : List ℕ) → rfc.Repeats (rfc.IsOneOr P Q) items text
-      → ReadBy Belong items text
-  repeated P Q one other items text is =
-      rw (is.spelled, is.whole) (pieces_read (rfc.IsOneOr P Q) one_or is.pieces is.each)
+  pub items_make : {X : Type 0} (act : X → A → A) (P : X → List ℕ → Type 0)
+      (Q : List ℕ → Type 0)
+      → ((item : X) (text : List ℕ) → P item text → Makes put (act item) text)
+      → ((text : List ℕ) → Q text → Makes put (λ behind. behind) text)
+      → {items : List X} {text : List ℕ} → rfc.Repeats (rfc.IsOneOr P Q) items text
+      → Makes put (onto act items) text
+  items_make {X} act P Q one other is =
+      rw (is.spelled, is.whole) (pieces_make is.pieces is.each)
     where
-      one_or : (items : List X) (text : List ℕ) → rfc.IsOneOr P Q items text → ReadBy Belong items text
-      one_or items text (inl (item, is, same)) =
-          subst (λ i. ReadBy Belong i text) (sym same) (one item text is)
-      one_or items text (inr (is, none)) = subst (λ i. ReadBy Belong i text) (sym none) (other text is)
+      pieces_make : (pieces : List (rfc.Piece X))
+          → Each (λ piece. rfc.IsOneOr P Q piece.items piece.bytes) pieces
+          → Makes put (onto act (flat_map (λ piece. piece.items) pieces))
+          (flat_map (λ piece. piece.bytes) pieces)
+      pieces_make [] all = nothing_makes
+      pieces_make (piece ∷ pieces) (inl (item, is, same), all) =
+          rw same (both_make (one item piece.bytes is) (pieces_make pieces all))
+      pieces_make (piece ∷ pieces) (inr (is, none), all) =
+          rw none (both_make (other piece.bytes is) (pieces_make pieces all))

@@ -1,41 +1,24 @@
 -- The lines of product tokens and of rules.
-use Rattle.std.proofs.Common.{◌≡◌, ◌≢◌, inl, inr, ℕ, true, false, List, [], ◌∷◌, ◌++◌}
-use Rattle.std.proofs.Common.{filter, codes, Bool, Some, sym, refl, subst, arith, ◌<◌, ap, ◌∙◌}
-use Rattle.std.specs.{List.AllByRecursion as Each, List.Contains, Str.IsUtf8}
-use Rattle.std.proofs.lemmas.{Bool.cond-true, Str.IsUtf8-nil, Str.is_utf8-from_IsUtf8}
-use Rattle.texting_robots.specs.declared.parser.statement.Kind.{Kind}
-use Rattle.texting_robots.specs.{Escape.escaped, Line.UserAgent, Line.Allow, Line.Disallow}
-use Rattle.texting_robots.specs.{Computed.rule_with, Rules.Rule, Statement.IsBlank, Statement.spellings}
-use Rattle.texting_robots.specs.{Trim.IsTrimOf, Steps.Line.line_with, Steps.Statement.trimmed}
+use Rattle.std.proofs.Common.{◌≡◌, ◌≢◌, inl, inr, ℕ, true, List, [], ◌∷◌, ◌++◌}
+use Rattle.std.proofs.Common.{codes, sym, refl, subst, append_assoc, arith, ◌∙◌}
+use Rattle.std.specs.{List.AllByRecursion as Each, Str.is_utf8}
+use Rattle.std.proofs.lemmas.{Str.IsUtf8-nil, Str.is_utf8-from_IsUtf8}
+use Rattle.texting_robots.specs.{Line.UserAgent, Line.Allow, Line.Disallow, Statement.IsBlank, Trim.IsTrimOf}
+use Rattle.texting_robots.specs.{Steps.Line.line_with, Steps.Statement.trimmed}
 use Rattle.texting_robots.proofs.TrimLemmas.{trimmed_is_trim, each_append}
-use Rattle.robots_standard.proofs.CharLemmas.{IsCharByte, IsCharText, char_text, pattern_text}
-use Rattle.robots_standard.proofs.KeyedLemmas.{IsValueByte, Keyed, between_blanks, blanks_value, chars_value}
-use Rattle.robots_standard.proofs.KeyedLemmas.{each_weaker, keyed, keyed_line, only_blanks, key_word}
-use Rattle.robots_standard.proofs.ReadLemmas.{Reads, reads_line}
+use Rattle.robots_standard.proofs.CharLemmas.{IsCharByte, IsCharText, chars_text, text_append}
+use Rattle.robots_standard.proofs.{EachLemmas.each_weaker, KeyedLemmas.keyed_reads}
+use Rattle.robots_standard.proofs.ReadLemmas.{Reads}
 use Rattle.robots_standard.proofs.ValueLemmas.{IsVisible, trim_some, trim_utf8, visible_trim, visible_utf8}
-use Rattle.robots_standard.proofs.Sources.{IsSourceOf, Source, blanks_gone, is_not_raw, no_blank, text_kept}
-use Rattle.robots_standard.proofs.Sources.{source_of, token_source, written}
+use Rattle.robots_standard.proofs.Sources.{IsRead, Parts, Source, token_source, with_address, with_member}
+use Rattle.robots_standard.proofs.Sources.{with_source}
 use Rattle.texting_robots.specs.declared.parser.statement.Kind.TheVariants as kind
 use Rattle.robots_standard.specs.Rfc9309 as rfc
 
--- the source line of a keyed text, where its value is trimmed to this
-pub reads_keyed : (word value text : List ℕ) (k : Keyed word value text) (kind : Kind) (read : List ℕ)
-    → Contains (spellings kind) word → IsTrimOf read (k.gap ++ (value ++ k.behind))
-    → Reads (filter is_not_raw ((line_with kind read k.body, filter no_blank value) ∷ [])) text
-reads_keyed word value text k kind read has trim =
-    let source : Source = (line_with kind read k.body, filter no_blank value) in
-    let same : source_of k.body ≡ source =
-    ap (λ line. (line, written k.body)) (keyed_line kind read k.body (k.states kind read has trim))
-    ∙ ap (λ value. (line_with kind read k.body, value)) k.written in
-    subst (Reads (filter is_not_raw (source ∷ []))) (sym k.whole)
-    (reads_line source k.body k.nl same k.bare k.low k.is_nl)
-
--- a value of blanks is read as an empty one
-blank_trim : (gap value behind : List ℕ) → Each IsBlank gap → Each IsBlank value → Each IsBlank behind
-    → IsTrimOf [] (gap ++ (value ++ behind))
-blank_trim gap value behind before all after =
-    only_blanks (gap ++ (value ++ behind)) (
-    each_append IsBlank gap (value ++ behind) before (each_append IsBlank value behind all after))
+-- the text is the source line, which is read
+pub record IsLineOf (source : Source) (text : List ℕ) : Type 0 where
+  pub read : IsRead source
+  pub reads : Reads (source ∷ []) text
 
 -- ---- product tokens
 
@@ -43,14 +26,8 @@ blank_trim gap value behind before all after =
 abbrev pub IsPlain : ℕ → Type 0
 IsPlain byte = IsVisible byte × (byte ≢ 35)
 
-pub plain_value : (b : ℕ) → IsPlain b → IsValueByte b
-plain_value b is = (inr (omega arith), is.1)
-
 identifier_plain : (b : ℕ) → rfc.IsIdentifierByte b → IsPlain b
-identifier_plain b (inl is) = ((omega arith, omega arith), λ e. omega arith)
-identifier_plain b (inr (inl is)) = ((omega arith, omega arith), λ e. omega arith)
-identifier_plain b (inr (inr (inl is))) = ((omega arith, omega arith), λ e. omega arith)
-identifier_plain b (inr (inr (inr is))) = ((omega arith, omega arith), λ e. omega arith)
+identifier_plain b is = ((omega arith, omega arith), λ e. omega arith)
 
 token_plain : (token : List ℕ) → rfc.IsProductToken token → Each IsPlain token
 token_plain [] is = tt
@@ -59,52 +36,43 @@ token_plain (b ∷ token) (inl is) =
 token_plain (b ∷ token) (inr is) =
     subst (Each IsPlain) (sym is) (((omega arith, omega arith), λ e. omega arith), tt)
 
--- plain bytes between blanks are the value
-pub plain_trim : (gap behind bytes : List ℕ) → Each IsBlank gap → Each IsBlank behind
-    → Each IsPlain bytes
-    → IsTrimOf bytes (gap ++ (bytes ++ behind))
-plain_trim gap behind bytes before after plain =
-    let visible = each_weaker IsPlain IsVisible (λ b is. is.0) bytes plain in
-    between_blanks gap behind bytes bytes (before, after) (visible_utf8 bytes visible)
-    (visible_trim bytes visible)
-
--- plain bytes are written as they stand
-pub plain_kept : (bytes : List ℕ) → Each IsPlain bytes → filter no_blank bytes ≡ bytes
-plain_kept bytes plain = text_kept bytes (each_weaker IsPlain (λ b. 32 < b) (λ b is. is.0.0) bytes plain)
+-- plain bytes are characters, and their own trim
+pub plain_text : (bytes : List ℕ) → Each IsPlain bytes → IsCharText bytes × IsTrimOf bytes bytes
+plain_text bytes plain =
+    let visible = each_weaker IsPlain IsVisible (λ b is. is.0) bytes plain in (
+      record {
+        bytes = each_weaker IsPlain IsCharByte (λ b is. (is.0.0, is.1)) bytes plain;
+        utf8 = visible_utf8 bytes visible;
+      },
+      visible_trim bytes visible,
+    )
 
 pub token_line : (token text : List ℕ) → rfc.IsStartGroupLine token text
-    → Reads (token_source token ∷ []) text
-token_line token text line =
-    let plain = token_plain token line.0 in
-    let value = each_weaker IsPlain IsValueByte plain_value token plain in
-    let k = keyed (codes "user-agent") token text (key_word (codes "user-agent") refl) value line.1 in
-    subst (λ value. Reads ((UserAgent token, value) ∷ []) text) (plain_kept token plain)
-    (reads_keyed (codes "user-agent") token text k kind.UserAgent token (0, omega arith, refl)
-    (plain_trim k.gap k.behind token k.gap_blank k.behind_blank plain))
+    → IsLineOf (token_source token) text
+token_line token text (is, line) =
+    let (chars, trim) = plain_text token (token_plain token is) in
+    record {
+      read = tt;
+      reads = keyed_reads kind.UserAgent token token text line chars trim (UserAgent token) (λ body. refl);
+    }
 
 -- ---- rules
 
 -- a text whose source line is a member's
 pub record MemberRead (member : rfc.Member) (text : List ℕ) : Type 0 where
   pub source : Source
-  pub is_source : IsSourceOf member source
-  pub reads : Reads (source ∷ []) text
+  pub is_line : IsLineOf source text
+  pub spelled : (parts : Parts) → with_source source parts ≡ with_member member parts
+  pub unlisted : (behind : List (List ℕ)) → with_address source behind ≡ behind
 
-given_rule : (value : List ℕ) (is_allow : Bool) → IsUtf8 value
-    → rule_with value is_allow ≡ Some (escaped value, is_allow)
-given_rule value is_allow utf8 = cond-true _ _ _ (is_utf8-from_IsUtf8 value utf8)
+disallow_line : (read body : List ℕ) → read ≢ [] → line_with kind.Disallow read body ≡ Disallow read
+disallow_line [] body some = absurd (some refl)
+disallow_line (b ∷ read) body some = refl
 
--- a text of characters that begins with a visible one
-abbrev IsBegun : List ℕ → Type 0
-IsBegun [] = ⊥
-IsBegun (b ∷ rest) = IsVisible b × IsCharText (b ∷ rest)
-
-begun : (b : ℕ) (bytes : List ℕ) → IsPlain b → rfc.IsPatternWith (b ∷ []) bytes → IsBegun bytes
-begun b bytes plain pattern =
-    subst IsBegun (sym pattern.whole) (
-      plain.0,
-      subst IsCharText pattern.whole (pattern_text b bytes (omega arith) (omega arith, plain.1) pattern),
-    )
+-- what is left of characters is UTF-8
+pub trim_is_utf8 : (text : List ℕ) → IsCharText text → is_utf8 (trimmed text) ≡ true
+trim_is_utf8 text chars =
+    is_utf8-from_IsUtf8 (trimmed text) (trim_utf8 text (trimmed text) chars.utf8 (trimmed_is_trim text))
 
 slash_plain : IsPlain 47
 slash_plain = ((omega arith, omega arith), λ e. omega arith)
@@ -112,125 +80,111 @@ slash_plain = ((omega arith, omega arith), λ e. omega arith)
 star_plain : IsPlain 42
 star_plain = ((omega arith, omega arith), λ e. omega arith)
 
-pub chars_kept : (text : List ℕ) → Each IsCharByte text → filter no_blank text ≡ text
-chars_kept text chars = text_kept text (each_weaker IsCharByte (λ b. 32 < b) (λ b is. is.0) text chars)
+-- a pattern that begins with a plain byte
+module _ (b : ℕ) (plain : IsPlain b) (pattern text : List ℕ)
+    (is : rfc.IsPatternWith (b ∷ []) pattern) where
+  abbrev begun : List ℕ
+  begun = b ∷ is.text
 
-allow_begun : (pattern text : List ℕ) → IsBegun pattern → rfc.IsKeyed (codes "allow") pattern text
-    → MemberRead (rfc.Allow pattern) text
-allow_begun [] text is line = absurd is
-allow_begun (b ∷ rest) text (visible, chars) line =
-    let pattern : List ℕ = b ∷ rest in
-    let k =
-    keyed (codes "allow") pattern text (key_word (codes "allow") refl)
-    (chars_value pattern chars.bytes) line in
-    let read = trimmed pattern in
-    let trim : IsTrimOf read pattern = trimmed_is_trim pattern in
-    let utf8 = trim_utf8 pattern read chars.utf8 trim in
-    let rule : Rule = (escaped read, true) in
-    record {
-      source = (Allow read, pattern);
-      is_source = record {
-        line = record { group = refl; gives = (rule, given_rule read true utf8, (read, trim, refl)) };
-        spelled = refl;
-      };
-      reads =
-          subst (λ value. Reads ((Allow read, value) ∷ []) text) (chars_kept pattern chars.bytes)
-          (reads_keyed (codes "allow") pattern text k kind.Allow read (0, omega arith, refl)
-          (between_blanks k.gap k.behind pattern read (k.gap_blank, k.behind_blank) chars.utf8 trim));
-    }
+  abbrev read : List ℕ
+  read = trimmed begun
 
-disallow_line : (read body : List ℕ) → read ≢ [] → line_with kind.Disallow read body ≡ Disallow read
-disallow_line [] body some = absurd (some refl)
-disallow_line (b ∷ read) body some = refl
+  chars : IsCharText begun
+  chars =
+      text_append (b ∷ []) is.text (plain_text (b ∷ []) (plain, tt)).0 (chars_text is.text is.is_text)
 
-disallow_begun : (pattern text : List ℕ) → IsBegun pattern → rfc.IsKeyed (codes "disallow") pattern text
-    → MemberRead (rfc.Disallow pattern) text
-disallow_begun [] text is line = absurd is
-disallow_begun (b ∷ rest) text (visible, chars) line =
-    let pattern : List ℕ = b ∷ rest in
-    let k =
-    keyed (codes "disallow") pattern text (key_word (codes "disallow") refl)
-    (chars_value pattern chars.bytes) line in
-    let read = trimmed pattern in
-    let trim : IsTrimOf read pattern = trimmed_is_trim pattern in
-    let utf8 = trim_utf8 pattern read chars.utf8 trim in
-    let rule : Rule = (escaped read, false) in
-    record {
-      source = (Disallow read, pattern);
-      is_source = record {
-        line = record { group = refl; gives = (rule, given_rule read false utf8, (read, trim, refl)) };
-        spelled = refl;
-      };
-      reads =
-          subst (λ value. Reads ((Disallow read, value) ∷ []) text) (chars_kept pattern chars.bytes)
-          (subst (λ l. Reads (filter is_not_raw ((l, filter no_blank pattern) ∷ [])) text)
-          (disallow_line read k.body (trim_some b rest read visible trim))
-          (reads_keyed (codes "disallow") pattern text k kind.Disallow read (0, omega arith, refl)
-          (between_blanks k.gap k.behind pattern read (k.gap_blank, k.behind_blank) chars.utf8 trim)));
-    }
+  allow_begun : rfc.IsKeyed (codes "allow") pattern text → MemberRead (rfc.Allow pattern) text
+  allow_begun = subst (λ p. rfc.IsKeyed (codes "allow") p text → MemberRead (rfc.Allow p) text)
+      (sym is.whole) (λ line. record {
+        source = (Allow read, begun);
+        is_line = record {
+          read = rw (trim_is_utf8 begun chars) (read, trimmed_is_trim begun, refl);
+          reads =
+              keyed_reads kind.Allow begun read text line chars (trimmed_is_trim begun) (Allow read)
+              (λ body. refl);
+        };
+        spelled = λ parts. refl;
+        unlisted = λ behind. refl;
+      })
 
-allow_empty : (value text : List ℕ) → Each IsBlank value → rfc.IsKeyed (codes "allow") value text
-    → MemberRead (rfc.Allow []) text
-allow_empty value text all line =
-    let k =
-    keyed (codes "allow") value text (key_word (codes "allow") refl) (blanks_value value all) line in
-    let rule : Rule = ([], true) in
+  disallow_begun : rfc.IsKeyed (codes "disallow") pattern text → MemberRead (rfc.Disallow pattern) text
+  disallow_begun = subst (λ p. rfc.IsKeyed (codes "disallow") p text → MemberRead (rfc.Disallow p) text)
+      (sym is.whole) (λ line. record {
+        source = (Disallow read, begun);
+        is_line = record {
+          read = rw (trim_is_utf8 begun chars) (read, trimmed_is_trim begun, refl);
+          reads =
+              keyed_reads kind.Disallow begun read text line chars (trimmed_is_trim begun) (Disallow read)
+              (λ body. disallow_line read body (trim_some b is.text read plain.0 (trimmed_is_trim begun)));
+        };
+        spelled = λ parts. refl;
+        unlisted = λ behind. refl;
+      })
+
+-- a value of blanks is an empty value behind them
+emptied : (word value text : List ℕ) → Each IsBlank value → rfc.IsKeyed word value text
+    → rfc.IsKeyed word [] text
+emptied word value text all line = record {
+  margin = line.margin;
+  key = line.key;
+  blanks = line.blanks;
+  gap = line.gap ++ value;
+  eol = line.eol;
+  whole = line.whole ∙ simp append_assoc;
+  margin_blank = line.margin_blank;
+  is_key = line.is_key;
+  blanks_blank = line.blanks_blank;
+  gap_blank = each_append IsBlank line.gap value line.gap_blank all;
+  is_eol = line.is_eol;
+}
+
+allow_empty : (text : List ℕ) → rfc.IsKeyed (codes "allow") [] text → MemberRead (rfc.Allow []) text
+allow_empty text line =
+    let (chars, trim) = plain_text [] tt in
     record {
       source = (Allow [], []);
-      is_source = record {
-        line = record {
-          group = refl;
-          gives = (rule, given_rule [] true IsUtf8-nil, ([], visible_trim [] tt, refl));
-        };
-        spelled = refl;
+      is_line = record {
+        read = rw (is_utf8-from_IsUtf8 [] IsUtf8-nil) ([], trim, refl);
+        reads = keyed_reads kind.Allow [] [] text line chars trim (Allow []) (λ body. refl);
       };
-      reads =
-          subst (λ v. Reads ((Allow [], v) ∷ []) text) (blanks_gone value all)
-          (reads_keyed (codes "allow") value text k kind.Allow [] (0, omega arith, refl)
-          (blank_trim k.gap value k.behind k.gap_blank all k.behind_blank));
+      spelled = λ parts. refl;
+      unlisted = λ behind. refl;
     }
 
-disallow_empty : (value text : List ℕ) → Each IsBlank value → rfc.IsKeyed (codes "disallow") value text
+disallow_empty : (text : List ℕ) → rfc.IsKeyed (codes "disallow") [] text
     → MemberRead (rfc.Disallow []) text
-disallow_empty value text all line =
-    let k =
-    keyed (codes "disallow") value text (key_word (codes "disallow") refl)
-    (blanks_value value all) line in
+disallow_empty text line =
+    let (chars, trim) = plain_text [] tt in
     let slash = codes "/" in
-    let rule : Rule = (slash, true) in
-    let utf8 : IsUtf8 slash = (char_text slash (inl (inr (inr (omega arith, omega arith))))).utf8 in
     record {
       source = (Allow slash, []);
-      is_source = record {
-        line = record { group = refl; gives = (rule, given_rule slash true utf8, refl) };
-        spelled = refl;
+      is_line = record {
+        read = rw (is_utf8-from_IsUtf8 slash (plain_text slash (slash_plain, tt)).0.utf8) refl;
+        reads = keyed_reads kind.Disallow [] [] text line chars trim (Allow slash) (λ body. refl);
       };
-      reads =
-          subst (λ v. Reads ((Allow slash, v) ∷ []) text) (blanks_gone value all)
-          (reads_keyed (codes "disallow") value text k kind.Disallow [] (0, omega arith, refl)
-          (blank_trim k.gap value k.behind k.gap_blank all k.behind_blank));
+      spelled = λ parts. refl;
+      unlisted = λ behind. refl;
     }
 
 pub rule_line : (member : rfc.Member) (text : List ℕ) → rfc.IsRule member text → MemberRead member text
 rule_line (rfc.Delay number) text rule = absurd rule
 rule_line (rfc.Allow pattern) text rule = elim rule.is_pattern [
-  | inl path ↦
-      subst (λ p. MemberRead (rfc.Allow p) text) (sym path.1)
-      (allow_begun rule.value text (begun 47 rule.value slash_plain path.0) rule.is_line)
-  | inr none ↦ subst (λ p. MemberRead (rfc.Allow p) text) (sym none.1)
-      (allow_empty rule.value text none.0 rule.is_line)
+  | inl (path, same) ↦
+      subst (λ p. MemberRead (rfc.Allow p) text) (sym same)
+      (allow_begun 47 slash_plain rule.value text path rule.is_line)
+  | inr (blanks, none) ↦ subst (λ p. MemberRead (rfc.Allow p) text) (sym none)
+      (allow_empty text (emptied (codes "allow") rule.value text blanks rule.is_line))
 ]
 rule_line (rfc.Disallow pattern) text rule = elim rule.is_pattern [
-  | inl path ↦
-      subst (λ p. MemberRead (rfc.Disallow p) text) (sym path.1)
-      (disallow_begun rule.value text (begun 47 rule.value slash_plain path.0) rule.is_line)
-  | inr none ↦ subst (λ p. MemberRead (rfc.Disallow p) text) (sym none.1)
-      (disallow_empty rule.value text none.0 rule.is_line)
+  | inl (path, same) ↦
+      subst (λ p. MemberRead (rfc.Disallow p) text) (sym same)
+      (disallow_begun 47 slash_plain rule.value text path rule.is_line)
+  | inr (blanks, none) ↦ subst (λ p. MemberRead (rfc.Disallow p) text) (sym none)
+      (disallow_empty text (emptied (codes "disallow") rule.value text blanks rule.is_line))
 ]
 
 pub star_line : (member : rfc.Member) (text : List ℕ) → rfc.IsStarRule member text
     → MemberRead member text
 star_line (rfc.Delay number) text rule = absurd rule
-star_line (rfc.Allow pattern) text rule = allow_begun pattern text (begun 42 pattern star_plain rule.0) rule.1
-star_line (rfc.Disallow pattern) text rule =
-    disallow_begun pattern text (begun 42 pattern star_plain rule.0) rule.1
+star_line (rfc.Allow pattern) text (is, line) = allow_begun 42 star_plain pattern text is line
+star_line (rfc.Disallow pattern) text (is, line) = disallow_begun 42 star_plain pattern text is line

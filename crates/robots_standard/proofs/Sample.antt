@@ -1,25 +1,19 @@
--- The samples in `specs/Rfc9309Sample.antt` are files of the syntax, line by line.
-use Rattle.std.proofs.Common.{◌≡◌, inl, inr, ℕ, Bool, true, false, not, List, [], ◌∷◌, ◌++◌}
+-- The samples in `specs/Sample.antt` are files of the syntax, line by line.
+use Rattle.std.proofs.Common.{◌≡◌, ◌⊎◌, inl, inr, ℕ, Bool, true, not, List, [], ◌∷◌}
+use Rattle.std.proofs.Common.{◌++◌}
 use Rattle.std.proofs.Common.{codes, ◌==◌, ◌||◌, ◌&&◌, bytes_eq, flat_map, drop, nat_le, refl, ap}
 use Rattle.std.proofs.Common.{arith}
 use Rattle.std.specs.List.{AllByRecursion as Each, Contains, list_all}
-use Rattle.std.proofs.lemmas.Bool.{and_parts, cases_Bool, eqb-true, Decides.nat_tests}
-use Rattle.std.proofs.lemmas.List.Elements.{All-contains, All-from_recursion}
+use Rattle.std.proofs.lemmas.Bool.{false≢true, Decides.nat_tests}
+use Rattle.std.proofs.lemmas.List.{Elements.All-contains, Sums.AllPass-from_list_all}
 use Rattle.robots_standard.specs.Sample.{cr, cr_lf, lf, path}
+use Rattle.robots_standard.proofs.{EachLemmas.passing, WordLemmas.identifier}
 use Rattle.robots_standard.proofs.BareLemmas.{group_is_wide, repeats_weaker}
 use Rattle.robots_standard.proofs.SyntaxLemmas.{repeats_both, repeats_none, repeats_one}
 use Rattle.robots_standard.specs.Rfc9309 as rfc
 use Rattle.robots_standard.specs.Sample as sample
 
 -- ---- texts whose parts pass a test, as is computed
-
-passing : {X : Type 0} (P : X → Type 0) (test : X → Bool) → ((x : X) → test x ≡ true → P x)
-    → (xs : List X) → list_all test xs ≡ true
-    → Each P xs
-passing P test is [] all = tt
-passing P test is (x ∷ xs) all =
-    let both = and_parts (test x) (list_all test xs) all in
-    (is x both.0, passing P test is xs both.1)
 
 -- pieces of one byte each
 singles : (P : List ℕ → Type 0) (text : List ℕ) → Each (λ b. P (b ∷ [])) text → rfc.IsMany P text
@@ -36,13 +30,7 @@ abbrev is_one : ℕ → Bool
 is_one b = nat_le 0x21 b && (nat_le b 0x7F && not (b == 0x23))
 
 one : (b : ℕ) → is_one b ≡ true → rfc.IsUtf8CharNoctl (b ∷ [])
-one b is = elim (cases_Bool (b == 0x21)) [
-  | inl e ↦ inl (inl (eqb-true b 0x21 e))
-  | inr no_first ↦ elim (cases_Bool (b == 0x22)) [
-    | inl e ↦ inl (inr (inl (eqb-true b 0x22 e)))
-    | inr other ↦ inl (inr (inr (grind (arith, nat_tests), grind (arith, nat_tests))))
-  ]
-]
+one b is = inl (grind (arith, nat_tests))
 
 -- characters of one byte
 ones : (text : List ℕ) → list_all is_one text ≡ true → rfc.IsMany rfc.IsUtf8CharNoctl text
@@ -52,35 +40,17 @@ abbrev is_remark : ℕ → Bool
 is_remark b = is_one b || ((b == 0x20 || b == 0x09) || b == 0x23)
 
 remark : (b : ℕ) → is_remark b ≡ true → rfc.IsCommentPiece (b ∷ [])
-remark b is = elim (cases_Bool (is_one b)) [
+remark b is = elim (at b is) [
   | inl e ↦ inl (one b e)
-  | inr no_first ↦ elim (cases_Bool (b == 0x20)) [
-    | inl e ↦ inr (inl (b, inl (eqb-true b 0x20 e), refl))
-    | inr none ↦ elim (cases_Bool (b == 0x09)) [
-      | inl e ↦ inr (inl (b, inr (eqb-true b 0x09 e), refl))
-      | inr other ↦ inr (inr (ap (λ c. c ∷ []) (grind (arith, nat_tests))))
-    ]
-  ]
+  | inr (inl blank) ↦ inr (inl (b, blank, refl))
+  | inr (inr hash) ↦ inr (inr (ap (λ c. c ∷ []) hash))
 ]
+  where
+    at : (b : ℕ) → is_remark b ≡ true → (is_one b ≡ true) ⊎ (rfc.IsWs b ⊎ (b ≡ 0x23))
+    at b is = grind (arith, nat_tests)
 
 remarks : (text : List ℕ) → list_all is_remark text ≡ true → rfc.IsMany rfc.IsCommentPiece text
 remarks text all = singles rfc.IsCommentPiece text (passing _ is_remark remark text all)
-
-abbrev is_letter : ℕ → Bool
-is_letter b =
-    (b == 0x2D || b == 0x5F) || ((nat_le 0x41 b && nat_le b 0x5A) || (nat_le 0x61 b && nat_le b 0x7A))
-
-letter : (b : ℕ) → is_letter b ≡ true → rfc.IsIdentifierByte b
-letter b is = elim (cases_Bool (b == 0x2D)) [
-  | inl e ↦ inl (eqb-true b 0x2D e)
-  | inr no_first ↦ elim (cases_Bool (b == 0x5F)) [
-    | inl e ↦ inr (inr (inl (eqb-true b 0x5F e)))
-    | inr none ↦ elim (cases_Bool (nat_le b 0x5A)) [
-      | inl low ↦ inr (inl (grind (arith, nat_tests), grind (arith, nat_tests)))
-      | inr high ↦ inr (inr (inr (grind (arith, nat_tests), grind (arith, nat_tests))))
-    ]
-  ]
-]
 
 -- ---- the parts of lines
 
@@ -124,9 +94,9 @@ comment blanks text all is = record {
 }
 
 -- a key, a colon, a space, a value and an end
-keyed : (word key value eol : List ℕ) → rfc.IsLiteral word key → rfc.IsEol eol
+keyed : {word value : List ℕ} (key eol : List ℕ) → rfc.IsLiteral word key → rfc.IsEol eol
     → rfc.IsKeyed word value (key ++ (codes ": " ++ (value ++ eol)))
-keyed word key value eol is is_eol = record {
+keyed key eol is is_eol = record {
   margin = [];
   key = key;
   blanks = [];
@@ -141,19 +111,16 @@ keyed word key value eol is is_eol = record {
 }
 
 -- the same with a line feed at its end
-fed : (word key value : List ℕ) → rfc.IsLiteral word key
+fed : {word value : List ℕ} (key : List ℕ) → rfc.IsLiteral word key
     → rfc.IsKeyed word value (key ++ (codes ": " ++ (value ++ lf)))
-fed word key value is = keyed word key value lf is lf_end
-
-token : (text : List ℕ) → list_all is_letter text ≡ true → Each rfc.IsIdentifierByte text
-token text all = passing rfc.IsIdentifierByte is_letter letter text all
+fed key is = keyed key lf is lf_end
 
 -- ---- the lines of the standard's syntax
 
 bot : rfc.IsStartGroupLine (codes "bot") (codes "user-agent: bot" ++ cr_lf)
 bot = (
-  inl (token (codes "bot") refl),
-  keyed (codes "user-agent") (codes "user-agent") (codes "bot") cr_lf refl cr_lf_end,
+  inl (identifier (codes "bot") refl),
+  keyed (codes "user-agent") cr_lf refl cr_lf_end,
 )
 
 more : rfc.IsEmptyLine (codes "\t# more of it # here" ++ lf)
@@ -161,7 +128,7 @@ more = comment (codes "\t") (codes " more of it # here") tab refl
 
 other_bot : rfc.IsStartGroupLine (codes "other-bot_x") (codes " User-Agent\t:\tother-bot_x " ++ cr)
 other_bot = (
-  inl (token (codes "other-bot_x") refl),
+  inl (identifier (codes "other-bot_x") refl),
   record {
     margin = codes " ";
     key = codes "User-Agent";
@@ -194,24 +161,21 @@ is_path = record {
   whole = refl;
 }
   where
-    tail : (b : ℕ) → nat_le 0x80 b && nat_le b 0xBF ≡ true → rfc.IsUtf8Tail b
-    tail b is = (grind (arith, nat_tests), grind (arith, nat_tests))
-
     of_two : rfc.IsUtf8CharNoctl (0xC3 ∷ 0xB6 ∷ [])
-    of_two = inr (inl ((omega arith, omega arith), tail 0xB6 refl))
+    of_two = grind arith
 
     of_three : rfc.IsUtf8CharNoctl (0xE3 ∷ 0x83 ∷ 0x84 ∷ [])
-    of_three = inr (inr (inl (inr (inl ((omega arith, omega arith), tail 0x83 refl, tail 0x84 refl)))))
+    of_three = grind arith
 
     of_four : rfc.IsUtf8CharNoctl (0xF0 ∷ 0x9F ∷ 0xA4 ∷ 0x96 ∷ [])
-    of_four = inr (inr (inr (inl (refl, (omega arith, omega arith), tail 0xA4 refl, tail 0x96 refl))))
+    of_four = grind arith
 
 allow : rfc.IsRule (rfc.Allow path) (codes "allow: " ++ path ++ codes " # behind" ++ lf)
 allow = record {
   value = path;
   is_pattern = inl (is_path, refl);
   is_line =
-      keyed (codes "allow") (codes "allow") path (codes " # behind" ++ lf) refl
+      keyed (codes "allow") (codes " # behind" ++ lf) refl
       (comment (codes " ") (codes " behind") space refl);
 }
 
@@ -219,21 +183,20 @@ disallow_none : rfc.IsRule (rfc.Disallow []) (codes "Disallow: " ++ cr_lf)
 disallow_none = record {
   value = [];
   is_pattern = inr (tt, refl);
-  is_line =
-      keyed (codes "disallow") (codes "Disallow") [] cr_lf refl cr_lf_end;
+  is_line = keyed (codes "Disallow") cr_lf refl cr_lf_end;
 }
 
 empty : rfc.IsEmptyLine lf
 empty = lf_end
 
 star : rfc.IsStartGroupLine (codes "*") (codes "USER-AGENT: *" ++ lf)
-star = (inr refl, fed (codes "user-agent") (codes "USER-AGENT") (codes "*") refl)
+star = (inr refl, fed (codes "USER-AGENT") refl)
 
 disallow_all : rfc.IsRule (rfc.Disallow (codes "/")) (codes "disallow: /" ++ lf)
 disallow_all = record {
   value = codes "/";
   is_pattern = inl (record { text = []; is_text = ones [] refl; whole = refl }, refl);
-  is_line = fed (codes "disallow") (codes "disallow") (codes "/") refl;
+  is_line = fed (codes "disallow") refl;
 }
 
 -- ---- the further lines
@@ -244,25 +207,25 @@ front = comment [] (codes " in front") tt refl
 delay : rfc.IsDelayLine (rfc.Delay (codes "2")) (codes "crawl-delay: 2" ++ cr_lf)
 delay = (
   inl ((omega arith, omega arith), tt),
-  keyed (codes "crawl-delay") (codes "crawl-delay") (codes "2") cr_lf refl cr_lf_end,
+  keyed (codes "crawl-delay") cr_lf refl cr_lf_end,
 )
 
 wide_bot : rfc.IsStartGroupLine (codes "Bot") (codes "user-agent: Bot" ++ lf)
 wide_bot = (
-  inl (token (codes "Bot") refl),
-  fed (codes "user-agent") (codes "user-agent") (codes "Bot") refl,
+  inl (identifier (codes "Bot") refl),
+  fed (codes "user-agent") refl,
 )
 
 sitemap : rfc.IsSitemapLine (codes "https://a/s") (codes "Sitemap: https://a/s" ++ lf)
 sitemap = (
   ones (codes "https://a/s") refl,
-  fed (codes "sitemap") (codes "Sitemap") (codes "https://a/s") refl,
+  fed (codes "Sitemap") refl,
 )
 
 gif : rfc.IsStarRule (rfc.Disallow (codes "*.gif$")) (codes "Disallow: *.gif$" ++ cr)
 gif = (
   record { text = codes ".gif$"; is_text = ones (codes ".gif$") refl; whole = refl },
-  keyed (codes "disallow") (codes "Disallow") (codes "*.gif$") cr refl (end [] cr tt (inl refl)),
+  keyed (codes "Disallow") cr refl (end [] cr tt (inl refl)),
 )
 
 fraction : rfc.IsDelayLine (rfc.Delay (codes "1.5")) (codes "Crawl-delay: 1.5" ++ lf)
@@ -274,7 +237,7 @@ fraction = (
     is_fraction = ((omega arith, omega arith), tt);
     whole = refl;
   }),
-  fed (codes "crawl-delay") (codes "Crawl-delay") (codes "1.5") refl,
+  fed (codes "Crawl-delay") refl,
 )
 
 host : rfc.IsOtherLine (codes "Host: a # b" ++ lf)
@@ -286,7 +249,7 @@ host = record {
   nl = lf;
   whole = refl;
   margin_blank = tt;
-  is_name = token (codes "Host") refl;
+  is_name = identifier (codes "Host") refl;
   is_other = other;
   blanks_blank = tt;
   is_value = remarks (codes " a # b") refl;
@@ -298,11 +261,8 @@ host = record {
 
     other : ¬ Contains rfc.names_read (codes "host")
     other has =
-        let P : List ℕ → Type 0 = λ name. is_other name ≡ true in
-        let each = passing P is_other (λ name is. is) rfc.names_read refl in
-        let differs : false ≡ true =
-        All-contains P rfc.names_read (codes "host") (All-from_recursion P rfc.names_read each) has in
-        cc
+        let all = AllPass-from_list_all is_other rfc.names_read refl in
+        false≢true (All-contains (λ name. is_other name ≡ true) rfc.names_read (codes "host") all has)
 
 -- ---- lines one after another
 
@@ -331,8 +291,7 @@ module _ {X : Type 0} (P : X → List ℕ → Type 0) (Q : List ℕ → Type 0) 
   repeats : (rows : List (Row P Q)) → rfc.Repeats (rfc.IsOneOr P Q) (items_in rows) (text_in rows)
   repeats [] = repeats_none (rfc.IsOneOr P Q)
   repeats (row ∷ rows) =
-      repeats_both (rfc.IsOneOr P Q) row.items (items_in rows) row.text (text_in rows)
-      (repeats_one (rfc.IsOneOr P Q) row.items row.text row.is) (repeats rows)
+      repeats_both (repeats_one (rfc.IsOneOr P Q) row.items row.text row.is) (repeats rows)
 
 module _ (Line : rfc.Member → List ℕ → Type 0) (Gap : List ℕ → Type 0) where
   group : (token start : List ℕ) → rfc.IsStartGroupLine token start
@@ -399,8 +358,7 @@ is_file =
         whole = refl;
       };
       are_groups =
-          repeats_both (rfc.IsOneOr rfc.IsWideGroup rfc.IsSkipped) _ sample.bare_groups _ sample.bare_text
-          (repeats rfc.IsWideGroup rfc.IsSkipped (item _ _ wide ∷ []))
+          repeats_both (repeats rfc.IsWideGroup rfc.IsSkipped (item _ _ wide ∷ []))
           (repeats_weaker rfc.IsGroup rfc.IsWideGroup group_is_wide sample.bare_groups sample.bare_text
           is_robotstxt);
     })

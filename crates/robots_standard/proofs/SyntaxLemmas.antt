@@ -1,7 +1,8 @@
 -- Texts that repeat a production, put together.
-use Rattle.std.proofs.Common.{ℕ, List, [], ◌∷◌, ◌++◌, sym, refl, append-nil}
+use Rattle.std.proofs.Common.{ℕ, List, [], ◌∷◌, ◌++◌, flat_map, sym, refl, append-nil}
+use Rattle.std.specs.List.{AllByRecursion as Each}
 use Rattle.std.proofs.lemmas.Grind.{flat_map-append}
-use Rattle.robots_standard.specs.Rfc9309.{Piece, Repeats}
+use Rattle.robots_standard.specs.Rfc9309.{IsMany, Piece, Repeats}
 use Rattle.texting_robots.proofs.TrimLemmas.{each_append}
 
 module _ {X : Type 0} (P : List X → List ℕ → Type 0) where
@@ -16,15 +17,28 @@ module _ {X : Type 0} (P : List X → List ℕ → Type 0) where
     whole = sym (append-nil text);
   }
 
-  pub repeats_both : (items more : List X) (text later : List ℕ) → Repeats P items text
-      → Repeats P more later
-      → Repeats P (items ++ more) (text ++ later)
-  repeats_both items more text later is also =
-      let spelled = flat_map-append (λ (piece : Piece X). piece.items) is.pieces also.pieces in
-      let whole = flat_map-append (λ (piece : Piece X). piece.bytes) is.pieces also.pieces in
-      record {
-        pieces = is.pieces ++ also.pieces;
-        each = each_append _ is.pieces also.pieces is.each also.each;
-        spelled = cc;
-        whole = cc;
-      }
+pub repeats_both : {X : Type 0} {P : List X → List ℕ → Type 0} {items more : List X}
+    {text later : List ℕ}
+    → Repeats P items text → Repeats P more later
+    → Repeats P (items ++ more) (text ++ later)
+repeats_both {X} is also =
+    let spelled = flat_map-append (λ (piece : Piece X). piece.items) is.pieces also.pieces in
+    let whole = flat_map-append (λ (piece : Piece X). piece.bytes) is.pieces also.pieces in
+    record {
+      pieces = is.pieces ++ also.pieces;
+      each = each_append _ is.pieces also.pieces is.each also.each;
+      spelled = cc;
+      whole = cc;
+    }
+
+-- what holds of the pieces of a text, and of texts put together, holds of the text
+pub many : {P Q : List ℕ → Type 0} → Q []
+    → ((text later : List ℕ) → Q text → Q later → Q (text ++ later))
+    → ((piece : List ℕ) → P piece → Q piece) → (text : List ℕ) → IsMany P text
+    → Q text
+many {P} {Q} none both one text is = rw is.whole (joined is.pieces is.each)
+  where
+    joined : (pieces : List (List ℕ)) → Each P pieces
+        → Q (flat_map (λ (piece : List ℕ). piece) pieces)
+    joined [] all = none
+    joined (piece ∷ pieces) all = both piece _ (one piece all.0) (joined pieces all.1)

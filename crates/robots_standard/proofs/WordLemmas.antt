@@ -1,10 +1,13 @@
 -- Words of identifier bytes, and the spellings of keys.
 use Rattle.std.proofs.Common.{◌≡◌, ◌≢◌, ◌⊎◌, inl, inr, ℕ, ◌<◌, nat_le, Bool, true}
-use Rattle.std.proofs.Common.{◌==◌, ◌&&◌, ◌||◌, List, [], ◌∷◌, ◌++◌, slice_index_or}
-use Rattle.std.proofs.Common.{codes, sym, refl, subst, append-nil, arith}
-use Rattle.std.specs.List.{AllByRecursion as Each, Contains}
-use Rattle.std.proofs.lemmas.Bool.{and_parts, eqb-true, or_cases, Decides.nat_tests}
-use Rattle.std.proofs.lemmas.List.Elements.{All-contains, All-from_recursion}
+use Rattle.std.proofs.Common.{false, ◌==◌, ◌&&◌, ◌||◌, List, [], ◌∷◌, ◌++◌, bytes_eq}
+use Rattle.std.proofs.Common.{codes, refl, subst, arith}
+use Rattle.std.specs.List.{AllByRecursion as Each, Contains, list_all, list_any}
+use Rattle.std.proofs.lemmas.Bool.{and_parts, false≢true, or_cases, Decides.nat_tests}
+use Rattle.std.proofs.lemmas.List.{Elements.All-contains, Elements.All-from_recursion}
+use Rattle.std.proofs.lemmas.{List.Sums.AllPass-from_list_all, Map.Views.Contains-from_any}
+use Rattle.std.proofs.lemmas.Slice.Eq.{bytes_eq-Decides}
+use Rattle.robots_standard.proofs.EachLemmas.{passing}
 use Rattle.texting_robots.specs.{declared.parser.statement.Kind.Kind, Statement.spellings}
 use Rattle.texting_robots.specs.declared.parser.statement.Kind.TheVariants as kind
 use Rattle.robots_standard.specs.Rfc9309 as rfc
@@ -39,131 +42,88 @@ same_word (b ∷ word) [] rest (d ∷ more) is also e =
     absurd (also.1 (subst rfc.IsIdentifierByte first is.0.0))
 
 pub identifier_bounds : (b : ℕ) → rfc.IsIdentifierByte b → (44 < b) × (b < 123) × (b ≢ 58)
-identifier_bounds b (inl is) = (omega arith, omega arith, λ e. omega arith)
-identifier_bounds b (inr (inl is)) = (omega arith, omega arith, λ e. omega arith)
-identifier_bounds b (inr (inr (inl is))) = (omega arith, omega arith, λ e. omega arith)
-identifier_bounds b (inr (inr (inr is))) = (omega arith, omega arith, λ e. omega arith)
+identifier_bounds b is = (omega arith, omega arith, λ e. omega arith)
 
 -- ---- words that are computed
 
-abbrev is_between : ℕ → ℕ → ℕ → Bool
-is_between lower upper b = nat_le lower b && nat_le b upper
-
-abbrev is_identifier_byte : ℕ → Bool
-is_identifier_byte b = b == 0x2D || (is_between 0x41 0x5A b || (b == 0x5F || is_between 0x61 0x7A b))
-
-abbrev all_identifier : List ℕ → Bool
-all_identifier [] = true
-all_identifier (b ∷ word) = is_identifier_byte b && all_identifier word
-
-between : (lower upper b : ℕ) → is_between lower upper b ≡ true → rfc.IsBetween lower upper b
-between lower upper b e =
-    let both = and_parts (nat_le lower b) (nat_le b upper) e in
-    let first : nat_le lower b ≡ true = both.0 in
-    let second : nat_le b upper ≡ true = both.1 in
-    (grind (arith, nat_tests), grind (arith, nat_tests))
+abbrev pub is_identifier_byte : ℕ → Bool
+is_identifier_byte b =
+    (b == 0x2D || b == 0x5F) || ((nat_le 0x41 b && nat_le b 0x5A) || (nat_le 0x61 b && nat_le b 0x7A))
 
 identifier_byte : (b : ℕ) → is_identifier_byte b ≡ true → rfc.IsIdentifierByte b
-identifier_byte b e =
-    first (or_cases (b == 0x2D) (is_between 0x41 0x5A b || (b == 0x5F || is_between 0x61 0x7A b)) e)
-  where
-    third : ((b == 0x5F) ≡ true) ⊎ (is_between 0x61 0x7A b ≡ true) → rfc.IsIdentifierByte b
-    third (inl is) = inr (inr (inl (eqb-true b 0x5F is)))
-    third (inr is) = inr (inr (inr (between 0x61 0x7A b is)))
+identifier_byte b is = grind (arith, nat_tests)
 
-    second : (is_between 0x41 0x5A b ≡ true) ⊎ ((b == 0x5F || is_between 0x61 0x7A b) ≡ true)
-        → rfc.IsIdentifierByte b
-    second (inl is) = inr (inl (between 0x41 0x5A b is))
-    second (inr e) = third (or_cases (b == 0x5F) (is_between 0x61 0x7A b) e)
-
-    first : ((b == 0x2D) ≡ true)
-        ⊎ ((is_between 0x41 0x5A b || (b == 0x5F || is_between 0x61 0x7A b)) ≡ true)
-        → rfc.IsIdentifierByte b
-    first (inl is) = inl (eqb-true b 0x2D is)
-    first (inr e) = second (or_cases (is_between 0x41 0x5A b) (b == 0x5F || is_between 0x61 0x7A b) e)
-
-identifier : (word : List ℕ) → all_identifier word ≡ true → Each rfc.IsIdentifierByte word
-identifier [] e = tt
-identifier (b ∷ word) e =
-    let both = and_parts (is_identifier_byte b) (all_identifier word) e in
-    (identifier_byte b both.0, identifier word both.1)
+pub identifier : (word : List ℕ) → list_all is_identifier_byte word ≡ true
+    → Each rfc.IsIdentifierByte word
+identifier = passing rfc.IsIdentifierByte is_identifier_byte identifier_byte
 
 -- ---- the spellings of keys
 
--- a word, and nothing behind it, or a space and a letter
-pub record IsSpelled (spelling : List ℕ) : Type 0 where
+-- a word, a space and a letter, and what stands behind them
+pub record IsTwoWords (spelling : List ℕ) : Type 0 where
   pub word : List ℕ
-  pub behind : List ℕ
-  pub whole : spelling ≡ word ++ behind
-  pub some : word ≢ []
-  pub is_word : Each rfc.IsIdentifierByte word
-  pub is_behind : ((behind ≡ []) × Contains rfc.names_read word)
-      ⊎ ((b : ℕ) × (back : List ℕ) × (behind ≡ 32 ∷ b ∷ back) × rfc.IsIdentifierByte b)
+  pub letter : ℕ
+  pub back : List ℕ
+  pub whole : spelling ≡ word ++ 32 ∷ letter ∷ back
+  pub is_word : rfc.IsIdentifier word
+  pub is_letter : rfc.IsIdentifierByte letter
 
-one_word : (b : ℕ) (word : List ℕ) (place : ℕ) → all_identifier (b ∷ word) ≡ true → place < 13
-    → slice_index_or rfc.names_read place (b ∷ word) ≡ b ∷ word → IsSpelled (b ∷ word)
-one_word b word place is within there = record {
-  word = b ∷ word;
-  behind = [];
-  whole = sym (append-nil (b ∷ word));
-  some = λ e. cc;
-  is_word = identifier (b ∷ word) is;
-  is_behind = inl (refl, (place, within, there));
-}
+-- one word of those that are read, or two words
+abbrev pub IsSpelled : List ℕ → Type 0
+IsSpelled spelling = (rfc.IsIdentifier spelling × Contains rfc.names_read spelling) ⊎ IsTwoWords spelling
 
-two_words : (a : ℕ) (word : List ℕ) (b : ℕ) (back : List ℕ) → all_identifier (a ∷ word) ≡ true
-    → is_identifier_byte b ≡ true
-    → IsSpelled (a ∷ word ++ 32 ∷ b ∷ back)
-two_words a word b back is next = record {
-  word = a ∷ word;
-  behind = 32 ∷ b ∷ back;
-  whole = refl;
-  some = λ e. cc;
-  is_word = identifier (a ∷ word) is;
-  is_behind = inr (b, back, refl, identifier_byte b next);
-}
+abbrev is_one_word : List ℕ → Bool
+is_one_word [] = false
+is_one_word (b ∷ word) =
+    list_all is_identifier_byte (b ∷ word) && list_any (bytes_eq (b ∷ word)) rfc.names_read
 
-each_spelled : (kind : Kind) → Each IsSpelled (spellings kind)
-each_spelled kind.UserAgent = (
-  one_word 117 (codes "ser-agent") 0 refl (omega arith) refl,
-  (
-    two_words 117 (codes "ser") 97 (codes "gent") refl refl,
-    (one_word 117 (codes "seragent") 1 refl (omega arith) refl, tt),
-  ),
+abbrev two_words : List (List ℕ)
+two_words = codes "user agent" ∷ codes "site map" ∷ codes "crawl delay" ∷ []
+
+abbrev is_spelled : List ℕ → Bool
+is_spelled spelling = is_one_word spelling || list_any (bytes_eq spelling) two_words
+
+listed : (names : List (List ℕ)) (name : List ℕ) → list_any (bytes_eq name) names ≡ true
+    → Contains names name
+listed names name is = Contains-from_any (λ xs ys. (bytes_eq-Decides xs ys).0) name names is
+
+one_word : (word : List ℕ) → is_one_word word ≡ true
+    → rfc.IsIdentifier word × Contains rfc.names_read word
+one_word [] is = absurd (false≢true is)
+one_word (b ∷ word) is =
+    let both = and_parts (list_all is_identifier_byte (b ∷ word)) _ is in
+    (identifier (b ∷ word) both.0, listed rfc.names_read (b ∷ word) both.1)
+
+two : (b : ℕ) (word : List ℕ) (c : ℕ) (back : List ℕ)
+    → list_all is_identifier_byte (b ∷ c ∷ word) ≡ true
+    → IsTwoWords (b ∷ word ++ 32 ∷ c ∷ back)
+two b word c back is =
+    let letters = identifier (b ∷ c ∷ word) is in
+    record {
+      word = b ∷ word;
+      letter = c;
+      back = back;
+      whole = refl;
+      is_word = (letters.0, letters.1.1);
+      is_letter = letters.1.0;
+    }
+
+are_two : Each IsTwoWords two_words
+are_two = (
+  two 117 (codes "ser") 97 (codes "gent") refl,
+  (two 115 (codes "ite") 109 (codes "ap") refl, (two 99 (codes "rawl") 100 (codes "elay") refl, tt)),
 )
-each_spelled kind.Allow = (one_word 97 (codes "llow") 2 refl (omega arith) refl, tt)
-each_spelled kind.Disallow = (
-  one_word 100 (codes "isallow") 3 refl (omega arith) refl,
-  (
-    one_word 100 (codes "issallow") 4 refl (omega arith) refl,
-    (
-      one_word 100 (codes "issalow") 5 refl (omega arith) refl,
-      (
-        one_word 100 (codes "isalow") 6 refl (omega arith) refl,
-        (
-          one_word 100 (codes "iasllow") 7 refl (omega arith) refl,
-          (one_word 100 (codes "isallaw") 8 refl (omega arith) refl, tt),
-        ),
-      ),
-    ),
-  ),
-)
-each_spelled kind.Sitemap = (
-  one_word 115 (codes "itemap") 9 refl (omega arith) refl,
-  (
-    one_word 115 (codes "ite-map") 10 refl (omega arith) refl,
-    (two_words 115 (codes "ite") 109 (codes "ap") refl refl, tt),
-  ),
-)
-each_spelled kind.CrawlDelay = (
-  one_word 99 (codes "rawl-delay") 11 refl (omega arith) refl,
-  (
-    two_words 99 (codes "rawl") 100 (codes "elay") refl refl,
-    (one_word 99 (codes "rawldelay") 12 refl (omega arith) refl, tt),
-  ),
-)
+
+all_spelled : (kind : Kind) → list_all is_spelled (spellings kind) ≡ true
+all_spelled kind.UserAgent = refl
+all_spelled _ = refl
 
 pub spelled : (kind : Kind) (s : List ℕ) → Contains (spellings kind) s → IsSpelled s
-spelled kind s is =
-    All-contains IsSpelled (spellings kind) s
-    (All-from_recursion IsSpelled (spellings kind) (each_spelled kind)) is
+spelled kind s has =
+    let all = AllPass-from_list_all is_spelled (spellings kind) (all_spelled kind) in
+    let is = All-contains (λ s. is_spelled s ≡ true) (spellings kind) s all has in
+    elim (or_cases (is_one_word s) (list_any (bytes_eq s) two_words) is) [
+      | inl one ↦ inl (one_word s one)
+      | inr other ↦ inr (All-contains IsTwoWords two_words s
+          (All-from_recursion IsTwoWords two_words are_two) (listed two_words s other))
+    ]
