@@ -1,20 +1,24 @@
 // An allocator that refuses what it is told to refuse. It is loaded before a program, by LD_PRELOAD, and so stands in the place
-// of the C library's malloc, calloc, realloc and free. What it does is said by the environment:
+// of the C library's malloc, calloc, realloc and free, and of its read and write too. What it does is said by the environment:
 //
 //   REFUSE=N         the N-th request for memory is refused, counted from 1; with 0 none is
 //   REFUSE_LATER=1   and so are all requests that follow it
+//   FAIL_READ=N      the N-th read fails, as on a broken disk; with 0 none does
+//   FAIL_WRITE=N     and so does the N-th write
 //
-// As the program ends, "REQUESTS REFUSED LEFT" is written to the file descriptor 3: how many requests there were, how many of
-// them were refused, and how many blocks were given and not taken back.
+// As the program ends, "REQUESTS REFUSED LEFT FAILED" is written to the file descriptor 3: how many requests there were, how many
+// of them were refused, how many blocks were given and not taken back, and how many reads and writes failed so.
 //
 // No memory is given twice, so a growth always moves. New bytes are A5 and those of a block that was taken back are 5A: a read
 // of what was never written, or no longer belongs to the program, shows in its answers.
+#define _DEFAULT_SOURCE
 #include <errno.h>
 #include <stdbool.h>
 #include <stddef.h>
 #include <stdio.h>
 #include <stdlib.h>
 #include <string.h>
+#include <sys/syscall.h>
 #include <unistd.h>
 
 enum { ALIGNMENT = 16, ROOM = 1 << 28 };
@@ -103,17 +107,48 @@ void *calloc(size_t count, size_t size) {
     return block ? memset(block, 0, count * size) : NULL;
 }
 
+// Calls of one kind, of which one may be told to fail.
+struct calls {
+    long made, fail_at;
+};
+
+static struct calls reads, writes;
+static long failed;
+
+static bool fails(struct calls *calls) {
+    if (!is_on || ++calls->made != calls->fail_at)
+        return false;
+    failed++;
+    errno = EIO;
+    return true;
+}
+
+ssize_t read(int end, void *bytes, size_t length) {
+    return fails(&reads) ? -1 : syscall(SYS_read, end, bytes, length);
+}
+
+ssize_t write(int end, const void *bytes, size_t length) {
+    return fails(&writes) ? -1 : syscall(SYS_write, end, bytes, length);
+}
+
+// The number that a variable of the environment has, or 0.
+static long number_in(const char *name) {
+    const char *value = getenv(name);
+    return value ? atol(value) : 0;
+}
+
 __attribute__((constructor)) static void begin(void) {
-    const char *at = getenv("REFUSE"), *later = getenv("REFUSE_LATER");
-    refuse_at = at ? atol(at) : 0;
-    refuses_later_too = later && *later == '1';
+    refuse_at = number_in("REFUSE");
+    refuses_later_too = number_in("REFUSE_LATER") == 1;
+    reads.fail_at = number_in("FAIL_READ");
+    writes.fail_at = number_in("FAIL_WRITE");
     is_on = true;
 }
 
 __attribute__((destructor)) static void end(void) {
     char told[80];
     is_on = false;
-    int length = snprintf(told, sizeof told, "%ld %ld %ld\n", requests, refused, left);
+    int length = snprintf(told, sizeof told, "%ld %ld %ld %ld\n", requests, refused, left, failed);
     if (write(3, told, (size_t)length) != length)
         _exit(99);
 }
