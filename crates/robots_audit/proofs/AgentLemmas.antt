@@ -1,28 +1,62 @@
 -- Which agents a file names.
-use Rattle.std.proofs.Common.{◌≡◌, ℕ, ◌||◌, List, String, length, map, drop, ◌+◌, ◌<◌}
-use Rattle.std.proofs.Common.{slice_index_or, refl}
-use Rattle.std.proofs.Common.{bytes_eq, string_bytes}
-use Rattle.std.specs.Str.{str_to_ascii_lowercase}
-use Rattle.std.specs.declared.alloc.Global.{Global}
-use Rattle.std.proofs.lemmas.List.{drop_more}
-use Rattle.texting_robots.specs.declared.marks.MarkedLine.{MarkedLine}
-use Rattle.texting_robots.specs.Callers.{by_value, mark_by_value}
-use Rattle.robots_audit.specs.Audit.{is_among, with_name, with_names}
-use Rattle.robots_audit.specs.Rows.{lines_of}
+use Rattle.std.proofs.Common.{◌≡◌, ℕ, ◌||◌, Bool, true, false, List, [], ◌∷◌, ◌++◌, ap}
+use Rattle.std.proofs.Common.{bytes_eq, if◌then◌else◌, not, refl, subst, sym, ⊎_elim, ◌∙◌}
+use Rattle.std.specs.BTreeSet.{BTreeSet}
+use Rattle.std.specs.Str.{is_utf8, str_to_ascii_lowercase}
+use Rattle.std.proofs.Math.Bool.{or-false}
+use Rattle.std.proofs.lemmas.Bool.{cases_Bool}
+use Rattle.std.proofs.lemmas.List.{append-nil}
+use Rattle.std.proofs.lemmas.Slice.Eq.{bytes_eq-Decides}
+use Rattle.texting_robots.specs.Callers.{UserAgent}
+use Rattle.robots_audit.specs.Audit.{is_among}
+use Rattle.robots_audit.specs.Steps.Names.{AddsAgent, AddsName, HasAgents, Key, has_lowered}
+use Rattle.robots_audit.proofs.NameLemmas.{any_last}
 
--- whether a name is among these from one place on, by the one there
-pub among_next : (name : List ℕ) (names : List (String Global)) (at : ℕ) (other : String Global)
-    → at < length names
-    → is_among name (map string_bytes (drop at names))
-    ≡ (bytes_eq (str_to_ascii_lowercase (string_bytes (slice_index_or names at other)))
-    (str_to_ascii_lowercase name)
-    || is_among name (map string_bytes (drop (at + 1) names)))
-among_next name names at other below = rw (drop_more names at other below) refl
+-- a name that is among the others adds nothing to them
+absorbed : (names : List (List ℕ)) (name key : List ℕ) → is_among name names ≡ true
+    → (has_lowered key names || bytes_eq (str_to_ascii_lowercase name) key) ≡ has_lowered key names
+absorbed names name key is =
+    let lowered = str_to_ascii_lowercase name in
+    ⊎_elim
+    (λ same.
+    let has : has_lowered key names ≡ true =
+    subst (λ (k : List ℕ). has_lowered k names ≡ true) ((bytes_eq-Decides lowered key).0 same) is in
+    rw has refl)
+    (λ other. rw other (or-false (has_lowered key names)))
+    (cases_Bool (bytes_eq lowered key))
 
--- the names from one place on, by the line there
-pub names_next : (names : List (List ℕ)) (marks : List MarkedLine) (at : ℕ) (marked : MarkedLine)
-    → at < length marks
-    → with_names names (lines_of (map mark_by_value (drop at marks)))
-    ≡ with_names (with_name names (by_value (slice_index_or marks at marked).line))
-    (lines_of (map mark_by_value (drop (at + 1) marks)))
-names_next names marks at marked below = rw (drop_more marks at marked below) refl
+-- what names and one more have, which is put behind them unless it is among them
+one_more : (names : List (List ℕ)) (name key : List ℕ) (among : Bool) → among ≡ is_among name names
+    → (has_lowered key names || bytes_eq (str_to_ascii_lowercase name) key)
+    ≡ has_lowered key (if among then names else names ++ name ∷ [])
+one_more names name key true is = absorbed names name key (sym is)
+one_more names name key false is =
+    sym (any_last (λ other. bytes_eq (str_to_ascii_lowercase other) key) names name)
+
+kept : (names : List (List ℕ)) (name : List ℕ) (among : Bool)
+    → names ++ (if not among then name ∷ [] else []) ≡ (if among then names else names ++ name ∷ [])
+kept names name true = append-nil names
+kept names name false = refl
+
+-- the name of a line was added, if it was a new one
+pub agent_added : {old_met new_met : BTreeSet Key} {old new : List (List ℕ)} {name : List ℕ}
+    {is_new : Bool} → is_utf8 name ≡ true → AddsName old_met new_met name is_new
+    → new ≡ old ++ (if is_new then name ∷ [] else [])
+    → AddsAgent old_met new_met old new (UserAgent name)
+agent_added {old_met} {new_met} {old} {new} {name} {is_new} utf8 adds added =
+    let grown : HasAgents old_met old → new ≡ (if is_among name old then old else old ++ name ∷ []) =
+    λ has.
+    let is : is_new ≡ not (is_among name old) =
+    adds.new_if ∙ ap not (has.each adds.lowered)
+    ∙ ap (λ (lowered : List ℕ). not (has_lowered lowered old)) adds.spells in
+    added ∙ ap (λ is. old ++ (if is then name ∷ [] else [])) is ∙ kept old name (is_among name old) in
+    record {
+      names = λ has. rw utf8 (grown has);
+      met = λ has. record {
+        each = λ key.
+            adds.each key
+            ∙ ap (λ is. is || bytes_eq (str_to_ascii_lowercase name) key.items) (has.each key)
+            ∙ one_more old name key.items (is_among name old) refl
+            ∙ ap (λ names. has_lowered key.items names) (sym (grown has));
+      };
+    }

@@ -19,7 +19,7 @@ tied : (one two : Key) → is_eq (key_cmp one two) ≡ (one.0 == two.0 && bytes_
 tied one two =
     sym (both_tied _ _ _ _ (unsigned_ties one.0 two.0) (sym (is_eq-slice_cmp one.1.now two.1.now)))
 
-either : (has is : Bool) → cond is true has ≡ (has || is)
+pub either : (has is : Bool) → cond is true has ≡ (has || is)
 either true true = refl
 either true false = refl
 either false true = refl
@@ -61,11 +61,12 @@ found_by allowed rules rule has =
     ap (λ is. not rule.is_allow && is)
     (has.each (rule.scope, rule.value) ∙ any-map (allows rule.scope rule.value.now) rules)
 
-picked : (cause : Bool) (x : Scoped) (xs : List Scoped)
-    → map (λ (rule : Scoped). rule.number) (cond cause (x ∷ xs) xs)
-    ≡ (if cause then x.number ∷ [] else []) ++ map (λ (rule : Scoped). rule.number) xs
-picked true x xs = refl
-picked false x xs = refl
+-- the numbers of one item more, if it is taken
+pub picked : {X : Type 0} (number : X → ℕ) (cause : Bool) (x : X) (xs : List X)
+    → map number (cond cause (x ∷ xs) xs)
+    ≡ (if cause then number x ∷ [] else []) ++ map number xs
+picked number true x xs = refl
+picked number false x xs = refl
 
 -- the numbers from one place on, by the rule there
 pub both_from : (all : List Scoped) (rules : List ScopedRule) (at : ℕ) (rule : ScopedRule)
@@ -76,7 +77,8 @@ pub both_from : (all : List Scoped) (rules : List ScopedRule) (at : ℕ) (rule :
     ++ both_among all (map scoped_by_value (drop (at + 1) rules))
 both_from all rules at rule below =
     rw (drop_more rules at rule below)
-    (picked (is_allowed_too all (scoped_by_value (slice_index_or rules at rule))) _
+    (picked (λ (rule : Scoped). rule.number)
+    (is_allowed_too all (scoped_by_value (slice_index_or rules at rule))) _
     (filter (is_allowed_too all) (map scoped_by_value (drop (at + 1) rules))))
 
 -- a rule was looked at

@@ -8,10 +8,11 @@ pub mod GroupLemmas
 pub mod JsonLemmas
 pub mod KeyFaultLemmas
 pub mod LawLemmas
+pub mod NameLemmas
+pub mod NamesBeyondLemmas
 pub mod PlaceFaultLemmas
 pub mod PlainLemmas
 pub mod RowLemmas
 pub mod RuleFaultLemmas
 pub mod ShownLemmas
 pub mod WarningLemmas
-pub mod WordFaultLemmas

@@ -87,7 +87,6 @@ of_file file.BytesBeyond = (refl, refl)
 of_agent : (fault : AgentFault) → AreAscii (agent_fault_name fault) (agent_fault_text fault)
 of_agent agent.SpaceAround = (refl, refl)
 of_agent agent.Slash = (refl, refl)
-of_agent agent.NamedBeyond = (refl, refl)
 
 of_url : (fault : UrlFault) → AreAscii (url_fault_name fault) (url_fault_text fault)
 of_url url.NoUrl = (refl, refl)
@@ -136,6 +135,7 @@ of_place : (fault : PlaceFault) → AreAscii (place_fault_name fault) (place_fau
 of_place place.RuleAboveAgents = (refl, refl)
 of_place place.EmptyGroup = (refl, refl)
 of_place place.PartedByDelay = (refl, refl)
+of_place place.NamedBeyond = (refl, refl)
 of_place place.BothWays = (refl, refl)
 
 of_cause : (cause : Cause) → AreAscii (cause_name cause) (cause_text cause)

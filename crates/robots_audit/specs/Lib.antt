@@ -11,6 +11,7 @@ pub mod NameFaults
 pub mod RuleFaults
 pub mod PlaceFaults
 pub mod BothWays
+pub mod NamesBeyond
 pub mod ValueFaults
 pub mod Scopes
 pub mod Warnings

@@ -10,13 +10,15 @@ use Rattle.robots_audit.specs.declared.place_faults.Passed.{Passed}
 use Rattle.robots_audit.specs.declared.place_faults.Passed.TheVariants.{Agent, Delay, Other}
 use Rattle.robots_audit.specs.declared.place_faults.PlaceFault.{PlaceFault}
 use Rattle.robots_audit.specs.declared.place_faults.PlaceFault.TheVariants.{BothWays, EmptyGroup}
-use Rattle.robots_audit.specs.declared.place_faults.PlaceFault.TheVariants.{PartedByDelay, RuleAboveAgents}
+use Rattle.robots_audit.specs.declared.place_faults.PlaceFault.TheVariants.{NamedBeyond, PartedByDelay}
+use Rattle.robots_audit.specs.declared.place_faults.PlaceFault.TheVariants.{RuleAboveAgents}
 
 -- its name
 abbrev pub place_fault_name : PlaceFault → List ℕ
 place_fault_name RuleAboveAgents = codes "rule-above-agents"
 place_fault_name EmptyGroup = codes "empty-group"
 place_fault_name PartedByDelay = codes "delay-parts-agents"
+place_fault_name NamedBeyond = codes "named-beyond"
 place_fault_name BothWays = codes "allowed-and-disallowed"
 
 -- what is said of it
@@ -30,6 +32,9 @@ place_fault_text EmptyGroup =
 place_fault_text PartedByDelay =
     codes "a delay stands between the user-agent line and the one above it, "
     ++ codes "so the two are different groups; write it below both to make them one"
+place_fault_text NamedBeyond =
+    codes "the name stands only behind the file's first 512000 bytes, and no more count; "
+    ++ codes "write its group further up, or make the file shorter"
 place_fault_text BothWays =
     codes "the same path is allowed and disallowed for one crawler, and the Allow wins; "
     ++ codes "leave one of the two out"

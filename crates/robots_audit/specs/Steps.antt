@@ -1,5 +1,6 @@
 -- What the program keeps, by value.
 pub mod BothWays
+pub mod Names
 use Rattle.std.specs.Prelude.{map, string_bytes}
 use Rattle.texting_robots.specs.Callers.{mark_by_value}
 use Rattle.robots_audit.specs.declared.audit.AgentAudit.{AgentAudit}

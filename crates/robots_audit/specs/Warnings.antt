@@ -10,7 +10,7 @@ use Rattle.robots_audit.specs.declared.file_faults.FileFault.{FileFault}
 use Rattle.robots_audit.specs.declared.place_faults.PlaceFault.{PlaceFault}
 use Rattle.robots_audit.specs.declared.file_faults.FileFault.TheVariants.{BytesBeyond, NothingRead, SeemsPage}
 use Rattle.robots_audit.specs.declared.file_faults.FileFault.TheVariants.{SeemsUtf16}
-use Rattle.robots_audit.specs.declared.place_faults.PlaceFault.TheVariants.{BothWays}
+use Rattle.robots_audit.specs.declared.place_faults.PlaceFault.TheVariants.{BothWays, NamedBeyond}
 use Rattle.robots_audit.specs.declared.value_faults.DelayFault.TheVariants.{AboveADay}
 use Rattle.robots_audit.specs.declared.value_faults.SitemapFault.TheVariants.{NoWholeUrl}
 use Rattle.robots_audit.specs.declared.warning.Cause.{Cause}
@@ -21,6 +21,7 @@ use Rattle.robots_audit.specs.FileFaults.{is_read}
 use Rattle.robots_audit.specs.KeyFaults.{key_fault_holds, key_fault_name, key_fault_text, read_faults}
 use Rattle.robots_audit.specs.KeyFaults.{unread_fault}
 use Rattle.robots_audit.specs.NameFaults.{name_fault_holds, name_fault_name, name_fault_text, name_faults}
+use Rattle.robots_audit.specs.NamesBeyond.{names_beyond}
 use Rattle.robots_audit.specs.PlaceFaults.{place_fault_name, place_fault_text, place_faults}
 use Rattle.robots_audit.specs.RuleFaults.{rule_fault_holds, rule_fault_name, rule_fault_text, rule_faults}
 use Rattle.robots_audit.specs.Scopes.{scoped_rules}
@@ -108,11 +109,10 @@ file_warnings file marks =
     option_map_or (λ fault. general (cause.File fault) ∷ []) (file_fault file marks) []
     ++ warned (has_bytes_beyond file) (general (cause.File BytesBeyond))
 
-abbrev pub agent_warnings : Option (List ℕ) → List ℕ → List WarningValue
-agent_warnings None file = []
-agent_warnings (Some agent) file =
-    flat_map (λ fault. warned (agent_fault_holds fault agent file) (general (cause.Agent fault)))
-    agent_faults
+abbrev pub agent_warnings : Option (List ℕ) → List WarningValue
+agent_warnings None = []
+agent_warnings (Some agent) =
+    flat_map (λ fault. warned (agent_fault_holds fault agent) (general (cause.Agent fault))) agent_faults
 
 abbrev pub url_warnings : List ℕ → List WarningValue
 url_warnings url =
@@ -186,8 +186,26 @@ file_lines_warnings everywhere file marks bodies =
 abbrev pub place_warning : ℕ × PlaceFault → WarningValue
 place_warning found = of_line found.0 (cause.Place found.1)
 
-abbrev pub both_ways_warning : ℕ → WarningValue
-both_ways_warning number = of_line number (cause.Place BothWays)
+-- of the line with this number
+abbrev pub numbered_warning : PlaceFault → ℕ → WarningValue
+numbered_warning fault number = of_line number (cause.Place fault)
+
+-- of the names that stand only behind the bytes that count
+abbrev pub beyond_warnings : List ℕ → List Mark → List WarningValue
+beyond_warnings file marks =
+    if hides_lines (file_fault file marks) then []
+    else map (numbered_warning NamedBeyond) (names_beyond file)
+
+-- of the rules that are allowed and disallowed at once
+abbrev pub both_ways_warnings : Bool → List Mark → List WarningValue
+both_ways_warnings everywhere marks =
+    map (numbered_warning BothWays) (both_ways (scoped_rules everywhere marks))
+
+-- of where each line stands, and of both of these
+abbrev pub layout_warnings : Bool → List ℕ → List Mark → List WarningValue
+layout_warnings everywhere file marks =
+    map place_warning (place_faults marks)
+    ++ (beyond_warnings file marks ++ both_ways_warnings everywhere marks)
 
 -- ---- all
 
@@ -200,6 +218,6 @@ is_everywhere (Some agent) = false
 abbrev pub warnings : Option (List ℕ) → List (List ℕ) → List ℕ → List Mark → List (List ℕ)
     → List WarningValue
 warnings agent urls file marks bodies =
-    file_warnings file marks ++ (agent_warnings agent file ++ (flat_map url_warnings urls
-    ++ (file_lines_warnings (is_everywhere agent) file marks bodies ++ (map place_warning (place_faults marks)
-    ++ map both_ways_warning (both_ways (scoped_rules (is_everywhere agent) marks))))))
+    file_warnings file marks ++ (agent_warnings agent ++ (flat_map url_warnings urls
+    ++ (file_lines_warnings (is_everywhere agent) file marks bodies
+    ++ layout_warnings (is_everywhere agent) file marks)))

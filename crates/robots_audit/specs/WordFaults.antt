@@ -1,12 +1,11 @@
 -- What is warned of a URL or an agent that the program is asked about.
-use Rattle.std.specs.Prelude.{ℕ, ◌==◌, nat_eq, Bool, not, ◌||◌, ◌&&◌, List, [], ◌∷◌}
+use Rattle.std.specs.Prelude.{ℕ, ◌==◌, nat_eq, Bool, not, ◌||◌, List, [], ◌∷◌}
 use Rattle.std.specs.Prelude.{◌++◌, Option, None, Some, bytes_eq, codes, if◌then◌else◌, is_err}
 use Rattle.std.specs.List.{list_any, starts_with}
 use Rattle.std.specs.Str.{byte, str_to_ascii_lowercase, trim}
-use Rattle.texting_robots.specs.Callers.{file_lines, is_named, lines_read}
 use Rattle.url.specs.Parser.{parse_url}
 use Rattle.robots_audit.specs.declared.word_faults.AgentFault.{AgentFault}
-use Rattle.robots_audit.specs.declared.word_faults.AgentFault.TheVariants.{NamedBeyond, Slash, SpaceAround}
+use Rattle.robots_audit.specs.declared.word_faults.AgentFault.TheVariants.{Slash, SpaceAround}
 use Rattle.robots_audit.specs.declared.word_faults.UrlFault.{UrlFault}
 use Rattle.robots_audit.specs.declared.word_faults.UrlFault.TheVariants.{NoUrl, Refused}
 
@@ -52,7 +51,6 @@ url_fault url =
 abbrev pub agent_fault_name : AgentFault → List ℕ
 agent_fault_name SpaceAround = codes "space-around-agent"
 agent_fault_name Slash = codes "slash-in-agent"
-agent_fault_name NamedBeyond = codes "named-beyond"
 
 -- what is said of it
 abbrev pub agent_fault_text : AgentFault → List ℕ
@@ -60,24 +58,16 @@ agent_fault_text SpaceAround =
     codes "the agent has white space around it, so no line names it; leave the white space out"
 agent_fault_text Slash =
     codes "the agent has a / in it, and a name is compared whole; leave the version out"
-agent_fault_text NamedBeyond =
-    codes "the agent is named only behind the file's first 512000 bytes, and no more count; "
-    ++ codes "write its group further up, or make the file shorter"
 
 -- white space, as Unicode has it, stands first or last in the text
 abbrev pub has_space_around : List ℕ → Bool
 has_space_around text = not (bytes_eq (trim text) text)
 
--- some line of the file names the agent, and none of those that count
-abbrev pub is_named_beyond : List ℕ → List ℕ → Bool
-is_named_beyond agent file = is_named agent (file_lines file) && not (is_named agent (lines_read file))
-
--- the agent has the fault, asked about for this file
-abbrev pub agent_fault_holds : AgentFault → List ℕ → List ℕ → Bool
-agent_fault_holds SpaceAround agent file = has_space_around agent
-agent_fault_holds Slash agent file = list_any (λ b. b == byte "/") agent
-agent_fault_holds NamedBeyond agent file = is_named_beyond agent file
+-- the agent has the fault
+abbrev pub agent_fault_holds : AgentFault → List ℕ → Bool
+agent_fault_holds SpaceAround agent = has_space_around agent
+agent_fault_holds Slash agent = list_any (λ b. b == byte "/") agent
 
 -- all of them, in the order in which they are said
 abbrev pub agent_faults : List AgentFault
-agent_faults = SpaceAround ∷ Slash ∷ NamedBeyond ∷ []
+agent_faults = SpaceAround ∷ Slash ∷ []

@@ -1,34 +1,16 @@
 //! Which agents a file names.
-ghost use Rattle.std.specs.Prelude.{◌≡◌, ◌∷◌, [], IfOk, MatchOption, OnOk, bytes_eq, false, true, map, option_map, string_bytes};
-ghost use Rattle.std.specs.Str.{is_utf8, str_to_ascii_lowercase};
+ghost use Rattle.std.specs.Prelude.{◌≡◌, ◌++◌, ◌∷◌, [], IfOk, MatchOption, OnOk, false, if◌then◌else◌, true, map, option_map, string_bytes};
+ghost use Rattle.std.specs.Str.{is_utf8};
 ghost use Rattle.texting_robots.specs.Callers.{by_value, mark_by_value};
-ghost use Rattle.robots_audit.specs.Audit.{agents_asked, agents_in, is_among, with_name};
+ghost use Rattle.robots_audit.specs.Audit.{agents_asked, agents_in};
 ghost use Rattle.robots_audit.specs.Rows.{lines_of};
+ghost use Rattle.robots_audit.specs.Steps.Names.{AddsAgent};
 
+use crate::names::{Names, add_name};
 use std::alloc::{AllocError, Global};
+use std::collections::BTreeSet;
 use texting_robots::marks::MarkedLine;
 use texting_robots::parser::Line;
-
-/// Whether two names are one, ASCII letters in any case.
-#[tactic(auto, using(texting_robots::proofs::NameLemmas::tested_names))]
-fn is_same(name: &str, other: &str) -> bool
-    ensures { result ≡ bytes_eq (str_to_ascii_lowercase name.now) (str_to_ascii_lowercase other.now) }
-{
-    name.eq_ignore_ascii_case(other)
-}
-
-/// Whether the name is among these, ASCII letters in any case.
-#[tactic(auto, using(crate::proofs::AgentLemmas::among_next))]
-fn is_among(name: &str, names: &[String]) -> bool
-    ensures { result ≡ is_among name.now (map string_bytes names.now) }
-{
-    for other in names {
-        if is_same(other, name) {
-            return true;
-        }
-    }
-    false
-}
 
 /// The bytes as text, where they are UTF-8.
 pub(crate) fn as_text<'a>(bytes: &'a [u8]) -> Option<&'a str>
@@ -41,17 +23,33 @@ pub(crate) fn as_text<'a>(bytes: &'a [u8]) -> Option<&'a str>
     }
 }
 
-/// Adds the name that a line has, if it is a new one.
-fn add_name(alloc: Global, names: &mut Vec<String>, line: Line<'_>) -> Result<(), AllocError>
+/// Adds a text to a list, if there is cause for it.
+fn add_if(alloc: Global, names: &mut Vec<String>, cause: bool, name: &str) -> Result<(), AllocError>
     ensures { OnOk result (map string_bytes names.new.items
-        ≡ with_name (map string_bytes names.old.items) (by_value line.entry)) }
+        ≡ map string_bytes names.old.items ++ (if cause then name.now ∷ [] else [])) }
+{
+    if cause {
+        names.push(String::from_str(alloc, name)?)?;
+    }
+    Ok(())
+}
+
+/// Adds the name that a line has, if it is none of those that were met.
+fn add_agent(
+    alloc: Global,
+    met: &mut Names,
+    names: &mut Vec<String>,
+    line: Line<'_>,
+) -> Result<(), AllocError>
+    ensures { OnOk result (AddsAgent met.old met.new (map string_bytes names.old.items)
+        (map string_bytes names.new.items) (by_value line.entry)) }
 {
     let Line::UserAgent(value) = line else {
         return Ok(());
     };
     match as_text(value) {
-        Some(name) if !is_among(name, names) => Ok(names.push(String::from_str(alloc, name)?)?),
-        _ => Ok(()),
+        Some(name) => add_if(alloc, names, add_name(alloc, met, value)?, name),
+        None => Ok(()),
     }
 }
 
@@ -65,14 +63,15 @@ fn only(alloc: Global, name: &str) -> Result<Vec<String>, AllocError>
 }
 
 /// `*` and each agent that the lines name.
-#[tactic(auto, using(crate::proofs::AgentLemmas::names_next))]
 fn agents_in(alloc: Global, marks: &[MarkedLine<'_>]) -> Result<Vec<String>, AllocError>
     ensures { IfOk result (λ names. map string_bytes names.items
         ≡ agents_in (lines_of (map mark_by_value marks.now))) }
 {
+    let mut met = BTreeSet::new(alloc);
+    add_name(alloc, &mut met, b"*")?;
     let mut names = only(alloc, "*")?;
     for marked in marks {
-        add_name(alloc, &mut names, marked.line)?;
+        add_agent(alloc, &mut met, &mut names, marked.line)?;
     }
     Ok(names)
 }

@@ -55,7 +55,7 @@ fn is_allowed_too<'a>(allowed: &BTreeSet<(usize, &'a [u8])>, rule: &ScopedRule<'
 }
 
 /// Adds a number, if there is cause for it.
-fn add(found: &mut Vec<usize>, cause: bool, number: usize) -> Result<(), AllocError>
+pub(crate) fn add(found: &mut Vec<usize>, cause: bool, number: usize) -> Result<(), AllocError>
     ensures { OnOk result (found.new.items ≡ found.old.items ++ (if cause then number ∷ [] else [])) }
 {
     if cause {

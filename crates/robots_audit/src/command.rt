@@ -31,43 +31,51 @@ fn switch<'a>(alloc: Global, name: &'a str, help: &'a str) -> Arg<'a> {
         .help(help)
 }
 
-/// How the program is called.
-pub fn command<'a>(alloc: Global) -> Result<Command<'a>, AllocError> {
+/// Takes an agent, URLs and the name of a file.
+fn with_words<'a>(alloc: Global, called: Command<'a>) -> Result<Command<'a>, AllocError> {
     let agent = Arg::new(alloc, "agent")
         .value_name("AGENT")
         .help("The crawler's product token, without a version");
+    let called = called.arg(agent)?;
     let urls = Arg::new(alloc, "url").value_name("URL").num_args(0..).help(
         "URLs, or paths by themselves, that the crawler would fetch",
     );
+    let called = called.arg(urls)?;
     let file = Arg::new(alloc, "file")
         .short('f')
         .long("file")
         .value_name("FILE")
         .help("The robots.txt file; without it, or for -, standard input");
+    called.arg(file)
+}
+
+/// Takes the options that are on or off.
+fn with_switches<'a>(alloc: Global, called: Command<'a>) -> Result<Command<'a>, AllocError> {
     let agents = switch(
         alloc,
         "agents",
         "Instead of AGENT: * and each crawler that the file names",
-    )
-    .short('a');
+    );
+    let called = called.arg(agents.short('a'))?;
+    let quiet = switch(alloc, "quiet", "Leave out the rows of the lines");
+    let called = called.arg(quiet.short('q'))?;
     let json = switch(alloc, "json", "Write JSON, with the warnings in it");
-    let quiet = switch(alloc, "quiet", "Leave out the rows of the lines").short('q');
+    let called = called.arg(json)?;
     let strict = switch(
         alloc,
         "strict",
         "End with status 1 where something is warned of",
     );
-    Command::new(alloc, "robots_audit")
+    called.arg(strict)
+}
+
+/// How the program is called.
+pub fn command<'a>(alloc: Global) -> Result<Command<'a>, AllocError> {
+    let called = Command::new(alloc, "robots_audit")
         .version("0.1.0")
         .about("Shows what a crawler makes of a robots.txt file")
-        .override_usage("robots_audit [OPTIONS] AGENT [URL]..")
-        .arg(agent)?
-        .arg(urls)?
-        .arg(file)?
-        .arg(agents)?
-        .arg(quiet)?
-        .arg(json)?
-        .arg(strict)
+        .override_usage("robots_audit [OPTIONS] AGENT [URL]..");
+    with_switches(alloc, with_words(alloc, called)?)
 }
 
 /// The name of the file that is read; none for standard input.

@@ -1,5 +1,5 @@
 //! What is found out about a file, as JSON.
-ghost use Rattle.std.specs.Prelude.{◌≡◌, ◌++◌, ◌∷◌, [], IfOk, OnOk, map, string_bytes};
+ghost use Rattle.std.specs.Prelude.{◌≡◌, ◌++◌, ◌∷◌, [], IfOk, OnOk, if◌then◌else◌, map, string_bytes};
 ghost use Rattle.serde_json.specs.View.{view};
 ghost use Rattle.texting_robots.specs.Callers.{by_value, mark_by_value, sitemaps_in};
 ghost use Rattle.robots_audit.specs.Json.{agent_json, audit_json, group_word, json_text, line_json, list_json, shown_json, standing_word, value_json, verdict_json, warning_json};
@@ -187,16 +187,24 @@ fn warnings_json(alloc: Global, warnings: &[Warning<'_>]) -> Result<Value, Alloc
     Ok(Value::Array(list))
 }
 
+/// The lines of the file, or none where no rows are asked for.
+fn rows_json(alloc: Global, has_rows: bool, marks: &[MarkedLine<'_>]) -> Result<Value, AllocError>
+    ensures { IfOk result (λ value. view value
+        ≡ list_json line_json (if has_rows then map mark_by_value marks.now else [])) }
+{
+    if has_rows {
+        lines_json(alloc, marks)
+    } else {
+        Ok(Value::Array(Vec::new(alloc)))
+    }
+}
+
 /// What is found out, as a value.
 fn audit_json(alloc: Global, has_rows: bool, audit: &Audit<'_, '_>) -> Result<Value, AllocError>
     ensures { IfOk result (λ value. view value ≡ audit_json has_rows (audit_value audit.now)) }
 {
     let agents = agents_json(alloc, &audit.agents)?;
-    let lines = if has_rows {
-        lines_json(alloc, &audit.marks)?
-    } else {
-        Value::Array(Vec::new(alloc))
-    };
+    let lines = rows_json(alloc, has_rows, &audit.marks)?;
     let sitemaps = sitemaps_json(alloc, &audit.marks)?;
     let warnings = warnings_json(alloc, &audit.warnings)?;
     json!(in alloc; {

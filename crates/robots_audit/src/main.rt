@@ -22,6 +22,8 @@ mod json;
 mod key_faults;
 mod laws;
 mod name_faults;
+mod names;
+mod names_beyond;
 mod other_keys;
 mod place_faults;
 mod program;
@@ -35,6 +37,7 @@ mod warning;
 mod warnings;
 mod word_faults;
 
+use clap::ArgMatches;
 use clap::error::ErrorKind as WordsKind;
 use command::{Request, command, requested};
 use fault::{Fault, Outcome, Said, status_after};
@@ -78,17 +81,21 @@ fn audit_named(rt: &HostRuntime, request: &Request<'_>, name: &str) -> Result<Ou
     }
 }
 
-/// Does what the words ask for.
-fn outcome(rt: &HostRuntime) -> Result<Outcome, Fault> {
-    let words = words(rt)?;
-    let matches = match command(rt.alloc())?.try_get_matches_from(&words) {
-        Ok(matches) => matches,
-        Err(error) => return told(rt, error),
-    };
-    let request = requested(rt.alloc(), &matches)?;
+/// Audits the file that `clap` found asked for in the words.
+fn audited(rt: &HostRuntime, matches: &ArgMatches<'_>) -> Result<Outcome, Fault> {
+    let request = requested(rt.alloc(), matches)?;
     match request.file {
         Some(name) => audit_named(rt, &request, name),
         None => run(rt.alloc(), &request, &mut rt.stdin(), &mut rt.stdout()),
+    }
+}
+
+/// Does what the words ask for.
+fn outcome(rt: &HostRuntime) -> Result<Outcome, Fault> {
+    let words = words(rt)?;
+    match command(rt.alloc())?.try_get_matches_from(&words) {
+        Ok(matches) => audited(rt, &matches),
+        Err(error) => told(rt, error),
     }
 }
 

@@ -18,6 +18,8 @@ pub enum PlaceFault {
     EmptyGroup,
     /// A delay stands between a user-agent line and the one above it.
     PartedByDelay,
+    /// A user-agent line has a name that stands only behind the bytes that count, and is the first to have it.
+    NamedBeyond,
     /// A Disallow has the same value as an Allow for the same agent.
     BothWays,
 }
@@ -31,6 +33,7 @@ impl PlaceFault {
             PlaceFault::RuleAboveAgents => "rule-above-agents",
             PlaceFault::EmptyGroup => "empty-group",
             PlaceFault::PartedByDelay => "delay-parts-agents",
+            PlaceFault::NamedBeyond => "named-beyond",
             PlaceFault::BothWays => "allowed-and-disallowed",
         }
     }
@@ -51,6 +54,10 @@ impl PlaceFault {
             PlaceFault::PartedByDelay => {
                 "a delay stands between the user-agent line and the one above it, so the two are different groups; \
                  write it below both to make them one"
+            }
+            PlaceFault::NamedBeyond => {
+                "the name stands only behind the file's first 512000 bytes, and no more count; \
+                 write its group further up, or make the file shorter"
             }
             PlaceFault::BothWays => {
                 "the same path is allowed and disallowed for one crawler, and the Allow wins; leave one of the two out"

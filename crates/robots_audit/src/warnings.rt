@@ -2,15 +2,14 @@
 ghost use Rattle.std.specs.Prelude.{◌≡◌, ◌++◌, ◌∷◌, [], IfOk, OnOk, flat_map, if◌then◌else◌, map, option_map};
 ghost use Rattle.std.specs.Option.{option_map_or};
 ghost use Rattle.texting_robots.specs.Callers.{bodies_read, by_value, mark_by_value};
-ghost use Rattle.robots_audit.specs.BothWays.{both_ways};
 ghost use Rattle.robots_audit.specs.KeyFaults.{unread_fault};
 ghost use Rattle.robots_audit.specs.PlaceFaults.{place_faults};
-ghost use Rattle.robots_audit.specs.Scopes.{scoped_rules};
 ghost use Rattle.robots_audit.specs.FileFaults.{is_read};
 ghost use Rattle.robots_audit.specs.Steps.{warning_value};
-ghost use Rattle.robots_audit.specs.Warnings.{agent_warnings, both_ways_warning, delay_warnings, file_lines_warnings, file_warnings, general, hides_lines};
+ghost use Rattle.robots_audit.specs.ValueFaults.{sitemap_fault_holds};
+ghost use Rattle.robots_audit.specs.Warnings.{agent_warnings, beyond_warnings, both_ways_warnings, delay_warnings, file_lines_warnings, file_warnings, general, hides_lines, layout_warnings};
 ghost use Rattle.robots_audit.specs.Warnings.{is_asked_of, is_everywhere, key_warnings, line_warnings, lines_warnings};
-ghost use Rattle.robots_audit.specs.Warnings.{name_warnings, of_line, place_warning, rule_warnings, url_warnings};
+ghost use Rattle.robots_audit.specs.Warnings.{name_warnings, numbered_warning, of_line, place_warning, rule_warnings, url_warnings};
 ghost use Rattle.robots_audit.specs.Warnings.{value_warnings, warned, warnings};
 
 use crate::both_ways::both_ways;
@@ -19,6 +18,7 @@ use crate::file::counted;
 use crate::file_faults::{FileFault, file_fault, has_bytes_beyond};
 use crate::key_faults::{READ_FAULTS, unread_fault};
 use crate::name_faults::NAME_FAULTS;
+use crate::names_beyond::names_beyond;
 use crate::place_faults::{PlaceFault, place_faults};
 use crate::rule_faults::RULE_FAULTS;
 use crate::scopes::scoped_rules;
@@ -84,15 +84,15 @@ fn warn_of_file(
 }
 
 /// Adds the warnings of the agent that is asked for, if one is.
-fn warn_of_agent(found: &mut Found<'_>, agent: Option<&str>, file: &[u8]) -> Result<(), AllocError>
+fn warn_of_agent(found: &mut Found<'_>, agent: Option<&str>) -> Result<(), AllocError>
     ensures { OnOk result (map warning_value found.new.items ≡ map warning_value found.old.items
-        ++ agent_warnings (option_map (λ agent. agent.now) agent.entry) file.now) }
+        ++ agent_warnings (option_map (λ agent. agent.now) agent.entry)) }
 {
     let Some(agent) = agent else {
         return Ok(());
     };
     for fault in AGENT_FAULTS {
-        warn(found, fault.holds(agent, file), Cause::Agent(fault))?;
+        warn(found, fault.holds(agent), Cause::Agent(fault))?;
     }
     Ok(())
 }
@@ -180,6 +180,22 @@ fn warn_of_delay(found: &mut Found<'_>, number: usize, delay: Option<u64>) -> Re
     warn_at(found, fault.holds(micros), number, Cause::Delay(fault))
 }
 
+/// Adds the warning of a sitemap, if there is one.
+fn warn_of_sitemap(
+    alloc: Global,
+    found: &mut Found<'_>,
+    number: usize,
+    value: &[u8],
+) -> Result<(), AllocError>
+    ensures { OnOk result (map warning_value found.new.items ≡ map warning_value found.old.items
+        ++ warned (sitemap_fault_holds SitemapFault.NoWholeUrl value.now)
+        (of_line number (Cause.Sitemap SitemapFault.NoWholeUrl))) }
+{
+    let fault = SitemapFault::NoWholeUrl;
+    let holds = fault.holds(alloc, value)?;
+    warn_at(found, holds, number, Cause::Sitemap(fault))
+}
+
 /// Adds the warning of a line that isn't read, if there is one.
 fn warn_of_unread(
     alloc: Global,
@@ -207,16 +223,12 @@ fn warn_of_value(
     ensures { OnOk result (map warning_value found.new.items ≡ map warning_value found.old.items
         ++ value_warnings is_asked number (by_value line.entry)) }
 {
-    let fault = SitemapFault::NoWholeUrl;
     match line {
         Line::UserAgent(value) => warn_of_name(found, number, value),
         Line::Allow(value) => warn_of_rule(found, is_asked, number, value),
         Line::Disallow(value) => warn_of_rule(found, is_asked, number, value),
         Line::CrawlDelay(delay) => warn_of_delay(found, number, delay),
-        Line::Sitemap(value) => {
-            let holds = fault.holds(alloc, value)?;
-            warn_at(found, holds, number, Cause::Sitemap(fault))
-        }
+        Line::Sitemap(value) => warn_of_sitemap(alloc, found, number, value),
         Line::Raw(body) => warn_of_unread(alloc, found, number, body),
     }
 }
@@ -305,7 +317,7 @@ fn warn_of_file_lines(
     warn_of_lines(alloc, found, everywhere, marks, file)
 }
 
-/// Adds the warnings of how lines stand to each other.
+/// Adds the warnings of where a line stands.
 fn warn_of_places(
     alloc: Global,
     found: &mut Found<'_>,
@@ -321,6 +333,38 @@ fn warn_of_places(
     Ok(())
 }
 
+/// Adds a warning of each line with one of these numbers.
+fn warn_of_numbers(
+    found: &mut Found<'_>,
+    numbers: &[usize],
+    fault: PlaceFault,
+) -> Result<(), AllocError>
+    ensures { OnOk result (map warning_value found.new.items
+        ≡ map warning_value found.old.items ++ map (numbered_warning fault) numbers.now) }
+{
+    for number in numbers {
+        warn_at(found, true, *number, Cause::Place(fault))?;
+    }
+    Ok(())
+}
+
+/// Adds the warnings of names behind the bytes that count, unless the file seems to be something else.
+fn warn_of_names_beyond(
+    alloc: Global,
+    found: &mut Found<'_>,
+    marks: &[MarkedLine<'_>],
+    file: &[u8],
+) -> Result<(), AllocError>
+    ensures { OnOk result (map warning_value found.new.items ≡ map warning_value found.old.items
+        ++ beyond_warnings file.now (map mark_by_value marks.now)) }
+{
+    if hides_lines(file_fault(file, marks)) {
+        return Ok(());
+    }
+    let numbers = names_beyond(alloc, file)?;
+    warn_of_numbers(found, &numbers, PlaceFault::NamedBeyond)
+}
+
 /// Adds the warnings of what is allowed and disallowed.
 fn warn_of_both_ways(
     alloc: Global,
@@ -329,14 +373,27 @@ fn warn_of_both_ways(
     marks: &[MarkedLine<'_>],
 ) -> Result<(), AllocError>
     ensures { OnOk result (map warning_value found.new.items ≡ map warning_value found.old.items
-        ++ map both_ways_warning (both_ways (scoped_rules everywhere (map mark_by_value marks.now)))) }
+        ++ both_ways_warnings everywhere (map mark_by_value marks.now)) }
 {
     let rules = scoped_rules(alloc, everywhere, marks)?;
     let numbers = both_ways(alloc, &rules)?;
-    for number in &numbers {
-        warn_at(found, true, *number, Cause::Place(PlaceFault::BothWays))?;
-    }
-    Ok(())
+    warn_of_numbers(found, &numbers, PlaceFault::BothWays)
+}
+
+/// Adds the warnings of how lines stand to each other.
+fn warn_of_layout(
+    alloc: Global,
+    found: &mut Found<'_>,
+    everywhere: bool,
+    marks: &[MarkedLine<'_>],
+    file: &[u8],
+) -> Result<(), AllocError>
+    ensures { OnOk result (map warning_value found.new.items ≡ map warning_value found.old.items
+        ++ layout_warnings everywhere file.now (map mark_by_value marks.now)) }
+{
+    warn_of_places(alloc, found, marks)?;
+    warn_of_names_beyond(alloc, found, marks, file)?;
+    warn_of_both_ways(alloc, found, everywhere, marks)
 }
 
 /// Whether rules are warned of everywhere: where no one agent is asked for.
@@ -364,10 +421,9 @@ pub(crate) fn warnings<'a>(
     let everywhere = is_everywhere(request.agent);
     let mut found = Vec::new(alloc);
     warn_of_file(&mut found, file, marks)?;
-    warn_of_agent(&mut found, request.agent, file)?;
+    warn_of_agent(&mut found, request.agent)?;
     warn_of_urls(alloc, &mut found, &request.urls)?;
     warn_of_file_lines(alloc, &mut found, everywhere, marks, file)?;
-    warn_of_places(alloc, &mut found, marks)?;
-    warn_of_both_ways(alloc, &mut found, everywhere, marks)?;
+    warn_of_layout(alloc, &mut found, everywhere, marks, file)?;
     Ok(found)
 }

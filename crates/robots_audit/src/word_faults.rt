@@ -3,13 +3,10 @@ ghost use Rattle.std.specs.Prelude.{◌≡◌, ◌==◌, IfOk};
 ghost use Rattle.std.specs.List.{list_any};
 ghost use Rattle.std.specs.Str.{byte};
 ghost use Rattle.robots_audit.specs.WordFaults.{agent_fault_holds, agent_fault_name, agent_fault_text};
-ghost use Rattle.robots_audit.specs.WordFaults.{has_space_around, is_named_beyond, is_refused, is_url};
+ghost use Rattle.robots_audit.specs.WordFaults.{has_space_around, is_refused, is_url};
 ghost use Rattle.robots_audit.specs.WordFaults.{url_fault, url_fault_name, url_fault_text};
 
-use crate::file::counted;
-use crate::file_faults::has_bytes_beyond;
 use std::alloc::{AllocError, Global};
-use texting_robots::marks::is_named;
 use url::{ParseError, Url};
 
 /// What may be wrong with a URL.
@@ -89,16 +86,10 @@ pub enum AgentFault {
     SpaceAround,
     /// It has a slash, as in front of a version.
     Slash,
-    /// A line names it, and none of those that count does.
-    NamedBeyond,
 }
 
 /// All of them, in the order in which they are said.
-pub const AGENT_FAULTS: [AgentFault; 3] = [
-    AgentFault::SpaceAround,
-    AgentFault::Slash,
-    AgentFault::NamedBeyond,
-];
+pub const AGENT_FAULTS: [AgentFault; 2] = [AgentFault::SpaceAround, AgentFault::Slash];
 
 impl AgentFault {
     /// Its name.
@@ -108,7 +99,6 @@ impl AgentFault {
         match self {
             AgentFault::SpaceAround => "space-around-agent",
             AgentFault::Slash => "slash-in-agent",
-            AgentFault::NamedBeyond => "named-beyond",
         }
     }
 
@@ -123,21 +113,16 @@ impl AgentFault {
             AgentFault::Slash => {
                 "the agent has a / in it, and a name is compared whole; leave the version out"
             }
-            AgentFault::NamedBeyond => {
-                "the agent is named only behind the file's first 512000 bytes, and no more count; \
-                 write its group further up, or make the file shorter"
-            }
         }
     }
 
-    /// Whether the agent has it, asked about for this file.
-    pub fn holds(self, agent: &str, file: &[u8]) -> bool
-        ensures { result ≡ agent_fault_holds self agent.now file.now }
+    /// Whether the agent has it.
+    pub fn holds(self, agent: &str) -> bool
+        ensures { result ≡ agent_fault_holds self agent.now }
     {
         match self {
             AgentFault::SpaceAround => has_space_around(agent),
             AgentFault::Slash => has_slash(agent.as_bytes()),
-            AgentFault::NamedBeyond => is_named_beyond(agent, file),
         }
     }
 }
@@ -154,22 +139,4 @@ fn has_slash(bytes: &[u8]) -> bool
     ensures { result ≡ list_any (λ b. b == byte "/") bytes.now }
 {
     bytes.iter().any(|byte| *byte == b'/')
-}
-
-/// Whether a line of the file names the agent, and none of those that count, whatever the file's length.
-fn is_named_later(agent: &str, file: &[u8]) -> bool
-    ensures { result ≡ is_named_beyond agent.now file.now }
-{
-    is_named(agent, file) && !is_named(agent, counted(file))
-}
-
-/// The same, without a look at the lines of a file all of whose bytes count.
-fn is_named_beyond(agent: &str, file: &[u8]) -> bool
-    ensures { result ≡ is_named_beyond agent.now file.now }
-{
-    if has_bytes_beyond(file) {
-        is_named_later(agent, file)
-    } else {
-        false
-    }
 }

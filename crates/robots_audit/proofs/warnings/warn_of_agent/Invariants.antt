@@ -10,5 +10,5 @@ invariant-loop-fault l =
     map warning_value l.found.items
     ≡ map warning_value l.fn.found.items
     ++ flat_map
-    (λ fault. warned (agent_fault_holds fault l.agent l.file) (general (cause.Agent fault)))
+    (λ fault. warned (agent_fault_holds fault l.agent) (general (cause.Agent fault)))
     (take l.fault-index l.fault-items)

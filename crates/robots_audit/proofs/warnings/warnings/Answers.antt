@@ -4,8 +4,7 @@ use Rattle.robots_audit.proofs.warnings.warnings.Goals as goal
 pub returns : goal.returns
 returns c =
     rw (
-      c.in_ok-warn_of_both_ways.ensures,
-      c.in_ok-warn_of_places.ensures,
+      c.in_ok-warn_of_layout.ensures,
       c.in_ok-warn_of_file_lines.ensures,
       c.in_ok-warn_of_urls.ensures,
       c.deref.ensures.value,

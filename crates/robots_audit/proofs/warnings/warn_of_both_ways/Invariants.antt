@@ -1,9 +1,0 @@
-use Rattle.std.proofs.Common.{◌≡◌, ◌++◌, map, take}
-use Rattle.robots_audit.specs.Steps.{warning_value}
-use Rattle.robots_audit.specs.Warnings.{both_ways_warning}
-use Rattle.robots_audit.proofs.warnings.warn_of_both_ways.Given as goal
-
-abbrev pub invariant-loop-number : goal.invariant-loop-number
-invariant-loop-number l =
-    map warning_value l.found.items
-    ≡ map warning_value l.fn.found.items ++ map both_ways_warning (take l.number-index l.number-items)
