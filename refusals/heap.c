@@ -5,9 +5,12 @@
 //   REFUSE_LATER=1   and so are all requests that follow it
 //   FAIL_READ=N      the N-th read fails, as on a broken disk; with 0 none does
 //   FAIL_WRITE=N     and so does the N-th write
+//   TAKE_NOTHING=1   the write that would fail takes no byte instead
+//   PIECE=N          each read gives N bytes at most, and each write takes no more; with 0 there is no such bound
 //
-// As the program ends, "REQUESTS REFUSED LEFT FAILED" is written to the file descriptor 3: how many requests there were, how many
-// of them were refused, how many blocks were given and not taken back, and how many reads and writes failed so.
+// As the program ends, "REQUESTS REFUSED LEFT BROKEN READS" is written to the file descriptor 3: how many requests there were, how
+// many of them were refused, how many blocks were given and not taken back, how many reads and writes failed so or took nothing,
+// and how many reads there were.
 //
 // No memory is given twice, so a growth always moves. New bytes are A5 and those of a block that was taken back are 5A: a read
 // of what was never written, or no longer belongs to the program, shows in its answers.
@@ -113,22 +116,34 @@ struct calls {
 };
 
 static struct calls reads, writes;
-static long failed;
+static long broken;
+static size_t piece;
+static bool takes_nothing;
 
-static bool fails(struct calls *calls) {
+static bool is_broken(struct calls *calls) {
     if (!is_on || ++calls->made != calls->fail_at)
         return false;
-    failed++;
-    errno = EIO;
+    broken++;
     return true;
 }
 
+static size_t piece_of(size_t length) {
+    return is_on && piece && length > piece ? piece : length;
+}
+
+static ssize_t fail(void) {
+    errno = EIO;
+    return -1;
+}
+
 ssize_t read(int end, void *bytes, size_t length) {
-    return fails(&reads) ? -1 : syscall(SYS_read, end, bytes, length);
+    return is_broken(&reads) ? fail() : syscall(SYS_read, end, bytes, piece_of(length));
 }
 
 ssize_t write(int end, const void *bytes, size_t length) {
-    return fails(&writes) ? -1 : syscall(SYS_write, end, bytes, length);
+    if (is_broken(&writes))
+        return takes_nothing ? 0 : fail();
+    return syscall(SYS_write, end, bytes, piece_of(length));
 }
 
 // The number that a variable of the environment has, or 0.
@@ -142,13 +157,15 @@ __attribute__((constructor)) static void begin(void) {
     refuses_later_too = number_in("REFUSE_LATER") == 1;
     reads.fail_at = number_in("FAIL_READ");
     writes.fail_at = number_in("FAIL_WRITE");
+    takes_nothing = number_in("TAKE_NOTHING") == 1;
+    piece = (size_t)number_in("PIECE");
     is_on = true;
 }
 
 __attribute__((destructor)) static void end(void) {
     char told[80];
     is_on = false;
-    int length = snprintf(told, sizeof told, "%ld %ld %ld %ld\n", requests, refused, left, failed);
+    int length = snprintf(told, sizeof told, "%ld %ld %ld %ld %ld\n", requests, refused, left, broken, reads.made);
     if (write(3, told, (size_t)length) != length)
         _exit(99);
 }

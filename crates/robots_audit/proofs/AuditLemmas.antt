@@ -13,7 +13,7 @@ use Rattle.robots_audit.specs.declared.fault.Fault.TheVariants.{File, InvalidRul
 use Rattle.robots_audit.specs.declared.fault.Fault.TheVariants.{NotUtf8, Read, Usage, Words, Write}
 use Rattle.texting_robots.specs.Callers.{LineValue, group_name}
 use Rattle.texting_robots.specs.Marks.{mark_at}
-use Rattle.robots_audit.specs.Rows.{lines_of, marks_for}
+use Rattle.robots_warnings.specs.File.{lines_of, marks_for}
 use Rattle.texting_robots.specs.Callers.{AnswerAlike, IsRobotOfFile, PlacedRule, RobotValue}
 use Rattle.texting_robots.specs.Callers.{file_limit, lines_read, placed_rules, prepared}
 use Rattle.texting_robots.proofs.GivenLemmas.{delay_is_computed}

@@ -26,16 +26,18 @@ use Rattle.texting_robots.specs.Computed.{sitemap_in}
 use Rattle.robots_io.specs.Lines.{lf}
 use Rattle.robots_audit.specs.declared.group.Group.{Group}
 use Rattle.robots_audit.specs.declared.group.Group.TheVariants.{Everyone, Named, Nobody, Star}
-use Rattle.robots_audit.specs.declared.warning.Cause.{Cause}
 use Rattle.robots_audit.specs.Audit.{AgentValue, AuditValue, VerdictValue}
 use Rattle.robots_audit.specs.Json.{agent_json, audit_json, group_word, json_text, line_json, list_json}
 use Rattle.robots_audit.specs.Json.{number_json, shown_json, standing_word, value_json, verdict_json}
 use Rattle.robots_audit.specs.Json.{warning_json}
-use Rattle.robots_audit.specs.Rows.{is_blank, kind_text, lines_of}
-use Rattle.robots_audit.specs.Shown.{IsPlain, is_plain, is_plain_byte}
-use Rattle.robots_audit.specs.Warnings.{WarningValue, about_text, cause_name, cause_text, warning_text}
-use Rattle.robots_audit.proofs.ShownLemmas.{append_plain, ascii_plain, char_plain, decimal_plain, nil_plain}
-use Rattle.robots_audit.proofs.ShownLemmas.{shown_plain}
+use Rattle.robots_warnings.specs.File.{is_blank, lines_of}
+use Rattle.robots_audit.specs.Rows.{kind_text}
+use Rattle.robots_warnings.specs.Shown.{IsPlain, is_plain, is_plain_byte}
+use Rattle.robots_warnings.specs.Warnings.{WarningValue}
+use Rattle.robots_warnings.proofs.PlainLemmas.{names_plain, text_plain}
+use Rattle.robots_warnings.proofs.ShownLemmas.{append_plain, ascii_plain, char_plain, decimal_plain}
+use Rattle.robots_warnings.proofs.ShownLemmas.{nil_plain}
+use Rattle.robots_warnings.proofs.ShownLemmas.{shown_plain}
 
 -- ---- sitemaps
 
@@ -285,39 +287,26 @@ line_has mark = (
   ),
 )
 
--- what is said of causes is plain: their names and texts are literals
-module _ (names : (cause : Cause) → IsPlain (cause_name cause))
-    (texts : (cause : Cause) → IsPlain (cause_text cause)) where
-  pub warning_text_plain : (warning : WarningValue) → IsPlain (warning_text warning)
-  warning_text_plain warning =
-      append_plain true (cause_text warning.cause) (about_text warning.about) (texts warning.cause)
-      (about_plain warning.about)
-    where
-      about_plain : (about : List ℕ) → IsPlain (about_text about)
-      about_plain [] = nil_plain true
-      about_plain (byte ∷ about) =
-          append_plain true (codes ": ") _ (ascii_plain true (codes ": ") refl) (shown_plain (byte ∷ about))
+warning_has : (warning : WarningValue) → HasPlain (warning_json warning)
+warning_has warning =
+    (refl, number_has warning.line, (refl, names_plain warning.cause, (refl, text_plain warning, tt)))
 
-  warning_has : (warning : WarningValue) → HasPlain (warning_json warning)
-  warning_has warning =
-      (refl, number_has warning.line, (refl, names warning.cause, (refl, warning_text_plain warning, tt)))
-
-  pub json_plain : (has_rows : Bool) (audit : AuditValue) → IsPlain (json_text has_rows audit)
-  json_plain has_rows audit =
-      append_plain true (compact_text (audit_json has_rows audit)) (lf ∷ [])
-      (data_plain (audit_json has_rows audit) are) (ascii_plain true (lf ∷ []) refl)
-    where
-      are : HasPlain (audit_json has_rows audit)
-      are = (
+pub json_plain : (has_rows : Bool) (audit : AuditValue) → IsPlain (json_text has_rows audit)
+json_plain has_rows audit =
+    append_plain true (compact_text (audit_json has_rows audit)) (lf ∷ [])
+    (data_plain (audit_json has_rows audit) are) (ascii_plain true (lf ∷ []) refl)
+  where
+    are : HasPlain (audit_json has_rows audit)
+    are = (
+      refl,
+      list_has agent_json agent_has audit.agents,
+      (
         refl,
-        list_has agent_json agent_has audit.agents,
+        list_has line_json line_has (if has_rows then audit.marks else []),
         (
           refl,
-          list_has line_json line_has (if has_rows then audit.marks else []),
-          (
-            refl,
-            list_has shown_json shown_plain (sitemaps_in (lines_of audit.marks)),
-            (refl, list_has warning_json warning_has audit.warnings, tt),
-          ),
+          list_has shown_json shown_plain (sitemaps_in (lines_of audit.marks)),
+          (refl, list_has warning_json warning_has audit.warnings, tt),
         ),
-      )
+      ),
+    )

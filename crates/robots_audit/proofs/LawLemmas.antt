@@ -10,8 +10,8 @@ use Rattle.texting_robots.proofs.VerdictLemmas.{one_line_decides, one_verdict}
 use Rattle.robots_io.specs.Verdicts.{IsDecisionOn}
 use Rattle.robots_audit.specs.Audit.{AgentValue, Asked, AuditValue, IsAgentAudit, IsAuditOf, IsVerdictOn}
 use Rattle.robots_audit.specs.Audit.{VerdictValue, agents_asked, group_of, marking_agent}
-use Rattle.robots_audit.specs.Rows.{marks_for}
-use Rattle.robots_audit.specs.Warnings.{warnings}
+use Rattle.robots_warnings.specs.File.{marks_for}
+use Rattle.robots_warnings.specs.Warnings.{warnings}
 
 -- ---- one at most
 

@@ -13,9 +13,8 @@ use Rattle.robots_audit.specs.declared.fault.Outcome.{Outcome}
 use Rattle.robots_audit.specs.Audit.{Asked, AuditValue, IsAuditOf, agents_asked, all_allowed}
 use Rattle.robots_audit.specs.Fault.{MayFail}
 use Rattle.robots_audit.specs.Json.{json_text}
-use Rattle.robots_audit.specs.Report.{report_lines}
-use Rattle.robots_audit.specs.Shown.{shown, shown_lines}
-use Rattle.robots_audit.specs.Warnings.{warning_lines}
+use Rattle.robots_audit.specs.Report.{report_lines, warning_lines}
+use Rattle.robots_warnings.specs.Shown.{shown, shown_lines}
 
 -- the bytes that a reader has left, and those that a writer held before and holds after; `None` where an end
 -- doesn't tell its bytes

@@ -11,8 +11,8 @@ use Rattle.texting_robots.specs.declared.decision.Decision.{Decision}
 use Rattle.robots_io.specs.Verdicts.{IsDecisionOn}
 use Rattle.robots_audit.specs.declared.group.Group.{Group}
 use Rattle.robots_audit.specs.declared.group.Group.TheVariants.{Everyone, Named, Nobody, Star}
-use Rattle.robots_audit.specs.Rows.{marks_for}
-use Rattle.robots_audit.specs.Warnings.{WarningValue, warnings}
+use Rattle.robots_warnings.specs.File.{marks_for}
+use Rattle.robots_warnings.specs.Warnings.{WarningValue, warnings}
 
 -- what an audit is asked for: an agent, or none for each that the file names; URLs; whether there are rows;
 -- and whether it is written as JSON

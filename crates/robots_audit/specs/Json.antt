@@ -12,9 +12,10 @@ use Rattle.robots_io.specs.Lines.{lf}
 use Rattle.robots_audit.specs.declared.group.Group.{Group}
 use Rattle.robots_audit.specs.declared.group.Group.TheVariants.{Everyone, Named, Nobody, Star}
 use Rattle.robots_audit.specs.Audit.{AgentValue, AuditValue, VerdictValue}
-use Rattle.robots_audit.specs.Rows.{has_value, kind_text, lines_of, value_text}
-use Rattle.robots_audit.specs.Shown.{shown}
-use Rattle.robots_audit.specs.Warnings.{WarningValue, cause_name, warning_text}
+use Rattle.robots_warnings.specs.File.{lines_of}
+use Rattle.robots_audit.specs.Rows.{has_value, kind_text, value_text}
+use Rattle.robots_warnings.specs.Shown.{shown}
+use Rattle.robots_warnings.specs.Warnings.{WarningValue, cause_name, warning_text}
 
 -- ---- values
 

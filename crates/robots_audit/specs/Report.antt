@@ -7,7 +7,8 @@ use Rattle.robots_audit.specs.declared.group.Group.TheVariants.{Everyone, Named,
 use Rattle.robots_audit.specs.Audit.{AgentValue, AuditValue, VerdictValue}
 use Rattle.robots_audit.specs.Delay.{delay_line}
 use Rattle.robots_audit.specs.Rows.{rows}
-use Rattle.robots_audit.specs.Shown.{shown}
+use Rattle.robots_warnings.specs.Shown.{shown}
+use Rattle.robots_warnings.specs.Warnings.{WarningValue, warning_line}
 
 -- the group of an agent, and why it is that one
 abbrev pub group_text : List ℕ → Group → List ℕ
@@ -33,3 +34,12 @@ agent_lines agent =
 abbrev pub report_lines : Bool → AuditValue → List (List ℕ)
 report_lines has_rows audit =
     (if has_rows then rows audit.marks else []) ++ flat_map agent_lines audit.agents
+
+-- ---- what is warned of
+
+-- a warning behind the program's name
+abbrev pub said_line : WarningValue → List ℕ
+said_line warning = codes "robots_audit: warning: " ++ warning_line warning
+
+abbrev pub warning_lines : List WarningValue → List (List ℕ)
+warning_lines warnings = map said_line warnings

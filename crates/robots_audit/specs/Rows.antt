@@ -1,24 +1,16 @@
 -- The rows of a report: a line on each line of a file.
-use Rattle.std.specs.Prelude.{ℕ, ◌-◌, ◌==◌, Bool, true, not, ◌||◌}
-use Rattle.std.specs.Prelude.{◌&&◌, List, [], ◌∷◌, ◌++◌, Some, None, codes}
+use Rattle.std.specs.Prelude.{ℕ, ◌-◌, ◌==◌, Bool, not}
+use Rattle.std.specs.Prelude.{List, [], ◌++◌, Some, None, codes}
 use Rattle.std.specs.Prelude.{decimal, if◌then◌else◌, is_some, length, map, replicate}
 use Rattle.texting_robots.specs.Callers.{Allow, CrawlDelay, Disallow, LineValue, Mark, Raw, Sitemap}
-use Rattle.texting_robots.specs.Callers.{UserAgent, group_name, marks_of}
+use Rattle.texting_robots.specs.Callers.{UserAgent}
 use Rattle.texting_robots.specs.declared.marks.Standing.{Standing}
+use Rattle.robots_warnings.specs.File.{is_blank, space}
 use Rattle.robots_audit.specs.Delay.{delay_text}
-use Rattle.robots_audit.specs.Shown.{shown}
+use Rattle.robots_warnings.specs.Shown.{shown}
 use Rattle.texting_robots.specs.declared.marks.Standing.TheVariants.{Other, Outside, Own}
 
 -- ---- columns
-
-abbrev pub space : ℕ
-space = 32
-
-abbrev pub tab : ℕ
-tab = 9
-
-abbrev pub hash : ℕ
-hash = 35
 
 -- the text behind as many blanks as fill the width
 abbrev pub right_aligned : ℕ → List ℕ → List ℕ
@@ -35,11 +27,6 @@ abbrev pub mark_text : Standing → List ℕ
 mark_text Own = codes "+"
 mark_text Other = codes "-"
 mark_text Outside = codes " "
-
--- nothing but blanks, or blanks and a comment
-abbrev pub is_blank : List ℕ → Bool
-is_blank [] = true
-is_blank (byte ∷ body) = byte == hash || ((byte == space || byte == tab) && is_blank body)
 
 -- what the line was read as
 abbrev pub kind_text : LineValue → List ℕ
@@ -84,13 +71,3 @@ row width mark =
 -- a row for each line, the numbers as wide as the last
 abbrev pub rows : List Mark → List (List ℕ)
 rows marks = map (row (length (decimal (length marks)))) marks
-
--- ---- the lines of a file
-
--- the marks for an agent
-abbrev pub marks_for : List ℕ → List LineValue → List Mark
-marks_for agent lines = marks_of (group_name agent lines) lines
-
--- the lines of the marks
-abbrev pub lines_of : List Mark → List LineValue
-lines_of marks = map (λ (mark : Mark). mark.line) marks

@@ -1,21 +1,15 @@
 -- What the program keeps, by value.
-pub mod BothWays
-pub mod Names
+pub mod Agents
 use Rattle.std.specs.Prelude.{map, string_bytes}
 use Rattle.texting_robots.specs.Callers.{mark_by_value}
 use Rattle.robots_audit.specs.declared.audit.AgentAudit.{AgentAudit}
 use Rattle.robots_audit.specs.declared.audit.Audit.{Audit}
 use Rattle.robots_audit.specs.declared.audit.Verdict.{Verdict}
-use Rattle.robots_audit.specs.declared.warning.Warning.{Warning}
 use Rattle.robots_audit.specs.Audit.{AgentValue, AuditValue, VerdictValue}
-use Rattle.robots_audit.specs.Warnings.{WarningValue}
+use Rattle.robots_warnings.specs.Steps.{warning_value}
 
 abbrev pub verdict_value : Verdict → VerdictValue
 verdict_value verdict = record { url = verdict.url.now; decision = verdict.decision }
-
-abbrev pub warning_value : Warning → WarningValue
-warning_value warning =
-    record { line = warning.line; cause = warning.cause; about = warning.about.now }
 
 abbrev pub agent_value : AgentAudit → AgentValue
 agent_value audit = record {

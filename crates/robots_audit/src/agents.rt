@@ -3,10 +3,10 @@ ghost use Rattle.std.specs.Prelude.{◌≡◌, ◌++◌, ◌∷◌, [], IfOk, Ma
 ghost use Rattle.std.specs.Str.{is_utf8};
 ghost use Rattle.texting_robots.specs.Callers.{by_value, mark_by_value};
 ghost use Rattle.robots_audit.specs.Audit.{agents_asked, agents_in};
-ghost use Rattle.robots_audit.specs.Rows.{lines_of};
-ghost use Rattle.robots_audit.specs.Steps.Names.{AddsAgent};
+ghost use Rattle.robots_warnings.specs.File.{lines_of};
+ghost use Rattle.robots_audit.specs.Steps.Agents.{AddsAgent};
 
-use crate::names::{Names, add_name};
+use robots_warnings::names::{Names, add_name};
 use std::alloc::{AllocError, Global};
 use std::collections::BTreeSet;
 use texting_robots::marks::MarkedLine;

@@ -1,22 +1,24 @@
 //! What is found out about a file.
 ghost use Rattle.std.specs.Prelude.{◌≡◌, ◌≢◌, ◌∷◌, [], IfErr, IfOk, map, option_map, string_bytes, take};
 ghost use Rattle.std.specs.List.{AllZip};
-ghost use Rattle.texting_robots.specs.Callers.{IsRobotOfFile, file_limit, lines_read, mark_by_value};
+ghost use Rattle.texting_robots.specs.Callers.{IsRobotOfFile, bodies_read, file_limit, lines_read, mark_by_value};
 ghost use Rattle.robots_audit.specs.Answer.{asked_by};
 ghost use Rattle.robots_audit.specs.Audit.{IsAgentAudit, IsAuditOf, IsVerdictOn, agents_asked, all_allowed, allows_all, marking_agent};
 ghost use Rattle.robots_audit.specs.Fault.{MayFail};
-ghost use Rattle.robots_audit.specs.Rows.{lines_of, marks_for};
+ghost use Rattle.robots_warnings.specs.File.{lines_of, marks_for};
+ghost use Rattle.robots_warnings.specs.Steps.{warning_value};
+ghost use Rattle.robots_warnings.specs.Warnings.{warnings};
 ghost use Rattle.robots_audit.specs.Steps.{agent_value, audit_value, verdict_value};
 
 use crate::agents::agents_asked;
 use crate::command::Request;
 use crate::fault::Fault;
-use crate::file::{counted, marks_for};
 use crate::group::{Group, group_of};
-use crate::warning::Warning;
-use crate::warnings::warnings;
 use robots_io::verdicts::decision_on;
-use std::alloc::Global;
+use robots_warnings::file::{counted, marks_for};
+use robots_warnings::warning::Warning;
+use robots_warnings::warnings::warnings;
+use std::alloc::{AllocError, Global};
 use texting_robots::marks::{MarkedLine, overlong_line};
 use texting_robots::robot::Decision;
 use texting_robots::{Error, Robot};
@@ -154,6 +156,20 @@ fn marking_agent<'a>(agent: Option<&'a str>) -> &'a str
     }
 }
 
+/// What is warned of in a file, whose lines these are.
+fn warnings_of<'a>(
+    alloc: Global,
+    request: &Request<'a>,
+    file: &[u8],
+    marks: &[MarkedLine<'_>],
+) -> Result<Vec<Warning<'a>>, AllocError>
+    ensures { IfOk result (λ found. map warning_value found.items
+        ≡ warnings (asked_by request.now).agent (asked_by request.now).urls file.now
+        (map mark_by_value marks.now) (bodies_read file.now)) }
+{
+    warnings(alloc, request.agent, &request.urls, file, marks)
+}
+
 /// What is found out about a file.
 pub(crate) fn audit_of<'a, 'b>(
     alloc: Global,
@@ -166,7 +182,7 @@ pub(crate) fn audit_of<'a, 'b>(
 {
     let marks = marks_for(alloc, marking_agent(request.agent), file)?;
     let agents = agents_of(alloc, request, file, &marks)?;
-    let warnings = warnings(alloc, request, file, &marks)?;
+    let warnings = warnings_of(alloc, request, file, &marks)?;
     Ok(Audit {
         marks,
         agents,

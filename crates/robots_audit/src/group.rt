@@ -5,7 +5,7 @@ ghost use Rattle.std.specs.Str.{str_to_ascii_lowercase};
 ghost use Rattle.texting_robots.specs.Callers.{by_value, is_agent_named, is_named, mark_by_value};
 ghost use Rattle.texting_robots.specs.Group.{is_agent};
 ghost use Rattle.robots_audit.specs.Audit.{group_of};
-ghost use Rattle.robots_audit.specs.Rows.{lines_of};
+ghost use Rattle.robots_warnings.specs.File.{lines_of};
 
 use texting_robots::marks::MarkedLine;
 use texting_robots::parser::Line;
@@ -35,7 +35,7 @@ fn is_naming(line: Line<'_>, agent: &str) -> bool
 }
 
 /// Whether a line names the agent.
-#[tactic(auto, using(crate::proofs::GroupLemmas::any_next))]
+#[tactic(auto, using(robots_warnings::proofs::FileLemmas::any_next))]
 fn is_named(agent: &str, marks: &[MarkedLine<'_>]) -> bool
     ensures { result ≡ is_named agent.now (lines_of (map mark_by_value marks.now)) }
 {
@@ -48,7 +48,7 @@ fn is_named(agent: &str, marks: &[MarkedLine<'_>]) -> bool
 }
 
 /// Whether there is a user-agent line.
-#[tactic(auto, using(crate::proofs::GroupLemmas::any_next))]
+#[tactic(auto, using(robots_warnings::proofs::FileLemmas::any_next))]
 fn has_agent_line(marks: &[MarkedLine<'_>]) -> bool
     ensures { result ≡ list_any is_agent (lines_of (map mark_by_value marks.now)) }
 {

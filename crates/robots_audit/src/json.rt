@@ -3,15 +3,16 @@ ghost use Rattle.std.specs.Prelude.{◌≡◌, ◌++◌, ◌∷◌, [], IfOk, On
 ghost use Rattle.serde_json.specs.View.{view};
 ghost use Rattle.texting_robots.specs.Callers.{by_value, mark_by_value, sitemaps_in};
 ghost use Rattle.robots_audit.specs.Json.{agent_json, audit_json, group_word, json_text, line_json, list_json, shown_json, standing_word, value_json, verdict_json, warning_json};
-ghost use Rattle.robots_audit.specs.Rows.{lines_of};
-ghost use Rattle.robots_audit.specs.Steps.{agent_value, audit_value, verdict_value, warning_value};
+ghost use Rattle.robots_warnings.specs.File.{lines_of};
+ghost use Rattle.robots_warnings.specs.Steps.{warning_value};
+ghost use Rattle.robots_audit.specs.Steps.{agent_value, audit_value, verdict_value};
 
 use crate::agents::as_text;
 use crate::audit::{AgentAudit, Audit, Verdict};
 use crate::group::Group;
 use crate::rows::{has_value, kind_text, push_value};
-use crate::shown::push_shown;
-use crate::warning::{Warning, push_warning_text};
+use robots_warnings::shown::push_shown;
+use robots_warnings::warning::{Warning, push_warning_text};
 use serde_json::{Value, json};
 use std::alloc::{AllocError, Global};
 use texting_robots::marks::{MarkedLine, Standing};

@@ -11,31 +11,15 @@
 
 mod agents;
 mod audit;
-mod both_ways;
 mod command;
 mod delay;
 mod fault;
-mod file;
-mod file_faults;
 mod group;
 mod json;
-mod key_faults;
 mod laws;
-mod name_faults;
-mod names;
-mod names_beyond;
-mod other_keys;
-mod place_faults;
 mod program;
 mod report;
 mod rows;
-mod rule_faults;
-mod scopes;
-mod shown;
-mod value_faults;
-mod warning;
-mod warnings;
-mod word_faults;
 
 use clap::ArgMatches;
 use clap::error::ErrorKind as WordsKind;

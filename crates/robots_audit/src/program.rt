@@ -7,10 +7,10 @@ use crate::audit::{Audit, all_allowed, audit_of};
 use crate::command::Request;
 use crate::fault::{Fault, Outcome};
 use crate::json::json_text;
-use crate::report::report_text;
-use crate::shown::{push_shown, push_shown_lines};
-use crate::warning::{Warning, warning_lines};
+use crate::report::{report_text, warning_lines};
 use robots_io::ends::{read_all, write_out};
+use robots_warnings::shown::{push_shown, push_shown_lines};
+use robots_warnings::warning::Warning;
 use std::alloc::{AllocError, Global};
 use std::io::{Read, Write};
 

@@ -1,17 +1,19 @@
 //! What is found out about a file, as lines of text.
 ghost use Rattle.std.specs.Prelude.{◌≡◌, ◌++◌, ◌∷◌, [], IfOk, OnOk, flat_map, map, string_bytes};
 ghost use Rattle.robots_io.specs.Lines.{ended};
-ghost use Rattle.robots_audit.specs.Report.{agent_lines, group_line, group_text, report_lines, verdict_line};
-ghost use Rattle.robots_audit.specs.Shown.{shown};
+ghost use Rattle.robots_audit.specs.Report.{agent_lines, group_line, group_text, report_lines, said_line, verdict_line, warning_lines};
+ghost use Rattle.robots_warnings.specs.Shown.{shown};
+ghost use Rattle.robots_warnings.specs.Steps.{warning_value};
 ghost use Rattle.robots_audit.specs.Steps.{agent_value, audit_value, verdict_value};
 
 use crate::audit::{AgentAudit, Audit, Verdict};
 use crate::delay::push_delay;
 use crate::group::Group;
 use crate::rows::push_rows;
-use crate::shown::push_shown;
 use robots_io::lines::push_line;
 use robots_io::verdicts::push_decision;
+use robots_warnings::shown::push_shown;
+use robots_warnings::warning::{Warning, push_warning};
 use std::alloc::{AllocError, Global};
 
 /// Adds text as it is shown, and ends the line.
@@ -101,5 +103,27 @@ pub(crate) fn report_text(
         push_rows(&mut text, &audit.marks)?;
     }
     push_agents(&mut text, &audit.agents)?;
+    Ok(text)
+}
+
+/// Adds the line of a warning.
+fn push_warning_line(text: &mut String, warning: &Warning<'_>) -> Result<(), AllocError>
+    ensures { OnOk result (string_bytes text.new ≡ string_bytes text.old
+        ++ ended (said_line (warning_value warning.now) ∷ [])) }
+{
+    text.push_str("robots_audit: warning: ")?;
+    push_warning(text, warning)?;
+    text.push('\n')
+}
+
+/// The lines of warnings.
+pub(crate) fn warning_lines(alloc: Global, warnings: &[Warning<'_>]) -> Result<String, AllocError>
+    ensures { IfOk result (λ text. string_bytes text
+        ≡ ended (warning_lines (map warning_value warnings.now))) }
+{
+    let mut text = String::new(alloc);
+    for warning in warnings {
+        push_warning_line(&mut text, warning)?;
+    }
     Ok(text)
 }

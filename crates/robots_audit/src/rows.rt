@@ -2,11 +2,13 @@
 ghost use Rattle.std.specs.Prelude.{◌≡◌, ◌++◌, ◌∷◌, [], OnOk, codes, decimal, length, map, replicate, string_bytes};
 ghost use Rattle.texting_robots.specs.Callers.{by_value, mark_by_value};
 ghost use Rattle.robots_io.specs.Lines.{ended};
-ghost use Rattle.robots_audit.specs.Rows.{has_value, is_blank, kind_text, mark_text, right_aligned, row, rows, space, value_text, word_and_value};
+ghost use Rattle.robots_warnings.specs.File.{is_blank, space};
+ghost use Rattle.robots_audit.specs.Rows.{has_value, kind_text, mark_text, right_aligned, row, rows, value_text, word_and_value};
 
 use crate::delay::push_delay_text;
-use crate::shown::push_shown;
 use itoa::Buffer;
+use robots_warnings::file::is_blank;
+use robots_warnings::shown::push_shown;
 use std::alloc::AllocError;
 use texting_robots::marks::{MarkedLine, Standing};
 use texting_robots::parser::Line;
@@ -42,21 +44,6 @@ fn mark_text(standing: Standing) -> &'static str
         Standing::Other => "-",
         Standing::Outside => " ",
     }
-}
-
-/// Whether a body is nothing but blanks, or blanks and a comment.
-#[tactic(auto, using(crate::proofs::RowLemmas::blank_at))]
-pub(crate) fn is_blank(body: &[u8]) -> bool
-    ensures { result ≡ is_blank body.now }
-{
-    for byte in body {
-        match byte {
-            b'#' => return true,
-            b' ' | b'\t' => {}
-            _ => return false,
-        }
-    }
-    true
 }
 
 /// What a line was read as.

@@ -6,7 +6,7 @@ ghost use Rattle.robots_verdict.specs.Fault.{said_after, status_after};
 use crate::fault::Fault;
 
 /// What the process ends with.
-#[derive(Debug, PartialEq, Eq, Drop)]
+#[derive(Drop)]
 pub struct Ending {
     pub status: u8,
     /// What is said on standard error, if something is.

@@ -4,7 +4,7 @@ use std::alloc::{AllocError, AllocFailed};
 use texting_robots::Error;
 
 /// Why the program stopped.
-#[derive(Debug, PartialEq, Eq, Drop)]
+#[derive(Drop)]
 pub enum Fault {
     /// A read failed, or the input didn't end within the reads that are made.
     Read,

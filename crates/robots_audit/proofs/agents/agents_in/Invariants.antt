@@ -1,8 +1,8 @@
 use Rattle.std.proofs.Common.{◌≡◌, drop, map, string_bytes}
 use Rattle.texting_robots.specs.Callers.{mark_by_value}
 use Rattle.robots_audit.specs.Audit.{agents_in, with_names}
-use Rattle.robots_audit.specs.Rows.{lines_of}
-use Rattle.robots_audit.specs.Steps.Names.{HasAgents}
+use Rattle.robots_warnings.specs.File.{lines_of}
+use Rattle.robots_audit.specs.Steps.Agents.{HasAgents}
 use Rattle.robots_audit.proofs.agents.agents_in.Given as goal
 
 abbrev pub invariant-loop-marked : goal.invariant-loop-marked

@@ -1,7 +1,7 @@
 use Rattle.std.proofs.Common.{ap, map, ◌∙◌}
 use Rattle.texting_robots.specs.Callers.{mark_by_value}
 use Rattle.robots_audit.proofs.AuditLemmas.{lines_marked}
-use Rattle.robots_audit.specs.Rows.{lines_of}
+use Rattle.robots_warnings.specs.File.{lines_of}
 use Rattle.robots_audit.proofs.audit.audit_of.Goals as goal
 
 pub agents_of-requires : goal.agents_of-requires

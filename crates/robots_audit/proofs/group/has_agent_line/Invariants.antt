@@ -2,7 +2,7 @@ use Rattle.std.proofs.Common.{◌≡◌, drop, map}
 use Rattle.std.specs.List.{list_any}
 use Rattle.texting_robots.specs.Callers.{mark_by_value}
 use Rattle.texting_robots.specs.Group.{is_agent}
-use Rattle.robots_audit.specs.Rows.{lines_of}
+use Rattle.robots_warnings.specs.File.{lines_of}
 use Rattle.robots_audit.proofs.group.has_agent_line.Given as goal
 
 abbrev pub invariant-loop-marked : goal.invariant-loop-marked

@@ -1,6 +1,6 @@
 use Rattle.std.proofs.Common.{◌≡◌, drop, map}
 use Rattle.texting_robots.specs.Callers.{is_named, mark_by_value}
-use Rattle.robots_audit.specs.Rows.{lines_of}
+use Rattle.robots_warnings.specs.File.{lines_of}
 use Rattle.robots_audit.proofs.group.is_named.Given as goal
 
 abbrev pub invariant-loop-marked : goal.invariant-loop-marked

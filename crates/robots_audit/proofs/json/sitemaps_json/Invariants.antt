@@ -2,7 +2,7 @@ use Rattle.std.proofs.Common.{◌≡◌, ◌++◌, drop, map}
 use Rattle.serde_json.specs.View.{view}
 use Rattle.texting_robots.specs.Callers.{mark_by_value, sitemaps_in}
 use Rattle.robots_audit.specs.Json.{shown_json}
-use Rattle.robots_audit.specs.Rows.{lines_of}
+use Rattle.robots_warnings.specs.File.{lines_of}
 use Rattle.robots_audit.proofs.json.sitemaps_json.Given as goal
 
 abbrev pub invariant-loop-marked : goal.invariant-loop-marked

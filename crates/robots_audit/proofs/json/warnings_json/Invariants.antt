@@ -1,6 +1,6 @@
 use Rattle.std.proofs.Common.{◌≡◌, map, take}
 use Rattle.serde_json.specs.View.{view}
-use Rattle.robots_audit.specs.Steps.{warning_value}
+use Rattle.robots_warnings.specs.Steps.{warning_value}
 use Rattle.robots_audit.specs.Json.{warning_json}
 use Rattle.robots_audit.proofs.json.warnings_json.Given as goal
 

@@ -1,5 +1,5 @@
 use Rattle.std.proofs.Common.{◌≡◌, ◌++◌, replicate, string_bytes}
-use Rattle.robots_audit.specs.Rows.{space}
+use Rattle.robots_warnings.specs.File.{space}
 use Rattle.robots_audit.proofs.rows.push_blanks.Given as goal
 
 abbrev pub invariant-loop : goal.invariant-loop

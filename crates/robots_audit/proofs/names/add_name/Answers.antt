@@ -1,7 +1,0 @@
-use Rattle.robots_audit.proofs.NameLemmas.{name_added}
-use Rattle.robots_audit.proofs.names.add_name.Goals as goal
-
-pub returns : goal.returns
-returns c =
-    name_added _ _ c.in_ok-lowered.lowered _ _ c.in_ok-lowered.ensures.ok c.in_ok-insert.ensures.added
-    c.in_ok-insert.ensures.updates

@@ -1,0 +1,10 @@
+use Rattle.std.proofs.Common.{◌≡◌, map, string_bytes, take}
+use Rattle.robots_io.specs.Lines.{ended}
+use Rattle.robots_warnings.specs.Steps.{warning_value}
+use Rattle.robots_audit.specs.Report.{warning_lines}
+use Rattle.robots_audit.proofs.report.warning_lines.Given as goal
+
+abbrev pub invariant-loop-warning : goal.invariant-loop-warning
+invariant-loop-warning l =
+    string_bytes l.text
+    ≡ ended (warning_lines (map warning_value (take l.warning-index l.warnings)))

@@ -1,0 +1,11 @@
+pub mod BothWaysLemmas
+pub mod FileFaultLemmas
+pub mod FileLemmas
+pub mod KeyFaultLemmas
+pub mod NameLemmas
+pub mod NamesBeyondLemmas
+pub mod PlaceFaultLemmas
+pub mod PlainLemmas
+pub mod RuleFaultLemmas
+pub mod ShownLemmas
+pub mod WarningLemmas

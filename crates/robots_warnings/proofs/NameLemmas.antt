@@ -1,0 +1,33 @@
+-- Sets of names.
+use Rattle.std.proofs.Common.{◌≡◌, ◌||◌, Bool, cond, true, ℕ, List, [], ◌∷◌, ◌++◌, ap}
+use Rattle.std.proofs.Common.{bytes_eq, not, ◌∙◌}
+use Rattle.std.specs.BTreeSet.{BTreeSet, Updates, contains}
+use Rattle.std.specs.List.{list_any}
+use Rattle.std.specs.Str.{str_to_ascii_lowercase}
+use Rattle.std.proofs.Math.Bool.{or-false}
+use Rattle.std.proofs.lemmas.List.Folds.{list_any-append}
+use Rattle.std.proofs.lemmas.Map.Text.{is_eq-slice_cmp}
+use Rattle.robots_warnings.specs.Steps.Names.{AddsName, Key, key_cmp}
+use Rattle.robots_warnings.proofs.BothWaysLemmas.{either}
+
+-- a name was put into a set
+pub name_added : (old new : BTreeSet Key) (lowered : Key) (name : List ℕ) (is_new : Bool)
+    → lowered.items ≡ str_to_ascii_lowercase name → is_new ≡ not (contains key_cmp old lowered)
+    → Updates key_cmp old new lowered true → AddsName old new name is_new
+name_added old new lowered name is_new spells is updates = record {
+  lowered = lowered;
+  spells = spells;
+  new_if = is;
+  each = λ key.
+      let has : Bool = contains key_cmp old key in
+      updates.0 key
+      ∙ ap (λ (t : Bool). cond t true has) (is_eq-slice_cmp lowered.items key.items)
+      ∙ either has (bytes_eq lowered.items key.items)
+      ∙ ap (λ (items : List ℕ). has || bytes_eq items key.items) spells;
+}
+
+-- a test of one item more
+pub any_last : {X : Type 0} (test : X → Bool) (xs : List X) (x : X)
+    → list_any test (xs ++ x ∷ []) ≡ (list_any test xs || test x)
+any_last test xs x =
+    list_any-append test xs (x ∷ []) ∙ ap (λ is. list_any test xs || is) (or-false (test x))

@@ -1,0 +1,14 @@
+-- How faults of places are found.
+use Rattle.std.proofs.Common.{◌≡◌, ℕ, ◌+◌, ◌<◌, List, drop, length, map, max, refl}
+use Rattle.std.proofs.Common.{slice_index_or}
+use Rattle.std.proofs.lemmas.List.{drop_more}
+use Rattle.texting_robots.specs.declared.marks.MarkedLine.{MarkedLine}
+use Rattle.texting_robots.specs.Callers.{mark_by_value}
+use Rattle.robots_warnings.specs.PlaceFaults.{group_number, last_group}
+
+-- the number of the last rule or delay from one place on, by the line there
+pub last_from : (marks : List MarkedLine) (at : ℕ) (marked : MarkedLine) → at < length marks
+    → last_group (map mark_by_value (drop at marks))
+    ≡ max (group_number (mark_by_value (slice_index_or marks at marked)))
+    (last_group (map mark_by_value (drop (at + 1) marks)))
+last_from marks at marked below = rw (drop_more marks at marked below) refl

@@ -1,0 +1,14 @@
+use Rattle.std.proofs.Common.{◌≡◌, ◌++◌, flat_map, map, take}
+use Rattle.robots_warnings.specs.Steps.{warning_value}
+use Rattle.robots_warnings.specs.declared.warning.Cause.TheVariants as cause
+use Rattle.robots_warnings.specs.WordFaults.{agent_fault_holds}
+use Rattle.robots_warnings.specs.Warnings.{general, warned}
+use Rattle.robots_warnings.proofs.warnings.warn_of_agent.Given as goal
+
+abbrev pub invariant-loop-fault : goal.invariant-loop-fault
+invariant-loop-fault l =
+    map warning_value l.found.items
+    ≡ map warning_value l.fn.found.items
+    ++ flat_map
+    (λ fault. warned (agent_fault_holds fault l.agent) (general (cause.Agent fault)))
+    (take l.fault-index l.fault-items)

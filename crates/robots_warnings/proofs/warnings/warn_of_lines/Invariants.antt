@@ -1,0 +1,13 @@
+use Rattle.std.proofs.Common.{◌≡◌, ◌++◌, map}
+use Rattle.texting_robots.specs.Callers.{bodies_read, mark_by_value}
+use Rattle.robots_warnings.specs.Steps.{warning_value}
+use Rattle.robots_warnings.specs.Warnings.{lines_warnings}
+use Rattle.robots_warnings.proofs.warnings.warn_of_lines.Given as goal
+
+-- what was found and what is still to be found are all
+abbrev pub invariant-loop-body : goal.invariant-loop-body
+invariant-loop-body l =
+    map warning_value l.found.items
+    ++ lines_warnings l.everywhere l.body-iterator (map mark_by_value l.rest)
+    ≡ map warning_value l.fn.found.items
+    ++ lines_warnings l.everywhere (bodies_read l.file) (map mark_by_value l.marks)

@@ -1,0 +1,12 @@
+use Rattle.robots_warnings.specs.declared.warning.Cause.TheVariants as cause
+use Rattle.robots_warnings.specs.RuleFaults.{rule_fault_holds}
+use Rattle.robots_warnings.specs.Warnings.{of_line, warned}
+use Rattle.robots_warnings.proofs.WarningLemmas.{found_next}
+use Rattle.robots_warnings.proofs.warnings.warn_of_rule.Goals as goal
+
+pub loop-fault-preserved : goal.loop-fault-preserved
+loop-fault-preserved c =
+    found_next
+    (λ fault. warned (rule_fault_holds fault c.args.value.now) (of_line c.args.number (cause.Rule fault)))
+    _ c.loop-fault.fault-index _ _ _ _ c.loop-fault-test.true c.loop-fault.invariant
+    (rw c.holds.ensures at c.in_ok-warn_at.ensures)

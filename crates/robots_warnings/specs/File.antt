@@ -1,0 +1,25 @@
+-- The lines of a file, of the bytes that count.
+use Rattle.std.specs.Prelude.{ℕ, ◌==◌, Bool, true, ◌||◌, ◌&&◌, List, [], ◌∷◌, map}
+use Rattle.texting_robots.specs.Callers.{LineValue, Mark, group_name, marks_of}
+
+abbrev pub space : ℕ
+space = 32
+
+abbrev pub tab : ℕ
+tab = 9
+
+abbrev pub hash : ℕ
+hash = 35
+
+-- nothing but blanks, or blanks and a comment
+abbrev pub is_blank : List ℕ → Bool
+is_blank [] = true
+is_blank (byte ∷ body) = byte == hash || ((byte == space || byte == tab) && is_blank body)
+
+-- the marks for an agent
+abbrev pub marks_for : List ℕ → List LineValue → List Mark
+marks_for agent lines = marks_of (group_name agent lines) lines
+
+-- the lines of the marks
+abbrev pub lines_of : List Mark → List LineValue
+lines_of marks = map (λ (mark : Mark). mark.line) marks

@@ -1,0 +1,15 @@
+pub mod File
+pub mod Shown
+pub mod FileFaults
+pub mod WordFaults
+pub mod OtherKeys
+pub mod KeyFaults
+pub mod NameFaults
+pub mod RuleFaults
+pub mod PlaceFaults
+pub mod BothWays
+pub mod NamesBeyond
+pub mod ValueFaults
+pub mod Scopes
+pub mod Warnings
+pub mod Steps

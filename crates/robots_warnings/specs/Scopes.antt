@@ -1,0 +1,47 @@
+-- Whom a rule is for.
+use Rattle.std.specs.Prelude.{ℕ, Bool, true, false, ◌||◌, List, [], ◌∷◌, ◌++◌}
+use Rattle.std.specs.Prelude.{if◌then◌else◌}
+use Rattle.texting_robots.specs.Callers.{Allow, CrawlDelay, Disallow, LineValue, Mark, Raw, Sitemap}
+use Rattle.texting_robots.specs.Callers.{UserAgent, is_own}
+use Rattle.robots_warnings.specs.declared.scopes.Run.{Run}
+use Rattle.robots_warnings.specs.BothWays.{Scoped}
+
+-- the run of user-agent lines behind a line, by the run before it: the number of its first line, and whether
+-- the next user-agent line belongs to it
+abbrev pub run_with : Run → ℕ → LineValue → Run
+run_with run number (UserAgent value) =
+    if run.is_open then run else record { first = number; is_open = true }
+run_with run number (Allow value) = record { first = run.first; is_open = false }
+run_with run number (Disallow value) = record { first = run.first; is_open = false }
+run_with run number (CrawlDelay delay) = record { first = run.first; is_open = false }
+run_with run number (Sitemap value) = run
+run_with run number (Raw body) = run
+
+-- whom a rule is for: everywhere the agents of its run, else the one agent that is asked for
+abbrev pub scope_in : Bool → Run → ℕ
+scope_in everywhere run = if everywhere then run.first else 0
+
+-- the rule, if it is asked about
+abbrev pub rule_if : Bool → ℕ → ℕ → Bool → List ℕ → List Scoped
+rule_if is_asked scope number is_allow value =
+    if is_asked then record { scope = scope; number = number; is_allow = is_allow; value = value } ∷ []
+    else []
+
+-- the rule of a line, if it has one that is asked about: everywhere each, else those of the agent
+abbrev pub rule_of : Bool → Run → Mark → List Scoped
+rule_of everywhere run mark = of_value (everywhere || is_own mark.standing) mark.line
+  where
+    of_value : Bool → LineValue → List Scoped
+    of_value is_asked (Allow value) = rule_if is_asked (scope_in everywhere run) mark.number true value
+    of_value is_asked (Disallow value) = rule_if is_asked (scope_in everywhere run) mark.number false value
+    of_value is_asked _ = []
+
+-- those of lines, by the run before them
+abbrev pub rules_from : Bool → Run → List Mark → List Scoped
+rules_from everywhere run [] = []
+rules_from everywhere run (mark ∷ marks) =
+    rule_of everywhere run mark ++ rules_from everywhere (run_with run mark.number mark.line) marks
+
+-- those of all lines
+abbrev pub scoped_rules : Bool → List Mark → List Scoped
+scoped_rules everywhere marks = rules_from everywhere (record { first = 0; is_open = false }) marks

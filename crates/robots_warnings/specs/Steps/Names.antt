@@ -1,0 +1,57 @@
+-- Sets of names, in which each is lowered.
+use Rattle.std.specs.Prelude.{◌≡◌, ℕ, ◌+◌, Bool, bytes_eq, filter, length, map, not, ◌||◌}
+use Rattle.std.specs.Prelude.{List, ◌++◌, ◌∷◌, []}
+use Rattle.std.specs.BTreeSet.{BTreeSet, contains}
+use Rattle.std.specs.Cmp.Lexicographic.{slice_cmp}
+use Rattle.std.specs.Global.{Vec}
+use Rattle.std.specs.List.{enumerate_from, list_any}
+use Rattle.std.specs.Ordering.{nat_cmp}
+use Rattle.std.specs.Str.{str_to_ascii_lowercase}
+use Rattle.std.specs.declared.cmp.Ordering.{Ordering}
+use Rattle.texting_robots.specs.Callers.{LineValue, file_lines, is_agent_named, lines_read}
+use Rattle.robots_warnings.specs.NamesBeyond.{has_new_name, is_beyond, names_beyond}
+
+-- a name, lowered
+abbrev pub Key : Type 0
+Key = Vec ℕ
+
+-- the order of these
+abbrev pub key_cmp : Key → Key → Ordering
+key_cmp one two = slice_cmp nat_cmp one.items two.items
+
+-- the name was added to the old set, where it may have been before
+pub record AddsName (old new : BTreeSet Key) (name : List ℕ) (is_new : Bool) : Type 0 where
+  pub lowered : Key
+  pub spells : lowered.items ≡ str_to_ascii_lowercase name
+  pub new_if : is_new ≡ not (contains key_cmp old lowered)
+  pub each : (key : Key) → contains key_cmp new key
+      ≡ (contains key_cmp old key || bytes_eq (str_to_ascii_lowercase name) key.items)
+
+-- ---- names of lines
+
+-- the set has the names of these lines
+pub record HasNames (met : BTreeSet Key) (lines : List LineValue) : Type 0 where
+  pub each : (key : Key) → contains key_cmp met key ≡ list_any (is_agent_named key.items) lines
+
+-- the set has the name of one line more, which was new or not
+pub record MeetsLine (old new : BTreeSet Key) (line : LineValue) (is_new : Bool) : Type 0 where
+  pub was : (lines : List LineValue) → HasNames old lines → is_new ≡ has_new_name lines line
+  pub has : (lines : List LineValue) → HasNames old lines → HasNames new (lines ++ line ∷ [])
+
+-- the set has the names of some lines, and of those of a list up to a place, from which on these are left
+pub record HasMet (met : BTreeSet Key) (lines all : List LineValue) (place : ℕ) (left : List LineValue)
+    : Type 0 where
+  pub before : List LineValue
+  pub count : length before ≡ place
+  pub parts : before ++ left ≡ all
+  pub has : HasNames met (lines ++ before)
+
+-- the numbers of the lines with new names among those of a file that are left from a place on
+abbrev pub beyond_from : List ℕ → ℕ → List LineValue → List ℕ
+beyond_from file place left = map (λ p. p.0 + 1) (filter (is_beyond file) (enumerate_from place left))
+
+-- the numbers that were found, and those among the lines that are left from a place on, are all
+pub record IsFoundUpto (file : List ℕ) (met : BTreeSet Key) (found : List ℕ) (place : ℕ)
+    (left : List LineValue) : Type 0 where
+  pub passed : HasMet met (lines_read file) (file_lines file) place left
+  pub all : found ++ beyond_from file place left ≡ names_beyond file

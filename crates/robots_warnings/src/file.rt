@@ -1,0 +1,53 @@
+//! The lines of a file, of the bytes that count.
+ghost use Rattle.std.specs.Prelude.{◌≡◌, IfOk, map, take};
+ghost use Rattle.texting_robots.specs.Callers.{file_limit, lines_read, mark_by_value};
+ghost use Rattle.robots_warnings.specs.File.{is_blank, marks_for};
+
+use std::alloc::{AllocError, Global};
+use texting_robots::marks::{MarkedLine, marked_lines};
+use texting_robots::robot::FILE_LIMIT;
+
+/// The first bytes of a file, as many as a robot reads.
+pub fn counted<'a>(file: &'a [u8]) -> &'a [u8]
+    ensures { result.now ≡ take file_limit file.now }
+{
+    &file[..FILE_LIMIT.min(file.len())]
+}
+
+/// How many lines a file has at most, by the bytes that end one.
+fn most_lines(file: &[u8]) -> usize {
+    let ends = counted(file)
+        .iter()
+        .filter(|byte| matches!(**byte, b'\n' | b'\r' | 0));
+    ends.count().saturating_add(1)
+}
+
+/// The lines of a file, each with its number and where it stands to the agent.
+pub fn marks_for<'a>(
+    alloc: Global,
+    agent: &str,
+    file: &'a [u8],
+) -> Result<Vec<MarkedLine<'a>>, AllocError>
+    ensures { IfOk result (λ marks. map mark_by_value marks.items ≡ marks_for agent.now (lines_read file.now)) }
+{
+    let mut marks = Vec::with_capacity(alloc, most_lines(file))?;
+    for marked in marked_lines(agent, counted(file)) {
+        marks.push(marked)?;
+    }
+    Ok(marks)
+}
+
+/// Whether a body is nothing but blanks, or blanks and a comment.
+#[tactic(auto, using(crate::proofs::FileLemmas::blank_at))]
+pub fn is_blank(body: &[u8]) -> bool
+    ensures { result ≡ is_blank body.now }
+{
+    for byte in body {
+        match byte {
+            b'#' => return true,
+            b' ' | b'\t' => {}
+            _ => return false,
+        }
+    }
+    true
+}

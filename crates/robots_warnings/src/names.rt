@@ -1,0 +1,17 @@
+//! Sets of names, ASCII letters in any case.
+ghost use Rattle.std.specs.Prelude.{IfOk};
+ghost use Rattle.robots_warnings.specs.Steps.Names.{AddsName};
+
+use std::alloc::{AllocError, Global};
+use std::collections::BTreeSet;
+
+/// Names, each lowered.
+pub type Names = BTreeSet<Vec<u8>>;
+
+/// Adds a name; whether it is a new one.
+pub fn add_name(alloc: Global, names: &mut Names, name: &[u8]) -> Result<bool, AllocError>
+    ensures { IfOk result (λ is_new. AddsName names.old names.new name.now is_new) }
+{
+    let lowered = name.to_ascii_lowercase(alloc)?;
+    Ok(names.insert(lowered)?)
+}

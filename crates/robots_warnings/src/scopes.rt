@@ -1,0 +1,91 @@
+//! Whom a rule is for.
+ghost use Rattle.std.specs.Prelude.{◌≡◌, ◌++◌, IfOk, OnOk, map};
+ghost use Rattle.texting_robots.specs.Callers.{by_value, mark_by_value};
+ghost use Rattle.robots_warnings.specs.BothWays.{scoped_by_value};
+ghost use Rattle.robots_warnings.specs.Scopes.{rule_of, run_with, scope_in, scoped_rules};
+
+use crate::both_ways::ScopedRule;
+use std::alloc::{AllocError, Global};
+use texting_robots::marks::{MarkedLine, Standing};
+use texting_robots::parser::Line;
+
+/// A run of user-agent lines, one behind the other, which name whom the rules below are for.
+#[derive(Clone, Copy)]
+pub struct Run {
+    /// The number of its first line; 0 where none stands above.
+    pub first: usize,
+    /// Whether the next user-agent line belongs to it.
+    pub is_open: bool,
+}
+
+/// The run behind a line.
+fn run_with(run: Run, number: usize, line: Line<'_>) -> Run
+    ensures { result ≡ run_with run number (by_value line.entry) }
+{
+    match line {
+        Line::UserAgent(_) if run.is_open => run,
+        Line::UserAgent(_) => Run {
+            first: number,
+            is_open: true,
+        },
+        Line::Allow(_) | Line::Disallow(_) | Line::CrawlDelay(_) => Run {
+            first: run.first,
+            is_open: false,
+        },
+        Line::Sitemap(_) | Line::Raw(_) => run,
+    }
+}
+
+/// Whom the rules are for behind this run.
+fn scope_in(everywhere: bool, run: Run) -> usize
+    ensures { result ≡ scope_in everywhere run }
+{
+    if everywhere { run.first } else { 0 }
+}
+
+/// Adds the rule of a line, if it has one that is asked about.
+fn add_rule<'a>(
+    rules: &mut Vec<ScopedRule<'a>>,
+    everywhere: bool,
+    run: Run,
+    marked: &MarkedLine<'a>,
+) -> Result<(), AllocError>
+    ensures { OnOk result (map scoped_by_value rules.new.items
+        ≡ map scoped_by_value rules.old.items ++ rule_of everywhere run (mark_by_value marked.now)) }
+{
+    if !everywhere && marked.standing != Standing::Own {
+        return Ok(());
+    }
+    let (is_allow, value) = match marked.line {
+        Line::Allow(value) => (true, value),
+        Line::Disallow(value) => (false, value),
+        _ => return Ok(()),
+    };
+    Ok(rules.push(ScopedRule {
+        scope: scope_in(everywhere, run),
+        number: marked.number,
+        is_allow,
+        value,
+    })?)
+}
+
+/// The rules that are asked about, each with whom it is for.
+pub(crate) fn scoped_rules<'a>(
+    alloc: Global,
+    everywhere: bool,
+    marks: &[MarkedLine<'a>],
+) -> Result<Vec<ScopedRule<'a>>, AllocError>
+    ensures { IfOk result (λ rules. map scoped_by_value rules.items
+        ≡ scoped_rules everywhere (map mark_by_value marks.now)) }
+{
+    let mut rules = Vec::new(alloc);
+    let mut run = Run {
+        first: 0,
+        is_open: false,
+    };
+    for marked in marks {
+        add_rule(&mut rules, everywhere, run, marked)?;
+        run = run_with(run, marked.number, marked.line);
+    }
+    Ok(rules)
+}
