@@ -12,6 +12,8 @@ mod header;
 mod laws;
 mod program;
 mod report;
+#[cfg(test)]
+mod tests;
 
 use ending::ending_of;
 use program::run;

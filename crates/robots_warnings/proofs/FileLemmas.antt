@@ -1,6 +1,6 @@
 -- The lines of a file, one after another.
-use Rattle.std.proofs.Common.{◌≡◌, ℕ, ◌+◌, ◌<◌, ◌==◌, Bool, ◌||◌, ◌&&◌, List, drop, length, map, refl}
-use Rattle.std.proofs.Common.{slice_index_or}
+use Rattle.std.proofs.Common.{◌≡◌, ℕ, ◌+◌, ◌<◌, ◌==◌, Bool, ◌||◌, ◌&&◌, List}
+use Rattle.std.proofs.Common.{drop, length, map, refl, slice_index_or}
 use Rattle.std.specs.List.{list_any}
 use Rattle.std.proofs.lemmas.List.{drop_more}
 use Rattle.texting_robots.specs.declared.marks.MarkedLine.{MarkedLine}
