@@ -1,6 +1,6 @@
 //! The program over a reader and a writer.
 ghost use Rattle.std.specs.Prelude.{◌≡◌, ◌==◌, IfOk, length, not, string_bytes};
-ghost use Rattle.robots_audit.specs.Answer.{Audits, Helps, IsRefusal, IsUnread, asked_by, output, said};
+ghost use Rattle.robots_audit.specs.Answer.{Audits, Helps, IsRefusal, IsUnread, asked_by, has_rows, output, said};
 ghost use Rattle.robots_audit.specs.Steps.{audit_value};
 
 use crate::audit::{Audit, all_allowed, audit_of};
@@ -21,11 +21,18 @@ fn is_warned(warnings: &[Warning<'_>]) -> bool
     !warnings.is_empty()
 }
 
+/// Whether the report has rows.
+fn shows_rows(request: &Request<'_>) -> bool
+    ensures { result ≡ has_rows (asked_by request.now) }
+{
+    !request.is_quiet && request.agent.is_some()
+}
+
 /// What is written of an audit.
 fn output(alloc: Global, request: &Request<'_>, audit: &Audit<'_, '_>) -> Result<String, AllocError>
     ensures { IfOk result (λ text. string_bytes text ≡ output (asked_by request.now) (audit_value audit.now)) }
 {
-    let has_rows = !request.is_quiet && request.agent.is_some();
+    let has_rows = shows_rows(request);
     if request.is_json {
         json_text(alloc, has_rows, audit)
     } else {
