@@ -59,34 +59,3 @@ pub fn audit<'a>(alloc: Global, file: &'a [u8]) -> Result<Vec<Row<'a>>, AllocErr
     }
     Ok(rows)
 }
-
-#[cfg(test)]
-mod tests {
-    use super::*;
-    use std::test::Fail;
-
-    const FILE: &[u8] =
-        b"# hello\nUser-agent: *\nDisallow: /a # no\n\nNoindex: /x\nCrawl-delay: 1\nSitemap: s";
-
-    const KINDS: &[Kind] = &[
-        Kind::Other,
-        Kind::Agent,
-        Kind::Rule,
-        Kind::Other,
-        Kind::Other,
-        Kind::Delay,
-        Kind::Sitemap,
-    ];
-
-    #[test]
-    fn each_line_has_a_row(rt: HostRuntime) -> Result<(), Fail> {
-        let rows = audit(rt.alloc(), FILE)?;
-        assert!(rt; rows.len() == KINDS.len());
-        for (place, row) in rows.iter().enumerate() {
-            assert!(rt; place.checked_add(1) == Some(row.number));
-            assert!(rt; KINDS.get(place) == Some(&row.kind));
-        }
-        assert!(rt; rows.as_slice()[2].line == Line::Disallow(b"/a"));
-        Ok(())
-    }
-}

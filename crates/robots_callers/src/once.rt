@@ -16,18 +16,3 @@ pub fn may_fetch(alloc: Global, agent: &str, file: &[u8], url: &str) -> Result<b
     let robot = Robot::new(alloc, agent, file)?;
     Ok(robot.allowed(alloc, url)?)
 }
-
-#[cfg(test)]
-mod tests {
-    use super::*;
-    use std::test::Fail;
-
-    #[test]
-    fn a_rule_of_the_agents_group_decides(rt: HostRuntime) -> Result<(), Fail> {
-        let file = b"User-agent: FerrisBot\nDisallow: /a\n";
-        assert!(rt; !may_fetch(rt.alloc(), "ferrisbot", file, "https://example.com/a?b")?);
-        assert!(rt; may_fetch(rt.alloc(), "FerrisBot", file, "https://example.com/b")?);
-        assert!(rt; may_fetch(rt.alloc(), "OtherBot", file, "/a")?);
-        Ok(())
-    }
-}

@@ -8,9 +8,11 @@
 
 mod callers;
 mod calls;
+mod ends;
 mod large;
 mod printed;
 mod quiet;
+mod worked;
 
 use std::io::Read;
 use std::process::ExitCode;
@@ -51,6 +53,8 @@ fn makes_calls(rt: &HostRuntime, line: &[u8]) -> bool {
     make_calls!(rt, line, well, quiet);
     make_calls!(rt, line, well, large);
     make_calls!(rt, line, well, callers);
+    make_calls!(rt, line, well, ends);
+    make_calls!(rt, line, well, worked);
     well
 }
 
