@@ -99,7 +99,7 @@ fn pushes_lines(alloc: Global) -> Result<bool, Error> {
         line: Some(7),
     };
     push_decision(&mut text, &decision)?;
-    push_line(&mut text, &url, "")?;
+    push_line(&mut text, "", &url)?;
     Ok(text == want)
 }
 
