@@ -1,5 +1,4 @@
 //! Which line of a file decides on a text.
-use crate::files::{CRAWLER_EXAMPLE, MERGED_GROUPS};
 use crate::helpers::{BOB, Decisions, check_decisions, indented, robot_of};
 use std::process::Abort;
 
@@ -10,6 +9,16 @@ struct DecisionCase {
     file: &'static [u8],
     decisions: Decisions,
 }
+
+/// Two groups, a delay and a sitemap.
+const CRAWLER_EXAMPLE: &[u8] =
+    b"User-Agent: FerrisCrawler\nAllow: /ocean\nDisallow: /rust\nDisallow: /forest*.py\n\
+    Crawl-Delay: 10\nUser-Agent: *\nDisallow: /\nSitemap: https://www.example.com/site.xml";
+
+/// Three agents, one of them in two groups, with empty lines between them.
+const MERGED_GROUPS: &[u8] =
+    b"allow: /foo/bar/\nuser-agent: FooBot\ndisallow: /\nallow: /x/\nuser-agent: BarBot\n\
+    disallow: /\nallow: /y/\n\n\nallow: /w/\nuser-agent: BazBot\n\nuser-agent: FooBot\nallow: /z/\ndisallow: /";
 
 const GROUPS: &[DecisionCase] = &[
     DecisionCase {

@@ -8,34 +8,20 @@ use texting_robots::{Decision, Robot};
 /// The agent of the cases that name none.
 pub const BOB: &str = "BobBot";
 
-/// The texts of a file's cases as they stand.
-pub const NO_HOST: &[&str] = &[""];
-
 /// A text by its parts, each with how often it stands.
 pub type TextParts = &'static [(&'static str, usize)];
-
-/// Texts, and whether each may be fetched.
-pub type Verdicts = &'static [(&'static str, bool)];
 
 /// Texts, whether each may be fetched, and the number of the line that says so.
 pub type Decisions = &'static [(&'static str, bool, Option<usize>)];
 
-/// What an agent gets of a file.
-pub struct FileCase {
-    pub name: &'static str,
-    pub agent: &'static str,
-    pub file: &'static [u8],
-    pub verdicts: Verdicts,
-}
-
-/// Texts of each kind, all of which may be fetched.
-pub const ALL_ALLOWED: Verdicts = &[
-    ("", true),
-    ("/", true),
-    ("/x", true),
-    ("x", true),
-    ("/robots.txt", true),
-    ("https://example.com/a?b#c", true),
+/// Texts of each kind.
+const TEXTS: &[&str] = &[
+    "",
+    "/",
+    "/x",
+    "x",
+    "/robots.txt",
+    "https://example.com/a?b#c",
 ];
 
 /// The case's question has the answer yes.
@@ -129,37 +115,6 @@ pub fn check_url(
     check_prepared(rt, name, robot, prepared(rt, name, url).as_str(), want);
 }
 
-/// Asks the robot for each text with the host before it.
-fn check_urls(
-    rt: &(impl Abort + AllocGlobal),
-    name: &str,
-    robot: &Robot,
-    host: &str,
-    verdicts: &[(&str, bool)],
-) {
-    for (text, want) in verdicts {
-        let url = format!(in rt.alloc(); "{host}{text}").expect(rt, name);
-        check_url(rt, name, robot, url.as_str(), *want);
-    }
-}
-
-/// Asks the robot of a form of the case's file, with the host before each text.
-fn check_form(rt: &(impl Abort + AllocGlobal), case: &FileCase, file: &[u8], host: &str) {
-    let robot = robot_of(rt, case.name, case.agent, file);
-    check_urls(rt, case.name, &robot, host, case.verdicts);
-}
-
-/// Reads each case's file as it stands and indented, and asks for its texts with each of the hosts before them.
-pub fn check_files(rt: &(impl Abort + AllocGlobal), cases: &[FileCase], hosts: &[&str]) {
-    for case in cases {
-        let other = indented(rt, case.name, case.file);
-        for host in hosts {
-            check_form(rt, case, case.file, host);
-            check_form(rt, case, &other, host);
-        }
-    }
-}
-
 /// The line of the file that decides on a URL's prepared text.
 fn check_decision(
     rt: &(impl Abort + AllocGlobal),
@@ -194,7 +149,9 @@ pub fn check_decisions(
 pub fn check_nothing(rt: &(impl Abort + AllocGlobal), name: &str, robot: &Robot) {
     let empty = shown(rt, name, &robot_of(rt, name, BOB, b""));
     check_text(rt, name, shown(rt, name, robot).as_str(), empty.as_str());
-    check_urls(rt, name, robot, "", ALL_ALLOWED);
+    for text in TEXTS {
+        check_url(rt, name, robot, text, true);
+    }
 }
 
 /// The robot has no delay and no sitemap.

@@ -11,13 +11,6 @@ use texting_robots::Robot;
 use texting_robots::parser::{Line, robots_txt_parse};
 use texting_robots::view::View;
 
-/// A file and texts, and whether each may be fetched.
-struct LongCase {
-    name: &'static str,
-    file: TextParts,
-    texts: &'static [(TextParts, bool)],
-}
-
 /// A file and a text, whether it may be fetched, and how many looks at most say so.
 struct LookCase {
     name: &'static str,
@@ -40,24 +33,6 @@ const ONE_LINE: &[(&str, TextParts, Line<'static>)] = &[
         &[("Disallow:", 1), (" ", 1_000_000)],
         Line::Allow(b"/"),
     ),
-];
-
-const LONG: &[LongCase] = &[
-    LongCase {
-        name: "many_stars",
-        file: &[("Disallow: ", 1), ("*", 400_000), ("\nAllow: /x", 1)],
-        texts: &[(&[("/x", 1)], false), (&[("/robots.txt", 1)], true)],
-    },
-    LongCase {
-        name: "long_rule",
-        file: &[("Disallow: /", 1), ("A", 1_000_000)],
-        texts: &[
-            (&[("/A", 1)], true),
-            (&[("/", 1), ("A", 1_000_000)], false),
-            (&[("/", 1), ("A", 511_989)], false),
-            (&[("/", 1), ("A", 511_988)], true),
-        ],
-    },
 ];
 
 const LOOKS: &[LookCase] = &[
@@ -101,16 +76,6 @@ const LONG_URL: &[(&str, bool)] = &[
     ("Disallow: /*ab", true),
 ];
 
-/// Asks the robot of a form of the case's file for each of its texts.
-fn check_long(rt: &(impl Abort + AllocGlobal), case: &LongCase, file: &[u8]) {
-    let name = case.name;
-    let robot = robot_of(rt, name, BOB, file);
-    for (parts, want) in case.texts {
-        let text = long_text(rt, name, parts);
-        check_url(rt, name, &robot, text.as_str(), *want);
-    }
-}
-
 /// How many looks at the text the robot's verdict takes.
 fn looks_of_verdict(robot: &Robot, text: &str) -> u64 {
     let mut view = View::new(text);
@@ -146,15 +111,6 @@ fn long_texts_have_their_lines(rt: HostRuntime) {
         text.as_bytes(),
         &[Line::Raw(text.as_bytes())],
     );
-}
-
-#[test]
-fn long_files_are_read(rt: HostRuntime) {
-    for case in LONG {
-        let file = long_text(&rt, case.name, case.file);
-        check_long(&rt, case, file.as_bytes());
-        check_long(&rt, case, &indented(&rt, case.name, file.as_bytes()));
-    }
 }
 
 /// The text has as many lines, each of them this one.

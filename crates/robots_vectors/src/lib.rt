@@ -1,5 +1,6 @@
 //! Test cases on the public calls of the library `texting_robots`: worked examples, and those of its forerunner's tests. Each
-//! case is data, with a name that a failure tells. This crate has tests alone.
+//! case is data, with a name that a failure tells. This crate has tests alone. What an agent gets of a whole file, its verdicts,
+//! delay, sitemaps or refusal, is told by `robots_verdict`, so such cases are stored runs of that program.
 #![tactic(auto)]
 
 #[cfg(test)]
@@ -10,8 +11,6 @@ mod decisions;
 mod delays;
 #[cfg(test)]
 mod example;
-#[cfg(test)]
-mod files;
 #[cfg(test)]
 mod groups;
 #[cfg(test)]
@@ -32,8 +31,6 @@ mod patterns;
 mod printed;
 #[cfg(test)]
 mod refusals;
-#[cfg(test)]
-mod standard;
 #[cfg(test)]
 mod sweep;
 #[cfg(test)]

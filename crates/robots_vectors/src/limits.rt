@@ -1,13 +1,11 @@
 //! How many bytes of a file are read.
-use crate::groups::check_sitemaps;
 use crate::helpers::{
-    BOB, Decisions, TextParts, check, check_decisions, check_equal, check_nothing, long_robot,
-    long_text,
+    BOB, Decisions, TextParts, check, check_decisions, check_equal, check_nothing, check_text,
+    long_robot, long_text,
 };
-use crate::refusals::is_refused;
 use std::process::Abort;
-use texting_robots::Robot;
 use texting_robots::robot::FILE_LIMIT;
+use texting_robots::{Error, Robot};
 
 /// A file, how many bytes of it are read, and what decides then.
 struct LimitCase {
@@ -100,6 +98,14 @@ fn limited(
     Robot::with_limit(rt.alloc(), BOB, file.as_bytes(), limit).expect(rt, name)
 }
 
+/// These are the wanted sitemaps.
+fn check_sitemaps(rt: &impl Abort, name: &str, sitemaps: &[String], want: &[&str]) {
+    check_equal(rt, name, &sitemaps.len(), &want.len());
+    for (sitemap, want) in sitemaps.iter().zip(want) {
+        check_text(rt, name, sitemap.as_str(), want);
+    }
+}
+
 #[test]
 fn lines_are_cut_at_the_limit(rt: HostRuntime) {
     for case in CUT {
@@ -127,7 +133,7 @@ fn new_reads_the_first_512_000_bytes(rt: HostRuntime) {
 fn a_greater_limit_reads_on(rt: HostRuntime) {
     let file = long_text(&rt, "rule", OVERLONG_RULE_BEHIND);
     let answer = Robot::with_limit(rt.alloc(), BOB, file.as_bytes(), 600_000);
-    check(&rt, "rule", is_refused(&rt, "rule", answer));
+    check(&rt, "rule", matches!(answer, Err(Error::InvalidRule)));
     let robot = limited(&rt, "sitemap", SITEMAP_BEHIND, 600_000);
     check_sitemaps(&rt, "sitemap", &robot.sitemaps, &["/s"]);
 }

@@ -1,5 +1,4 @@
 //! How a text is cut into lines, and what each line is.
-use crate::files::NUL_AS_LF;
 use crate::helpers::{check_equal, indented};
 use std::process::Abort;
 use texting_robots::parser::{
@@ -23,6 +22,10 @@ const SIX: &[Line<'static>] = &[
 ];
 
 const MARKED: &[Line<'static>] = &[Line::UserAgent(b"foo"), Line::Allow(b"/AnyValue")];
+
+/// NUL bytes among the line ends.
+const NUL_AS_LF: &[u8] =
+    b"User-Agent: *\n\0\0Allow: /family\0\0\nDisallow: /family/photos\0\0\0\nCrawl-Delay: 42";
 
 const CR_NUL: &[u8] = b"Disallow: /a\r\0Allow: /b";
 
