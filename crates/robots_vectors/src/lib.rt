@@ -12,8 +12,6 @@ mod delays;
 #[cfg(test)]
 mod example;
 #[cfg(test)]
-mod groups;
-#[cfg(test)]
 mod helpers;
 #[cfg(test)]
 mod hostile;
@@ -29,8 +27,6 @@ mod parsed;
 mod patterns;
 #[cfg(test)]
 mod printed;
-#[cfg(test)]
-mod refusals;
 #[cfg(test)]
 mod sweep;
 #[cfg(test)]

@@ -1,7 +1,8 @@
-//! What a pattern matches, with how many looks, and how patterns are ordered.
+//! What a pattern matches, with how many looks, how patterns are ordered, and which are too long.
 use crate::helpers::{check, check_equal, check_text, long_text};
 use std::cmp::Ordering;
 use std::process::Abort;
+use texting_robots::Error;
 use texting_robots::minregex::MinRegex;
 use texting_robots::view::View;
 
@@ -143,4 +144,14 @@ fn longer_patterns_come_first_and_then_bytes_decide(rt: HostRuntime) {
         let left = regex_of(&rt, name, left);
         check_order(&rt, name, &left, &regex_of(&rt, name, right), *want);
     }
+}
+
+#[test]
+fn overlong_patterns_are_refused(rt: HostRuntime) {
+    let pattern = long_text(&rt, "letters", &[("/", 1), ("a", 4095), ("$", 1)]);
+    let answer = MinRegex::new(rt.alloc(), pattern.as_str());
+    check(&rt, "letters", matches!(answer, Err(Error::InvalidRule)));
+    let pattern = long_text(&rt, "stars", &[("$", 1), ("*", 4096)]);
+    let regex = regex_of(&rt, "stars", pattern.as_str());
+    check_text(&rt, "stars", regex.as_str(), "$*");
 }

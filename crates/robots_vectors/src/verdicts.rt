@@ -1,5 +1,6 @@
-//! Verdicts on the empty text. Those on others are stored runs of `robots_verdict`, whose input can't name an empty URL.
-use crate::helpers::{BOB, check_prepared, check_url, robot_of};
+//! What no stored run of `robots_verdict` tells: verdicts on the empty text, which its input can't name, and that a group without
+//! lines gives nothing.
+use crate::helpers::{BOB, check_nothing, check_prepared, check_url, robot_of};
 
 /// A name, a file, and whether it lets the empty text be fetched.
 const EMPTY: &[(&str, &str, bool)] = &[
@@ -24,4 +25,14 @@ fn a_lone_dollar_refuses_the_empty_prepared_text(rt: HostRuntime) {
     let robot = robot_of(&rt, name, BOB, b"Disallow: $");
     check_prepared(&rt, name, &robot, "", false);
     check_prepared(&rt, name, &robot, "/", true);
+}
+
+/// The agent of a group, and another.
+const AGENTS: &[&str] = &["A", BOB];
+
+#[test]
+fn a_group_without_lines_gives_nothing(rt: HostRuntime) {
+    for agent in AGENTS {
+        check_nothing(&rt, agent, &robot_of(&rt, agent, agent, b"User-Agent: A"));
+    }
 }
