@@ -1,8 +1,8 @@
 //! Makes the calls of the libraries one after the other, on small inputs and on large ones, and prints for each whether its answer
 //! is right.
 //!
-//! With memory for all, each line says `right`; no length of an input and no number of its parts is want of memory. The script
-//! `refusals/run` runs this program while requests for memory are refused; then a call that takes memory may also say
+//! With memory for all, each line says `right`, whatever the length of an input and the number of its parts. The tests
+//! `tests/test_allocation_failures.py` run this program while allocations fail; then a call that allocates may also say
 //! `out of memory`. A name on standard input chooses one call.
 #![tactic(auto)]
 

@@ -1,19 +1,19 @@
-// An allocator that refuses what it is told to refuse. It is loaded before a program, by LD_PRELOAD, and so stands in the place
-// of the C library's malloc, calloc, realloc and free, and of its read and write too. What it does is said by the environment:
+// An allocator whose allocations can be made to fail. LD_PRELOAD loads it before a program, so that it takes the place of the C
+// library's malloc, calloc, realloc and free, and of its read and write too. The environment says what fails:
 //
-//   REFUSE=N         the N-th request for memory is refused, counted from 1; with 0 none is
-//   REFUSE_LATER=1   and so are all requests that follow it
-//   FAIL_READ=N      the N-th read fails, as on a broken disk; with 0 none does
-//   FAIL_WRITE=N     and so does the N-th write
-//   TAKE_NOTHING=1   the write that would fail takes no byte instead
-//   PIECE=N          each read gives N bytes at most, and each write takes no more; with 0 there is no such bound
+//   FAIL_ALLOCATION=N    the N-th allocation, counted from 1; with 0 none
+//   FAIL_LATER=1         and all that follow it
+//   FAIL_READ=N          the N-th read, as on a broken disk; with 0 none
+//   FAIL_WRITE=N         the N-th write; with 0 none
+//   WRITE_NOTHING=1      the write that would fail writes no byte instead
+//   PIECE=N              each read and each write takes at most N bytes; with 0 there is no such bound
 //
-// As the program ends, "REQUESTS REFUSED LEFT BROKEN READS" is written to the file descriptor 3: how many requests there were, how
-// many of them were refused, how many blocks were given and not taken back, how many reads and writes failed so or took nothing,
-// and how many reads there were.
+// When the program ends, "ALLOCATIONS FAILED LEAKED BROKEN READS" is written to the file descriptor COUNTS, if it is set: the number of
+// allocations, how many of them failed, how many blocks weren't freed, how many reads and writes failed or wrote nothing, and the
+// number of reads.
 //
-// No memory is given twice, so a growth always moves. New bytes are A5 and those of a block that was taken back are 5A: a read
-// of what was never written, or no longer belongs to the program, shows in its answers.
+// No memory is used twice, so a growing block always moves. New bytes are A5, and those of a freed block 5A: a program that reads
+// what it never wrote, or has freed, gives wrong results.
 #define _DEFAULT_SOURCE
 #include <errno.h>
 #include <stdbool.h>
@@ -26,7 +26,7 @@
 
 enum { ALIGNMENT = 16, ROOM = 1 << 28 };
 
-// What stands before each block.
+// What lies before each block.
 struct head {
     size_t length;
     bool is_given, is_counted;
@@ -37,16 +37,16 @@ enum { HEAD = (sizeof(struct head) + ALIGNMENT - 1) / ALIGNMENT * ALIGNMENT };
 static _Alignas(ALIGNMENT) unsigned char room[ROOM];
 static size_t used;
 
-static long requests, refused, left, refuse_at;
-static bool refuses_later_too, is_on;
+static long allocations, failed, leaked, fail_at_allocation;
+static bool fails_later_too, is_on;
 
-static bool is_refused(void) {
+static bool fails_now(void) {
     if (!is_on)
         return false;
-    requests++;
-    if (refuse_at == 0 || requests < refuse_at || (requests > refuse_at && !refuses_later_too))
+    allocations++;
+    if (fail_at_allocation == 0 || allocations < fail_at_allocation || (allocations > fail_at_allocation && !fails_later_too))
         return false;
-    refused++;
+    failed++;
     return true;
 }
 
@@ -54,7 +54,7 @@ static struct head *head_of(void *block) {
     return (struct head *)((unsigned char *)block - HEAD);
 }
 
-// Ends the program where it gives back what it doesn't have. Then nothing is written to 3.
+// Aborts a program that frees what it doesn't own. Then no counts are written.
 static struct head *given_head_of(void *block) {
     struct head *head = head_of(block);
     if (!head->is_given)
@@ -62,26 +62,26 @@ static struct head *given_head_of(void *block) {
     return head;
 }
 
-// Gives a block, or refuses.
+// Allocates a block, or fails.
 static void *give(size_t length) {
     size_t taken = ROOM;
     if (length < ROOM - HEAD - ALIGNMENT)
         taken = HEAD + (length + ALIGNMENT - 1) / ALIGNMENT * ALIGNMENT;
-    if (is_refused() || taken > ROOM - used) {
+    if (fails_now() || taken > ROOM - used) {
         errno = ENOMEM;
         return NULL;
     }
     unsigned char *block = room + used + HEAD;
     used += taken;
     *head_of(block) = (struct head){length, true, is_on};
-    left += is_on;
+    leaked += is_on;
     return memset(block, 0xA5, length);
 }
 
-static void take_back(void *block) {
+static void release(void *block) {
     struct head *head = given_head_of(block);
     head->is_given = false;
-    left -= head->is_counted;
+    leaked -= head->is_counted;
     memset(block, 0x5A, head->length);
 }
 
@@ -91,7 +91,7 @@ void *malloc(size_t length) {
 
 void free(void *block) {
     if (block)
-        take_back(block);
+        release(block);
 }
 
 void *realloc(void *old, size_t length) {
@@ -100,7 +100,7 @@ void *realloc(void *old, size_t length) {
     if (!block || !old)
         return block;
     memcpy(block, old, kept < length ? kept : length);
-    take_back(old);
+    release(old);
     return block;
 }
 
@@ -110,7 +110,7 @@ void *calloc(size_t count, size_t size) {
     return block ? memset(block, 0, count * size) : NULL;
 }
 
-// Calls of one kind, of which one may be told to fail.
+// Calls of one kind, of which one may have to fail.
 struct calls {
     long made, fail_at;
 };
@@ -118,7 +118,7 @@ struct calls {
 static struct calls reads, writes;
 static long broken;
 static size_t piece;
-static bool takes_nothing;
+static bool writes_nothing;
 
 static bool is_broken(struct calls *calls) {
     if (!is_on || ++calls->made != calls->fail_at)
@@ -142,7 +142,7 @@ ssize_t read(int end, void *bytes, size_t length) {
 
 ssize_t write(int end, const void *bytes, size_t length) {
     if (is_broken(&writes))
-        return takes_nothing ? 0 : fail();
+        return writes_nothing ? 0 : fail();
     return syscall(SYS_write, end, bytes, piece_of(length));
 }
 
@@ -153,19 +153,19 @@ static long number_in(const char *name) {
 }
 
 __attribute__((constructor)) static void begin(void) {
-    refuse_at = number_in("REFUSE");
-    refuses_later_too = number_in("REFUSE_LATER") == 1;
+    fail_at_allocation = number_in("FAIL_ALLOCATION");
+    fails_later_too = number_in("FAIL_LATER") == 1;
     reads.fail_at = number_in("FAIL_READ");
     writes.fail_at = number_in("FAIL_WRITE");
-    takes_nothing = number_in("TAKE_NOTHING") == 1;
+    writes_nothing = number_in("WRITE_NOTHING") == 1;
     piece = (size_t)number_in("PIECE");
     is_on = true;
 }
 
 __attribute__((destructor)) static void end(void) {
-    char told[80];
+    char counts[80];
     is_on = false;
-    int length = snprintf(told, sizeof told, "%ld %ld %ld %ld %ld\n", requests, refused, left, broken, reads.made);
-    if (write(3, told, (size_t)length) != length)
+    int length = snprintf(counts, sizeof counts, "%ld %ld %ld %ld %ld\n", allocations, failed, leaked, broken, reads.made);
+    if (getenv("COUNTS") && write((int)number_in("COUNTS"), counts, (size_t)length) != length)
         _exit(99);
 }

@@ -1,7 +1,7 @@
-/* Asks the calls of robots.h: the worked examples, what a refused call leaves, room that is too short by one byte or one number, and
- * then each request for memory refused in turn, alone and with all that follow.
+/* Calls the functions of robots.h: the worked examples, what a failed call leaves unchanged, a buffer that is one byte or one number
+ * too small, and then each allocation failing in turn, alone and with all that follow.
  *
- * It is linked with --wrap for malloc, realloc and free, so that it sees each request of the library. A line says how each case
+ * It is linked with --wrap for malloc, realloc and free, so that it sees each allocation of the library. Each line says how one case
  * went, and the last one is 'N passed, N failed'. */
 #include "robots.h"
 #include <stdbool.h>
@@ -19,9 +19,9 @@ static void tell(const char *name, bool well) {
     printf("%s ... %s\n", name, well ? "ok" : "FAILED");
 }
 
-/* ---- memory: request `refuse_at`, counted from 1, is refused, and with `later` all that follow it; 0 refuses none */
+/* ---- memory: allocation `fail_at`, counted from 1, fails, and with `later` all that follow it; with 0 none does */
 
-static long requests, refused, blocks, refuse_at;
+static long allocations, failures, blocks, fail_at;
 static bool later;
 
 void *__real_malloc(size_t length);
@@ -31,21 +31,21 @@ void *__wrap_malloc(size_t length);
 void *__wrap_realloc(void *block, size_t length);
 void __wrap_free(void *block);
 
-static bool is_refused(void) {
-    requests++;
-    bool is = refuse_at != 0 && (requests == refuse_at || (later && requests > refuse_at));
-    refused += is;
+static bool fails_now(void) {
+    allocations++;
+    bool is = fail_at != 0 && (allocations == fail_at || (later && allocations > fail_at));
+    failures += is;
     return is;
 }
 
 void *__wrap_malloc(size_t length) {
-    void *block = is_refused() ? NULL : __real_malloc(length);
+    void *block = fails_now() ? NULL : __real_malloc(length);
     blocks += block != NULL;
     return block;
 }
 
 void *__wrap_realloc(void *old, size_t length) {
-    void *block = is_refused() ? NULL : __real_realloc(old, length);
+    void *block = fails_now() ? NULL : __real_realloc(old, length);
     blocks += block != NULL && old == NULL;
     return block;
 }
@@ -61,13 +61,13 @@ static const char file[] = "User-agent: *\nDisallow: /private\nAllow: /private/o
                            "Sitemap: https://example.com/a.xml\nDisallow: /*.pdf$\nSitemap: https://example.com/b.xml\n";
 static const char urls[] = "https://example.com/a\n/private/x\nhttps://example.com/private/open\n/x.pdf\n/x.pdf?y\n"
                            "/private/\xC3\xA9 b";
-static const int64_t answers[] = {0, -2, 3, -6, 0, -2};
+static const int64_t verdicts[] = {0, -2, 3, -6, 0, -2};
 static const char sitemaps[] = "https://example.com/a.xml\nhttps://example.com/b.xml\n";
 static const char page[] = "https://user@Example.com:8080/a?b";
 static const char address[] = "https://example.com:8080/robots.txt";
-enum { COUNT = sizeof answers / sizeof *answers };
+enum { COUNT = sizeof verdicts / sizeof *verdicts };
 
-/* Answers of a call: its status, whether what it wrote is right, and whether it wrote nothing. */
+/* What came of a call: its status, whether what it wrote is right, and whether it wrote nothing. */
 struct asked {
     int32_t status;
     bool right, untouched;
@@ -85,7 +85,7 @@ static struct asked decide_with(const char *agent, const char *these, size_t roo
     memset(out, 0x77, sizeof out);
     struct asked asked;
     asked.status = robots_decide(BYTES(agent), FILE_OF(file), BYTES(these), out, room);
-    asked.right = asked.status == ROBOTS_OK && memcmp(out, answers, sizeof answers) == 0 && all_are(out + COUNT, 8, 0x77);
+    asked.right = asked.status == ROBOTS_OK && memcmp(out, verdicts, sizeof verdicts) == 0 && all_are(out + COUNT, 8, 0x77);
     asked.untouched = all_are(out, sizeof out, 0x77);
     return asked;
 }
@@ -126,7 +126,7 @@ static struct asked all_sitemaps(void) { return list_sitemaps(sizeof sitemaps - 
 
 static struct asked whole_address(void) { return find_address(page, sizeof address - 1); }
 
-/* Opens a handle, asks it, asks it again while nothing is refused, and closes it. */
+/* Opens a handle, asks it, asks it again while nothing fails, and closes it. */
 static struct asked keep(void) {
     struct robots_handle robot = {NULL};
     int64_t out = 77, again = 77;
@@ -134,12 +134,12 @@ static struct asked keep(void) {
     if (status != ROBOTS_OK)
         return (struct asked){status, false, robot.at == NULL};
     status = robots_ask(robot, BYTES("/private/\xC3\xA9 b"), &out, &robot.at);
-    long was = refuse_at;
-    refuse_at = 0;
-    bool answers_again = robots_ask(robot, BYTES("/private/open"), &again, &robot.at) == ROBOTS_OK && again == 3;
-    refuse_at = was;
+    long was = fail_at;
+    fail_at = 0;
+    bool is_asked_again = robots_ask(robot, BYTES("/private/open"), &again, &robot.at) == ROBOTS_OK && again == 3;
+    fail_at = was;
     robots_close(robot);
-    return (struct asked){status, answers_again && status == ROBOTS_OK && out == -2, answers_again && out == 77};
+    return (struct asked){status, is_asked_again && status == ROBOTS_OK && out == -2, is_asked_again && out == 77};
 }
 
 static bool is(struct asked asked, int32_t status) {
@@ -168,63 +168,33 @@ static void try_examples(void) {
     tell("a handle", is(keep(), ROBOTS_OK));
 }
 
-/* A file of four lines, of which 2 and 4 hold a rule of so many bytes, for every crawler but Other. */
-static size_t long_rules(char *text, int length) {
-    char rule[5000];
-    memset(rule, 'a', sizeof rule);
-    memcpy(rule, "/$", 2);
-    return (size_t)sprintf(text, "User-agent: *\nDisallow: %.*s\nDisallow: /b\nAllow: %.*s\nUser-agent: Other\nDisallow: /", length,
-                           rule, length, rule);
-}
-
-static void try_overlong(void) {
-    static char text[20000];
-    const uint8_t *rules = (const uint8_t *)text;
-    struct robots_handle robot = {NULL};
-    int64_t out = 77;
-    uint64_t delay = 77;
-    uint8_t byte = 77;
-    size_t length = long_rules(text, 4097), len = 77;
-    tell("verdicts, an overlong rule", robots_decide(BYTES("Bot"), rules, length, BYTES("/b"), &out, 1) == 2 && out == 77);
-    tell("a delay, an overlong rule", robots_delay(BYTES("Bot"), rules, length, &delay) == 2 && delay == 77);
-    tell("sitemaps, an overlong rule",
-         robots_sitemaps(BYTES("Bot"), rules, length, &byte, 1, &len) == 2 && byte == 77 && len == 77);
-    tell("a handle, an overlong rule", robots_open(BYTES("Bot"), rules, length, &robot.at) == 2 && robot.at == NULL);
-    tell("an overlong rule of another crawler",
-         robots_decide(BYTES("Other"), rules, length, BYTES("/b"), &out, 1) == ROBOTS_OK && out == -6);
-    length = long_rules(text, 4096);
-    tell("a rule that isn't overlong",
-         robots_decide(BYTES("Bot"), rules, length, BYTES("/b"), &out, 1) == ROBOTS_OK && out == -3);
-}
-
-/* Refuses the first request of a call, then the second, and so on, until it meets no refusal. */
-static void refuse_each(const char *name, struct asked (*call)(void), bool all_later) {
+/* Fails the first allocation of a call, then the second, and so on, until a call meets no failure. */
+static void fail_each(const char *name, struct asked (*call)(void), bool all_later) {
     bool well = true, ends = false;
-    long wanting = 0;
+    long reported = 0;
     later = all_later;
-    for (refuse_at = 1; well && !ends; refuse_at++) {
-        requests = refused = 0;
+    for (fail_at = 1; well && !ends; fail_at++) {
+        allocations = failures = 0;
         struct asked asked = call();
-        bool wants = asked.status == ROBOTS_NO_MEMORY && asked.untouched && refused > 0;
-        ends = refused == 0;
-        wanting += wants;
+        bool wants = asked.status == ROBOTS_NO_MEMORY && asked.untouched && failures > 0;
+        ends = failures == 0;
+        reported += wants;
         well = blocks == 0 && (wants || is(asked, ROBOTS_OK));
     }
-    refuse_at = 0;
-    printf("%ld answered as want of memory: ", wanting);
-    tell(name, well && wanting > 0);
+    fail_at = 0;
+    printf("%ld allocation failures%s reported: ", reported, all_later ? ", with all later ones," : "");
+    tell(name, well && reported > 0);
 }
 
 int main(void) {
     try_examples();
-    try_overlong();
     tell("no block is kept", blocks == 0);
-    for (int all = 0; all < 2; all++) {
-        refuse_each(all ? "verdicts, a request and all later ones refused" : "verdicts, a request refused", decide, all);
-        refuse_each(all ? "a delay, a request and all later ones refused" : "a delay, a request refused", wait, all);
-        refuse_each(all ? "sitemaps, a request and all later ones refused" : "sitemaps, a request refused", all_sitemaps, all);
-        refuse_each(all ? "an address, a request and all later ones refused" : "an address, a request refused", whole_address, all);
-        refuse_each(all ? "a handle, a request and all later ones refused" : "a handle, a request refused", keep, all);
+    for (int all_later = 0; all_later < 2; all_later++) {
+        fail_each("verdicts", decide, all_later);
+        fail_each("a delay", wait, all_later);
+        fail_each("sitemaps", all_sitemaps, all_later);
+        fail_each("an address", whole_address, all_later);
+        fail_each("a handle", keep, all_later);
     }
     printf("%d passed, %d failed\n", passed, failed);
     return failed != 0;

@@ -1,0 +1,152 @@
+"""What the tests share: running a program, the texts that docs/SPECIFICATION.md gives, and the notation of golden cases."""
+
+import json
+import os
+import re
+import subprocess
+import tomllib
+from dataclasses import dataclass
+from pathlib import Path
+
+import pytest
+
+ROOT = Path(__file__).resolve().parent.parent
+CRATES = ROOT / "crates"
+CC = os.environ.get("CC", "cc")
+SPECIFICATION = (ROOT / "docs/SPECIFICATION.md").read_text()
+
+
+@dataclass
+class Result:
+    """What a program wrote and ended with. Bytes that aren't UTF-8 are surrogates, so that pytest can show a difference by lines."""
+
+    status: int
+    out: str
+    err: str
+
+    def __init__(self, status, out, err):
+        self.status, self.out, self.err = status, decoded(out), decoded(err)
+
+
+def decoded(text):
+    return text.decode("utf-8", "surrogateescape") if isinstance(text, bytes) else text
+
+
+def program(name):
+    """The path of a program that was proved and built."""
+    path = CRATES / name / "out" / name
+    if not path.is_file():
+        pytest.fail(f"{path} isn't built: `rt run` in crates/{name} builds it, and `rt ci` builds all programs")
+    return path
+
+
+def run(command, args=(), stdin=b"", **options):
+    """Runs a program of the repository, by its name, or any other, by its path."""
+    path = program(command) if isinstance(command, str) else command
+    given = {"input": stdin} if isinstance(stdin, bytes) else {"stdin": stdin}
+    given = {"cwd": ROOT, "stdout": subprocess.PIPE, "stderr": subprocess.PIPE, "timeout": 60, **given, **options}
+    ended = subprocess.run([path, *args], **given)
+    return Result(ended.returncode, ended.stdout, ended.stderr)
+
+
+def compiled(to, *words):
+    """The path of what the C compiler makes of these words."""
+    ended = subprocess.run([CC, "-std=c11", "-O2", "-Wall", "-Wextra", *words, "-o", to], cwd=ROOT, capture_output=True, text=True)
+    assert ended.returncode == 0, ended.stderr
+    return to
+
+
+def repeated(text):
+    r"""The text with N times TEXT in place of each \{N TEXT}."""
+    return re.sub(r"\\(?:\{(\d+) ([^}]*)\}|.)", lambda it: it[2] * int(it[1]) if it[1] else it[0], text)
+
+
+def spelled(text):
+    r"""The bytes that a golden case means: \\ is a backslash, \r CR, \xHH a byte, and \{N TEXT} N times the TEXT."""
+    escapes = {b"\\": b"\\", b"r": b"\r"}
+    return re.sub(rb"\\(?:x([0-9A-F]{2})|(.?))", lambda it: bytes.fromhex(it[1].decode()) if it[1] else escapes[it[2]], repeated(text).encode())
+
+
+def tables(document):
+    """The rows of a document's tables, each the list of its cells."""
+    rows = [line[1:-1].split("|") for line in document.splitlines() if line.startswith("| ")]
+    return [[cell.strip() for cell in row] for row in rows]
+
+
+def documented_warnings():
+    """The texts of each warning by its name, in the order of docs/SPECIFICATION.md. In one of them KEY stands for a key."""
+    texts = {}
+    for row in tables(SPECIFICATION):
+        if len(row) == 3 and re.fullmatch(r"`[a-z0-9-]+`", row[0]):
+            texts.setdefault(row[0].strip("`"), []).append(row[2])
+    return texts
+
+
+WARNINGS = documented_warnings()
+
+
+def text_of(name, detail=""):
+    """The documented text of a warning. Its detail is the key that may be meant, or else the URL that the warning is about."""
+    for text in WARNINGS[name]:
+        if detail and "KEY" in text:
+            return text.replace("KEY", detail)
+    text = WARNINGS[name][-1]
+    return f"{text}: {detail}" if detail else text
+
+
+def warning_line(warning):
+    """The line on standard error for a warning that a golden case writes as `[LINE] NAME [DETAIL]`."""
+    line, name, detail = re.fullmatch(r"(?:(\d+) )?([a-z0-9-]+)(?: (.*))?", warning).groups()
+    return f"robots_audit: warning: {f'line {line}: ' if line else ''}{text_of(name, detail or '')} [{name}]\n"
+
+
+KEYS = set("like args agent robots file from pieces room out more warn err status indented".split())
+
+
+def cases_of(text):
+    """The cases of a file by name, each with all its keys: its own, those of the case that it is `like`, and the file's defaults."""
+    tables = tomllib.loads(text)
+    defaults = {key: value for key, value in tables.items() if not isinstance(value, dict)}
+    cases = {}
+    for name, own in tables.items():
+        if not isinstance(own, dict):
+            continue
+        case = {**(cases[own["like"]] if "like" in own else defaults), **own}
+        assert case.keys() <= KEYS, f"{name}: unknown keys {case.keys() - KEYS}"
+        if "more" in own:
+            case["out"] += "\n" + case.pop("more")
+        cases[name] = case
+    return cases
+
+
+def lines(text):
+    """The bytes of these lines, each ended by LF."""
+    return spelled(text) + b"\n" if text else b""
+
+
+def input_of(case, indented=False):
+    """The bytes on standard input. For robots_verdict they can be an agent, the URLs of the expected lines, and a robots.txt file, of
+    which `indented` begins each line but the first with eight spaces."""
+    if "agent" not in case:
+        return spelled(case.get("file", ""))
+    robots = spelled(case["robots"])
+    if indented:
+        robots = re.sub(rb"\n(?!\Z)", b"\n        ", robots)
+    urls = re.findall(r"^(?:allow|deny) \S+ (.*)$", case["out"], re.M)
+    return b"".join(spelled(line) + b"\n" for line in [case["agent"], *urls, ""]) + robots
+
+
+def with_texts(out):
+    """JSON in which [NAME] has become the text of that warning."""
+    name = re.compile(r'"text":"\[([a-z0-9-]+)(?: ([^]]*))?\]')
+    return name.sub(lambda it: '"text":' + json.dumps(text_of(it[1], it[2] or ""), ensure_ascii=False)[:-1], out)
+
+
+def wanted_of(case):
+    out = lines(case.get("out", ""))
+    if out.startswith(b"{"):
+        out = with_texts(out.decode()).encode()
+    if "room" in case:
+        out = out[: case["room"] if case["room"] != "closed" else 0]
+    warnings = spelled(case.get("warn", "")).decode().splitlines()
+    return Result(case.get("status", 0), out, lines(case.get("err", "")) + "".join(map(warning_line, warnings)).encode())

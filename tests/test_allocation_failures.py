@@ -1,0 +1,185 @@
+"""Each allocation of a program fails in turn, and so does each read and write: the program gives the right result or reports the
+failure, writes nothing else, and frees all that it allocated.
+
+The program robots_refusals makes each call of the libraries that its input names. `rt ci` runs it with enough memory, on large inputs
+too.
+"""
+
+import os
+import tempfile
+from itertools import count
+
+import pytest
+from support import CRATES, Result, run, warning_line
+
+CALLS = [line.removesuffix(": right") for line in (CRATES / "robots_refusals/stdout").read_text().splitlines()]
+WITHOUT_MEMORY = [name for name in CALLS if name.endswith(" without memory")]
+WITH_MEMORY = [name for name in CALLS if not name.endswith((" without memory", " on large inputs"))]
+# The call that makes what those without memory use.
+SET_UP = "a robot, two patterns and a URL"
+
+VERDICT_INPUT = (CRATES / "robots_verdict/stdin").read_bytes()
+AUDIT_INPUT = (CRATES / "robots_audit/stdin").read_bytes()
+AUDIT_ARGS = (CRATES / "robots_audit/args").read_text().splitlines()
+VERDICT = Result(0, (CRATES / "robots_verdict/stdout").read_bytes(), "")
+AUDIT_WARNINGS = "".join(map(warning_line, ["6 rule-not-utf8", "11 noindex-line", "2 rule-above-agents"]))
+AUDIT = Result(1, (CRATES / "robots_audit/stdout").read_bytes(), AUDIT_WARNINGS)
+URLS = ["https://example.com/b", "/a%20b/c"]
+
+
+class Failing:
+    """Runs a program over the failing allocator, and keeps what that counted."""
+
+    def __init__(self, heap, name, args=(), stdin=b"", **always):
+        self.heap, self.name, self.args, self.stdin, self.always = heap, name, args, stdin, always
+
+    def __call__(self, **failures):
+        settings = {**self.always, **failures}
+        with tempfile.TemporaryFile() as counts:
+            settings |= {"LD_PRELOAD": self.heap, "COUNTS": counts.fileno()}
+            given = {name: str(value) for name, value in settings.items()}
+            result = run(self.name, self.args, self.stdin, env=os.environ | given, pass_fds=[counts.fileno()])
+            counts.seek(0)
+            told = counts.read().split()
+        assert told, f"the program broke off: {result}"
+        self.allocations, self.failed, self.leaked, self.broken, self.reads = map(int, told)
+        assert self.leaked == 0, f"{settings} leaked {self.leaked} blocks"
+        return result
+
+
+def fail_each_allocation(program, right, reported, later):
+    """Fails the first allocation, with `later` all that follow too, then the second, and so on, until a run meets no failure."""
+    for number in count(1):
+        result = program(FAIL_ALLOCATION=number, FAIL_LATER=int(later))
+        if program.failed == 0:
+            break
+        assert result in (right, reported), f"allocation {number} failed"
+    assert result == right
+    assert number > 1
+
+
+def break_each(program, kind, is_reported):
+    """Makes the first call of a kind, READ or WRITE, fail, then the second, and so on, until a run meets no failure."""
+    right = program()
+    for number in count(1):
+        result = program(**{f"FAIL_{kind}": number})
+        if program.broken == 0:
+            break
+        assert is_reported(result, right, number), f"call {number} failed: {result}"
+    assert result == right
+    assert number > 1
+
+
+later = pytest.mark.parametrize("later", [False, True], ids=["one allocation", "one and all later ones"])
+
+
+@later
+@pytest.mark.parametrize("name", WITH_MEMORY)
+def test_call(failing_heap, name, later):
+    call = Failing(failing_heap, "robots_refusals", stdin=f"{name}\n".encode())
+    fail_each_allocation(call, Result(0, f"{name}: right\n", ""), Result(0, f"{name}: out of memory\n", ""), later)
+
+
+@pytest.mark.parametrize("name", WITHOUT_MEMORY)
+def test_call_without_memory(failing_heap, name):
+    """Every allocation fails after those that make what the call uses: it makes none."""
+    set_up = Failing(failing_heap, "robots_refusals", stdin=f"{SET_UP}\n".encode())
+    set_up()
+    call = Failing(failing_heap, "robots_refusals", stdin=f"{name}\n".encode())
+    assert call(FAIL_ALLOCATION=set_up.allocations + 1, FAIL_LATER=1) == Result(0, f"{name}: right\n", "")
+    assert (call.allocations, call.failed) == (set_up.allocations, 0)
+
+
+@later
+def test_robots_verdict(failing_heap, later):
+    program = Failing(failing_heap, "robots_verdict", stdin=VERDICT_INPUT)
+    fail_each_allocation(program, VERDICT, Result(4, "", "robots_verdict: out of memory\n"), later)
+
+
+BEYOND = "BEYOND"
+AUDIT_RUNS = {
+    "the example": AUDIT_ARGS,
+    "a named file": ["--file", CRATES / "robots_audit/stdin", "Ferris", *URLS],
+    "each agent": ["--agents", *URLS],
+    "JSON": ["--json", "Ferris", *URLS],
+    "wrong arguments": ["--none", "Ferris"],
+    "a name after the first 512,000 bytes": ["--file", BEYOND, "Ferris"],
+}
+
+
+@pytest.fixture
+def beyond(tmp_path):
+    path = tmp_path / "beyond"
+    path.write_bytes(b"#" * 512_000 + b"\nUser-agent: a\n")
+    return path
+
+
+@later
+@pytest.mark.parametrize("what", AUDIT_RUNS)
+def test_robots_audit(failing_heap, beyond, what, later):
+    args = [beyond if word == BEYOND else word for word in AUDIT_RUNS[what]]
+    program = Failing(failing_heap, "robots_audit", args, AUDIT_INPUT)
+    right = AUDIT if what == "the example" else program()
+    fail_each_allocation(program, right, Result(2, "", "robots_audit: out of memory\n"), later)
+
+
+@pytest.fixture
+def long_file(tmp_path):
+    """A file that takes several reads."""
+    path = tmp_path / "long"
+    path.write_bytes(AUDIT_INPUT + b"#" * 200_000)
+    return path
+
+
+@pytest.mark.parametrize("is_named", [True, False], ids=["of a named file", "of standard input"])
+def test_robots_audit_reports_a_failed_read(failing_heap, long_file, is_named):
+    args = ["Ferris", URLS[0]] if not is_named else ["--file", long_file, "Ferris", URLS[0]]
+    why = f"the file {long_file} can't be read" if is_named else "reading standard input failed"
+    program = Failing(failing_heap, "robots_audit", args, b"" if is_named else long_file.read_bytes())
+    break_each(program, "READ", lambda result, right, number: result == Result(2, "", f"robots_audit: {why}\n"))
+
+
+@pytest.mark.parametrize("options", [[], ["--json"]], ids=["text", "JSON"])
+def test_robots_audit_reports_a_failed_write(failing_heap, long_file, options):
+    """It writes a beginning of its report and says that it can't write the rest, or the whole report and a beginning of what it says on
+    standard error."""
+
+    def is_reported(result, right, number):
+        if result.status == 2:
+            return right.out.startswith(result.out) and result.err == "robots_audit: writing the report failed\n"
+        return (result.status, result.out) == (right.status, right.out) and right.err.startswith(result.err)
+
+    program = Failing(failing_heap, "robots_audit", [*options, "Ferris", URLS[0]], long_file.read_bytes())
+    break_each(program, "WRITE", is_reported)
+
+
+@pytest.fixture
+def byte_by_byte(failing_heap):
+    """robots_verdict on its example, of which each read gives a byte and each write takes one."""
+    return Failing(failing_heap, "robots_verdict", stdin=VERDICT_INPUT, PIECE=1)
+
+
+def test_robots_verdict_byte_by_byte(byte_by_byte):
+    assert byte_by_byte() == VERDICT
+
+
+def test_robots_verdict_reports_a_failed_read(byte_by_byte):
+    unread = Result(1, "", "robots_verdict: reading the input failed\n")
+    break_each(byte_by_byte, "READ", lambda result, right, number: result == unread)
+
+
+@pytest.mark.parametrize("writes_nothing", [0, 1], ids=["fails", "writes nothing"])
+def test_robots_verdict_reports_a_failed_write(byte_by_byte, writes_nothing):
+    byte_by_byte.always["WRITE_NOTHING"] = writes_nothing
+    failed = "robots_verdict: writing the output failed\n"
+    break_each(byte_by_byte, "WRITE", lambda result, right, number: result == Result(1, right.out[: number - 1], failed))
+
+
+@pytest.mark.parametrize("size", [1_048_575, 1_048_576, None], ids=["at the end", "a byte before it", "without an end"])
+def test_robots_verdict_reads_at_most_1048576_times(failing_heap, size):
+    """Each read gives a byte, an LF; the last one can be the input's end."""
+    with open(os.devnull if size else "/dev/zero", "rb") as endless:
+        program = Failing(failing_heap, "robots_verdict", stdin=b"\n" * size if size else endless, PIECE=1)
+        result = program()
+    ended = Result(0, "delay none\n", "") if size == 1_048_575 else Result(1, "", "robots_verdict: reading the input failed\n")
+    assert (result, program.reads) == (ended, 1_048_576)

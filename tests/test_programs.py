@@ -1,0 +1,164 @@
+"""Golden tests of the programs: with these arguments and this input, a program writes exactly this and ends with this status.
+
+The cases are the tables of tests/golden/PROGRAM/*.toml; CONTRIBUTING.md says how to write one. Larger inputs are made here.
+"""
+
+import json
+import os
+import re
+import resource
+import signal
+import subprocess
+import time
+from itertools import product
+from pathlib import Path
+
+import pytest
+from support import ROOT, WARNINGS, Result, cases_of, input_of, program, repeated, run, spelled, wanted_of, warning_line
+
+def golden():
+    """The arguments of test_golden for each case, that of CONTRIBUTING.md too."""
+    files = {f"{path.parent.name} {path.stem}": path.read_text() for path in sorted(Path(ROOT, "tests/golden").glob("*/*.toml"))}
+    files["robots_audit CONTRIBUTING"] = re.search(r"^```toml\n(.*?)^```$", Path(ROOT, "CONTRIBUTING.md").read_text(), re.M | re.S)[1]
+    for file, text in files.items():
+        for name, case in cases_of(text).items():
+            yield pytest.param(file.split()[0], case, False, id=f"{file}: {name}")
+            if case.get("indented"):
+                yield pytest.param(file.split()[0], case, True, id=f"{file}: {name}, indented")
+
+
+def feed(pipe, text, size):
+    """Writes a text in pieces with a pause after each, so that a reader gets one at a time."""
+    for at in range(0, len(text), size):
+        pipe.write(text[at : at + size])
+        pipe.flush()
+        time.sleep(0.05)
+    pipe.close()
+
+
+def run_in_pieces(name, args, text, size):
+    with subprocess.Popen([program(name), *args], cwd=ROOT, stdin=subprocess.PIPE, stdout=subprocess.PIPE, stderr=subprocess.PIPE) as child:
+        feed(child.stdin, text, size)
+        return Result(child.wait(60), child.stdout.read(), child.stderr.read())
+
+
+def run_with_room(name, args, stdin, room, folder):
+    """Runs a program whose output takes so many bytes: a file that may have 1,024 bytes, or /dev/full, or a pipe that nobody reads."""
+    if room == "closed":
+        reader, writer = os.pipe()
+        os.close(reader)
+        with os.fdopen(writer, "wb") as out:
+            return run(name, args, stdin, stdout=out)
+    if room == 0:
+        with open("/dev/full", "wb") as out:
+            return run(name, args, stdin, stdout=out)
+
+    def limit():
+        signal.signal(signal.SIGXFSZ, signal.SIG_IGN)
+        resource.setrlimit(resource.RLIMIT_FSIZE, (1024, 1024))
+
+    path = folder / "out"
+    path.write_bytes(bytes(1024 - room))
+    with path.open("ab") as out:
+        result = run(name, args, stdin, stdout=out, preexec_fn=limit)
+    return Result(result.status, path.read_bytes()[1024 - room :], result.err)
+
+
+@pytest.mark.parametrize("name, case, indented", golden())
+def test_golden(name, case, indented, tmp_path):
+    args = [spelled(word) for word in repeated(case.get("args", "")).split()]
+    stdin = os.open(Path(ROOT, case["from"]), os.O_RDONLY) if case.get("from") else input_of(case, indented)
+    try:
+        if "pieces" in case:
+            result = run_in_pieces(name, args, stdin, case["pieces"])
+        elif "room" in case:
+            result = run_with_room(name, args, stdin, case["room"], tmp_path)
+            result.out = result.out or ""
+        else:
+            result = run(name, args, stdin)
+    finally:
+        if isinstance(stdin, int):
+            os.close(stdin)
+    assert result == wanted_of(case)
+    if result.out.startswith("{") and "room" not in case:
+        json.loads(result.out)
+
+
+def test_golden_cases_have_each_warning():
+    warned = {line.split()[0] for _, case, _ in (it.values for it in golden()) for line in re.sub(r"(?m)^\d+ ", "", case.get("warn", "")).split("\n") if line}
+    assert warned == set(WARNINGS)
+
+
+@pytest.mark.parametrize("start, misses", [("/a", "\t\\^{}"), ("/a?x", "\t'`")], ids=["path", "query"])
+def test_a_rule_with_a_byte_that_urls_escape_is_warned_about(start, misses):
+    """Each ASCII byte that means itself in a rule: the warning comes exactly if the rule misses the very URL that it spells."""
+    warned = ""
+    for byte in map(chr, range(1, 128)):
+        if byte in "\n\r#$*":
+            continue
+        rule = f"{start}{byte}/"
+        result = run("robots_audit", ["Ferris", f"http://example.com{rule}"], f"Disallow: {rule}".encode())
+        if result.status == 0:
+            assert result.err == warning_line("1 byte-spelled-otherwise")
+            warned += byte
+        else:
+            assert (result.status, result.err) == (1, "")
+    assert warned == misses
+
+
+def file_of(rules):
+    """A file of so many rules: rule N is about /N/ alone, and denies it if N is odd."""
+    return "User-agent: Ferris\n" + "".join(f"{'Disallow' if n % 2 else 'Allow'}: /{n}/\n" for n in range(1, rules + 1))
+
+
+def report_on(rules, urls):
+    """The report on such a file, with the lines on these URLs, of which all but the empty one name a rule by its number."""
+    width = len(str(rules + 1))
+    out = [f"{1:{width}} + user-agent  Ferris"]
+    out += [f"{n + 1:{width}} + {'disallow' if n % 2 else 'allow':11} /{n}/" for n in range(1, rules + 1)]
+    out += ["group Ferris, named in the file", "delay none", "allow - "]
+    for url in urls[1:]:
+        n = int(url.split("/")[-2])
+        line = f"{'deny' if n % 2 else 'allow'} {n + 1}" if n <= rules else "allow -"
+        out.append(f"{line} {url}")
+    return "\n".join(out) + "\n"
+
+
+@pytest.mark.parametrize("rules, count", [(0, 70), (5000, 1), (5000, 1001)])
+def test_many_rules_and_urls(rules, count):
+    urls = [""] + [f"{'' if n % 2 else 'https://example.com'}/{17 * n}/" for n in range(1, count)]
+    result = run("robots_audit", ["Ferris", *urls], file_of(rules).encode())
+    warnings = ["odd-url"] + ["1 empty-group"] * (rules == 0)
+    out = report_on(rules, urls)
+    assert result == Result(1 if "\ndeny" in out else 0, out, "".join(map(warning_line, warnings)))
+
+
+def test_many_agents():
+    """Agent N, of 100, may not fetch /N/. Every other one is named again, in capitals, which makes no further agent."""
+    urls = [f"/{n}/" for n in range(1, 31)]
+    text, out = "", "group none, as neither the agent nor * is named in the file\ndelay none\n"
+    out += "".join(f"allow - {url}\n" for url in urls)
+    for n in range(1, 101):
+        text += f"User-agent: {'a' * n}_\nDisallow: /{n}/\n"
+        out += f"group {'a' * n}_, named in the file\ndelay none\n"
+        out += "".join(f"{f'deny {2 * n}' if m == n else 'allow -'} {url}\n" for m, url in enumerate(urls, 1))
+    for n in range(1, 101, 2):
+        text += f"User-agent: {'A' * n}_\nAllow: /none/{n}\n"
+    assert run("robots_audit", ["-a", *urls], text.encode()) == Result(1, out, "")
+
+
+def test_many_pages():
+    pages = [f"https://www.example.com/archive/page-number-{n}" for n in range(10_000)]
+    text = "BobBot\n" + "".join(f"{page}/open\n{page}/closed\n" for page in pages) + "\nDisallow: /archive/*/closed\n"
+    out = "delay none\n" + "".join(f"allow - {page}/open\ndeny 1 {page}/closed\n" for page in pages)
+    assert run("robots_verdict", stdin=text.encode()) == Result(0, out, "")
+
+
+def test_small_rules():
+    """Each text of at most six bytes out of /, a, * and $, with / before it, where the text is the one Allow rule: it is allowed, by
+    that rule or by none."""
+    for length in range(7):
+        for text in map("".join, product("/a*$", repeat=length)):
+            result = run("robots_verdict", stdin=f"B\n/{text}\n\nAllow: {text}".encode())
+            assert (result.status, result.err) == (0, "")
+            assert result.out in (f"delay none\nallow 1 /{text}\n", f"delay none\nallow - /{text}\n")
