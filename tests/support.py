@@ -73,6 +73,11 @@ def tables(document):
     return [[cell.strip() for cell in row] for row in rows]
 
 
+def shown(document):
+    """The indented lines of a document."""
+    return "".join(line[4:] + "\n" for line in document.splitlines() if line.startswith("    "))
+
+
 def documented_warnings():
     """The texts of each warning by its name, in the order of docs/SPECIFICATION.md. In one of them KEY stands for a key."""
     texts = {}

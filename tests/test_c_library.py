@@ -9,7 +9,7 @@ import sys
 from pathlib import Path
 
 import pytest
-from support import CC, CRATES, ROOT, cases_of, compiled, input_of, run, spelled, wanted_of
+from support import CC, CRATES, ROOT, Result, cases_of, compiled, input_of, run, shown, spelled, wanted_of
 
 LIBRARY = CRATES / "robots_c"
 ARCHIVE = LIBRARY / "out/librobots_c.a"
@@ -220,3 +220,15 @@ def test_robots_audit_has_the_same_verdicts(case):
     assert result.status == wanted.status
     if wanted.status != 2:
         assert verdict_lines(result.out) == verdict_lines(wanted.out)
+
+
+def test_using_shows_how_to_build_the_programs_in_c_and_python(shared_object, tmp_path):
+    """The commands but `rt lib`, which has built the archive, and on a file."""
+    (tmp_path / "crates").symlink_to(CRATES)
+    (tmp_path / "examples").symlink_to(ROOT / "examples")
+    (tmp_path / "robots.txt").write_text("User-agent: Ferris\nDisallow: /a\n")
+    using = (ROOT / "USING.md").read_text()
+    commands = [line for line in shown(using[using.index("## From C") :]).splitlines() if "rt lib" not in line]
+    ended = subprocess.run(["bash", "-euc", "\n".join(commands)], cwd=tmp_path, capture_output=True, env=os.environ | {"PYTHONDONTWRITEBYTECODE": "1"})
+    report = "robots https://example.com/robots.txt\ndelay none\nallow - https://example.com/\n"
+    assert Result(ended.returncode, ended.stdout, ended.stderr) == Result(0, report * 2, "")

@@ -8,7 +8,7 @@ import shlex
 import subprocess
 
 import pytest
-from support import CRATES, ROOT, SPECIFICATION, Result, run, tables
+from support import CRATES, ROOT, SPECIFICATION, run, shown, tables
 
 LIBRARY = CRATES / "texting_robots"
 README = (ROOT / "README.md").read_text()
@@ -18,11 +18,6 @@ USING = (ROOT / "USING.md").read_text()
 def code(document, language):
     """The fenced blocks of a document in a language."""
     return re.findall(rf"^```{language}\n(.*?)^```$", document, re.M | re.S)
-
-
-def shown(document):
-    """The indented lines of a document."""
-    return "".join(line[4:] + "\n" for line in document.splitlines() if line.startswith("    "))
 
 
 # ---- public contracts rest on definitions alone, and on nothing that computes
@@ -136,17 +131,6 @@ def test_readme_shows_what_the_first_command_prints():
 def test_readme_names_the_toolchain():
     version = subprocess.run(["rt", "version"], capture_output=True, text=True).stdout.splitlines()[0]
     assert version in shown(README).splitlines()
-
-
-def test_using_shows_how_to_build_the_programs_in_c_and_python(shared_object, tmp_path):
-    """The commands but `rt lib`, which has built the archive, and on a file."""
-    (tmp_path / "crates").symlink_to(CRATES)
-    (tmp_path / "examples").symlink_to(ROOT / "examples")
-    (tmp_path / "robots.txt").write_text("User-agent: Ferris\nDisallow: /a\n")
-    commands = [line for line in shown(USING[USING.index("## From C") :]).splitlines() if "rt lib" not in line]
-    ended = subprocess.run(["bash", "-euc", "\n".join(commands)], cwd=tmp_path, capture_output=True, env=os.environ | {"PYTHONDONTWRITEBYTECODE": "1"})
-    report = "robots https://example.com/robots.txt\ndelay none\nallow - https://example.com/\n"
-    assert Result(ended.returncode, ended.stdout, ended.stderr) == Result(0, report * 2, "")
 
 
 # ---- docs/SPECIFICATION.md
