@@ -1,18 +1,18 @@
 -- The cut read from the front: the first line of a text, and the lines of the rest.
-use Rattle.std.proofs.Common.{◌≡◌, ◌≢◌, ℕ, suc, ◌+◌, ◌%◌, ◌^◌, ◌<◌, ◌≤◌}
-use Rattle.std.proofs.Common.{Bool, true, false, not, ◌==◌, ◌||◌, inl, inr, List, [], ◌∷◌}
+use Rattle.std.proofs.Common.{◌≡◌, ◌≢◌, ℕ, zero, suc, ◌+◌, ◌%◌, ◌^◌, ◌<◌, ◌≤◌}
+use Rattle.std.proofs.Common.{Bool, true, false, ◌==◌, ◌||◌, inl, inr, List, [], ◌∷◌}
 use Rattle.std.proofs.Common.{length, take, drop, get_or, map, sym, refl, ap, ◌∙◌, arith, cond}
 use Rattle.std.proofs.Common.{if◌then◌else◌, map-id, Option, Some, None, MatchOption, bit_or}
-use Rattle.std.specs.{List.position_or_len, Int.trailing_zeros, Int.w64}
-use Rattle.std.proofs.lemmas.Bool.{cases_Bool, cond-true, cond-false, eq-eqb, eqb-true, ne_eqb}
-use Rattle.std.proofs.lemmas.List.{drop-map, get_or-take, take-append-drop, take-map, length-map, length-take}
-use Rattle.std.proofs.lemmas.List.{length-take-le, Recursion.is_position_or_len}
-use Rattle.std.proofs.lemmas.List.Folds.{map_fixed, prefix_len-append}
-use Rattle.std.proofs.lemmas.List.Sums.{fails_before_first, prefix_len-le-length}
-use Rattle.std.proofs.lemmas.Simd.{first_set_mask_l, map-map, mask_l-mod}
+use Rattle.std.specs.{List.list_all, List.position_or_len, Int.trailing_zeros, Int.w64}
+use Rattle.std.proofs.lemmas.Bool.{cases_Bool, cond-false, eqb-true, ne_eqb}
+use Rattle.std.proofs.lemmas.List.{drop-map, get_or-take, take-map, length-map, length-take}
+use Rattle.std.proofs.lemmas.List.{Recursion.is_position_or_len}
+use Rattle.std.proofs.lemmas.List.Folds.{map_fixed}
+use Rattle.std.proofs.lemmas.List.Sums.{fails_before_first}
 use lib.Lanes.{mask_l, top}
 use Rattle.std.proofs.Math.Bool.{or_assoc, or_comm, or_self, or-false}
 use Rattle.memchr.specs.Find.{is_byte2, is_byte3, IsFirstByte}
+use Rattle.texting_robots.proofs.{LaneLemmas.first_marked, LaneLemmas.first_seen}
 use Rattle.texting_robots.proofs.RegionLemmas.{place_is, end_is}
 use Rattle.texting_robots.specs.Cut.{Pair, cr, lf}
 use Rattle.texting_robots.specs.Steps.Cut.{bodies_of, cut, body_len, end_len, read_byte, read_as}
@@ -20,23 +20,23 @@ use Rattle.texting_robots.proofs.CutLemmas.{byte_cases, cut_cons, cut_nil, pair_
 
 -- ---- the first pair
 
-abbrev behind_body : List ℕ → List ℕ
+abbrev pub behind_body : List ℕ → List ℕ
 behind_body text = drop (body_len text) text
 
-abbrev behind_end : List ℕ → List ℕ
+abbrev pub behind_end : List ℕ → List ℕ
 behind_end text = drop (end_len text) text
 
 -- what follows the first body and its end
-abbrev rest_of : List ℕ → List ℕ
+abbrev pub rest_of : List ℕ → List ℕ
 rest_of text = behind_end (behind_body text)
 
-abbrev first_of : List ℕ → Pair
+abbrev pub first_of : List ℕ → Pair
 first_of text = pair_of (take (body_len text) text) (take (end_len (behind_body text)) (behind_body text))
 
-abbrev FirstLine : List ℕ → Type 0
+abbrev pub FirstLine : List ℕ → Type 0
 FirstLine text = cut text ≡ first_of text ∷ cut (rest_of text)
 
-first_line : (b : ℕ) (text : List ℕ) → FirstLine (b ∷ text)
+pub first_line : (b : ℕ) (text : List ℕ) → FirstLine (b ∷ text)
 first_line b [] = elim (byte_cases b) [
   | inl feed ↦ rw (feed, cut_cons) refl
   | inr (inl return) ↦ rw (return, cut_cons, cut_nil) refl
@@ -75,6 +75,17 @@ pub past_return : (n : Bool) (after : List ℕ)
     → drop (end_len (read_as n (cr ∷ after))) (cr ∷ after) ≡ drop (end_len (read_as n after)) after
 past_return true after = refl
 past_return false after = refl
+
+pub past_returns : (n : Bool) (k : ℕ) (text : List ℕ) → list_all (λ b. b == cr) (take k text) ≡ true
+    → k ≤ length text
+    → drop (end_len (read_as n (drop k text))) (drop k text) ≡ drop (end_len (read_as n text)) text
+past_returns n zero text all within = refl
+past_returns n (suc k) [] all within = absurd (omega (arith, within))
+past_returns n (suc k) (b ∷ text) all within = elim (cases_Bool (b == cr)) [
+  | inl is ↦ past_returns n k text (rw is at all) (omega (arith, within))
+      ∙ sym (rw (eqb-true b cr is) (past_return n text))
+  | inr other ↦ let wrong = rw other at all in cc
+]
 
 pub past_line_feed : (n : Bool) (after : List ℕ)
     → drop (end_len (read_as n (lf ∷ after))) (lf ∷ after) ≡ after
@@ -138,16 +149,10 @@ pub front_seen : (n : Bool) (text : List ℕ) (k len : ℕ) → k ≤ length tex
 front_seen n text k len within len_is =
     let test = λ (b : ℕ). read_byte n b == lf || read_byte n b == cr in
     let by = body_by n test (λ b. refl) in
-    let front = take k text in
-    let back = drop k text in
-    let long = length-take-le k text within in
-    let most = prefix_len-le-length (λ b. not (test b)) front in
-    let here : position_or_len test front ≡ len = by front ∙ sym len_is in
-    let seen : body_len (read_as n text) ≡ cond (len == k) (k + body_len (read_as n back)) len =
-    sym (by text) ∙ ap (position_or_len test) (sym (take-append-drop k text))
-    ∙ prefix_len-append (λ b. not (test b)) front back ∙ rw (here, long, by back) refl in (
-      λ less. seen ∙ cond-false _ _ _ (ne_eqb len k (omega arith)),
-      λ all. seen ∙ cond-true _ _ _ (eq-eqb len k (omega arith)),
+    let here : position_or_len test (take k text) ≡ len = by (take k text) ∙ sym len_is in
+    let seen = first_seen test text k within in (
+      λ less. sym (by text) ∙ seen.0 (omega arith) ∙ here,
+      λ all. sym (by text) ∙ seen.1 (omega arith) ∙ ap (λ m. k + m) (by (drop k text)),
     )
 
 -- ---- the lanes of a vector that end a line
@@ -178,17 +183,13 @@ ends_marked n third is b = marked_by (b == cr) (b == lf) (b == third) ∙ rw is 
     by false = rw (or_assoc, or_self) (ends_as_is b)
 
 -- the first lane that is marked is the first end
-pub marked_first : (n : Bool) (f : ℕ → ℕ) (v lanes : List ℕ) → length v ≡ 32 → lanes ≡ map f v
+pub marked_first : (n : Bool) (f : ℕ → ℕ) (width : ℕ) (v lanes : List ℕ) → width ≤ 64
+    → length v ≡ width → lanes ≡ map f v
     → Ends n (λ b. top 7 (f b))
     → (let mask = mask_l (map (top 7) lanes) % 2 ^ 64 in
-    (if mask == 0 then 32 else trailing_zeros w64 mask) ≡ body_len (read_as n v))
-marked_first n f v lanes long lanes_are ends =
-    let test = λ (b : ℕ). top 7 (f b) in
-    let mask : mask_l (map (top 7) lanes) % 2 ^ 64 ≡ mask_l (map test v)
-    = ap (λ l. mask_l l % 2 ^ 64) (ap (map (top 7)) lanes_are ∙ map-map (top 7) f v)
-    ∙ mask_l-mod (map test v) 64 (omega (arith, length-map v test, long)) in
-    ap (λ m. if m == 0 then 32 else trailing_zeros w64 m) mask
-    ∙ first_set_mask_l test v 32 long (omega arith) ∙ body_by n test ends v
+    (if mask == 0 then width else trailing_zeros w64 mask) ≡ body_len (read_as n v))
+marked_first n f width v lanes fits long lanes_are ends =
+    first_marked f width v lanes fits long lanes_are ∙ body_by n (λ b. top 7 (f b)) ends v
 
 -- a body holds no NUL that is read as LF
 body_plain : (n : Bool) (text : List ℕ)

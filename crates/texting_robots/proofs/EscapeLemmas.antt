@@ -1,7 +1,7 @@
 -- The set of `escape.rt` escapes what the definition says.
-use Rattle.std.proofs.Common.{◌≡◌, ℕ, ◌<◌, ◌≤◌, true, List, []}
-use Rattle.std.proofs.Common.{◌∷◌, ◌++◌, refl, ap, inl, inr, arith, not}
-use Rattle.std.specs.List.{list_all}
+use Rattle.std.proofs.Common.{◌≡◌, ℕ, ◌<◌, ◌≤◌, false, List, []}
+use Rattle.std.proofs.Common.{◌∷◌, ◌++◌, refl, ap, inl, inr, arith}
+use Rattle.std.specs.List.{list_any}
 use Rattle.std.proofs.Math.Bool.{or-true}
 use Rattle.std.proofs.lemmas.Bool.{agree_below_at, cases_Bool, cases_lt, lt-ltb, le-ltb}
 use Rattle.percent_encoding.specs.AsciiSet.{should_percent_encode}
@@ -30,7 +30,7 @@ same_escape [] = refl
 same_escape (b ∷ bytes) = rw (same_byte b) (ap (λ rest. escape_byte b ++ rest) (same_escape bytes))
 
 -- where each byte stands for itself, the escape is the text
-pub plain_stays : (bytes : List ℕ) → list_all (λ b. not (is_escaped b)) bytes ≡ true
+pub plain_stays : (bytes : List ℕ) → list_any is_escaped bytes ≡ false
     → escaped bytes ≡ bytes
 plain_stays [] plain = refl
 plain_stays (b ∷ bytes) plain = elim (cases_Bool (is_escaped b)) [

@@ -8,13 +8,15 @@ pub mod StatementLemmas
 pub mod DelayNumbers
 pub mod DelayLemmas
 pub mod LineLemmas
+pub mod AgentLemmas
 pub mod CountLemmas
 pub mod NameLemmas
 pub mod CapturedLemmas
 pub mod StandingLemmas
 pub mod MarkLemmas
 pub mod RulesLemmas
-pub mod LawLemmas
+pub mod LaneLemmas
+mod LawLemmas
 pub mod EscapeLemmas
 pub mod SlashLemmas
 pub mod WholeLemmas

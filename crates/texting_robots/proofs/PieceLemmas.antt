@@ -1,15 +1,18 @@
 -- Cutting a pattern from left to right, and what its pieces decide.
-use Rattle.std.proofs.Common.{◌≡◌, ◌≢◌, ◌↔◌, ◌==◌, ℕ, ◌+◌, ◌-◌, true, List}
-use Rattle.std.proofs.Common.{[], ◌∷◌, ◌++◌, All, length, take, refl, sym, ap, subst, ◌∙◌}
+use Rattle.std.proofs.Common.{◌≡◌, ◌≢◌, ◌↔◌, ◌==◌, ℕ, ◌+◌, ◌-◌, Bool}
+use Rattle.std.proofs.Common.{true, false, not, List, [], ◌∷◌, ◌++◌, All, length, take, drop, refl, sym, ap}
+use Rattle.std.proofs.Common.{subst, ◌∙◌}
 use Rattle.std.proofs.Common.{append_assoc, append-nil, take-append-drop, length-append, arith}
-use Rattle.std.specs.List.{prefix_len}
+use Rattle.std.specs.List.{position_or_len, prefix_len}
 use Rattle.std.proofs.lemmas.List.{drop_at, take_at, Prefix.end_rest, Prefix.front_rest}
-use Rattle.std.proofs.lemmas.List.Elements.{All-cons, All-nil}
+use Rattle.std.proofs.lemmas.List.Elements.{All-cons, All-nil, All-weaker}
+use Rattle.url.proofs.InputLemmas.{All-take-prefix_len, Passes, StopsAt, StopsAt-drop-prefix_len}
 use Rattle.texting_robots.specs.declared.pieces.{Ends.Ends, Ending.Ending, Piece.Piece, Span.Span}
 use Rattle.texting_robots.specs.declared.pieces.Ending.TheVariants.{Open, Closed, Last, Never}
 use Rattle.texting_robots.specs.Steps.Border.{IsTable}
 use Rattle.texting_robots.specs.Steps.Pieces.{AddsPieces, AreLeft, ArePieces, behind_stars, part_of, Closes}
 use Rattle.texting_robots.specs.Steps.Pieces.{EndsAs, IsAtMark, IsCutAtMark, IsEnding, IsLeft, IsPiece}
+use Rattle.texting_robots.specs.Steps.Pieces.{is_mark}
 use Rattle.texting_robots.specs.Steps.Pieces.{IsSpan, Somewhere}
 use Rattle.texting_robots.specs.Pattern.{IsSuffix, Matches, star}
 use Rattle.texting_robots.proofs.PatternLemmas.{closes_decides, end_matches, grows_at_mark, in_front}
@@ -32,6 +35,34 @@ module _ {p : List ℕ} {ends : Ends} {pieces : List Piece} {borders : List ℕ}
             rw (sym (front_rest t first behind split) ∙ front_rest t first after e) n,
         λ n. from (behind, split, n),
       )
+
+-- ---- the first mark
+
+-- what stands before the first mark, and the rest from there on
+pub cut_at_first : (pattern : List ℕ) (k : ℕ) → k ≡ position_or_len is_mark pattern
+    → IsCutAtMark pattern (take k pattern) (drop k pattern)
+cut_at_first pattern k first = record {
+  plain = rw first
+      (All-weaker (Passes other) (λ b. is_mark b ≡ false) (λ b plain. not_true (is_mark b) plain) _
+      (All-take-prefix_len other pattern));
+  parts = sym (take-append-drop k pattern);
+  at_mark = rw first (stops _ (StopsAt-drop-prefix_len other pattern));
+}
+  where
+    other : ℕ → Bool
+    other b = not (is_mark b)
+
+    not_true : (x : Bool) → not x ≡ true → x ≡ false
+    not_true true is = cc
+    not_true false is = refl
+
+    stops : (rest : List ℕ) → StopsAt other rest → IsAtMark rest
+    stops [] at = tt
+    stops (b ∷ rest) at = by (is_mark b) at
+      where
+        by : (x : Bool) → not x ≡ false → x ≡ true
+        by true is = refl
+        by false is = cc
 
 -- ---- from a star on
 

@@ -17,5 +17,6 @@ pub mod Stars
 pub mod Pieces
 pub mod Entries
 pub mod Needs
+pub mod Agents
 pub mod Robot
 pub mod Whole

@@ -1,7 +1,7 @@
 //! The escape.
-ghost use Rattle.std.specs.Prelude.{◌≡◌, ◌++◌, All, IsOk, OnErr, OnOk, IfOk, false, not, string_bytes};
+ghost use Rattle.std.specs.Prelude.{◌≡◌, ◌++◌, All, IsOk, OnErr, OnOk, IfOk, false, string_bytes};
 ghost use Rattle.std.specs.Cow.{cow_str_bytes};
-ghost use Rattle.std.specs.List.{list_all};
+ghost use Rattle.std.specs.List.{list_any};
 ghost use Rattle.texting_robots.specs.Escape.{escaped, is_escaped};
 
 use percent_encoding::{AsciiSet, CONTROLS, ascii_set, percent_encode, utf8_percent_encode};
@@ -19,37 +19,52 @@ pub(crate) fn escaped<'a>(alloc: Global, text: &'a str) -> Result<CowStr<'a, Glo
     utf8_percent_encode(text, ESCAPED).into_cow(alloc)
 }
 
-/// Whether a byte stands for itself.
-fn is_plain(byte: u8) -> bool
-    ensures { result ≡ not (is_escaped byte) }
+/// Whether a byte is escaped.
+fn is_escaped(byte: u8) -> bool
+    ensures { result ≡ is_escaped byte }
 {
-    (byte > b' ')
-        & (byte <= b'~')
-        & (byte != b'"')
-        & (byte != b'<')
-        & (byte != b'>')
-        & (byte != b'`')
+    (byte <= b' ')
+        | (byte > b'~')
+        | (byte == b'"')
+        | (byte == b'<')
+        | (byte == b'>')
+        | (byte == b'`')
 }
 
-/// Whether each byte stands for itself. All are tested: where most do, stopping early costs more than it saves.
-fn are_plain(bytes: &[u8]) -> bool
-    ensures { result ≡ list_all (λ b. not (is_escaped b)) bytes.now }
+/// Whether some byte is escaped. All are tested, with no early exit, so that the compiler can test many at once.
+fn holds_escaped_among(bytes: &[u8]) -> bool
+    ensures { result ≡ list_any is_escaped bytes.now }
 {
-    let mut all = true;
+    let mut holds = false;
     for byte in bytes {
-        all &= is_plain(*byte);
+        holds |= is_escaped(*byte);
     }
-    all
+    holds
+}
+
+/// Whether some byte is escaped. A short text is tested in two parts of one length, which may overlap: at such a length many bytes
+/// are tested at once.
+fn holds_escaped(bytes: &[u8]) -> bool
+    ensures { result ≡ list_any is_escaped bytes.now }
+{
+    match bytes.len() {
+        0..8 => holds_escaped_among(bytes),
+        8..16 => holds_escaped_among(&bytes[..8]) || holds_escaped_among(&bytes[bytes.len() - 8..]),
+        16..=32 => {
+            holds_escaped_among(&bytes[..16]) || holds_escaped_among(&bytes[bytes.len() - 16..])
+        }
+        _ => holds_escaped_among(bytes),
+    }
 }
 
 /// Adds the text with each byte of the set and each byte past ASCII escaped. Most texts have none, and are copied whole.
 pub(crate) fn push_escaped(out: &mut String, text: &str) -> Result<(), AllocError>
     ensures { OnOk result (string_bytes out.new ≡ string_bytes out.old ++ escaped text.now) }
 {
-    if are_plain(text.as_bytes()) {
-        return out.push_str(text);
+    if holds_escaped(text.as_bytes()) {
+        return utf8_percent_encode(text, ESCAPED).append_to(out);
     }
-    utf8_percent_encode(text, ESCAPED).append_to(out)
+    out.push_str(text)
 }
 
 /// Adds the bytes, escaped as rules are. They may be any: each control, space, `"`, `<`, `>` and backquote and each byte past

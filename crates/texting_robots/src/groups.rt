@@ -22,7 +22,8 @@ pub(crate) struct Group<'a> {
     pub(crate) delay_before_agents: Option<u64>,
 }
 
-/// The first pass. It ends at the first line that names the agent, and reads agent lines alone, and delays before them.
+/// The first pass. It reads the lines up to the first user-agent line, where a delay may stand, and then looks for a line that
+/// names the agent.
 #[tactic(auto, using(crate::proofs::RulesLemmas::last_more, crate::proofs::NameLemmas::tested_names))]
 pub(crate) fn group_for<'a>(agent: &'a [u8], lines: UnreadLines<'_>) -> Group<'a>
     ensures name { str_to_ascii_lowercase result.name.now ≡ group_name agent.now lines.entry }
@@ -30,24 +31,22 @@ pub(crate) fn group_for<'a>(agent: &'a [u8], lines: UnreadLines<'_>) -> Group<'a
     ensures start { result.start ≡ start_of lines.entry }
     ensures delay { result.delay_before_agents ≡ delay_before_agents lines.entry }
 {
-    let mut has_agents = false;
+    let mut left = lines;
     let mut last = None;
-    for line in lines {
+    while let Some(line) = left.next() {
         match line.kind() {
             Some(Kind::UserAgent) => {
                 if let Line::UserAgent(name) = line.read() {
-                    if name.eq_ignore_ascii_case(agent) {
-                        return Group {
-                            name: agent,
-                            is_named: true,
-                            start: Walk::start(true),
-                            delay_before_agents: last,
-                        };
-                    }
-                    has_agents = true;
+                    let is_named = name.eq_ignore_ascii_case(agent) || left.name_agent(agent);
+                    return Group {
+                        name: if is_named { agent } else { b"*" },
+                        is_named,
+                        start: Walk::start(true),
+                        delay_before_agents: last,
+                    };
                 }
             }
-            Some(Kind::CrawlDelay) if !has_agents => {
+            Some(Kind::CrawlDelay) => {
                 if let Line::CrawlDelay(delay) = line.read() {
                     last = delay.or(last);
                 }
@@ -58,8 +57,8 @@ pub(crate) fn group_for<'a>(agent: &'a [u8], lines: UnreadLines<'_>) -> Group<'a
     Group {
         name: b"*",
         is_named: false,
-        start: Walk::start(has_agents),
-        delay_before_agents: if has_agents { last } else { None },
+        start: Walk::start(false),
+        delay_before_agents: None,
     }
 }
 

@@ -33,6 +33,7 @@ mod decision;
 mod error;
 mod escape;
 mod groups;
+mod lanes;
 pub mod laws;
 pub mod marks;
 pub mod minregex;

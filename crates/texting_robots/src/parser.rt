@@ -4,16 +4,20 @@ ghost use Rattle.std.specs.Iterator.{YieldsFirst, YieldsFirstBy, item_count};
 ghost use Rattle.std.specs.List.{AllZip};
 ghost use Rattle.texting_robots.specs.Computed.{file_bodies, file_lines, parsed};
 ghost use Rattle.texting_robots.specs.Steps.Line.{line_of, line_with};
-ghost use Rattle.texting_robots.specs.Group.{is_agent, is_group};
+ghost use Rattle.texting_robots.specs.Group.{is_agent, is_agent_named, is_group};
+ghost use Rattle.texting_robots.specs.Marks.{is_named};
+ghost use Rattle.std.specs.Str.{str_to_ascii_lowercase};
 ghost use Rattle.texting_robots.specs.Line.{AreFileBodiesOf, AreFileLinesOf, AreLinesOf, HoldRangesOf};
 ghost use Rattle.texting_robots.specs.Line.{IsLineOf, by_value, delay_in, is_sitemap, nul_as_lf, value_in};
 ghost use Rattle.texting_robots.specs.Line.{without_front};
 
+mod agents;
 mod cut;
 mod delay;
 mod statement;
 
 use crate::error::Error;
+use agents::after_others;
 use cut::{after_end, body_len};
 pub use delay::read_delay;
 pub use statement::Kind;
@@ -111,6 +115,20 @@ impl<'a> Unread<'a> {
         self.kind
     }
 
+    /// Whether it is a user-agent line that names the agent.
+    #[tactic(auto, using(crate::proofs::AgentLemmas::no_agent, crate::proofs::NameLemmas::tested_names))]
+    fn names(&self, agent: &[u8]) -> bool
+        ensures { result ≡ is_agent_named (str_to_ascii_lowercase agent.now) self.now }
+    {
+        match self.kind() {
+            Some(Kind::UserAgent) => match self.read() {
+                Line::UserAgent(name) => name.eq_ignore_ascii_case(agent),
+                _ => false,
+            },
+            _ => false,
+        }
+    }
+
     /// The line, read.
     #[tactic(auto, using(crate::proofs::LineLemmas::line_read, crate::proofs::LineLemmas::line_without_tail, crate::proofs::LineLemmas::line_without_kind))]
     #[inline(always)]
@@ -179,6 +197,22 @@ impl<'a> Model for UnreadLines<'a> {
 }
 
 impl<'a> UnreadLines<'a> {
+    /// Whether one of the lines names the agent. Lines of other kinds are passed over together.
+    pub(crate) fn name_agent(&self, agent: &[u8]) -> bool
+        ensures { result ≡ is_named agent.now self.now }
+    {
+        let nul_ends = self.bodies.nul_ends;
+        let mut rest = self.bodies.rest;
+        while !rest.is_empty() {
+            let (body, _) = rest.split_at(body_len(rest, nul_ends));
+            if Unread::new(body).names(agent) {
+                return true;
+            }
+            rest = after_others(rest, nul_ends);
+        }
+        false
+    }
+
     /// The lines that are left, once more.
     pub(crate) fn again(&self) -> Self
         ensures { result ≡ self.now }
@@ -300,6 +334,7 @@ pub fn file_lines<'a>(input: &'a [u8]) -> LineIter<'a>
 
 /// The line of a statement of this kind with this value.
 #[tactic(auto, using(crate::proofs::DelayLemmas::is_delay_of))]
+#[inline(always)]
 fn line_with<'a>(kind: Kind, value: &'a [u8], body: &'a [u8]) -> Line<'a>
     ensures { by_value result ≡ line_with kind value.now body.now }
 {

@@ -1,6 +1,6 @@
 //! The pieces of a pattern, and where they stand in a text.
-ghost use Rattle.std.specs.Prelude.{◌≡◌, ℕ, ◌+◌, ◌-◌, ◌*◌, ◌≤◌, ◌↔◌, ◌++◌, ◌==◌, [], IsTrue, IfOk, length};
-ghost use Rattle.std.specs.List.{list_all, prefix_len};
+ghost use Rattle.std.specs.Prelude.{◌≡◌, ℕ, ◌+◌, ◌-◌, ◌*◌, ◌≤◌, ◌↔◌, ◌++◌, ◌==◌, [], IsTrue, IfOk, length, take};
+ghost use Rattle.std.specs.List.{list_all, position_or_len, prefix_len};
 ghost use Rattle.texting_robots.specs.Steps.Asked.{PassesTo};
 ghost use Rattle.texting_robots.specs.Steps.Border.{IsTable};
 ghost use Rattle.texting_robots.specs.Steps.Pieces.{AddsPieces, ArePieces, Closes, EndsAs, IsCutAtMark, IsEnding, is_mark};
@@ -8,9 +8,11 @@ ghost use Rattle.texting_robots.specs.Pattern.{IsOverlong, Matches, collapsed, s
 ghost use Rattle.texting_robots.specs.View.{LooksAtMost};
 
 use crate::asked::Asked;
+use crate::lanes::first_lane;
 use memchr::memchr2;
 use std::alloc::AllocError;
 use std::marker::Model;
+use std::simd::prelude::*;
 
 /// Stands for any bytes.
 pub(crate) const STAR: u8 = b'*';
@@ -123,11 +125,57 @@ impl<'a> Pattern<'a> {
     }
 }
 
+/// Where a star or a dollar stands first among the first eight bytes, or eight where none does.
+#[inline(always)]
+fn mark_in_eight(pattern: &[u8]) -> usize
+    requires { 8 ≤ length pattern.now }
+    ensures { result ≡ position_or_len is_mark (take 8 pattern.now) }
+{
+    let bytes = u8x8::from_slice(pattern);
+    let marks = bytes.simd_eq(u8x8::splat(STAR)) | bytes.simd_eq(u8x8::splat(DOLLAR));
+    first_lane(marks.to_bitmask(), 8)
+}
+
+/// Where a star or a dollar stands first among the first sixteen bytes, or sixteen where none does.
+#[inline(always)]
+fn mark_in_sixteen(pattern: &[u8]) -> usize
+    requires { 16 ≤ length pattern.now }
+    ensures { result ≡ position_or_len is_mark (take 16 pattern.now) }
+{
+    let bytes = u8x16::from_slice(pattern);
+    let marks = bytes.simd_eq(u8x16::splat(STAR)) | bytes.simd_eq(u8x16::splat(DOLLAR));
+    first_lane(marks.to_bitmask(), 16)
+}
+
+/// Where a star or a dollar stands first, or how many bytes there are where none does. Most patterns are short, and are
+/// compared in two parts of one length, which may overlap.
+fn first_mark(pattern: &[u8]) -> usize
+    ensures { result ≡ position_or_len is_mark pattern.now }
+{
+    let len = pattern.len();
+    if len < 8 || len > 32 {
+        return memchr2(STAR, DOLLAR, pattern).unwrap_or(len);
+    }
+    if len < 16 {
+        let first = mark_in_eight(pattern);
+        if first < 8 {
+            return first;
+        }
+        return len - 8 + mark_in_eight(&pattern[len - 8..]);
+    }
+    let first = mark_in_sixteen(pattern);
+    if first < 16 {
+        return first;
+    }
+    len - 16 + mark_in_sixteen(&pattern[len - 16..])
+}
+
 /// What stands before the first star or dollar, and the rest from there on.
+#[tactic(auto, using(crate::proofs::PieceLemmas::cut_at_first))]
 fn cut_at_mark(pattern: &[u8]) -> (&[u8], &[u8])
     ensures { IsCutAtMark pattern.now result.0.now result.1.now }
 {
-    pattern.split_at(memchr2(STAR, DOLLAR, pattern).unwrap_or(pattern.len()))
+    pattern.split_at(first_mark(pattern))
 }
 
 /// How many stars stand at the front.

@@ -1,14 +1,18 @@
 //! Where a line ends.
 ghost use Rattle.std.specs.Prelude.{◌≡◌, ◌<◌, ◌≤◌, ◌==◌, MatchOption, drop, if◌then◌else◌, length, take};
-ghost use Rattle.std.specs.Int.{trailing_zeros, w64};
-ghost use Rattle.texting_robots.specs.Cut.{lf};
+ghost use Rattle.std.specs.List.{list_all};
+ghost use Rattle.texting_robots.specs.Cut.{cr, lf};
 ghost use Rattle.texting_robots.specs.Steps.Cut.{body_len, end_len, read_as, read_byte};
 
+use crate::lanes::first_lane;
 use memchr::{memchr2, memchr3};
 use std::simd::prelude::*;
 
 /// How many bytes are compared at once. Most lines are as short as that, or twice.
 const LANES: usize = 32;
+
+/// How many bytes are compared at once where fewer than `LANES` are left.
+const HALF: usize = 16;
 
 /// Where a line end stands first.
 fn first_end(text: &[u8], nul_ends: bool) -> Option<usize>
@@ -29,18 +33,6 @@ fn third_end(nul_ends: bool) -> u8
     if nul_ends { 0 } else { b'\n' }
 }
 
-/// The lowest lane of a mask that is set, or how many there are.
-#[inline(always)]
-fn first_lane(mask: u64) -> usize
-    ensures { result ≡ (if mask == 0 then LANES else trailing_zeros w64 mask) }
-{
-    if mask == 0 {
-        LANES
-    } else {
-        mask.trailing_zeros() as usize
-    }
-}
-
 /// How many of the text's first bytes stand before the first line end among these.
 #[inline(always)]
 fn body_len_in_front(text: &[u8], nul_ends: bool) -> usize
@@ -52,7 +44,37 @@ fn body_len_in_front(text: &[u8], nul_ends: bool) -> usize
     let ends = bytes.simd_eq(u8x32::splat(b'\r'))
         | bytes.simd_eq(u8x32::splat(b'\n'))
         | bytes.simd_eq(u8x32::splat(third));
-    first_lane(ends.to_bitmask())
+    first_lane(ends.to_bitmask(), LANES)
+}
+
+/// The same of half as many bytes.
+#[inline(always)]
+fn body_len_in_half(text: &[u8], nul_ends: bool) -> usize
+    requires { HALF ≤ length text.now }
+    ensures { result ≡ body_len (read_as nul_ends (take HALF text.now)) }
+{
+    let bytes = u8x16::from_slice(text);
+    let third = third_end(nul_ends);
+    let ends = bytes.simd_eq(u8x16::splat(b'\r'))
+        | bytes.simd_eq(u8x16::splat(b'\n'))
+        | bytes.simd_eq(u8x16::splat(third));
+    first_lane(ends.to_bitmask(), HALF)
+}
+
+/// How many bytes stand before the first line end of a short text.
+fn short_body_len(text: &[u8], nul_ends: bool) -> usize
+    ensures value { result ≡ body_len (read_as nul_ends text.now) }
+    ensures within { result ≤ length text.now }
+{
+    if text.len() < HALF {
+        return first_end(text, nul_ends).unwrap_or(text.len());
+    }
+    let len = body_len_in_half(text, nul_ends);
+    if len < HALF {
+        return len;
+    }
+    let rest = text.split_at(HALF).1;
+    HALF + first_end(rest, nul_ends).unwrap_or(rest.len())
 }
 
 /// How many bytes stand before the first line end.
@@ -68,7 +90,7 @@ pub(crate) fn body_len(text: &[u8], nul_ends: bool) -> usize
         }
         rest = rest.split_at(LANES).1;
     }
-    text.len() - rest.len() + first_end(rest, nul_ends).unwrap_or(rest.len())
+    text.len() - rest.len() + short_body_len(rest, nul_ends)
 }
 
 /// Whether the byte ends a line, alone or after CRs.
@@ -78,20 +100,65 @@ fn feeds(byte: u8, nul_ends: bool) -> bool
     byte == b'\n' || nul_ends && byte == 0
 }
 
-/// What follows the line end that the text begins with, mostly an LF alone.
-#[tactic(auto, using(crate::proofs::CutFromFront::past_line_feed, crate::proofs::CutFromFront::past_return, crate::proofs::CutFromFront::past_feed, crate::proofs::CutFromFront::no_end))]
-pub(crate) fn after_end<'a>(text: &'a [u8], nul_ends: bool) -> &'a [u8]
+/// Whether each byte is a CR. All are tested, with no early exit, so that the compiler can test many at once.
+fn are_returns(bytes: &[u8]) -> bool
+    ensures { result ≡ list_all (λ b. b == cr) bytes.now }
+{
+    let mut all = true;
+    for byte in bytes {
+        all &= *byte == b'\r';
+    }
+    all
+}
+
+/// The text without most of the CRs at its front, which are passed over `LANES` at a time.
+#[inline(never)]
+fn skip_returns<'a>(text: &'a [u8], nul_ends: bool) -> &'a [u8]
+    ensures { drop (end_len (read_as nul_ends result.now)) result.now ≡ drop (end_len (read_as nul_ends text.now)) text.now }
+{
+    let mut rest = text;
+    while rest.len() >= LANES && are_returns(&rest[..LANES]) {
+        rest = rest.split_at(LANES).1;
+    }
+    rest
+}
+
+/// The text, without most of the CRs at its front if there are at least two. Most line ends have one CR or none, and are left to
+/// the caller.
+#[inline(always)]
+fn without_many_returns<'a>(text: &'a [u8], nul_ends: bool) -> &'a [u8]
+    ensures { drop (end_len (read_as nul_ends result.now)) result.now ≡ drop (end_len (read_as nul_ends text.now)) text.now }
+{
+    match text {
+        [b'\r', b'\r', ..] => skip_returns(text, nul_ends),
+        _ => text,
+    }
+}
+
+/// What follows the line end that the text begins with, whatever end that is.
+#[tactic(auto, using(crate::proofs::CutFromFront::past_return, crate::proofs::CutFromFront::past_feed, crate::proofs::CutFromFront::no_end))]
+#[inline(never)]
+fn after_any_end<'a>(text: &'a [u8], nul_ends: bool) -> &'a [u8]
     ensures { result.now ≡ drop (end_len (read_as nul_ends text.now)) text.now }
 {
-    if let [b'\n', after @ ..] = text {
-        return after;
-    }
-    let mut rest = text;
+    let mut rest = without_many_returns(text, nul_ends);
     while let [b'\r', after @ ..] = rest {
         rest = after;
     }
     match rest {
         [byte, after @ ..] if feeds(*byte, nul_ends) => after,
         _ => rest,
+    }
+}
+
+/// What follows the line end that the text begins with. Most are an LF alone, and that is tested without a call.
+#[tactic(auto, using(crate::proofs::CutFromFront::past_line_feed))]
+#[inline(always)]
+pub(crate) fn after_end<'a>(text: &'a [u8], nul_ends: bool) -> &'a [u8]
+    ensures { result.now ≡ drop (end_len (read_as nul_ends text.now)) text.now }
+{
+    match text {
+        [b'\n', after @ ..] => after,
+        _ => after_any_end(text, nul_ends),
     }
 }

@@ -1,5 +1,5 @@
 //! Which statement a body is.
-ghost use Rattle.std.specs.Prelude.{◌≡◌, ◌↔◌, ◌==◌, IsTrue, MatchOption, Some, None, map, true, false, drop, length};
+ghost use Rattle.std.specs.Prelude.{◌≡◌, ◌↔◌, ◌==◌, IfSome, IsTrue, MatchOption, Some, None, map, true, false, drop, length};
 ghost use Rattle.std.specs.List.{list_any};
 ghost use Rattle.std.specs.Str.{str_to_ascii_lowercase};
 ghost use Rattle.texting_robots.specs.Statement.{spellings};
@@ -118,12 +118,37 @@ fn tail_of<'a>(rest: &'a [u8]) -> Option<&'a [u8]>
     }
 }
 
-/// What follows the separator, if the text begins with a key of this kind.
+/// What follows the key, if it has the usual spelling and the usual case. Other keys are left to [`after_any`].
+#[inline(always)]
+fn after_usual<'a>(kind: Kind, text: &'a [u8]) -> Option<&'a [u8]>
+    ensures { IfSome result (λ rest. after_any (spellings kind) text.now ≡ Some rest.now) }
+{
+    match kind {
+        Kind::UserAgent => text.strip_prefix(b"User-agent"),
+        Kind::Allow => text.strip_prefix(b"Allow"),
+        Kind::Disallow => text.strip_prefix(b"Disallow"),
+        Kind::Sitemap => text.strip_prefix(b"Sitemap"),
+        Kind::CrawlDelay => text.strip_prefix(b"Crawl-delay"),
+    }
+}
+
+/// What follows the separator, if the text begins with a key of this kind, in any of its spellings.
 #[inline(never)]
-pub(crate) fn tail_as<'a>(kind: Kind, text: &'a [u8]) -> Option<&'a [u8]>
+fn tail_by_spellings<'a>(kind: Kind, text: &'a [u8]) -> Option<&'a [u8]>
     ensures { MatchOption result (tail_as kind text.now ≡ None) (λ tail. tail_as kind text.now ≡ Some tail.now) }
 {
     tail_of(after_any(spellings(kind), text)?)
+}
+
+/// What follows the separator, if the text begins with a key of this kind.
+#[inline(always)]
+pub(crate) fn tail_as<'a>(kind: Kind, text: &'a [u8]) -> Option<&'a [u8]>
+    ensures { MatchOption result (tail_as kind text.now ≡ None) (λ tail. tail_as kind text.now ≡ Some tail.now) }
+{
+    match after_usual(kind, text) {
+        Some(rest) => tail_of(rest),
+        None => tail_by_spellings(kind, text),
+    }
 }
 
 /// Whether a byte is a hash. It has no way out before the last byte, so a few bytes are compared at once.
@@ -185,6 +210,9 @@ fn trimmed_by_chars<'a>(text: &'a [u8]) -> &'a [u8]
 fn trimmed<'a>(text: &'a [u8]) -> &'a [u8]
     ensures { result.now ≡ trimmed text.now }
 {
+    if text.is_empty() {
+        return text;
+    }
     match (text.first(), text.last()) {
         (Some(first), Some(last)) if first.is_ascii_graphic() && last.is_ascii_graphic() => text,
         _ => trimmed_by_chars(text),

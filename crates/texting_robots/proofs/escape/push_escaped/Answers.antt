@@ -3,13 +3,13 @@ use Rattle.std.proofs.lemmas.Result.{on_ok_weaker}
 use Rattle.texting_robots.proofs.EscapeLemmas.{plain_stays, same_escape}
 use Rattle.texting_robots.proofs.escape.push_escaped.Goals as goal
 
-pub returns-then-are_plain : goal.returns-then-are_plain
-returns-then-are_plain c =
-    let plain = rw c.as_bytes.ensures.value at (sym c.are_plain.ensures ∙ c.if-are_plain.true) in
-    rw (plain_stays c.args.text.now plain) (search rules)
-
-pub returns : goal.returns
-returns c =
+pub returns-then-holds_escaped : goal.returns-then-holds_escaped
+returns-then-holds_escaped c =
     let text = c.utf8_percent_encode.ensures.text ∙ same_escape c.args.text.now in
     let whole = ap (λ t. string_bytes c.args.out.now ++ t) text in
     on_ok_weaker c.append_to.result (λ added. added ∙ whole) c.append_to.ensures.ok
+
+pub returns : goal.returns
+returns c =
+    let plain = rw c.as_bytes.ensures.value at (sym c.holds_escaped.ensures ∙ c.if-holds_escaped.false) in
+    rw (plain_stays c.args.text.now plain) (search rules)

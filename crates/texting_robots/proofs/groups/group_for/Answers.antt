@@ -9,5 +9,4 @@ loop-line-init c =
     let lines = c.args.lines in
     let last = λ (front : List LineValue). cond (list_any is_agent lines)
     (last_or None (filter_map delay_in front)) None in
-    rw c.into_iter-line-iterator.ensures.into_iter_gives
-    (record { named = refl; agents = refl; delay = ap last (sym (before_agents lines)) })
+    record { named = refl; agents = refl; delay = ap last (sym (before_agents lines)) }

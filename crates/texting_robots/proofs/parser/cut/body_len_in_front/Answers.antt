@@ -10,7 +10,7 @@ returns c =
     let v = chunk 0 32 c.args.text.now in
     let third = c.third_end-third.result in
     let long = length-chunk 0 32 c.args.text.now (omega arith) in
-    c.first_lane.ensures ∙ marked_first c.args.nul_ends _ v _ long
+    c.first_lane.ensures ∙ marked_first c.args.nul_ends _ 32 v _ (omega arith) long
     (zip2_of_maps _ _ _ v (zip2_of_maps _ _ _ v (zip2_splat _ v 32 cr long) (zip2_splat _ v 32 lf long))
     (zip2_splat _ v 32 third long))
     (ends_marked c.args.nul_ends third c.third_end-third.ensures)

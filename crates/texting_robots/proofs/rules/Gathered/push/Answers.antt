@@ -13,13 +13,15 @@ new-requires c =
 
 pub returns-clause-known : goal.returns-clause-known
 returns-clause-known c =
-    let text = c.in_ok-push_escaped.ensures in
+    let room = c.in_ok-make_first_room.ensures in
+    let text = rw room.text at c.in_ok-push_escaped.ensures in
     let added = c.in_ok-ends.ensures in
     let old = c.args.self.now in
     let old_text = string_bytes old.text in
     let more = escaped c.args.value.now in
     let put = ap length text ∙ length-append old_text more in
     let size = ap length text in
+    let before = ap length room.text in
     let len : c.len-end_byte.result - c.len-first_byte.result ≡ length more = omega arith in
     let same = ap (λ (t : List ℕ). slice_range t c.len-first_byte.result (length t))
     (c.as_bytes.ensures.value ∙ text)
@@ -29,8 +31,9 @@ returns-clause-known c =
     let needed = subst (λ (p : List ℕ). AreNeeds p c.of-needs.result)
     (c.new.ensures ∙ same) c.of-needs.ensures in
     let pieces = ap length added.put_pieces in
+    let as_many = ap length room.entries in
     record {
-      known = rw (c.in_ok-push.ensures.items, text, added.put_pieces, added.put_tables)
+      known = rw (c.in_ok-push.ensures.items, room.entries, text, added.put_pieces, added.put_tables)
           (entries_pushed old_text more old.pieces.items added.pieces old.borders.items added.tables
           old.entries.items _ c.requires.known
           (rw (← added.put_tables) (entry_new old_text more old.pieces.items added.pieces _ _ (record {
@@ -40,16 +43,18 @@ returns-clause-known c =
             needed = needed;
             ranked = rw (← len) c.rank_of.ensures;
           }))));
-      signs = omega arith;
+      signs = omega (arith, c.in_ok-make_room.ensures, c.len.ensures);
     }
 
 pub returns-clause-added : goal.returns-clause-added
 returns-clause-added c =
-    let text = c.in_ok-push_escaped.ensures in
+    let room = c.in_ok-make_first_room.ensures in
+    let text = rw room.text at c.in_ok-push_escaped.ensures in
     let old = c.args.self.now in
     let old_text = string_bytes old.text in
     let more = escaped c.args.value.now in
     let size = ap length text in
-    rw (c.in_ok-push.ensures.items, text)
+    let before = ap length room.text in
+    rw (c.in_ok-push.ensures.items, room.entries, text)
     (rules_pushed old_text more old.pieces.items old.borders.items old.entries.items _ c.requires.known
     (record { start = omega arith; end = omega arith }))

@@ -1,0 +1,100 @@
+-- Where the first byte that passes a test stands, as vectors find it.
+use Rattle.std.proofs.Common.{◌≡◌, ℕ, ◌+◌, ◌-◌, ◌%◌, ◌^◌, ◌<◌, ◌≤◌}
+use Rattle.std.proofs.Common.{◌==◌, ◌||◌, Bool, true, false, not, List, length, take, drop, map}
+use Rattle.std.proofs.Common.{sym, refl, ap, ◌∙◌, arith, cond}
+use Rattle.std.proofs.Common.{if◌then◌else◌, bit_or, inl, inr, Option, Some, None}
+use Rattle.std.specs.{List.position_or_len, Int.trailing_zeros, Int.w64}
+use Rattle.std.proofs.lemmas.Bool.{cases_lt, cond-true, cond-false, eq-eqb, ne_eqb}
+use Rattle.std.proofs.lemmas.List.{length-drop, length-map, length-take, length-take-le}
+use Rattle.std.proofs.lemmas.List.{take-append-drop, take_all, take_rest}
+use Rattle.std.proofs.lemmas.List.{Folds.prefix_len-append, Sums.prefix_len-le-length}
+use Rattle.std.proofs.lemmas.Simd.{first_set_mask_l, map-map, mask_l-mod}
+use lib.Lanes.{mask_l, top}
+use std.Path.{fun_ext}
+use Rattle.std.specs.Option.{unwrap_or}
+use Rattle.memchr.specs.Find.{IsFirstByte}
+use Rattle.texting_robots.specs.Pattern.{dollar, star}
+use Rattle.texting_robots.specs.Steps.Pieces.{is_mark}
+use Rattle.texting_robots.proofs.RegionLemmas.{place_is, end_is}
+
+-- the first lane that is marked is the first byte that passes
+pub first_marked : (f : ℕ → ℕ) (width : ℕ) (v lanes : List ℕ) → width ≤ 64
+    → length v ≡ width → lanes ≡ map f v
+    → (let mask = mask_l (map (top 7) lanes) % 2 ^ 64 in
+    (if mask == 0 then width else trailing_zeros w64 mask) ≡ position_or_len (λ b. top 7 (f b)) v)
+first_marked f width v lanes fits long lanes_are =
+    let test = λ (b : ℕ). top 7 (f b) in
+    let mask : mask_l (map (top 7) lanes) % 2 ^ 64 ≡ mask_l (map test v)
+    = ap (λ l. mask_l l % 2 ^ 64) (ap (map (top 7)) lanes_are ∙ map-map (top 7) f v)
+    ∙ mask_l-mod (map test v) 64 (omega (arith, length-map v test, long)) in
+    ap (λ m. if m == 0 then width else trailing_zeros w64 m) mask
+    ∙ first_set_mask_l test v width long (omega arith)
+
+module _ (test : ℕ → Bool) (text : List ℕ) where
+  -- the first k bytes, looked at alone: one of them passes, or all are passed over
+  pub first_seen : (k : ℕ) → k ≤ length text
+      → (let here = position_or_len test (take k text) in
+      (here < k → position_or_len test text ≡ here)
+      × (k ≤ here → position_or_len test text ≡ k + position_or_len test (drop k text)))
+  first_seen k within =
+      let front = take k text in
+      let back = drop k text in
+      let here = position_or_len test front in
+      let long = length-take-le k text within in
+      let most = prefix_len-le-length (λ b. not (test b)) front in
+      let seen : position_or_len test text ≡ cond (here == k) (k + position_or_len test back) here =
+      ap (position_or_len test) (sym (take-append-drop k text))
+      ∙ prefix_len-append (λ b. not (test b)) front back ∙ rw long refl in (
+        λ less. seen ∙ cond-false _ _ _ (ne_eqb here k (omega arith)),
+        λ all. seen ∙ cond-true _ _ _ (eq-eqb here k (omega arith)),
+      )
+
+  -- where none of the first k passes, the first one is found among the last k, if the two meet
+  pub last_seen : (k : ℕ) → k ≤ length text → length text ≤ k + k
+      → k ≤ position_or_len test (take k text)
+      → (let n = length text - k in
+      position_or_len test text
+      ≡ n + position_or_len test (take k (take (length text - n) (drop n text))))
+  last_seen k within meet none =
+      let n = length text - k in
+      let whole = (first_seen k within).1 none in
+      let parts = first_seen n (omega arith) in
+      let short = length-drop n text in
+      let behind : take k (take (length text - n) (drop n text)) ≡ drop n text
+      = ap (take k) (take_rest text n) ∙ take_all k (drop n text) (omega arith) in
+      elim (cases_lt (position_or_len test (take n text)) n) [
+        | inl less ↦ absurd (omega (arith, parts.0 less, whole))
+        | inr more ↦ parts.1 more ∙ ap (λ l. n + position_or_len test l) (sym behind)
+      ]
+
+  pub within_front : (k : ℕ) → position_or_len test (take k text) ≤ k
+  within_front k =
+      let most = prefix_len-le-length (λ b. not (test b)) (take k text) in
+      omega (arith, length-take k text)
+
+  -- what `memchr` finds
+  pub found_or_end : (found : Option ℕ) → IsFirstByte test text found
+      → unwrap_or found (length text) ≡ position_or_len test text
+  found_or_end None none = sym (end_is test text none)
+  found_or_end (Some k) first = sym (place_is test text k first.0 first.1)
+
+-- ---- the lanes that hold a star or a dollar
+
+abbrev mark : ℕ → ℕ
+mark b = bit_or (cond (b == star) 255 0) (cond (b == dollar) 255 0)
+
+mark_is : (b : ℕ) → top 7 (mark b) ≡ is_mark b
+mark_is b = marked_by (b == star) (b == dollar)
+  where
+    marked_by : (x y : Bool) → top 7 (bit_or (cond x 255 0) (cond y 255 0)) ≡ (x || y)
+    marked_by true true = refl
+    marked_by true false = refl
+    marked_by false true = refl
+    marked_by false false = refl
+
+pub first_mark_lane : (width : ℕ) (v lanes : List ℕ) → width ≤ 64 → length v ≡ width
+    → lanes ≡ map mark v
+    → (let mask = mask_l (map (top 7) lanes) % 2 ^ 64 in
+    (if mask == 0 then width else trailing_zeros w64 mask) ≡ position_or_len is_mark v)
+first_mark_lane width v lanes fits long lanes_are = first_marked mark width v lanes fits long lanes_are
+    ∙ ap (λ test. position_or_len test v) (fun_ext mark_is)

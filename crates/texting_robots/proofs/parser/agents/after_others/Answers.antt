@@ -1,0 +1,39 @@
+use Rattle.std.proofs.Common.{◌∙◌, drop, length-drop, arith}
+use Rattle.texting_robots.specs.Steps.Cut.{body_len, end_len, read_as}
+use Rattle.texting_robots.proofs.AgentLemmas.{advances, later_lines, passed_over}
+use Rattle.texting_robots.proofs.parser.agents.after_others.Goals as goal
+
+pub loop-rest-preserved : goal.loop-rest-preserved
+loop-rest-preserved c =
+    let i = c.loop-rest.invariant in
+    let rest = c.loop-rest.rest.now in
+    let short = length-drop 32 rest in
+    let none = c.none_begins.ensures c.if-none_begins.true in
+    rw c.split_at.ensures.back (record {
+      some = omega (arith, short);
+      within = omega (arith, short, i.within);
+      same = λ name. passed_over name c.args.nul_ends 32 rest (omega arith) none ∙ i.same name;
+    })
+
+pub returns-clause-shorter : goal.returns-clause-shorter
+returns-clause-shorter c =
+    let i = c.loop-rest.invariant in
+    let n = c.args.nul_ends in
+    let rest = c.loop-rest.rest.now in
+    let k = body_len (read_as n rest) in
+    let after = drop k rest in
+    rw (c.after_end.ensures, c.split_at-2.ensures.back, c.body_len.ensures.value)
+    (omega (
+      arith,
+      advances n rest i.some,
+      i.within,
+      length-drop k rest,
+      length-drop (end_len (read_as n after)) after,
+    ))
+
+pub returns-clause-named : goal.returns-clause-named
+returns-clause-named c name =
+    let i = c.loop-rest.invariant in
+    let rest = c.loop-rest.rest.now in
+    rw (c.after_end.ensures, c.split_at-2.ensures.back, c.body_len.ensures.value)
+    (later_lines name c.args.nul_ends rest i.some ∙ i.same name)

@@ -1,0 +1,14 @@
+use Rattle.std.proofs.Common.{arith, rules}
+use Rattle.std.proofs.lemmas.List.Sorted.{IsPermutation-swap, IsPermutation-trans, length_permutation}
+use Rattle.texting_robots.proofs.rules.swap_by_keys.Goals as goal
+
+pub loop-preserved : goal.loop-preserved
+loop-preserved c =
+    let i = c.loop.invariant in
+    let size = length_permutation _ _ i.permutation in
+    record {
+      permutation = IsPermutation-trans _ _ _ i.permutation
+          (IsPermutation-swap _ _ _ _ (omega arith) (omega arith) c.swap.ensures.items);
+      as_many = search rules;
+      within = search rules;
+    }

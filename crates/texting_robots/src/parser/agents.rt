@@ -1,0 +1,54 @@
+//! Passing over lines that can't be user-agent lines, many bytes at a time and without cutting them.
+ghost use Rattle.std.specs.Prelude.{◌≡◌, ℕ, ◌+◌, ◌<◌, List, false, length, true};
+ghost use Rattle.std.specs.List.{list_any};
+ghost use Rattle.texting_robots.specs.Group.{is_agent_named};
+ghost use Rattle.texting_robots.specs.Steps.Agents.{NoneBegins, is_named_later, may_begin, may_end};
+ghost use Rattle.texting_robots.specs.Steps.{Cut.read_as, Line.lines_of};
+
+use super::cut::{after_end, body_len};
+
+/// How many pairs of neighbouring bytes are tested at once.
+const LANES: usize = 32;
+
+/// Whether the byte may end a line. One comparison is enough, since files hold few other bytes up to CR.
+fn may_end(byte: u8) -> bool
+    ensures { result ≡ may_end byte }
+{
+    byte <= b'\r'
+}
+
+/// Whether a user-agent line may begin with the byte.
+fn may_begin(byte: u8) -> bool
+    ensures { result ≡ may_begin byte }
+{
+    (byte == b' ') | (byte == b'\t') | (byte == b'U') | (byte == b'u')
+}
+
+/// Whether no user-agent line begins right after one of the first bytes. All are tested: where none does, stopping early costs
+/// more than it saves.
+fn none_begins(text: &[u8]) -> bool
+    requires { LANES < length text.now }
+    ensures { result ≡ true → NoneBegins text.now LANES }
+{
+    let mut none = true;
+    for at in 0..LANES {
+        none &= !(may_end(text[at]) & may_begin(text[at + 1]));
+    }
+    none
+}
+
+/// The lines after the first one, without some at their front that can't be user-agent lines.
+pub(crate) fn after_others<'a>(text: &'a [u8], nul_ends: bool) -> &'a [u8]
+    requires { 0 < length text.now }
+    ensures shorter { length result.now < length text.now }
+    ensures named { (name : List ℕ) → list_any (is_agent_named name) (lines_of (read_as nul_ends result.now))
+        ≡ is_named_later name nul_ends text.now }
+{
+    let mut rest = text;
+    while rest.len() > LANES && none_begins(rest) {
+        rest = rest.split_at(LANES).1;
+    }
+    // the rest begins in the first line, or in one that isn't a user-agent line, and goes on with the next line
+    let (_, after) = rest.split_at(body_len(rest, nul_ends));
+    after_end(after, nul_ends)
+}
