@@ -56,11 +56,10 @@ int32_t robots_sitemaps(const uint8_t *agent, size_t agent_len, const uint8_t *f
  * too. */
 int32_t robots_address(const uint8_t *url, size_t url_len, uint8_t *out, size_t out_len, size_t *len);
 
-/* A HANDLE keeps what a file gives a crawler, for one that meets its URLs one by one. No clause says what lies at `at`, or ties it
- * to a file: the clauses of robots_ask speak of the robot that the handle owns, and that this is the one which robots_open read is
- * the caller's word. So the caller owes more here: `at` was written by robots_open or by the latest robots_ask, and no robots_close
- * took it since; the handle is used on the thread that opened it, by one call at a time; and it is closed once. Who has all URLs of
- * a site asks robots_decide, and keeps the whole chain of proof from the file's bytes to the answers. */
+/* A HANDLE keeps what a file gives a crawler, for one that meets its URLs one by one. `at` owns that robot: the clause `opened` of
+ * robots_open says that it is the file's and the crawler's, and the clause `again` of robots_ask that the same robot is handed back.
+ * What the caller owes more: `at` was written by robots_open, at ROBOTS_OK, or by the latest robots_ask, and no robots_close took it
+ * since; the handle is used on the thread that opened it, by one call at a time; and it is closed once. */
 struct robots_handle {
     uint8_t *at;
 };

@@ -21,7 +21,7 @@ use robots_warnings::warnings::warnings;
 use std::alloc::{AllocError, Global};
 use texting_robots::marks::{MarkedLine, overlong_line};
 use texting_robots::robot::Decision;
-use texting_robots::{Error, Robot};
+use texting_robots::{Error, Robot, Site};
 
 /// What is decided on a URL.
 #[derive(Drop)]
@@ -49,11 +49,12 @@ pub(crate) struct Audit<'a, 'b> {
 }
 
 /// What an agent gets of a file, or why it can't use it.
-fn robot_for(alloc: Global, agent: &str, file: &[u8]) -> Result<Robot, Fault>
+fn robot_for(alloc: Global, agent: &str, file: &[u8], site: &Site<'_>) -> Result<Robot, Fault>
+    requires { site.now ≡ take file_limit file.now }
     ensures ok { IfOk result (IsRobotOfFile agent.now (take file_limit file.now)) }
     ensures fault { IfErr result (λ fault. (fault ≢ Fault.Write) × MayFail (agent.now ∷ []) fault file.now) }
 {
-    match Robot::new(alloc, agent, file) {
+    match site.robot(alloc, agent) {
         Ok(robot) => Ok(robot),
         Err(Error::InvalidRule) => match overlong_line(alloc, agent, counted(file))? {
             Some(line) => Err(Fault::InvalidRule(line)),
@@ -86,21 +87,23 @@ fn agent_audit<'a>(
     alloc: Global,
     agent: &str,
     file: &[u8],
+    site: &Site<'_>,
     marks: &[MarkedLine<'_>],
     urls: &[&'a str],
 ) -> Result<AgentAudit<'a>, Fault>
-    requires { lines_of (map mark_by_value marks.now) ≡ lines_read file.now }
+    requires marks { lines_of (map mark_by_value marks.now) ≡ lines_read file.now }
+    requires site { site.now ≡ take file_limit file.now }
     ensures ok { IfOk result (λ audit. IsAgentAudit (map (λ url. url.now) urls.now) (lines_read file.now)
         agent.now (agent_value audit)) }
     ensures fault { IfErr result (λ fault. (fault ≢ Fault.Write)
         × MayFail (agent.now ∷ []) fault file.now) }
 {
-    let robot = robot_for(alloc, agent, file)?;
+    let robot = robot_for(alloc, agent, file, site)?;
     let name = String::from_str(alloc, agent)?;
     match verdicts_on(alloc, &robot, urls) {
         Ok(verdicts) => Ok(AgentAudit {
             agent: name,
-            group: group_of(agent, marks),
+            group: group_of(agent, site, marks),
             delay: robot.delay,
             verdicts,
         }),
@@ -113,10 +116,12 @@ fn agent_audits<'a>(
     alloc: Global,
     agents: &[String],
     file: &[u8],
+    site: &Site<'_>,
     marks: &[MarkedLine<'_>],
     urls: &[&'a str],
 ) -> Result<Vec<AgentAudit<'a>>, Fault>
-    requires { lines_of (map mark_by_value marks.now) ≡ lines_read file.now }
+    requires marks { lines_of (map mark_by_value marks.now) ≡ lines_read file.now }
+    requires site { site.now ≡ take file_limit file.now }
     ensures ok { IfOk result (λ audits. AllZip (IsAgentAudit (map (λ url. url.now) urls.now) (lines_read file.now))
         (map string_bytes agents.now) (map agent_value audits.items)) }
     ensures fault { IfErr result (λ fault. (fault ≢ Fault.Write)
@@ -124,7 +129,7 @@ fn agent_audits<'a>(
 {
     let mut audits = Vec::with_capacity(alloc, agents.len())?;
     for agent in agents {
-        audits.push(agent_audit(alloc, agent, file, marks, urls)?)?;
+        audits.push(agent_audit(alloc, agent, file, site, marks, urls)?)?;
     }
     Ok(audits)
 }
@@ -143,7 +148,8 @@ fn agents_of<'a>(
         × MayFail (agents_asked (asked_by request.now).agent (lines_read file.now)) fault file.now) }
 {
     let names = agents_asked(alloc, request.agent, marks)?;
-    agent_audits(alloc, &names, file, marks, &request.urls)
+    let site = Site::new(alloc, file)?;
+    agent_audits(alloc, &names, file, &site, marks, &request.urls)
 }
 
 /// The agent by which lines are marked.

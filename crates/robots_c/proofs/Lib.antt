@@ -1,1 +1,2 @@
+pub mod KeptSteps
 mod NumberLemmas

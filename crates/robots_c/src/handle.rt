@@ -1,12 +1,13 @@
 //! A robot that C keeps between calls.
-ghost use Rattle.std.specs.Prelude.{◌≡◌, IfErr, IfOk};
+ghost use Rattle.std.specs.Prelude.{◌≡◌, ◌≢◌, Option, Some, None, IfErr, IfOk, pos, take};
 ghost use Rattle.robots_c.specs.Answer.{IsAnswer};
-ghost use Rattle.robots_c.specs.File.{IsRobotOfSomeFile};
-ghost use Rattle.robots_c.specs.Status.{IsWhyNoAnswer, IsWhyNoRobot};
-ghost use Rattle.texting_robots.specs.Callers.{RobotValue};
+ghost use Rattle.robots_c.specs.File.{GivesRobot, IsRobotOfSomeFile};
+ghost use Rattle.robots_c.specs.Status.{HasFault, IsWhyNoAnswer, IsWhyNoRobot};
+ghost use Rattle.texting_robots.specs.Callers.{IsRobotOfFile, RobotValue, file_limit};
 
 use crate::fault::Fault;
 use crate::file::{robot_of, text_of};
+use crate::kept::Kept;
 use crate::urls::answer;
 use std::alloc::Global;
 use std::marker::Model;
@@ -21,11 +22,9 @@ pub struct Handle {
 }
 
 impl Model for Handle {
-    ghost use Rattle.std_alloc.specs.Box.Ownership.{box_owns};
-    ghost use Rattle.std.specs.contracts.impls.GlobalAllocator.TheImpl.{ghosts};
-    ghost use Rattle.texting_robots.specs.contracts.robot.Robot.{the_row};
+    ghost use Rattle.robots_c.specs.Kept.{robot_at};
 
-    ghost also_owns = { λ h. box_owns (ghosts.dealloc_token h.alloc) the_row h.at h.value };
+    ghost also_owns = { λ h. robot_at h.at h.value };
 }
 
 impl Handle {
@@ -38,17 +37,25 @@ impl Handle {
     }
 }
 
-/// Where a robot lies that leaves its box.
-pub(crate) fn place_of(robot: Box<Robot>) -> *mut u8 {
-    Box::into_raw(robot) as *mut u8
-}
-
 /// The robot of a file, in a box.
 pub(crate) fn open(alloc: Global, agent: &[u8], file: &[u8]) -> Result<Box<Robot>, Fault>
-    ensures { IfErr result (IsWhyNoRobot agent.now file.now) }
+    ensures ok { IfOk result (λ robot. IsRobotOfFile agent.now (take file_limit file.now) robot.value) }
+    ensures fault { IfErr result (IsWhyNoRobot agent.now file.now) }
 {
     let robot = robot_of(alloc, agent, file)?;
     Ok(Box::new(alloc, robot)?)
+}
+
+/// Opens the robot of a file for C, whose pointer `at` stays where there is none.
+pub(crate) fn opened(alloc: Global, agent: &[u8], file: &[u8], at: *mut Robot) -> Kept<Robot>
+    ensures answered { result.status ≡ pos 0 → GivesRobot agent.now file.now (λ robot. result.value ≡ Some robot) }
+    ensures refused { result.status ≢ pos 0 → result.at ≡ at }
+    ensures why { HasFault (IsWhyNoRobot agent.now file.now) result.status }
+{
+    match open(alloc, agent, file) {
+        Ok(robot) => Kept::boxed(0, robot),
+        Err(fault) => Kept::nothing(fault.status(), at),
+    }
 }
 
 /// The answer of a robot for one URL.
@@ -58,4 +65,23 @@ pub(crate) fn ask(alloc: Global, robot: &Robot, url: &[u8]) -> Result<i64, Fault
     ensures fault { IfErr result (IsWhyNoAnswer url.now) }
 {
     Ok(answer(alloc, robot, text_of(url)?)?)
+}
+
+/// Answers for one URL, and gives the robot back.
+pub(crate) fn asked(alloc: Global, robot: Handle, url: &[u8], out: &mut i64) -> Kept<Robot>
+    requires { IsRobotOfSomeFile robot.value }
+    ensures answered { result.status ≡ pos 0 → IsAnswer robot.value.rules url.now out.new }
+    ensures refused { result.status ≢ pos 0 → out.new ≡ out.old }
+    ensures why { HasFault (IsWhyNoAnswer url.now) result.status }
+    ensures again { result.value ≡ Some robot.value }
+{
+    let robot = robot.into_box();
+    let status = match ask(alloc, &robot, url) {
+        Ok(number) => {
+            *out = number;
+            0
+        }
+        Err(fault) => fault.status(),
+    };
+    Kept::boxed(status, robot)
 }

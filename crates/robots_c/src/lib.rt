@@ -4,10 +4,14 @@
 //! no answer; only a call that answers 0 writes one.
 #![tactic(auto)]
 
-ghost use Rattle.std.specs.Prelude.{◌≡◌, ◌≢◌, ◌⊎◌, ℤ, List, Some, length, pos};
+ghost use Rattle.std.specs.Prelude.{◌≡◌, ◌≢◌, ◌⊎◌, ℤ, List, Some, length, pos, take};
 ghost use Rattle.std.specs.List.{AllZip};
+ghost use Rattle.std.specs.Borrow.{sem};
+ghost use base.Fml.{fall};
 ghost use Rattle.robots_c.specs.Answer.{IsAnswer, urls_in};
 ghost use Rattle.robots_c.specs.File.{GivesRobot, IsRobotOfSomeFile};
+ghost use Rattle.robots_c.specs.Kept.{opened_at, robot_at};
+ghost use Rattle.texting_robots.specs.Callers.{IsRobotOfFile, file_limit};
 ghost use Rattle.robots_c.specs.Status.{AreSitemaps, HasFault, IsAddress, IsWhyNoAddress, IsWhyNoAnswer};
 ghost use Rattle.robots_c.specs.Status.{IsWhyNoAnswers, IsWhyNoDelay, IsWhyNoRobot, status_of};
 ghost use Rattle.robots_c.specs.Text.{IsPutIn, IsTooLong, IsWritten};
@@ -15,14 +19,17 @@ ghost use Rattle.robots_c.specs.Text.{IsPutIn, IsTooLong, IsWritten};
 mod fault;
 mod file;
 pub mod handle;
+mod kept;
 mod overlong;
 mod texts;
 mod urls;
 
 use fault::Fault;
 use file::delay_of;
-use handle::{Handle, ask, open, place_of};
+use handle::{Handle, asked, opened};
+use kept::Kept;
 use std::alloc::Global;
+use texting_robots::Robot;
 use texts::{address, put, sitemaps};
 use urls::decide;
 
@@ -109,14 +116,11 @@ pub extern "C" fn robots_address(alloc: Global, url: &[u8], out: &mut [u8], len:
 pub extern "C" fn robots_open(alloc: Global, agent: &[u8], file: &[u8], out: &mut *mut u8) -> i32
     ensures refused { result ≢ pos 0 → out.new ≡ out.old }
     ensures why { HasFault (IsWhyNoRobot agent.now file.now) result }
+    ensures* opened { sem 𝓛 (fall (result ≡ pos 0) (λ _. opened_at (IsRobotOfFile agent.now (take file_limit file.now)) out.new)) }
 {
-    match open(alloc, agent, file) {
-        Ok(robot) => {
-            *out = place_of(robot);
-            0
-        }
-        Err(fault) => fault.status(),
-    }
+    let Kept { status, at } = opened(alloc, agent, file, *out as *mut Robot);
+    *out = at as *mut u8;
+    status
 }
 
 /// Answers for one URL as `robots_decide` does, and hands the handle back, whatever the status.
@@ -132,17 +136,11 @@ pub extern "C" fn robots_ask(
     ensures answered { result ≡ pos 0 → IsAnswer robot.value.rules url.now out.new }
     ensures refused { result ≢ pos 0 → out.new ≡ out.old }
     ensures why { HasFault (IsWhyNoAnswer url.now) result }
+    ensures* again { sem 𝓛 (robot_at again.new robot.value) }
 {
-    let robot = robot.into_box();
-    let answer = ask(alloc, &robot, url);
-    *again = place_of(robot);
-    match answer {
-        Ok(number) => {
-            *out = number;
-            0
-        }
-        Err(fault) => fault.status(),
-    }
+    let Kept { status, at } = asked(alloc, robot, url, out);
+    *again = at as *mut u8;
+    status
 }
 
 /// Frees what a handle owns.

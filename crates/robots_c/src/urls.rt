@@ -7,8 +7,8 @@ ghost use Rattle.robots_c.specs.Status.{IsWhyNoAnswers};
 
 use crate::fault::Fault;
 use crate::file::{robot_of, text_of};
+use robots_io::verdicts::decision_on;
 use std::alloc::{AllocError, Global};
-use texting_robots::view::View;
 use texting_robots::{Decision, Robot};
 
 /// A decision as one number: the deciding line's, negative where the crawler may not fetch, and 0 where no line decides.
@@ -28,8 +28,8 @@ pub(crate) fn answer(alloc: Global, robot: &Robot, url: &str) -> Result<i64, All
     requires { LinesFit robot.now.rules }
     ensures { IfOk result (IsAnswer robot.now.rules url.now) }
 {
-    match Robot::prepare_url(alloc, url) {
-        Ok(text) => Ok(number_of(robot.decision(&mut View::new(&text)))),
+    match decision_on(alloc, robot, url) {
+        Ok(decision) => Ok(number_of(decision)),
         Err(_) => Err(AllocError),
     }
 }

@@ -12,8 +12,20 @@ use texting_robots::{Error, Robot};
 ///
 /// # Errors
 ///
-/// `Error::Memory` where memory is refused, or the URL comes to more bytes than `url` can count.
+/// `Error::Memory` if an allocation fails, or the URL has more bytes than `url` can count.
 pub fn decision_on(alloc: Global, robot: &Robot, url: &str) -> Result<Decision, Error>
+    ensures ok { IfOk result (IsDecisionOn robot.now.rules url.now) }
+    ensures memory { IfErr result (λ error. error ≡ Error.Memory) }
+{
+    robot.decide(alloc, url)
+}
+
+/// The same decision, found by counted looks at the text: slower on many rules, and within the bound that [`Robot::decision`] states.
+///
+/// # Errors
+///
+/// As [`decision_on`].
+pub fn counted_decision_on(alloc: Global, robot: &Robot, url: &str) -> Result<Decision, Error>
     ensures ok { IfOk result (IsDecisionOn robot.now.rules url.now) }
     ensures memory { IfErr result (λ error. error ≡ Error.Memory) }
 {

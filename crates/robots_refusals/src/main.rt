@@ -12,6 +12,7 @@ mod ends;
 mod large;
 mod printed;
 mod quiet;
+mod sites;
 mod worked;
 
 use std::io::Read;
@@ -52,6 +53,7 @@ fn makes_calls(rt: &HostRuntime, line: &[u8]) -> bool {
     make_calls!(rt, line, well, printed);
     make_calls!(rt, line, well, quiet);
     make_calls!(rt, line, well, large);
+    make_calls!(rt, line, well, sites);
     make_calls!(rt, line, well, callers);
     make_calls!(rt, line, well, ends);
     make_calls!(rt, line, well, worked);

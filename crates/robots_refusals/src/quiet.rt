@@ -6,7 +6,7 @@ use texting_robots::marks::{MarkedLine, Standing, is_named, marked_lines};
 use texting_robots::minregex::MinRegex;
 use texting_robots::parser::{Line, LineIter, file_lines, lines, read_delay};
 use texting_robots::view::View;
-use texting_robots::{Decision, Error, Robot};
+use texting_robots::{Decision, Error, Robot, Site};
 use url::Url;
 
 /// A call that takes no memory.
@@ -19,6 +19,11 @@ pub(crate) enum Call {
     AllowedWholeUrl,
     AllowedView,
     Decision,
+    DecisionPrepared,
+    DecidePath,
+    SiteDelay,
+    SiteNames,
+    SiteRobot,
     IsMatch,
     MatchesView,
     MatchStars,
@@ -53,6 +58,20 @@ pub(crate) const CALLS: &[(&str, Call)] = &[
     ),
     ("Robot::allowed_view without memory", Call::AllowedView),
     ("Robot::decision without memory", Call::Decision),
+    (
+        "Robot::decision_prepared without memory",
+        Call::DecisionPrepared,
+    ),
+    (
+        "Robot::decide of a plain path without memory",
+        Call::DecidePath,
+    ),
+    ("Site::delay without memory", Call::SiteDelay),
+    ("names of a site without memory", Call::SiteNames),
+    (
+        "Site::robot of a crawler without rules without memory",
+        Call::SiteRobot,
+    ),
     ("MinRegex::is_match without memory", Call::IsMatch),
     ("MinRegex::matches_view without memory", Call::MatchesView),
     ("MinRegex::match_stars without memory", Call::MatchStars),
@@ -74,6 +93,8 @@ struct Asked<'a> {
     robot: &'a Robot,
     patterns: &'a Patterns,
     url: &'a Url,
+    /// A site, which the call of the others' name makes too.
+    site: &'a Site<'static>,
 }
 
 /// Two patterns, of which the longer comes first in their order.
@@ -100,11 +121,22 @@ fn answer_of(alloc: Global, robot: &Robot, call: &Call) -> Result<bool, Error> {
     answer_with(alloc, robot, &make_patterns(alloc)?, call)
 }
 
-/// Makes the URL, and then a call.
+/// Makes the site and the URL, and then a call.
 fn answer_with(
     alloc: Global,
     robot: &Robot,
     patterns: &Patterns,
+    call: &Call,
+) -> Result<bool, Error> {
+    answer_at(alloc, robot, patterns, &Site::new(alloc, NAMES)?, call)
+}
+
+/// Makes the URL, and then a call.
+fn answer_at(
+    alloc: Global,
+    robot: &Robot,
+    patterns: &Patterns,
+    site: &Site<'static>,
     call: &Call,
 ) -> Result<bool, Error> {
     let url = &parsed(alloc, "https://www.rust-lang.org/rust")?;
@@ -112,16 +144,19 @@ fn answer_with(
         robot,
         patterns,
         url,
+        site,
     };
     asks(alloc, &asked, call)
 }
 
-/// Makes a call. Only three are passed the allocator.
+/// Makes a call. Only five are passed the allocator.
 fn asks(alloc: Global, asked: &Asked, call: &Call) -> Result<bool, Error> {
     match call {
         Call::AllowedPath => asks_paths(alloc, asked.robot),
         Call::AllowedWholeUrl => asks_whole_urls(alloc, asked.robot),
         Call::NewRobot => reads_line_ends(alloc),
+        Call::DecidePath => decides_path(alloc, asked.robot),
+        Call::SiteRobot => Ok(asked.site.robot(alloc, "BobBot")?.delay == Some(2_000_000)),
         _ => Ok(is_right(asked, call)),
     }
 }
@@ -134,6 +169,9 @@ fn is_right(asked: &Asked, call: &Call) -> bool {
         Call::AllowedUrl => !asked.robot.allowed_url(asked.url),
         Call::AllowedView => asks_view(asked.robot),
         Call::Decision => asks_decision(asked.robot),
+        Call::DecisionPrepared => asks_decision_prepared(asked.robot),
+        Call::SiteDelay => gives_delays(asked.site),
+        Call::SiteNames => gives_names(asked.site),
         Call::IsMatch => asks_match(&asked.patterns.longer),
         Call::MatchesView => asks_match_of_view(&asked.patterns.longer),
         Call::MatchStars => asks_match_of_stars(&asked.patterns.longer),
@@ -146,7 +184,11 @@ fn is_right(asked: &Asked, call: &Call) -> bool {
         Call::ReadDelay => reads_delays(),
         Call::MarkedLines => marks_page(),
         Call::IsNamed => is_named("smerbot", PAGE) && !is_named("BobBot", PAGE),
-        Call::AllowedPath | Call::AllowedWholeUrl | Call::NewRobot => false,
+        Call::AllowedPath
+        | Call::AllowedWholeUrl
+        | Call::NewRobot
+        | Call::DecidePath
+        | Call::SiteRobot => false,
     }
 }
 
@@ -189,6 +231,28 @@ fn asks_decision(robot: &Robot) -> bool {
     decision == refused
         && decision != of_another_line
         && robot.decision(&mut View::new("/robots.txt")).line.is_none()
+}
+
+/// The deciding line, with no comparison counted.
+fn asks_decision_prepared(robot: &Robot) -> bool {
+    robot.decision_prepared("/forest/tree/snake.py").line == Some(4)
+        && robot.decision_prepared("/robots.txt").line.is_none()
+}
+
+/// Decides on a path of which nothing is escaped.
+fn decides_path(alloc: Global, robot: &Robot) -> Result<bool, Error> {
+    Ok(robot.decide(alloc, "/ocean/reef.html")?.line == Some(2))
+}
+
+/// A site's file: one crawler's rule, and a delay for all others.
+const NAMES: &[u8] = b"Crawl-delay: 2\nUser-agent: SmerBot\nCrawl-delay: 3\nDisallow: /a";
+
+fn gives_delays(site: &Site<'_>) -> bool {
+    site.delay("smerbot") == Some(3_000_000) && site.delay("BobBot") == Some(2_000_000)
+}
+
+fn gives_names(site: &Site<'_>) -> bool {
+    site.is_named("SMERBOT") && !site.is_named("*") && site.group_name("BobBot") == b"*".as_slice()
 }
 
 fn asks_match(pattern: &MinRegex) -> bool {

@@ -28,6 +28,8 @@ mod patterns;
 #[cfg(test)]
 mod printed;
 #[cfg(test)]
+mod sites;
+#[cfg(test)]
 mod sweep;
 #[cfg(test)]
 mod urls;

@@ -8,7 +8,7 @@ use crate::fault::Fault;
 use crate::header::read_header;
 use itoa::Buffer;
 use robots_io::lines::push_line;
-use robots_io::verdicts::{decision_on, push_decision};
+use robots_io::verdicts::{counted_decision_on, push_decision};
 use std::alloc::{AllocError, Global};
 use texting_robots::{Error, Robot};
 
@@ -39,7 +39,7 @@ fn push_verdict(alloc: Global, text: &mut String, robot: &Robot, url: &str) -> R
     ensures ok { OnOk result (AddsVerdict as_is robot.now.rules url.now (string_bytes text.old) (string_bytes text.new)) }
     ensures memory { IfErr result (λ error. error ≡ Error.Memory) }
 {
-    let decision = decision_on(alloc, robot, url)?;
+    let decision = counted_decision_on(alloc, robot, url)?;
     push_decision(text, &decision)?;
     Ok(push_line(text, "", url)?)
 }

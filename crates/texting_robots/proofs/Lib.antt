@@ -16,7 +16,12 @@ pub mod StandingLemmas
 pub mod MarkLemmas
 pub mod RulesLemmas
 pub mod LaneLemmas
-mod LawLemmas
+pub mod SiteLemmas
+pub mod SiteRunLemmas
+pub mod SiteNameLemmas
+pub mod SiteAgentLemmas
+pub mod SiteOwnLemmas
+pub mod LawLemmas
 pub mod EscapeLemmas
 pub mod SlashLemmas
 pub mod WholeLemmas

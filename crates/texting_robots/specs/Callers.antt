@@ -13,6 +13,7 @@ pub use Rattle.texting_robots.specs.Robot.{RobotValue, AnswerAlike, IsFileRefuse
 pub use Rattle.texting_robots.specs.Robot.{file_limit}
 pub use Rattle.texting_robots.specs.Marks.{AreMarksOf, Mark, StandsAs, is_named, is_own, mark_by_value}
 pub use Rattle.texting_robots.specs.Marks.{marks_of}
+pub use Rattle.texting_robots.specs.Agents.{agents_in, each_once, is_among}
 -- the same, computed
 pub use Rattle.texting_robots.specs.Computed.{parsed, file_lines, lines_read, file_bodies, bodies_read}
 pub use Rattle.texting_robots.specs.Computed.{placed_rules, rules_for, delay_for, sitemaps_in}

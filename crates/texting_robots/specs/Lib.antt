@@ -6,6 +6,7 @@ pub mod Delay
 pub mod Line
 pub mod Group
 pub mod Marks
+pub mod Agents
 pub mod Escape
 pub mod Pattern
 pub mod Rules

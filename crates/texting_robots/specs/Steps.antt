@@ -19,4 +19,7 @@ pub mod Entries
 pub mod Needs
 pub mod Agents
 pub mod Robot
+pub mod Site
+pub mod Names
+pub mod Own
 pub mod Whole

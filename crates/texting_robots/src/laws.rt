@@ -2,18 +2,19 @@
 ghost use Rattle.std.specs.Prelude.{◌≡◌, ◌≢◌, ◌<◌, ◌↔◌, ◌⊎◌, ℕ, Bool, true, false, not, List, [], ◌∷◌, ◌++◌};
 ghost use Rattle.std.specs.Prelude.{Any, ◌+◌, Option, Some, None, IsTrue, IsPermutation, codes, filter, length};
 ghost use Rattle.std.specs.declared.cmp.Ordering.TheVariants.{Less, Equal};
+ghost use Rattle.std.specs.List.{filter_map, list_any};
 ghost use Rattle.std.specs.Str.{str_to_ascii_lowercase};
 ghost use Rattle.texting_robots.specs.declared.parser.statement.Kind.{Kind};
 ghost use Rattle.texting_robots.specs.Cut.{IsCut, Pair};
 ghost use Rattle.texting_robots.specs.Decision.{IsDecidingRule, IsDecidingLine};
 ghost use Rattle.texting_robots.specs.Delay.{IsDelay};
 ghost use Rattle.texting_robots.specs.Examples as example;
-ghost use Rattle.texting_robots.specs.Group.{IsCaptured, group_name};
+ghost use Rattle.texting_robots.specs.Group.{IsCaptured, group_name, is_agent};
 ghost use Rattle.texting_robots.specs.Laws.{IsSameKind, Same, SameButSitemaps, feeds_alone};
 ghost use Rattle.texting_robots.specs.Line.{AreFileLinesOf, AreLinesOf, HoldRangesOf, LineValue, is_raw, is_sitemap};
 ghost use Rattle.texting_robots.specs.Marks.{AreMarksOf, Mark, marks_of};
 ghost use Rattle.texting_robots.specs.Order.{IsBefore, pattern_cmp};
-ghost use Rattle.texting_robots.specs.Computed.{delay_for, file_lines, parsed, placed_rules, rules_for, sitemaps_in};
+ghost use Rattle.texting_robots.specs.Computed.{captured_delays, delay_for, file_lines, parsed, placed_rules, rules_for, sitemaps_in};
 ghost use Rattle.texting_robots.specs.Pattern.{IsOverlong, Matches, MatchesWith, collapsed};
 ghost use Rattle.texting_robots.specs.Robot.{AnswerAlike, IsRobotOf, RobotValue};
 ghost use Rattle.texting_robots.specs.Rules.{AreRulesFor, AreSitemapsOf, HoldsRule, IsDelayFor, IsRefused, PlacedRule, Rule, unplaced};
@@ -21,6 +22,7 @@ ghost use Rattle.texting_robots.specs.Statement.{IsStatement};
 ghost use Rattle.texting_robots.specs.Steps.Captured.{is_captured};
 ghost use Rattle.texting_robots.specs.Steps.Cut.{cut};
 ghost use Rattle.texting_robots.specs.Steps.Delay.{delay_of};
+ghost use Rattle.texting_robots.specs.Steps.Site.{delay_of as tagged_delay, own_tagged, rule_of};
 ghost use Rattle.texting_robots.specs.Trim.{IsTrimOf};
 ghost use Rattle.texting_robots.specs.Verdict.{IsVerdict, robots_file};
 
@@ -292,4 +294,22 @@ pub fn example_of_a_file()
     ensures lines { example.lines }
     ensures robot { example.robot }
     ensures answers { example.answers }
+{}
+
+/// In a file with user-agent lines an agent's rules and delays are those that stand below the runs of user-agent lines in which
+/// one has its group's name, in the file's order. Whoever reads the contract of `Site::robot` relies on it.
+#[tactic(auto, using(crate::proofs::SiteLemmas::rules_of_runs, crate::proofs::SiteLemmas::delays_of_runs))]
+pub fn captured_by_runs()
+    ensures rules { (agent : List ℕ) (lines : List LineValue) → list_any is_agent lines ≡ true
+        → placed_rules agent lines ≡ filter_map rule_of (own_tagged (group_name agent lines) lines) }
+    ensures delays { (agent : List ℕ) (lines : List LineValue) → list_any is_agent lines ≡ true
+        → captured_delays agent lines ≡ filter_map tagged_delay (own_tagged (group_name agent lines) lines) }
+{}
+
+/// Agents whose groups have the same name have the same robot.
+/// Whoever keeps one robot for all agents that a file doesn't name relies on it.
+#[tactic(auto, using(crate::proofs::SiteOwnLemmas::same_robot))]
+pub fn one_robot_a_group()
+    ensures { (agent other : List ℕ) (lines : List LineValue) (robot : RobotValue)
+        → group_name agent lines ≡ group_name other lines → IsRobotOf agent lines robot → IsRobotOf other lines robot }
 {}

@@ -2,9 +2,10 @@
 //! between two requests, and which sitemaps the file lists. It has the behaviour of the Rust crate `texting_robots`, which
 //! follows Google's reading of the Robots Exclusion Protocol (RFC 9309); `docs/DIFFERENCES.md` lists where it departs.
 //!
-//! [`Robot`] is the way in: `Robot::new` reads a file for an agent, and `allowed` answers for a URL. [`one_agent_allowed`]
-//! reads a file and asks about one text, and its contract is the theorem that the library exists for. [`get_robots_url`] says
-//! where the file of a site stands. [`parser`], [`minregex`] and [`view`] are the layers below.
+//! [`Robot`] is the way in: `Robot::new` reads a file for an agent, and `allowed` answers for a URL. [`Site`] reads a file once
+//! for many agents, and `Site::robot` gives the same robots. [`one_agent_allowed`] reads a file and asks about one text, and its
+//! contract is the theorem that the library exists for. [`get_robots_url`] says where the file of a site stands. [`parser`],
+//! [`minregex`] and [`view`] are the layers below.
 //!
 //! ```
 //! use std::alloc::Global;
@@ -45,6 +46,7 @@ mod prepared;
 mod reading;
 pub mod robot;
 mod rules;
+pub mod site;
 pub mod view;
 mod whole;
 
@@ -53,3 +55,4 @@ pub use error::Error;
 pub use escape::push_escaped_bytes;
 pub use one_agent::one_agent_allowed;
 pub use robot::{Decision, Robot};
+pub use site::Site;

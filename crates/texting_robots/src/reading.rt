@@ -51,7 +51,12 @@ pub(crate) struct Reading {
 
 /// Adds the rule that a value gives, if it is UTF-8.
 #[tactic(auto, using(crate::proofs::RulesLemmas::no_text))]
-fn push_rule(rules: &mut Gathered, value: &[u8], is_allow: bool, line: usize) -> Result<(), Error>
+pub(crate) fn push_rule(
+    rules: &mut Gathered,
+    value: &[u8],
+    is_allow: bool,
+    line: usize,
+) -> Result<(), Error>
     requires { AreEntries rules.old }
     ensures known { OnOk result (AreEntries rules.new) }
     ensures added { OnOk result (rules_in rules.new
@@ -69,7 +74,11 @@ fn push_rule(rules: &mut Gathered, value: &[u8], is_allow: bool, line: usize) ->
 
 /// Adds a value, if it is UTF-8.
 #[tactic(auto, using(crate::proofs::RulesLemmas::no_text))]
-fn push_text(alloc: Global, texts: &mut Vec<String>, value: &[u8]) -> Result<(), AllocError>
+pub(crate) fn push_text(
+    alloc: Global,
+    texts: &mut Vec<String>,
+    value: &[u8],
+) -> Result<(), AllocError>
     ensures added { OnOk result (map string_bytes texts.new.items ≡ map string_bytes texts.old.items
         ++ option_to_list (text_from value.now)) }
     ensures unasked { text_from value.now ≡ None → IsOk result }

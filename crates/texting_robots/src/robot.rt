@@ -128,6 +128,32 @@ impl Robot {
         self.rules.allow(text.as_bytes())
     }
 
+    /// Whether the crawler may fetch a URL, or a path by itself, and the line that decides. It reads the URL as
+    /// [`Robot::allowed`] does, and allocates only where that does. It counts no comparisons, so it is faster than
+    /// [`Robot::decision`] of the URL's prepared text, with the same result.
+    ///
+    /// # Errors
+    ///
+    /// As [`Robot::prepare_url`].
+    pub fn decide(&self, alloc: Global, url: &str) -> Result<Decision, Error>
+        ensures verdict { IfOk result (λ decision. IsVerdict (unplaced self.now.rules) (prepared url.now) decision.allowed) }
+        ensures line { IfOk result (λ decision. IsDecidingLine self.now.rules (prepared url.now) decision.line) }
+        ensures memory { IfErr result (λ e. e ≡ Error.Memory) }
+        ensures without_memory { TakesNoMemory url.now → IsOk result }
+    {
+        let text = prepare(alloc, url)?;
+        Ok(self.decision_prepared(text.as_str()))
+    }
+
+    /// Whether the crawler may fetch what a prepared text is for, and the line that decides: the result of
+    /// [`Robot::decision`], with no comparison counted. It allocates nothing.
+    pub fn decision_prepared(&self, text: &str) -> Decision
+        ensures verdict { IsVerdict (unplaced self.now.rules) text.now result.allowed }
+        ensures line { IsDecidingLine self.now.rules text.now result.line }
+    {
+        self.rules.decide_uncounted(text.as_bytes())
+    }
+
     /// Whether the crawler may fetch what a view's prepared text stands for. It takes no memory, and for each rule at most
     /// twice the text's length of looks; a look is one call of [`View::same`]. Where a rule matches, only the rules count
     /// that are at least as long as the longest that does.

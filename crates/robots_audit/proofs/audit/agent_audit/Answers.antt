@@ -1,5 +1,5 @@
-use Rattle.std.proofs.Common.{List, ap, ◌∙◌}
-use Rattle.texting_robots.specs.Callers.{LineValue, RobotValue}
+use Rattle.std.proofs.Common.{List, ap, sym, ◌∙◌}
+use Rattle.texting_robots.specs.Callers.{LineValue, RobotValue, file_lines}
 use Rattle.robots_audit.specs.Audit.{group_of}
 use Rattle.robots_audit.specs.Steps.{agent_value}
 use Rattle.robots_audit.proofs.AuditLemmas.{agent_made}
@@ -14,5 +14,8 @@ returns-in-Ok-clause-ok c =
       verdicts = c.in-Ok.verdicts;
     }) c.in_ok-robot.robot
     c.in_ok-robot.ensures.ok c.in_ok-name.ensures.ok
-    (c.group_of.ensures ∙ ap (λ (lines : List LineValue). group_of c.args.agent.now lines) c.requires)
+    (c.group_of.ensures ∙ ap (λ (lines : List LineValue). group_of c.args.agent.now lines) c.requires.marks)
     (ap (λ (r : RobotValue). r.delay) c.robot.view_is) c.in-Ok.ensures.ok
+
+pub group_of-requires : goal.group_of-requires
+group_of-requires c = ap file_lines c.requires.site ∙ sym c.requires.marks

@@ -6,7 +6,7 @@ pub unreachable-requires : goal.unreachable-requires
 unreachable-requires c =
     let error = c.in-Err-InvalidRule in
     (rw (c.in-None.is, c.counted.ensures) at c.in_ok-line-in-Err-InvalidRule.ensures)
-    (read_refused _ _ (rw error.field-0-is at error.ensures.refused))
+    (read_refused _ _ (rw (error.field-0-is, c.requires) at error.ensures.refused))
 
 pub returns-in-Some-clause-fault : goal.returns-in-Some-clause-fault
 returns-in-Some-clause-fault c = (
@@ -17,3 +17,6 @@ returns-in-Some-clause-fault c = (
     rw (c.in-Some.is, c.counted.ensures) at c.in_ok-line-in-Err-InvalidRule.ensures,
   ),
 )
+
+pub returns-in-Ok-clause-ok : goal.returns-in-Ok-clause-ok
+returns-in-Ok-clause-ok c = rw c.requires at c.in-Ok.ensures.robot

@@ -1,0 +1,37 @@
+//! What C keeps of a call.
+ghost use Rattle.std.specs.Prelude.{◌≡◌, Option, Some};
+ghost use Rattle.robots_c.specs.Kept.{kept_at};
+
+use std::marker::Model;
+
+/// The status of a call, and where the value lies that C owns from then on, if it owns one.
+pub(crate) struct Kept<T> {
+    pub(crate) status: i32,
+    pub(crate) at: *mut T,
+    pub ghost value: { Option T },
+}
+
+impl<T> Model for Kept<T> {
+    ghost also_owns = { λ k. kept_at T.row k.at k.value };
+}
+
+impl<T: Drop> Kept<T> {
+    /// C owns the value of this box.
+    pub(crate) fn boxed(status: i32, value: Box<T>) -> Kept<T>
+        ensures status { result.status ≡ status }
+        ensures value { result.value ≡ Some value.value }
+    {
+        let at = Box::into_raw(value);
+        Kept { status, at }
+    }
+}
+
+impl<T> Kept<T> {
+    /// C owns nothing: the pointer is its own.
+    pub(crate) fn nothing(status: i32, at: *mut T) -> Kept<T>
+        ensures status { result.status ≡ status }
+        ensures at { result.at ≡ at }
+    {
+        Kept { status, at }
+    }
+}

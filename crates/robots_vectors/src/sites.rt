@@ -1,0 +1,180 @@
+//! A file that is read once for all crawlers, and what each crawler gets of it.
+use crate::helpers::{check, check_equal, long_text};
+use std::process::Abort;
+use texting_robots::{Decision, Error, Robot, Site};
+
+/// Two runs that share a name, a group for all others, a name that isn't UTF-8, and a name in two runs. Its first two lines
+/// are above all user-agent lines.
+const FILE: &[u8] =
+    b"Crawl-delay: 7\nDisallow: /nobody\nUser-agent: Alpha\nUser-agent: BETA\nDisallow: /a\nCrawl-delay: 2\n\
+    User-agent: beta\nAllow: /b\nSitemap: https://example.com/s.xml\nUser-agent: *\nDisallow: /\nSitemap: /\xff\n\
+    User-agent: caf\xe9\nDisallow: /e\nuser-agent: ALPHA\nDisallow: /c\nSitemap: /t";
+
+/// A crawler, its delay, and texts with what decides on them.
+struct CrawlerCase {
+    agent: &'static str,
+    is_named: bool,
+    group: &'static [u8],
+    delay: Option<u64>,
+    decisions: &'static [(&'static str, bool, Option<usize>)],
+}
+
+const CRAWLERS: &[CrawlerCase] = &[
+    CrawlerCase {
+        agent: "aLpHa",
+        is_named: true,
+        group: b"aLpHa",
+        delay: Some(2_000_000),
+        decisions: &[
+            ("/a", false, Some(5)),
+            ("/c/d", false, Some(16)),
+            ("/b", true, None),
+            ("/nobody", true, None),
+        ],
+    },
+    CrawlerCase {
+        agent: "Beta",
+        is_named: true,
+        group: b"Beta",
+        delay: Some(2_000_000),
+        decisions: &[
+            ("/a", false, Some(5)),
+            ("/b", true, Some(8)),
+            ("/c", true, None),
+        ],
+    },
+    CrawlerCase {
+        agent: "Gamma",
+        is_named: false,
+        group: b"*",
+        delay: Some(7_000_000),
+        decisions: &[
+            ("/a", false, Some(11)),
+            ("/e", false, Some(11)),
+            ("/robots.txt", true, None),
+        ],
+    },
+];
+
+fn site_of<'a>(rt: &(impl Abort + AllocGlobal), name: &str, file: &'a [u8]) -> Site<'a> {
+    Site::new(rt.alloc(), file).expect(rt, name)
+}
+
+/// The sitemaps are these.
+fn check_sitemaps(rt: &impl Abort, name: &str, sitemaps: &[String], wanted: &[&str]) {
+    check_equal(rt, name, &sitemaps.len(), &wanted.len());
+    for (place, sitemap) in sitemaps.iter().enumerate() {
+        check(rt, name, wanted.get(place) == Some(&sitemap.as_str()));
+    }
+}
+
+fn check_crawler(rt: &(impl Abort + AllocGlobal), site: &Site<'_>, case: &CrawlerCase) {
+    let robot = site.robot(rt.alloc(), case.agent).expect(rt, case.agent);
+    check_equal(rt, case.agent, &site.is_named(case.agent), &case.is_named);
+    check_equal(rt, case.agent, &site.group_name(case.agent), &case.group);
+    check_equal(rt, case.agent, &site.delay(case.agent), &case.delay);
+    check_equal(rt, case.agent, &robot.delay, &case.delay);
+    check_sitemaps(rt, case.agent, &robot.sitemaps, SITEMAPS);
+    check_decisions(rt, &robot, case);
+}
+
+fn check_decisions(rt: &(impl Abort + AllocGlobal), robot: &Robot, case: &CrawlerCase) {
+    for (text, allowed, line) in case.decisions {
+        let want = Decision {
+            allowed: *allowed,
+            line: *line,
+        };
+        let decision = robot.decide(rt.alloc(), text).expect(rt, case.agent);
+        check_equal(rt, text, &decision, &want);
+        check_equal(rt, text, &robot.decision_prepared(text), &want);
+    }
+}
+
+const SITEMAPS: &[&str] = &["https://example.com/s.xml", "/t"];
+
+#[test]
+fn each_crawler_gets_its_own_groups(rt: HostRuntime) {
+    let site = site_of(&rt, "site", FILE);
+    for case in CRAWLERS {
+        check_crawler(&rt, &site, case);
+    }
+}
+
+#[test]
+fn a_url_is_prepared_before_it_is_decided(rt: HostRuntime) {
+    let site = site_of(&rt, "site", b"User-agent: *\nDisallow: /%C3%A9?q");
+    let robot = site.robot(rt.alloc(), "Bot").expect(&rt, "robot");
+    let decision = robot
+        .decide(rt.alloc(), "HTTPS://Example.com:443/x/../é?q#f")
+        .expect(&rt, "URL");
+    let want = Decision {
+        allowed: false,
+        line: Some(2),
+    };
+    check_equal(&rt, "URL", &decision, &want);
+    check(&rt, "text", robot.decision_prepared("/é?q").allowed);
+}
+
+#[test]
+fn a_site_lists_names_and_sitemaps(rt: HostRuntime) {
+    let site = site_of(&rt, "site", FILE);
+    let agents = site.agents(rt.alloc()).expect(&rt, "agents");
+    check(
+        &rt,
+        "agents",
+        agents.as_slice() == ["Alpha", "BETA", "*"].as_slice(),
+    );
+    let sitemaps = site.sitemaps(rt.alloc()).expect(&rt, "sitemaps");
+    check_sitemaps(&rt, "sitemaps", &sitemaps, SITEMAPS);
+}
+
+/// The first 68 bytes of the file are its first four lines, so no rule below the names is read.
+#[test]
+fn a_limit_cuts_the_file(rt: HostRuntime) {
+    let site = Site::with_limit(rt.alloc(), FILE, 68).expect(&rt, "site");
+    let agents = site.agents(rt.alloc()).expect(&rt, "agents");
+    check(
+        &rt,
+        "agents",
+        agents.as_slice() == ["Alpha", "BETA"].as_slice(),
+    );
+    check_equal(&rt, "delay", &site.delay("Alpha"), &Some(7_000_000));
+    let robot = site.robot(rt.alloc(), "Beta").expect(&rt, "robot");
+    check(&rt, "rules", robot.decision_prepared("/a").line.is_none());
+}
+
+#[test]
+fn a_file_without_names_is_for_everyone(rt: HostRuntime) {
+    let site = site_of(&rt, "site", b"Disallow: /x\nCrawl-delay: 3\nCrawl-delay: 4");
+    let agents = site.agents(rt.alloc()).expect(&rt, "agents");
+    check(&rt, "agents", agents.is_empty());
+    check(&rt, "name", !site.is_named("*"));
+    check_equal(&rt, "delay", &site.delay("Bot"), &Some(3_000_000));
+    let robot = site.robot(rt.alloc(), "Bot").expect(&rt, "robot");
+    check_equal(&rt, "line", &robot.decision_prepared("/x").line, &Some(1));
+}
+
+/// A rule that is too long is an error for its own crawler alone, and of its robot alone.
+#[test]
+fn a_rule_that_is_too_long_is_its_own_crawlers(rt: HostRuntime) {
+    let file = long_text(
+        &rt,
+        "file",
+        &[
+            ("User-agent: A\nCrawl-delay: 1\nDisallow: /", 1),
+            ("a", 4_095),
+            ("$\nSitemap: /s\nUser-agent: B\nDisallow: /b", 1),
+        ],
+    );
+    let site = site_of(&rt, "site", file.as_bytes());
+    check(
+        &rt,
+        "error",
+        matches!(site.robot(rt.alloc(), "A"), Err(Error::InvalidRule)),
+    );
+    check_equal(&rt, "delay", &site.delay("A"), &Some(1_000_000));
+    let sitemaps = site.sitemaps(rt.alloc()).expect(&rt, "sitemaps");
+    check_sitemaps(&rt, "sitemaps", &sitemaps, &["/s"]);
+    let robot = site.robot(rt.alloc(), "B").expect(&rt, "robot");
+    check(&rt, "rule", !robot.decision_prepared("/b").allowed);
+}

@@ -1,0 +1,290 @@
+-- The walk along the lines finds for a name what stands in the runs that have it.
+use Rattle.std.proofs.Common.{◌≡◌, ◌≢◌, ℕ, ◌+◌, ◌<◌, ◌≤◌, Bool, true, false, not, ◌&&◌, ◌||◌}
+use Rattle.std.proofs.Common.{List, [], ◌∷◌, ◌++◌, Option, Some, None, cond, refl, ap, sym, ◌∙◌, arith}
+use Rattle.std.proofs.Common.{append_assoc}
+use Rattle.std.specs.{Prelude.filter}
+use Rattle.std.specs.{List.cons_option, List.filter_map, List.list_any, Option.option_to_list}
+use Rattle.std.proofs.lemmas.List.Elements.{filter_map-append}
+use Rattle.std.proofs.Math.Bool.{and-false, and-true, or-false}
+use Rattle.std.proofs.lemmas.{Bool.eq-eqb, Bool.ne_eqb, List.Folds.list_any-append}
+use Rattle.texting_robots.specs.declared.groups.Walk.{Walk}
+use Rattle.texting_robots.specs.Line.{LineValue, UserAgent, Allow, Disallow, Sitemap, CrawlDelay, Raw}
+use Rattle.texting_robots.specs.Line.{delay_in}
+use Rattle.texting_robots.specs.Group.{group_name, is_agent, is_group}
+use Rattle.texting_robots.specs.Computed.{captured_delays, captured_lines, placed_in, placed_rules}
+use Rattle.texting_robots.specs.Steps.Group.{from_captured, start_of, step}
+use Rattle.texting_robots.specs.Steps.Site.{Named, Tagged, delay_of, has_name, is_of, is_run_of, named}
+use Rattle.texting_robots.specs.Steps.Site.{named_from}
+use Rattle.texting_robots.specs.Steps.Site.{own_tagged, rule_of, tagged_from}
+use Rattle.texting_robots.specs.Steps.Site.{early_after}
+use Rattle.texting_robots.proofs.RulesLemmas.{delay_from, last_more}
+use Rattle.texting_robots.proofs.CapturedLemmas.{captured_walked, kept_next}
+
+-- ---- names of runs
+
+not_of : (name : List ℕ) (r : ℕ) (n : Named) → n.run ≢ r → is_of name r n ≡ false
+not_of name r n other = rw (ne_eqb n.run r other) (and-false _)
+
+here_of : (name : List ℕ) (n : Named) → is_of name n.run n ≡ has_name name n
+here_of name n = rw (eq-eqb n.run n.run refl) (and-true _)
+
+-- one more name
+one_more : (name : List ℕ) (names : List Named) (n : Named) (r : ℕ)
+    → is_run_of name (names ++ n ∷ []) r ≡ (is_run_of name names r || is_of name r n)
+one_more name names n r =
+    list_any-append (is_of name r) names (n ∷ []) ∙ ap (λ b. is_run_of name names r || b) (or-false _)
+
+-- a run that is closed, or an earlier one, gets no name any more
+pub none_later : (name : List ℕ) (r run : ℕ) (joins : Bool) (place count : ℕ) (lines : List LineValue)
+    → run ≤ place
+    → r ≤ run → (joins ≡ true → r < run) → is_run_of name (named_from run joins place count lines) r ≡ false
+none_later name r run joins place count [] within earlier closed = refl
+none_later name r run true place count (UserAgent value ∷ lines) within earlier closed =
+    let below : r < run = closed refl in
+    rw (not_of name r (record { name = value; run = run; start = count }) (λ same. omega arith))
+    (none_later name r run true (place + 1) count lines (omega arith) earlier closed)
+none_later name r run false place count (UserAgent value ∷ lines) within earlier closed =
+    rw (not_of name r (record { name = value; run = place + 1; start = count }) (λ same. omega arith))
+    (none_later name r (place + 1) true (place + 1) count lines (omega arith) (omega arith)
+    (λ _. omega arith))
+none_later name r run joins place count (Allow value ∷ lines) within earlier closed =
+    none_later name r run false (place + 1) (count + 1) lines (omega arith) earlier (λ wrong. cc)
+none_later name r run joins place count (Disallow value ∷ lines) within earlier closed =
+    none_later name r run false (place + 1) (count + 1) lines (omega arith) earlier (λ wrong. cc)
+none_later name r run joins place count (CrawlDelay delay ∷ lines) within earlier closed =
+    none_later name r run false (place + 1) (count + 1) lines (omega arith) earlier (λ wrong. cc)
+none_later name r run joins place count (Sitemap value ∷ lines) within earlier closed =
+    none_later name r run joins (place + 1) count lines (omega arith) earlier closed
+none_later name r run joins place count (Raw body ∷ lines) within earlier closed =
+    none_later name r run joins (place + 1) count lines (omega arith) earlier closed
+
+-- ---- the walk of a name, and the runs
+
+-- the walk is captured where the run has the name, and no later run has a name yet
+record StandsIn (name : List ℕ) (walk : Walk) (run : ℕ) (joins : Bool) (before : List Named) : Type 0 where
+  captured : walk.captured ≡ is_run_of name before run
+  named : walk.named ≡ (joins && walk.captured)
+  first : (r : ℕ) → run < r → is_run_of name before r ≡ false
+
+-- behind a user-agent line of an joins run
+in_run : (name value : List ℕ) (walk : Walk) (run count : ℕ) (before : List Named)
+    → StandsIn name walk run true before
+    → StandsIn name (step name walk (UserAgent value)) run true
+    (before ++ record { name = value; run = run; start = count } ∷ [])
+in_run name value walk run count before stands =
+    let n : Named = record { name = value; run = run; start = count } in
+    record {
+      captured = rw (one_more name before n run, here_of name n, stands.named, stands.captured)
+          (swapped (has_name name n) (is_run_of name before run));
+      named = refl;
+      first = λ r above. rw (
+        one_more name before n r,
+        stands.first r above,
+        not_of name r n
+            (λ same. omega arith),
+      )
+          refl;
+    }
+  where
+    swapped : (a b : Bool) → (a || b) ≡ (b || a)
+    swapped true true = refl
+    swapped true false = refl
+    swapped false true = refl
+    swapped false false = refl
+
+-- behind one that begins a run
+in_new_run : (name value : List ℕ) (walk : Walk) (run place count : ℕ) (before : List Named) → run ≤ place
+    → StandsIn name walk run false before
+    → StandsIn name (step name walk (UserAgent value)) (place + 1) true
+    (before ++ record { name = value; run = place + 1; start = count } ∷ [])
+in_new_run name value walk run place count before within stands =
+    let n : Named = record { name = value; run = place + 1; start = count } in
+    record {
+      captured = rw (
+        one_more name before n (place + 1),
+        here_of name n,
+        stands.named,
+        stands.first (place + 1) (omega arith),
+      ) (or-false _);
+      named = refl;
+      first = λ r above. rw (
+        one_more name before n r,
+        stands.first r (omega arith),
+        not_of name r n (λ same. omega arith),
+      ) refl;
+    }
+
+-- behind a group line
+behind_group : (name : List ℕ) (walk : Walk) (run : ℕ) (joins : Bool) (before : List Named)
+    → StandsIn name walk run joins before
+    → StandsIn name (record { captured = walk.captured; named = false }) run false before
+behind_group name walk run joins before stands =
+    record { captured = stands.captured; named = refl; first = stands.first }
+
+-- what a group line gives, by its run
+group_next : {X : Type 0} (given : Tagged → Option X) (name : List ℕ) (captured : Bool) (tag : Tagged)
+    (names : List Named) (tags : List Tagged) (rest : List X) (here : Option X) → given tag ≡ here
+    → captured ≡ is_run_of name names tag.run
+    → rest ≡ filter_map given (filter (λ t. is_run_of name names t.run) tags)
+    → cons_option (cond captured here None) rest
+    ≡ filter_map given (filter (λ t. is_run_of name names t.run) (tag ∷ tags))
+group_next given name captured tag names tags rest here fits same later =
+    ap (λ o. cons_option (cond captured o None) rest) (sym fits)
+    ∙ rw (same, later) (sym (kept_next (is_run_of name names tag.run) given tag _))
+
+-- the run of a group line gets no further name
+named_here : (name : List ℕ) (walk : Walk) (run : ℕ) (joins : Bool) (place count : ℕ)
+    (before all : List Named)
+    (lines : List LineValue) → run ≤ place → StandsIn name walk run joins before
+    → all ≡ before ++ named_from run false place count lines → walk.captured ≡ is_run_of name all run
+named_here name walk run joins place count before all lines within stands are =
+    rw (
+      are,
+      list_any-append (is_of name run) before (named_from run false place count lines),
+      none_later name run run false place count lines within (omega arith) (λ wrong. cc),
+    )
+    (stands.captured ∙ sym (or-false _))
+
+-- another line gives nothing
+nothing_here : {X : Type 0} (captured : Bool) (o : Option X) (rest : List X) → o ≡ None
+    → cons_option (cond captured o None) rest ≡ rest
+nothing_here true o rest none = rw none refl
+nothing_here false o rest none = refl
+
+-- what is found in the captured lines is found in the lines of the runs that have the name
+found_in_runs : {X : Type 0} (given : ℕ × LineValue → Option X) (of_tag : Tagged → Option X)
+    → ((place run : ℕ) (line : LineValue)
+    → of_tag (record { number = place + 1; line = line; run = run }) ≡ given (place, line))
+    → ((place : ℕ) (line : LineValue) → is_group line ≡ false → given (place, line) ≡ None)
+    → (name : List ℕ) (walk : Walk) (run : ℕ) (joins : Bool) (place count : ℕ) (before all : List Named)
+    (lines : List LineValue) → run ≤ place → StandsIn name walk run joins before
+    → all ≡ before ++ named_from run joins place count lines
+    → from_captured given name walk place lines
+    ≡ filter_map of_tag (filter (λ t. is_run_of name all t.run) (tagged_from run joins place lines))
+found_in_runs given of_tag fits none name walk run joins place count before all [] within stands are = refl
+found_in_runs given of_tag fits none name walk run true place count before all
+    (UserAgent value ∷ lines) within
+    stands are =
+    nothing_here walk.captured _ _ (none place (UserAgent value) refl)
+    ∙ found_in_runs given of_tag fits none name (step name walk (UserAgent value)) run true (place + 1) count
+    (before ++ record { name = value; run = run; start = count } ∷ []) all lines
+    (omega arith) (in_run name value walk run count before stands)
+    (are ∙ sym (append_assoc before
+    (record { name = value; run = run; start = count } ∷ []) _))
+found_in_runs given of_tag fits none name walk run false place count before all
+    (UserAgent value ∷ lines) within
+    stands are =
+    nothing_here walk.captured _ _ (none place (UserAgent value) refl)
+    ∙ found_in_runs given of_tag fits none name (step name walk (UserAgent value)) (place + 1) true
+    (place + 1)
+    count (before ++ record { name = value; run = place + 1; start = count } ∷ []) all
+    lines (omega arith) (in_new_run name value walk run place count before within stands)
+    (are ∙ sym (append_assoc before
+    (record { name = value; run = place + 1; start = count } ∷ []) _))
+found_in_runs given of_tag fits none name walk run joins place count before all (Allow value ∷ lines) within
+    stands are =
+    group_next of_tag name walk.captured (record { number = place + 1; line = Allow value; run = run }) all _
+    _ _
+    (fits place run (Allow value))
+    (named_here name walk run joins (place + 1) (count + 1) before all lines (omega arith) stands are)
+    (found_in_runs given of_tag fits none name (record { captured = walk.captured; named = false }) run false
+    (place + 1) (count + 1) before all lines (omega arith)
+    (behind_group name walk run joins before stands) are)
+found_in_runs given of_tag fits none name walk run joins place count before all
+    (Disallow value ∷ lines) within
+    stands are =
+    group_next of_tag name walk.captured (record { number = place + 1; line = Disallow value; run = run })
+    all _ _ _
+    (fits place run (Disallow value))
+    (named_here name walk run joins (place + 1) (count + 1) before all lines (omega arith) stands are)
+    (found_in_runs given of_tag fits none name (record { captured = walk.captured; named = false }) run false
+    (place + 1) (count + 1) before all lines (omega arith)
+    (behind_group name walk run joins before stands) are)
+found_in_runs given of_tag fits none name walk run joins place count before all
+    (CrawlDelay delay ∷ lines) within
+    stands are =
+    group_next of_tag name walk.captured (record { number = place + 1; line = CrawlDelay delay; run = run })
+    all _ _ _
+    (fits place run (CrawlDelay delay))
+    (named_here name walk run joins (place + 1) (count + 1) before all lines (omega arith) stands are)
+    (found_in_runs given of_tag fits none name (record { captured = walk.captured; named = false }) run false
+    (place + 1) (count + 1) before all lines (omega arith)
+    (behind_group name walk run joins before stands) are)
+found_in_runs given of_tag fits none name walk run joins place count before all (Sitemap value ∷ lines) within
+    stands are =
+    nothing_here walk.captured _ _ (none place (Sitemap value) refl)
+    ∙ found_in_runs given of_tag fits none name walk run joins (place + 1) count before all lines
+    (omega arith)
+    stands are
+found_in_runs given of_tag fits none name walk run joins place count before all (Raw body ∷ lines) within
+    stands are =
+    nothing_here walk.captured _ _ (none place (Raw body) refl)
+    ∙ found_in_runs given of_tag fits none name walk run joins (place + 1) count before all lines
+    (omega arith)
+    stands are
+
+-- of a whole file with user-agent lines
+pub found_in_own : {X : Type 0} (given : ℕ × LineValue → Option X) (of_tag : Tagged → Option X)
+    → ((place run : ℕ) (line : LineValue)
+    → of_tag (record { number = place + 1; line = line; run = run }) ≡ given (place, line))
+    → ((place : ℕ) (line : LineValue) → is_group line ≡ false → given (place, line) ≡ None)
+    → (name : List ℕ) (lines : List LineValue) → list_any is_agent lines ≡ true
+    → filter_map given (captured_lines name lines) ≡ filter_map of_tag (own_tagged name lines)
+found_in_own given of_tag fits none name lines some =
+    captured_walked given name lines
+    ∙ found_in_runs given of_tag fits none name (start_of lines) 0 false 0 0 [] (named lines) lines
+    (omega arith)
+    (record { captured = ap not some; named = refl; first = λ r above. refl }) refl
+
+-- ---- rules and delays
+
+pub rule_of_group : (place : ℕ) (line : LineValue) → is_group line ≡ false → placed_in (place, line) ≡ None
+rule_of_group place (Allow value) isnt = cc
+rule_of_group place (Disallow value) isnt = cc
+rule_of_group place _ isnt = refl
+
+pub delay_of_group : (place : ℕ) (line : LineValue) → is_group line ≡ false → delay_in line ≡ None
+delay_of_group place (CrawlDelay delay) isnt = cc
+delay_of_group place _ isnt = refl
+
+pub rules_of_runs : (agent : List ℕ) (lines : List LineValue) → list_any is_agent lines ≡ true
+    → placed_rules agent lines ≡ filter_map rule_of (own_tagged (group_name agent lines) lines)
+rules_of_runs agent lines some =
+    found_in_own placed_in rule_of (λ place run line. refl) rule_of_group (group_name agent lines) lines some
+
+pub delays_of_runs : (agent : List ℕ) (lines : List LineValue) → list_any is_agent lines ≡ true
+    → captured_delays agent lines
+    ≡ filter_map delay_of (own_tagged (group_name agent lines) lines)
+delays_of_runs agent lines some =
+    found_in_own (λ p. delay_in p.1) delay_of (λ place run line. refl) delay_of_group
+    (group_name agent lines) lines some
+
+-- ---- what is kept of a file
+
+pub given_push : {X Y : Type 0} (h : X → Option Y) (xs : List X) (x : X)
+    → filter_map h (xs ++ x ∷ []) ≡ filter_map h xs ++ option_to_list (h x)
+given_push h xs x = filter_map-append h xs (x ∷ []) ∙ ap (λ ys. filter_map h xs ++ ys) (one (h x))
+  where
+    one : {Y : Type 0} (o : Option Y) → cons_option o [] ≡ option_to_list o
+    one None = refl
+    one (Some y) = refl
+
+-- ---- the last delay before the first user-agent line
+
+pub agents_more : (begun : Bool) (line : LineValue) (left : List LineValue)
+    → ((begun || is_agent line) || list_any is_agent left) ≡ (begun || list_any is_agent (line ∷ left))
+agents_more true line left = refl
+agents_more false line left = refl
+
+pub early_more : (begun : Bool) (early : Option ℕ) (line : LineValue) (left : List LineValue)
+    → cond (begun || is_agent line) (early_after begun early line) (delay_from
+    (early_after begun early line) left)
+    ≡ cond begun early (delay_from early (line ∷ left))
+early_more true early line left = refl
+early_more false early (CrawlDelay delay) left =
+    ap (λ last. cond (list_any is_agent left) last None) (sym (last_more early delay _))
+early_more false early (UserAgent value) left = refl
+early_more false early (Allow value) left = refl
+early_more false early (Disallow value) left = refl
+early_more false early (Sitemap value) left = refl
+early_more false early (Raw body) left = refl

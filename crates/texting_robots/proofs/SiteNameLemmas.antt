@@ -1,0 +1,302 @@
+-- Lookup by name: the buckets of a hash table, and the names that a walk along one of them passes.
+use Rattle.std.proofs.Common.{◌≡◌, ◌≢◌, inl, inr, ℕ, zero, suc, ◌+◌, ◌<◌, ◌≤◌, Bool, true, false, List, []}
+use Rattle.std.proofs.Common.{◌∷◌, Some}
+use Rattle.std.proofs.Common.{length, drop, refl, ap, sym, ◌∙◌, arith, add-one, drop-cons, get_or}
+use Rattle.std.proofs.Common.{ltb, map, option_map, replicate, set, slice_get, ◌||◌}
+use Rattle.std.specs.{List.list_any, List.position_or_len, Str.str_to_ascii_lowercase}
+use Rattle.std.proofs.lemmas.Bool.{cases_Bool, eq-eqb, eqb-true, le-ltb, lt-ltb, ltb-false, ltb-true, ne_eqb}
+use Rattle.std.proofs.lemmas.Bool.Decides.{eqb_tells}
+use Rattle.std.proofs.lemmas.List.{drop-drop, get_or-replicate, get_or-set_other, length-map}
+use Rattle.std.proofs.lemmas.List.{length-replicate}
+use Rattle.std.proofs.lemmas.List.{length-set}
+use Rattle.std.proofs.lemmas.Grind.{get_or-set_at}
+use Rattle.std.proofs.lemmas.Option.{get_or_from_slice_get, slice_get-get_or, slice_get-map, slice_get_read}
+use Rattle.std.proofs.lemmas.Option.{slice_get_within}
+use Rattle.std.proofs.lemmas.Slice.Eq.{bytes_eq-Decides}
+use Rattle.texting_robots.specs.Steps.Names.{AreLinked, bucket_of, first_named, is_in}
+use Rattle.texting_robots.specs.Steps.Site.{Named, has_name, in_front, is_of, is_run_of, named_of, tag_of}
+use Rattle.texting_robots.specs.declared.site.lines.GroupLine.{GroupLine}
+use Rattle.texting_robots.specs.declared.site.lines.AgentLine.{AgentLine}
+
+-- ---- first places
+
+pub drop_is : {X : Type 0} (xs : List X) (i : ℕ) (x : X) → slice_get xs i ≡ Some x
+    → drop i xs ≡ x ∷ drop (i + 1) xs
+drop_is xs i x at =
+    rw (add-one, drop-cons xs i x (slice_get_within xs i x at), get_or_from_slice_get xs i x x at) refl
+
+pub first_now : {X : Type 0} (p : X → Bool) (x : X) (xs : List X) → p x ≡ true → position_or_len p (x ∷ xs)
+    ≡ 0
+first_now p x xs is = rw is refl
+
+pub first_later : {X : Type 0} (p : X → Bool) (x : X) (xs : List X) → p x ≡ false
+    → position_or_len p (x ∷ xs) ≡ suc (position_or_len p xs)
+first_later p x xs isnt = rw isnt (omega arith)
+
+-- the first that passes one test, from the first that passes a weaker one on
+skip : {X : Type 0} (p r : X → Bool) → ((x : X) → r x ≡ false → p x ≡ false) → (xs : List X)
+    → position_or_len r xs + position_or_len p (drop (position_or_len r xs) xs) ≡ position_or_len p xs
+skip p r weaker [] = refl
+skip p r weaker (x ∷ xs) =
+    let from = λ (k : ℕ). k + position_or_len p (drop k (x ∷ xs)) in elim (cases_Bool (r x)) [
+      | inl is ↦ ap from (first_now r x xs is) ∙ omega arith
+      | inr isnt ↦ ap from (first_later r x xs isnt)
+          ∙ omega (arith, skip p r weaker xs, first_later p x xs (weaker x isnt))
+    ]
+
+pub first_here : {X : Type 0} (p : X → Bool) (xs : List X)
+    → position_or_len p (drop (position_or_len p xs) xs) ≡ 0
+first_here p [] = refl
+first_here p (x ∷ xs) =
+    let from = λ (k : ℕ). position_or_len p (drop k (x ∷ xs)) in elim (cases_Bool (p x)) [
+      | inl is ↦ ap from (first_now p x xs is) ∙ first_now p x xs is
+      | inr isnt ↦ ap from (first_later p x xs isnt) ∙ first_here p xs
+    ]
+
+pub here : {X : Type 0} (p : X → Bool) (x : X) (xs : List X) → position_or_len p (x ∷ xs) ≡ 0 → p x ≡ true
+here p x xs first = elim (cases_Bool (p x)) [
+  | inl is ↦ is
+  | inr isnt ↦ absurd (let wrong = rw isnt at first in omega arith)
+]
+
+-- ---- the table
+
+pub linked_none : (count : ℕ) (names : List Named) (heads nexts : List ℕ) → count ≡ length names
+    → heads ≡ replicate count count → length nexts ≡ count → AreLinked count names heads nexts
+linked_none count names heads nexts counted are followed = record {
+  buckets = ap length are ∙ length-replicate count count ∙ counted;
+  followed = followed ∙ counted;
+  heads_are = λ b below.
+      let gone : drop count names ≡ [] = ap (λ k. drop k names) counted ∙ all_dropped names in
+      rw (are, get_or-replicate count b count 0 (omega arith), gone) (omega arith);
+  nexts_are = λ i n from at. absurd (let within = slice_get_within names i n at in omega arith);
+}
+  where
+    all_dropped : {X : Type 0} (xs : List X) → drop (length xs) xs ≡ []
+    all_dropped [] = refl
+    all_dropped (x ∷ xs) = all_dropped xs
+
+pub linked_more : (names : List Named) (place bucket : ℕ) (n : Named) (heads nexts : List ℕ)
+    → slice_get names place ≡ Some n → bucket ≡ bucket_of (length names) (str_to_ascii_lowercase n.name)
+    → bucket < length names → AreLinked (place + 1) names heads nexts
+    → AreLinked place names (set heads bucket place) (set nexts place (get_or heads bucket 0))
+linked_more names place bucket n heads nexts at its within linked =
+    let N = length names in
+    let inside : place < N = slice_get_within names place n at in
+    let bucket_is : is_in N bucket n ≡ true = eq-eqb _ bucket (sym its) in record {
+      buckets = length-set heads bucket place ∙ linked.buckets;
+      followed = length-set nexts place (get_or heads bucket 0) ∙ linked.followed;
+      heads_are = λ b below. elim (eqb_tells b bucket) [
+        | inl (is, same) ↦ get_or-set_at heads bucket b place 0 same (omega (arith, linked.buckets))
+            ∙ rw (drop_is names place n at, same, bucket_is) (omega arith)
+        | inr (isnt, other) ↦
+            let isnt_in : is_in N b n ≡ false = ne_eqb _ b (λ wrong. other (sym (its ∙ wrong))) in
+            get_or-set_other heads bucket b place 0 other ∙ linked.heads_are b below
+            ∙ rw (drop_is names place n at, isnt_in) (omega arith)
+      ];
+      nexts_are = λ i m from there. elim (eqb_tells i place) [
+        | inl (is, same) ↦
+            let one : Some n ≡ Some m = sym at ∙ ap (slice_get names) (sym same) ∙ there in
+            let alike : n ≡ m = cc in
+            get_or-set_at nexts place i (get_or heads bucket 0) 0 same (omega (arith, linked.followed))
+            ∙ linked.heads_are bucket within
+            ∙ rw (its, alike, same) refl
+        | inr (isnt, other) ↦ get_or-set_other nexts place i (get_or heads bucket 0) 0 other
+            ∙ linked.nexts_are i m (omega arith) there
+      ];
+    }
+
+-- ---- a walk along a bucket
+
+-- a name of another bucket is another name
+pub other_bucket : (name : List ℕ) (count : ℕ) (n : Named) → is_in count (bucket_of count name) n ≡ false
+    → has_name name n ≡ false
+other_bucket name count n isnt = elim (cases_Bool (has_name name n)) [
+  | inl is ↦
+      let same : str_to_ascii_lowercase n.name ≡ name = (bytes_eq-Decides _ name).0 is in
+      absurd (let wrong = sym (eq-eqb _ _ (ap (bucket_of count) same)) ∙ isnt in cc)
+  | inr other ↦ other
+]
+
+-- from the head of the bucket, or from any place
+pub from_bucket : (name : List ℕ) (count : ℕ) (names : List Named)
+    → let start = position_or_len (is_in count (bucket_of count name)) names in
+    start + first_named name (drop start names) ≡ first_named name names
+from_bucket name count names =
+    skip (has_name name) (is_in count (bucket_of count name)) (other_bucket name count) names
+
+pub record IsNext (name : List ℕ) (count place next : ℕ) (names : List Named) : Type 0 where
+  pub here : position_or_len (is_in count (bucket_of count name)) (drop next names) ≡ 0
+  pub rest : next + first_named name (drop next names) ≡ place + 1 + first_named name (drop (place + 1) names)
+
+-- the next line of a bucket that is the name's
+pub next_in_bucket : (name : List ℕ) (place next bucket : ℕ) (names : List Named)
+    → bucket ≡ bucket_of (length names) name
+    → next ≡ place + 1 + position_or_len (is_in (length names) bucket) (drop (place + 1) names)
+    → IsNext name (length names) place next names
+next_in_bucket name place next bucket names its are =
+    let N = length names in
+    let after = drop (place + 1) names in
+    let p = is_in N (bucket_of N name) in
+    let is : next ≡ place + 1 + position_or_len p after = are
+    ∙ ap (λ b. place + 1 + position_or_len (is_in N b) after) its in
+    let rest : drop next names ≡ drop (position_or_len p after) after =
+    ap (λ k. drop k names) is ∙ sym (drop-drop (position_or_len p after) (place + 1) names) in record {
+      here = ap (position_or_len p) rest ∙ first_here p after;
+      rest = let same = from_bucket name N after in rw rest (omega arith);
+    }
+
+-- the lines that the code reads
+pub agent_at : (lines : List AgentLine) (names : List Named) (place : ℕ) (line : AgentLine)
+    → map named_of lines ≡ names → place < length lines → line ≡ get_or lines place line
+    → slice_get names place ≡ Some (named_of line)
+agent_at lines names place line are within is =
+    ap (λ (ns : List Named). slice_get ns place) (sym are) ∙ slice_get-map named_of lines place
+    ∙ ap (option_map named_of) (slice_get_read lines (length lines) place line refl within is)
+
+pub head_is : (name : List ℕ) (names : List Named) (heads nexts : List ℕ) (count bucket : ℕ)
+    → AreLinked 0 names heads nexts → count ≡ length heads → bucket ≡ bucket_of count name → bucket < count
+    → get_or heads bucket 0 ≡ position_or_len (is_in (length names) (bucket_of (length names) name)) names
+head_is name names heads nexts count bucket linked counted its below =
+    let same : count ≡ length names = counted ∙ linked.buckets in
+    linked.heads_are bucket (omega arith)
+    ∙ ap (λ b. 0 + position_or_len (is_in (length names) b) names) (its ∙ ap (λ n. bucket_of n name) same)
+    ∙ omega arith
+
+next_is : (names : List Named) (heads nexts : List ℕ) (place next : ℕ) (n : Named)
+    → AreLinked 0 names heads nexts
+    → slice_get names place ≡ Some n → next ≡ get_or nexts place next
+    → next ≡ place + 1
+    + position_or_len (is_in (length names) (bucket_of (length names) (str_to_ascii_lowercase n.name)))
+    (drop (place + 1) names)
+next_is names heads nexts place next n linked at is =
+    let within = slice_get_within names place n at in
+    sym (get_or_from_slice_get nexts place next 0
+    (slice_get_read nexts (length nexts) place next refl (omega (arith, linked.followed)) is))
+    ∙ linked.nexts_are place n (omega arith) at
+
+pub further : (names : List Named) (heads nexts : List ℕ) (place next : ℕ) (n : Named)
+    → AreLinked 0 names heads nexts → slice_get names place ≡ Some n → next ≡ get_or nexts place next
+    → place < next
+further names heads nexts place next n linked at is =
+    omega (arith, next_is names heads nexts place next n linked at is)
+
+pub walk_on : (name : List ℕ) (names : List Named) (heads nexts : List ℕ) (place next : ℕ) (n : Named)
+    → AreLinked 0 names heads nexts → slice_get names place ≡ Some n → next ≡ get_or nexts place next
+    → position_or_len (is_in (length names) (bucket_of (length names) name)) (drop place names) ≡ 0
+    → IsNext name (length names) place next names
+walk_on name names heads nexts place next n linked at is first =
+    let N = length names in
+    let p = is_in N (bucket_of N name) in
+    let inside : p n ≡ true = here p n (drop (place + 1) names) (ap (position_or_len p) (sym
+    (drop_is names place n at)) ∙ first) in
+    next_in_bucket name place next (bucket_of N (str_to_ascii_lowercase n.name)) names
+    (eqb-true _ _ inside) (next_is names heads nexts place next n linked at is)
+
+pub found : (name : List ℕ) (names : List Named) (place : ℕ) (n : Named) → slice_get names place ≡ Some n
+    → has_name name n ≡ true → first_named name (drop place names) ≡ 0
+found name names place n at is =
+    ap (first_named name) (drop_is names place n at) ∙ first_now (has_name name) n (drop (place + 1) names) is
+
+pub passed : (name : List ℕ) (names : List Named) (place : ℕ) (n : Named) → slice_get names place ≡ Some n
+    → has_name name n ≡ false
+    → place + 1 + first_named name (drop (place + 1) names) ≡ place + first_named name (drop place names)
+passed name names place n at isnt =
+    omega (
+      arith,
+      ap (first_named name) (drop_is names place n at),
+      first_later (has_name name) n (drop (place + 1) names) isnt,
+    )
+
+-- a line with the name is in the name's bucket
+pub named_bucket : (name : List ℕ) (names : List Named) (place : ℕ) (n : Named) → slice_get names place
+    ≡ Some n
+    → first_named name (drop place names) ≡ 0
+    → position_or_len (is_in (length names) (bucket_of (length names) name)) (drop place names) ≡ 0
+named_bucket name names place n at first =
+    let N = length names in
+    let p = is_in N (bucket_of N name) in
+    let after = drop (place + 1) names in
+    let is : has_name name n ≡ true =
+    here (has_name name) n after (ap (first_named name) (sym (drop_is names place n at)) ∙ first) in
+    let same : str_to_ascii_lowercase n.name ≡ name = (bytes_eq-Decides _ name).0 is in
+    ap (position_or_len p) (drop_is names place n at)
+    ∙ first_now p n after (eq-eqb _ _ (ap (bucket_of N) same))
+
+no_name : Named
+no_name = record { name = []; run = 0; start = 0 }
+
+pub some_at : (names : List Named) (place : ℕ) → place < length names
+    → (n : Named) × (slice_get names place ≡ Some n)
+some_at names place within = (get_or names place no_name, slice_get-get_or names place no_name within)
+
+-- ---- runs of a name
+
+pub runs_from_first : (name : List ℕ) (names : List Named) (r : ℕ)
+    → is_run_of name (drop (first_named name names) names) r ≡ is_run_of name names r
+runs_from_first name [] r = refl
+runs_from_first name (n ∷ names) r = elim (cases_Bool (has_name name n)) [
+  | inl is ↦ ap (λ k. is_run_of name (drop k (n ∷ names)) r) (first_now (has_name name) n names is)
+  | inr isnt ↦
+      let other : (is_of name r n || is_run_of name names r) ≡ is_run_of name names r = rw isnt refl in
+      ap (λ k. is_run_of name (drop k (n ∷ names)) r) (first_later (has_name name) n names isnt)
+      ∙ runs_from_first name names r ∙ sym other
+]
+
+pub later_at : {X : Type 0} (xs : List X) (k j : ℕ) (x : X) → slice_get (drop k xs) j ≡ Some x
+    → slice_get xs (k + j) ≡ Some x
+later_at xs zero j x at =
+    let same : 0 + j ≡ j = omega arith in ap (slice_get xs) same ∙ at
+later_at [] (suc k) j x at = cc
+later_at (y ∷ xs) (suc k) j x at =
+    let same : suc k + j ≡ suc (k + j) = omega arith in ap (slice_get (y ∷ xs)) same ∙ later_at xs k j x at
+
+pub past_end : {X : Type 0} (xs : List X) (i : ℕ) → length xs ≤ i → drop i xs ≡ []
+past_end [] zero past = refl
+past_end [] (suc i) past = refl
+past_end (x ∷ xs) zero past = absurd (omega arith)
+past_end (x ∷ xs) (suc i) past = past_end xs i (omega arith)
+
+line_at : (lines : List GroupLine) (at : ℕ) (line : GroupLine) → at < length lines → line
+    ≡ get_or lines at line
+    → drop at (map tag_of lines) ≡ tag_of line ∷ drop (at + 1) (map tag_of lines)
+line_at lines at line within is =
+    drop_is (map tag_of lines) at (tag_of line) (slice_get-map tag_of lines at
+    ∙ ap (option_map tag_of) (slice_get_read lines (length lines) at line refl within is))
+
+pub front_line : (lines : List GroupLine) (at run : ℕ) (line : GroupLine) → at < length lines
+    → line ≡ get_or lines at line → line.run ≡ run
+    → in_front run (drop at (map tag_of lines)) ≡ tag_of line ∷ in_front run (drop (at + 1)
+    (map tag_of lines))
+front_line lines at run line within is same =
+    ap (in_front run) (line_at lines at line within is) ∙ rw (eq-eqb line.run run same) refl
+
+pub front_other : (lines : List GroupLine) (at run : ℕ) (line : GroupLine) → at < length lines
+    → line ≡ get_or lines at line → line.run ≢ run → in_front run (drop at (map tag_of lines)) ≡ []
+front_other lines at run line within is other =
+    ap (in_front run) (line_at lines at line within is) ∙ rw (ne_eqb line.run run other) refl
+
+pub front_past : (lines : List GroupLine) (at run : ℕ) → length lines ≤ at
+    → in_front run (drop at (map tag_of lines)) ≡ []
+front_past lines at run past =
+    ap (in_front run) (past_end (map tag_of lines) at (omega (arith, length-map lines tag_of)))
+
+-- ---- whether a name is there
+
+pub first_within : (name : List ℕ) (names : List Named)
+    → ltb (first_named name names) (length names) ≡ list_any (has_name name) names
+first_within name [] = refl
+first_within name (n ∷ names) =
+    let before = λ (k : ℕ). ltb k (length (n ∷ names)) in elim (cases_Bool (has_name name n)) [
+      | inl is ↦ ap before (first_now (has_name name) n names is)
+          ∙ lt-ltb 0 (length (n ∷ names)) (omega arith)
+          ∙ sym (rw is refl)
+      | inr isnt ↦ ap before (first_later (has_name name) n names isnt)
+          ∙ both_more (first_named name names) (length names) ∙ first_within name names ∙ sym (rw isnt refl)
+    ]
+  where
+    both_more : (a b : ℕ) → ltb (suc a) (suc b) ≡ ltb a b
+    both_more a b = elim (cases_Bool (ltb a b)) [
+      | inl less ↦ lt-ltb (suc a) (suc b) (omega (arith, ltb-true a b less)) ∙ sym less
+      | inr least ↦ le-ltb (suc a) (suc b) (omega (arith, ltb-false a b least)) ∙ sym least
+    ]

@@ -1,0 +1,393 @@
+-- A walk along the lines of a name: what it gives, and from what it starts.
+use Rattle.std.proofs.Common.{◌≡◌, inl, inr, ℕ, zero, suc, ◌+◌, ◌<◌, ◌≤◌, ◌==◌, Bool, true, false, ◌||◌}
+use Rattle.std.proofs.Common.{not, ◌&&◌, List, [], ◌∷◌, ◌++◌, Option, Some, None, length, drop, refl, ap, sym}
+use Rattle.std.proofs.Common.{◌∙◌, arith, get_or, slice_get, take}
+use Rattle.std.specs.{Prelude.filter, List.Any, List.cons_option, List.filter_map, List.list_any}
+use Rattle.std.specs.Option.{IsSomeAnd, option_or, option_to_list}
+use Rattle.std.proofs.lemmas.{Bool.eq-eqb, Bool.ne_eqb, Bool.Decides.eqb_tells}
+use Rattle.std.proofs.lemmas.List.{Elements.filter_agree}
+use Rattle.std.proofs.lemmas.List.{take_more}
+use Rattle.texting_robots.specs.Rules.{IsRefused, PlacedRule, Rule}
+use Rattle.texting_robots.specs.Group.{group_name, is_agent, is_group}
+use Rattle.texting_robots.specs.{Pattern.IsOverlong, Robot.IsFileRefused, Steps.Group.from_captured}
+use Rattle.texting_robots.specs.Computed.{captured_delays, captured_lines, file_lines, placed_in}
+use Rattle.texting_robots.specs.Computed.{placed_rules}
+use Rattle.texting_robots.specs.declared.site.lines.SitemapLine.{SitemapLine}
+use Rattle.texting_robots.proofs.{CapturedLemmas.captured_walked, HeadlineLemmas.has_lines}
+use Rattle.texting_robots.specs.Computed.{delay_before_agents, delay_for}
+use Rattle.texting_robots.specs.{Robot.IsRobotOf, Robot.RobotValue, Rules.unplaced}
+use Rattle.std.proofs.Common.{IsPermutation, subst}
+use Rattle.texting_robots.proofs.{HeldLemmas.refusal_is_computed, HeldLemmas.rules_are_computed}
+use Rattle.texting_robots.proofs.{GivenLemmas.delay_is_computed, RulesLemmas.any_unplaced}
+use Rattle.texting_robots.proofs.SiteLemmas.{delay_of_group, given_push, rule_of_group}
+use Rattle.texting_robots.specs.Line.{LineValue, UserAgent, Allow, Disallow, Sitemap, CrawlDelay, Raw}
+use Rattle.texting_robots.specs.Line.{delay_in}
+use Rattle.texting_robots.specs.Steps.Site.{Named, Tagged, delay_of, in_front, is_run_of, named}
+use Rattle.texting_robots.specs.Steps.Site.{listed, own_tagged, rule_of, tagged, tagged_from}
+use Rattle.texting_robots.specs.Steps.{Names.first_named, Own.AreOfFile, Own.IsWholeWalk, Own.is_later}
+use Rattle.texting_robots.specs.Steps.{Own.own_at, Own.own_from, Site.has_name}
+use Rattle.texting_robots.specs.declared.site.own.Position.{Position}
+use Rattle.texting_robots.proofs.SiteLemmas.{none_later}
+use Rattle.texting_robots.proofs.SiteNameLemmas.{drop_is, first_here, here, later_at, past_end}
+use Rattle.texting_robots.proofs.SiteNameLemmas.{runs_from_first}
+use Rattle.texting_robots.proofs.SiteRunLemmas.{Ascends, names_ascend, no_names, none_above, of_run}
+use Rattle.texting_robots.proofs.SiteRunLemmas.{some_names, starts}
+use Rattle.texting_robots.proofs.SiteRunLemmas.{tagged_ascends}
+use Rattle.std.proofs.Common.{ltb}
+use Rattle.std.proofs.lemmas.Bool.{cases_Bool, le-ltb, lt-ltb, ltb-false, ltb-true}
+use Rattle.std.proofs.lemmas.List.{append-nil, drop-drop}
+use Rattle.std.proofs.Math.Bool.{and-false}
+
+-- ---- the lines of one run come first
+
+run_first : (p : ℕ → Bool) (r : ℕ) (tags : List Tagged) → ((q : ℕ) → q ≤ r → p q ≡ false) → Ascends tags
+    → filter (λ t. (t.run == r) || p t.run) tags ≡ of_run r tags ++ filter (λ t. p t.run) tags
+run_first p r [] none ascends = refl
+run_first p r (t ∷ tags) none (first, rest) = elim (eqb_tells t.run r) [
+  | inl (is, same) ↦ rw (is, none t.run (omega arith)) (ap (λ ts. t ∷ ts) (run_first p r tags none rest))
+  | inr (isnt, other) ↦ rw isnt (elim (cases_Bool (p t.run)) [
+    | inl has ↦
+        let above : r < t.run = elim (cases_Bool (ltb r t.run)) [
+          | inl is_less ↦ ltb-true r t.run is_less
+          | inr isnt_less ↦ absurd (let wrong = sym has ∙ none t.run (ltb-false r t.run isnt_less) in cc)
+        ] in
+        let nothing = none_above r t.run tags above first in
+        let ih = run_first p r tags none rest in
+        rw (has, nothing) (ap (λ ts. t ∷ ts) (ih ∙ ap (λ ts. ts ++ filter (λ t. p t.run) tags) nothing))
+    | inr hasnt ↦ rw hasnt (run_first p r tags none rest)
+  ])
+]
+
+-- ---- later runs
+
+-- the next line has the name, and begins a later run
+later_next : (name : List ℕ) (run : ℕ) (n : Named) (names : List Named) (r : ℕ) → has_name name n ≡ true
+    → run < n.run → ((q : ℕ) → q < n.run → is_run_of name names q ≡ false)
+    → is_later name run (n ∷ names) r ≡ ((r == n.run) || is_later name n.run names r)
+later_next name run n names r has above none = elim (eqb_tells r n.run) [
+  | inl (is, same) ↦ rw (is, has, eq-eqb n.run r (sym same), lt-ltb run r (omega arith)) refl
+  | inr (isnt, other) ↦ rw (isnt, has, ne_eqb n.run r (λ same. other (sym same))) (elim (cases_Bool
+      (ltb n.run r)) [
+        | inl is_less ↦ rw (is_less, lt-ltb run r (let less = ltb-true n.run r is_less in omega arith)) refl
+        | inr isnt_less ↦ rw (isnt_less, none r (let least = ltb-false n.run r isnt_less in omega arith))
+            (and-false (ltb run r))
+      ])
+]
+
+-- it is of a run that was passed
+later_same : (name : List ℕ) (run : ℕ) (n : Named) (names : List Named) (r : ℕ) → n.run ≤ run
+    → is_later name run (n ∷ names) r ≡ is_later name run names r
+later_same name run n names r least = elim (cases_Bool (ltb run r)) [
+  | inl is_less ↦ rw (
+    is_less,
+    ne_eqb n.run r (λ same.
+        (let less = ltb-true run r is_less in omega arith)),
+    and-false (has_name name n),
+  )
+      refl
+  | inr isnt_less ↦ rw isnt_less refl
+]
+
+none_below : (name : List ℕ) (names : List Named) (least q : ℕ)
+    → ((j : ℕ) (m : Named) → slice_get names j ≡ Some m → least ≤ m.run) → q < least
+    → is_run_of name names q ≡ false
+none_below name [] least q above below = refl
+none_below name (n ∷ names) least q above below =
+    rw (ne_eqb n.run q (λ same. (let here = above 0 n refl in omega arith)), and-false (has_name name n))
+    (none_below name names least q (λ j m at. above (suc j) m at) below)
+
+-- ---- the walk
+
+-- the runs of the lines from the next one with the name on
+runs_after : (name : List ℕ) (names : List Named) (place next r : ℕ)
+    → next ≡ place + 1 + first_named name (drop (place + 1) names)
+    → is_run_of name (drop next names) r ≡ is_run_of name (drop (place + 1) names) r
+runs_after name names place next r are =
+    ap (λ (ns : List Named). is_run_of name ns r)
+    (ap (λ k. drop k names) are ∙ sym (drop-drop (first_named name (drop (place + 1) names))
+    (place + 1) names))
+    ∙ runs_from_first name (drop (place + 1) names) r
+
+pub first_kept : (name : List ℕ) (place next : ℕ) (names : List Named)
+    → next ≡ place + 1 + first_named name (drop (place + 1) names) → first_named name (drop next names) ≡ 0
+first_kept name place next names are =
+    ap (λ (ns : List Named). first_named name ns)
+    (ap (λ k. drop k names) are ∙ sym (drop-drop (first_named name (drop (place + 1) names))
+    (place + 1) names))
+    ∙ first_here (has_name name) (drop (place + 1) names)
+
+-- it goes on to a later run
+pub next_run : (name : List ℕ) (run place next : ℕ) (names : List Named) (tags rest : List Tagged) (n : Named)
+    → slice_get names place ≡ Some n → first_named name (drop place names) ≡ 0 → AreOfFile names tags
+    → run < n.run → in_front run rest ≡ []
+    → next ≡ place + 1 + first_named name (drop (place + 1) names)
+    → own_from name n.run (drop n.start tags) (drop next names) tags
+    ≡ own_from name run rest (drop place names) tags
+next_run name run place next names tags rest n at first (lines, named_is, tagged_is) above gone are =
+    let after = drop (place + 1) names in
+    let left = drop_is names place n at in
+    let has : has_name name n ≡ true = here (has_name name) n after (rw left at first) in
+    let there : slice_get (named lines) place ≡ Some n = ap (λ (ns : List Named). slice_get ns place)
+    (sym named_is) ∙ at in
+    let none = λ (q : ℕ) (below : q < n.run). none_below name after n.run q
+    (λ j m later. names_ascend lines place (place + 1 + j) n m (omega arith) there
+    (ap (λ (ns : List Named). slice_get ns (place + 1 + j)) (sym named_is)
+    ∙ later_at names (place + 1) j m later))
+    below in
+    let front : in_front n.run (drop n.start tags) ≡ of_run n.run tags =
+    subst (λ (ts : List Tagged). in_front n.run (drop n.start ts) ≡ of_run n.run ts) (sym tagged_is)
+    (starts lines place n there).lines in
+    let ascends : Ascends tags = subst (λ (ts : List Tagged). Ascends ts) (sym tagged_is)
+    (tagged_ascends lines) in
+    let later = λ (t : Tagged). later_next name run n after t.run has above none in
+    let passed : (q : ℕ) → q ≤ n.run → is_later name n.run after q ≡ false =
+    λ q least. rw (le-ltb n.run q least) refl in
+    ap (λ ts. ts ++ filter (λ t. is_later name n.run (drop next names) t.run) tags) front
+    ∙ ap (λ ts. of_run n.run tags ++ ts) (filter_agree _ _
+    (λ (t : Tagged). ap (λ b. ltb n.run t.run && b) (runs_after name names place next t.run are)) tags)
+    ∙ sym (run_first (is_later name n.run after) n.run tags passed ascends)
+    ∙ sym (filter_agree _ _ later tags)
+    ∙ ap (λ (ns : List Named). filter (λ t. is_later name run ns t.run) tags) (sym left)
+    ∙ ap (λ ts. ts ++ filter (λ t. is_later name run (drop place names) t.run) tags) (sym gone)
+
+-- it passes a line of the same run
+pub same_run : (name : List ℕ) (run place next : ℕ) (names : List Named) (tags rest : List Tagged) (n : Named)
+    → slice_get names place ≡ Some n → n.run ≤ run
+    → next ≡ place + 1 + first_named name (drop (place + 1) names)
+    → own_from name run rest (drop next names) tags ≡ own_from name run rest (drop place names) tags
+same_run name run place next names tags rest n at least are =
+    ap (λ ts. in_front run rest ++ ts) (filter_agree _ _
+    (λ (t : Tagged). ap (λ b. ltb run t.run && b) (runs_after name names place next t.run are)
+    ∙ sym (later_same name run n (drop (place + 1) names) t.run least)) tags
+    ∙ ap (λ (ns : List Named). filter (λ t. is_later name run ns t.run) tags) (sym
+    (drop_is names place n at)))
+
+none_pass : (p : ℕ → Bool) (tags : List Tagged) → ((q : ℕ) → p q ≡ false) → filter (λ t. p t.run) tags ≡ []
+none_pass p [] none = refl
+none_pass p (t ∷ tags) none = rw (none t.run) (none_pass p tags none)
+
+-- it ends
+pub at_end : (name : List ℕ) (run place : ℕ) (names : List Named) (tags rest : List Tagged)
+    → slice_get names place ≡ None → in_front run rest ≡ [] → own_from name run rest
+    (drop place names) tags ≡ []
+at_end name run place names tags rest out gone =
+    rw (gone, past names place out) (none_pass (is_later name run []) tags (λ q. and-false (ltb run q)))
+  where
+    past : {X : Type 0} (xs : List X) (i : ℕ) → slice_get xs i ≡ None → drop i xs ≡ []
+    past [] zero out = refl
+    past [] (suc i) out = refl
+    past (x ∷ xs) zero out = cc
+    past (x ∷ xs) (suc i) out = past xs i out
+
+-- ---- where it starts
+
+no_run : (name : List ℕ) (lines : List LineValue) → is_run_of name (named lines) 0 ≡ false
+no_run name lines = none_later name 0 0 false 0 0 lines (omega arith) (omega arith) (λ wrong. cc)
+
+later_than_none : (name : List ℕ) (lines : List LineValue) (r : ℕ)
+    → (ltb 0 r && is_run_of name (named lines) r) ≡ is_run_of name (named lines) r
+later_than_none name lines zero = sym (no_run name lines)
+later_than_none name lines (suc r) = rw (lt-ltb 0 (suc r) (omega arith)) refl
+
+-- in a file with user-agent lines
+pub own_named : (name : List ℕ) (lines : List LineValue)
+    → own_from name 0 [] (drop (first_named name (named lines)) (named lines)) (tagged lines)
+    ≡ own_tagged name lines
+own_named name lines = filter_agree _ _
+    (λ (t : Tagged). ap (λ b. ltb 0 t.run && b) (runs_from_first name (named lines) t.run)
+    ∙ later_than_none name lines t.run) (tagged lines)
+
+-- in a file without
+pub own_unnamed : (name : List ℕ) (names : List Named) (tags : List Tagged) (place : ℕ) → names ≡ []
+    → own_from name 0 tags (drop place names) tags ≡ in_front 0 tags
+own_unnamed name names tags place none =
+    rw (nothing names place none, none_pass (is_later name 0 []) tags (λ q. and-false (ltb 0 q)))
+    (append-nil (in_front 0 tags))
+  where
+    nothing : {X : Type 0} (xs : List X) (i : ℕ) → xs ≡ [] → drop i xs ≡ []
+    nothing [] zero none = refl
+    nothing [] (suc i) none = refl
+    nothing (x ∷ xs) i none = cc
+
+pub whole_walk : (name : List ℕ) (position : Position) (names : List Named) (tags : List Tagged)
+    → position.place ≡ first_named name names → position.run ≡ 0 → (length names ≡ 0 → position.at ≡ 0)
+    → (0 < length names → length tags ≤ position.at)
+    → IsWholeWalk name names tags (own_at name position names tags)
+whole_walk name position [] tags first at_zero unnamed some = λ lines named_is tagged_is. (
+  λ none. ap (λ (r : ℕ). own_from name r (drop position.at tags) (drop position.place []) tags) at_zero
+      ∙ ap (λ (k : ℕ). own_from name 0 (drop k tags) (drop position.place []) tags) (unnamed refl)
+      ∙ own_unnamed name [] tags position.place refl,
+  λ wrong. absurd (wrong refl),
+)
+whole_walk name position (n ∷ names) tags first at_zero unnamed some = λ lines named_is tagged_is. (
+  λ wrong. cc,
+  λ filled.
+      ap (λ (r : ℕ). own_from name r (drop position.at tags) (drop position.place (n ∷ names)) tags) at_zero
+      ∙ ap (λ (ts : List Tagged). own_from name 0 ts (drop position.place (n ∷ names)) tags)
+      (past_end tags position.at (some (omega arith)))
+      ∙ ap (λ (k : ℕ). own_from name 0 [] (drop k (n ∷ names)) tags) first
+      ∙ ap (λ (ns : List Named). own_from name 0 [] (drop (first_named name ns) ns) tags) named_is
+      ∙ ap (λ (ts : List Tagged). own_from name 0 [] (drop (first_named name (named lines))
+      (named lines)) ts) tagged_is
+      ∙ own_named name lines,
+)
+
+-- ---- a file with no user-agent line
+
+cons_same : {X : Type 0} (o p : Option X) (xs ys : List X) → o ≡ p → xs ≡ ys → cons_option o xs
+    ≡ cons_option p ys
+cons_same o p xs ys here later = rw (here, later) refl
+
+all_from : {X : Type 0} (given : ℕ × LineValue → Option X) (of_tag : Tagged → Option X)
+    → ((place run : ℕ) (line : LineValue)
+    → of_tag (record { number = place + 1; line = line; run = run }) ≡ given (place, line))
+    → ((place : ℕ) (line : LineValue) → is_group line ≡ false → given (place, line) ≡ None)
+    → (name : List ℕ) (place : ℕ) (lines : List LineValue) → list_any is_agent lines ≡ false
+    → from_captured given name (record { captured = true; named = false }) place lines
+    ≡ filter_map of_tag (tagged_from 0 false place lines)
+all_from given of_tag fits none name place [] without = refl
+all_from given of_tag fits none name place (UserAgent value ∷ lines) without = cc
+all_from given of_tag fits none name place (Allow value ∷ lines) without =
+    cons_same _ _ _ _ (sym (fits place 0 (Allow value))) (all_from given of_tag fits none name
+    (place + 1) lines without)
+all_from given of_tag fits none name place (Disallow value ∷ lines) without =
+    cons_same _ _ _ _ (sym (fits place 0 (Disallow value)))
+    (all_from given of_tag fits none name (place + 1) lines without)
+all_from given of_tag fits none name place (CrawlDelay delay ∷ lines) without =
+    cons_same _ _ _ _ (sym (fits place 0 (CrawlDelay delay)))
+    (all_from given of_tag fits none name (place + 1) lines without)
+all_from given of_tag fits none name place (Sitemap value ∷ lines) without =
+    cons_same _ None _ _ (none place (Sitemap value) refl)
+    (all_from given of_tag fits none name (place + 1) lines without)
+all_from given of_tag fits none name place (Raw body ∷ lines) without =
+    cons_same _ None _ _ (none place (Raw body) refl) (all_from given of_tag fits none name
+    (place + 1) lines without)
+
+front_all : (place : ℕ) (lines : List LineValue) → list_any is_agent lines ≡ false
+    → in_front 0 (tagged_from 0 false place lines) ≡ tagged_from 0 false place lines
+front_all place [] without = refl
+front_all place (UserAgent value ∷ lines) without = cc
+front_all place (Allow value ∷ lines) without =
+    let t : Tagged = record { number = place + 1; line = Allow value; run = 0 } in
+    ap (λ ts. t ∷ ts) (front_all (place + 1) lines without)
+front_all place (Disallow value ∷ lines) without =
+    let t : Tagged = record { number = place + 1; line = Disallow value; run = 0 } in
+    ap (λ ts. t ∷ ts) (front_all (place + 1) lines without)
+front_all place (CrawlDelay delay ∷ lines) without =
+    let t : Tagged = record { number = place + 1; line = CrawlDelay delay; run = 0 } in
+    ap (λ ts. t ∷ ts) (front_all (place + 1) lines without)
+front_all place (Sitemap value ∷ lines) without = front_all (place + 1) lines without
+front_all place (Raw body ∷ lines) without = front_all (place + 1) lines without
+
+found_in_all : {X : Type 0} (given : ℕ × LineValue → Option X) (of_tag : Tagged → Option X)
+    → ((place run : ℕ) (line : LineValue)
+    → of_tag (record { number = place + 1; line = line; run = run }) ≡ given (place, line))
+    → ((place : ℕ) (line : LineValue) → is_group line ≡ false → given (place, line) ≡ None)
+    → (name : List ℕ) (lines : List LineValue) → list_any is_agent lines ≡ false
+    → filter_map given (captured_lines name lines) ≡ filter_map of_tag (in_front 0 (tagged lines))
+found_in_all given of_tag fits none name lines without =
+    captured_walked given name lines
+    ∙ ap (λ b. from_captured given name (record { captured = not b; named = false }) 0 lines) without
+    ∙ all_from given of_tag fits none name 0 lines without
+    ∙ ap (filter_map of_tag) (sym (front_all 0 lines without))
+
+pub rules_of_all : (agent : List ℕ) (lines : List LineValue) → list_any is_agent lines ≡ false
+    → placed_rules agent lines ≡ filter_map rule_of (in_front 0 (tagged lines))
+rules_of_all agent lines without =
+    found_in_all placed_in rule_of (λ place run line. refl) rule_of_group
+    (group_name agent lines) lines without
+
+pub delays_of_all : (agent : List ℕ) (lines : List LineValue) → list_any is_agent lines ≡ false
+    → captured_delays agent lines ≡ filter_map delay_of (in_front 0 (tagged lines))
+delays_of_all agent lines without =
+    found_in_all (λ p. delay_in p.1) delay_of (λ place run line. refl) delay_of_group
+    (group_name agent lines) lines
+    without
+
+-- ---- what a whole walk gives
+
+pub given_whole : {X : Type 0} (given : Tagged → Option X) (all : List X) (name : List ℕ) (names : List Named)
+    (tags walk : List Tagged) (lines : List LineValue) → names ≡ named lines → tags ≡ tagged lines
+    → IsWholeWalk name names tags walk
+    → (list_any is_agent lines ≡ false → all ≡ filter_map given (in_front 0 (tagged lines)))
+    → (list_any is_agent lines ≡ true → all ≡ filter_map given (own_tagged name lines))
+    → filter_map given walk ≡ all
+given_whole given all name [] tags walk lines named_is tagged_is whole unnamed some =
+    ap (filter_map given) ((whole lines named_is tagged_is).0 refl ∙ ap (in_front 0) tagged_is)
+    ∙ sym (unnamed (no_names lines (sym named_is)))
+given_whole given all name (n ∷ names) tags walk lines named_is tagged_is whole unnamed some =
+    ap (filter_map given) ((whole lines named_is tagged_is).1 (λ wrong. cc))
+    ∙ sym (some (some_names lines (λ none. filled names (named_is ∙ none))))
+  where
+    filled : {n : Named} (names : List Named) → n ∷ names ≡ [] → ⊥
+    filled names is = cc
+
+-- one of all is what one more line gives
+pub any_given : {X : Type 0} (P : X → Type 0) (o : Option X) (xs old all : List X)
+    → old ++ cons_option o xs ≡ all
+    → IsSomeAnd o P → Any P all
+any_given P None xs old all are is = absurd is
+any_given P (Some x) xs old all are is = subst (Any P) are (after P x xs old is)
+  where
+    after : {X : Type 0} (P : X → Type 0) (x : X) (xs old : List X) → P x → Any P (old ++ x ∷ xs)
+    after P x xs [] is = (zero, x, omega arith, refl, is)
+    after P x xs (y ∷ old) is = let (k, z, less, at, has) = after P x xs old is in
+        (suc k, z, omega arith, at, has)
+
+-- ---- one sitemap more
+
+pub listed_more : (sitemaps : List SitemapLine) (i : ℕ) (d : SitemapLine) → i < length sitemaps
+    → filter_map listed (take (i + 1) sitemaps)
+    ≡ filter_map listed (take i sitemaps) ++ option_to_list (listed (get_or sitemaps i d))
+listed_more sitemaps i d within =
+    ap (filter_map listed) (take_more sitemaps i d within) ∙ given_push listed (take i sitemaps)
+    (get_or sitemaps i d)
+
+-- ---- why there is no robot
+
+pub file_refused : (agent file : List ℕ)
+    → Any (λ (placed : PlacedRule). IsOverlong placed.rule.0) (placed_rules agent (file_lines file))
+    → IsFileRefused agent file
+file_refused agent file some =
+    has_lines file (IsRefused agent) ((refusal_is_computed agent (file_lines file)).1
+    (any_unplaced (λ (rule : Rule). IsOverlong rule.0) (placed_rules agent (file_lines file)) some))
+
+-- ---- where nothing is given, nothing is taken
+
+pub given_nothing : {X Y : Type 0} (h : X → Option Y) (x : X) (xs : List X) → filter_map h (x ∷ xs) ≡ []
+    → (h x ≡ None) × (filter_map h xs ≡ [])
+given_nothing h x xs none = split (h x) (filter_map h xs) none
+  where
+    split : {Y : Type 0} (o : Option Y) (ys : List Y) → cons_option o ys ≡ [] → (o ≡ None) × (ys ≡ [])
+    split None ys none = (refl, none)
+    split (Some y) ys none = cc
+
+pub none_at : {X Y : Type 0} (h : X → Option Y) (xs : List X) (i : ℕ) (d : X) → i < length xs
+    → filter_map h xs ≡ [] → h (get_or xs i d) ≡ None
+none_at h [] i d within none = absurd (omega arith)
+none_at h (x ∷ xs) zero d within none = (given_nothing h x xs none).0
+none_at h (x ∷ xs) (suc i) d within none = none_at h xs i d (omega arith) (given_nothing h x xs none).1
+
+-- ---- agents of one group
+
+pub same_robot : (agent other : List ℕ) (lines : List LineValue) (robot : RobotValue)
+    → group_name agent lines ≡ group_name other lines → IsRobotOf agent lines robot
+    → IsRobotOf other lines robot
+same_robot agent other lines robot same is =
+    let rules : placed_rules agent lines ≡ placed_rules other lines =
+    ap (λ (name : List ℕ). filter_map placed_in (captured_lines name lines)) same in
+    let delays : delay_for agent lines ≡ delay_for other lines =
+    ap (λ (name : List ℕ). option_or (slice_get (filter_map (λ (p : ℕ × LineValue). delay_in p.1)
+    (captured_lines name lines)) 0) (delay_before_agents lines)) same in
+    record {
+      delay = (delay_is_computed other lines robot.delay).1
+          ((delay_is_computed agent lines robot.delay).0 is.delay ∙ delays);
+      sitemaps = is.sitemaps;
+      rules = (rules_are_computed other lines robot.rules).1
+          (subst (λ (all : List PlacedRule). IsPermutation all robot.rules) rules
+          ((rules_are_computed agent lines robot.rules).0 is.rules));
+      accepted = λ refused. is.accepted ((refusal_is_computed agent lines).1
+          (subst (λ (all : List PlacedRule). Any (λ (rule : Rule). IsOverlong rule.0) (unplaced all))
+          (sym rules)
+          ((refusal_is_computed other lines).0 refused)));
+    }

@@ -1,0 +1,11 @@
+use Rattle.std.proofs.Common.{List, subst, ap}
+use Rattle.texting_robots.specs.{Robot.RobotValue, Rules.PlacedRule}
+use Rattle.texting_robots.specs.{Rules.unplaced, Verdict.IsVerdict}
+use Rattle.texting_robots.proofs.robot.Robot.decision_prepared.Goals as goal
+
+pub returns-clause-verdict : goal.returns-clause-verdict
+returns-clause-verdict c =
+    let text = c.as_bytes.result.now in
+    rw (← c.as_bytes.ensures.value)
+    (subst (λ (rules : List PlacedRule). IsVerdict (unplaced rules) text c.decide_uncounted.result.allowed)
+    (ap (λ (robot : RobotValue). robot.rules) c.self.view_is) c.decide_uncounted.ensures.verdict)

@@ -1,0 +1,34 @@
+use Rattle.std.proofs.Common.{List, IsPermutation, ap, subst, ◌∙◌}
+use Rattle.std.specs.Option.{option_or}
+use Rattle.texting_robots.specs.Computed.{delay_before_agents, file_lines}
+use Rattle.texting_robots.specs.{Pattern.IsOverlong, Rules.PlacedRule, Rules.Rule}
+use Rattle.texting_robots.proofs.{HeadlineLemmas.nothing_of, HeadlineLemmas.robot_of}
+use Rattle.texting_robots.proofs.{RulesLemmas.none_unplaced, RulesLemmas.refused_wider}
+use Rattle.texting_robots.proofs.SiteOwnLemmas.{file_refused}
+use Rattle.texting_robots.proofs.site.Site.robot.Goals as goal
+
+pub returns-in-Err-clause-refused : goal.returns-in-Err-clause-refused
+returns-in-Err-clause-refused c =
+    refused_wider _ _ c.in-Err.error (file_refused c.args.agent.now c.args.self.now) c.in-Err.ensures.refused
+
+pub returns-clause-robot : goal.returns-clause-robot
+returns-clause-robot c =
+    let lines = file_lines c.args.self.now in
+    let early = rw c.self.view_is at c.self.invariant.early_is in
+    let none = none_unplaced (λ (rule : Rule). IsOverlong rule.0) _ c.in-Ok.ensures.accepted in
+    robot_of c.args.agent.now c.args.self.now _ (record {
+      delay = c.or.ensures ∙ ap (λ last. option_or c.in-Ok.own.delay last) early
+          ∙ ap (λ first. option_or first (delay_before_agents lines)) c.in-Ok.ensures.delay;
+      sitemaps = c.in-Ok-all_sitemaps.ensures.sitemaps;
+      rules = subst (λ (all : List PlacedRule). IsPermutation all c.sorted.result) c.in-Ok.ensures.rules
+          c.sorted.ensures;
+      accepted = rw c.in-Ok.ensures.rules at none;
+    })
+
+pub returns-in-Err-clause-without_memory : goal.returns-in-Err-clause-without_memory
+returns-in-Err-clause-without_memory c = λ nothing.
+    let (rules, sitemaps) = nothing_of c.args.agent.now _ nothing in c.in-Err.ensures.unasked rules
+
+pub returns-in_default-clause-without_memory : goal.returns-in_default-clause-without_memory
+returns-in_default-clause-without_memory c = λ nothing.
+    let (rules, sitemaps) = nothing_of c.args.agent.now _ nothing in c.in_default.ensures.unasked sitemaps

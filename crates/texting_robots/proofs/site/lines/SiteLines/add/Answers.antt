@@ -1,0 +1,8 @@
+use Rattle.texting_robots.specs.Steps.Site.{listed}
+use Rattle.texting_robots.proofs.SiteLemmas.{given_push}
+use Rattle.texting_robots.proofs.site.lines.SiteLines.add.Goals as goal
+
+pub returns-in_ok-push-in-Sitemap-clause-sitemaps :
+    goal.returns-in_ok-push-in-Sitemap-clause-sitemaps
+returns-in_ok-push-in-Sitemap-clause-sitemaps c =
+    rw (c.in_ok-push-in-Sitemap.ensures.items, c.in-Sitemap.is) (given_push listed _ _)

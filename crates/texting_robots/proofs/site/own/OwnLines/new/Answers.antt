@@ -1,0 +1,21 @@
+use Rattle.std.proofs.Common.{ap, drop, map, refl, ◌∙◌, arith}
+use Rattle.std.specs.Str.{str_to_ascii_lowercase}
+use Rattle.std.proofs.lemmas.List.{length-map}
+use Rattle.texting_robots.specs.Steps.{Names.first_named, Site.has_name, Site.tag_of}
+use Rattle.texting_robots.proofs.{SiteNameLemmas.first_here, SiteOwnLemmas.whole_walk}
+use Rattle.texting_robots.proofs.site.own.OwnLines.new.Goals as goal
+
+pub invariant_of-result : goal.invariant_of-result
+invariant_of-result c =
+    let name = str_to_ascii_lowercase c.args.name.now in (
+      ap (λ k. first_named name (drop k c.args.names.now)) c.first.ensures
+          ∙ first_here (has_name name) c.args.names.now,
+      c.requires,
+    )
+
+pub returns : goal.returns
+returns c =
+    whole_walk (str_to_ascii_lowercase c.args.name.now)
+    (record { place = c.first.result; run = 0; at = c.first_line.result }) c.args.names.now
+    (map tag_of c.args.lines.now) c.first.ensures refl c.first_line.ensures.unnamed
+    (λ some. omega (arith, c.first_line.ensures.named some, length-map c.args.lines.now tag_of))

@@ -1,0 +1,19 @@
+use Rattle.texting_robots.proofs.SiteNameLemmas.{front_line, front_other, front_past}
+use Rattle.texting_robots.proofs.site.own.line_of_run.Goals.{in_default-via-in-Some+else-line-run}
+use Rattle.texting_robots.proofs.site.own.line_of_run.Goals.{in_default-via-in_default}
+use Rattle.texting_robots.proofs.site.own.line_of_run.Goals as goal
+
+pub returns-in-Some : goal.returns-in-Some
+returns-in-Some c =
+    let (_, is, _, (within, _), _) = c.in-Some.ensures.lookup in
+    (within, front_line c.args.lines.now c.args.at c.args.run _ within is c.if-line-run.true)
+
+pub returns-in_default : goal.returns-in_default
+returns-in_default c = elim c.in_default.branch [
+  | in_default-via-in-Some+else-line-run w ↦
+      let (_, is, _, (within, _), _) = w.in-Some.ensures.lookup in
+      front_other c.args.lines.now c.args.at c.args.run _ within is w.if-line-run.false
+  | in_default-via-in_default w ↦
+      let (_, _, _, past, _) = w.in_default.ensures.lookup in
+      front_past c.args.lines.now c.args.at c.args.run past
+]

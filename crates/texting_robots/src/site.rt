@@ -1,0 +1,242 @@
+//! A robots.txt file that is read once for all crawlers.
+ghost use Rattle.std.specs.Prelude.{◌≡◌, ◌++◌, [], All, Any, IfErr, IfOk, IsOk, OnOk, map, slice_get, string_bytes, take};
+ghost use Rattle.std.specs.List.{filter_map};
+ghost use Rattle.std.specs.Option.{option_to_list};
+ghost use Rattle.std.specs.Str.{str_to_ascii_lowercase};
+ghost use Rattle.texting_robots.specs.Agents.{agents_in};
+ghost use Rattle.texting_robots.specs.Computed.{captured_delays, file_lines, placed_rules, sitemaps_in};
+ghost use Rattle.texting_robots.specs.Error.{IsMemoryOr};
+ghost use Rattle.texting_robots.specs.Group.{group_name};
+ghost use Rattle.texting_robots.specs.Line.{HasLines};
+ghost use Rattle.texting_robots.specs.Marks.{is_named};
+ghost use Rattle.texting_robots.specs.Pattern.{IsOverlong};
+ghost use Rattle.texting_robots.specs.Robot.{IsFileRefused, IsRobotOfFile, file_limit};
+ghost use Rattle.texting_robots.specs.Rules.{AreSitemapsOf, GivesNothing, IsDelayFor};
+ghost use Rattle.texting_robots.specs.Steps.Entries.{AreEntries, rules_in};
+ghost use Rattle.texting_robots.specs.Steps.Group.{text_from};
+ghost use Rattle.texting_robots.specs.Steps.Site.{delay_of, rule_of};
+
+mod lines;
+mod names;
+mod own;
+
+use crate::error::Error;
+use crate::parser::Line;
+use crate::reading::push_text;
+use crate::robot::{FILE_LIMIT, Robot};
+use crate::rules::Rules;
+use lines::{GroupLine, SiteLines, SitemapLine};
+use names::Names;
+use own::{OwnLines, OwnRules};
+use std::alloc::{AllocError, Global};
+use std::marker::Model;
+
+/// A robots.txt file that is read once for all crawlers. It borrows the file's bytes.
+#[derive(Drop)]
+pub struct Site<'a> {
+    /// The bytes that were read.
+    text: &'a [u8],
+    /// The rules and delays, in the file's order.
+    lines: Vec<GroupLine<'a>>,
+    names: Names<'a>,
+    sitemaps: Vec<SitemapLine<'a>>,
+    /// The last delay before the first user-agent line.
+    early: Option<u64>,
+}
+
+impl<'a> Model for Site<'a> {
+    ghost use Rattle.std.specs.Prelude.{ℕ, List};
+    ghost use Rattle.texting_robots.specs.Computed.{file_lines};
+    ghost use Rattle.texting_robots.specs.Steps.Site.{IsIndexOf};
+
+    ghost Value = { List ℕ };
+
+    ghost view = { λ s. s.text.now };
+
+    ghost invariant = { λ s. IsIndexOf (file_lines s.text.now) s.lines.items s.names s.sitemaps.items s.early };
+}
+
+/// Adds a name, if it is UTF-8.
+#[tactic(auto, using(crate::proofs::RulesLemmas::no_text))]
+fn push_name<'a>(names: &mut Vec<&'a str>, name: &'a [u8]) -> Result<(), AllocError>
+    ensures { OnOk result (map (λ name. name.now) names.new.items
+        ≡ map (λ name. name.now) names.old.items ++ option_to_list (text_from name.now)) }
+{
+    let Ok(text) = std::str::from_utf8(name) else {
+        return Ok(());
+    };
+    names.push(text)?;
+    Ok(())
+}
+
+impl<'a> Site<'a> {
+    /// Reads the first [`FILE_LIMIT`] bytes of the file `txt`, in one pass.
+    ///
+    /// # Errors
+    ///
+    /// `AllocError` if an allocation fails. No file is rejected: a rule that is too long is an error of [`Site::robot`], for the
+    /// crawlers that it is for.
+    pub fn new(alloc: Global, txt: &'a [u8]) -> Result<Self, AllocError>
+        ensures { IfOk result (λ site. site ≡ take file_limit txt.now) }
+    {
+        Site::with_limit(alloc, txt, FILE_LIMIT)
+    }
+
+    /// Reads the first `limit` bytes of the file `txt`, or all if there are fewer, as [`Site::new`] does.
+    ///
+    /// # Errors
+    ///
+    /// As [`Site::new`].
+    pub fn with_limit(alloc: Global, txt: &'a [u8], limit: usize) -> Result<Self, AllocError>
+        ensures { IfOk result (λ site. site ≡ take limit txt.now) }
+    {
+        let text = &txt[..limit.min(txt.len())];
+        let lines = SiteLines::read(alloc, text)?;
+        let names = Names::new(alloc, lines.agent_lines)?;
+        Ok(Site {
+            text,
+            lines: lines.group_lines,
+            names,
+            sitemaps: lines.sitemap_lines,
+            early: lines.early,
+        })
+    }
+
+    /// Whether a user-agent line names the crawler, ASCII letters in any case.
+    pub fn is_named(&self, agent: &str) -> bool
+        ensures { result ≡ is_named agent.now (file_lines self.now) }
+    {
+        self.names.first(agent.as_bytes()) < self.names.lines().len()
+    }
+
+    /// The name whose groups the crawler gets: its own if a user-agent line has it, otherwise `*`. Crawlers for which it is the
+    /// same, ASCII letters in any case, have the same robot.
+    pub fn group_name<'n>(&self, agent: &'n str) -> &'n [u8]
+        ensures { str_to_ascii_lowercase result.now ≡ group_name agent.now (file_lines self.now) }
+    {
+        if self.is_named(agent) {
+            agent.as_bytes()
+        } else {
+            b"*"
+        }
+    }
+
+    /// The names in the file's user-agent lines that are UTF-8, in the file's order, `*` like any other. Of names that differ
+    /// only in the case of ASCII letters it gives the first.
+    ///
+    /// # Errors
+    ///
+    /// `AllocError` if an allocation fails.
+    pub fn agents(&self, alloc: Global) -> Result<Vec<&'a str>, AllocError>
+        ensures { IfOk result (λ agents. map (λ agent. agent.now) agents.items ≡ agents_in (file_lines self.now)) }
+    {
+        let mut agents = Vec::new(alloc);
+        for (place, line) in self.names.lines().iter().enumerate() {
+            if self.names.first(line.name) != place {
+                continue;
+            }
+            push_name(&mut agents, line.name)?;
+        }
+        Ok(agents)
+    }
+
+    /// The rules and delays that the crawler gets.
+    fn own_lines<'s, 'n>(&'s self, agent: &'n str) -> OwnLines<'s, 'n, 'a>
+        ensures rules { filter_map rule_of result ≡ placed_rules agent.now (file_lines self.now) }
+        ensures delays { filter_map delay_of result ≡ captured_delays agent.now (file_lines self.now) }
+    {
+        OwnLines::new(&self.lines, &self.names, self.group_name(agent))
+    }
+
+    /// The crawler's rules and its first delay.
+    fn own_rules(&self, alloc: Global, agent: &str) -> Result<OwnRules, Error>
+        ensures known { IfOk result (λ own. AreEntries own.rules) }
+        ensures rules { IfOk result (λ own. rules_in own.rules ≡ placed_rules agent.now (file_lines self.now)) }
+        ensures delay { IfOk result (λ own. own.delay ≡ slice_get (captured_delays agent.now (file_lines self.now)) 0) }
+        ensures accepted { IfOk result (λ own. All (λ placed. ¬ IsOverlong placed.rule.0) (rules_in own.rules)) }
+        ensures refused { IfErr result (IsMemoryOr (Any (λ placed. IsOverlong placed.rule.0)
+            (placed_rules agent.now (file_lines self.now)))) }
+        ensures unasked { placed_rules agent.now (file_lines self.now) ≡ [] → IsOk result }
+    {
+        let mut own = OwnRules::new(alloc);
+        for line in self.own_lines(agent) {
+            if let Err(error) = own.add(&line) {
+                return Err(error);
+            }
+        }
+        Ok(own)
+    }
+
+    /// What the file holds for the crawler that calls itself `agent`: the same robot as [`Robot::new`] gives. It reads only the
+    /// crawler's own rules and delays, and copies the sitemaps.
+    ///
+    /// # Errors
+    ///
+    /// As [`Robot::new`].
+    pub fn robot(&self, alloc: Global, agent: &str) -> Result<Robot, Error>
+        ensures robot { IfOk result (IsRobotOfFile agent.now self.now) }
+        ensures refused { IfErr result (IsMemoryOr (IsFileRefused agent.now self.now)) }
+        ensures without_memory { HasLines self.now (GivesNothing agent.now) → IsOk result }
+    {
+        let own = match self.own_rules(alloc, agent) {
+            Ok(own) => own,
+            Err(error) => return Err(error),
+        };
+        let Ok(sitemaps) = self.all_sitemaps(alloc) else {
+            return Err(Error::Memory);
+        };
+        Ok(Robot {
+            delay: own.delay.or(self.early),
+            sitemaps,
+            rules: Rules::sorted(own.rules),
+        })
+    }
+
+    /// The first delay of the crawler's groups.
+    fn own_delay(&self, agent: &str) -> Option<u64>
+        ensures { result ≡ slice_get (captured_delays agent.now (file_lines self.now)) 0 }
+    {
+        for line in self.own_lines(agent) {
+            if let Line::CrawlDelay(delay) = line.line
+                && delay.is_some()
+            {
+                return delay;
+            }
+        }
+        None
+    }
+
+    /// How many microseconds the crawler that calls itself `agent` waits between two requests: the delay of its robot, which is
+    /// here also for a crawler that has a rule that is too long. It allocates nothing.
+    pub fn delay(&self, agent: &str) -> Option<u64>
+        ensures { HasLines self.now (λ lines. IsDelayFor agent.now lines result) }
+    {
+        self.own_delay(agent).or(self.early)
+    }
+
+    /// The sitemaps that the file lists.
+    fn all_sitemaps(&self, alloc: Global) -> Result<Vec<String>, AllocError>
+        ensures sitemaps { IfOk result (λ sitemaps. map string_bytes sitemaps.items ≡ sitemaps_in (file_lines self.now)) }
+        ensures unasked { sitemaps_in (file_lines self.now) ≡ [] → IsOk result }
+    {
+        let mut all = Vec::new(alloc);
+        for sitemap in &self.sitemaps {
+            if let Err(error) = push_text(alloc, &mut all, sitemap.value) {
+                return Err(error);
+            }
+        }
+        Ok(all)
+    }
+
+    /// The sitemaps that the file lists, for every crawler, in the file's order.
+    ///
+    /// # Errors
+    ///
+    /// `AllocError` if an allocation fails.
+    pub fn sitemaps(&self, alloc: Global) -> Result<Vec<String>, AllocError>
+        ensures { IfOk result (λ sitemaps. HasLines self.now (λ lines. AreSitemapsOf lines (map string_bytes sitemaps.items))) }
+    {
+        let sitemaps = self.all_sitemaps(alloc)?;
+        Ok(sitemaps)
+    }
+}

@@ -1,0 +1,131 @@
+//! The user-agent lines of a file, found by their names.
+ghost use Rattle.std.specs.Prelude.{◌≡◌, ◌+◌, ◌<◌, ◌==◌, ◌%◌, IfOk, drop, length, map, replicate};
+ghost use Rattle.std.specs.List.{position_or_len};
+ghost use Rattle.std.specs.Str.{str_to_ascii_lowercase};
+ghost use Rattle.texting_robots.specs.Steps.Names.{AreLinked, first_named, hash_from, bucket_of, is_in};
+ghost use Rattle.texting_robots.specs.Steps.Site.{named_of};
+
+use crate::site::lines::AgentLine;
+use std::alloc::{AllocError, Global};
+use std::marker::Model;
+
+/// The user-agent lines of a file, in the file's order, and a hash table that finds the next one with a name.
+///
+/// There are as many buckets as lines. A lookup compares the name with those of one bucket, usually one or two. The hash
+/// function is fixed, so a file can be written whose names are all in one bucket: then a lookup compares it with each.
+#[derive(Drop)]
+pub(crate) struct Names<'a> {
+    lines: Vec<AgentLine<'a>>,
+    /// For each bucket the place of its first line, or the number of lines.
+    heads: Vec<usize>,
+    /// For each line the place of the next one in its bucket, or the number of lines.
+    nexts: Vec<usize>,
+}
+
+impl<'a> Model for Names<'a> {
+    ghost use Rattle.std.specs.Prelude.{List, map};
+    ghost use Rattle.texting_robots.specs.Steps.Names.{AreLinked};
+    ghost use Rattle.texting_robots.specs.Steps.Site.{Named, named_of};
+
+    ghost Value = { List Named };
+
+    ghost view = { λ s. map named_of s.lines.items };
+
+    ghost invariant = { λ s. AreLinked 0 (map named_of s.lines.items) s.heads.items s.nexts.items };
+}
+
+/// A number that is the same for names that differ only in the case of ASCII letters.
+fn hash_of(name: &[u8]) -> usize
+    ensures { result ≡ hash_from 0 (str_to_ascii_lowercase name.now) }
+{
+    let mut hash = 0;
+    for byte in name {
+        hash = (hash * 33 + usize::from(byte.to_ascii_lowercase())) % 16_777_216;
+    }
+    hash
+}
+
+/// The bucket of a name, of `count` buckets.
+fn bucket_of(name: &[u8], count: usize) -> usize
+    requires { 0 < count }
+    ensures value { result ≡ bucket_of count (str_to_ascii_lowercase name.now) }
+    ensures within { result < count }
+{
+    hash_of(name) % count
+}
+
+/// Links the lines of each bucket, from the last line to the first.
+fn link(lines: &[AgentLine<'_>], heads: &mut [usize], nexts: &mut [usize])
+    requires heads { heads.old ≡ replicate (length lines.now) (length lines.now) }
+    requires nexts { length nexts.old ≡ length lines.now }
+    ensures { AreLinked 0 (map named_of lines.now) heads.new nexts.new }
+{
+    let mut place = lines.len();
+    while place > 0 {
+        place -= 1;
+        let bucket = bucket_of(lines[place].name, heads.len());
+        nexts[place] = heads[bucket];
+        heads[bucket] = place;
+    }
+}
+
+impl<'a> Names<'a> {
+    /// The lines, in the file's order.
+    pub(crate) fn new(alloc: Global, lines: Vec<AgentLine<'a>>) -> Result<Self, AllocError>
+        ensures { IfOk result (λ names. names ≡ map named_of lines.entry.items) }
+    {
+        let count = lines.len();
+        let mut heads = vec![in alloc; count; count]?;
+        let mut nexts = vec![in alloc; count; count]?;
+        link(&lines, &mut heads, &mut nexts);
+        Ok(Names {
+            lines,
+            heads,
+            nexts,
+        })
+    }
+
+    /// The lines.
+    pub(crate) fn lines(&self) -> &[AgentLine<'a>]
+        ensures { map named_of result.now ≡ self.now }
+    {
+        &self.lines
+    }
+
+    /// The place of the first line with the name from a place on, or the number of lines; the place is that of a line in the
+    /// name's bucket, or the number of lines.
+    fn find_from(&self, start: usize, name: &[u8]) -> usize
+        requires { position_or_len (is_in (length self.now) (bucket_of (length self.now) (str_to_ascii_lowercase name.now)))
+            (drop start self.now) ≡ 0 }
+        ensures { result ≡ start + first_named (str_to_ascii_lowercase name.now) (drop start self.now) }
+    {
+        let mut place = start;
+        while place < self.lines.len() {
+            if self.lines[place].name.eq_ignore_ascii_case(name) {
+                return place;
+            }
+            place = self.nexts[place];
+        }
+        place
+    }
+
+    /// The place of the first line with the name, ASCII letters in any case, or the number of lines.
+    pub(crate) fn first(&self, name: &[u8]) -> usize
+        ensures { result ≡ first_named (str_to_ascii_lowercase name.now) self.now }
+    {
+        if self.lines.is_empty() {
+            return 0;
+        }
+        let heads = self.heads.as_slice();
+        self.find_from(heads[bucket_of(name, heads.len())], name)
+    }
+
+    /// The place of the next line with the name of the line at a place, or the number of lines.
+    pub(crate) fn after(&self, place: usize, name: &[u8]) -> usize
+        requires within { place < length self.now }
+        requires here { first_named (str_to_ascii_lowercase name.now) (drop place self.now) ≡ 0 }
+        ensures { result ≡ place + 1 + first_named (str_to_ascii_lowercase name.now) (drop (place + 1) self.now) }
+    {
+        self.find_from(self.nexts[place], name)
+    }
+}

@@ -1,0 +1,189 @@
+//! What one crawler gets of the lines that a site keeps.
+ghost use Rattle.std.specs.Prelude.{◌≡◌, ◌+◌, ◌<◌, ◌≤◌, ◌++◌, ◌∷◌, [], IfErr, IsOk, MatchOption, None, OnOk, drop, length, map};
+ghost use Rattle.std.specs.Iterator.{YieldsFirstBy, item_count};
+ghost use Rattle.std.specs.Option.{IfSome, IsSomeAnd, option_or, option_to_list};
+ghost use Rattle.std.specs.Str.{str_to_ascii_lowercase};
+ghost use Rattle.texting_robots.specs.Error.{IsMemoryOr};
+ghost use Rattle.texting_robots.specs.Pattern.{IsOverlong};
+ghost use Rattle.texting_robots.specs.Steps.Entries.{AreEntries, rules_in};
+ghost use Rattle.texting_robots.specs.Steps.Own.{AreOfFile, IsWalk, IsWholeWalk, own_at};
+ghost use Rattle.texting_robots.specs.Steps.Site.{delay_of, in_front, rule_of, tag_of};
+
+use crate::error::Error;
+use crate::parser::Line;
+use crate::reading::push_rule;
+use crate::rules::Gathered;
+use crate::site::lines::GroupLine;
+use crate::site::names::Names;
+use std::alloc::Global;
+use std::marker::Model;
+
+/// How far a walk along a crawler's lines has come.
+#[derive(Clone, Copy)]
+pub(crate) struct Position {
+    /// The place of the next user-agent line with the crawler's name, or the number of user-agent lines.
+    pub(crate) place: usize,
+    /// The run whose group lines come next.
+    pub(crate) run: usize,
+    /// The index of the next of them, if one is left.
+    pub(crate) at: usize,
+}
+
+/// An iterator over the rules and delays that a crawler gets, in the file's order. It allocates nothing.
+///
+/// It goes from one user-agent line with the name to the next, and takes the group lines of that line's run.
+#[derive(Drop)]
+pub(crate) struct OwnLines<'s, 'n, 'a> {
+    lines: &'s [GroupLine<'a>],
+    names: &'s Names<'a>,
+    /// The name whose groups the crawler gets.
+    name: &'n [u8],
+    position: Position,
+}
+
+impl<'s, 'n, 'a> Model for OwnLines<'s, 'n, 'a> {
+    ghost use Rattle.std.specs.Prelude.{List, map};
+    ghost use Rattle.std.specs.Str.{str_to_ascii_lowercase};
+    ghost use Rattle.texting_robots.specs.Steps.Own.{IsWalk, own_at};
+    ghost use Rattle.texting_robots.specs.Steps.Site.{Tagged, tag_of};
+
+    ghost Value = { List Tagged };
+
+    ghost view = { λ s. own_at (str_to_ascii_lowercase s.name.now) s.position s.names.now (map tag_of s.lines.now) };
+
+    ghost invariant = { λ s. IsWalk (str_to_ascii_lowercase s.name.now) s.position s.names.now (map tag_of s.lines.now) };
+}
+
+/// The line at an index, if it is of the run.
+fn line_of_run<'a>(lines: &[GroupLine<'a>], at: usize, run: usize) -> Option<GroupLine<'a>>
+    ensures { MatchOption result (in_front run (drop at (map tag_of lines.now)) ≡ []) (λ line. (at < length lines.now)
+        × (in_front run (drop at (map tag_of lines.now)) ≡ tag_of line ∷ in_front run (drop (at + 1) (map tag_of lines.now)))) }
+{
+    match lines.get(at) {
+        Some(line) if line.run == run => Some(*line),
+        _ => None,
+    }
+}
+
+/// The next line of a walk, and the position after it.
+fn next_line<'a>(
+    lines: &[GroupLine<'a>],
+    names: &Names<'_>,
+    name: &[u8],
+    start: Position,
+) -> Option<(GroupLine<'a>, Position)>
+    requires { IsWalk (str_to_ascii_lowercase name.now) start names.now (map tag_of lines.now) }
+    ensures { MatchOption result
+        (own_at (str_to_ascii_lowercase name.now) start names.now (map tag_of lines.now) ≡ [])
+        (λ next. IsWalk (str_to_ascii_lowercase name.now) next.1 names.now (map tag_of lines.now)
+        × (own_at (str_to_ascii_lowercase name.now) start names.now (map tag_of lines.now)
+        ≡ tag_of next.0 ∷ own_at (str_to_ascii_lowercase name.now) next.1 names.now (map tag_of lines.now))) }
+{
+    let mut place = start.place;
+    let mut run = start.run;
+    let mut at = start.at;
+    loop {
+        if let Some(line) = line_of_run(lines, at, run) {
+            let at = at + 1;
+            return Some((line, Position { place, run, at }));
+        }
+        let named = *names.lines().get(place)?;
+        place = names.after(place, name);
+        if named.run > run {
+            run = named.run;
+            at = named.start;
+        }
+    }
+}
+
+/// Where a walk finds its first line: at the start in a file without user-agent lines, otherwise past the end, since lines
+/// before the first user-agent line are nobody's.
+fn first_line(lines: &[GroupLine<'_>], names: &Names<'_>) -> usize
+    ensures unnamed { length names.now ≡ 0 → result ≡ 0 }
+    ensures named { 0 < length names.now → length lines.now ≤ result }
+{
+    if names.lines().is_empty() {
+        0
+    } else {
+        lines.len()
+    }
+}
+
+impl<'s, 'n, 'a> OwnLines<'s, 'n, 'a> {
+    /// The lines that the name gets, of a file's group lines and user-agent lines.
+    pub(super) fn new(lines: &'s [GroupLine<'a>], names: &'s Names<'a>, name: &'n [u8]) -> Self
+        requires { AreOfFile names.now (map tag_of lines.now) }
+        ensures { IsWholeWalk (str_to_ascii_lowercase name.now) names.now (map tag_of lines.now) result }
+    {
+        let position = Position {
+            place: names.first(name),
+            run: 0,
+            at: first_line(lines, names),
+        };
+        OwnLines {
+            lines,
+            names,
+            name,
+            position,
+        }
+    }
+}
+
+impl<'s, 'n, 'a> Iterator for OwnLines<'s, 'n, 'a> {
+    type Item = GroupLine<'a>;
+
+    ghost next_gives = { YieldsFirstBy tag_of (λ s. s) };
+
+    ghost remaining = { item_count (λ s. s) };
+
+    fn next(&mut self) -> Option<GroupLine<'a>> {
+        let (line, position) = next_line(self.lines, self.names, self.name, self.position)?;
+        self.position = position;
+        Some(line)
+    }
+}
+
+/// What a crawler gets of its lines.
+#[derive(Drop)]
+pub(crate) struct OwnRules {
+    /// The first delay.
+    pub(super) delay: Option<u64>,
+    pub(super) rules: Gathered,
+}
+
+impl OwnRules {
+    pub(super) fn new(alloc: Global) -> Self
+        ensures known { AreEntries result.rules }
+        ensures rules { rules_in result.rules ≡ [] }
+        ensures delay { result.delay ≡ None }
+    {
+        OwnRules {
+            delay: None,
+            rules: Gathered::new(alloc),
+        }
+    }
+
+    /// Adds what a group line gives.
+    pub(super) fn add(&mut self, line: &GroupLine<'_>) -> Result<(), Error>
+        requires { AreEntries self.old.rules }
+        ensures known { OnOk result (AreEntries self.new.rules) }
+        ensures rules { OnOk result (rules_in self.new.rules ≡ rules_in self.old.rules
+            ++ option_to_list (rule_of (tag_of line.now))) }
+        ensures delay { OnOk result (self.new.delay ≡ option_or self.old.delay (delay_of (tag_of line.now))) }
+        ensures accepted { OnOk result (IfSome (rule_of (tag_of line.now)) (λ placed. ¬ IsOverlong placed.rule.0)) }
+        ensures refused { IfErr result (IsMemoryOr
+            (IsSomeAnd (rule_of (tag_of line.now)) (λ placed. IsOverlong placed.rule.0))) }
+        ensures unasked { rule_of (tag_of line.now) ≡ None → IsOk result }
+    {
+        let number = line.number;
+        match line.line {
+            Line::Allow(value) => push_rule(&mut self.rules, value, true, number),
+            Line::Disallow(value) => push_rule(&mut self.rules, value, false, number),
+            Line::CrawlDelay(delay) => {
+                self.delay = self.delay.or(delay);
+                Ok(())
+            }
+            Line::UserAgent(_) | Line::Sitemap(_) | Line::Raw(_) => Ok(()),
+        }
+    }
+}
