@@ -1,4 +1,4 @@
-"""ask.py AGENT [URL..] < robots.txt: what the file says to the crawler AGENT, as ask.c does, but for one URL after another."""
+"""ask.py AGENT [URL..] < robots.txt: what the file says to the crawler AGENT, as ask.c does."""
 
 import sys
 
@@ -10,18 +10,18 @@ def main(agent, *urls):
     if urls:
         try:
             print("robots", robots.address(urls[0]))
-        except robots.Refused:
+        except robots.RobotsError:
             pass
-    wait = robots.delay(agent, file)
-    print("delay", "none" if wait is None else wait)
-    for sitemap in robots.sitemaps(agent, file):
-        print("sitemap", sitemap)
     denied = False
     with robots.Robot(agent, file) as robot:
+        delay = robot.delay()
+        print("delay", "none" if delay is None else delay)
+        for sitemap in robots.sitemaps(file):
+            print("sitemap", sitemap)
         for url in urls:
-            answer = robot.ask(url)
-            denied |= answer < 0
-            print("deny" if answer < 0 else "allow", abs(answer) or "-", url)
+            result = robot.query(url)
+            denied |= result < 0
+            print("deny" if result < 0 else "allow", abs(result) or "-", url)
     return 1 if denied else 0
 
 
@@ -31,6 +31,6 @@ if __name__ == "__main__":
         sys.exit(2)
     try:
         sys.exit(main(*sys.argv[1:]))
-    except (robots.Refused, MemoryError) as error:
+    except (robots.RobotsError, MemoryError) as error:
         print(f"ask: {error or 'out of memory'}", file=sys.stderr)
         sys.exit(2)

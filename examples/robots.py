@@ -1,50 +1,51 @@
-"""The calls of robots.h: decide, delay, sitemaps, address, and Robot, which is a handle.
+"""The calls of robots.h: decide, delay, sitemaps, address, and Robot, which is a robot that stays open.
 
-The shared object is the one that ROBOTS_SO names, else librobots.so beside this file. A refusal is a Refused, whose `status` is that
-of robots.h, or a MemoryError.
+The shared object is the one that ROBOTS_SO names, else librobots_c.so next to this file. A failed call raises a RobotsError, whose
+`status` is that of robots.h, or a MemoryError.
 """
 
 import ctypes
 import os
+import threading
 from ctypes import POINTER, byref, c_char_p, c_int32, c_int64, c_size_t, c_uint64, c_void_p
 
-OK, NOT_UTF8, NO_MEMORY, NO_ROOM, NO_DELAY, NO_ADDRESS = range(0, -6, -1)
-WHY = ["", "not UTF-8", "out of memory", "too little room", "no delay", "no address"]
+OK, NOT_UTF8, NO_MEMORY, NO_ROOM, NO_DELAY, NO_ADDRESS, OVERLONG_RULE = range(0, -7, -1)
+TEXTS = ["no error", "the agent or a URL isn't UTF-8", "out of memory", "the buffer is too small"]
+TEXTS += ["the file has no delay for this crawler", "the URL has no robots.txt file"]
 
-
-class Handle(ctypes.Structure):
-    _fields_ = [("at", c_void_p)]
-
-
-BESIDE = os.path.join(os.path.dirname(os.path.abspath(__file__)), "librobots.so")
-library = ctypes.CDLL(os.environ.get("ROBOTS_SO") or BESIDE)
+NEXT_TO_THIS = os.path.join(os.path.dirname(os.path.abspath(__file__)), "librobots_c.so")
+library = ctypes.CDLL(os.environ.get("ROBOTS_SO") or NEXT_TO_THIS)
 TEXT = [c_char_p, c_size_t]
+NUMBERS = [POINTER(c_int64), c_size_t]
+LINE = [POINTER(c_size_t)]
 WRITTEN = [POINTER(ctypes.c_char), c_size_t, POINTER(c_size_t)]
 for name, arguments in {
-    "robots_decide": TEXT * 3 + [POINTER(c_int64), c_size_t],
+    "robots_decide": TEXT * 3 + NUMBERS + LINE,
     "robots_delay": TEXT * 2 + [POINTER(c_uint64)],
-    "robots_sitemaps": TEXT * 2 + WRITTEN,
+    "robots_sitemaps": TEXT + WRITTEN,
     "robots_address": TEXT + WRITTEN,
-    "robots_open": TEXT * 2 + [POINTER(c_void_p)],
-    "robots_ask": [Handle] + TEXT + [POINTER(c_int64), POINTER(c_void_p)],
+    "robots_open": TEXT * 2 + [POINTER(c_void_p)] + LINE,
+    "robots_query": [c_void_p] + TEXT + [POINTER(c_int64)],
+    "robots_query_many": [c_void_p] + TEXT + NUMBERS,
+    "robots_query_delay": [c_void_p, POINTER(c_uint64)],
 }.items():
     getattr(library, name).argtypes = arguments
     getattr(library, name).restype = c_int32
-library.robots_close.argtypes, library.robots_close.restype = [Handle], None
+library.robots_close.argtypes, library.robots_close.restype = [c_void_p], None
 
 
-class Refused(Exception):
-    def __init__(self, status):
-        overlong = f"the rule in line {status} is too long: the file can't be used for this crawler"
-        super().__init__(overlong if status > 0 else WHY[-status])
-        self.status = status
+class RobotsError(Exception):
+    def __init__(self, status, line=0):
+        overlong = f"the rule in line {line} is too long: the file can't be used for this crawler"
+        super().__init__(overlong if status == OVERLONG_RULE else TEXTS[-status])
+        self.status, self.line = status, line
 
 
-def check(status):
+def check(status, line=0):
     if status == NO_MEMORY:
         raise MemoryError
     if status != OK:
-        raise Refused(status)
+        raise RobotsError(status, line)
 
 
 def text(data):
@@ -52,41 +53,49 @@ def text(data):
     return data, len(data)
 
 
-def written(call, *texts):
+def joined(urls):
+    if any("\n" in url for url in urls):
+        raise ValueError("a URL with a line feed: use Robot.query")
+    return text("\n".join(urls))
+
+
+def written(call, one):
     """What a call writes, with as much room as it asks for."""
     room, length = 256, c_size_t()
     while True:
         out = ctypes.create_string_buffer(room)
-        status = call(*(part for one in texts for part in text(one)), out, room, byref(length))
+        status = call(*text(one), out, room, byref(length))
         if status != NO_ROOM:
             check(status)
             return out.raw[: length.value].decode()
         room = length.value
 
 
-def decide(agent, file, urls):
-    """For each URL 0, or n where line n allows it, or -n where line n denies it. A URL is a whole one, or a path."""
-    if any("\n" in url for url in urls):
-        raise ValueError("a URL with a line feed is asked by a Robot")
-    if not urls:
-        return []
-    out = (c_int64 * len(urls))()
-    check(library.robots_decide(*text(agent), *text(file), *text("\n".join(urls)), out, len(urls)))
-    return list(out)
-
-
-def delay(agent, file):
-    """How many microseconds the crawler waits between two requests, or None."""
-    out = c_uint64()
-    status = library.robots_delay(*text(agent), *text(file), byref(out))
+def delay_of(status, out):
+    """The delay that a call wrote, or None."""
     if status == NO_DELAY:
         return None
     check(status)
     return out.value
 
 
-def sitemaps(agent, file):
-    return written(library.robots_sitemaps, agent, file).split("\n")[:-1]
+def decide(agent, file, urls):
+    """For each URL 0, or n where line n allows it, or -n where line n denies it. A URL is a whole one, or a path."""
+    if not urls:
+        return []
+    out, line = (c_int64 * len(urls))(), c_size_t()
+    check(library.robots_decide(*text(agent), *text(file), *joined(urls), out, len(urls), byref(line)), line.value)
+    return list(out)
+
+
+def delay(agent, file):
+    """How many microseconds the crawler waits between two requests, or None."""
+    out = c_uint64()
+    return delay_of(library.robots_delay(*text(agent), *text(file), byref(out)), out)
+
+
+def sitemaps(file):
+    return written(library.robots_sitemaps, file).split("\n")[:-1]
 
 
 def address(url):
@@ -94,25 +103,44 @@ def address(url):
 
 
 class Robot:
-    """What a file gives a crawler, kept for one URL after another; for `with`, on one thread."""
+    """What a file says to one crawler, for `with`. A lock lets one thread at a time call the library."""
 
     def __init__(self, agent, file):
-        self.handle = None
-        at = c_void_p()
-        check(library.robots_open(*text(agent), *text(file), byref(at)))
-        self.handle = Handle(at)
+        self.robot, self.lock = c_void_p(), threading.Lock()
+        line = c_size_t()
+        check(library.robots_open(*text(agent), *text(file), byref(self.robot), byref(line)), line.value)
 
-    def ask(self, url):
-        out, again = c_int64(), c_void_p()
-        status = library.robots_ask(self.handle, *text(url), byref(out), byref(again))
-        self.handle = Handle(again)
-        check(status)
+    def query(self, url):
+        """The number of `decide` for one URL."""
+        out = c_int64()
+        with self.lock:
+            check(library.robots_query(self.open(), *text(url), byref(out)))
         return out.value
 
+    def query_many(self, urls):
+        """The numbers of `decide`."""
+        if not urls:
+            return []
+        out = (c_int64 * len(urls))()
+        with self.lock:
+            check(library.robots_query_many(self.open(), *joined(urls), out, len(urls)))
+        return list(out)
+
+    def delay(self):
+        out = c_uint64()
+        with self.lock:
+            return delay_of(library.robots_query_delay(self.open(), byref(out)), out)
+
+    def open(self):
+        if not self.robot:
+            raise ValueError("the robot is closed")
+        return self.robot
+
     def close(self):
-        if self.handle is not None:
-            library.robots_close(self.handle)
-        self.handle = None
+        with self.lock:
+            if self.robot:
+                library.robots_close(self.robot)
+            self.robot = c_void_p()
 
     def __enter__(self):
         return self

@@ -9,8 +9,7 @@
 #include <stdlib.h>
 #include <string.h>
 
-#define BYTES(text) (const uint8_t *)(text), strlen(text)
-#define FILE_OF(text) (const uint8_t *)(text), sizeof(text) - 1
+#define FILE_OF(text) (text), sizeof(text) - 1
 
 static int passed, failed;
 
@@ -68,7 +67,7 @@ static const char address[] = "https://example.com:8080/robots.txt";
 enum { COUNT = sizeof verdicts / sizeof *verdicts };
 
 /* What came of a call: its status, whether what it wrote is right, and whether it wrote nothing. */
-struct asked {
+struct outcome {
     int32_t status;
     bool right, untouched;
 };
@@ -80,106 +79,130 @@ static bool all_are(const void *bytes, size_t count, int byte) {
     return true;
 }
 
-static struct asked decide_with(const char *agent, const char *these, size_t room) {
+/* What a call wrote to `out`, which has COUNT + 1 numbers that held 0x77. */
+static struct outcome results(int32_t status, const int64_t *out, size_t line) {
+    bool right = status == ROBOTS_OK && memcmp(out, verdicts, sizeof verdicts) == 0 && all_are(out + COUNT, 8, 0x77) && line == 7;
+    return (struct outcome){status, right, all_are(out, 8 * (COUNT + 1), 0x77) && line == 7};
+}
+
+static struct outcome decide_with(const char *agent, const char *these, size_t room) {
     int64_t out[COUNT + 1];
+    size_t line = 7;
     memset(out, 0x77, sizeof out);
-    struct asked asked;
-    asked.status = robots_decide(BYTES(agent), FILE_OF(file), BYTES(these), out, room);
-    asked.right = asked.status == ROBOTS_OK && memcmp(out, verdicts, sizeof verdicts) == 0 && all_are(out + COUNT, 8, 0x77);
-    asked.untouched = all_are(out, sizeof out, 0x77);
-    return asked;
+    int32_t status = robots_decide(ROBOTS_STRING(agent), FILE_OF(file), ROBOTS_STRING(these), out, room, &line);
+    return results(status, out, line);
 }
 
-static struct asked decide(void) { return decide_with("Bot", urls, COUNT); }
+static struct outcome decide(void) { return decide_with("Bot", urls, COUNT); }
 
-static struct asked wait(void) {
+static struct outcome delay(void) {
     uint64_t out = 77;
-    int32_t status = robots_delay(BYTES("Bot"), FILE_OF(file), &out);
-    return (struct asked){status, status == ROBOTS_OK && out == 2500000, out == 77};
+    int32_t status = robots_delay(ROBOTS_STRING("Bot"), FILE_OF(file), &out);
+    return (struct outcome){status, status == ROBOTS_OK && out == 2500000, out == 77};
 }
 
-/* What a call wrote to `out`, which has so much room, beside the text that it is to write. */
-static struct asked judged(int32_t status, const uint8_t *out, size_t len, const char *wanted, size_t room) {
+/* What a call wrote to `out`, which has so much room, next to the text that it is to write. */
+static struct outcome text_is(int32_t status, const char *out, size_t len, const char *wanted, size_t room) {
     size_t length = strlen(wanted);
     bool right = status == ROBOTS_OK && len == length && memcmp(out, wanted, length) == 0 && all_are(out + length, 99 - length, 77);
-    bool told = status == ROBOTS_NO_ROOM ? len == length && room < length : len == 7;
-    return (struct asked){status, right, told && all_are(out, 99, 77)};
+    bool counted = status == ROBOTS_NO_ROOM ? len == length && room < length : len == 7;
+    return (struct outcome){status, right, counted && all_are(out, 99, 77)};
 }
 
-static struct asked list_sitemaps(size_t room) {
-    uint8_t out[99];
+static struct outcome list_sitemaps(size_t room) {
+    char out[99];
     size_t len = 7;
     memset(out, 77, sizeof out);
-    int32_t status = robots_sitemaps(BYTES("Bot"), FILE_OF(file), out, room, &len);
-    return judged(status, out, len, sitemaps, room);
+    int32_t status = robots_sitemaps(FILE_OF(file), out, room, &len);
+    return text_is(status, out, len, sitemaps, room);
 }
 
-static struct asked find_address(const char *url, size_t room) {
-    uint8_t out[99];
+static struct outcome find_address(const char *url, size_t room) {
+    char out[99];
     size_t len = 7;
     memset(out, 77, sizeof out);
-    int32_t status = robots_address(BYTES(url), out, room, &len);
-    return judged(status, out, len, address, room);
+    int32_t status = robots_address(ROBOTS_STRING(url), out, room, &len);
+    return text_is(status, out, len, address, room);
 }
 
-static struct asked all_sitemaps(void) { return list_sitemaps(sizeof sitemaps - 1); }
+static struct outcome all_sitemaps(void) { return list_sitemaps(sizeof sitemaps - 1); }
 
-static struct asked whole_address(void) { return find_address(page, sizeof address - 1); }
+static struct outcome whole_address(void) { return find_address(page, sizeof address - 1); }
 
-/* Opens a handle, asks it, asks it again while nothing fails, and closes it. */
-static struct asked keep(void) {
-    struct robots_handle robot = {NULL};
-    int64_t out = 77, again = 77;
-    int32_t status = robots_open(BYTES("Bot"), FILE_OF(file), &robot.at);
+static struct outcome query_with(const robots *robot, size_t room) {
+    int64_t out[COUNT + 1];
+    memset(out, 0x77, sizeof out);
+    return results(robots_query_many(robot, ROBOTS_STRING(urls), out, room), out, 7);
+}
+
+/* Opens a robot, queries it, and closes it. What needs no memory is never reported as out of memory. */
+static struct outcome keep(void) {
+    robots *robot = NULL;
+    int64_t out = 77, plain = 77;
+    uint64_t wait = 77;
+    size_t line = 7;
+    int32_t status = robots_open(ROBOTS_STRING("Bot"), FILE_OF(file), &robot, &line);
     if (status != ROBOTS_OK)
-        return (struct asked){status, false, robot.at == NULL};
-    status = robots_ask(robot, BYTES("/private/\xC3\xA9 b"), &out, &robot.at);
-    long was = fail_at;
-    fail_at = 0;
-    bool is_asked_again = robots_ask(robot, BYTES("/private/open"), &again, &robot.at) == ROBOTS_OK && again == 3;
-    fail_at = was;
+        return (struct outcome){status, false, robot == NULL && line == 7};
+    bool known = robots_query(robot, "/private/open", 13, &plain) == ROBOTS_OK && plain == 3;
+    known &= robots_query(robot, "", 0, &plain) == ROBOTS_OK && plain == 0;
+    known &= robots_query_delay(robot, &wait) == ROBOTS_OK && wait == 2500000 && line == 7;
+    struct outcome many = query_with(robot, COUNT);
+    status = robots_query(robot, ROBOTS_STRING("/private/\xC3\xA9 b"), &out);
+    known &= status == ROBOTS_OK ? out == -2 : out == 77;
     robots_close(robot);
-    return (struct asked){status, is_asked_again && status == ROBOTS_OK && out == -2, is_asked_again && out == 77};
+    return status == ROBOTS_OK ? (struct outcome){many.status, known && many.right, known && many.untouched}
+                               : (struct outcome){status, false, known && (many.right || many.untouched)};
 }
 
-static bool is(struct asked asked, int32_t status) {
-    return asked.status == status && (status == ROBOTS_OK ? asked.right : asked.untouched);
+static bool is(struct outcome outcome, int32_t status) {
+    return outcome.status == status && (status == ROBOTS_OK ? outcome.right : outcome.untouched);
 }
 
 static void try_examples(void) {
     int64_t out = 77;
-    uint64_t delay = 77;
+    uint64_t wait = 77;
+    size_t length = 7;
+    robots *robot = NULL;
     tell("verdicts with their lines", is(decide(), ROBOTS_OK));
-    tell("verdicts with a number more of room", is(decide_with("Bot", urls, COUNT + 1), ROBOTS_OK));
     tell("verdicts with a number too little room", is(decide_with("Bot", urls, COUNT - 1), ROBOTS_NO_ROOM));
     tell("verdicts, an agent that isn't UTF-8", is(decide_with("\xFF", urls, COUNT), ROBOTS_NOT_UTF8));
     tell("verdicts, a URL that isn't UTF-8", is(decide_with("Bot", "/a\n\xFF", COUNT), ROBOTS_NOT_UTF8));
-    tell("no file and no URL", robots_decide(BYTES("Bot"), BYTES(""), BYTES(""), &out, 1) == ROBOTS_OK && out == 0);
-    tell("a delay", is(wait(), ROBOTS_OK));
-    tell("no delay", robots_delay(BYTES("Bot"), BYTES("Disallow: /"), &delay) == ROBOTS_NO_DELAY && delay == 77);
-    tell("an endless delay", robots_delay(BYTES("Bot"), BYTES("Crawl-delay: inf"), &delay) == ROBOTS_OK && delay == UINT64_MAX);
+    tell("NULL is an empty text", robots_decide(NULL, 0, NULL, 0, NULL, 0, &out, 1, &length) == ROBOTS_OK && out == 0);
+    tell("NULL is an empty buffer", robots_decide(NULL, 0, NULL, 0, NULL, 0, NULL, 0, &length) == ROBOTS_NO_ROOM && length == 7);
+    tell("a delay", is(delay(), ROBOTS_OK));
+    tell("no delay", robots_delay("Bot", 3, "Disallow: /", 11, &wait) == ROBOTS_NO_DELAY && wait == 77);
     tell("sitemaps", is(all_sitemaps(), ROBOTS_OK));
     tell("sitemaps with a byte too little room", is(list_sitemaps(sizeof sitemaps - 2), ROBOTS_NO_ROOM));
+    tell("the length of sitemaps", robots_sitemaps(FILE_OF(file), NULL, 0, &length) == ROBOTS_NO_ROOM && length == sizeof sitemaps - 1);
     tell("an address", is(whole_address(), ROBOTS_OK));
     tell("an address with a byte too little room", is(find_address(page, sizeof address - 2), ROBOTS_NO_ROOM));
-    tell("no address", is(find_address("mailto:a@example.com", 99), ROBOTS_NO_ADDRESS));
-    tell("no address of what is no URL", is(find_address("example.com/a", 99), ROBOTS_NO_ADDRESS));
+    static const char *const none[] = {"mailto:a@example.com", "example.com/a", "", "https://example.com:port/", "https://"};
+    for (size_t i = 0; i < sizeof none / sizeof *none; i++)
+        tell("no address", is(find_address(none[i], 99), ROBOTS_NO_ADDRESS));
     tell("an address of what isn't UTF-8", is(find_address("\xFF", 99), ROBOTS_NOT_UTF8));
-    tell("a handle", is(keep(), ROBOTS_OK));
+    tell("a robot", is(keep(), ROBOTS_OK));
+    bool opened = robots_open("Bot", 3, "Disallow: /", 11, &robot, &length) == ROBOTS_OK;
+    tell("no delay of a robot", opened && robots_query_delay(robot, &wait) == ROBOTS_NO_DELAY && wait == 77);
+    tell("a query that isn't UTF-8", opened && robots_query(robot, "\xFF", 1, &out) == ROBOTS_NOT_UTF8 && out == 0);
+    tell("queries with too little room", opened && is(query_with(robot, COUNT - 1), ROBOTS_NO_ROOM));
+    robots_close(robot);
+    robots_close(NULL);
+    tell("the version", robots_version() == ROBOTS_VERSION);
 }
 
 /* Fails the first allocation of a call, then the second, and so on, until a call meets no failure. */
-static void fail_each(const char *name, struct asked (*call)(void), bool all_later) {
+static void fail_each(const char *name, struct outcome (*call)(void), bool all_later) {
     bool well = true, ends = false;
     long reported = 0;
     later = all_later;
     for (fail_at = 1; well && !ends; fail_at++) {
         allocations = failures = 0;
-        struct asked asked = call();
-        bool wants = asked.status == ROBOTS_NO_MEMORY && asked.untouched && failures > 0;
+        struct outcome outcome = call();
+        bool wants = outcome.status == ROBOTS_NO_MEMORY && outcome.untouched && failures > 0;
         ends = failures == 0;
         reported += wants;
-        well = blocks == 0 && (wants || is(asked, ROBOTS_OK));
+        well = blocks == 0 && (wants || is(outcome, ROBOTS_OK));
     }
     fail_at = 0;
     printf("%ld allocation failures%s reported: ", reported, all_later ? ", with all later ones," : "");
@@ -191,10 +214,10 @@ int main(void) {
     tell("no block is kept", blocks == 0);
     for (int all_later = 0; all_later < 2; all_later++) {
         fail_each("verdicts", decide, all_later);
-        fail_each("a delay", wait, all_later);
+        fail_each("a delay", delay, all_later);
         fail_each("sitemaps", all_sitemaps, all_later);
         fail_each("an address", whole_address, all_later);
-        fail_each("a handle", keep, all_later);
+        fail_each("a robot", keep, all_later);
     }
     printf("%d passed, %d failed\n", passed, failed);
     return failed != 0;

@@ -1,15 +1,18 @@
-"""The static library crates/robots_c, called from C and Python, and the example programs over it next to robots_audit."""
+"""The C library crates/robots_c, called from C, C++ and Python, and the example programs over it next to robots_audit."""
 
 import ctypes
 import importlib
+import mmap
 import os
+import random
 import re
+import shutil
 import subprocess
 import sys
 from pathlib import Path
 
 import pytest
-from support import CC, CRATES, ROOT, Result, cases_of, compiled, input_of, run, shown, spelled, wanted_of
+from support import CC, CRATES, ROOT, Result, cases_of, compiled, input_of, program, run, shown, spelled, wanted_of
 
 LIBRARY = CRATES / "robots_c"
 ARCHIVE = LIBRARY / "out/librobots_c.a"
@@ -58,29 +61,113 @@ STRICT = ["-Wpedantic", "-Werror", f"-I{LIBRARY}"]
 
 
 @pytest.fixture(scope="session")
-def shared_object(objects, tmp_path_factory):
-    """A shared object in which only the functions of robots.h are visible."""
-    folder = tmp_path_factory.mktemp("shared")
-    (folder / "exports").write_text("{ global: robots_*; local: *; };")
-    link = ["-Wl,--whole-archive", objects[0], "-Wl,--no-whole-archive", objects[1], f"-Wl,--version-script={folder}/exports"]
-    return compiled(folder / "librobots.so", "-shared", *link, "-Wl,-z,defs", "-Wl,-z,text", "-Wl,-z,relro,-z,now")
+def installed(objects, tmp_path_factory):
+    """The folder into which bindings/c/Makefile installs the library."""
+    folder = tmp_path_factory.mktemp("installed")
+    words = ["make", "-C", ROOT / "bindings/c", "install", f"PREFIX={folder}", f"OUT={folder}/out", f"CC={CC}"]
+    ended = subprocess.run(words, capture_output=True, text=True)
+    assert ended.returncode == 0, ended.stderr
+    return folder
 
 
-SANITIZERS = ["-g", "-fsanitize=address,undefined", "-fno-sanitize-recover=all"]
+@pytest.fixture(scope="session")
+def shared_object(installed):
+    return installed / "lib/librobots_c.so"
 
 
-@pytest.mark.parametrize("sanitizers", [[], SANITIZERS], ids=["plain", "sanitized"])
+def needs(*words):
+    """Skips the test where the compiler can't build a program so."""
+    source = "int main(void) { return 0; }"
+    if not shutil.which(words[0]) or subprocess.run([*words, "-", "-o", os.devnull], input=source, text=True, capture_output=True).returncode != 0:
+        pytest.skip(f"{' '.join(words)} builds no program")
+
+
+@pytest.mark.parametrize("sanitizers", [[], ["-g", "-fsanitize=address,undefined", "-fno-sanitize-recover=all"]], ids=["plain", "sanitized"])
 def test_called_from_c(objects, tmp_path, sanitizers):
-    if sanitizers:
-        (tmp_path / "empty.c").write_text("int main(void) { return 0; }")
-        words = [CC, *sanitizers, tmp_path / "empty.c", "-o", tmp_path / "empty"]
-        if subprocess.run(words, capture_output=True).returncode != 0:
-            pytest.skip(f"{CC} has no address sanitizer")
+    needs(CC, *sanitizers, "-xc")
     wraps = "-Wl,--wrap=malloc,--wrap=realloc,--wrap=free"
     result = run(compiled(tmp_path / "host", *STRICT, *sanitizers, "tests/host.c", *objects, wraps))
     failed = [line for line in result.out.splitlines() if line.endswith("FAILED")]
     assert (result.status, failed, result.err) == (0, [], "")
     assert re.search(r"^[1-9]\d* passed, 0 failed$", result.out.splitlines()[-1])
+
+
+@pytest.mark.parametrize("under", [[], ["valgrind", "-q", "--tool=helgrind", "--error-exitcode=9"]], ids=["sanitizer", "helgrind"])
+def test_many_threads_query_one_robot(objects, tmp_path, under):
+    """ThreadSanitizer sees what the program does, and helgrind what the library does too."""
+    sanitizer = [] if under else ["-fsanitize=thread"]
+    needs(CC, *sanitizer, "-xc")
+    if under and not shutil.which(under[0]):
+        pytest.skip("valgrind is missing")
+    (tmp_path / "threads.c").write_text(THREADS)
+    words = [*under, compiled(tmp_path / "threads", *STRICT, "-g", *sanitizer, "-pthread", tmp_path / "threads.c", *objects)]
+    assert run(Path(words[0]), words[1:]) == Result(0, b"", b"")
+
+
+THREADS = r"""
+#include "robots.h"
+#include <pthread.h>
+static robots *robot;
+static void *query(void *right) {
+    int64_t results[2];
+    uint64_t delay;
+    for (int i = 0; i < 250; i++)
+        *(int *)right += robots_query_many(robot, "/\xC3\xA9\n/a", 6, results, 2) == ROBOTS_OK && results[0] == 0
+            && robots_query(robot, "/a", 2, results) == ROBOTS_OK && results[0] == -1 && results[1] == -1
+            && robots_query_delay(robot, &delay) == ROBOTS_OK && delay == 3000000;
+    return NULL;
+}
+int main(void) {
+    pthread_t threads[4];
+    int right[4] = {0};
+    size_t line;
+    int32_t status = robots_open("Bot", 3, "Disallow: /a\nCrawl-delay: 3", 27, &robot, &line);
+    for (int i = 0; i < 4; i++)
+        status |= pthread_create(&threads[i], NULL, query, &right[i]);
+    for (int i = 0; i < 4; i++)
+        status |= pthread_join(threads[i], NULL);
+    robots_close(robot);
+    return status != 0 || right[0] + right[1] + right[2] + right[3] != 1000;
+}
+"""
+
+
+def test_header_in_cplusplus(objects, tmp_path):
+    needs("g++", "-xc++")
+    source = tmp_path / "program.cpp"
+    source.write_text('#include "robots.h"\nint main() { robots_close(NULL); return robots_may_fetch(-1) || robots_version() != ROBOTS_VERSION; }')
+    subprocess.run(["g++", "-std=c++11", "-Wall", "-Wextra", *STRICT, source, *objects, "-o", tmp_path / "program"], check=True)
+    assert run(tmp_path / "program").status == 0
+
+
+@pytest.mark.parametrize("linked", ["shared", "static"])
+def test_program_with_the_installed_library(installed, tmp_path, linked):
+    if not shutil.which("pkg-config"):
+        pytest.skip("pkg-config is missing")
+    path = {"PKG_CONFIG_PATH": f"{installed}/lib/pkgconfig"}
+    words = subprocess.run(["pkg-config", "--cflags", "--libs", "robots_c"], env=os.environ | path, capture_output=True, text=True).stdout.split()
+    way = [f"-Wl,-rpath,{installed}/lib"] if linked == "shared" else ["-static"]
+    ask = compiled(tmp_path / "ask", "examples/ask.c", *words, *way)
+    assert run(ask, ["Ferris", "/a"], b"Disallow: /a") == Result(1, b"delay none\ndeny 1 /a\n", b"")
+
+
+def test_another_allocator(objects, installed, tmp_path):
+    source = tmp_path / "heap.c"
+    source.write_text(HEAP)
+    ask = compiled(tmp_path / "ask", *STRICT, source, "examples/ask.c", installed / "lib/librobots_c.a")
+    assert run(ask, ["Ferris", "/a"], b"Disallow: /a") == Result(2, b"", b"ask: out of memory\n")
+
+
+HEAP = """
+#include <stddef.h>
+struct tried { _Bool worked; void *block; };
+static char nothing;
+struct tried rattle_alloc(size_t length, size_t alignment) { return (void)length, (void)alignment, (struct tried){0, &nothing}; }
+struct tried rattle_realloc(void *block, size_t used, size_t length, size_t alignment) {
+    return (void)block, (void)used, rattle_alloc(length, alignment);
+}
+void rattle_dealloc(void *block) { (void)block; }
+"""
 
 
 @pytest.fixture(scope="session")
@@ -97,92 +184,124 @@ FILE = (
 )
 URLS = ["https://example.com/a", "/private/x", "https://example.com/private/open", "/x.pdf", "/x.pdf?y", "/private/\u00e9 b"]
 VERDICTS = [0, -2, 3, -6, 0, -2]
-SITEMAPS = ["https://example.com/a.xml", "https://example.com/b.xml"]
-PAGE, ADDRESS = "https://user@Example.com:8080/a?b", "https://example.com:8080/robots.txt"
-NOT_UTF8 = b"\xff"
 
 
 def status_of(robots, call, *arguments):
+    """The status of a call, and the line of an overlong rule or 0."""
     try:
         call(*arguments)
-    except robots.Refused as error:
-        return error.status
-    return robots.OK
-
-
-def decided(robots, room):
-    """The status of a call with so much room, and its output, which held 77."""
-    out = (ctypes.c_int64 * (len(URLS) + 1))(*[77] * (len(URLS) + 1))
-    texts = [*robots.text("Bot"), *robots.text(FILE), *robots.text("\n".join(URLS))]
-    return robots.library.robots_decide(*texts, out, room), list(out)
+    except robots.RobotsError as error:
+        return error.status, error.line
+    return robots.OK, 0
 
 
 def test_python_verdicts(robots):
-    assert decided(robots, 6) == (robots.OK, [*VERDICTS, 77])
-    assert decided(robots, 7) == (robots.OK, [*VERDICTS, 77])
-    assert decided(robots, 5) == (robots.NO_ROOM, [77] * 7)
+    assert robots.decide("Bot", FILE, URLS) == VERDICTS
     assert robots.decide("Bot", b"", [""]) == [0]
     assert robots.decide("Bot", b"", []) == []
-
-
-def test_python_reports_text_that_is_not_utf8(robots):
-    assert status_of(robots, robots.decide, NOT_UTF8, FILE, ["/a"]) == robots.NOT_UTF8
-    assert status_of(robots, robots.decide, "Bot", FILE, ["/a", "\udcff"]) == robots.NOT_UTF8
-    assert status_of(robots, robots.address, NOT_UTF8) == robots.NOT_UTF8
-
-
-def test_python_delay(robots):
-    assert robots.delay("Bot", FILE) == 2_500_000
     assert robots.delay("Bot", b"Disallow: /") is None
-    assert robots.delay("Bot", b"Crawl-delay: inf") == 2**64 - 1
-
-
-def written(robots, call, texts, room):
-    """The status of a call with so much room, its output, which held M, and `len`, which held 7."""
-    out, length = ctypes.create_string_buffer(b"M" * 99, 99), ctypes.c_size_t(7)
-    parts = [part for one in texts for part in robots.text(one)]
-    return call(*parts, out, room, ctypes.byref(length)), out.raw, length.value
-
-
-@pytest.mark.parametrize("room", [0, -1], ids=["enough", "a byte too little"])
-@pytest.mark.parametrize(
-    "name, texts, wanted", [("sitemaps", ["Bot", FILE], "".join(it + "\n" for it in SITEMAPS)), ("address", [PAGE], ADDRESS)], ids=["sitemaps", "address"]
-)
-def test_python_room(robots, name, texts, wanted, room):
-    call, size = getattr(robots.library, f"robots_{name}"), len(wanted)
-    right = (robots.OK, wanted.encode() + b"M" * (99 - size), size) if room == 0 else (robots.NO_ROOM, b"M" * 99, size)
-    assert written(robots, call, texts, size + room) == right
-
-
-def test_python_sitemaps(robots):
-    assert robots.sitemaps("Bot", FILE) == SITEMAPS
-    assert robots.sitemaps("Bot", b"") == []
-
-
-def test_python_address(robots):
-    assert robots.address(f"https://{'a.' * 120}example/x") == f"https://{'a.' * 120}example/robots.txt"
-    assert status_of(robots, robots.address, "mailto:a@example.com") == robots.NO_ADDRESS
-    assert status_of(robots, robots.address, "example.com/a") == robots.NO_ADDRESS
-
-
-def test_python_handle(robots):
     with robots.Robot("Bot", FILE) as robot:
-        assert [robot.ask(url) for url in URLS] == VERDICTS
-        assert status_of(robots, robot.ask, NOT_UTF8) == robots.NOT_UTF8
-        assert [robot.ask(url) for url in URLS] == VERDICTS
+        assert [robot.query(url) for url in URLS] == robot.query_many(URLS) == VERDICTS
+        assert robot.delay() == robots.delay("Bot", FILE) == 2_500_000
+        assert status_of(robots, robot.query, b"\xff") == (robots.NOT_UTF8, 0)
+
+
+def test_python_texts(robots):
+    assert robots.delay("Bot", b"Crawl-delay: inf") == 2**64 - 1
+    assert robots.sitemaps(b"") == []
+    assert robots.address(f"https://{'a.' * 120}example/x") == f"https://{'a.' * 120}example/robots.txt"
+
+
+def test_large_inputs(robots):
+    """No clause says that a large input has no other status than a small one if there is memory."""
+    agent, long, urls = "b" * 300, "a" * 40_000, ["/b", "/" + "c" * 3000, ""] * 3334
+    file = f"User-agent: {agent}\nDisallow: /{long}\nDisallow: /b\nCrawl-delay: 0\n" + "Sitemap: x\n" * 1001
+    with robots.Robot(agent, file) as robot:
+        assert robot.query_many(urls) == robots.decide(agent, file, urls) == [-3, 0, 0] * 3334
+        assert robot.query(f"/{long}") == -2
+        assert robot.delay() == robots.delay(agent, file) == 0
+    assert robots.sitemaps(file) == ["x"] * 1001
+    assert status_of(robots, robots.address, f"https://{'a' * 3000}:port/") == (robots.NO_ADDRESS, 0)
 
 
 def long_rules(length):
     """A file whose lines 2 and 4 hold a rule of so many bytes, for every crawler but Other."""
     rule = b"/$" + b"a" * (length - 2)
-    return b"User-agent: *\nDisallow: %s\nDisallow: /b\nAllow: %s\nUser-agent: Other\nDisallow: /" % (rule, rule)
+    return b"User-agent: *\nDisallow: %s\nDisallow: /b\nAllow: %s\nUser-agent: Other\nDisallow: /\nSitemap: x" % (rule, rule)
 
 
 def test_python_overlong_rule(robots):
-    calls = [robots.delay, robots.sitemaps, robots.Robot, lambda agent, file: robots.decide(agent, file, ["/b"])]
-    assert [status_of(robots, call, "Bot", long_rules(4097)) for call in calls] == [2] * len(calls)
+    calls = [robots.Robot, lambda agent, file: robots.decide(agent, file, ["/b"])]
+    assert [status_of(robots, call, "Bot", long_rules(4097)) for call in calls] == [(robots.OVERLONG_RULE, 2)] * 2
+    assert robots.delay("Bot", long_rules(4097)) is None
+    assert robots.sitemaps(long_rules(4097)) == ["x"]
     assert robots.decide("Other", long_rules(4097), ["/b"]) == [-6]
     assert robots.decide("Bot", long_rules(4096), ["/b"]) == [-3]
+
+
+# ---- random files
+
+
+PIECES = [*"/ab*$%?#:.-_~ \t", "%41", "\u00e9", "\udcff"]
+KEYS = ["User-agent: Bot", "user-agent:*", "User-agent: o", "Disallow:", "Allow:", "disallow", "Allow: /", "Disallow: /", "Disallow: /", "Crawl-delay: 1", "Sitemap: /", "#", ""]
+
+
+def random_case(chance):
+    def text(most):
+        return "".join(chance.choices(PIECES, k=chance.randrange(most)))
+
+    file = "".join(chance.choice(KEYS) + text(7) + chance.choice(["\n", "\n", "\r\n", "\r"]) for _ in range(chance.randrange(14)))
+    urls = [chance.choice(["/", "https://example.com/", "/a"]) + text(9).replace("\udcff", "") for _ in range(4)]
+    return chance.choice(["Bot", "bot", "o", "*", "other"]), file.encode("utf-8", "surrogateescape"), urls
+
+
+@pytest.mark.parametrize("seed", range(4))
+def test_random_files_have_the_verdicts_of_robots_verdict(robots, seed):
+    verdict, chance = program("robots_verdict"), random.Random(seed)
+    for _ in range(400):
+        agent, file, urls = random_case(chance)
+        with robots.Robot(agent, file) as robot:
+            results, delay = robot.query_many(urls), robot.delay()
+            assert results == [robot.query(url) for url in urls] == robots.decide(agent, file, urls)
+        assert delay == robots.delay(agent, file)
+        report = [f"delay {'none' if delay is None else delay}"] + [f"sitemap {it}" for it in robots.sitemaps(file)]
+        report += [f"{'deny' if it < 0 else 'allow'} {abs(it) or '-'} {url}" for it, url in zip(results, urls)]
+        text = "".join(f"{line}\n" for line in [agent, *urls, ""]).encode() + file
+        assert run(verdict, [], text) == Result(0, "".join(f"{line}\n" for line in report), ""), (agent, file, urls)
+
+
+# ---- texts next to memory that can't be read
+
+
+def guarded(data, at_end):
+    """The address of these bytes in a page that can only be read, at its end or its start, between two that can't be."""
+    page, kept = mmap.PAGESIZE, mmap.mmap(-1, 3 * mmap.PAGESIZE)
+    start = page + (page - len(data)) * at_end
+    kept[start : start + len(data)] = data
+    address = ctypes.addressof(ctypes.c_char.from_buffer(kept))
+    for place, rights in [(0, 0), (page, mmap.PROT_READ), (2 * page, 0)]:
+        assert ctypes.CDLL(None).mprotect(ctypes.c_void_p(address + place), ctypes.c_size_t(page), rights) == 0
+    return ctypes.c_char_p(address + start), len(data), kept
+
+
+@pytest.mark.parametrize("at_end", [False, True], ids=["behind an unreadable page", "before an unreadable page"])
+def test_nothing_outside_of_the_texts_is_read(robots, at_end):
+    chance, line, out, number = random.Random(7), ctypes.c_size_t(), (ctypes.c_int64 * 9)(), ctypes.c_uint64()
+    cases = [("Bot", FILE, URLS), ("Bot", b"", [""])] + [random_case(chance) for _ in range(100)]
+    for agent, file, urls in cases:
+        *agent_text, a = guarded(agent.encode(), at_end)
+        *file_text, f = guarded(file, at_end)
+        *urls_text, u = guarded("\n".join(urls).encode(), at_end)
+        robot = ctypes.c_void_p()
+        assert robots.library.robots_decide(*agent_text, *file_text, *urls_text, out, 9, line) == robots.OK
+        assert list(out)[: len(urls)] == robots.decide(agent, file, urls)
+        assert robots.library.robots_open(*agent_text, *file_text, robot, line) == robots.OK
+        assert robots.library.robots_query_many(robot, *urls_text, out, 9) == robots.OK
+        robots.library.robots_close(robot)
+        assert robots.library.robots_delay(*agent_text, *file_text, number) in (robots.OK, robots.NO_DELAY)
+        assert robots.library.robots_sitemaps(*file_text, None, 0, line) in (robots.OK, robots.NO_ROOM)
+        *url_text, u = guarded(urls[0].encode(), at_end)
+        assert robots.library.robots_address(*url_text, None, 0, line) in (robots.NO_ROOM, robots.NO_ADDRESS)
 
 
 # What the example programs write on the same arguments and files. robots_audit names what it can't do otherwise.
@@ -224,8 +343,8 @@ def test_robots_audit_has_the_same_verdicts(case):
 
 def test_using_shows_how_to_build_the_programs_in_c_and_python(shared_object, tmp_path):
     """The commands but `rt lib`, which has built the archive, and on a file."""
-    (tmp_path / "crates").symlink_to(CRATES)
-    (tmp_path / "examples").symlink_to(ROOT / "examples")
+    for name in ("bindings", "crates", "examples"):
+        (tmp_path / name).symlink_to(ROOT / name)
     (tmp_path / "robots.txt").write_text("User-agent: Ferris\nDisallow: /a\n")
     using = (ROOT / "USING.md").read_text()
     commands = [line for line in shown(using[using.index("## From C") :]).splitlines() if "rt lib" not in line]

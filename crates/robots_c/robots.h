@@ -1,77 +1,141 @@
-/* What a robots.txt file says to one crawler: which URLs it may fetch and by which line, how long it waits, and which sitemaps
- * there are. The library is proved; each clause stands at its call in crates/robots_c/src/lib.rt. USING.md says how it is built.
+/* robots.h: what a robots.txt file says to a crawler: the URLs that it may fetch, its delay, and the sitemaps.
  *
- * TEXTS go in as a pointer and a length, with no NUL behind them. `agent` is the crawler's product token without a version, in
- * UTF-8; `file` is the file's bytes as they came, which need not be UTF-8 and of which the first 512,000 count; URLs are UTF-8.
+ *     robots *robot = NULL;
+ *     size_t line;
+ *     int64_t result;
+ *     int32_t status = robots_open(ROBOTS_STRING("MyBot"), file, file_len, &robot, &line);
+ *     if (status != ROBOTS_OK)
+ *         fprintf(stderr, "robots.txt: %s\n", robots_status_text(status));
+ *     else if (robots_query(robot, ROBOTS_STRING("https://example.com/a"), &result) == ROBOTS_OK && robots_may_fetch(result))
+ *         fetch("https://example.com/a");
+ *     robots_close(robot);
  *
- * A STATUS comes back. ROBOTS_OK: the answer is written. Above 0: line n of the file, counted from 1, is the first with an
- * overlong rule for this crawler, that is, one which holds '$' and has more than 4,096 bytes escaped, each run of stars counted as
- * one; the file can't be used for this crawler, and what that means is the caller's policy. Below 0: one of the other statuses
- * below. A call that doesn't answer ROBOTS_OK leaves `out` as it was. Where two refusals are due, either may be told.
+ * TEXTS. Each text is a pointer and a length in bytes; no NUL is needed at the end, and one inside is a byte like any other. NULL with
+ * length 0 is the empty text. `agent` is the crawler's product token without a version ("MyBot", not "MyBot/1.0"), in UTF-8; ASCII
+ * letters match in any case. `file` is the body of the response, any bytes; only the first ROBOTS_FILE_LIMIT count. A URL is UTF-8:
+ * a whole URL (https://example.com/a?b) or a path (/a?b). Any other text, as example.com/a, is no error: it is compared with the rules
+ * as it is, mostly matches none, and then may be fetched. Check URLs before you query them.
  *
- * WHAT THE CALLER OWES, and nothing checks: each pointer is valid for its length, and not null, also where that is 0 (pass "");
- * what `out`, `len` and `again` point to overlaps nothing else that is handed in; nothing writes to the texts while a call runs;
- * malloc, realloc and free are those of one allocator. Nothing outside of what is handed in is read or written, and no call
- * keeps a pointer. Calls may run on several threads at once, but for those of one handle; none may run in a signal handler. */
+ * STATUS. Each call returns 0 (ROBOTS_OK) or a negative status. Where the status isn't 0, nothing is written, except for what the call
+ * says, and nothing stays allocated. Of two causes either may be the status. ROBOTS_NO_MEMORY can come in place of every other status,
+ * but not for text that isn't UTF-8, and not from a call that says that it needs no memory.
+ *
+ * RESULT. The result for a URL is a number: 0 if the crawler may fetch it and no line says so, n if line n of the file allows it, and -n
+ * if line n denies it. Lines count from 1. Don't write `if (result)`: use robots_may_fetch(result) and robots_line(result).
+ *
+ * MEMORY comes from malloc, realloc and free. A call frees what it allocates, except for the robot that robots_open opens. Another
+ * allocator: define rattle_alloc, rattle_realloc and rattle_dealloc in your program, before the archive (USING.md).
+ *
+ * THREADS. The library has no global state: calls may run on any number of threads at once, with the same texts too. No call may run in
+ * a signal handler. Queries of one robot only read it. Proved: a query borrows the robot, so any number of them may overlap, and a robot
+ * may go from thread to thread (Rattle's `Sync` and `Send`). Tested: queries on four threads have no data race (ThreadSanitizer,
+ * helgrind). The toolchain's rule for C, which is stricter: one call at a time for one robot, with a lock, a thread's start or its end
+ * between calls on two threads. A lock around the calls with one robot keeps it.
+ *
+ * THE CALLER'S PART, which nothing checks: each pointer is valid for its length; the places that a call writes overlap nothing else that
+ * it is given; nobody writes to the texts during a call; a robot is one that robots_open opened, and is closed once, when no call uses
+ * it. No call keeps a pointer to a text.
+ *
+ * PROOF. crates/robots_c/src/lib.rt has a contract for each call, from the file's bytes to every number written. USING.md says what is
+ * proved and what is tested. The compiled library is for Linux on x86-64-v2 processors (SSE4.1). */
 #ifndef ROBOTS_H
 #define ROBOTS_H
 #include <stddef.h>
 #include <stdint.h>
+#include <string.h>
+
+#define ROBOTS_VERSION_MAJOR 0
+#define ROBOTS_VERSION_MINOR 1
+#define ROBOTS_VERSION_PATCH 0
+#define ROBOTS_VERSION (10000 * ROBOTS_VERSION_MAJOR + 100 * ROBOTS_VERSION_MINOR + ROBOTS_VERSION_PATCH)
+#define ROBOTS_VERSION_TEXT "0.1.0"
+
+#define ROBOTS_FILE_LIMIT 512000 /* bytes of a file that count: no more need be fetched */
+
+#if defined(__GNUC__) || defined(__clang__)
+#define ROBOTS_CHECK __attribute__((warn_unused_result))
+#else
+#define ROBOTS_CHECK
+#endif
 
 #ifdef __cplusplus
 extern "C" {
 #endif
 
-enum {
+enum robots_status {
     ROBOTS_OK = 0,
-    ROBOTS_NOT_UTF8 = -1,  /* the crawler's name or a URL isn't UTF-8 */
-    ROBOTS_NO_MEMORY = -2, /* memory was refused; nothing is kept, and the call may be made again */
-    ROBOTS_NO_ROOM = -3,   /* `out` is too short */
-    ROBOTS_NO_DELAY = -4,  /* robots_delay: the file names none for this crawler */
-    ROBOTS_NO_ADDRESS = -5 /* robots_address: the URL has no robots.txt file, as mailto:, or is none */
+    ROBOTS_NOT_UTF8 = -1,     /* the agent or a URL isn't UTF-8 */
+    ROBOTS_NO_MEMORY = -2,    /* an allocation failed, or a URL has 4 GiB or more; the call may be repeated */
+    ROBOTS_NO_ROOM = -3,      /* the buffer is too small */
+    ROBOTS_NO_DELAY = -4,     /* the file has no delay for this crawler */
+    ROBOTS_NO_ADDRESS = -5,   /* the text is no URL of http or https with a host */
+    ROBOTS_OVERLONG_RULE = -6 /* a rule for this crawler holds '$' and has more than 4,096 bytes escaped, each run of stars counted as
+                               * one: the file can't be used for this crawler. Most crawlers then fetch nothing. */
 };
 
-/* Answers for each URL whether the crawler may fetch it, and which line of the file says so:
- *    0   it may, and no line says so
- *    n   it may, by line n of the file, counted from 1
- *   -n   it may not, by line n
- * `urls` holds the URLs with one '\n' between one and the next: n of these are n + 1 URLs, and the empty text is one empty URL.
- * A URL that holds a '\n' itself is asked by robots_ask. out[i] is the answer for the i-th; what stands behind the answers stays.
- *
- * A URL is a whole one, as https://example.com/a?b, or a path, as /a?b. A text that is neither, as example.com/a, is refused by
- * no call: it is matched as it stands, and since it begins with no '/', mostly no rule matches and the answer is 0. */
-int32_t robots_decide(const uint8_t *agent, size_t agent_len, const uint8_t *file, size_t file_len, const uint8_t *urls,
-                      size_t urls_len, int64_t *out, size_t out_len);
+/* What a file says to one crawler. */
+typedef struct robots robots;
 
-/* Answers how many microseconds the crawler waits between two requests. A file may ask for UINT64_MAX: cap it before adding. */
-int32_t robots_delay(const uint8_t *agent, size_t agent_len, const uint8_t *file, size_t file_len, uint64_t *out);
+/* A C string as a pointer and a length. The string is evaluated twice. */
+#define ROBOTS_STRING(string) (string), strlen(string)
 
-/* Writes the sitemaps that the file lists, for every crawler, to the front of `out`, each with a '\n' behind it, and to *len how
- * many bytes these are. At ROBOTS_NO_ROOM *len is how many they would be; at every other refusal *len stays too. */
-int32_t robots_sitemaps(const uint8_t *agent, size_t agent_len, const uint8_t *file, size_t file_len, uint8_t *out, size_t out_len,
-                        size_t *len);
+/* ROBOTS_VERSION of the library that is linked. */
+uint32_t robots_version(void);
 
-/* Writes the address of the robots.txt file of the site that a whole URL of http or https is on to the front of `out`, with no NUL
- * behind it, and to *len how many bytes it has. At ROBOTS_NO_ROOM *len is how many it would have; at every other refusal *len stays
- * too. */
-int32_t robots_address(const uint8_t *url, size_t url_len, uint8_t *out, size_t out_len, size_t *len);
+/* Reads a file for a crawler, and writes a new robot to *robot, for robots_close. At ROBOTS_OVERLONG_RULE, and only there, *line is
+ * written: the number of the first line with such a rule. */
+ROBOTS_CHECK int32_t robots_open(const char *agent, size_t agent_len, const void *file, size_t file_len, robots **robot, size_t *line);
 
-/* A HANDLE keeps what a file gives a crawler, for one that meets its URLs one by one. `at` owns that robot: the clause `opened` of
- * robots_open says that it is the file's and the crawler's, and the clause `again` of robots_ask that the same robot is handed back.
- * What the caller owes more: `at` was written by robots_open, at ROBOTS_OK, or by the latest robots_ask, and no robots_close took it
- * since; the handle is used on the thread that opened it, by one call at a time; and it is closed once. */
-struct robots_handle {
-    uint8_t *at;
-};
+/* Writes the result for one URL. It needs no memory for the empty text, a path of which nothing has to be escaped, and most usual URLs. */
+ROBOTS_CHECK int32_t robots_query(const robots *robot, const char *url, size_t url_len, int64_t *result);
 
-/* Reads a file for a crawler, and writes the handle to *out: give &robot.at. */
-int32_t robots_open(const uint8_t *agent, size_t agent_len, const uint8_t *file, size_t file_len, uint8_t **out);
+/* Writes the results for many URLs, in their order. `urls` has one '\n' between one URL and the next, so n of them are n + 1 URLs, and the
+ * empty text is one empty URL; a URL that holds '\n' itself takes robots_query. If there are more URLs than `results_len`, the status is
+ * ROBOTS_NO_ROOM. What is in `results` after the last result isn't touched. */
+ROBOTS_CHECK int32_t robots_query_many(const robots *robot, const char *urls, size_t urls_len, int64_t *results, size_t results_len);
 
-/* Answers for one URL, as robots_decide does. It takes the handle and writes it to *again at every status: give &robot.at. */
-int32_t robots_ask(struct robots_handle robot, const uint8_t *url, size_t url_len, int64_t *out, uint8_t **again);
+/* Writes how many microseconds the crawler waits between two requests. A file may ask for UINT64_MAX: limit the number before you add
+ * it to a time. It needs no memory: the status is ROBOTS_OK or ROBOTS_NO_DELAY. */
+ROBOTS_CHECK int32_t robots_query_delay(const robots *robot, uint64_t *microseconds);
 
-/* Gives back the memory that a handle owns. */
-void robots_close(struct robots_handle robot);
+/* Frees a robot, or does nothing if `robot` is NULL. */
+void robots_close(robots *robot);
+
+/* robots_open, robots_query_many and robots_close in one call. */
+ROBOTS_CHECK int32_t robots_decide(const char *agent, size_t agent_len, const void *file, size_t file_len, const char *urls,
+                                   size_t urls_len, int64_t *results, size_t results_len, size_t *line);
+
+/* robots_query_delay without a robot. No rule of the file matters, so it never returns ROBOTS_OVERLONG_RULE. */
+ROBOTS_CHECK int32_t robots_delay(const char *agent, size_t agent_len, const void *file, size_t file_len, uint64_t *microseconds);
+
+/* Writes the sitemaps, which are the same for every crawler, each with '\n' at its end, and their length in bytes to *len. At
+ * ROBOTS_NO_ROOM *len is the length that is needed: call with (NULL, 0, &len) to get it. A buffer of file_len bytes is always large
+ * enough. No rule of the file matters. */
+ROBOTS_CHECK int32_t robots_sitemaps(const void *file, size_t file_len, char *out, size_t out_len, size_t *len);
+
+/* Writes the address of the robots.txt file of the site of an http or https URL, in ASCII with no NUL at its end, and its length to *len.
+ * At ROBOTS_NO_ROOM *len is the length that is needed. */
+ROBOTS_CHECK int32_t robots_address(const char *url, size_t url_len, char *out, size_t out_len, size_t *len);
+
+/* Whether the crawler may fetch the URL with this result. */
+static inline int robots_may_fetch(int64_t result) { return result >= 0; }
+
+/* The number of the line that this result follows from, or 0 if no line decides. */
+static inline int64_t robots_line(int64_t result) { return result < 0 ? -result : result; }
+
+/* What a status means, in English. */
+static inline const char *robots_status_text(int32_t status) {
+    switch (status) {
+    case ROBOTS_OK: return "no error";
+    case ROBOTS_NOT_UTF8: return "the agent or a URL isn't UTF-8";
+    case ROBOTS_NO_MEMORY: return "out of memory";
+    case ROBOTS_NO_ROOM: return "the buffer is too small";
+    case ROBOTS_NO_DELAY: return "the file has no delay for this crawler";
+    case ROBOTS_NO_ADDRESS: return "the URL has no robots.txt file";
+    case ROBOTS_OVERLONG_RULE: return "a rule is too long: the file can't be used for this crawler";
+    default: return "unknown status";
+    }
+}
 
 #ifdef __cplusplus
 }

@@ -28,16 +28,26 @@ module _ (R : RattleType) where
 
   module _ {M : Type 1} {𝓤 : Ura M} {𝓛 : Logic 𝓤} {K : Type 0} {Γ : List (Item 𝓤)} {G : Goal 𝓤 𝓛.H} where
     pub kept_in : K → (z : ℤ) (at : Ptr) (value : Option R.Denot) → Fits z
-        → Step K 𝓛 (‵ (Row.own_val (record { status = z; at = at; value = value }) (word z (ptr_val at) ∷ [])) ∷ Γ) G (‵ (kept_at R at value) ∷ Γ) G
+        → Step K 𝓛 (‵ (Row.own_val (record { status = z; at = at; value = value }) (word z (ptr_val at)
+        ∷ [])) ∷ Γ) G (‵ (kept_at R at value) ∷ Γ) G
     kept_in t z at value fits = step (λ s. let v : Val = word z (ptr_val at) in
         nothing t $ feq_i t (List Val) (ptr_val at ∷ []) (ptr_val at ∷ []) refl $ fjoin t $
-        flt_i t (mag z) (2 ^ hbits w32) fits $ feq_i t (List Val) (vint w32 (of_z w32 z) ∷ []) (vint w32 (of_z w32 z) ∷ []) refl $ fjoin t $ fjoin t $
+        flt_i t (mag z) (2 ^ hbits w32) fits $
+        feq_i t (List Val) (vint w32 (of_z w32 z) ∷ []) (vint w32 (of_z w32 z) ∷ []) refl $ fjoin t $
+        fjoin t $
         feq_i t (List Val) (v ∷ []) (v ∷ []) refl $ fjoin t $
-        fpack t (Valss (i32 ∷ RawPtr ∷ [])) (within (shape (kept.the_type R)) (z, (at, tt)) (v ∷ [])) (vint w32 (of_z w32 z) ∷ [], (ptr_val at ∷ [], tt)) $ fjoin t $ s)
+        fpack t (Valss (i32 ∷ RawPtr ∷ [])) (within (shape (kept.the_type R)) (
+          z,
+          (at, tt),
+        ) (v ∷ [])) (vint w32 (of_z w32 z) ∷ [], (ptr_val at ∷ [], tt)) $ fjoin t $ s)
 
     pub kept_out : K → (d : Row.Denot) (vs : List Val)
-        → (vs ≡ word d.status (ptr_val d.at) ∷ [] → Fits d.status → Seq K 𝓛 (‵ (kept_at R d.at d.value) ∷ Γ) G)
+        → (vs ≡ word d.status (ptr_val d.at) ∷ [] → Fits d.status
+        → Seq K 𝓛 (‵ (kept_at R d.at d.value) ∷ Γ) G)
         → Seq K 𝓛 (‵ (Row.own_val d vs) ∷ Γ) G
     kept_out t d vs k =
-        fsplit t $ fpick t (λ vss. fsplit t $ feq_l t (λ ev. fsplit t $ peeks t i32 (Is i32) (shows 𝓛 i32) d.status vss.0 (λ is. drop t $ fsplit t $ feq_l t (λ ep. drop t $
-        k (subst (λ (ps : List Val). vs ≡ vstruct (of_list ((vint w32 (of_z w32 d.status) ∷ []) ++ (ps ++ []))) ∷ []) ep (subst (λ (ws : List Val). vs ≡ vstruct (of_list (ws ++ (vss.1.0 ++ []))) ∷ []) is.0 ev)) is.1))))
+        fsplit t $ fpick t (λ vss. fsplit t $ feq_l t (λ ev. fsplit t $
+        peeks t i32 (Is i32) (shows 𝓛 i32) d.status vss.0 (λ is. drop t $ fsplit t $ feq_l t (λ ep. drop t $
+        k (subst (λ (ps : List Val). vs ≡ vstruct (of_list ((vint w32 (of_z w32 d.status)
+        ∷ []) ++ (ps ++ []))) ∷ []) ep (subst
+        (λ (ws : List Val). vs ≡ vstruct (of_list (ws ++ (vss.1.0 ++ []))) ∷ []) is.0 ev)) is.1))))

@@ -3,23 +3,21 @@ use Rattle.std.proofs.Common.{◌≡◌, ℕ, zero, suc, ◌+◌, ◌<◌, ◌�
 use Rattle.std.proofs.Common.{true, false}
 use Rattle.std.proofs.Common.{List, [], ◌∷◌, ◌++◌, Option, Some, None, IfSome, ℤ}
 use Rattle.std.proofs.Common.{arith, length, map, refl, slice_index_or, subst, take}
-use Rattle.std.specs.List.{AllZip, Contains}
+use Rattle.std.specs.List.{AllZip}
 use Rattle.std.proofs.lemmas.List.{length-map, length-take, take_more}
-use Rattle.std.proofs.lemmas.List.Elements.{Contains-append_right}
 use Rattle.std.proofs.lemmas.Option.{slice_get_within}
-use Rattle.texting_robots.specs.Callers.{IsDecidingLine, IsFirstOverlong, IsRobotOfFile, IsVerdict}
+use Rattle.texting_robots.specs.Callers.{IsDecidingLine, IsRobotOfFile, IsVerdict}
 use Rattle.texting_robots.specs.Callers.{PlacedRule, RobotValue, file_limit, file_lines, lines_read}
-use Rattle.texting_robots.specs.Callers.{nul_as_lf, placed_rules, prepared, unplaced}
+use Rattle.texting_robots.specs.Callers.{nul_as_lf, prepared, unplaced}
 use Rattle.texting_robots.proofs.CountLemmas.{lines_within}
 use Rattle.texting_robots.proofs.HeadlineLemmas.{deciding_line_holds_its_rule, no_line_allows, read_robot}
-use Rattle.texting_robots.proofs.HeldLemmas.{computed_are}
-use Rattle.robots_c.specs.Answer.{IsAnswer, LinesFit, number_of}
+use Rattle.robots_c.specs.Results.{IsResult, LinesFit, number_of}
 
 -- ---- one answer more
 
 zip_append : (rules : List PlacedRule) (urls others : List (List ℕ)) (numbers more : List ℤ)
-    → AllZip (IsAnswer rules) urls numbers → AllZip (IsAnswer rules) others more
-    → AllZip (IsAnswer rules) (urls ++ others) (numbers ++ more)
+    → AllZip (IsResult rules) urls numbers → AllZip (IsResult rules) others more
+    → AllZip (IsResult rules) (urls ++ others) (numbers ++ more)
 zip_append rules [] others [] more are too = too
 zip_append rules [] others (number ∷ numbers) more are too = absurd are
 zip_append rules (url ∷ urls) others [] more are too = absurd are
@@ -28,14 +26,14 @@ zip_append rules (url ∷ urls) others (number ∷ numbers) more (first, later) 
 
 pub one_more : (rules : List PlacedRule) (urls : List (List ℕ)) (at : ℕ) (url : List ℕ)
     (numbers : List ℤ) (number : ℤ) → (at < length urls) × (url ≡ slice_index_or urls at url)
-    → AllZip (IsAnswer rules) (take at urls) numbers → IsAnswer rules url number
-    → AllZip (IsAnswer rules) (take (at + 1) urls) (numbers ++ number ∷ [])
+    → AllZip (IsResult rules) (take at urls) numbers → IsResult rules url number
+    → AllZip (IsResult rules) (take (at + 1) urls) (numbers ++ number ∷ [])
 one_more rules urls at url numbers number (below, here) are is =
     rw (take_more urls at url below)
-    (zip_append rules _ _ numbers (number ∷ []) are (subst (λ u. IsAnswer rules u number) here is, tt))
+    (zip_append rules _ _ numbers (number ∷ []) are (subst (λ u. IsResult rules u number) here is, tt))
 
 pub as_many : (rules : List PlacedRule) (urls : List (List ℕ)) (numbers : List ℤ)
-    → AllZip (IsAnswer rules) urls numbers → length numbers ≡ length urls
+    → AllZip (IsResult rules) urls numbers → length numbers ≡ length urls
 as_many rules [] [] are = refl
 as_many rules [] (number ∷ numbers) are = absurd are
 as_many rules (url ∷ urls) [] are = absurd are
@@ -60,29 +58,18 @@ lines_fit agent file robot of text line decides =
     let below : place < length lines = slice_get_within lines place _ held.line.0 in
     (omega (arith, number), omega (arith, number, below, few_lines file))
 
-pub overlong_fits : (agent file : List ℕ) (number : ℕ)
-    → IsFirstOverlong (placed_rules agent (lines_read file)) number
-    → (place : ℕ) × (number ≡ place + 1) × (number < 2 ^ 31)
-overlong_fits agent file number first =
-    let lines = lines_read file in
-    let has : Contains (placed_rules agent lines) first.placed = rw first.whole
-    (Contains-append_right first.front (first.placed ∷ first.back) first.placed (0, omega arith, refl)) in
-    let (place, at, holds) = ((computed_are agent lines).held first.placed).0 has in
-    let below : place < length lines = slice_get_within lines place _ holds.line.0 in
-    (place, omega (arith, first.line, at), omega (arith, first.line, at, below, few_lines file))
-
 -- ---- a number says a decision
 
 line_says : (rules : List PlacedRule) (url : List ℕ) (allowed : Bool) (line : ℕ) → 0 < line
     → IsVerdict (unplaced rules) (prepared url) allowed
-    → IsDecidingLine rules (prepared url) (Some line) → IsAnswer rules url (number_of allowed (Some line))
+    → IsDecidingLine rules (prepared url) (Some line) → IsResult rules url (number_of allowed (Some line))
 line_says rules url allowed zero some verdict decides = absurd (omega (arith, some))
 line_says rules url true (suc line) some verdict decides = record { verdict = verdict; deciding = decides }
 line_says rules url false (suc line) some verdict decides = record { verdict = verdict; deciding = decides }
 
 pub number_says : (rules : List PlacedRule) (url : List ℕ) (allowed : Bool) (line : Option ℕ)
     → LinesFit rules → IsVerdict (unplaced rules) (prepared url) allowed
-    → IsDecidingLine rules (prepared url) line → IsAnswer rules url (number_of allowed line)
+    → IsDecidingLine rules (prepared url) line → IsResult rules url (number_of allowed line)
 number_says rules url allowed None fit verdict decides =
     record { verdict = no_line_allows rules (prepared url) decides; deciding = decides }
 number_says rules url allowed (Some line) fit verdict decides =

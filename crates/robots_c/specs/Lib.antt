@@ -1,5 +1,5 @@
-pub mod Answer
 pub mod File
 pub mod Kept
+pub mod Results
 pub mod Status
 pub mod Text

@@ -1,28 +1,28 @@
-//! Why there is no answer.
+//! Why a call has no result.
 use std::alloc::{AllocError, AllocFailed};
 
-/// Why there is no answer.
+/// Why a call has no result.
 #[derive(Debug, PartialEq, Eq, Drop)]
 pub(crate) enum Fault {
     /// The crawler's name or a URL isn't UTF-8.
     NotUtf8,
-    /// Memory was refused, or a URL came to more bytes than `url` can count.
+    /// An allocation failed, or a URL has more bytes than `url` can count.
     Memory,
-    /// The caller gave less room than the answer takes.
+    /// The caller's buffer is too small.
     NoRoom,
-    /// The file names no delay.
+    /// The file has no delay for the crawler.
     NoDelay,
     /// The URL has no address of a robots.txt file.
     NoAddress,
     /// The rule in the line with this number is overlong: the file can't be used for the crawler.
-    Overlong(i32),
+    Overlong(usize),
 }
 
 impl Fault {
     ghost use Rattle.std.specs.Prelude.{◌≡◌};
-    ghost use Rattle.robots_c.specs.Status.{status_of};
+    ghost use Rattle.robots_c.specs.Status.{line_after, status_of};
 
-    /// What C is told of it.
+    /// The status that C gets for it.
     pub(crate) fn status(&self) -> i32
         ensures { result ≡ status_of self.now }
     {
@@ -32,8 +32,19 @@ impl Fault {
             Fault::NoRoom => -3,
             Fault::NoDelay => -4,
             Fault::NoAddress => -5,
-            Fault::Overlong(line) => *line,
+            Fault::Overlong(_) => -6,
         }
+    }
+
+    /// The status that C gets for it, after the line of an overlong rule is written.
+    pub(crate) fn status_at(&self, line: &mut usize) -> i32
+        ensures status { result ≡ status_of self.now }
+        ensures line { line.new ≡ line_after self.now line.old }
+    {
+        if let Fault::Overlong(number) = self {
+            *line = *number;
+        }
+        self.status()
     }
 }
 

@@ -1,14 +1,12 @@
 //! A robot that C keeps between calls.
-ghost use Rattle.std.specs.Prelude.{◌≡◌, ◌≢◌, Option, Some, None, IfErr, IfOk, pos, take};
-ghost use Rattle.robots_c.specs.Answer.{IsAnswer};
-ghost use Rattle.robots_c.specs.File.{GivesRobot, IsRobotOfSomeFile};
-ghost use Rattle.robots_c.specs.Status.{HasFault, IsWhyNoAnswer, IsWhyNoRobot};
-ghost use Rattle.texting_robots.specs.Callers.{IsRobotOfFile, RobotValue, file_limit};
+ghost use Rattle.std.specs.Prelude.{◌≡◌, ◌≢◌, Option, Some, None, IfErr, IfOk, pos};
+ghost use Rattle.robots_c.specs.File.{GivesRobot, IsRobotFor};
+ghost use Rattle.robots_c.specs.Status.{HasFault, HasFaultAt, IsWhyNoRobot, IsWhyNone};
+ghost use Rattle.texting_robots.specs.Callers.{RobotValue};
 
 use crate::fault::Fault;
-use crate::file::{robot_of, text_of};
+use crate::file::robot_of;
 use crate::kept::Kept;
-use crate::urls::answer;
 use std::alloc::Global;
 use std::marker::Model;
 use texting_robots::Robot;
@@ -16,8 +14,8 @@ use texting_robots::Robot;
 /// A robot that C keeps: the handle owns the block that `at` points to.
 #[repr(C)]
 pub struct Handle {
-    at: *mut u8,
-    alloc: Global,
+    pub(crate) at: *mut u8,
+    pub(crate) alloc: Global,
     pub ghost value: { RobotValue },
 }
 
@@ -37,51 +35,53 @@ impl Handle {
     }
 }
 
-/// The robot of a file, in a box.
-pub(crate) fn open(alloc: Global, agent: &[u8], file: &[u8]) -> Result<Box<Robot>, Fault>
-    ensures ok { IfOk result (λ robot. IsRobotOfFile agent.now (take file_limit file.now) robot.value) }
+/// Frees what a handle owns.
+pub(crate) fn close(robot: Handle) {
+    drop(robot.into_box());
+}
+
+/// Only for a type whose values may go from thread to thread, and be read by several threads at once.
+fn for_any_thread<T: Send + Sync>(_: &T) {}
+
+/// The robot of a file, in a box. It may go from thread to thread, and queries on several threads may read it.
+fn open(alloc: Global, agent: &[u8], file: &[u8]) -> Result<Box<Robot>, Fault>
+    ensures ok { IfOk result (λ robot. IsRobotFor agent.now file.now robot.value) }
     ensures fault { IfErr result (IsWhyNoRobot agent.now file.now) }
 {
     let robot = robot_of(alloc, agent, file)?;
+    for_any_thread(&robot);
     Ok(Box::new(alloc, robot)?)
 }
 
-/// Opens the robot of a file for C, whose pointer `at` stays where there is none.
-pub(crate) fn opened(alloc: Global, agent: &[u8], file: &[u8], at: *mut Robot) -> Kept<Robot>
-    ensures answered { result.status ≡ pos 0 → GivesRobot agent.now file.now (λ robot. result.value ≡ Some robot) }
-    ensures refused { result.status ≢ pos 0 → result.at ≡ at }
-    ensures why { HasFault (IsWhyNoRobot agent.now file.now) result.status }
+/// Opens the robot of a file for C. Where there is none, the pointer is `at`, and the line of an overlong rule is written.
+pub(crate) fn opened(
+    alloc: Global,
+    agent: &[u8],
+    file: &[u8],
+    at: *mut Robot,
+    line: &mut usize,
+) -> Kept<Robot>
+    ensures opened { result.status ≡ pos 0 → GivesRobot agent.now file.now (λ robot. result.value ≡ Some robot) }
+    ensures kept { result.status ≢ pos 0 → result.at ≡ at }
+    ensures why { HasFaultAt (IsWhyNoRobot agent.now file.now) result.status line.old line.new }
 {
     match open(alloc, agent, file) {
         Ok(robot) => Kept::boxed(0, robot),
-        Err(fault) => Kept::nothing(fault.status(), at),
+        Err(fault) => Kept::nothing(fault.status_at(line), at),
     }
 }
 
-/// The answer of a robot for one URL.
-pub(crate) fn ask(alloc: Global, robot: &Robot, url: &[u8]) -> Result<i64, Fault>
-    requires { IsRobotOfSomeFile robot.now }
-    ensures ok { IfOk result (IsAnswer robot.now.rules url.now) }
-    ensures fault { IfErr result (IsWhyNoAnswer url.now) }
+/// Writes the delay of a robot. It takes no memory.
+pub(crate) fn query_delay(robot: &Robot, out: &mut u64) -> i32
+    ensures written { result ≡ pos 0 → robot.now.delay ≡ Some out.new }
+    ensures kept { result ≢ pos 0 → out.new ≡ out.old }
+    ensures why { HasFault (IsWhyNone robot.now.delay) result }
 {
-    Ok(answer(alloc, robot, text_of(url)?)?)
-}
-
-/// Answers for one URL, and gives the robot back.
-pub(crate) fn asked(alloc: Global, robot: Handle, url: &[u8], out: &mut i64) -> Kept<Robot>
-    requires { IsRobotOfSomeFile robot.value }
-    ensures answered { result.status ≡ pos 0 → IsAnswer robot.value.rules url.now out.new }
-    ensures refused { result.status ≢ pos 0 → out.new ≡ out.old }
-    ensures why { HasFault (IsWhyNoAnswer url.now) result.status }
-    ensures again { result.value ≡ Some robot.value }
-{
-    let robot = robot.into_box();
-    let status = match ask(alloc, &robot, url) {
-        Ok(number) => {
-            *out = number;
+    match robot.delay {
+        Some(delay) => {
+            *out = delay;
             0
         }
-        Err(fault) => fault.status(),
-    };
-    Kept::boxed(status, robot)
+        None => Fault::NoDelay.status(),
+    }
 }

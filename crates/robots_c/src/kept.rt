@@ -4,7 +4,7 @@ ghost use Rattle.robots_c.specs.Kept.{kept_at};
 
 use std::marker::Model;
 
-/// The status of a call, and where the value lies that C owns from then on, if it owns one.
+/// The status of a call, and the place of the value that C owns from then on, if it owns one.
 pub(crate) struct Kept<T> {
     pub(crate) status: i32,
     pub(crate) at: *mut T,
@@ -27,7 +27,7 @@ impl<T: Drop> Kept<T> {
 }
 
 impl<T> Kept<T> {
-    /// C owns nothing: the pointer is its own.
+    /// C owns nothing, and the pointer is one of its own.
     pub(crate) fn nothing(status: i32, at: *mut T) -> Kept<T>
         ensures status { result.status ≡ status }
         ensures at { result.at ≡ at }

@@ -1,20 +1,20 @@
-//! Questions about a robots.txt file, for C and for any language that calls C: `robots.h`, beside `src/`, declares the calls.
+//! The calls of `robots.h`, beside `src/`: what a robots.txt file says to a crawler, for C and every language that calls C.
 //!
-//! Each call but those of a handle reads what it is given anew, and keeps nothing. It answers 0, or a status that says why it has
-//! no answer; only a call that answers 0 writes one.
+//! Each call returns a status, which is 0 or the negative number of a fault. Only at 0 is a result written.
 #![tactic(auto)]
 
-ghost use Rattle.std.specs.Prelude.{◌≡◌, ◌≢◌, ◌⊎◌, ℤ, List, Some, length, pos, take};
-ghost use Rattle.std.specs.List.{AllZip};
+ghost use Rattle.std.specs.Prelude.{◌≡◌, ◌≢◌, ◌⊎◌, Some, length, pos};
 ghost use Rattle.std.specs.Borrow.{sem};
-ghost use base.Fml.{fall};
-ghost use Rattle.robots_c.specs.Answer.{IsAnswer, urls_in};
-ghost use Rattle.robots_c.specs.File.{GivesRobot, IsRobotOfSomeFile};
-ghost use Rattle.robots_c.specs.Kept.{opened_at, robot_at};
-ghost use Rattle.texting_robots.specs.Callers.{IsRobotOfFile, file_limit};
-ghost use Rattle.robots_c.specs.Status.{AreSitemaps, HasFault, IsAddress, IsWhyNoAddress, IsWhyNoAnswer};
-ghost use Rattle.robots_c.specs.Status.{IsWhyNoAnswers, IsWhyNoDelay, IsWhyNoRobot, status_of};
-ghost use Rattle.robots_c.specs.Text.{IsPutIn, IsTooLong, IsWritten};
+ghost use base.Fml.{Lft, Share, fall, flft};
+ghost use denote.Struct.Lending.{lent_at};
+ghost use Rattle.robots_c.specs.File.{AreSitemaps, GivesRobot, HasDelay, IsRobotFor, IsRobotOfSomeFile};
+ghost use Rattle.robots_c.specs.Kept.{opened_at, robot_or_null};
+ghost use Rattle.robots_c.specs.Results.{ArePutIn, HasResult};
+ghost use Rattle.robots_c.specs.Status.{HasFault, HasFaultAt, IsAddress, IsWhyNoAddress, IsWhyNoDelay, IsWhyNoResult};
+ghost use Rattle.robots_c.specs.Status.{IsWhyNoResults, IsWhyNoRobot, IsWhyNone, IsWhyUndecided, status_of};
+ghost use Rattle.robots_c.specs.Text.{IsTooLong, IsWritten};
+ghost use Rattle.texting_robots.specs.Callers.{RobotValue};
+ghost use Rattle.texting_robots.specs.contracts.robot.Robot.{the_row};
 
 mod fault;
 mod file;
@@ -26,15 +26,23 @@ mod urls;
 
 use fault::Fault;
 use file::delay_of;
-use handle::{Handle, asked, opened};
+use handle::{Handle, close, opened, query_delay};
 use kept::Kept;
 use std::alloc::Global;
 use texting_robots::Robot;
 use texts::{address, put, sitemaps};
-use urls::decide;
+use urls::{decide, query, query_many};
 
-/// Answers for each URL: 0 if the crawler may fetch it and no line says so, n if line n of the file allows it, -n if line n
-/// denies it. The URLs stand in one text, with an LF between one and the next.
+/// The library's version: 10,000 for each major, 100 for each minor and 1 for each patch number.
+#[unsafe(no_mangle)]
+pub extern "C" fn robots_version() -> u32
+    ensures { result ≡ 100 }
+{
+    100
+}
+
+/// Writes a number for each URL: 0 if the crawler may fetch it and no line says so, n if line n of the file allows it, -n if
+/// line n denies it. The URLs are one text, with an LF between one and the next.
 #[unsafe(no_mangle)]
 pub extern "C" fn robots_decide(
     alloc: Global,
@@ -42,26 +50,27 @@ pub extern "C" fn robots_decide(
     file: &[u8],
     urls: &[u8],
     out: &mut [i64],
+    line: &mut usize,
 ) -> i32
-    ensures answered { result ≡ pos 0 → GivesRobot agent.now file.now (λ robot. (numbers : List ℤ)
-        × AllZip (IsAnswer robot.rules) (urls_in urls.now) numbers × IsPutIn out.old out.new numbers) }
-    ensures refused { result ≢ pos 0 → out.new ≡ out.old }
-    ensures why { HasFault (IsWhyNoAnswers agent.now file.now urls.now (length out.old)) result }
+    ensures written { result ≡ pos 0
+        → GivesRobot agent.now file.now (λ robot. ArePutIn robot.rules urls.now out.old out.new) }
+    ensures kept { result ≢ pos 0 → out.new ≡ out.old }
+    ensures why { HasFaultAt (IsWhyUndecided agent.now file.now urls.now (length out.old)) result line.old line.new }
 {
     match decide(alloc, agent, file, urls, out.len()) {
         Ok(numbers) => {
             out[..numbers.len()].copy_from_slice(&numbers);
             0
         }
-        Err(fault) => fault.status(),
+        Err(fault) => fault.status_at(line),
     }
 }
 
-/// Answers how many microseconds the crawler waits between two requests.
+/// Writes how many microseconds the crawler waits between two requests.
 #[unsafe(no_mangle)]
 pub extern "C" fn robots_delay(alloc: Global, agent: &[u8], file: &[u8], out: &mut u64) -> i32
-    ensures answered { result ≡ pos 0 → GivesRobot agent.now file.now (λ robot. robot.delay ≡ Some out.new) }
-    ensures refused { result ≢ pos 0 → out.new ≡ out.old }
+    ensures written { result ≡ pos 0 → HasDelay agent.now file.now (Some out.new) }
+    ensures kept { result ≢ pos 0 → out.new ≡ out.old }
     ensures why { HasFault (IsWhyNoDelay agent.now file.now) result }
 {
     match delay_of(alloc, agent, file) {
@@ -73,36 +82,34 @@ pub extern "C" fn robots_delay(alloc: Global, agent: &[u8], file: &[u8], out: &m
     }
 }
 
-/// Writes the sitemaps that the file lists, each ended by LF, and says how long that is: also where there is no room for it.
+/// Writes the sitemaps that the file lists, each ended by LF, and their length; the length also where the buffer is too small.
 #[unsafe(no_mangle)]
 pub extern "C" fn robots_sitemaps(
     alloc: Global,
-    agent: &[u8],
     file: &[u8],
     out: &mut [u8],
     len: &mut usize,
 ) -> i32
-    ensures answered { result ≡ pos 0 → IsWritten (AreSitemaps agent.now file.now) out.old out.new len.new }
-    ensures no_room { result ≡ status_of Fault.NoRoom
-        → IsTooLong (AreSitemaps agent.now file.now) (length out.old) len.new }
+    ensures written { result ≡ pos 0 → IsWritten (AreSitemaps file.now) out.old out.new len.new }
+    ensures no_room { result ≡ status_of Fault.NoRoom → IsTooLong (AreSitemaps file.now) (length out.old) len.new }
     ensures length_kept { result ≢ pos 0 → result ≢ status_of Fault.NoRoom → len.new ≡ len.old }
-    ensures refused { result ≢ pos 0 → out.new ≡ out.old }
-    ensures why { (result ≡ status_of Fault.NoRoom) ⊎ HasFault (IsWhyNoRobot agent.now file.now) result }
+    ensures kept { result ≢ pos 0 → out.new ≡ out.old }
+    ensures why { (result ≡ pos 0) ⊎ ((result ≡ status_of Fault.NoRoom) ⊎ (result ≡ status_of Fault.Memory)) }
 {
-    match sitemaps(alloc, agent, file) {
+    match sitemaps(alloc, file) {
         Ok(text) => put(&text, out, len),
-        Err(fault) => fault.status(),
+        Err(_) => Fault::Memory.status(),
     }
 }
 
-/// Writes the address of the robots.txt file of the site that a URL is on, and says how long it is: also where there is no room for
-/// it.
+/// Writes the address of the robots.txt file of the site that a URL is on, and its length; the length also where the buffer is too
+/// small.
 #[unsafe(no_mangle)]
 pub extern "C" fn robots_address(alloc: Global, url: &[u8], out: &mut [u8], len: &mut usize) -> i32
-    ensures answered { result ≡ pos 0 → IsWritten (IsAddress url.now) out.old out.new len.new }
+    ensures written { result ≡ pos 0 → IsWritten (IsAddress url.now) out.old out.new len.new }
     ensures no_room { result ≡ status_of Fault.NoRoom → IsTooLong (IsAddress url.now) (length out.old) len.new }
     ensures length_kept { result ≢ pos 0 → result ≢ status_of Fault.NoRoom → len.new ≡ len.old }
-    ensures refused { result ≢ pos 0 → out.new ≡ out.old }
+    ensures kept { result ≢ pos 0 → out.new ≡ out.old }
     ensures why { (result ≡ status_of Fault.NoRoom) ⊎ HasFault (IsWhyNoAddress url.now) result }
 {
     match address(alloc, url) {
@@ -111,40 +118,83 @@ pub extern "C" fn robots_address(alloc: Global, url: &[u8], out: &mut [u8], len:
     }
 }
 
-/// Reads a file for a crawler, and writes where the robot lies that it gives: a handle, for `robots_ask` and `robots_close`.
+/// Reads a file for a crawler, and writes a pointer to the robot that it gives, which C owns from then on.
 #[unsafe(no_mangle)]
-pub extern "C" fn robots_open(alloc: Global, agent: &[u8], file: &[u8], out: &mut *mut u8) -> i32
-    ensures refused { result ≢ pos 0 → out.new ≡ out.old }
-    ensures why { HasFault (IsWhyNoRobot agent.now file.now) result }
-    ensures* opened { sem 𝓛 (fall (result ≡ pos 0) (λ _. opened_at (IsRobotOfFile agent.now (take file_limit file.now)) out.new)) }
+pub extern "C" fn robots_open(
+    alloc: Global,
+    agent: &[u8],
+    file: &[u8],
+    out: &mut *mut u8,
+    line: &mut usize,
+) -> i32
+    ensures kept { result ≢ pos 0 → out.new ≡ out.old }
+    ensures why { HasFaultAt (IsWhyNoRobot agent.now file.now) result line.old line.new }
+    ensures* opened { sem 𝓛 (fall (result ≡ pos 0) (λ _. opened_at (IsRobotFor agent.now file.now) out.new)) }
 {
-    let Kept { status, at } = opened(alloc, agent, file, *out as *mut Robot);
+    let Kept { status, at } = opened(alloc, agent, file, *out as *mut Robot, line);
     *out = at as *mut u8;
     status
 }
 
-/// Answers for one URL as `robots_decide` does, and hands the handle back, whatever the status.
+/// Writes the result for one URL, as `robots_decide` does. The robot is lent, so any number of calls may read it at once.
 #[unsafe(no_mangle)]
-pub extern "C" fn robots_ask(
+pub unsafe extern "C" fn robots_query(
     alloc: Global,
-    robot: Handle,
+    robot: *const u8,
     url: &[u8],
     out: &mut i64,
-    again: &mut *mut u8,
 ) -> i32
-    requires { IsRobotOfSomeFile robot.value }
-    ensures answered { result ≡ pos 0 → IsAnswer robot.value.rules url.now out.new }
-    ensures refused { result ≢ pos 0 → out.new ≡ out.old }
-    ensures why { HasFault (IsWhyNoAnswer url.now) result }
-    ensures* again { sem 𝓛 (robot_at again.new robot.value) }
+    ghost g: { Lft × Share × RobotValue }
+    requires robot { IsRobotOfSomeFile g.2 }
+    requires* lent { sem 𝓛 (lent_at the_row robot g.2 g.0) ∗ sem 𝓛 (flft g.0 g.1) }
+    ensures written { result ≡ pos 0 → HasResult g.2.rules url.now out.new }
+    ensures kept { result ≢ pos 0 → out.new ≡ out.old }
+    ensures why { HasFault (IsWhyNoResult url.now) result }
+    ensures* lent { sem 𝓛 (flft g.0 g.1) }
 {
-    let Kept { status, at } = asked(alloc, robot, url, out);
-    *again = at as *mut u8;
-    status
+    query(alloc, &*(robot as *const Robot), url, out)
 }
 
-/// Frees what a handle owns.
+/// Writes the results for many URLs, as `robots_decide` does. The robot is lent, as by `robots_query`.
 #[unsafe(no_mangle)]
-pub extern "C" fn robots_close(robot: Handle) {
-    drop(robot.into_box());
+pub unsafe extern "C" fn robots_query_many(
+    alloc: Global,
+    robot: *const u8,
+    urls: &[u8],
+    out: &mut [i64],
+) -> i32
+    ghost g: { Lft × Share × RobotValue }
+    requires robot { IsRobotOfSomeFile g.2 }
+    requires* lent { sem 𝓛 (lent_at the_row robot g.2 g.0) ∗ sem 𝓛 (flft g.0 g.1) }
+    ensures written { result ≡ pos 0 → ArePutIn g.2.rules urls.now out.old out.new }
+    ensures kept { result ≢ pos 0 → out.new ≡ out.old }
+    ensures why { HasFault (IsWhyNoResults urls.now (length out.old)) result }
+    ensures* lent { sem 𝓛 (flft g.0 g.1) }
+{
+    query_many(alloc, &*(robot as *const Robot), urls, out)
+}
+
+/// Writes a robot's delay, as `robots_delay` does. The robot is lent, as by `robots_query`. It takes no memory.
+#[unsafe(no_mangle)]
+pub unsafe extern "C" fn robots_query_delay(robot: *const u8, out: &mut u64) -> i32
+    ghost g: { Lft × Share × RobotValue }
+    requires* lent { sem 𝓛 (lent_at the_row robot g.2 g.0) ∗ sem 𝓛 (flft g.0 g.1) }
+    ensures written { result ≡ pos 0 → g.2.delay ≡ Some out.new }
+    ensures kept { result ≢ pos 0 → out.new ≡ out.old }
+    ensures why { HasFault (IsWhyNone g.2.delay) result }
+    ensures* lent { sem 𝓛 (flft g.0 g.1) }
+{
+    query_delay(&*(robot as *const Robot), out)
+}
+
+/// Frees a robot that `robots_open` opened. If the pointer is null, it does nothing.
+#[unsafe(no_mangle)]
+pub unsafe extern "C" fn robots_close(alloc: Global, robot: *mut u8)
+    ghost value: { RobotValue }
+    requires* owned { sem 𝓛 (robot_or_null robot value) }
+{
+    if robot.is_null() {
+        return;
+    }
+    close(Handle { at: robot, alloc })
 }

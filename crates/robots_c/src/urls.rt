@@ -1,13 +1,13 @@
-//! The answers for URLs.
-ghost use Rattle.std.specs.Prelude.{◌≡◌, ◌<◌, ◌≤◌, ◌^◌, IfErr, IfOk, IfSome, length};
+//! The results for URLs.
+ghost use Rattle.std.specs.Prelude.{◌≡◌, ◌≢◌, ◌⊎◌, ◌<◌, ◌≤◌, ◌^◌, IfErr, IfOk, IfSome, length, pos};
 ghost use Rattle.std.specs.List.{AllZip};
-ghost use Rattle.robots_c.specs.Answer.{IsAnswer, LinesFit, number_of, urls_in};
-ghost use Rattle.robots_c.specs.File.{GivesRobot};
-ghost use Rattle.robots_c.specs.Status.{IsWhyNoAnswers};
+ghost use Rattle.robots_c.specs.File.{GivesRobot, IsRobotOfSomeFile};
+ghost use Rattle.robots_c.specs.Results.{ArePutIn, HasResult, HasResults, IsResult, LinesFit, number_of, urls_in};
+ghost use Rattle.robots_c.specs.Status.{HasFault, IsWhyNoResult, IsWhyNoResults, IsWhyUndecided};
+ghost use Rattle.texting_robots.specs.Callers.{TakesNoMemory};
 
 use crate::fault::Fault;
 use crate::file::{robot_of, text_of};
-use robots_io::verdicts::decision_on;
 use std::alloc::{AllocError, Global};
 use texting_robots::{Decision, Robot};
 
@@ -23,30 +23,59 @@ fn number_of(decision: Decision) -> i64
     }
 }
 
-/// The answer for one URL.
-pub(crate) fn answer(alloc: Global, robot: &Robot, url: &str) -> Result<i64, AllocError>
+/// The number for one URL.
+fn number_for(alloc: Global, robot: &Robot, url: &str) -> Result<i64, AllocError>
     requires { LinesFit robot.now.rules }
-    ensures { IfOk result (IsAnswer robot.now.rules url.now) }
+    ensures number { IfOk result (IsResult robot.now.rules url.now) }
+    ensures memory { IfErr result (λ _. ¬ TakesNoMemory url.now) }
 {
-    match decision_on(alloc, robot, url) {
+    match robot.decide(alloc, url) {
         Ok(decision) => Ok(number_of(decision)),
         Err(_) => Err(AllocError),
     }
 }
 
-/// The answers for the URLs in a text, in their order.
-fn answers(alloc: Global, robot: &Robot, urls: &str) -> Result<Vec<i64>, AllocError>
+/// The result for one URL.
+pub(crate) fn result_for(alloc: Global, robot: &Robot, url: &[u8]) -> Result<i64, Fault>
+    requires { IsRobotOfSomeFile robot.now }
+    ensures ok { IfOk result (HasResult robot.now.rules url.now) }
+    ensures fault { IfErr result (IsWhyNoResult url.now) }
+{
+    let url = text_of(url)?;
+    match number_for(alloc, robot, url) {
+        Ok(number) => Ok(number),
+        Err(_) => Err(Fault::Memory),
+    }
+}
+
+/// The numbers for the URLs in a text, in their order.
+fn numbers_for(alloc: Global, robot: &Robot, urls: &str) -> Result<Vec<i64>, AllocError>
     requires { LinesFit robot.now.rules }
-    ensures { IfOk result (λ numbers. AllZip (IsAnswer robot.now.rules) (urls_in urls.now) numbers.items) }
+    ensures { IfOk result (λ numbers. AllZip (IsResult robot.now.rules) (urls_in urls.now) numbers.items) }
 {
     let mut numbers = Vec::new(alloc);
     for url in urls.split('\n') {
-        numbers.push(answer(alloc, robot, url)?)?;
+        numbers.push(number_for(alloc, robot, url)?)?;
     }
     Ok(numbers)
 }
 
-/// The answers for the URLs in a text, if there is room for so many.
+/// The results for the URLs in a text, if there is room for so many.
+fn results_for(alloc: Global, robot: &Robot, urls: &str, room: usize) -> Result<Vec<i64>, Fault>
+    requires { IsRobotOfSomeFile robot.now }
+    ensures ok { IfOk result (λ numbers. AllZip (IsResult robot.now.rules) (urls_in urls.now) numbers.items) }
+    ensures room { IfOk result (λ numbers. length numbers.items ≤ room) }
+    ensures fault { IfErr result (λ fault. (fault ≡ Fault.Memory)
+        ⊎ ((fault ≡ Fault.NoRoom) × (room < length (urls_in urls.now)))) }
+{
+    let numbers = numbers_for(alloc, robot, urls)?;
+    if room < numbers.len() {
+        return Err(Fault::NoRoom);
+    }
+    Ok(numbers)
+}
+
+/// The results of a file for the URLs in a text, if there is room for so many.
 pub(crate) fn decide(
     alloc: Global,
     agent: &[u8],
@@ -54,16 +83,57 @@ pub(crate) fn decide(
     urls: &[u8],
     room: usize,
 ) -> Result<Vec<i64>, Fault>
-    ensures numbers { IfOk result (λ numbers. GivesRobot agent.now file.now (λ robot.
-        AllZip (IsAnswer robot.rules) (urls_in urls.now) numbers.items)) }
+    ensures ok { IfOk result (λ numbers. GivesRobot agent.now file.now (λ robot.
+        HasResults robot.rules urls.now numbers.items)) }
     ensures room { IfOk result (λ numbers. length numbers.items ≤ room) }
-    ensures fault { IfErr result (IsWhyNoAnswers agent.now file.now urls.now room) }
+    ensures fault { IfErr result (IsWhyUndecided agent.now file.now urls.now room) }
 {
     let urls = text_of(urls)?;
     let robot = robot_of(alloc, agent, file)?;
-    let numbers = answers(alloc, &robot, urls)?;
-    if room < numbers.len() {
-        return Err(Fault::NoRoom);
-    }
+    let numbers = results_for(alloc, &robot, urls, room)?;
     Ok(numbers)
+}
+
+/// The results of a robot for the URLs in a text, if there is room for so many.
+fn results_of(alloc: Global, robot: &Robot, urls: &[u8], room: usize) -> Result<Vec<i64>, Fault>
+    requires { IsRobotOfSomeFile robot.now }
+    ensures ok { IfOk result (λ numbers. HasResults robot.now.rules urls.now numbers.items) }
+    ensures room { IfOk result (λ numbers. length numbers.items ≤ room) }
+    ensures fault { IfErr result (IsWhyNoResults urls.now room) }
+{
+    let urls = text_of(urls)?;
+    let numbers = results_for(alloc, robot, urls, room)?;
+    Ok(numbers)
+}
+
+/// Writes the result for one URL.
+pub(crate) fn query(alloc: Global, robot: &Robot, url: &[u8], out: &mut i64) -> i32
+    requires { IsRobotOfSomeFile robot.now }
+    ensures written { result ≡ pos 0 → HasResult robot.now.rules url.now out.new }
+    ensures kept { result ≢ pos 0 → out.new ≡ out.old }
+    ensures why { HasFault (IsWhyNoResult url.now) result }
+{
+    match result_for(alloc, robot, url) {
+        Ok(number) => {
+            *out = number;
+            0
+        }
+        Err(fault) => fault.status(),
+    }
+}
+
+/// Writes the results for the URLs in a text.
+pub(crate) fn query_many(alloc: Global, robot: &Robot, urls: &[u8], out: &mut [i64]) -> i32
+    requires { IsRobotOfSomeFile robot.now }
+    ensures written { result ≡ pos 0 → ArePutIn robot.now.rules urls.now out.old out.new }
+    ensures kept { result ≢ pos 0 → out.new ≡ out.old }
+    ensures why { HasFault (IsWhyNoResults urls.now (length out.old)) result }
+{
+    match results_of(alloc, robot, urls, out.len()) {
+        Ok(numbers) => {
+            out[..numbers.len()].copy_from_slice(&numbers);
+            0
+        }
+        Err(fault) => fault.status(),
+    }
 }

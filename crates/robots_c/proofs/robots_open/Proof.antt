@@ -1,5 +1,6 @@
--- `robots_open` writes where the robot lies that C owns.
-use Rattle.std.proofs.Common.{◌≡◌, ◌≢◌, ℕ, pos, List, [], ◌∷◌, ◌++◌, Option, Some, length, take, refl, sym, ap, subst}
+-- `robots_open` writes the place of the robot that C owns.
+use Rattle.std.proofs.Common.{◌≡◌, ◌≢◌, ℕ, pos, List, [], ◌∷◌, ◌++◌, Option, Some, length, refl, sym, ap}
+use Rattle.std.proofs.Common.{subst}
 use seplogic.Ra.Ura.{Ura}
 use lib.Dec.{T as IsT}
 use base.Fraction.{full_share}
@@ -10,18 +11,19 @@ use mir.Val.{Val, vptr, vint, of_z, has_ty, WT}
 use mir.ValLaws.{of_z_fits}
 use prog.Wp.{WpFn}
 use types.Logic.{Logic, sem}
-use types.Kit.{‵, raw, ◌⊛◌, some, later, prop, ◌$◌, ◌∵◌, !, qed, by, done, move, keep, drop, split, join, fsplit, fsplit3, fjoin, fpack, pick, regoal, rewrite, use0, use1, await, feq_l, feq_i}
-use types.Run.{of_opd, load, look, store, stop, fld, assigns, no_more, and_then, returns, enter}
+use types.Kit.{‵, raw, ◌⊛◌, some, later, prop, ◌$◌, ◌∵◌, !, qed, by, done, move, keep, drop, split, join}
+use types.Kit.{fsplit, fsplit3, fjoin, fpack, pick, regoal, rewrite, use0, use1, await, feq_l, feq_i}
+use types.Run.{of_opd, addr, load, look, store, stop, fld, assigns, no_more, and_then, returns, enter}
 use types.ByLocal.{alloc_all, pass_all, free_all, look_at, get, get_in, through, sets, lands_as}
 use types.Part.{sub, whole}
 use contract.Monad.{fact, fact_i}
 use contract.Running.{tables}
-use denote.Builtin.{i32, u8, SliceRefOf}
+use denote.Builtin.{i32, u8, usize, SliceRefOf}
 use denote.Exit.{yes}
 use denote.Memory.{cell_at}
 use denote.RattleType.{RattleType, owns}
 use denote.RawPtr.{Ptr, RawPtr, ptr_val, rawptr_Lawful}
-use denote.Ref.{mut_Tells}
+use denote.Ref.{MutRef, mut_Tells}
 use denote.Signed.{sint_Makes}
 use denote.Signature.{types_at, plain}
 use denote.Slice.{ShrSlice, shr_slice_Tells, slice_val, slice_ty}
@@ -31,16 +33,17 @@ use denote.Triple.Entry.{Args}
 use denote.Triple.Spec.{triple_of}
 use denote.Triple.Call.{calls_at}
 use denote.Triple.Table.{framed}
-use denote.Triple.Walked.{Stays, stay_dropped, Goes-dropped, stay_ref, Goes-ref, walk_of}
+use denote.Triple.Walked.{Stays, stay_dropped, Goes-dropped, stay_ref, Goes-ref, gave_ref, Goes-gave_ref}
+use denote.Triple.Walked.{walk_of}
 use Rattle.std.proofs.alloc.Calls.{Al, Goes-blank, handle_tells}
 use Rattle.std.proofs.raw_atomic.Walks.{proved_at, leaves}
 use Rattle.std_alloc.proofs.ResultValues.{and_tt}
 use Rattle.std.specs.contracts.alloc.Global as Global
 use Rattle.std.proofs.alloc.Global.TheLaws as Global-laws
-use Rattle.robots_c.specs.File.{GivesRobot}
+use Rattle.robots_c.specs.File.{GivesRobot, IsRobotFor}
 use Rattle.robots_c.specs.Kept.{kept_at, robot_at, opened_at}
-use Rattle.robots_c.specs.Status.{HasFault, IsWhyNoRobot}
-use Rattle.texting_robots.specs.Callers.{IsRobotOfFile, RobotValue, file_limit}
+use Rattle.robots_c.specs.Status.{HasFaultAt, IsWhyNoRobot}
+use Rattle.texting_robots.specs.Callers.{RobotValue}
 use Rattle.texting_robots.specs.contracts.robot.Robot as Robot-type
 use Rattle.robots_c.specs.contracts.handle.opened as callee
 use Rattle.robots_c.proofs.handle.opened.Met.{met}
@@ -51,23 +54,32 @@ use Rattle.robots_c.proofs.robots_open.Statement.{statement}
 use Rattle.robots_c.proofs.robots_open.Code as code
 
 abbrev Z : Al
-Z = record { row = Global.the_row; laws = Global-laws.the_row_laws; g = record { dealloc_token = λ a σ p. ftrue }; d = impl [] tnil dnil; drops = impl [] tnil dnil }
+Z = record {
+  row = Global.the_row;
+  laws = Global-laws.the_row_laws;
+  g = record {
+    dealloc_token = λ a σ p.
+        ftrue;
+  };
+  d = impl [] tnil dnil;
+  drops = impl [] tnil dnil;
+}
 
 module _ {M : Type 1} {𝓤 : Ura M} (𝓛 : Logic 𝓤) (P : RobotValue → Type 0) (at : Ptr) where
-  owned_then : (kept : Option RobotValue) (A : Type 0) → (A → (robot : RobotValue) × P robot × (kept ≡ Some robot))
+  owned_then : (kept : Option RobotValue) (A : Type 0) → (A
+      → (robot : RobotValue) × P robot × (kept ≡ Some robot))
       → ent 𝓤 (sem 𝓛 (kept_at Robot-type.the_row at kept)) (sem 𝓛 (fall A (λ _. opened_at P at)))
   owned_then kept A given = all_i 𝓤 (λ (e : A). sem 𝓛 (opened_at P at)) (λ e. let x = given e in
-      subst (λ (k : Option RobotValue). ent 𝓤 (sem 𝓛 (kept_at Robot-type.the_row at k)) (sem 𝓛 (opened_at P at))) (sym x.2)
-      (qed 𝓛 (‵ (robot_at at x.0) ∷ []) ∵ fpack ! (P x.0) (λ _. robot_at at x.0) x.1 $ fpack ! RobotValue (λ robot. fex (P robot) (λ _. robot_at at robot)) x.0 $ done !))
+      subst (λ (k : Option RobotValue). ent 𝓤 (sem 𝓛 (kept_at Robot-type.the_row at k)) (sem 𝓛
+      (opened_at P at))) (sym x.2)
+      (qed 𝓛 (‵ (robot_at at x.0) ∷ []) ∵ fpack ! (P x.0) (λ _. robot_at at x.0) x.1 $
+      fpack ! RobotValue (λ robot. fex (P robot) (λ _. robot_at at robot)) x.0 $ done !))
 
-abbrev Robot : List ℕ → List ℕ → RobotValue → Type 0
-Robot agent file = IsRobotOfFile agent (take file_limit file)
+abbrev Opened : List ℕ → List ℕ → (Row Robot-type.the_row).Denot → Type 0
+Opened agent file r = r.status ≡ pos 0 → GivesRobot agent file (λ robot. r.value ≡ Some robot)
 
-abbrev Answered : List ℕ → List ℕ → (Row Robot-type.the_row).Denot → Type 0
-Answered agent file r = r.status ≡ pos 0 → GivesRobot agent file (λ robot. r.value ≡ Some robot)
-
-abbrev Why : List ℕ → List ℕ → (Row Robot-type.the_row).Denot → Type 0
-Why agent file r = HasFault (IsWhyNoRobot agent file) r.status
+abbrev Why : List ℕ → List ℕ → (Row Robot-type.the_row).Denot → ℕ → ℕ → Type 0
+Why agent file r old new = HasFaultAt (IsWhyNoRobot agent file) r.status old new
 
 pub robots_open_spec : {M : Type 1} → statement M
 robots_open_spec 𝓤 𝓛 𝓜 𝓡 wired =
@@ -77,72 +89,176 @@ robots_open_spec 𝓤 𝓛 𝓜 𝓡 wired =
       stay_dropped (plain (λ _. Global.the_row)) yes,
       (
         stay_dropped (SliceRefOf (0 ∷ []) tt (plain (λ _. u8)) (λ κs. tt)) yes,
-        (stay_dropped (SliceRefOf (1 ∷ []) tt (plain (λ _. u8)) (λ κs. tt)) yes, (stay_ref (2 ∷ []) tt (plain (λ _. RawPtr)), tt)),
+        (
+          stay_dropped (SliceRefOf (1 ∷ []) tt (plain (λ _. u8))
+              (λ κs. tt)) yes,
+          (
+            stay_ref (2 ∷ []) tt (plain (λ _. RawPtr)),
+            (
+              gave_ref (3 ∷ []) tt (plain
+                  (λ _. usize)),
+              tt,
+            ),
+          ),
+        ),
       ),
     ) in
     proved_at 𝓛 En hs c 𝓜 𝓡 (
-      Goes-blank 𝓛 3 (plain (λ _. Global.the_row)) yes (λ κs x f. tt),
+      Goes-blank 𝓛 4 (plain (λ _. Global.the_row)) yes (λ κs x f. tt),
       (
-        Goes-dropped 𝓛 3 (SliceRefOf (0 ∷ []) tt (plain (λ _. u8)) (λ κs. tt)) yes (λ κs x f. refl),
-        (Goes-dropped 𝓛 3 (SliceRefOf (1 ∷ []) tt (plain (λ _. u8)) (λ κs. tt)) yes (λ κs x f. refl), (Goes-ref 𝓛 3 2 tt (plain (λ _. RawPtr)), tt)),
+        Goes-dropped 𝓛 4 (SliceRefOf (0 ∷ []) tt (plain (λ _. u8)) (λ κs. tt)) yes (λ κs x f. refl),
+        (
+          Goes-dropped 𝓛 4 (SliceRefOf (1 ∷ []) tt (plain (λ _. u8)) (λ κs. tt)) yes
+              (λ κs x f. refl),
+          (
+            Goes-ref 𝓛 4 2 tt (plain (λ _. RawPtr)),
+            (
+              Goes-gave_ref 𝓛 4 3 tt (plain
+                  (λ _. usize)),
+              tt,
+            ),
+          ),
+        ),
       ),
     ) #self fn (code.unfolded 𝓤 H 𝓜 𝓡 wired) (λ z are.
     let Post : Val → SProp 𝓤 = (walk_of 𝓛 En hs c).post z in
-    let α = z.0.0.0 in let β = z.0.0.1.0 in let γ = z.0.0.1.1.0 in let qα = z.0.1.0 in let qβ = z.0.1.1.0 in let qγ = z.0.1.1.1.0 in
-    let a = z.0.3 in let g = a.0 in let agent = a.1.0 in let file = a.1.1.0 in let out = a.1.1.1.0 in let p = out.now in let b = out.ref_ptr.0 in let o = out.ref_ptr.1 in
+    let α = z.0.0.0 in let β = z.0.0.1.0 in let γ = z.0.0.1.1.0 in let δ = z.0.0.1.1.1.0 in
+    let qα = z.0.1.0 in let qβ = z.0.1.1.0 in let qγ = z.0.1.1.1.0 in let qδ = z.0.1.1.1.1.0 in
+    let a = z.0.3 in let g = a.0 in let agent = a.1.0 in let file = a.1.1.0 in let out = a.1.1.1.0 in
+    let line = a.1.1.1.1.0 in let p = out.now in let b = out.ref_ptr.0 in let o = out.ref_ptr.1 in
     let vs = z.0.4 in
-    let e1 = shr_slice_Tells (named 0) α u8 agent vs.1.0 are.1.0 in let e2 = shr_slice_Tells (named 1) β u8 file vs.1.1.0 are.1.1.0 in
+    let e1 = shr_slice_Tells (named 0) α u8 agent vs.1.0 are.1.0 in
+    let e2 = shr_slice_Tells (named 1) β u8 file vs.1.1.0 are.1.1.0 in
     let e3 = mut_Tells (named 2) γ RawPtr out vs.1.1.1.0 are.1.1.1.0 in
-    let good_p : (x : Ptr) → IsT (has_ty ty_ptr (ptr_val x)) × WT (ptr_val x) = λ x. ((rawptr_Lawful 𝓛).typed x (ptr_val x ∷ []) refl).0 in
+    let e4 = mut_Tells (named 3) δ usize line vs.1.1.1.1.0 are.1.1.1.1.0 in
+    let good_p : (x : Ptr) → IsT (has_ty ty_ptr (ptr_val x)) × WT (ptr_val x) = λ x.
+    ((rawptr_Lawful 𝓛).typed x (ptr_val x ∷ []) refl).0 in
     let Cell = λ (us : List Val). ‵ (cell_at full_share RawPtr.mir us b o) in
-    qed 𝓛 (((‵ (flft α qα) ⊛ ‵ (flft β qβ) ⊛ ‵ (flft γ qγ) ⊛ ‵ ftrue) ⊛ ‵ (owns (types_at En.signature.params z.0.0) a vs)) ∷ ‵ ftrue ∷ []) ∵
+    qed 𝓛 (((‵ (flft α qα) ⊛ ‵ (flft β qβ) ⊛ ‵ (flft γ qγ) ⊛ ‵ (flft δ qδ) ⊛ ‵ ftrue)
+    ⊛ ‵ (owns (types_at En.signature.params z.0.0) a vs)) ∷ ‵ ftrue ∷ []) ∵
     split ! $ move ! (2 ∷ []) $ drop ! $ move ! (1 ∷ []) $ fsplit ! $ handle_tells Z ! g vs.0 (λ h eh fits.
-    move ! (1 ∷ []) $ fsplit ! $ rewrite ! 0 (λ (ws : List Val). ‵ ((ShrSlice (named 0) α u8).own_val agent ws)) e1 refl $
-    move ! (1 ∷ []) $ fsplit ! $ rewrite ! 0 (λ (ws : List Val). ‵ ((ShrSlice (named 1) β u8).own_val file ws)) e2 refl $
-    move ! (1 ∷ []) $ fsplit ! $
-    -- [out; nothing; file; agent; the handle; the tokens]
-    move ! (5 ∷ []) $ split ! $ move ! (1 ∷ []) $ split ! $ move ! (1 ∷ []) $ split ! $ move ! (4 ∷ 0 ∷ 1 ∷ 2 ∷ 3 ∷ 5 ∷ 6 ∷ 7 ∷ 8 ∷ []) $
-    -- [out; γ; nothing; β; α; nothing; file; agent; the handle]
-    let sa : Val = slice_val agent.ref_ptr (length agent.now) in let sf : Val = slice_val file.ref_ptr (length file.now) in
-    let good_a : IsT (has_ty (slice_ty (ty_ref (named 0) imm (ty_int w8))) sa) × WT sa = (tt, (tt, (record { fits = are.1.0.0.1.0 }, tt))) in
-    let good_f : IsT (has_ty (slice_ty (ty_ref (named 1) imm (ty_int w8))) sf) × WT sf = (tt, (tt, (record { fits = are.1.1.0.0.1.0 }, tt))) in
-    let ws : List Val = h ∷ sa ∷ sf ∷ vptr b o ∷ [] in
-    regoal ! (λ (us : List Val). prop (WpFn 𝓤 H 𝓣.C 𝓣.Λ fn us Post)) (λ j. eh j ++ (e1 j ++ (e2 j ++ (e3 j ++ [])))) refl $
-    enter ! 𝓣.C 𝓣.Λ fn ws Post $ alloc_all ! (λ l. pass_all ! refl (fits, (good_a, (good_f, ((tt, tt), tt)))) $
-    fsplit3 ! $ move ! (1 ∷ 2 ∷ 3 ∷ []) $ opens ! tt RawPtr b o (λ us. move ! (1 ∷ []) $ feq_l ! (λ eus. rewrite ! 0 Cell eus refl $
-    -- [the cell; the open borrow, in three entries; the place; nothing; β; α; nothing; file; agent; the handle]
+    move ! (1 ∷ []) $ fsplit ! $ rewrite ! 0
+    (λ (ws : List Val). ‵ ((ShrSlice (named 0) α u8).own_val agent ws)) e1 refl $
+    move ! (1 ∷ []) $ fsplit ! $ rewrite ! 0
+    (λ (ws : List Val). ‵ ((ShrSlice (named 1) β u8).own_val file ws)) e2 refl $
+    move ! (1 ∷ []) $ fsplit ! $ move ! (1 ∷ []) $ fsplit ! $
+    rewrite ! 0 (λ (ws : List Val). ‵ ((MutRef (named 3) δ usize).own_val line ws)) e4 refl $
+    -- [line; nothing; out; file; agent; the handle; the tokens]
+    move ! (6 ∷ []) $ split ! $ move ! (1 ∷ []) $ split ! $ move ! (1 ∷ []) $ split ! $
+    move ! (1 ∷ []) $ split ! $ move ! (7 ∷ 2 ∷ 1 ∷ 0 ∷ 3 ∷ 4 ∷ 6 ∷ 8 ∷ 9 ∷ 10 ∷ 5 ∷ []) $
+    -- [out; γ; nothing; δ; β; α; nothing; file; agent; the handle; line]
+    let sa : Val = slice_val agent.ref_ptr (length agent.now) in
+    let sf : Val = slice_val file.ref_ptr (length file.now) in
+    let sl : Val = vptr line.ref_ptr.0 line.ref_ptr.1 in
+    let good_a : IsT (has_ty (slice_ty (ty_ref (named 0) imm (ty_int w8))) sa) × WT sa = (
+      tt,
+      (
+        tt,
+        (record { fits = are.1.0.0.1.0 }, tt),
+      ),
+    ) in
+    let good_f : IsT (has_ty (slice_ty (ty_ref (named 1) imm (ty_int w8))) sf) × WT sf = (
+      tt,
+      (
+        tt,
+        (record { fits = are.1.1.0.0.1.0 }, tt),
+      ),
+    ) in
+    let ws : List Val = h ∷ sa ∷ sf ∷ vptr b o ∷ sl ∷ [] in
+    regoal ! (λ (us : List Val). prop (WpFn 𝓤 H 𝓣.C 𝓣.Λ fn us Post))
+    (λ j. eh j ++ (e1 j ++ (e2 j ++ (e3 j ++ (e4 j ++ []))))) refl $
+    enter ! 𝓣.C 𝓣.Λ fn ws Post $ alloc_all !
+    (λ l. pass_all ! refl (fits, (good_a, (good_f, ((tt, tt), ((tt, tt), tt))))) $
+    fsplit3 ! $ move ! (1 ∷ 2 ∷ 3 ∷ []) $ opens ! tt RawPtr b o (λ us. move ! (1 ∷ []) $
+    feq_l ! (λ eus. rewrite ! 0 Cell eus refl $
+    -- [the cell; the open borrow, in three entries; the place; nothing; δ; β; α; nothing; file; agent; the
+    -- handle; line]
     sets ! (of_opd ! (load ! (through ! refl (stop !)) (look ! 0 refl))) refl (good_p p) $
     sets ! (of_opd ! (get ! refl)) refl (good_p p) $
-    nothing ! $ feq_i ! (List Val) (ptr_val p ∷ []) (ptr_val p ∷ []) refl $ fjoin ! $
-    move ! (10 ∷ 0 ∷ []) $ fjoin ! $ move ! (10 ∷ 0 ∷ []) $ fjoin ! $ move ! (10 ∷ 0 ∷ []) $ fjoin ! $
-    move ! (6 ∷ []) $ move ! (7 ∷ 0 ∷ []) $ join ! $ move ! (7 ∷ 0 ∷ []) $ join ! $ join ! $ nothing ! $ move ! (1 ∷ 0 ∷ []) $ join ! $
+    sets ! (addr ! (through ! refl (stop !))) refl (tt, tt) $
+    nothing ! $ move ! (14 ∷ 0 ∷ []) $ fjoin ! $
+    feq_i ! (List Val) (ptr_val p ∷ []) (ptr_val p ∷ []) refl $ fjoin ! $
+    move ! (11 ∷ 0 ∷ []) $ fjoin ! $ move ! (11 ∷ 0 ∷ []) $ fjoin ! $ move ! (11 ∷ 0 ∷ []) $ fjoin ! $
+    move ! (6 ∷ []) $ move ! (7 ∷ 0 ∷ []) $ join ! $ move ! (7 ∷ 0 ∷ []) $ join ! $ move ! (7 ∷ 0 ∷ []) $
+    join ! $ join ! $ nothing ! $ move ! (1 ∷ 0 ∷ []) $ join ! $
     let k = triple_of 𝓛 callee.signature (callee.spec 𝓛 𝓜.mem 𝓡.returns) in
-    let κs : Lft × (Lft × Unit {0}) = (α, (β, tt)) in let args : Args callee.signature κs = (g, (agent, (file, (p, tt)))) in
-    let y : k.Ghost = ((κs, (qα, (qβ, tt)), tt, args, (h ∷ [], (sa ∷ [], (sf ∷ [], (ptr_val p ∷ [], tt))))), tt) in
+    let κs : Lft × (Lft × (Lft × Unit {0})) = (α, (β, (δ, tt))) in
+    let args : Args callee.signature κs = (g, (agent, (file, (p, (line, tt))))) in
+    let y : k.Ghost = (
+      (
+        κs,
+        (qα, (qβ, (qδ, tt))),
+        tt,
+        args,
+        (
+          h ∷ [],
+          (
+            sa ∷ [],
+            (
+              sf ∷ [],
+              (
+                ptr_val p ∷ [],
+                (sl ∷ [], tt),
+              ),
+            ),
+          ),
+        ),
+      ),
+      tt,
+    ) in
     use1 𝓛 (raw (k.pre y)) (id⊢ 𝓤 _) $
-    calls_at ! (framed 𝓤 H 𝓜 𝓣) k (met 𝓤 𝓛 𝓜 𝓡 (code.calls-robots_c::handle::opened 𝓡.env wired)) y (and_then ! (get ! refl) (and_then ! (get ! refl) (and_then ! (get ! refl) (and_then ! (get ! refl) (no_more !))))) (λ u.
-    use1 𝓛 (later (some (λ (r : (Row R).Denot). ((‵ (flft α qα) ⊛ ‵ (flft β qβ) ⊛ ‵ ftrue) ⊛ ‵ ((Row R).own_val r (u ∷ []))) ⊛ some (λ (ls : Lasts callee.ended κs args).
-    ‵ (lasts callee.ended κs args ls) ⊛ (raw (fact 𝓤 (Answered agent.now file.now r)) ⊛ (raw (fact 𝓤 (r.status ≢ pos 0 → r.at ≡ p)) ⊛ raw (fact 𝓤 (Why agent.now file.now r)))))))) (id⊢ 𝓤 (k.post y u)) $
-    await ! tt $ pick ! (λ r. split ! $ move ! (1 ∷ []) $ pick ! (λ ls. split ! $ drop ! $ split ! $ heard ! (Answered agent.now file.now r) (λ answered. split ! $ heard ! (r.status ≢ pos 0 → r.at ≡ p) (λ refused. heard ! (Why agent.now file.now r) (λ why.
-    split ! $ move ! (1 ∷ []) $ kept_out R ! r (u ∷ []) (λ eu small.
-    -- [what is kept; the tokens; the cell; the open borrow, in three entries; the place; nothing]
-    let n = r.status in let i : Val = vint w32 (of_z w32 n) in let good_i : IsT (has_ty (ty_int w32) i) × WT i = (tt, of_z_fits w32 n (record { sfits = small })) in
+    calls_at ! (framed 𝓤 H 𝓜 𝓣) k (met 𝓤 𝓛 𝓜 𝓡 (code.calls-robots_c::handle::opened 𝓡.env wired)) y
+    (and_then ! (get ! refl) (and_then ! (get ! refl) (and_then ! (get ! refl) (and_then !
+    (get ! refl) (and_then ! (get ! refl) (no_more !)))))) (λ u.
+    use1 𝓛 (later (some (λ (r : (Row R).Denot). ((‵ (flft α qα) ⊛ ‵ (flft β qβ) ⊛ ‵ (flft δ qδ)
+    ⊛ ‵ ftrue) ⊛ ‵ ((Row R).own_val r (u ∷ []))) ⊛ some (λ (ls : Lasts callee.ended κs args).
+    ‵ (lasts callee.ended κs args ls) ⊛ (raw (fact 𝓤 (Opened agent.now file.now r))
+    ⊛ (raw (fact 𝓤 (r.status ≢ pos 0 → r.at ≡ p))
+    ⊛ raw (fact 𝓤 (Why agent.now file.now r line.now ls.1.1.1.1.0)))))))) (id⊢ 𝓤 (k.post y u)) $
+    await ! tt $ pick ! (λ r. split ! $ move ! (1 ∷ []) $ pick ! (λ ls. let w = ls.1.1.1.1.0 in
+    split ! $ move ! (1 ∷ []) $ split ! $ heard ! (Opened agent.now file.now r) (λ opened. split ! $
+    heard ! (r.status ≢ pos 0 → r.at ≡ p) (λ kept. heard ! (Why agent.now file.now r line.now w) (λ why.
+    fsplit ! $ drop ! $ fsplit ! $ drop ! $ fsplit ! $ drop ! $ fsplit ! $ drop ! $ fsplit ! $
+    move ! (1 ∷ []) $ drop ! $
+    move ! (1 ∷ []) $ split ! $ move ! (1 ∷ []) $ kept_out R ! r (u ∷ []) (λ eu small.
+    -- [what is kept; the tokens; what line was given; the cell; the open borrow, in three entries; the
+    -- place; nothing]
+    let n = r.status in let i : Val = vint w32 (of_z w32 n) in
+    let good_i : IsT (has_ty (ty_int w32) i) × WT i = (tt, of_z_fits w32 n (record { sfits = small })) in
     lands_as ! (ap only eu) refl (and_tt _ (good_p r.at).0, (good_i.1, ((good_p r.at).1, tt))) $
     sets ! (of_opd ! (get_in ! (fld ! refl (stop !)) (sub ! 0 refl (whole !)))) refl good_i $
     sets ! (of_opd ! (get_in ! (fld ! refl (stop !)) (sub ! 1 refl (whole !)))) refl (good_p r.at) $
     sets ! (of_opd ! (get ! refl)) refl (good_p r.at) $
-    assigns ! (of_opd ! (get ! refl)) (through ! refl (stop !)) (store ! 2 refl (good_p r.at)) $
+    assigns ! (of_opd ! (get ! refl)) (through ! refl (stop !)) (store ! 3 refl (good_p r.at)) $
     sets ! (of_opd ! (get ! refl)) refl good_i $
-    feq_i ! (List Val) (ptr_val r.at ∷ []) (ptr_val r.at ∷ []) refl $ move ! (3 ∷ 0 ∷ 4 ∷ 5 ∷ 6 ∷ []) $ closes ! tt RawPtr r.at (ptr_val r.at ∷ []) b o $
-    -- [obs; the borrow; γ; what is kept; the tokens; the place; nothing]
+    feq_i ! (List Val) (ptr_val r.at ∷ []) (ptr_val r.at ∷ []) refl $ move ! (4 ∷ 0 ∷ 5 ∷ 6 ∷ 7 ∷ []) $
+    closes ! tt RawPtr r.at (ptr_val r.at ∷ []) b o $
+    -- [obs; the borrow; γ; what is kept; the tokens; what line was given; the place; nothing]
     returns ! (look_at ! 0 refl) $ free_all ! refl $
-    fjoin ! $ move ! (4 ∷ 0 ∷ []) $ fjoin ! $
-    nothing ! $ move ! (1 ∷ 0 ∷ []) $ fjoin ! $ nothing ! $ fjoin ! $ nothing ! $ fjoin ! $ nothing ! $ fjoin ! $
+    fjoin ! $ move ! (5 ∷ 0 ∷ []) $ fjoin ! $
+    nothing ! $ move ! (5 ∷ 0 ∷ []) $ fjoin ! $ move ! (1 ∷ 0 ∷ []) $ fjoin ! $ nothing ! $ fjoin ! $
+    nothing ! $ fjoin ! $ nothing ! $ fjoin ! $
     -- [the parameters; γ; what is kept; the tokens; nothing]
-    move ! (3 ∷ []) $ split ! $ move ! (1 ∷ []) $ split ! $ move ! (4 ∷ 1 ∷ []) $ join ! $ move ! (1 ∷ 0 ∷ []) $ join ! $ move ! (1 ∷ 0 ∷ []) $ join ! $
+    move ! (3 ∷ []) $ split ! $ move ! (1 ∷ []) $ split ! $ move ! (4 ∷ 1 ∷ []) $ join ! $
+    move ! (1 ∷ 0 ∷ []) $ join ! $ move ! (1 ∷ 0 ∷ []) $ join ! $
     -- [the tokens; the parameters; what is kept; nothing]
-    move ! (2 ∷ []) $ use1 𝓛 (‵ (fall (n ≡ pos 0) (λ _. opened_at (Robot agent.now file.now) r.at))) (owned_then 𝓛 (Robot agent.now file.now) r.at r.value (n ≡ pos 0) answered) $
-    use0 𝓛 (raw (fact 𝓤 (Why agent.now file.now r))) (fact_i 𝓤 (Why agent.now file.now r) (emp 𝓤) why) $ join ! $
-    use0 𝓛 (raw (fact 𝓤 (n ≢ pos 0 → r.at ≡ p))) (fact_i 𝓤 (n ≢ pos 0 → r.at ≡ p) (emp 𝓤) refused) $ join ! $
+    move ! (2 ∷ []) $ use1 𝓛 (‵ (fall (n ≡ pos 0)
+    (λ _. opened_at (IsRobotFor agent.now file.now) r.at))) (owned_then 𝓛
+    (IsRobotFor agent.now file.now) r.at r.value (n ≡ pos 0) opened) $
+    use0 𝓛 (raw (fact 𝓤 (Why agent.now file.now r line.now w))) (fact_i 𝓤
+    (Why agent.now file.now r line.now w) (emp 𝓤) why) $ join ! $
+    use0 𝓛 (raw (fact 𝓤 (n ≢ pos 0 → r.at ≡ p))) (fact_i 𝓤 (n ≢ pos 0 → r.at ≡ p) (emp 𝓤) kept) $ join ! $
     owned ! i32 _ (sint_Makes 𝓛 w32) n _ (refl, small) $ keep ! (2 ∷ 3 ∷ 0 ∷ 1 ∷ []) $
-    by ! (leaves 𝓛 En hs c z i n (tt, (tt, (tt, (r.at, tt)))) (tt, (tt, (tt, (tt, tt)))))))))))))))))
+    by ! (leaves 𝓛 En hs c z i n (tt, (tt, (tt, (r.at, (w, tt))))) (
+      tt,
+      (
+        tt,
+        (
+          tt,
+          (
+            tt,
+            (tt, tt),
+          ),
+        ),
+      ),
+    ))))))))))))))

@@ -5,7 +5,7 @@ use Rattle.std.proofs.lemmas.Iterator.Splits.{YieldsList-from_str_split}
 use Rattle.std.proofs.lemmas.List.{length_push}
 use Rattle.std.proofs.Math.Seq.{take-length}
 use Rattle.robots_c.proofs.NumberLemmas.{one_more}
-use Rattle.robots_c.proofs.urls.answers.Goals as goal
+use Rattle.robots_c.proofs.urls.numbers_for.Goals as goal
 
 pub loop-url-preserved : goal.loop-url-preserved
 loop-url-preserved c =
@@ -14,9 +14,9 @@ loop-url-preserved c =
     (YieldsList-from_str_split 10 c.args.urls.now (omega arith) split.text split.has_more split.pattern) in
     let here = YieldsList-turn gives c.loop-url.yielded _ c.loop-url.yielded_by _ _ c.in-Some.url c.in-Some.is
     c.next.ensures.steps in
-    let fits : SFits w64 c.in_ok-answer.field-0 = search rules in
-    rw (c.in_ok-push.ensures.items, to_z-of_z w64 c.in_ok-answer.field-0 fits, length_push)
-    (one_more _ _ _ _ _ _ here c.loop-url.invariant c.in_ok-answer.ensures)
+    let fits : SFits w64 c.in_ok-number_for.field-0 = search rules in
+    rw (c.in_ok-push.ensures.items, to_z-of_z w64 c.in_ok-number_for.field-0 fits, length_push)
+    (one_more _ _ _ _ _ _ here c.loop-url.invariant c.in_ok-number_for.ensures.number)
 
 pub returns : goal.returns
 returns c =

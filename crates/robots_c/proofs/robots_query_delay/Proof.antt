@@ -1,0 +1,120 @@
+-- `robots_query_delay` reads what is lent to it.
+use Rattle.std.proofs.Common.{◌≡◌, ◌≢◌, ℕ, ℤ, pos, List, [], ◌∷◌, ◌++◌, Some, refl, ap, ◌∙◌}
+use Rattle.std.proofs.Common.{Bor}
+use lib.Dec.{T as IsT}
+use base.Fml.{Lft, ftrue, flft}
+use base.Logic.{SProp, emp, id⊢, fst∗, never}
+use mir.Syntax.{named, w32, ty_int}
+use mir.Val.{Val, vptr, vint, of_z, has_ty, WT}
+use mir.ValLaws.{of_z_fits}
+use prog.Wp.{WpFn}
+use types.Logic.{sem}
+use types.Kit.{‵, raw, ◌⊛◌, some, later, prop, ◌$◌, ◌∵◌, !, qed, by, move, keep, drop, split, join, fsplit}
+use types.Kit.{fjoin, pick, regoal, rewrite, use0, use1, await, feq_i}
+use types.Run.{of_opd, addr, stop, no_more, and_then, returns, enter}
+use types.ByLocal.{alloc_all, pass_all, free_all, look_at, get, through, sets, lands_as}
+use contract.Monad.{fact, fact_i}
+use contract.Running.{tables}
+use denote.Builtin.{i32, u64}
+use denote.Exit.{yes}
+use denote.RattleType.{RattleType, owns}
+use denote.RawPtr.{Ptr, RawPtr, ptr_val, in_a_block}
+use denote.Ref.{MutRef, mut_Tells}
+use denote.Struct.Lending.{lent_at}
+use denote.Memory.{hidden_shr, shared_of}
+use denote.Laws.{Is, shows}
+use denote.Signature.{types_at, plain}
+use denote.Steps.{nothing, only, heard, peeks}
+use denote.Triple.Clauses.{Lasts, lasts}
+use denote.Triple.Entry.{Args}
+use denote.Triple.Spec.{triple_of}
+use denote.Triple.Call.{calls_at}
+use denote.Triple.Table.{framed}
+use denote.Triple.Walked.{Stays, stay_dropped, Goes-dropped, gave_ref, Goes-gave_ref, walk_of}
+use Rattle.std.proofs.raw_atomic.Walks.{proved_at, leaves}
+use Rattle.robots_c.specs.Status.{HasFault, IsWhyNone}
+use Rattle.texting_robots.specs.Callers.{RobotValue}
+use Rattle.texting_robots.specs.contracts.robot.Robot as Robot-type
+use Rattle.robots_c.specs.contracts.handle.query_delay as callee
+use Rattle.robots_c.proofs.handle.query_delay.Met.{met}
+use Rattle.robots_c.specs.contracts.robots_query_delay.{ended, clauses}
+use Rattle.robots_c.specs.contracts.robots_query_delay.Key.{name as #self}
+use Rattle.robots_c.proofs.robots_query_delay.Statement.{statement}
+use Rattle.robots_c.proofs.robots_query_delay.Code as code
+
+abbrev Written : RobotValue → ℤ → ℕ → Type 0
+Written robot status delay = status ≡ pos 0 → robot.delay ≡ Some delay
+
+abbrev Why : RobotValue → ℤ → Type 0
+Why robot status = HasFault (IsWhyNone robot.delay) status
+
+pub robots_query_delay_spec : {M : Type 1} → statement M
+robots_query_delay_spec 𝓤 𝓛 𝓜 𝓡 wired =
+    let H = 𝓛.H in let 𝓣 = tables 𝓤 H 𝓜 𝓡 𝓡.env in let R : RattleType = Robot-type.the_row in
+    let En = ended in let c = clauses 𝓛 𝓜.mem 𝓡.returns in let fn = code.function in
+    let hs : Stays En.signature.params En.kept = (
+      stay_dropped (plain
+          (λ _. RawPtr)) yes,
+      (gave_ref (0 ∷ []) tt (plain (λ _. u64)), tt),
+    ) in
+    proved_at 𝓛 En hs c 𝓜 𝓡 (
+      Goes-dropped 𝓛 1 (plain (λ _. RawPtr)) yes (λ κs x f. refl),
+      (Goes-gave_ref 𝓛 1 0 tt (plain (λ _. u64)), tt),
+    ) #self fn (code.unfolded 𝓤 H 𝓜 𝓡 wired) (λ z are.
+    let Post : Val → SProp 𝓤 = (walk_of 𝓛 En hs c).post z in
+    let α = z.0.0.0 in let qα = z.0.1.0 in
+    let a = z.0.3 in let at = a.0 in let out = a.1.0 in
+    let κ = z.1.0 in let q = z.1.1 in let x = z.1.2 in
+    let vs = z.0.4 in
+    let e2 = mut_Tells (named 0) α u64 out vs.1.0 are.1.0 in
+    qed 𝓛 (((‵ (flft α qα) ⊛ ‵ ftrue) ⊛ ‵ (owns (types_at En.signature.params z.0.0) a vs))
+    ∷ (‵ (lent_at R at x κ) ⊛ ‵ (flft κ q)) ∷ []) ∵
+    move ! (1 ∷ []) $ split ! $
+    in_a_block ! at (λ p. lent_at R p x κ) (fst∗ 𝓤 (never 𝓤) (sem 𝓛 (shared_of R x 0 0 κ)))
+    (λ b o e. fsplit ! $ drop ! $
+    use1 𝓛 (‵ (hidden_shr R κ x b o)) (id⊢ 𝓤 _) $
+    feq_i ! (List Val) (vptr b o ∷ []) (vptr b o ∷ []) refl $ fjoin ! $
+    -- [the reference; κ; the rest]
+    move ! (2 ∷ []) $ split ! $ move ! (1 ∷ []) $ fsplit ! $ drop ! $
+    fsplit ! $ rewrite ! 0 (λ (ws : List Val). ‵ ((MutRef (named 0) α u64).own_val out ws)) e2 refl $
+    -- [out; nothing; the tokens; the reference; κ]
+    let so : Val = vptr out.ref_ptr.0 out.ref_ptr.1 in
+    let ep : vs.0 ≡ vptr b o ∷ [] = are.0 ∙ ap (λ (p : Ptr). ptr_val p ∷ []) e in
+    let ws : List Val = vptr b o ∷ so ∷ [] in
+    regoal ! (λ (us : List Val). prop (WpFn 𝓤 H 𝓣.C 𝓣.Λ fn us Post)) (λ j. ep j ++ (e2 j ++ [])) refl $
+    enter ! 𝓣.C 𝓣.Λ fn ws Post $ alloc_all ! (λ l. pass_all ! refl ((tt, tt), ((tt, tt), tt)) $
+    sets ! (of_opd ! (get ! refl)) refl (tt, tt) $ sets ! (addr ! (through ! refl (stop !))) refl (tt, tt) $
+    sets ! (addr ! (through ! refl (stop !))) refl (tt, tt) $
+    nothing ! $ move ! (1 ∷ 0 ∷ []) $ fjoin ! $ move ! (3 ∷ 0 ∷ []) $ fjoin ! $
+    -- [the arguments; nothing; the tokens; κ]
+    move ! (3 ∷ 2 ∷ []) $ join ! $ join ! $ nothing ! $ move ! (1 ∷ 0 ∷ []) $ join ! $
+    let k = triple_of 𝓛 callee.signature (callee.spec 𝓛 𝓜.mem 𝓡.returns) in
+    let rf : Bor RobotValue = record { ref_ptr = (b, o); now = x } in
+    let κs : Lft × (Lft × Unit {0}) = (κ, (α, tt)) in let args : Args callee.signature κs = (rf, (out, tt)) in
+    let y : k.Ghost = ((κs, (q, (qα, tt)), tt, args, (vptr b o ∷ [], (so ∷ [], tt))), tt) in
+    use1 𝓛 (raw (k.pre y)) (id⊢ 𝓤 _) $
+    calls_at ! (framed 𝓤 H 𝓜 𝓣) k (met 𝓤 𝓛 𝓜 𝓡 (code.calls-robots_c::handle::query_delay 𝓡.env wired)) y
+    (and_then ! (get ! refl) (and_then ! (get ! refl) (no_more !))) (λ u.
+    use1 𝓛 (later (some (λ (r : ℤ). ((‵ (flft κ q) ⊛ ‵ (flft α qα) ⊛ ‵ ftrue) ⊛ ‵ (i32.own_val r (u ∷ [])))
+    ⊛ some (λ (ls : Lasts callee.ended κs args). ‵ (lasts callee.ended κs args ls)
+    ⊛ (raw (fact 𝓤 (Written x r ls.1.0)) ⊛ (raw (fact 𝓤 (r ≢ pos 0 → ls.1.0 ≡ out.now))
+    ⊛ raw (fact 𝓤 (Why x r)))))))) (id⊢ 𝓤 (k.post y u)) $
+    await ! tt $ pick ! (λ r. split ! $ move ! (1 ∷ []) $ pick ! (λ ls. let w = ls.1.0 in
+    split ! $ move ! (1 ∷ []) $ split ! $ heard ! (Written x r w) (λ written. split ! $
+    heard ! (r ≢ pos 0 → w ≡ out.now) (λ kept. heard ! (Why x r) (λ why.
+    fsplit ! $ drop ! $ fsplit ! $ move ! (1 ∷ []) $ drop ! $
+    -- [what out was given; the tokens with the result; nothing]
+    move ! (1 ∷ []) $ split ! $ move ! (1 ∷ []) $ peeks ! i32 (Is i32) (shows 𝓛 i32) r (u ∷ []) (λ is.
+    let i : Val = vint w32 (of_z w32 r) in
+    let good_i : IsT (has_ty (ty_int w32) i) × WT i = (tt, of_z_fits w32 r (record { sfits = is.1 })) in
+    rewrite ! 0 (λ (us : List Val). ‵ (i32.own_val r us)) is.0 refl $
+    lands_as ! (ap only is.0) refl good_i $ returns ! (look_at ! 0 refl) $ free_all ! refl $
+    -- [the result; the tokens; what out was given; nothing]
+    nothing ! $ move ! (3 ∷ 0 ∷ []) $ fjoin ! $ nothing ! $ fjoin ! $
+    move ! (2 ∷ []) $ split ! $
+    use0 𝓛 (raw (fact 𝓤 (Why x r))) (fact_i 𝓤 (Why x r) (emp 𝓤) why) $ join ! $
+    use0 𝓛 (raw (fact 𝓤 (r ≢ pos 0 → w ≡ out.now))) (fact_i 𝓤 (r ≢ pos 0 → w ≡ out.now) (emp 𝓤) kept) $
+    join ! $
+    use0 𝓛 (raw (fact 𝓤 (Written x r w))) (fact_i 𝓤 (Written x r w) (emp 𝓤) written) $ join ! $
+    keep ! (1 ∷ 2 ∷ 3 ∷ 0 ∷ []) $
+    by ! (leaves 𝓛 En hs c z i r (tt, (w, tt)) (tt, (tt, tt)))))))))))))
