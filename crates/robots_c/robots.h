@@ -70,7 +70,7 @@ enum robots_status {
     ROBOTS_NO_DELAY = -4,     /* the file has no delay for this crawler */
     ROBOTS_NO_ADDRESS = -5,   /* the text is no URL of http or https with a host */
     ROBOTS_OVERLONG_RULE = -6 /* a rule for this crawler holds '$' and has more than 4,096 bytes escaped, each run of stars counted as
-                               * one: the file can't be used for this crawler. Most crawlers then fetch nothing. */
+                               * one: the file can't be used for this crawler, and what that means is its policy. */
 };
 
 /* What a file says to one crawler. */
