@@ -79,7 +79,7 @@ def shown(document):
 
 
 def documented_warnings():
-    """The texts of each warning by its name, in the order of docs/SPECIFICATION.md. In one of them KEY stands for a key."""
+    """The texts of each warning by its name, in the order of docs/SPECIFICATION.md. One of them has KEY in place of a key."""
     texts = {}
     for row in tables(SPECIFICATION):
         if len(row) == 3 and re.fullmatch(r"`[a-z0-9-]+`", row[0]):

@@ -284,7 +284,7 @@ def guarded(data, at_end):
     return ctypes.c_char_p(address + start), len(data), kept
 
 
-@pytest.mark.parametrize("at_end", [False, True], ids=["behind an unreadable page", "before an unreadable page"])
+@pytest.mark.parametrize("at_end", [False, True], ids=["after an unreadable page", "before an unreadable page"])
 def test_nothing_outside_of_the_texts_is_read(robots, at_end):
     chance, line, out, number = random.Random(7), ctypes.c_size_t(), (ctypes.c_int64 * 9)(), ctypes.c_uint64()
     cases = [("Bot", FILE, URLS), ("Bot", b"", [""])] + [random_case(chance) for _ in range(100)]
