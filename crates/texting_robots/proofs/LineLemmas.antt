@@ -1,10 +1,10 @@
 -- The lines that the walk gives are those of the text, and hold ranges of it.
 use Rattle.std.proofs.Common.{◌≡◌, ◌⊎◌, ℕ, false, inl, inr, List, [], ◌∷◌, ◌++◌, map}
 use Rattle.std.proofs.Common.{sym, refl, ap, ◌∙◌, append_assoc, append-nil, Option, Some, None}
-use Rattle.std.proofs.Common.{◌==◌, subst, ◌↔◌}
+use Rattle.std.proofs.Common.{◌==◌, ◌≢◌, arith, subst, ◌↔◌}
 use Rattle.std.specs.List.{AllZip}
-use Rattle.std.proofs.lemmas.Bool.{cases_Bool, cond-true, cond-false}
-use Rattle.texting_robots.specs.{declared.parser.statement.Kind.Kind, Cut.Pair, Group.is_agent, Delay.IsDelay}
+use Rattle.std.proofs.lemmas.Bool.{cases_Bool, cond-true, cond-false, ne_eqb, Decides.eqb_tells}
+use Rattle.texting_robots.specs.{declared.parser.statement.Kind.Kind, Cut.Pair, Cut.lf, Group.is_agent, Delay.IsDelay}
 use Rattle.texting_robots.specs.Computed.{file_bodies, file_lines, parsed}
 use Rattle.texting_robots.specs.Steps.{Cut.bodies_of, Cut.cut, Delay.delay_of}
 use Rattle.texting_robots.specs.Statement.{IsBehindBlanks, IsBehindColon, IsStatement}
@@ -234,7 +234,31 @@ taken_off byte (b ∷ text) = elim (cases_Bool (b == byte)) [
   | inr isnt ↦ ([], sym (cond-false _ _ _ isnt))
 ]
 
-front_is_end : (text : List ℕ) → (taken : List ℕ) × (text ≡ taken ++ without_front text)
+-- a byte that is neither NUL nor LF is read as it is, and no other byte is read as it
+read_other : (byte b : ℕ) → byte ≢ 0 → byte ≢ lf → (nul_as_lf b == byte) ≡ (b == byte)
+read_other byte b some other = elim (eqb_tells b 0) [
+  | inl (is, same) ↦ rw is (ne_eqb lf byte (λ s. other (sym s))
+      ∙ sym (ne_eqb b byte (λ s. some (sym s ∙ same))))
+  | inr (isnt, _) ↦ rw isnt refl
+]
+
+without_read : (byte : ℕ) (text : List ℕ) → byte ≢ 0 → byte ≢ lf
+    → map nul_as_lf (without byte text) ≡ without byte (map nul_as_lf text)
+without_read byte [] some other = refl
+without_read byte (b ∷ text) some other = elim (cases_Bool (b == byte)) [
+  | inl is ↦ rw (is, read_other byte b some other, is) refl
+  | inr isnt ↦ rw (isnt, read_other byte b some other, isnt) refl
+]
+
+-- the front is the same where NUL is read as LF
+pub front_read : (text : List ℕ) → map nul_as_lf (without_front text) ≡ without_front (map nul_as_lf text)
+front_read text =
+    let one = without 0xEF text in
+    without_read 0xBF (without 0xBB one) (λ e. omega arith) (λ e. omega arith)
+    ∙ ap (without 0xBF) (without_read 0xBB one (λ e. omega arith) (λ e. omega arith)
+    ∙ ap (without 0xBB) (without_read 0xEF text (λ e. omega arith) (λ e. omega arith)))
+
+pub front_is_end : (text : List ℕ) → (taken : List ℕ) × (text ≡ taken ++ without_front text)
 front_is_end text =
     let one = taken_off 0xEF text in
     let two = taken_off 0xBB (without 0xEF text) in

@@ -14,8 +14,8 @@ use Rattle.std.proofs.lemmas.Option.{get_or_from_slice_get, slice_get-get_or, sl
 use Rattle.std.proofs.lemmas.Option.{slice_get_within}
 use Rattle.std.proofs.lemmas.Slice.Eq.{bytes_eq-Decides}
 use Rattle.texting_robots.specs.Steps.Names.{AreLinked, bucket_of, first_named, is_in}
-use Rattle.texting_robots.specs.Steps.Site.{Named, has_name, in_front, is_of, is_run_of, named_of, tag_of}
-use Rattle.texting_robots.specs.declared.site.lines.GroupLine.{GroupLine}
+use Rattle.texting_robots.specs.Steps.Site.{Named, has_name, in_front, is_of, is_run_of, named_of, tag_at}
+use Rattle.texting_robots.specs.declared.site.lines.KeptLine.{KeptLine}
 use Rattle.texting_robots.specs.declared.site.lines.AgentLine.{AgentLine}
 
 -- ---- first places
@@ -257,29 +257,29 @@ past_end [] (suc i) past = refl
 past_end (x ∷ xs) zero past = absurd (omega arith)
 past_end (x ∷ xs) (suc i) past = past_end xs i (omega arith)
 
-line_at : (lines : List GroupLine) (at : ℕ) (line : GroupLine) → at < length lines → line
+kept_at : (text : List ℕ) (lines : List KeptLine) (at : ℕ) (line : KeptLine) → at < length lines → line
     ≡ get_or lines at line
-    → drop at (map tag_of lines) ≡ tag_of line ∷ drop (at + 1) (map tag_of lines)
-line_at lines at line within is =
-    drop_is (map tag_of lines) at (tag_of line) (slice_get-map tag_of lines at
-    ∙ ap (option_map tag_of) (slice_get_read lines (length lines) at line refl within is))
+    → drop at (map (tag_at text) lines) ≡ tag_at text line ∷ drop (at + 1) (map (tag_at text) lines)
+kept_at text lines at line within is =
+    drop_is (map (tag_at text) lines) at (tag_at text line) (slice_get-map (tag_at text) lines at
+    ∙ ap (option_map (tag_at text)) (slice_get_read lines (length lines) at line refl within is))
 
-pub front_line : (lines : List GroupLine) (at run : ℕ) (line : GroupLine) → at < length lines
+pub front_line : (text : List ℕ) (lines : List KeptLine) (at run : ℕ) (line : KeptLine) → at < length lines
     → line ≡ get_or lines at line → line.run ≡ run
-    → in_front run (drop at (map tag_of lines)) ≡ tag_of line ∷ in_front run (drop (at + 1)
-    (map tag_of lines))
-front_line lines at run line within is same =
-    ap (in_front run) (line_at lines at line within is) ∙ rw (eq-eqb line.run run same) refl
+    → in_front run (drop at (map (tag_at text) lines))
+    ≡ tag_at text line ∷ in_front run (drop (at + 1) (map (tag_at text) lines))
+front_line text lines at run line within is same =
+    ap (in_front run) (kept_at text lines at line within is) ∙ rw (eq-eqb line.run run same) refl
 
-pub front_other : (lines : List GroupLine) (at run : ℕ) (line : GroupLine) → at < length lines
-    → line ≡ get_or lines at line → line.run ≢ run → in_front run (drop at (map tag_of lines)) ≡ []
-front_other lines at run line within is other =
-    ap (in_front run) (line_at lines at line within is) ∙ rw (ne_eqb line.run run other) refl
+pub front_other : (text : List ℕ) (lines : List KeptLine) (at run : ℕ) (line : KeptLine) → at < length lines
+    → line ≡ get_or lines at line → line.run ≢ run → in_front run (drop at (map (tag_at text) lines)) ≡ []
+front_other text lines at run line within is other =
+    ap (in_front run) (kept_at text lines at line within is) ∙ rw (ne_eqb line.run run other) refl
 
-pub front_past : (lines : List GroupLine) (at run : ℕ) → length lines ≤ at
-    → in_front run (drop at (map tag_of lines)) ≡ []
-front_past lines at run past =
-    ap (in_front run) (past_end (map tag_of lines) at (omega (arith, length-map lines tag_of)))
+pub front_past : (text : List ℕ) (lines : List KeptLine) (at run : ℕ) → length lines ≤ at
+    → in_front run (drop at (map (tag_at text) lines)) ≡ []
+front_past text lines at run past =
+    ap (in_front run) (past_end (map (tag_at text) lines) at (omega (arith, length-map lines (tag_at text))))
 
 -- ---- whether a name is there
 

@@ -12,7 +12,7 @@ use Rattle.texting_robots.specs.Group.{group_name, is_agent, is_group}
 use Rattle.texting_robots.specs.{Pattern.IsOverlong, Robot.IsFileRefused, Steps.Group.from_captured}
 use Rattle.texting_robots.specs.Computed.{captured_delays, captured_lines, file_lines, placed_in}
 use Rattle.texting_robots.specs.Computed.{placed_rules}
-use Rattle.texting_robots.specs.declared.site.lines.SitemapLine.{SitemapLine}
+use Rattle.texting_robots.specs.declared.site.lines.Span.{Span}
 use Rattle.texting_robots.proofs.{CapturedLemmas.captured_walked, HeadlineLemmas.has_lines}
 use Rattle.texting_robots.specs.Computed.{delay_before_agents, delay_for}
 use Rattle.texting_robots.specs.{Robot.IsRobotOf, Robot.RobotValue, Rules.unplaced}
@@ -336,11 +336,11 @@ any_given P (Some x) xs old all are is = subst (Any P) are (after P x xs old is)
 
 -- ---- one sitemap more
 
-pub listed_more : (sitemaps : List SitemapLine) (i : ℕ) (d : SitemapLine) → i < length sitemaps
-    → filter_map listed (take (i + 1) sitemaps)
-    ≡ filter_map listed (take i sitemaps) ++ option_to_list (listed (get_or sitemaps i d))
-listed_more sitemaps i d within =
-    ap (filter_map listed) (take_more sitemaps i d within) ∙ given_push listed (take i sitemaps)
+pub listed_more : (text : List ℕ) (sitemaps : List Span) (i : ℕ) (d : Span) → i < length sitemaps
+    → filter_map (listed text) (take (i + 1) sitemaps)
+    ≡ filter_map (listed text) (take i sitemaps) ++ option_to_list (listed text (get_or sitemaps i d))
+listed_more text sitemaps i d within =
+    ap (filter_map (listed text)) (take_more sitemaps i d within) ∙ given_push (listed text) (take i sitemaps)
     (get_or sitemaps i d)
 
 -- ---- why there is no robot

@@ -1,8 +1,10 @@
 //! The lines of a robots.txt file.
-ghost use Rattle.std.specs.Prelude.{◌≡◌, ◌⊎◌, ◌≤◌, IfErr, IfOk, None, Some, false, length, map, option_map};
+ghost use Rattle.std.specs.Prelude.{◌≡◌, ◌⊎◌, ◌<◌, ◌≤◌, ◌++◌, ◌∷◌, IfErr, IfOk, None, Some, false, length, map, option_map};
+ghost use Rattle.std.specs.Prelude.{ℕ, List};
 ghost use Rattle.std.specs.Iterator.{YieldsFirst, YieldsFirstBy, item_count};
 ghost use Rattle.std.specs.List.{AllZip};
 ghost use Rattle.texting_robots.specs.Computed.{file_bodies, file_lines, parsed};
+ghost use Rattle.texting_robots.specs.Steps.Cut.{bodies_of, read_as};
 ghost use Rattle.texting_robots.specs.Steps.Line.{line_of, line_with};
 ghost use Rattle.texting_robots.specs.Group.{is_agent, is_agent_named, is_group};
 ghost use Rattle.texting_robots.specs.Marks.{is_named};
@@ -94,7 +96,7 @@ impl<'a> Model for Unread<'a> {
 impl<'a> Unread<'a> {
     /// The line of a body.
     #[inline(always)]
-    fn new(body: &'a [u8]) -> Self
+    pub(crate) fn new(body: &'a [u8]) -> Self
         ensures { result ≡ line_of body.now }
     {
         let text = skip_blanks(body);
@@ -145,6 +147,18 @@ impl<'a> Unread<'a> {
     }
 }
 
+/// The first line of a text that isn't empty, without its end, and what follows it.
+#[inline(always)]
+pub(crate) fn split_line<'a>(text: &'a [u8], nul_ends: bool) -> (&'a [u8], &'a [u8])
+    requires { 0 < length text.now }
+    ensures lines { bodies_of (read_as nul_ends text.now) ≡ result.0.now ∷ bodies_of (read_as nul_ends result.1.now) }
+    ensures parts { (ending : List ℕ) × (text.now ≡ result.0.now ++ (ending ++ result.1.now)) }
+    ensures shorter { length result.1.now < length text.now }
+{
+    let (body, after) = text.split_at(body_len(text, nul_ends));
+    (body, after_end(after, nul_ends))
+}
+
 /// An iterator over the bodies of a file's lines, which takes no memory.
 #[derive(Drop)]
 pub struct BodyIter<'a> {
@@ -170,12 +184,11 @@ impl<'a> Iterator for BodyIter<'a> {
 
     #[inline(always)]
     fn next(&mut self) -> Option<&'a [u8]> {
-        let rest = self.rest;
-        if rest.is_empty() {
+        if self.rest.is_empty() {
             return None;
         }
-        let (body, after) = rest.split_at(body_len(rest, self.nul_ends));
-        self.rest = after_end(after, self.nul_ends);
+        let (body, rest) = split_line(self.rest, self.nul_ends);
+        self.rest = rest;
         Some(body)
     }
 }
@@ -268,8 +281,9 @@ impl<'a> Iterator for LineIter<'a> {
 }
 
 /// The text without EF where it begins with it, then without BB, then without BF, each where it then stands first.
-fn without_front<'a>(text: &'a [u8]) -> &'a [u8]
-    ensures { result.now ≡ without_front text.now }
+pub(crate) fn without_front<'a>(text: &'a [u8]) -> &'a [u8]
+    ensures value { result.now ≡ without_front text.now }
+    ensures end { (front : List ℕ) × (text.now ≡ front ++ result.now) }
 {
     let text = text.strip_prefix(b"\xEF").unwrap_or(text);
     let text = text.strip_prefix(b"\xBB").unwrap_or(text);

@@ -1,13 +1,13 @@
 //! A robots.txt file that is read once for all crawlers.
-ghost use Rattle.std.specs.Prelude.{◌≡◌, ◌++◌, [], All, Any, IfErr, IfOk, IsOk, OnOk, map, slice_get, string_bytes, take};
+ghost use Rattle.std.specs.Prelude.{◌≡◌, ◌++◌, [], All, Any, IfErr, IfOk, IsOk, None, OnOk, map, slice_get, string_bytes, take};
 ghost use Rattle.std.specs.List.{filter_map};
 ghost use Rattle.std.specs.Option.{option_to_list};
 ghost use Rattle.std.specs.Str.{str_to_ascii_lowercase};
 ghost use Rattle.texting_robots.specs.Agents.{agents_in};
-ghost use Rattle.texting_robots.specs.Computed.{captured_delays, file_lines, placed_rules, sitemaps_in};
+ghost use Rattle.texting_robots.specs.Computed.{captured_delays, file_lines, placed_rules, sitemap_in, sitemaps_in};
 ghost use Rattle.texting_robots.specs.Error.{IsMemoryOr};
 ghost use Rattle.texting_robots.specs.Group.{group_name};
-ghost use Rattle.texting_robots.specs.Line.{HasLines};
+ghost use Rattle.texting_robots.specs.Line.{HasLines, by_value};
 ghost use Rattle.texting_robots.specs.Marks.{is_named};
 ghost use Rattle.texting_robots.specs.Pattern.{IsOverlong};
 ghost use Rattle.texting_robots.specs.Robot.{IsFileRefused, IsRobotOfFile, file_limit};
@@ -25,35 +25,35 @@ use crate::parser::Line;
 use crate::reading::push_text;
 use crate::robot::{FILE_LIMIT, Robot};
 use crate::rules::Rules;
-use lines::{GroupLine, SiteLines, SitemapLine};
+use lines::{KeptLine, SiteLines, Span};
 use names::Names;
 use own::{OwnLines, OwnRules};
 use std::alloc::{AllocError, Global};
 use std::marker::Model;
 
-/// A robots.txt file that is read once for all crawlers. It borrows the file's bytes.
+/// A robots.txt file that is read once for all crawlers. It holds a copy of the bytes that were read, and for each rule, delay and
+/// sitemap its position in them.
 #[derive(Drop)]
-pub struct Site<'a> {
+pub struct Site {
     /// The bytes that were read.
-    text: &'a [u8],
+    text: Vec<u8>,
     /// The rules and delays, in the file's order.
-    lines: Vec<GroupLine<'a>>,
-    names: Names<'a>,
-    sitemaps: Vec<SitemapLine<'a>>,
+    lines: Vec<KeptLine>,
+    names: Names,
+    sitemaps: Vec<Span>,
     /// The last delay before the first user-agent line.
     early: Option<u64>,
 }
 
-impl<'a> Model for Site<'a> {
+impl Model for Site {
     ghost use Rattle.std.specs.Prelude.{ℕ, List};
-    ghost use Rattle.texting_robots.specs.Computed.{file_lines};
     ghost use Rattle.texting_robots.specs.Steps.Site.{IsIndexOf};
 
     ghost Value = { List ℕ };
 
-    ghost view = { λ s. s.text.now };
+    ghost view = { λ s. s.text.items };
 
-    ghost invariant = { λ s. IsIndexOf (file_lines s.text.now) s.lines.items s.names s.sitemaps.items s.early };
+    ghost invariant = { λ s. IsIndexOf s.text.items s.lines.items s.names s.sitemaps.items s.early };
 }
 
 /// Adds a name, if it is UTF-8.
@@ -69,14 +69,26 @@ fn push_name<'a>(names: &mut Vec<&'a str>, name: &'a [u8]) -> Result<(), AllocEr
     Ok(())
 }
 
-impl<'a> Site<'a> {
+/// Adds the sitemap of a line, if the line has one.
+fn push_sitemap(alloc: Global, sitemaps: &mut Vec<String>, line: Line<'_>) -> Result<(), AllocError>
+    ensures added { OnOk result (map string_bytes sitemaps.new.items ≡ map string_bytes sitemaps.old.items
+        ++ option_to_list (sitemap_in (by_value line.entry))) }
+    ensures unasked { sitemap_in (by_value line.entry) ≡ None → IsOk result }
+{
+    match line {
+        Line::Sitemap(value) => push_text(alloc, sitemaps, value),
+        _ => Ok(()),
+    }
+}
+
+impl Site {
     /// Reads the first [`FILE_LIMIT`] bytes of the file `txt`, in one pass.
     ///
     /// # Errors
     ///
     /// `AllocError` if an allocation fails. No file is rejected: a rule that is too long is an error of [`Site::robot`], for the
     /// crawlers that it is for.
-    pub fn new(alloc: Global, txt: &'a [u8]) -> Result<Self, AllocError>
+    pub fn new(alloc: Global, txt: &[u8]) -> Result<Self, AllocError>
         ensures { IfOk result (λ site. site ≡ take file_limit txt.now) }
     {
         Site::with_limit(alloc, txt, FILE_LIMIT)
@@ -87,19 +99,26 @@ impl<'a> Site<'a> {
     /// # Errors
     ///
     /// As [`Site::new`].
-    pub fn with_limit(alloc: Global, txt: &'a [u8], limit: usize) -> Result<Self, AllocError>
+    pub fn with_limit(alloc: Global, txt: &[u8], limit: usize) -> Result<Self, AllocError>
         ensures { IfOk result (λ site. site ≡ take limit txt.now) }
     {
-        let text = &txt[..limit.min(txt.len())];
-        let lines = SiteLines::read(alloc, text)?;
+        let text = txt[..limit.min(txt.len())].to_vec(alloc)?;
+        let lines = SiteLines::read(alloc, &text)?;
         let names = Names::new(alloc, lines.agent_lines)?;
         Ok(Site {
             text,
             lines: lines.group_lines,
             names,
-            sitemaps: lines.sitemap_lines,
+            sitemaps: lines.sitemaps,
             early: lines.early,
         })
+    }
+
+    /// The bytes that were read.
+    pub fn text(&self) -> &[u8]
+        ensures { result.now ≡ self.now }
+    {
+        &self.text
     }
 
     /// Whether a user-agent line names the crawler, ASCII letters in any case.
@@ -127,25 +146,25 @@ impl<'a> Site<'a> {
     /// # Errors
     ///
     /// `AllocError` if an allocation fails.
-    pub fn agents(&self, alloc: Global) -> Result<Vec<&'a str>, AllocError>
+    pub fn agents(&self, alloc: Global) -> Result<Vec<&str>, AllocError>
         ensures { IfOk result (λ agents. map (λ agent. agent.now) agents.items ≡ agents_in (file_lines self.now)) }
     {
         let mut agents = Vec::new(alloc);
         for (place, line) in self.names.lines().iter().enumerate() {
-            if self.names.first(line.name) != place {
+            if self.names.first(&line.name) != place {
                 continue;
             }
-            push_name(&mut agents, line.name)?;
+            push_name(&mut agents, &line.name)?;
         }
         Ok(agents)
     }
 
     /// The rules and delays that the crawler gets.
-    fn own_lines<'s, 'n>(&'s self, agent: &'n str) -> OwnLines<'s, 'n, 'a>
+    fn own_lines<'s, 'n>(&'s self, agent: &'n str) -> OwnLines<'s, 'n>
         ensures rules { filter_map rule_of result ≡ placed_rules agent.now (file_lines self.now) }
         ensures delays { filter_map delay_of result ≡ captured_delays agent.now (file_lines self.now) }
     {
-        OwnLines::new(&self.lines, &self.names, self.group_name(agent))
+        OwnLines::new(&self.text, &self.lines, &self.names, self.group_name(agent))
     }
 
     /// The crawler's rules and its first delay.
@@ -220,8 +239,8 @@ impl<'a> Site<'a> {
         ensures unasked { sitemaps_in (file_lines self.now) ≡ [] → IsOk result }
     {
         let mut all = Vec::new(alloc);
-        for sitemap in &self.sitemaps {
-            if let Err(error) = push_text(alloc, &mut all, sitemap.value) {
+        for span in &self.sitemaps {
+            if let Err(error) = push_sitemap(alloc, &mut all, span.line_in(&self.text)) {
                 return Err(error);
             }
         }

@@ -1,16 +1,18 @@
 -- The group lines of a file, each with the run of user-agent lines that is above it, and the names of these
 -- runs. A run is a sequence of user-agent lines with no group line between them.
 use Rattle.std.specs.Prelude.{◌≡◌, ℕ, ◌+◌, ◌==◌, Bool, not, ◌&&◌, ◌||◌, false, List, []}
-use Rattle.std.specs.Prelude.{◌∷◌, Option, Some, None, filter, map, if◌then◌else◌, bytes_eq}
+use Rattle.std.specs.Prelude.{◌∷◌, Option, Some, None, drop, filter, map, take}
+use Rattle.std.specs.Prelude.{if◌then◌else◌, bytes_eq}
 use Rattle.std.specs.{List.cons_option, List.filter_map, List.list_any, Option.option_or}
 use Rattle.std.specs.{Str.str_to_ascii_lowercase}
 use Rattle.texting_robots.specs.{Group.is_agent, Group.is_group, Line.LineValue, Line.UserAgent}
-use Rattle.texting_robots.specs.Computed.{delay_before_agents, rule_in, sitemaps_in}
+use Rattle.texting_robots.specs.Computed.{delay_before_agents, file_lines, rule_in, sitemap_in, sitemaps_in}
 use Rattle.texting_robots.specs.declared.site.lines.AgentLine.{AgentLine}
 use Rattle.texting_robots.specs.declared.site.lines.GroupLine.{GroupLine}
-use Rattle.texting_robots.specs.declared.site.lines.SitemapLine.{SitemapLine}
+use Rattle.texting_robots.specs.declared.site.lines.KeptLine.{KeptLine}
+use Rattle.texting_robots.specs.declared.site.lines.Span.{Span}
 use Rattle.texting_robots.specs.{Line.by_value, Line.delay_in, Rules.PlacedRule, Steps.Group.placed}
-use Rattle.texting_robots.specs.{Steps.Group.text_from}
+use Rattle.texting_robots.specs.{Steps.Line.line_of}
 
 -- a group line, its number, counted from 1, and its run: the number of the run's first line, or 0 if no
 -- user-agent line is above the group line
@@ -99,25 +101,35 @@ in_front run (t ∷ tags) = if t.run == run then t ∷ in_front run tags else []
 
 -- ---- what is kept of a file
 
+-- the bytes of a text at a span, and the line that they are
+abbrev pub bytes_at : List ℕ → Span → List ℕ
+bytes_at text span = take span.len (drop span.start text)
+
+abbrev pub line_at : List ℕ → Span → LineValue
+line_at text span = line_of (bytes_at text span)
+
 abbrev pub tag_of : GroupLine → Tagged
 tag_of group = record { number = group.number; line = by_value group.line; run = group.run }
 
-abbrev pub named_of : AgentLine → Named
-named_of agent = record { name = agent.name.now; run = agent.run; start = agent.start }
+abbrev pub tag_at : List ℕ → KeptLine → Tagged
+tag_at text kept = record { number = kept.number; line = line_at text kept.span; run = kept.run }
 
-abbrev pub listed : SitemapLine → Option (List ℕ)
-listed sitemap = text_from sitemap.value.now
+abbrev pub named_of : AgentLine → Named
+named_of agent = record { name = agent.name.items; run = agent.run; start = agent.start }
+
+abbrev pub listed : List ℕ → Span → Option (List ℕ)
+listed text span = sitemap_in (line_at text span)
 
 -- the last delay before the first user-agent line, after one line more; `begun` is whether there was a
 -- user-agent line before
 abbrev pub early_after : Bool → Option ℕ → LineValue → Option ℕ
 early_after begun early line = if begun then early else option_or (delay_in line) early
 
--- the group lines, names and sitemaps are those of these lines, and the delay is the last one before all
+-- the group lines, names and sitemaps are those of a file's lines, and the delay is the last one before all
 -- names
-pub record IsIndexOf (lines : List LineValue) (groups : List GroupLine) (names : List Named)
-    (sitemaps : List SitemapLine) (early : Option ℕ) : Type 0 where
-  pub groups_are : map tag_of groups ≡ tagged lines
-  pub names_are : names ≡ named lines
-  pub sitemaps_are : filter_map listed sitemaps ≡ sitemaps_in lines
-  pub early_is : early ≡ delay_before_agents lines
+pub record IsIndexOf (text : List ℕ) (groups : List KeptLine) (names : List Named) (sitemaps : List Span)
+    (early : Option ℕ) : Type 0 where
+  pub groups_are : map (tag_at text) groups ≡ tagged (file_lines text)
+  pub names_are : names ≡ named (file_lines text)
+  pub sitemaps_are : filter_map (listed text) sitemaps ≡ sitemaps_in (file_lines text)
+  pub early_is : early ≡ delay_before_agents (file_lines text)

@@ -1,15 +1,39 @@
 //! The lines of a file that a site keeps, and one pass over the file that collects them.
-ghost use Rattle.std.specs.Prelude.{◌≡◌, ◌++◌, ◌||◌, IfOk, None, OnOk, [], false, length, map};
+ghost use Rattle.std.specs.Prelude.{◌≡◌, ◌++◌, ◌||◌, IfOk, None, OnOk, [], false, if◌then◌else◌, length, map, true};
 ghost use Rattle.std.specs.List.{filter_map};
 ghost use Rattle.std.specs.Option.{option_to_list};
 ghost use Rattle.texting_robots.specs.Computed.{delay_before_agents, file_lines, sitemap_in, sitemaps_in};
 ghost use Rattle.texting_robots.specs.Group.{is_agent};
-ghost use Rattle.texting_robots.specs.Line.{by_value};
-ghost use Rattle.texting_robots.specs.Steps.Site.{count_after, early_after, joins_after, listed, named, named_in, named_of};
-ghost use Rattle.texting_robots.specs.Steps.Site.{run_after, tag_in, tag_of, tagged};
+ghost use Rattle.texting_robots.specs.Line.{UserAgent, by_value};
+ghost use Rattle.texting_robots.specs.Steps.Site.{bytes_at, count_after, early_after, joins_after, line_at, listed, named};
+ghost use Rattle.texting_robots.specs.Steps.Site.{named_in, named_of, run_after, tag_at, tag_in, tag_of, tagged};
 
-use crate::parser::{Line, unread_file_lines};
+use crate::parser::{Line, Unread, split_line, without_front};
 use std::alloc::{AllocError, Global};
+
+/// Where a line, without its end, is in the bytes of a file.
+#[derive(Clone, Copy)]
+pub(crate) struct Span {
+    pub(crate) start: usize,
+    pub(crate) len: usize,
+}
+
+impl Span {
+    /// The bytes at the span.
+    fn bytes_in<'t>(self, text: &'t [u8]) -> &'t [u8]
+        ensures { result.now ≡ bytes_at text.now self }
+    {
+        let rest = &text[self.start.min(text.len())..];
+        &rest[..self.len.min(rest.len())]
+    }
+
+    /// The line at the span.
+    pub(crate) fn line_in<'t>(self, text: &'t [u8]) -> Line<'t>
+        ensures { by_value result ≡ line_at text.now self }
+    {
+        Unread::new(self.bytes_in(text)).read()
+    }
+}
 
 /// A rule or a delay.
 #[derive(Clone, Copy)]
@@ -21,28 +45,43 @@ pub(crate) struct GroupLine<'a> {
     pub(crate) run: usize,
 }
 
-/// A user-agent line.
+/// A rule or a delay, by its position in the file.
 #[derive(Clone, Copy)]
-pub(crate) struct AgentLine<'a> {
-    pub(crate) name: &'a [u8],
+pub(crate) struct KeptLine {
+    pub(crate) span: Span,
+    pub(crate) number: usize,
+    pub(crate) run: usize,
+}
+
+impl KeptLine {
+    /// The rule or delay.
+    pub(crate) fn read<'t>(&self, text: &'t [u8]) -> GroupLine<'t>
+        ensures { tag_of result ≡ tag_at text.now self.now }
+    {
+        GroupLine {
+            line: self.span.line_in(text),
+            number: self.number,
+            run: self.run,
+        }
+    }
+}
+
+/// A user-agent line.
+#[derive(Drop)]
+pub(crate) struct AgentLine {
+    pub(crate) name: Vec<u8>,
     /// The number of the first line of its run.
     pub(crate) run: usize,
     /// How many group lines are above it, which is the index of the first group line of its run.
     pub(crate) start: usize,
 }
 
-/// The value of a sitemap line.
-#[derive(Clone, Copy)]
-pub(crate) struct SitemapLine<'a> {
-    pub(crate) value: &'a [u8],
-}
-
 /// The lines of a file, sorted by their kinds, each kind in the file's order.
 #[derive(Drop)]
-pub(crate) struct SiteLines<'a> {
-    pub(crate) group_lines: Vec<GroupLine<'a>>,
-    pub(crate) agent_lines: Vec<AgentLine<'a>>,
-    pub(crate) sitemap_lines: Vec<SitemapLine<'a>>,
+pub(crate) struct SiteLines {
+    pub(crate) group_lines: Vec<KeptLine>,
+    pub(crate) agent_lines: Vec<AgentLine>,
+    pub(crate) sitemaps: Vec<Span>,
     /// The last delay before the first user-agent line.
     pub(crate) early: Option<u64>,
     /// Whether a user-agent line was read.
@@ -63,11 +102,11 @@ fn early_after(begun: bool, early: Option<u64>, line: Line<'_>) -> Option<u64>
     }
 }
 
-impl<'a> SiteLines<'a> {
+impl SiteLines {
     fn new(alloc: Global) -> Self
         ensures lines { result.group_lines.items ≡ [] }
         ensures names { result.agent_lines.items ≡ [] }
-        ensures sitemaps { result.sitemap_lines.items ≡ [] }
+        ensures sitemaps { result.sitemaps.items ≡ [] }
         ensures early { result.early ≡ None }
         ensures begun { result.begun ≡ false }
         ensures run { result.run ≡ 0 }
@@ -76,7 +115,7 @@ impl<'a> SiteLines<'a> {
         SiteLines {
             group_lines: Vec::new(alloc),
             agent_lines: Vec::new(alloc),
-            sitemap_lines: Vec::new(alloc),
+            sitemaps: Vec::new(alloc),
             early: None,
             begun: false,
             run: 0,
@@ -84,68 +123,102 @@ impl<'a> SiteLines<'a> {
         }
     }
 
-    /// Adds the line with this number.
-    fn add(&mut self, number: usize, line: Line<'a>) -> Result<(), AllocError>
-        ensures lines { OnOk result (map tag_of self.new.group_lines.items ≡ map tag_of self.old.group_lines.items
-            ++ option_to_list (tag_in self.old.run number (by_value line.entry))) }
-        ensures count { OnOk result (length self.new.group_lines.items
-            ≡ count_after (length self.old.group_lines.items) (by_value line.entry)) }
+    /// Adds a user-agent line.
+    fn add_agent(&mut self, alloc: Global, number: usize, name: &[u8]) -> Result<(), AllocError>
+        ensures lines { self.new.group_lines ≡ self.old.group_lines }
         ensures names { OnOk result (map named_of self.new.agent_lines.items ≡ map named_of self.old.agent_lines.items
-            ++ option_to_list (named_in (run_after self.old.run self.old.joins number (by_value line.entry))
-            (length self.old.group_lines.items) (by_value line.entry))) }
-        ensures sitemaps { OnOk result (filter_map listed self.new.sitemap_lines.items
-            ≡ filter_map listed self.old.sitemap_lines.items ++ option_to_list (sitemap_in (by_value line.entry))) }
-        ensures run { OnOk result (self.new.run ≡ run_after self.old.run self.old.joins number (by_value line.entry)) }
-        ensures joins { OnOk result (self.new.joins ≡ joins_after self.old.joins (by_value line.entry)) }
-        ensures early { OnOk result (self.new.early ≡ early_after self.old.begun self.old.early (by_value line.entry)) }
-        ensures begun { OnOk result (self.new.begun ≡ (self.old.begun || is_agent (by_value line.entry))) }
+            ++ option_to_list (named_in (run_after self.old.run self.old.joins number (UserAgent name.now))
+            (length self.old.group_lines.items) (UserAgent name.now))) }
+        ensures sitemaps { self.new.sitemaps ≡ self.old.sitemaps }
+        ensures run { self.new.run ≡ run_after self.old.run self.old.joins number (UserAgent name.now) }
+        ensures joins { self.new.joins ≡ true }
+        ensures early { self.new.early ≡ self.old.early }
+        ensures begun { self.new.begun ≡ true }
     {
+        if !self.joins {
+            self.run = number;
+        }
+        self.begun = true;
+        self.joins = true;
+        self.agent_lines.push(AgentLine {
+            name: name.to_vec(alloc)?,
+            run: self.run,
+            start: self.group_lines.len(),
+        })?;
+        Ok(())
+    }
+
+    /// Adds the line with this number, which is at the span.
+    fn add(
+        &mut self,
+        alloc: Global,
+        text: &[u8],
+        number: usize,
+        span: Span,
+    ) -> Result<(), AllocError>
+        ensures lines { OnOk result (map (tag_at text.now) self.new.group_lines.items
+            ≡ map (tag_at text.now) self.old.group_lines.items
+            ++ option_to_list (tag_in self.old.run number (line_at text.now span))) }
+        ensures count { OnOk result (length self.new.group_lines.items
+            ≡ count_after (length self.old.group_lines.items) (line_at text.now span)) }
+        ensures names { OnOk result (map named_of self.new.agent_lines.items ≡ map named_of self.old.agent_lines.items
+            ++ option_to_list (named_in (run_after self.old.run self.old.joins number (line_at text.now span))
+            (length self.old.group_lines.items) (line_at text.now span))) }
+        ensures sitemaps { OnOk result (filter_map (listed text.now) self.new.sitemaps.items
+            ≡ filter_map (listed text.now) self.old.sitemaps.items ++ option_to_list (sitemap_in (line_at text.now span))) }
+        ensures run { OnOk result (self.new.run ≡ run_after self.old.run self.old.joins number (line_at text.now span)) }
+        ensures joins { OnOk result (self.new.joins ≡ joins_after self.old.joins (line_at text.now span)) }
+        ensures early { OnOk result (self.new.early ≡ early_after self.old.begun self.old.early (line_at text.now span)) }
+        ensures begun { OnOk result (self.new.begun ≡ (self.old.begun || is_agent (line_at text.now span))) }
+    {
+        let line = span.line_in(text);
         self.early = early_after(self.begun, self.early, line);
         match line {
-            Line::UserAgent(name) => {
-                if !self.joins {
-                    self.run = number;
-                }
-                self.begun = true;
-                self.joins = true;
-                self.agent_lines.push(AgentLine {
-                    name,
-                    run: self.run,
-                    start: self.group_lines.len(),
-                })?;
-                Ok(())
-            }
+            Line::UserAgent(name) => self.add_agent(alloc, number, name),
             Line::Allow(_) | Line::Disallow(_) | Line::CrawlDelay(_) => {
                 self.joins = false;
-                self.group_lines.push(GroupLine {
-                    line,
-                    number,
-                    run: self.run,
-                })?;
+                let run = self.run;
+                self.group_lines.push(KeptLine { span, number, run })?;
                 Ok(())
             }
-            Line::Sitemap(value) => {
-                self.sitemap_lines.push(SitemapLine { value })?;
+            Line::Sitemap(_) => {
+                self.sitemaps.push(span)?;
                 Ok(())
             }
             Line::Raw(_) => Ok(()),
         }
     }
 
+    /// All lines, without a last delay before the first user-agent line if there was no user-agent line.
+    fn finished(self) -> Self
+        ensures lines { result.group_lines ≡ self.group_lines }
+        ensures names { result.agent_lines ≡ self.agent_lines }
+        ensures sitemaps { result.sitemaps ≡ self.sitemaps }
+        ensures early { result.early ≡ (if self.begun then self.early else None) }
+    {
+        let early = if self.begun { self.early } else { None };
+        SiteLines { early, ..self }
+    }
+
     /// Reads a whole file, in one pass.
-    pub(crate) fn read(alloc: Global, text: &'a [u8]) -> Result<Self, AllocError>
-        ensures lines { IfOk result (λ s. map tag_of s.group_lines.items ≡ tagged (file_lines text.now)) }
+    pub(crate) fn read(alloc: Global, text: &[u8]) -> Result<Self, AllocError>
+        ensures lines { IfOk result (λ s. map (tag_at text.now) s.group_lines.items ≡ tagged (file_lines text.now)) }
         ensures names { IfOk result (λ s. map named_of s.agent_lines.items ≡ named (file_lines text.now)) }
-        ensures sitemaps { IfOk result (λ s. filter_map listed s.sitemap_lines.items ≡ sitemaps_in (file_lines text.now)) }
+        ensures sitemaps { IfOk result (λ s. filter_map (listed text.now) s.sitemaps.items
+            ≡ sitemaps_in (file_lines text.now)) }
         ensures early { IfOk result (λ s. s.early ≡ delay_before_agents (file_lines text.now)) }
     {
         let mut lines = SiteLines::new(alloc);
-        for (place, line) in unread_file_lines(text).enumerate() {
-            lines.add(place + 1, line.read())?;
+        let mut number = 0;
+        let mut rest = without_front(text);
+        while !rest.is_empty() {
+            let start = text.len() - rest.len();
+            let (body, after) = split_line(rest, true);
+            let len = body.len();
+            number += 1;
+            lines.add(alloc, text, number, Span { start, len })?;
+            rest = after;
         }
-        if !lines.begun {
-            lines.early = None;
-        }
-        Ok(lines)
+        Ok(lines.finished())
     }
 }

@@ -14,15 +14,15 @@ use std::marker::Model;
 /// There are as many buckets as lines. A lookup compares the name with those of one bucket, usually one or two. The hash
 /// function is fixed, so a file can be written whose names are all in one bucket: then a lookup compares it with each.
 #[derive(Drop)]
-pub(crate) struct Names<'a> {
-    lines: Vec<AgentLine<'a>>,
+pub(crate) struct Names {
+    lines: Vec<AgentLine>,
     /// For each bucket the place of its first line, or the number of lines.
     heads: Vec<usize>,
     /// For each line the place of the next one in its bucket, or the number of lines.
     nexts: Vec<usize>,
 }
 
-impl<'a> Model for Names<'a> {
+impl Model for Names {
     ghost use Rattle.std.specs.Prelude.{List, map};
     ghost use Rattle.texting_robots.specs.Steps.Names.{AreLinked};
     ghost use Rattle.texting_robots.specs.Steps.Site.{Named, named_of};
@@ -55,7 +55,7 @@ fn bucket_of(name: &[u8], count: usize) -> usize
 }
 
 /// Links the lines of each bucket, from the last line to the first.
-fn link(lines: &[AgentLine<'_>], heads: &mut [usize], nexts: &mut [usize])
+fn link(lines: &[AgentLine], heads: &mut [usize], nexts: &mut [usize])
     requires heads { heads.old ≡ replicate (length lines.now) (length lines.now) }
     requires nexts { length nexts.old ≡ length lines.now }
     ensures { AreLinked 0 (map named_of lines.now) heads.new nexts.new }
@@ -63,16 +63,16 @@ fn link(lines: &[AgentLine<'_>], heads: &mut [usize], nexts: &mut [usize])
     let mut place = lines.len();
     while place > 0 {
         place -= 1;
-        let bucket = bucket_of(lines[place].name, heads.len());
+        let bucket = bucket_of(&lines[place].name, heads.len());
         nexts[place] = heads[bucket];
         heads[bucket] = place;
     }
 }
 
-impl<'a> Names<'a> {
+impl Names {
     /// The lines, in the file's order.
-    pub(crate) fn new(alloc: Global, lines: Vec<AgentLine<'a>>) -> Result<Self, AllocError>
-        ensures { IfOk result (λ names. names ≡ map named_of lines.entry.items) }
+    pub(crate) fn new(alloc: Global, lines: Vec<AgentLine>) -> Result<Self, AllocError>
+        ensures { IfOk result (λ names. names ≡ map named_of lines.items) }
     {
         let count = lines.len();
         let mut heads = vec![in alloc; count; count]?;
@@ -86,7 +86,7 @@ impl<'a> Names<'a> {
     }
 
     /// The lines.
-    pub(crate) fn lines(&self) -> &[AgentLine<'a>]
+    pub(crate) fn lines(&self) -> &[AgentLine]
         ensures { map named_of result.now ≡ self.now }
     {
         &self.lines

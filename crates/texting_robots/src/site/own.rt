@@ -7,13 +7,13 @@ ghost use Rattle.texting_robots.specs.Error.{IsMemoryOr};
 ghost use Rattle.texting_robots.specs.Pattern.{IsOverlong};
 ghost use Rattle.texting_robots.specs.Steps.Entries.{AreEntries, rules_in};
 ghost use Rattle.texting_robots.specs.Steps.Own.{AreOfFile, IsWalk, IsWholeWalk, own_at};
-ghost use Rattle.texting_robots.specs.Steps.Site.{delay_of, in_front, rule_of, tag_of};
+ghost use Rattle.texting_robots.specs.Steps.Site.{delay_of, in_front, rule_of, tag_at, tag_of};
 
 use crate::error::Error;
 use crate::parser::Line;
 use crate::reading::push_rule;
 use crate::rules::Gathered;
-use crate::site::lines::GroupLine;
+use crate::site::lines::{GroupLine, KeptLine};
 use crate::site::names::Names;
 use std::alloc::Global;
 use std::marker::Model;
@@ -33,61 +33,70 @@ pub(crate) struct Position {
 ///
 /// It goes from one user-agent line with the name to the next, and takes the group lines of that line's run.
 #[derive(Drop)]
-pub(crate) struct OwnLines<'s, 'n, 'a> {
-    lines: &'s [GroupLine<'a>],
-    names: &'s Names<'a>,
+pub(crate) struct OwnLines<'s, 'n> {
+    text: &'s [u8],
+    lines: &'s [KeptLine],
+    names: &'s Names,
     /// The name whose groups the crawler gets.
     name: &'n [u8],
     position: Position,
 }
 
-impl<'s, 'n, 'a> Model for OwnLines<'s, 'n, 'a> {
+impl<'s, 'n> Model for OwnLines<'s, 'n> {
     ghost use Rattle.std.specs.Prelude.{List, map};
     ghost use Rattle.std.specs.Str.{str_to_ascii_lowercase};
     ghost use Rattle.texting_robots.specs.Steps.Own.{IsWalk, own_at};
-    ghost use Rattle.texting_robots.specs.Steps.Site.{Tagged, tag_of};
+    ghost use Rattle.texting_robots.specs.Steps.Site.{Tagged, tag_at};
 
     ghost Value = { List Tagged };
 
-    ghost view = { λ s. own_at (str_to_ascii_lowercase s.name.now) s.position s.names.now (map tag_of s.lines.now) };
+    ghost view = { λ s. own_at (str_to_ascii_lowercase s.name.now) s.position s.names.now
+        (map (tag_at s.text.now) s.lines.now) };
 
-    ghost invariant = { λ s. IsWalk (str_to_ascii_lowercase s.name.now) s.position s.names.now (map tag_of s.lines.now) };
+    ghost invariant = { λ s. IsWalk (str_to_ascii_lowercase s.name.now) s.position s.names.now
+        (map (tag_at s.text.now) s.lines.now) };
 }
 
 /// The line at an index, if it is of the run.
-fn line_of_run<'a>(lines: &[GroupLine<'a>], at: usize, run: usize) -> Option<GroupLine<'a>>
-    ensures { MatchOption result (in_front run (drop at (map tag_of lines.now)) ≡ []) (λ line. (at < length lines.now)
-        × (in_front run (drop at (map tag_of lines.now)) ≡ tag_of line ∷ in_front run (drop (at + 1) (map tag_of lines.now)))) }
+fn line_of_run<'t>(
+    text: &'t [u8],
+    lines: &[KeptLine],
+    at: usize,
+    run: usize,
+) -> Option<GroupLine<'t>>
+    ensures { MatchOption result (in_front run (drop at (map (tag_at text.now) lines.now)) ≡ []) (λ line. (at < length lines.now)
+        × (in_front run (drop at (map (tag_at text.now) lines.now)) ≡ tag_of line ∷ in_front run (drop (at + 1) (map (tag_at text.now) lines.now)))) }
 {
     match lines.get(at) {
-        Some(line) if line.run == run => Some(*line),
+        Some(line) if line.run == run => Some(line.read(text)),
         _ => None,
     }
 }
 
 /// The next line of a walk, and the position after it.
-fn next_line<'a>(
-    lines: &[GroupLine<'a>],
-    names: &Names<'_>,
+fn next_line<'t>(
+    text: &'t [u8],
+    lines: &[KeptLine],
+    names: &Names,
     name: &[u8],
     start: Position,
-) -> Option<(GroupLine<'a>, Position)>
-    requires { IsWalk (str_to_ascii_lowercase name.now) start names.now (map tag_of lines.now) }
+) -> Option<(GroupLine<'t>, Position)>
+    requires { IsWalk (str_to_ascii_lowercase name.now) start names.now (map (tag_at text.now) lines.now) }
     ensures { MatchOption result
-        (own_at (str_to_ascii_lowercase name.now) start names.now (map tag_of lines.now) ≡ [])
-        (λ next. IsWalk (str_to_ascii_lowercase name.now) next.1 names.now (map tag_of lines.now)
-        × (own_at (str_to_ascii_lowercase name.now) start names.now (map tag_of lines.now)
-        ≡ tag_of next.0 ∷ own_at (str_to_ascii_lowercase name.now) next.1 names.now (map tag_of lines.now))) }
+        (own_at (str_to_ascii_lowercase name.now) start names.now (map (tag_at text.now) lines.now) ≡ [])
+        (λ next. IsWalk (str_to_ascii_lowercase name.now) next.1 names.now (map (tag_at text.now) lines.now)
+        × (own_at (str_to_ascii_lowercase name.now) start names.now (map (tag_at text.now) lines.now)
+        ≡ tag_of next.0 ∷ own_at (str_to_ascii_lowercase name.now) next.1 names.now (map (tag_at text.now) lines.now))) }
 {
     let mut place = start.place;
     let mut run = start.run;
     let mut at = start.at;
     loop {
-        if let Some(line) = line_of_run(lines, at, run) {
+        if let Some(line) = line_of_run(text, lines, at, run) {
             let at = at + 1;
             return Some((line, Position { place, run, at }));
         }
-        let named = *names.lines().get(place)?;
+        let named = names.lines().get(place)?;
         place = names.after(place, name);
         if named.run > run {
             run = named.run;
@@ -98,7 +107,7 @@ fn next_line<'a>(
 
 /// Where a walk finds its first line: at the start in a file without user-agent lines, otherwise past the end, since lines
 /// before the first user-agent line are nobody's.
-fn first_line(lines: &[GroupLine<'_>], names: &Names<'_>) -> usize
+fn first_line(lines: &[KeptLine], names: &Names) -> usize
     ensures unnamed { length names.now ≡ 0 → result ≡ 0 }
     ensures named { 0 < length names.now → length lines.now ≤ result }
 {
@@ -109,11 +118,16 @@ fn first_line(lines: &[GroupLine<'_>], names: &Names<'_>) -> usize
     }
 }
 
-impl<'s, 'n, 'a> OwnLines<'s, 'n, 'a> {
+impl<'s, 'n> OwnLines<'s, 'n> {
     /// The lines that the name gets, of a file's group lines and user-agent lines.
-    pub(super) fn new(lines: &'s [GroupLine<'a>], names: &'s Names<'a>, name: &'n [u8]) -> Self
-        requires { AreOfFile names.now (map tag_of lines.now) }
-        ensures { IsWholeWalk (str_to_ascii_lowercase name.now) names.now (map tag_of lines.now) result }
+    pub(super) fn new(
+        text: &'s [u8],
+        lines: &'s [KeptLine],
+        names: &'s Names,
+        name: &'n [u8],
+    ) -> Self
+        requires { AreOfFile names.now (map (tag_at text.now) lines.now) }
+        ensures { IsWholeWalk (str_to_ascii_lowercase name.now) names.now (map (tag_at text.now) lines.now) result }
     {
         let position = Position {
             place: names.first(name),
@@ -121,6 +135,7 @@ impl<'s, 'n, 'a> OwnLines<'s, 'n, 'a> {
             at: first_line(lines, names),
         };
         OwnLines {
+            text,
             lines,
             names,
             name,
@@ -129,15 +144,21 @@ impl<'s, 'n, 'a> OwnLines<'s, 'n, 'a> {
     }
 }
 
-impl<'s, 'n, 'a> Iterator for OwnLines<'s, 'n, 'a> {
-    type Item = GroupLine<'a>;
+impl<'s, 'n> Iterator for OwnLines<'s, 'n> {
+    type Item = GroupLine<'s>;
 
     ghost next_gives = { YieldsFirstBy tag_of (λ s. s) };
 
     ghost remaining = { item_count (λ s. s) };
 
-    fn next(&mut self) -> Option<GroupLine<'a>> {
-        let (line, position) = next_line(self.lines, self.names, self.name, self.position)?;
+    fn next(&mut self) -> Option<GroupLine<'s>> {
+        let (line, position) = next_line(
+            self.text,
+            self.lines,
+            self.names,
+            self.name,
+            self.position,
+        )?;
         self.position = position;
         Some(line)
     }

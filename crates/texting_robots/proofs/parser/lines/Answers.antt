@@ -5,7 +5,7 @@ use Rattle.texting_robots.proofs.LineLemmas.{lines_are, lines_range}
 use Rattle.texting_robots.proofs.parser.lines.Goals as goal
 
 pub returns-clause-value : goal.returns-clause-value
-returns-clause-value c = ap lines_of (read_as_is c.without_front.result.now ∙ c.without_front.ensures)
+returns-clause-value c = ap lines_of (read_as_is c.without_front.result.now ∙ c.without_front.ensures.value)
 
 pub returns-clause-lines : goal.returns-clause-lines
 returns-clause-lines c = lines_are _ _ (returns-clause-value c)

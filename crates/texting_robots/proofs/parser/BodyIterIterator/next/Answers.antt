@@ -1,7 +1,7 @@
 use Rattle.std.proofs.Common.{◌∙◌, sym, ap, arith}
 use Rattle.std.proofs.lemmas.{Bool.Decides.nat_tests, List.nil_from_length}
 use Rattle.texting_robots.specs.Steps.Cut.{bodies_of, read_as}
-use Rattle.texting_robots.proofs.CutFromFront.{bodies_nil, next_body}
+use Rattle.texting_robots.proofs.CutFromFront.{bodies_nil}
 use Rattle.texting_robots.proofs.parser.BodyIterIterator.next.Goals as goal
 
 pub returns-then-is_empty-clause-steps : goal.returns-then-is_empty-clause-steps
@@ -13,16 +13,7 @@ returns-then-is_empty-clause-steps c =
     (none, none)
 
 pub returns-clause-steps : goal.returns-clause-steps
-returns-clause-steps c =
-    rw (
-      ← c.self.view_is,
-      c.after_end-self-inside.ensures,
-      c.split_at.ensures.front,
-      c.split_at.ensures.back,
-      c.body_len.ensures.value,
-    )
-    (next_body c.self.inside.nul_ends c.self.inside.rest.now
-    (grind (arith, nat_tests, c.is_empty.ensures, c.if-is_empty.false)))
+returns-clause-steps c = rw (← c.self.view_is) c.split_line.ensures.lines
 
 pub returns-clause-goes : goal.returns-clause-goes
 returns-clause-goes c =

@@ -5,15 +5,18 @@ use Rattle.texting_robots.proofs.site.own.line_of_run.Goals as goal
 
 pub returns-in-Some : goal.returns-in-Some
 returns-in-Some c =
-    let (_, is, _, (within, _), _) = c.in-Some.ensures.lookup in
-    (within, front_line c.args.lines.now c.args.at c.args.run _ within is c.if-line-run.true)
+    let (_, is, _, (within, _), _) = c.in-Some.ensures.lookup in (
+      within,
+      rw c.read.ensures (front_line c.args.text.now c.args.lines.now c.args.at c.args.run _ within is
+          c.if-line-run.true),
+    )
 
 pub returns-in_default : goal.returns-in_default
 returns-in_default c = elim c.in_default.branch [
   | in_default-via-in-Some+else-line-run w ↦
       let (_, is, _, (within, _), _) = w.in-Some.ensures.lookup in
-      front_other c.args.lines.now c.args.at c.args.run _ within is w.if-line-run.false
+      front_other c.args.text.now c.args.lines.now c.args.at c.args.run _ within is w.if-line-run.false
   | in_default-via-in_default w ↦
       let (_, _, _, past, _) = w.in_default.ensures.lookup in
-      front_past c.args.lines.now c.args.at c.args.run past
+      front_past c.args.text.now c.args.lines.now c.args.at c.args.run past
 ]

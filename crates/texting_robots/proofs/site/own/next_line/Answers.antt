@@ -1,7 +1,7 @@
 use Rattle.std.proofs.Common.{◌++◌, ap, arith, drop, length, map, refl, sym, ◌∙◌}
 use Rattle.std.proofs.lemmas.{List.length-map, Option.slice_get_past}
 use Rattle.std.specs.{Prelude.filter, Str.str_to_ascii_lowercase}
-use Rattle.texting_robots.specs.Steps.{Own.is_later, Site.Tagged, Site.named_of, Site.tag_of}
+use Rattle.texting_robots.specs.Steps.{Own.is_later, Site.Tagged, Site.named_of, Site.tag_at}
 use Rattle.texting_robots.proofs.SiteNameLemmas.{agent_at}
 use Rattle.texting_robots.proofs.SiteOwnLemmas.{at_end, first_kept, next_run, same_run}
 use Rattle.texting_robots.proofs.site.own.next_line.Goals as goal
@@ -12,7 +12,7 @@ loop-line-init c = record { left = refl; first = c.requires.0 }
 pub returns-in-Some : goal.returns-in-Some
 returns-in-Some c =
     let name = str_to_ascii_lowercase c.args.name.now in
-    let tags = map tag_of c.args.lines.now in
+    let tags = map (tag_at c.args.text.now) c.args.lines.now in
     let left = drop c.loop-line.place c.args.names.now in
     let (_, front) = c.in-Some.ensures in (
       (c.loop-line.invariant.first, c.requires.1),
@@ -23,7 +23,7 @@ returns-in-Some c =
 pub returns-in_err-named : goal.returns-in_err-named
 returns-in_err-named c =
     let name = str_to_ascii_lowercase c.args.name.now in
-    let tags = map tag_of c.args.lines.now in
+    let tags = map (tag_at c.args.text.now) c.args.lines.now in
     let (_, _, _, past, _) = c.in_err-named.ensures.lookup in
     let none = slice_get_past c.args.names.now c.loop-line.place
     (omega (arith, past, length-map c.lines.result.now named_of, ap length c.lines.ensures)) in
@@ -37,7 +37,7 @@ after-place-requires-clause-here c = c.loop-line.invariant.first
 pub loop-line-preserved-then-named-run : goal.loop-line-preserved-then-named-run
 loop-line-preserved-then-named-run c =
     let name = str_to_ascii_lowercase c.args.name.now in
-    let tags = map tag_of c.args.lines.now in
+    let tags = map (tag_at c.args.text.now) c.args.lines.now in
     let (_, is, _, (within, _), _) = c.in_ok-named.ensures.lookup in
     let at = agent_at c.lines.result.now c.args.names.now c.loop-line.place _ c.lines.ensures within is in
     record {
@@ -50,7 +50,7 @@ loop-line-preserved-then-named-run c =
 pub loop-line-preserved : goal.loop-line-preserved
 loop-line-preserved c =
     let name = str_to_ascii_lowercase c.args.name.now in
-    let tags = map tag_of c.args.lines.now in
+    let tags = map (tag_at c.args.text.now) c.args.lines.now in
     let (_, is, _, (within, _), _) = c.in_ok-named.ensures.lookup in
     let at = agent_at c.lines.result.now c.args.names.now c.loop-line.place _ c.lines.ensures within is in
     record {

@@ -1,31 +1,30 @@
-use Rattle.std.proofs.Common.{refl, ◌∙◌, ap, cond, sym, None, List}
+use Rattle.std.proofs.Common.{◌≡◌, ◌-◌, ◌++◌, [], ◌∷◌, ℕ, List, append_assoc, append-nil, ap, arith, cond}
+use Rattle.std.proofs.Common.{drop, length, map, None, refl, sym, take, true, ◌∙◌}
+use Rattle.std.proofs.lemmas.{Bool.Decides.nat_tests, List.length-append, List.nil_from_length}
+use Rattle.std.proofs.Math.Seq.{drop-append_seam, take-append_seam}
 use Rattle.std.specs.List.{filter_map, last_or, list_any}
-use Rattle.std.specs.Iterator.Adapters.{enumerate_source}
-use Rattle.texting_robots.specs.{Group.is_agent, Line.LineValue, Line.delay_in, Computed.file_lines}
+use Rattle.texting_robots.specs.{Computed.file_lines, Group.is_agent, Line.LineValue, Line.delay_in}
+use Rattle.texting_robots.specs.Steps.{Cut.read_as, Line.line_of, Line.lines_of, Site.line_at}
+use Rattle.texting_robots.proofs.{CutFromFront.bodies_nil, LineLemmas.front_read}
 use Rattle.texting_robots.proofs.RulesLemmas.{before_agents, given_more}
 use Rattle.texting_robots.proofs.SiteLemmas.{agents_more, early_more}
 use Rattle.texting_robots.proofs.site.lines.SiteLines.read.Goals as goal
 
-pub loop-place-init : goal.loop-place-init
-loop-place-init c =
-    let items = c.enumerate-place-items.ensures in
-    let source = items.source ∙ c.unread_file_lines.ensures.value in
+pub loop-rest-init : goal.loop-rest-init
+loop-rest-init c =
     let empty = c.new-lines.ensures in
-    let lines = file_lines c.args.text.now in
+    let text = c.args.text.now in
+    let lines = file_lines text in
+    let first = c.without_front-rest.ensures in
+    let left : lines_of (read_as true c.without_front-rest.result.now) ≡ lines =
+    ap (λ t. lines_of (read_as true t)) first.value ∙ ap lines_of (front_read text) in
     let last = λ (front : List LineValue). cond (list_any is_agent lines)
     (last_or None (filter_map delay_in front)) None in
-    rw (
-      c.into_iter-place-iterator.ensures.into_iter_gives,
-      items.count,
-      source,
-      empty.lines,
-      empty.names,
-      empty.sitemaps,
-      empty.early,
-      empty.begun,
-      empty.run,
-      empty.joins,
-    ) (record {
+    let (front, end) = first.end in
+    rw (left, empty.lines, empty.names, empty.sitemaps, empty.early, empty.begun, empty.run, empty.joins)
+    (record {
+      end = (front, end);
+      count = omega (arith, ap length end, length-append front c.without_front-rest.result.now);
       lines_are = refl;
       names_are = refl;
       sitemaps_are = refl;
@@ -33,17 +32,88 @@ loop-place-init c =
       early = ap last (sym (before_agents lines));
     })
 
-pub loop-place-preserved : goal.loop-place-preserved
-loop-place-preserved c =
-    let (next, here, further, _) = c.in-Some.ensures.steps in
-    let added = rw (c.read.ensures, here) at c.in_ok-add.ensures in
-    let so_far = c.loop-place.invariant in
-    rw (added.run, added.joins, added.count, added.early, added.begun, further) (record {
+-- the bytes at the span of a line
+body_at : (text front rest body more : List ℕ) → text ≡ front ++ rest → rest ≡ body ++ more
+    → take (length body) (drop (length text - length rest) text) ≡ body
+body_at text front rest body more is parts =
+    let start : length text - length rest ≡ length front = omega
+    (arith, ap length is, length-append front rest) in
+    ap (λ k. take (length body) (drop k text)) start
+    ∙ ap (λ t. take (length body) (drop (length front) t)) is
+    ∙ ap (take (length body)) (drop-append_seam front rest)
+    ∙ ap (take (length body)) parts ∙ take-append_seam body more
+
+pub loop-rest-preserved : goal.loop-rest-preserved
+loop-rest-preserved c =
+    let so_far = c.loop-rest.invariant in
+    let text = c.args.text.now in
+    let rest = c.loop-rest.rest.now in
+    let body = c.split_line.result.0.now in
+    let after = c.split_line.result.1.now in
+    let (front, is) = so_far.end in
+    let (ending, parts) = c.split_line.ensures.parts in
+    let next : lines_of (read_as true rest) ≡ line_of body ∷ lines_of (read_as true after) =
+    ap (map line_of) c.split_line.ensures.lines in
+    let here : line_at text (record { start = length text - length rest; len = length body })
+    ≡ line_of body = ap line_of (body_at text front rest body (ending ++ after) is parts) in
+    let added = rw here at c.in_ok-add.ensures in
+    rw (added.run, added.joins, added.count, added.early, added.begun) (record {
+      end = (
+        front ++ (body ++ ending),
+        is ∙ ap (λ t. front ++ t) (parts ∙ sym (append_assoc body ending after))
+            ∙ sym (append_assoc front (body ++ ending) after),
+      );
+      count = omega (arith, so_far.count, c.split_line.ensures.shorter);
       lines_are = given_more _ _ _ _ added.lines ∙ rw next at so_far.lines_are;
       names_are = given_more _ _ _ _ added.names ∙ rw next at so_far.names_are;
       sitemaps_are = given_more _ _ _ _ added.sitemaps ∙ rw next at so_far.sitemaps_are;
-      agents = agents_more c.loop-place.lines.begun c.in-Some.line (enumerate_source c.next.new.self)
+      agents = agents_more c.loop-rest.lines.begun (line_of body) (lines_of (read_as true after))
           ∙ rw next at so_far.agents;
-      early = early_more c.loop-place.lines.begun c.loop-place.lines.early c.in-Some.line
-          (enumerate_source c.next.new.self) ∙ rw next at so_far.early;
+      early = early_more c.loop-rest.lines.begun c.loop-rest.lines.early (line_of body)
+          (lines_of (read_as true after)) ∙ rw next at so_far.early;
     })
+
+-- nothing is left of an empty rest
+none_left : (rest : List ℕ) → length rest ≡ 0 → lines_of (read_as true rest) ≡ []
+none_left rest none =
+    ap (λ t. lines_of (read_as true t)) (nil_from_length rest none) ∙ ap (map line_of) bodies_nil
+
+pub returns-clause-lines : goal.returns-clause-lines
+returns-clause-lines c =
+    let left = none_left c.loop-rest.rest.now (grind (
+      arith,
+      nat_tests,
+      c.is_empty.ensures,
+      c.loop-rest-test.false,
+    )) in
+    rw c.finished.ensures.lines (sym (append-nil _) ∙ rw left at c.loop-rest.invariant.lines_are)
+
+pub returns-clause-names : goal.returns-clause-names
+returns-clause-names c =
+    let left = none_left c.loop-rest.rest.now (grind (
+      arith,
+      nat_tests,
+      c.is_empty.ensures,
+      c.loop-rest-test.false,
+    )) in
+    rw c.finished.ensures.names (sym (append-nil _) ∙ rw left at c.loop-rest.invariant.names_are)
+
+pub returns-clause-sitemaps : goal.returns-clause-sitemaps
+returns-clause-sitemaps c =
+    let left = none_left c.loop-rest.rest.now (grind (
+      arith,
+      nat_tests,
+      c.is_empty.ensures,
+      c.loop-rest-test.false,
+    )) in
+    rw c.finished.ensures.sitemaps (sym (append-nil _) ∙ rw left at c.loop-rest.invariant.sitemaps_are)
+
+pub returns-clause-early : goal.returns-clause-early
+returns-clause-early c =
+    let left = none_left c.loop-rest.rest.now (grind (
+      arith,
+      nat_tests,
+      c.is_empty.ensures,
+      c.loop-rest-test.false,
+    )) in
+    c.finished.ensures.early ∙ rw left at c.loop-rest.invariant.early

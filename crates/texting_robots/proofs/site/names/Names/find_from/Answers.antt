@@ -12,7 +12,8 @@ loop-place-preserved c =
     let at = agent_at c.self.inside.lines.items c.args.self.now c.loop-place.place c.index.result.now
     c.self.view_is
     (omega arith) c.index.ensures in
-    let isnt = sym (tested_names c.eq_ignore_ascii_case.result _ name c.eq_ignore_ascii_case.ensures.test)
+    let test = rw c.deref.ensures.value at c.eq_ignore_ascii_case.ensures.test in
+    let isnt = sym (tested_names c.eq_ignore_ascii_case.result _ name test)
     ∙ c.if-eq_ignore_ascii_case.false in
     let next = walk_on name c.args.self.now _ _ c.loop-place.place c.index-place.result.now _ linked at
     c.index-place.ensures c.loop-place.invariant.here in record {
@@ -27,7 +28,8 @@ returns-then-eq_ignore_ascii_case c =
     let at = agent_at c.self.inside.lines.items c.args.self.now c.loop-place.place c.index.result.now
     c.self.view_is
     (omega arith) c.index.ensures in
-    let is = sym (tested_names c.eq_ignore_ascii_case.result _ name c.eq_ignore_ascii_case.ensures.test)
+    let test = rw c.deref.ensures.value at c.eq_ignore_ascii_case.ensures.test in
+    let is = sym (tested_names c.eq_ignore_ascii_case.result _ name test)
     ∙ c.if-eq_ignore_ascii_case.true in
     let here = found name c.args.self.now c.loop-place.place _ at is in
     omega (arith, here, c.loop-place.invariant.rest)
