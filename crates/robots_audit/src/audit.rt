@@ -49,7 +49,7 @@ pub(crate) struct Audit<'a, 'b> {
 }
 
 /// What an agent gets of a file, or why it can't use it.
-fn robot_for(alloc: Global, agent: &str, file: &[u8], site: &Site<'_>) -> Result<Robot, Fault>
+fn robot_for(alloc: Global, agent: &str, file: &[u8], site: &Site) -> Result<Robot, Fault>
     requires { site.now ≡ take file_limit file.now }
     ensures ok { IfOk result (IsRobotOfFile agent.now (take file_limit file.now)) }
     ensures fault { IfErr result (λ fault. (fault ≢ Fault.Write) × MayFail (agent.now ∷ []) fault file.now) }
@@ -87,7 +87,7 @@ fn agent_audit<'a>(
     alloc: Global,
     agent: &str,
     file: &[u8],
-    site: &Site<'_>,
+    site: &Site,
     marks: &[MarkedLine<'_>],
     urls: &[&'a str],
 ) -> Result<AgentAudit<'a>, Fault>
@@ -116,7 +116,7 @@ fn agent_audits<'a>(
     alloc: Global,
     agents: &[String],
     file: &[u8],
-    site: &Site<'_>,
+    site: &Site,
     marks: &[MarkedLine<'_>],
     urls: &[&'a str],
 ) -> Result<Vec<AgentAudit<'a>>, Fault>

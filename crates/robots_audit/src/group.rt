@@ -37,7 +37,7 @@ fn has_agent_line(marks: &[MarkedLine<'_>]) -> bool
 }
 
 /// The group that an agent gets of a site, whose lines these are.
-pub(crate) fn group_of(agent: &str, site: &Site<'_>, marks: &[MarkedLine<'_>]) -> Group
+pub(crate) fn group_of(agent: &str, site: &Site, marks: &[MarkedLine<'_>]) -> Group
     requires { file_lines site.now ≡ lines_of (map mark_by_value marks.now) }
     ensures { result ≡ group_of agent.now (lines_of (map mark_by_value marks.now)) }
 {

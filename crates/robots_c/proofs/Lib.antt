@@ -1,2 +1,3 @@
 pub mod KeptSteps
-mod NumberLemmas
+pub mod MatrixLemmas
+pub mod NumberLemmas

@@ -1,4 +1,4 @@
--- What lies at a pointer that C keeps.
+-- What is at a pointer that C keeps.
 use Rattle.std.specs.Prelude.{Option, Some, None}
 use mir.Syntax.{Ty}
 use base.Fml.{Fml, ftrue, fex}
@@ -8,8 +8,11 @@ use Rattle.std.specs.Ptr.{if_non_null}
 use Rattle.std.specs.declared.alloc.Global.{Global}
 use Rattle.std.specs.contracts.impls.GlobalAllocator.TheImpl.{ghosts}
 use Rattle.std_alloc.specs.Box.Ownership.{box_owns}
-use Rattle.texting_robots.specs.Callers.{RobotValue}
-use Rattle.texting_robots.specs.contracts.robot.Robot.{the_row}
+use Rattle.texting_robots.specs.contracts.robot.Robot as Robot-type
+
+-- the types that C keeps
+abbrev pub Robots : RattleType
+Robots = Robot-type.the_row
 
 -- a handle of the heap: it carries nothing, so this is each of them
 abbrev pub heap : Global
@@ -19,19 +22,19 @@ heap = record { memory = record { seal = tt } }
 abbrev pub frees : Ty → Ptr → Fml
 frees = ghosts.dealloc_token heap
 
--- ownership of this value at the pointer, with the right to free its block; or of nothing
+-- ownership of this value at the pointer, with the right to free its block
+abbrev pub owned_at : (R : RattleType) → Ptr → R.Denot → Fml
+owned_at R at value = box_owns frees R at value
+
+-- the same, or ownership of nothing
 abbrev pub kept_at : (R : RattleType) → Ptr → Option R.Denot → Fml
 kept_at R at None = ftrue
-kept_at R at (Some value) = box_owns frees R at value
+kept_at R at (Some value) = owned_at R at value
 
--- ownership of the robot with this value
-abbrev pub robot_at : Ptr → RobotValue → Fml
-robot_at at robot = box_owns frees the_row at robot
+-- the same, or ownership of nothing where the pointer is null
+abbrev pub owned_or_null : (R : RattleType) → Ptr → R.Denot → Fml
+owned_or_null R at value = if_non_null at (owned_at R at value)
 
--- ownership of the robot with this value, or of nothing where the pointer is null
-abbrev pub robot_or_null : Ptr → RobotValue → Fml
-robot_or_null at robot = if_non_null at (robot_at at robot)
-
--- ownership of a robot of which P holds
-abbrev pub opened_at : (RobotValue → Type 0) → Ptr → Fml
-opened_at P at = fex RobotValue (λ robot. fex (P robot) (λ _. robot_at at robot))
+-- ownership of a value of which P holds
+abbrev pub opened_at : (R : RattleType) → (R.Denot → Type 0) → Ptr → Fml
+opened_at R P at = fex R.Denot (λ value. fex (P value) (λ _. owned_at R at value))

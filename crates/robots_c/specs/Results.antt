@@ -1,18 +1,20 @@
 -- The numbers that C gets for URLs.
-use Rattle.std.specs.Prelude.{ℕ, suc, zero, ◌<◌, ◌==◌, ◌^◌, Bool, true, false}
-use Rattle.std.specs.Prelude.{ℤ, pos, negsuc, neg_ℤ, IsUtf8, List, Option, Some, None}
+use Rattle.std.specs.Prelude.{◌≡◌, ◌⊎◌, ℕ, suc, zero, ◌-◌, ◌<◌, ◌==◌, ◌^◌, Bool, true, false}
+use Rattle.std.specs.Prelude.{ℤ, pos, negsuc, neg_ℤ, IsUtf8, List, [], ◌∷◌, ◌++◌, length, map, replicate}
+use Rattle.std.specs.Prelude.{Option, Some, None}
 use Rattle.std.specs.List.{AllZip, slice_split}
-use Rattle.texting_robots.specs.Callers.{IsDecidingLine, IsVerdict, PlacedRule, prepared, unplaced}
+use Rattle.texting_robots.specs.Callers.{IsDecidingLine, IsFileRefused, IsRobotOfFile, IsVerdict, PlacedRule}
+use Rattle.texting_robots.specs.Callers.{RobotValue, prepared, unplaced}
 use Rattle.robots_c.specs.Text.{IsPutIn}
 
--- ---- URLs in one text
+-- ---- URLs or agents in one text
 
 abbrev pub lf : ℕ
 lf = 10
 
--- the URLs in a text that has an LF between one and the next: one more than it has LFs
-abbrev pub urls_in : List ℕ → List (List ℕ)
-urls_in text = slice_split (λ byte. byte == lf) text
+-- the items of a text that has an LF between one and the next: one more than it has LFs
+abbrev pub items_in : List ℕ → List (List ℕ)
+items_in text = slice_split (λ byte. byte == lf) text
 
 -- ---- a verdict as one number
 
@@ -27,10 +29,14 @@ line_named (pos zero) = None
 line_named (pos (suc n)) = Some (suc n)
 line_named (negsuc n) = Some (suc n)
 
--- the number says the rules' verdict on the URL, and names the line that decides
-pub record IsResult (rules : List PlacedRule) (url : List ℕ) (number : ℤ) : Type 0 where
-  pub verdict : IsVerdict (unplaced rules) (prepared url) (is_allowed number)
-  pub deciding : IsDecidingLine rules (prepared url) (line_named number)
+-- the number says the rules' verdict on the prepared text of a URL, and names the line that decides
+pub record IsResultOn (rules : List PlacedRule) (target : List ℕ) (number : ℤ) : Type 0 where
+  pub verdict : IsVerdict (unplaced rules) target (is_allowed number)
+  pub deciding : IsDecidingLine rules target (line_named number)
+
+-- the number is the result for the URL
+abbrev pub IsResult : List PlacedRule → List ℕ → ℤ → Type 0
+IsResult rules url number = IsResultOn rules (prepared url) number
 
 -- the URL is UTF-8, and this is its result
 abbrev pub HasResult : List PlacedRule → List ℕ → ℤ → Type 0
@@ -38,11 +44,41 @@ HasResult rules url number = IsUtf8 url × IsResult rules url number
 
 -- the text is UTF-8, and these are the results for its URLs, in their order
 abbrev pub HasResults : List PlacedRule → List ℕ → List ℤ → Type 0
-HasResults rules text numbers = IsUtf8 text × AllZip (IsResult rules) (urls_in text) numbers
+HasResults rules text numbers = IsUtf8 text × AllZip (IsResult rules) (items_in text) numbers
 
 -- the results for the URLs in the text are put in
 abbrev pub ArePutIn : List PlacedRule → List ℕ → List ℤ → List ℤ → Type 0
 ArePutIn rules text old new = (numbers : List ℤ) × HasResults rules text numbers × IsPutIn old new numbers
+
+-- ---- the results of many agents: a row for each agent, and in it a number for each URL
+
+-- the number in the row of an agent that can't use the site
+abbrev pub no_result : ℤ
+no_result = negsuc (2 ^ 63 - 1)
+
+-- the agent's results for the prepared texts, in their order; or one of its rules is too long, and there are none
+abbrev pub IsRow : List ℕ → List (List ℕ) → List ℕ → List ℤ → Type 0
+IsRow site targets agent row =
+    ((robot : RobotValue) × IsRobotOfFile agent site robot × AllZip (IsResultOn robot.rules) targets row)
+    ⊎ (IsFileRefused agent site × (row ≡ replicate (length targets) no_result))
+
+-- the rows of the agents, one after the other
+abbrev pub AreRows : List ℕ → List (List ℕ) → List (List ℕ) → List ℤ → Type 0
+AreRows site targets [] numbers = numbers ≡ []
+AreRows site targets (agent ∷ agents) numbers =
+    (row : List ℤ) × (later : List ℤ) × IsRow site targets agent row × AreRows site targets agents later
+    × (numbers ≡ row ++ later)
+
+-- the texts are UTF-8, and these are the rows of the agents for the URLs, all in their order
+pub record HasMatrix (site agents urls : List ℕ) (numbers : List ℤ) : Type 0 where
+  pub agents_utf8 : IsUtf8 agents
+  pub urls_utf8 : IsUtf8 urls
+  pub rows : AreRows site (map prepared (items_in urls)) (items_in agents) numbers
+
+-- the matrix is put in
+abbrev pub IsMatrixPutIn : List ℕ → List ℕ → List ℕ → List ℤ → List ℤ → Type 0
+IsMatrixPutIn site agents urls old new =
+    (numbers : List ℤ) × HasMatrix site agents urls numbers × IsPutIn old new numbers
 
 -- ---- how the number is made
 

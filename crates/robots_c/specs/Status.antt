@@ -1,11 +1,11 @@
 -- The status that C gets, and its cause.
-use Rattle.std.specs.Prelude.{◌≡◌, ◌⊎◌, ℕ, ◌<◌, ℤ, pos, negsuc, List}
-use Rattle.std.specs.Prelude.{Option, None, Ok, Err, IsUtf8, length}
-use Rattle.texting_robots.specs.Callers.{IsFirstOverlong, TakesNoMemory, lines_read, placed_rules}
-use Rattle.texting_robots.specs.Callers.{robots_address}
+use Rattle.std.specs.Prelude.{◌≡◌, ◌⊎◌, ℕ, ◌*◌, ◌<◌, ℤ, pos, negsuc, List}
+use Rattle.std.specs.Prelude.{Option, None, Ok, Err, IsUtf8, if◌then◌else◌, length}
+use Rattle.texting_robots.specs.Callers.{IsFirstOverlong, TakesNoMemory, file_lines, is_named}
+use Rattle.texting_robots.specs.Callers.{placed_rules, robots_address}
 use Rattle.url.specs.declared.error.ParseError.{ParseError}
 use Rattle.robots_c.specs.File.{HasDelay}
-use Rattle.robots_c.specs.Results.{urls_in}
+use Rattle.robots_c.specs.Results.{items_in}
 use Rattle.robots_c.specs.declared.fault.Fault.{Fault}
 use Rattle.robots_c.specs.declared.fault.Fault.TheVariants.{Memory, NoAddress, NoDelay, NoRoom, NotUtf8}
 use Rattle.robots_c.specs.declared.fault.Fault.TheVariants.{Overlong}
@@ -37,31 +37,38 @@ HasFaultAt Why status old new = ((status ≡ pos 0) × (new ≡ old))
 
 -- ---- the cause of each fault, call by call; memory may be short wherever it is needed
 
--- the number, counted from 1, is that of the first line with an overlong rule for the agent; only the first
--- bytes of the file count
+-- the number, counted from 1, is that of the first line with an overlong rule for the agent
 abbrev pub IsOverlongLine : List ℕ → List ℕ → ℕ → Type 0
-IsOverlongLine agent file line = IsFirstOverlong (placed_rules agent (lines_read file)) line
+IsOverlongLine agent site line = IsFirstOverlong (placed_rules agent (file_lines site)) line
 
--- of a robot of a file
+-- of a robot of a site
 abbrev pub IsWhyNoRobot : List ℕ → List ℕ → Fault → Type 0
-IsWhyNoRobot agent file NotUtf8 = ¬ IsUtf8 agent
-IsWhyNoRobot agent file Memory = IsUtf8 agent
-IsWhyNoRobot agent file (Overlong line) = IsUtf8 agent × IsOverlongLine agent file line
-IsWhyNoRobot agent file _ = ⊥
+IsWhyNoRobot agent site NotUtf8 = ¬ IsUtf8 agent
+IsWhyNoRobot agent site Memory = IsUtf8 agent
+IsWhyNoRobot agent site (Overlong line) = IsUtf8 agent × IsOverlongLine agent site line
+IsWhyNoRobot agent site _ = ⊥
 
 -- of results for the URLs in a text, where there is room for so many
 abbrev pub IsWhyNoResults : List ℕ → ℕ → Fault → Type 0
 IsWhyNoResults text room NotUtf8 = ¬ IsUtf8 text
 IsWhyNoResults text room Memory = IsUtf8 text
-IsWhyNoResults text room NoRoom = IsUtf8 text × (room < length (urls_in text))
+IsWhyNoResults text room NoRoom = IsUtf8 text × (room < length (items_in text))
 IsWhyNoResults text room _ = ⊥
 
 -- of results for a file: of a robot, or of the results
 abbrev pub IsWhyUndecided : List ℕ → List ℕ → List ℕ → ℕ → Fault → Type 0
-IsWhyUndecided agent file text room NotUtf8 = (¬ IsUtf8 agent) ⊎ (¬ IsUtf8 text)
-IsWhyUndecided agent file text room Memory = IsUtf8 agent × IsUtf8 text
-IsWhyUndecided agent file text room NoRoom = IsUtf8 agent × IsWhyNoResults text room NoRoom
-IsWhyUndecided agent file text room fault = IsUtf8 text × IsWhyNoRobot agent file fault
+IsWhyUndecided agent site text room NotUtf8 = (¬ IsUtf8 agent) ⊎ (¬ IsUtf8 text)
+IsWhyUndecided agent site text room Memory = IsUtf8 agent × IsUtf8 text
+IsWhyUndecided agent site text room NoRoom = IsUtf8 agent × IsWhyNoResults text room NoRoom
+IsWhyUndecided agent site text room fault = IsUtf8 text × IsWhyNoRobot agent site fault
+
+-- of the results of many agents for many URLs; no rule of the site is one
+abbrev pub IsWhyNoMatrix : List ℕ → List ℕ → ℕ → Fault → Type 0
+IsWhyNoMatrix agents urls room NotUtf8 = (¬ IsUtf8 agents) ⊎ (¬ IsUtf8 urls)
+IsWhyNoMatrix agents urls room Memory = IsUtf8 agents × IsUtf8 urls
+IsWhyNoMatrix agents urls room NoRoom =
+    IsUtf8 agents × IsUtf8 urls × (room < length (items_in agents) * length (items_in urls))
+IsWhyNoMatrix agents urls room _ = ⊥
 
 -- of the result for one URL
 abbrev pub IsWhyNoResult : List ℕ → Fault → Type 0
@@ -74,12 +81,15 @@ abbrev pub IsWhyNone : Option ℕ → Fault → Type 0
 IsWhyNone delay NoDelay = delay ≡ None
 IsWhyNone delay _ = ⊥
 
--- of a file's delay
+-- of a site's delay, for which nothing is allocated
+abbrev pub IsWhyNoDelayOf : List ℕ → List ℕ → Fault → Type 0
+IsWhyNoDelayOf agent site NotUtf8 = ¬ IsUtf8 agent
+IsWhyNoDelayOf agent site NoDelay = HasDelay agent site None
+IsWhyNoDelayOf agent site _ = ⊥
+
+-- of a file's delay, for which the file is read
 abbrev pub IsWhyNoDelay : List ℕ → List ℕ → Fault → Type 0
-IsWhyNoDelay agent file NotUtf8 = ¬ IsUtf8 agent
-IsWhyNoDelay agent file Memory = IsUtf8 agent
-IsWhyNoDelay agent file NoDelay = HasDelay agent file None
-IsWhyNoDelay agent file _ = ⊥
+IsWhyNoDelay agent site fault = IsWhyNoDelayOf agent site fault ⊎ (IsUtf8 agent × (fault ≡ Memory))
 
 -- the URL is UTF-8, and the text is the address of the robots.txt file of its site
 abbrev pub IsAddress : List ℕ → List ℕ → Type 0

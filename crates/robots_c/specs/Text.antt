@@ -1,7 +1,7 @@
 -- What is written to C's memory.
 use Rattle.std.specs.Prelude.{◌≡◌, ℕ, ◌<◌, List, ◌++◌, drop, length}
 
--- the items stand at the front, and what stood behind them is as it was
+-- the items are at the front, and what was after them is as it was
 abbrev pub IsPutIn : {X : Type 0} → List X → List X → List X → Type 0
 IsPutIn old new items = new ≡ items ++ drop (length items) old
 

@@ -1,11 +1,12 @@
-//! What a file gives a crawler, or every crawler.
+//! What a file gives a crawler.
 ghost use Rattle.std.specs.Prelude.{◌≡◌, IfErr, IfOk, IsUtf8, Some};
-ghost use Rattle.robots_c.specs.File.{HasDelay, IsRobotFor};
-ghost use Rattle.robots_c.specs.Status.{IsWhyNoDelay, IsWhyNoRobot};
+ghost use Rattle.robots_c.specs.File.{HasDelay, IsRobotFor, bytes_read};
+ghost use Rattle.robots_c.specs.Status.{IsWhyNoDelay, IsWhyNoDelayOf, IsWhyNoRobot};
 
 use crate::fault::Fault;
 use crate::overlong::overlong_line;
 use std::alloc::Global;
+use texting_robots::robot::FILE_LIMIT;
 use texting_robots::{Error, Robot, Site};
 
 /// The bytes as a text.
@@ -19,30 +20,48 @@ pub(crate) fn text_of<'a>(bytes: &'a [u8]) -> Result<&'a str, Fault>
     }
 }
 
+/// The bytes of a file that count.
+fn bytes_read(file: &[u8]) -> &[u8]
+    ensures { result.now ≡ bytes_read file.now }
+{
+    &file[..FILE_LIMIT.min(file.len())]
+}
+
 /// What the crawler gets of a file, or why it can't use it.
 pub(crate) fn robot_of(alloc: Global, agent: &[u8], file: &[u8]) -> Result<Robot, Fault>
-    ensures ok { IfOk result (IsRobotFor agent.now file.now) }
-    ensures fault { IfErr result (IsWhyNoRobot agent.now file.now) }
+    ensures ok { IfOk result (IsRobotFor agent.now (bytes_read file.now)) }
+    ensures fault { IfErr result (IsWhyNoRobot agent.now (bytes_read file.now)) }
 {
     let agent = text_of(agent)?;
     match Robot::new(alloc, agent, file) {
         Ok(robot) => Ok(robot),
-        Err(Error::InvalidRule) => Err(Fault::Overlong(overlong_line(alloc, agent, file)?)),
+        Err(Error::InvalidRule) => Err(Fault::Overlong(overlong_line(
+            alloc,
+            agent,
+            bytes_read(file),
+        )?)),
         Err(_) => Err(Fault::Memory),
     }
 }
 
-/// How many microseconds the crawler waits between two requests. No rule of the file matters.
-pub(crate) fn delay_of(alloc: Global, agent: &[u8], file: &[u8]) -> Result<u64, Fault>
-    ensures ok { IfOk result (λ delay. HasDelay agent.now file.now (Some delay)) }
-    ensures fault { IfErr result (IsWhyNoDelay agent.now file.now) }
+/// How many microseconds the crawler waits between two requests, by a site. No rule matters, and nothing is allocated.
+pub(crate) fn delay_in(site: &Site, agent: &[u8]) -> Result<u64, Fault>
+    ensures ok { IfOk result (λ delay. HasDelay agent.now site.now (Some delay)) }
+    ensures fault { IfErr result (IsWhyNoDelayOf agent.now site.now) }
 {
-    let agent = text_of(agent)?;
-    let Ok(site) = Site::new(alloc, file) else {
-        return Err(Fault::Memory);
-    };
-    match site.delay(agent) {
+    match site.delay(text_of(agent)?) {
         Some(delay) => Ok(delay),
         None => Err(Fault::NoDelay),
     }
+}
+
+/// How many microseconds the crawler waits between two requests, by a file.
+pub(crate) fn delay_of(alloc: Global, agent: &[u8], file: &[u8]) -> Result<u64, Fault>
+    ensures ok { IfOk result (λ delay. HasDelay agent.now (bytes_read file.now) (Some delay)) }
+    ensures fault { IfErr result (IsWhyNoDelay agent.now (bytes_read file.now)) }
+{
+    text_of(agent)?;
+    let site = Site::new(alloc, file)?;
+    let delay = delay_in(&site, agent)?;
+    Ok(delay)
 }

@@ -1,6 +1,6 @@
 //! A robot that C keeps between calls.
 ghost use Rattle.std.specs.Prelude.{◌≡◌, ◌≢◌, Option, Some, None, IfErr, IfOk, pos};
-ghost use Rattle.robots_c.specs.File.{GivesRobot, IsRobotFor};
+ghost use Rattle.robots_c.specs.File.{GivesRobot, IsRobotFor, bytes_read};
 ghost use Rattle.robots_c.specs.Status.{HasFault, HasFaultAt, IsWhyNoRobot, IsWhyNone};
 ghost use Rattle.texting_robots.specs.Callers.{RobotValue};
 
@@ -20,9 +20,9 @@ pub struct Handle {
 }
 
 impl Model for Handle {
-    ghost use Rattle.robots_c.specs.Kept.{robot_at};
+    ghost use Rattle.robots_c.specs.Kept.{Robots, owned_at};
 
-    ghost also_owns = { λ h. robot_at h.at h.value };
+    ghost also_owns = { λ h. owned_at Robots h.at h.value };
 }
 
 impl Handle {
@@ -41,19 +41,19 @@ pub(crate) fn close(robot: Handle) {
 }
 
 /// Only for a type whose values may go from thread to thread, and be read by several threads at once.
-fn for_any_thread<T: Send + Sync>(_: &T) {}
+pub(crate) fn for_any_thread<T: Send + Sync>(_: &T) {}
 
 /// The robot of a file, in a box. It may go from thread to thread, and queries on several threads may read it.
 fn open(alloc: Global, agent: &[u8], file: &[u8]) -> Result<Box<Robot>, Fault>
-    ensures ok { IfOk result (λ robot. IsRobotFor agent.now file.now robot.value) }
-    ensures fault { IfErr result (IsWhyNoRobot agent.now file.now) }
+    ensures ok { IfOk result (λ robot. IsRobotFor agent.now (bytes_read file.now) robot.value) }
+    ensures fault { IfErr result (IsWhyNoRobot agent.now (bytes_read file.now)) }
 {
     let robot = robot_of(alloc, agent, file)?;
     for_any_thread(&robot);
     Ok(Box::new(alloc, robot)?)
 }
 
-/// Opens the robot of a file for C. Where there is none, the pointer is `at`, and the line of an overlong rule is written.
+/// Opens the robot of a file for C. If there is none, the pointer is `at`, and the line of an overlong rule is written.
 pub(crate) fn opened(
     alloc: Global,
     agent: &[u8],
@@ -61,9 +61,10 @@ pub(crate) fn opened(
     at: *mut Robot,
     line: &mut usize,
 ) -> Kept<Robot>
-    ensures opened { result.status ≡ pos 0 → GivesRobot agent.now file.now (λ robot. result.value ≡ Some robot) }
+    ensures opened { result.status ≡ pos 0
+        → GivesRobot agent.now (bytes_read file.now) (λ robot. result.value ≡ Some robot) }
     ensures kept { result.status ≢ pos 0 → result.at ≡ at }
-    ensures why { HasFaultAt (IsWhyNoRobot agent.now file.now) result.status line.old line.new }
+    ensures why { HasFaultAt (IsWhyNoRobot agent.now (bytes_read file.now)) result.status line.old line.new }
 {
     match open(alloc, agent, file) {
         Ok(robot) => Kept::boxed(0, robot),
@@ -71,7 +72,7 @@ pub(crate) fn opened(
     }
 }
 
-/// Writes the delay of a robot. It takes no memory.
+/// Writes the delay of a robot. It allocates nothing.
 pub(crate) fn query_delay(robot: &Robot, out: &mut u64) -> i32
     ensures written { result ≡ pos 0 → robot.now.delay ≡ Some out.new }
     ensures kept { result ≢ pos 0 → out.new ≡ out.old }

@@ -1,4 +1,4 @@
-//! What C keeps of a call.
+//! What C keeps between calls.
 ghost use Rattle.std.specs.Prelude.{◌≡◌, Option, Some};
 ghost use Rattle.robots_c.specs.Kept.{kept_at};
 

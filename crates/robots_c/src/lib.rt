@@ -1,25 +1,27 @@
-//! The calls of `robots.h`, beside `src/`: what a robots.txt file says to a crawler, for C and every language that calls C.
+//! The calls of `robots.h`, next to `src/`: what a robots.txt file says to a crawler, for C and every language that calls C.
 //!
 //! Each call returns a status, which is 0 or the negative number of a fault. Only at 0 is a result written.
 #![tactic(auto)]
 
-ghost use Rattle.std.specs.Prelude.{◌≡◌, ◌≢◌, ◌⊎◌, Some, length, pos};
+ghost use Rattle.std.specs.Prelude.{◌≡◌, ◌≢◌, ◌⊎◌, ℕ, List, Some, length, pos};
 ghost use Rattle.std.specs.Borrow.{sem};
 ghost use base.Fml.{Lft, Share, fall, flft};
 ghost use denote.Struct.Lending.{lent_at};
-ghost use Rattle.robots_c.specs.File.{AreSitemaps, GivesRobot, HasDelay, IsRobotFor, IsRobotOfSomeFile};
-ghost use Rattle.robots_c.specs.Kept.{opened_at, robot_or_null};
-ghost use Rattle.robots_c.specs.Results.{ArePutIn, HasResult};
-ghost use Rattle.robots_c.specs.Status.{HasFault, HasFaultAt, IsAddress, IsWhyNoAddress, IsWhyNoDelay, IsWhyNoResult};
-ghost use Rattle.robots_c.specs.Status.{IsWhyNoResults, IsWhyNoRobot, IsWhyNone, IsWhyUndecided, status_of};
+ghost use Rattle.robots_c.specs.File.{AreAgents, AreSitemaps, GivesRobot, HasDelay, IsRobotFor, IsRobotOfSomeFile};
+ghost use Rattle.robots_c.specs.File.{bytes_read};
+ghost use Rattle.robots_c.specs.Kept.{Robots, opened_at, owned_or_null};
+ghost use Rattle.robots_c.specs.Results.{ArePutIn, HasResult, IsMatrixPutIn};
+ghost use Rattle.robots_c.specs.Status.{HasFault, HasFaultAt, IsAddress, IsWhyNoAddress, IsWhyNoDelay, IsWhyNoMatrix};
+ghost use Rattle.robots_c.specs.Status.{IsWhyNoResult, IsWhyNoResults, IsWhyNoRobot, IsWhyNone, IsWhyUndecided};
+ghost use Rattle.robots_c.specs.Status.{status_of};
 ghost use Rattle.robots_c.specs.Text.{IsTooLong, IsWritten};
 ghost use Rattle.texting_robots.specs.Callers.{RobotValue};
-ghost use Rattle.texting_robots.specs.contracts.robot.Robot.{the_row};
 
 mod fault;
 mod file;
 pub mod handle;
 mod kept;
+mod matrix;
 mod overlong;
 mod texts;
 mod urls;
@@ -28,9 +30,10 @@ use fault::Fault;
 use file::delay_of;
 use handle::{Handle, close, opened, query_delay};
 use kept::Kept;
+use matrix::matrix_of;
 use std::alloc::Global;
 use texting_robots::Robot;
-use texts::{address, put, sitemaps};
+use texts::{address, agents_of, put, sitemaps_of};
 use urls::{decide, query, query_many};
 
 /// The library's version: 10,000 for each major, 100 for each minor and 1 for each patch number.
@@ -53,9 +56,9 @@ pub extern "C" fn robots_decide(
     line: &mut usize,
 ) -> i32
     ensures written { result ≡ pos 0
-        → GivesRobot agent.now file.now (λ robot. ArePutIn robot.rules urls.now out.old out.new) }
+        → GivesRobot agent.now (bytes_read file.now) (λ robot. ArePutIn robot.rules urls.now out.old out.new) }
     ensures kept { result ≢ pos 0 → out.new ≡ out.old }
-    ensures why { HasFaultAt (IsWhyUndecided agent.now file.now urls.now (length out.old)) result line.old line.new }
+    ensures why { HasFaultAt (IsWhyUndecided agent.now (bytes_read file.now) urls.now (length out.old)) result line.old line.new }
 {
     match decide(alloc, agent, file, urls, out.len()) {
         Ok(numbers) => {
@@ -66,12 +69,36 @@ pub extern "C" fn robots_decide(
     }
 }
 
+/// Writes a matrix of numbers: a row for each crawler, and in it a number for each URL, as `robots_decide` does. The crawlers are
+/// one text, and so are the URLs, with an LF between one and the next. In the row of a crawler that can't use the file, because a
+/// rule is too long, each number is the least one.
+#[unsafe(no_mangle)]
+pub extern "C" fn robots_matrix(
+    alloc: Global,
+    agents: &[u8],
+    file: &[u8],
+    urls: &[u8],
+    out: &mut [i64],
+) -> i32
+    ensures written { result ≡ pos 0 → IsMatrixPutIn (bytes_read file.now) agents.now urls.now out.old out.new }
+    ensures kept { result ≢ pos 0 → out.new ≡ out.old }
+    ensures why { HasFault (IsWhyNoMatrix agents.now urls.now (length out.old)) result }
+{
+    match matrix_of(alloc, agents, file, urls, out.len()) {
+        Ok(numbers) => {
+            out[..numbers.len()].copy_from_slice(&numbers);
+            0
+        }
+        Err(fault) => fault.status(),
+    }
+}
+
 /// Writes how many microseconds the crawler waits between two requests.
 #[unsafe(no_mangle)]
 pub extern "C" fn robots_delay(alloc: Global, agent: &[u8], file: &[u8], out: &mut u64) -> i32
-    ensures written { result ≡ pos 0 → HasDelay agent.now file.now (Some out.new) }
+    ensures written { result ≡ pos 0 → HasDelay agent.now (bytes_read file.now) (Some out.new) }
     ensures kept { result ≢ pos 0 → out.new ≡ out.old }
-    ensures why { HasFault (IsWhyNoDelay agent.now file.now) result }
+    ensures why { HasFault (IsWhyNoDelay agent.now (bytes_read file.now)) result }
 {
     match delay_of(alloc, agent, file) {
         Ok(delay) => {
@@ -90,13 +117,30 @@ pub extern "C" fn robots_sitemaps(
     out: &mut [u8],
     len: &mut usize,
 ) -> i32
-    ensures written { result ≡ pos 0 → IsWritten (AreSitemaps file.now) out.old out.new len.new }
-    ensures no_room { result ≡ status_of Fault.NoRoom → IsTooLong (AreSitemaps file.now) (length out.old) len.new }
+    ensures written { result ≡ pos 0 → IsWritten (AreSitemaps (bytes_read file.now)) out.old out.new len.new }
+    ensures no_room { result ≡ status_of Fault.NoRoom → IsTooLong (AreSitemaps (bytes_read file.now)) (length out.old) len.new }
     ensures length_kept { result ≢ pos 0 → result ≢ status_of Fault.NoRoom → len.new ≡ len.old }
     ensures kept { result ≢ pos 0 → out.new ≡ out.old }
     ensures why { (result ≡ pos 0) ⊎ ((result ≡ status_of Fault.NoRoom) ⊎ (result ≡ status_of Fault.Memory)) }
 {
-    match sitemaps(alloc, file) {
+    match sitemaps_of(alloc, file) {
+        Ok(text) => put(&text, out, len),
+        Err(_) => Fault::Memory.status(),
+    }
+}
+
+/// Writes the names of the crawlers that the file has groups for, each once and ended by LF, and their length; the length also
+/// where the buffer is too small.
+#[unsafe(no_mangle)]
+pub extern "C" fn robots_agents(alloc: Global, file: &[u8], out: &mut [u8], len: &mut usize) -> i32
+    ensures written { result ≡ pos 0 → IsWritten (AreAgents (bytes_read file.now)) out.old out.new len.new }
+    ensures no_room { result ≡ status_of Fault.NoRoom
+        → IsTooLong (AreAgents (bytes_read file.now)) (length out.old) len.new }
+    ensures length_kept { result ≢ pos 0 → result ≢ status_of Fault.NoRoom → len.new ≡ len.old }
+    ensures kept { result ≢ pos 0 → out.new ≡ out.old }
+    ensures why { (result ≡ pos 0) ⊎ ((result ≡ status_of Fault.NoRoom) ⊎ (result ≡ status_of Fault.Memory)) }
+{
+    match agents_of(alloc, file) {
         Ok(text) => put(&text, out, len),
         Err(_) => Fault::Memory.status(),
     }
@@ -128,8 +172,8 @@ pub extern "C" fn robots_open(
     line: &mut usize,
 ) -> i32
     ensures kept { result ≢ pos 0 → out.new ≡ out.old }
-    ensures why { HasFaultAt (IsWhyNoRobot agent.now file.now) result line.old line.new }
-    ensures* opened { sem 𝓛 (fall (result ≡ pos 0) (λ _. opened_at (IsRobotFor agent.now file.now) out.new)) }
+    ensures why { HasFaultAt (IsWhyNoRobot agent.now (bytes_read file.now)) result line.old line.new }
+    ensures* opened { sem 𝓛 (fall (result ≡ pos 0) (λ _. opened_at Robots (IsRobotFor agent.now (bytes_read file.now)) out.new)) }
 {
     let Kept { status, at } = opened(alloc, agent, file, *out as *mut Robot, line);
     *out = at as *mut u8;
@@ -146,7 +190,7 @@ pub unsafe extern "C" fn robots_query(
 ) -> i32
     ghost g: { Lft × Share × RobotValue }
     requires robot { IsRobotOfSomeFile g.2 }
-    requires* lent { sem 𝓛 (lent_at the_row robot g.2 g.0) ∗ sem 𝓛 (flft g.0 g.1) }
+    requires* lent { sem 𝓛 (lent_at Robots robot g.2 g.0) ∗ sem 𝓛 (flft g.0 g.1) }
     ensures written { result ≡ pos 0 → HasResult g.2.rules url.now out.new }
     ensures kept { result ≢ pos 0 → out.new ≡ out.old }
     ensures why { HasFault (IsWhyNoResult url.now) result }
@@ -165,7 +209,7 @@ pub unsafe extern "C" fn robots_query_many(
 ) -> i32
     ghost g: { Lft × Share × RobotValue }
     requires robot { IsRobotOfSomeFile g.2 }
-    requires* lent { sem 𝓛 (lent_at the_row robot g.2 g.0) ∗ sem 𝓛 (flft g.0 g.1) }
+    requires* lent { sem 𝓛 (lent_at Robots robot g.2 g.0) ∗ sem 𝓛 (flft g.0 g.1) }
     ensures written { result ≡ pos 0 → ArePutIn g.2.rules urls.now out.old out.new }
     ensures kept { result ≢ pos 0 → out.new ≡ out.old }
     ensures why { HasFault (IsWhyNoResults urls.now (length out.old)) result }
@@ -174,11 +218,11 @@ pub unsafe extern "C" fn robots_query_many(
     query_many(alloc, &*(robot as *const Robot), urls, out)
 }
 
-/// Writes a robot's delay, as `robots_delay` does. The robot is lent, as by `robots_query`. It takes no memory.
+/// Writes a robot's delay, as `robots_delay` does. The robot is lent, as by `robots_query`. It allocates nothing.
 #[unsafe(no_mangle)]
 pub unsafe extern "C" fn robots_query_delay(robot: *const u8, out: &mut u64) -> i32
     ghost g: { Lft × Share × RobotValue }
-    requires* lent { sem 𝓛 (lent_at the_row robot g.2 g.0) ∗ sem 𝓛 (flft g.0 g.1) }
+    requires* lent { sem 𝓛 (lent_at Robots robot g.2 g.0) ∗ sem 𝓛 (flft g.0 g.1) }
     ensures written { result ≡ pos 0 → g.2.delay ≡ Some out.new }
     ensures kept { result ≢ pos 0 → out.new ≡ out.old }
     ensures why { HasFault (IsWhyNone g.2.delay) result }
@@ -191,7 +235,7 @@ pub unsafe extern "C" fn robots_query_delay(robot: *const u8, out: &mut u64) -> 
 #[unsafe(no_mangle)]
 pub unsafe extern "C" fn robots_close(alloc: Global, robot: *mut u8)
     ghost value: { RobotValue }
-    requires* owned { sem 𝓛 (robot_or_null robot value) }
+    requires* owned { sem 𝓛 (owned_or_null Robots robot value) }
 {
     if robot.is_null() {
         return;

@@ -1,7 +1,7 @@
-//! Texts for C: the sitemaps of a file, and the address of a robots.txt file.
+//! Texts for C: the sitemaps and the crawlers of a site, and the address of a robots.txt file.
 ghost use Rattle.std.specs.Prelude.{◌≡◌, ◌≢◌, ◌<◌, ◌⊎◌, IfErr, IfOk, length, map, pos, string_bytes};
 ghost use Rattle.robots_io.specs.Lines.{ended};
-ghost use Rattle.robots_c.specs.File.{AreSitemaps};
+ghost use Rattle.robots_c.specs.File.{AreAgents, AreSitemaps, bytes_read};
 ghost use Rattle.robots_c.specs.Status.{IsAddress, IsWhyNoAddress, status_of};
 ghost use Rattle.robots_c.specs.Text.{IsPutIn};
 
@@ -23,15 +23,47 @@ fn lines_of(alloc: Global, texts: &[String]) -> Result<String, AllocError>
     Ok(lines)
 }
 
-/// The sitemaps that a file lists, each ended by LF. No rule of the file matters.
-pub(crate) fn sitemaps(alloc: Global, file: &[u8]) -> Result<String, AllocError>
-    ensures { IfOk result (λ text. AreSitemaps file.now (string_bytes text)) }
+/// The lines with these names.
+fn lines_of_names(alloc: Global, names: &[&str]) -> Result<String, AllocError>
+    ensures { IfOk result (λ lines. string_bytes lines ≡ ended (map (λ name. name.now) names.now)) }
 {
-    let Ok(site) = Site::new(alloc, file) else {
-        return Err(AllocError);
-    };
+    let mut lines = String::new(alloc);
+    for name in names {
+        push_line(&mut lines, name, "")?;
+    }
+    Ok(lines)
+}
+
+/// The sitemaps that a site lists, each ended by LF.
+fn sitemaps_in(alloc: Global, site: &Site) -> Result<String, AllocError>
+    ensures { IfOk result (λ text. AreSitemaps site.now (string_bytes text)) }
+{
     let sitemaps = site.sitemaps(alloc)?;
     lines_of(alloc, &sitemaps)
+}
+
+/// The sitemaps that a file lists, each ended by LF. No rule of the file matters.
+pub(crate) fn sitemaps_of(alloc: Global, file: &[u8]) -> Result<String, AllocError>
+    ensures { IfOk result (λ text. AreSitemaps (bytes_read file.now) (string_bytes text)) }
+{
+    let site = Site::new(alloc, file)?;
+    sitemaps_in(alloc, &site)
+}
+
+/// The crawlers that a site names, each once and ended by LF.
+fn agents_in(alloc: Global, site: &Site) -> Result<String, AllocError>
+    ensures { IfOk result (λ text. AreAgents site.now (string_bytes text)) }
+{
+    let agents = site.agents(alloc)?;
+    lines_of_names(alloc, &agents)
+}
+
+/// The crawlers that a file names, each once and ended by LF.
+pub(crate) fn agents_of(alloc: Global, file: &[u8]) -> Result<String, AllocError>
+    ensures { IfOk result (λ text. AreAgents (bytes_read file.now) (string_bytes text)) }
+{
+    let site = Site::new(alloc, file)?;
+    agents_in(alloc, &site)
 }
 
 /// The address of the robots.txt file of the site that a URL is on.

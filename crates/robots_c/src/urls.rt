@@ -1,8 +1,8 @@
 //! The results for URLs.
 ghost use Rattle.std.specs.Prelude.{◌≡◌, ◌≢◌, ◌⊎◌, ◌<◌, ◌≤◌, ◌^◌, IfErr, IfOk, IfSome, length, pos};
 ghost use Rattle.std.specs.List.{AllZip};
-ghost use Rattle.robots_c.specs.File.{GivesRobot, IsRobotOfSomeFile};
-ghost use Rattle.robots_c.specs.Results.{ArePutIn, HasResult, HasResults, IsResult, LinesFit, number_of, urls_in};
+ghost use Rattle.robots_c.specs.File.{GivesRobot, IsRobotOfSomeFile, bytes_read};
+ghost use Rattle.robots_c.specs.Results.{ArePutIn, HasResult, HasResults, IsResult, IsResultOn, LinesFit, number_of, items_in};
 ghost use Rattle.robots_c.specs.Status.{HasFault, IsWhyNoResult, IsWhyNoResults, IsWhyUndecided};
 ghost use Rattle.texting_robots.specs.Callers.{TakesNoMemory};
 
@@ -21,6 +21,14 @@ fn number_of(decision: Decision) -> i64
         Some(line) => -(line as i64),
         None => 0,
     }
+}
+
+/// The number for the prepared text of a URL.
+pub(crate) fn number_on(robot: &Robot, target: &str) -> i64
+    requires { LinesFit robot.now.rules }
+    ensures { IsResultOn robot.now.rules target.now result }
+{
+    number_of(robot.decision_prepared(target))
 }
 
 /// The number for one URL.
@@ -51,7 +59,7 @@ pub(crate) fn result_for(alloc: Global, robot: &Robot, url: &[u8]) -> Result<i64
 /// The numbers for the URLs in a text, in their order.
 fn numbers_for(alloc: Global, robot: &Robot, urls: &str) -> Result<Vec<i64>, AllocError>
     requires { LinesFit robot.now.rules }
-    ensures { IfOk result (λ numbers. AllZip (IsResult robot.now.rules) (urls_in urls.now) numbers.items) }
+    ensures { IfOk result (λ numbers. AllZip (IsResult robot.now.rules) (items_in urls.now) numbers.items) }
 {
     let mut numbers = Vec::new(alloc);
     for url in urls.split('\n') {
@@ -63,10 +71,10 @@ fn numbers_for(alloc: Global, robot: &Robot, urls: &str) -> Result<Vec<i64>, All
 /// The results for the URLs in a text, if there is room for so many.
 fn results_for(alloc: Global, robot: &Robot, urls: &str, room: usize) -> Result<Vec<i64>, Fault>
     requires { IsRobotOfSomeFile robot.now }
-    ensures ok { IfOk result (λ numbers. AllZip (IsResult robot.now.rules) (urls_in urls.now) numbers.items) }
+    ensures ok { IfOk result (λ numbers. AllZip (IsResult robot.now.rules) (items_in urls.now) numbers.items) }
     ensures room { IfOk result (λ numbers. length numbers.items ≤ room) }
     ensures fault { IfErr result (λ fault. (fault ≡ Fault.Memory)
-        ⊎ ((fault ≡ Fault.NoRoom) × (room < length (urls_in urls.now)))) }
+        ⊎ ((fault ≡ Fault.NoRoom) × (room < length (items_in urls.now)))) }
 {
     let numbers = numbers_for(alloc, robot, urls)?;
     if room < numbers.len() {
@@ -83,10 +91,10 @@ pub(crate) fn decide(
     urls: &[u8],
     room: usize,
 ) -> Result<Vec<i64>, Fault>
-    ensures ok { IfOk result (λ numbers. GivesRobot agent.now file.now (λ robot.
+    ensures ok { IfOk result (λ numbers. GivesRobot agent.now (bytes_read file.now) (λ robot.
         HasResults robot.rules urls.now numbers.items)) }
     ensures room { IfOk result (λ numbers. length numbers.items ≤ room) }
-    ensures fault { IfErr result (IsWhyUndecided agent.now file.now urls.now room) }
+    ensures fault { IfErr result (IsWhyUndecided agent.now (bytes_read file.now) urls.now room) }
 {
     let urls = text_of(urls)?;
     let robot = robot_of(alloc, agent, file)?;

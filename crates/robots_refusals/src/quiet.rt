@@ -94,7 +94,7 @@ struct Asked<'a> {
     patterns: &'a Patterns,
     url: &'a Url,
     /// A site, which the call of the others' name makes too.
-    site: &'a Site<'static>,
+    site: &'a Site,
 }
 
 /// Two patterns, of which the longer comes first in their order.
@@ -136,7 +136,7 @@ fn answer_at(
     alloc: Global,
     robot: &Robot,
     patterns: &Patterns,
-    site: &Site<'static>,
+    site: &Site,
     call: &Call,
 ) -> Result<bool, Error> {
     let url = &parsed(alloc, "https://www.rust-lang.org/rust")?;
@@ -247,11 +247,11 @@ fn decides_path(alloc: Global, robot: &Robot) -> Result<bool, Error> {
 /// A site's file: one crawler's rule, and a delay for all others.
 const NAMES: &[u8] = b"Crawl-delay: 2\nUser-agent: SmerBot\nCrawl-delay: 3\nDisallow: /a";
 
-fn gives_delays(site: &Site<'_>) -> bool {
+fn gives_delays(site: &Site) -> bool {
     site.delay("smerbot") == Some(3_000_000) && site.delay("BobBot") == Some(2_000_000)
 }
 
-fn gives_names(site: &Site<'_>) -> bool {
+fn gives_names(site: &Site) -> bool {
     site.is_named("SMERBOT") && !site.is_named("*") && site.group_name("BobBot") == b"*".as_slice()
 }
 

@@ -39,7 +39,7 @@ pub(crate) fn answer(alloc: Global, call: &Call) -> Result<bool, Error> {
 }
 
 /// Makes a call of the site of the crawlers' file.
-fn answer_of(alloc: Global, site: &Site<'_>, call: &Call) -> Result<bool, Error> {
+fn answer_of(alloc: Global, site: &Site, call: &Call) -> Result<bool, Error> {
     match call {
         Call::New => Ok(
             site.is_named("ferriscrawler") && site.delay("FerrisCrawler") == Some(10_000_000),
@@ -53,7 +53,7 @@ fn answer_of(alloc: Global, site: &Site<'_>, call: &Call) -> Result<bool, Error>
 }
 
 /// A robot; if an allocation fails, the site is the same after it.
-fn gives_robot(alloc: Global, site: &Site<'_>) -> Result<bool, Error> {
+fn gives_robot(alloc: Global, site: &Site) -> Result<bool, Error> {
     let robot = site.robot(alloc, "FerrisCrawler");
     let is_kept = site.is_named("*") && !site.is_named("BobBot");
     match robot {
@@ -63,7 +63,7 @@ fn gives_robot(alloc: Global, site: &Site<'_>) -> Result<bool, Error> {
     }
 }
 
-fn lists_sitemaps(alloc: Global, site: &Site<'_>) -> Result<bool, Error> {
+fn lists_sitemaps(alloc: Global, site: &Site) -> Result<bool, Error> {
     let sitemaps = site.sitemaps(alloc)?;
     Ok(
         sitemaps.len() == 1
@@ -73,7 +73,7 @@ fn lists_sitemaps(alloc: Global, site: &Site<'_>) -> Result<bool, Error> {
 }
 
 /// A URL of which something is escaped.
-fn decides(alloc: Global, site: &Site<'_>) -> Result<bool, Error> {
+fn decides(alloc: Global, site: &Site) -> Result<bool, Error> {
     let robot = site.robot(alloc, "FerrisCrawler")?;
     let wanted = Decision {
         allowed: false,
@@ -95,7 +95,7 @@ fn rejects_robot(alloc: Global) -> Result<bool, Error> {
     rejects_robot_of(alloc, &Site::new(alloc, file.as_bytes())?)
 }
 
-fn rejects_robot_of(alloc: Global, site: &Site<'_>) -> Result<bool, Error> {
+fn rejects_robot_of(alloc: Global, site: &Site) -> Result<bool, Error> {
     let other = site.robot(alloc, "c")?;
     match site.robot(alloc, "a") {
         Ok(_) => Ok(false),
@@ -118,7 +118,7 @@ fn reads_large_file(alloc: Global) -> Result<bool, Error> {
     reads_large_site(alloc, &site)
 }
 
-fn reads_large_site(alloc: Global, site: &Site<'_>) -> Result<bool, Error> {
+fn reads_large_site(alloc: Global, site: &Site) -> Result<bool, Error> {
     let agents = site.agents(alloc)?;
     let robot = site.robot(alloc, "A")?;
     let line = robot.decision_prepared("/b").line;

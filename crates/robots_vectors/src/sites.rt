@@ -56,7 +56,7 @@ const CRAWLERS: &[CrawlerCase] = &[
     },
 ];
 
-fn site_of<'a>(rt: &(impl Abort + AllocGlobal), name: &str, file: &'a [u8]) -> Site<'a> {
+fn site_of(rt: &(impl Abort + AllocGlobal), name: &str, file: &[u8]) -> Site {
     Site::new(rt.alloc(), file).expect(rt, name)
 }
 
@@ -68,7 +68,7 @@ fn check_sitemaps(rt: &impl Abort, name: &str, sitemaps: &[String], wanted: &[&s
     }
 }
 
-fn check_crawler(rt: &(impl Abort + AllocGlobal), site: &Site<'_>, case: &CrawlerCase) {
+fn check_crawler(rt: &(impl Abort + AllocGlobal), site: &Site, case: &CrawlerCase) {
     let robot = site.robot(rt.alloc(), case.agent).expect(rt, case.agent);
     check_equal(rt, case.agent, &site.is_named(case.agent), &case.is_named);
     check_equal(rt, case.agent, &site.group_name(case.agent), &case.group);

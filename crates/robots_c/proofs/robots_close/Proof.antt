@@ -40,8 +40,7 @@ use Rattle.std.specs.Ptr.{points_to}
 use Rattle.std.specs.contracts.alloc.Global as Global
 use Rattle.std.proofs.alloc.Global.TheLaws as Global-laws
 use Rattle.texting_robots.specs.Callers.{RobotValue}
-use Rattle.texting_robots.specs.contracts.robot.Robot as Robot-type
-use Rattle.robots_c.specs.Kept.{frees, heap, robot_at, robot_or_null}
+use Rattle.robots_c.specs.Kept.{Robots, frees, heap, owned_at, owned_or_null}
 use Rattle.robots_c.specs.contracts.handle.Handle as Handle
 use Rattle.robots_c.specs.contracts.handle.close as callee
 use Rattle.robots_c.proofs.handle.close.Met.{met}
@@ -66,11 +65,11 @@ module _ {M : Type 1} {𝓤 : Ura M} {𝓛 : Logic 𝓤} {K : Type 0} {Γ : List
   -- the pointer is null and nothing is owned, or it points to a robot, and may be compared with null
   null_or_robot : K → (p : Ptr) (x : RobotValue) → (p ≡ null_ptr → Seq K 𝓛 Γ G)
       → ((b o : ℕ) → p ≡ block_ptr b o → Testable (block_ptr b o)
-      → Seq K 𝓛 (‵ (robot_at (block_ptr b o) x) ∷ Γ) G)
-      → Seq K 𝓛 (‵ (robot_or_null p x) ∷ Γ) G
+      → Seq K 𝓛 (‵ (owned_at Robots (block_ptr b o) x) ∷ Γ) G)
+      → Seq K 𝓛 (‵ (owned_or_null Robots p x) ∷ Γ) G
   null_or_robot t null_ptr x none some' = drop t $ none refl
   null_or_robot t (block_ptr b o) x none some' =
-      let R : RattleType = Robot-type.the_row in let at = block_ptr b o in let F = robot_at at x in
+      let R : RattleType = Robots in let at = block_ptr b o in let F = owned_at Robots at x in
       let τ = bare (lone R.mir) in
       use1 𝓛 (given (Testable at) (‵ F)) (fact_use 𝓤 (Testable at)
       (via 𝓤 _ (snd∗ 𝓤 (sem 𝓛 (points_to R at x)) (sem 𝓛 (frees τ at))) (dealloc_token-Testable 𝓛 heap τ at))
@@ -96,7 +95,7 @@ robots_close_spec 𝓤 𝓛 𝓜 𝓡 wired =
     let Post : Val → SProp 𝓤 = (walk_of 𝓛 En hs c).post z in
     let a = z.0.3 in let g = a.0 in let at = a.1.0 in let x = z.1 in let vs = z.0.4 in
     qed 𝓛 ((raw (alive 𝓛 En.signature z.0.0 z.0.1)
-    ⊛ ‵ (owns (types_at En.signature.params z.0.0) a vs)) ∷ ‵ (robot_or_null at x) ∷ []) ∵
+    ⊛ ‵ (owns (types_at En.signature.params z.0.0) a vs)) ∷ ‵ (owned_or_null Robots at x) ∷ []) ∵
     split ! $ move ! (1 ∷ []) $ fsplit ! $ handle_tells Z ! g vs.0 (λ h eh fits.
     move ! (1 ∷ []) $ fsplit ! $ drop ! $ move ! (3 ∷ []) $
     -- [what is owned; nothing; the handle of the heap; the tokens]

@@ -40,11 +40,10 @@ use Rattle.std.proofs.raw_atomic.Walks.{proved_at, leaves}
 use Rattle.std_alloc.proofs.ResultValues.{and_tt}
 use Rattle.std.specs.contracts.alloc.Global as Global
 use Rattle.std.proofs.alloc.Global.TheLaws as Global-laws
-use Rattle.robots_c.specs.File.{GivesRobot, IsRobotFor}
-use Rattle.robots_c.specs.Kept.{kept_at, robot_at, opened_at}
+use Rattle.robots_c.specs.File.{GivesRobot, IsRobotFor, bytes_read}
+use Rattle.robots_c.specs.Kept.{Robots, kept_at, opened_at, owned_at}
 use Rattle.robots_c.specs.Status.{HasFaultAt, IsWhyNoRobot}
 use Rattle.texting_robots.specs.Callers.{RobotValue}
-use Rattle.texting_robots.specs.contracts.robot.Robot as Robot-type
 use Rattle.robots_c.specs.contracts.handle.opened as callee
 use Rattle.robots_c.proofs.handle.opened.Met.{met}
 use Rattle.robots_c.proofs.KeptSteps.{Row, kept_out}
@@ -68,22 +67,22 @@ Z = record {
 module _ {M : Type 1} {𝓤 : Ura M} (𝓛 : Logic 𝓤) (P : RobotValue → Type 0) (at : Ptr) where
   owned_then : (kept : Option RobotValue) (A : Type 0) → (A
       → (robot : RobotValue) × P robot × (kept ≡ Some robot))
-      → ent 𝓤 (sem 𝓛 (kept_at Robot-type.the_row at kept)) (sem 𝓛 (fall A (λ _. opened_at P at)))
-  owned_then kept A given = all_i 𝓤 (λ (e : A). sem 𝓛 (opened_at P at)) (λ e. let x = given e in
-      subst (λ (k : Option RobotValue). ent 𝓤 (sem 𝓛 (kept_at Robot-type.the_row at k)) (sem 𝓛
-      (opened_at P at))) (sym x.2)
-      (qed 𝓛 (‵ (robot_at at x.0) ∷ []) ∵ fpack ! (P x.0) (λ _. robot_at at x.0) x.1 $
-      fpack ! RobotValue (λ robot. fex (P robot) (λ _. robot_at at robot)) x.0 $ done !))
+      → ent 𝓤 (sem 𝓛 (kept_at Robots at kept)) (sem 𝓛 (fall A (λ _. opened_at Robots P at)))
+  owned_then kept A given = all_i 𝓤 (λ (e : A). sem 𝓛 (opened_at Robots P at)) (λ e. let x = given e in
+      subst (λ (k : Option RobotValue). ent 𝓤 (sem 𝓛 (kept_at Robots at k)) (sem 𝓛
+      (opened_at Robots P at))) (sym x.2)
+      (qed 𝓛 (‵ (owned_at Robots at x.0) ∷ []) ∵ fpack ! (P x.0) (λ _. owned_at Robots at x.0) x.1 $
+      fpack ! RobotValue (λ robot. fex (P robot) (λ _. owned_at Robots at robot)) x.0 $ done !))
 
-abbrev Opened : List ℕ → List ℕ → (Row Robot-type.the_row).Denot → Type 0
-Opened agent file r = r.status ≡ pos 0 → GivesRobot agent file (λ robot. r.value ≡ Some robot)
+abbrev Opened : List ℕ → List ℕ → (Row Robots).Denot → Type 0
+Opened agent file r = r.status ≡ pos 0 → GivesRobot agent (bytes_read file) (λ robot. r.value ≡ Some robot)
 
-abbrev Why : List ℕ → List ℕ → (Row Robot-type.the_row).Denot → ℕ → ℕ → Type 0
-Why agent file r old new = HasFaultAt (IsWhyNoRobot agent file) r.status old new
+abbrev Why : List ℕ → List ℕ → (Row Robots).Denot → ℕ → ℕ → Type 0
+Why agent file r old new = HasFaultAt (IsWhyNoRobot agent (bytes_read file)) r.status old new
 
 pub robots_open_spec : {M : Type 1} → statement M
 robots_open_spec 𝓤 𝓛 𝓜 𝓡 wired =
-    let H = 𝓛.H in let 𝓣 = tables 𝓤 H 𝓜 𝓡 𝓡.env in let R : RattleType = Robot-type.the_row in
+    let H = 𝓛.H in let 𝓣 = tables 𝓤 H 𝓜 𝓡 𝓡.env in let R : RattleType = Robots in
     let En = ended in let c = clauses 𝓛 𝓜.mem 𝓡.returns in let fn = code.function in
     let hs : Stays En.signature.params En.kept = (
       stay_dropped (plain (λ _. Global.the_row)) yes,
@@ -243,8 +242,8 @@ robots_open_spec 𝓤 𝓛 𝓜 𝓡 wired =
     move ! (1 ∷ 0 ∷ []) $ join ! $ move ! (1 ∷ 0 ∷ []) $ join ! $
     -- [the tokens; the parameters; what is kept; nothing]
     move ! (2 ∷ []) $ use1 𝓛 (‵ (fall (n ≡ pos 0)
-    (λ _. opened_at (IsRobotFor agent.now file.now) r.at))) (owned_then 𝓛
-    (IsRobotFor agent.now file.now) r.at r.value (n ≡ pos 0) opened) $
+    (λ _. opened_at Robots (IsRobotFor agent.now (bytes_read file.now)) r.at))) (owned_then 𝓛
+    (IsRobotFor agent.now (bytes_read file.now)) r.at r.value (n ≡ pos 0) opened) $
     use0 𝓛 (raw (fact 𝓤 (Why agent.now file.now r line.now w))) (fact_i 𝓤
     (Why agent.now file.now r line.now w) (emp 𝓤) why) $ join ! $
     use0 𝓛 (raw (fact 𝓤 (n ≢ pos 0 → r.at ≡ p))) (fact_i 𝓤 (n ≢ pos 0 → r.at ≡ p) (emp 𝓤) kept) $ join ! $

@@ -15,7 +15,7 @@ returns-in-Ok-clause-number c =
     let rules' = c.args.robot.now.rules in
     let url = c.args.url.now in
     let decision = c.in-Ok.decision in
-    let says = number_says rules' url decision.allowed decision.line c.requires
+    let says = number_says rules' (prepared url) decision.allowed decision.line c.requires
     c.in-Ok.ensures.verdict c.in-Ok.ensures.line in
     let fits : SFits w64 c.number_of.result = search rules in
     subst (IsResult rules' url) (sym (to_z-of_z w64 c.number_of.result fits))

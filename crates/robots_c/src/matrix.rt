@@ -1,0 +1,153 @@
+//! The results of many crawlers for many URLs.
+ghost use Rattle.std.specs.Prelude.{◌≡◌, ◌≤◌, IfErr, IfOk, IfSome, codes, length, map, string_bytes};
+ghost use Rattle.std.specs.List.{AllZip};
+ghost use Rattle.robots_c.specs.File.{IsSiteOfSomeFile, bytes_read};
+ghost use Rattle.robots_c.specs.Results.{AreRows, HasMatrix, IsResultOn, IsRow, LinesFit, items_in};
+ghost use Rattle.robots_c.specs.Status.{IsWhyNoMatrix};
+ghost use Rattle.texting_robots.specs.Callers.{prepared};
+
+use crate::fault::Fault;
+use crate::file::text_of;
+use crate::urls::number_on;
+use std::alloc::{AllocError, Global};
+use texting_robots::{Error, Robot, Site};
+
+/// The number in the row of a crawler that can't use the file.
+const NO_RESULT: i64 = i64::MIN;
+
+/// The prepared text of a URL.
+fn target_of(alloc: Global, url: &str) -> Result<String, AllocError>
+    ensures { IfOk result (λ target. string_bytes target ≡ prepared url.now) }
+{
+    match Robot::prepare_url(alloc, url) {
+        Ok(target) => Ok(target),
+        Err(_) => Err(AllocError),
+    }
+}
+
+/// The prepared texts of the URLs in a text.
+fn targets_of(alloc: Global, urls: &str) -> Result<Vec<String>, AllocError>
+    ensures { IfOk result (λ targets. map string_bytes targets.items ≡ map prepared (items_in urls.now)) }
+{
+    let mut targets = Vec::new(alloc);
+    for url in urls.split('\n') {
+        targets.push(target_of(alloc, url)?)?;
+    }
+    Ok(targets)
+}
+
+/// The results of a robot for prepared texts.
+fn results_on(alloc: Global, robot: &Robot, targets: &[String]) -> Result<Vec<i64>, AllocError>
+    requires { LinesFit robot.now.rules }
+    ensures { IfOk result (λ row. AllZip (IsResultOn robot.now.rules) (map string_bytes targets.now) row.items) }
+{
+    let mut row = Vec::new(alloc);
+    for target in targets {
+        row.push(number_on(robot, target))?;
+    }
+    Ok(row)
+}
+
+/// The row of a crawler.
+fn row_of(
+    alloc: Global,
+    site: &Site,
+    agent: &str,
+    targets: &[String],
+) -> Result<Vec<i64>, AllocError>
+    requires { IsSiteOfSomeFile site.now }
+    ensures { IfOk result (λ row. IsRow site.now (map string_bytes targets.now) agent.now row.items) }
+{
+    match site.robot(alloc, agent) {
+        Ok(robot) => {
+            let row = results_on(alloc, &robot, targets)?;
+            Ok(row)
+        }
+        Err(Error::InvalidRule) => vec![in alloc; NO_RESULT; targets.len()],
+        Err(_) => Err(AllocError),
+    }
+}
+
+/// The row of all crawlers that the file doesn't name, which is that of `*`: the one that is there, or a new one.
+fn shared_row(
+    alloc: Global,
+    site: &Site,
+    targets: &[String],
+    shared: Option<Vec<i64>>,
+) -> Result<Vec<i64>, AllocError>
+    requires site { IsSiteOfSomeFile site.now }
+    requires shared { IfSome shared (λ row. IsRow site.now (map string_bytes targets.now) (codes "*") row.items) }
+    ensures { IfOk result (λ row. IsRow site.now (map string_bytes targets.now) (codes "*") row.items) }
+{
+    match shared {
+        Some(row) => Ok(row),
+        None => row_of(alloc, site, "*", targets),
+    }
+}
+
+/// The rows of the crawlers in a text, one after the other. All crawlers that the file doesn't name have one row, that of `*`.
+fn rows_of(
+    alloc: Global,
+    site: &Site,
+    agents: &str,
+    targets: &[String],
+) -> Result<Vec<i64>, AllocError>
+    requires { IsSiteOfSomeFile site.now }
+    ensures { IfOk result (λ numbers. AreRows site.now (map string_bytes targets.now) (items_in agents.now) numbers.items) }
+{
+    let mut numbers = Vec::new(alloc);
+    let mut shared = None;
+    for agent in agents.split('\n') {
+        if site.is_named(agent) {
+            let row = row_of(alloc, site, agent, targets)?;
+            numbers.extend_from_slice(&row)?;
+            continue;
+        }
+        let row = shared_row(alloc, site, targets, shared)?;
+        numbers.extend_from_slice(&row)?;
+        shared = Some(row);
+    }
+    Ok(numbers)
+}
+
+/// The matrix of the crawlers and the URLs in two texts, if there is room for so many numbers.
+fn matrix(
+    alloc: Global,
+    site: &Site,
+    agents: &[u8],
+    urls: &[u8],
+    room: usize,
+) -> Result<Vec<i64>, Fault>
+    requires { IsSiteOfSomeFile site.now }
+    ensures ok { IfOk result (λ numbers. HasMatrix site.now agents.now urls.now numbers.items) }
+    ensures room { IfOk result (λ numbers. length numbers.items ≤ room) }
+    ensures fault { IfErr result (IsWhyNoMatrix agents.now urls.now room) }
+{
+    let agents = text_of(agents)?;
+    let urls = text_of(urls)?;
+    let targets = targets_of(alloc, urls)?;
+    let numbers = rows_of(alloc, site, agents, &targets)?;
+    if room < numbers.len() {
+        return Err(Fault::NoRoom);
+    }
+    Ok(numbers)
+}
+
+/// The matrix of the crawlers and the URLs in two texts, by a file.
+pub(crate) fn matrix_of(
+    alloc: Global,
+    agents: &[u8],
+    file: &[u8],
+    urls: &[u8],
+    room: usize,
+) -> Result<Vec<i64>, Fault>
+    ensures ok { IfOk result (λ numbers. HasMatrix (bytes_read file.now) agents.now urls.now numbers.items) }
+    ensures room { IfOk result (λ numbers. length numbers.items ≤ room) }
+    ensures fault { IfErr result (IsWhyNoMatrix agents.now urls.now room) }
+{
+    text_of(agents)?;
+    text_of(urls)?;
+    let site = Site::new(alloc, file)?;
+    let numbers = matrix(alloc, &site, agents, urls, room)?;
+    Ok(numbers)
+}
