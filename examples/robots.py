@@ -1,4 +1,4 @@
-"""The calls of robots.h: decide, delay, sitemaps, address, and Robot, which is a robot that stays open.
+"""The calls of robots.h: decide, matrix, delay, sitemaps, agents, address, and Robot, which is a robot that stays open.
 
 The shared object is the one that ROBOTS_SO names, else librobots_c.so next to this file. A failed call raises a RobotsError, whose
 `status` is that of robots.h, or a MemoryError.
@@ -21,8 +21,10 @@ LINE = [POINTER(c_size_t)]
 WRITTEN = [POINTER(ctypes.c_char), c_size_t, POINTER(c_size_t)]
 for name, arguments in {
     "robots_decide": TEXT * 3 + NUMBERS + LINE,
+    "robots_matrix": TEXT * 3 + NUMBERS,
     "robots_delay": TEXT * 2 + [POINTER(c_uint64)],
     "robots_sitemaps": TEXT + WRITTEN,
+    "robots_agents": TEXT + WRITTEN,
     "robots_address": TEXT + WRITTEN,
     "robots_open": TEXT * 2 + [POINTER(c_void_p)] + LINE,
     "robots_query": [c_void_p] + TEXT + [POINTER(c_int64)],
@@ -32,6 +34,7 @@ for name, arguments in {
     getattr(library, name).argtypes = arguments
     getattr(library, name).restype = c_int32
 library.robots_close.argtypes, library.robots_close.restype = [c_void_p], None
+NO_RESULT = -(2**63)
 
 
 class RobotsError(Exception):
@@ -53,10 +56,10 @@ def text(data):
     return data, len(data)
 
 
-def joined(urls):
-    if any("\n" in url for url in urls):
-        raise ValueError("a URL with a line feed: use Robot.query")
-    return text("\n".join(urls))
+def joined(items):
+    if any("\n" in item for item in items):
+        raise ValueError("a URL or a crawler with a line feed: use Robot.query")
+    return text("\n".join(items))
 
 
 def written(call, one):
@@ -88,6 +91,15 @@ def decide(agent, file, urls):
     return list(out)
 
 
+def matrix(agents, file, urls):
+    """For each crawler the numbers of `decide`, or NO_RESULT for each URL if a rule for the crawler is too long."""
+    if not agents or not urls:
+        return [[] for _ in agents]
+    out = (c_int64 * (len(agents) * len(urls)))()
+    check(library.robots_matrix(*joined(agents), *text(file), *joined(urls), out, len(out)))
+    return [out[at : at + len(urls)] for at in range(0, len(out), len(urls))]
+
+
 def delay(agent, file):
     """How many microseconds the crawler waits between two requests, or None."""
     out = c_uint64()
@@ -96,6 +108,11 @@ def delay(agent, file):
 
 def sitemaps(file):
     return written(library.robots_sitemaps, file).split("\n")[:-1]
+
+
+def agents(file):
+    """The crawlers that the file names, each once."""
+    return written(library.robots_agents, file).split("\n")[:-1]
 
 
 def address(url):

@@ -95,6 +95,17 @@ static struct outcome decide_with(const char *agent, const char *these, size_t r
 
 static struct outcome decide(void) { return decide_with("Bot", urls, COUNT); }
 
+/* Two rows of a matrix: crawlers that the file doesn't name have the same. */
+static struct outcome matrix_with(const char *agents, size_t room) {
+    int64_t out[2 * COUNT + 1];
+    memset(out, 0x77, sizeof out);
+    int32_t status = robots_matrix(ROBOTS_STRING(agents), FILE_OF(file), ROBOTS_STRING(urls), out, room);
+    bool rows = memcmp(out, verdicts, sizeof verdicts) == 0 && memcmp(out + COUNT, verdicts, sizeof verdicts) == 0;
+    return (struct outcome){status, status == ROBOTS_OK && rows && all_are(out + 2 * COUNT, 8, 0x77), all_are(out, sizeof out, 0x77)};
+}
+
+static struct outcome matrix(void) { return matrix_with("Bot\nOther", 2 * COUNT); }
+
 static struct outcome delay(void) {
     uint64_t out = 77;
     int32_t status = robots_delay(ROBOTS_STRING("Bot"), FILE_OF(file), &out);
@@ -116,6 +127,16 @@ static struct outcome list_sitemaps(size_t room) {
     int32_t status = robots_sitemaps(FILE_OF(file), out, room, &len);
     return text_is(status, out, len, sitemaps, room);
 }
+
+static struct outcome list_agents(size_t room) {
+    char out[99];
+    size_t len = 7;
+    memset(out, 77, sizeof out);
+    int32_t status = robots_agents(FILE_OF("User-agent: A\nAllow: /\nuser-agent: *\nuser-agent: a\n"), out, room, &len);
+    return text_is(status, out, len, "A\n*\n", room);
+}
+
+static struct outcome all_agents(void) { return list_agents(4); }
 
 static struct outcome find_address(const char *url, size_t room) {
     char out[99];
@@ -175,6 +196,13 @@ static void try_examples(void) {
     tell("sitemaps", is(all_sitemaps(), ROBOTS_OK));
     tell("sitemaps with a byte too little room", is(list_sitemaps(sizeof sitemaps - 2), ROBOTS_NO_ROOM));
     tell("the length of sitemaps", robots_sitemaps(FILE_OF(file), NULL, 0, &length) == ROBOTS_NO_ROOM && length == sizeof sitemaps - 1);
+    tell("crawlers", is(all_agents(), ROBOTS_OK));
+    tell("crawlers with a byte too little room", is(list_agents(3), ROBOTS_NO_ROOM));
+    tell("a matrix", is(matrix(), ROBOTS_OK));
+    tell("a matrix with a number too little room", is(matrix_with("Bot\nOther", 2 * COUNT - 1), ROBOTS_NO_ROOM));
+    tell("a matrix, a crawler that isn't UTF-8", is(matrix_with("Bot\n\xFF", 2 * COUNT), ROBOTS_NOT_UTF8));
+    tell("a matrix of empty texts", robots_matrix(NULL, 0, NULL, 0, NULL, 0, &out, 1) == ROBOTS_OK && out == 0);
+    tell("no result", !robots_may_fetch(ROBOTS_NO_RESULT) && robots_line(ROBOTS_NO_RESULT) == 0);
     tell("an address", is(whole_address(), ROBOTS_OK));
     tell("an address with a byte too little room", is(find_address(page, sizeof address - 2), ROBOTS_NO_ROOM));
     static const char *const none[] = {"mailto:a@example.com", "example.com/a", "", "https://example.com:port/", "https://"};
@@ -216,6 +244,8 @@ int main(void) {
         fail_each("verdicts", decide, all_later);
         fail_each("a delay", delay, all_later);
         fail_each("sitemaps", all_sitemaps, all_later);
+        fail_each("crawlers", all_agents, all_later);
+        fail_each("a matrix", matrix, all_later);
         fail_each("an address", whole_address, all_later);
         fail_each("a robot", keep, all_later);
     }

@@ -209,6 +209,8 @@ def test_python_verdicts(robots):
 def test_python_texts(robots):
     assert robots.delay("Bot", b"Crawl-delay: inf") == 2**64 - 1
     assert robots.sitemaps(b"") == []
+    assert robots.agents(FILE) == ["*"]
+    assert robots.agents(b"") == []
     assert robots.address(f"https://{'a.' * 120}example/x") == f"https://{'a.' * 120}example/robots.txt"
 
 
@@ -219,6 +221,7 @@ def test_large_inputs(robots):
     with robots.Robot(agent, file) as robot:
         assert robot.query_many(urls) == robots.decide(agent, file, urls) == [-3, 0, 0] * 3334
         assert robot.query(f"/{long}") == -2
+        assert robots.matrix([agent, "x"] * 3, file, urls) == [[-3, 0, 0] * 3334, [0] * 10_002] * 3
         assert robot.delay() == robots.delay(agent, file) == 0
     assert robots.sitemaps(file) == ["x"] * 1001
     assert status_of(robots, robots.address, f"https://{'a' * 3000}:port/") == (robots.NO_ADDRESS, 0)
@@ -237,6 +240,7 @@ def test_python_overlong_rule(robots):
     assert robots.sitemaps(long_rules(4097)) == ["x"]
     assert robots.decide("Other", long_rules(4097), ["/b"]) == [-6]
     assert robots.decide("Bot", long_rules(4096), ["/b"]) == [-3]
+    assert robots.matrix(["Bot", "Other"], long_rules(4097), ["/b", "/c"]) == [[robots.NO_RESULT] * 2, [-6, -6]]
 
 
 # ---- random files
@@ -263,6 +267,8 @@ def test_random_files_have_the_verdicts_of_robots_verdict(robots, seed):
         with robots.Robot(agent, file) as robot:
             results, delay = robot.query_many(urls), robot.delay()
             assert results == [robot.query(url) for url in urls] == robots.decide(agent, file, urls)
+        crawlers = [agent, "nobody", *robots.agents(file), "Bot"]
+        assert robots.matrix(crawlers, file, urls) == [robots.decide(crawler, file, urls) for crawler in crawlers]
         assert delay == robots.delay(agent, file)
         report = [f"delay {'none' if delay is None else delay}"] + [f"sitemap {it}" for it in robots.sitemaps(file)]
         report += [f"{'deny' if it < 0 else 'allow'} {abs(it) or '-'} {url}" for it, url in zip(results, urls)]
@@ -300,6 +306,8 @@ def test_nothing_outside_of_the_texts_is_read(robots, at_end):
         robots.library.robots_close(robot)
         assert robots.library.robots_delay(*agent_text, *file_text, number) in (robots.OK, robots.NO_DELAY)
         assert robots.library.robots_sitemaps(*file_text, None, 0, line) in (robots.OK, robots.NO_ROOM)
+        assert robots.library.robots_agents(*file_text, None, 0, line) in (robots.OK, robots.NO_ROOM)
+        assert robots.library.robots_matrix(*agent_text, *file_text, *urls_text, out, 9) == robots.OK
         *url_text, u = guarded(urls[0].encode(), at_end)
         assert robots.library.robots_address(*url_text, None, 0, line) in (robots.NO_ROOM, robots.NO_ADDRESS)
 

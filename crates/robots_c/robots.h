@@ -76,6 +76,9 @@ enum robots_status {
 /* What a file says to one crawler. */
 typedef struct robots robots;
 
+/* In the matrix of robots_matrix: a rule for this crawler is too long. No result is this number. */
+#define ROBOTS_NO_RESULT INT64_MIN
+
 /* A C string as a pointer and a length. The string is evaluated twice. */
 #define ROBOTS_STRING(string) (string), strlen(string)
 
@@ -105,6 +108,14 @@ void robots_close(robots *robot);
 ROBOTS_CHECK int32_t robots_decide(const char *agent, size_t agent_len, const void *file, size_t file_len, const char *urls,
                                    size_t urls_len, int64_t *results, size_t results_len, size_t *line);
 
+/* Writes the results of many crawlers for many URLs, reading the file once: a row for each crawler and in it a result for each URL, so
+ * that the result of crawler i for URL j is results[i * URLs + j], counted from 0. `agents` and `urls` have one '\n' between one item and
+ * the next, as in robots_query_many. The results are those of robots_decide; but in the row of a crawler with a rule that is too long
+ * each is ROBOTS_NO_RESULT, which robots_may_fetch doesn't allow. If there are more results than `results_len`, the status is
+ * ROBOTS_NO_ROOM. All crawlers that the file doesn't name cost little more than one. */
+ROBOTS_CHECK int32_t robots_matrix(const char *agents, size_t agents_len, const void *file, size_t file_len, const char *urls,
+                                   size_t urls_len, int64_t *results, size_t results_len);
+
 /* robots_query_delay without a robot. No rule of the file matters, so it never returns ROBOTS_OVERLONG_RULE. */
 ROBOTS_CHECK int32_t robots_delay(const char *agent, size_t agent_len, const void *file, size_t file_len, uint64_t *microseconds);
 
@@ -112,6 +123,10 @@ ROBOTS_CHECK int32_t robots_delay(const char *agent, size_t agent_len, const voi
  * ROBOTS_NO_ROOM *len is the length that is needed: call with (NULL, 0, &len) to get it. A buffer of file_len bytes is always large
  * enough. No rule of the file matters. */
 ROBOTS_CHECK int32_t robots_sitemaps(const void *file, size_t file_len, char *out, size_t out_len, size_t *len);
+
+/* Writes the names in the file's user-agent lines, as robots_sitemaps writes sitemaps: in the file's order, `*` like any other, and of
+ * names that differ only in the case of ASCII letters the first. A name that isn't UTF-8 is left out. */
+ROBOTS_CHECK int32_t robots_agents(const void *file, size_t file_len, char *out, size_t out_len, size_t *len);
 
 /* Writes the address of the robots.txt file of the site of an http or https URL, in ASCII with no NUL at its end, and its length to *len.
  * At ROBOTS_NO_ROOM *len is the length that is needed. */
@@ -121,7 +136,9 @@ ROBOTS_CHECK int32_t robots_address(const char *url, size_t url_len, char *out, 
 static inline int robots_may_fetch(int64_t result) { return result >= 0; }
 
 /* The number of the line that this result follows from, or 0 if no line decides. */
-static inline int64_t robots_line(int64_t result) { return result < 0 ? -result : result; }
+static inline int64_t robots_line(int64_t result) {
+    return result == ROBOTS_NO_RESULT ? 0 : result < 0 ? -result : result;
+}
 
 /* What a status means, in English. */
 static inline const char *robots_status_text(int32_t status) {
