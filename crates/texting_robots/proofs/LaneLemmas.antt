@@ -1,10 +1,11 @@
 -- Where the first byte that passes a test stands, as vectors find it.
-use Rattle.std.proofs.Common.{◌≡◌, ℕ, ◌+◌, ◌-◌, ◌%◌, ◌^◌, ◌<◌, ◌≤◌}
-use Rattle.std.proofs.Common.{◌==◌, ◌||◌, Bool, true, false, not, List, length, take, drop, map}
+use Rattle.std.proofs.Common.{◌≡◌, ℕ, zero, suc, ◌+◌, ◌-◌, ◌*◌, ◌%◌, ◌^◌, ◌<◌, ◌≤◌}
+use Rattle.std.proofs.Common.{◌==◌, ◌||◌, Bool, true, false, not, List, [], ◌∷◌, length, take, drop, map}
 use Rattle.std.proofs.Common.{sym, refl, ap, ◌∙◌, arith, cond}
 use Rattle.std.proofs.Common.{if◌then◌else◌, bit_or, inl, inr, Option, Some, None}
-use Rattle.std.specs.{List.position_or_len, Int.trailing_zeros, Int.w64}
-use Rattle.std.proofs.lemmas.Bool.{cases_lt, cond-true, cond-false, eq-eqb, ne_eqb}
+use Rattle.std.specs.{List.list_all, List.list_any, List.position_or_len, List.prefix_len, Int.trailing_zeros, Int.w64}
+use Rattle.std.proofs.lemmas.Bool.{cases_Bool, cases_lt, cond-true, cond-false, eq-eqb, ne_eqb}
+use lib.Dec.{ltb}
 use Rattle.std.proofs.lemmas.List.{length-drop, length-map, length-take, length-take-le}
 use Rattle.std.proofs.lemmas.List.{take-append-drop, take_all, take_rest}
 use Rattle.std.proofs.lemmas.List.{Folds.prefix_len-append, Sums.prefix_len-le-length}
@@ -13,6 +14,7 @@ use lib.Lanes.{mask_l, top}
 use std.Path.{fun_ext}
 use Rattle.std.specs.Option.{unwrap_or}
 use Rattle.memchr.specs.Find.{IsFirstByte}
+use Rattle.texting_robots.specs.Escape.{is_escaped}
 use Rattle.texting_robots.specs.Pattern.{dollar, star}
 use Rattle.texting_robots.specs.Steps.Pieces.{is_mark}
 use Rattle.texting_robots.proofs.RegionLemmas.{place_is, end_is}
@@ -78,6 +80,16 @@ module _ (test : ℕ → Bool) (text : List ℕ) where
   found_or_end None none = sym (end_is test text none)
   found_or_end (Some k) first = sym (place_is test text k first.0 first.1)
 
+-- the first k bytes pass, so the rest tells how many pass in front
+pub all_seen : (test : ℕ → Bool) (k : ℕ) (text : List ℕ) → k ≤ length text
+    → list_all test (take k text) ≡ true → prefix_len test text ≡ k + prefix_len test (drop k text)
+all_seen test zero text within all = omega arith
+all_seen test (suc k) [] within all = absurd (omega (arith, within))
+all_seen test (suc k) (b ∷ text) within all = elim (cases_Bool (test b)) [
+  | inl is ↦ rw is (omega (arith, all_seen test k text (omega (arith, within)) (rw is at all)))
+  | inr other ↦ let wrong = rw other at all in cc
+]
+
 -- ---- the lanes that hold a star or a dollar
 
 abbrev mark : ℕ → ℕ
@@ -98,3 +110,67 @@ pub first_mark_lane : (width : ℕ) (v lanes : List ℕ) → width ≤ 64 → le
     (if mask == 0 then width else trailing_zeros w64 mask) ≡ position_or_len is_mark v)
 first_mark_lane width v lanes fits long lanes_are = first_marked mark width v lanes fits long lanes_are
     ∙ ap (λ test. position_or_len test v) (fun_ext mark_is)
+
+-- ---- the lanes that hold an escaped byte
+
+-- some lane is marked just if some byte passes
+pub any_marked : (f : ℕ → ℕ) (v lanes : List ℕ) → length v ≤ 64 → lanes ≡ map f v
+    → not (mask_l (map (top 7) lanes) % 2 ^ 64 == 0) ≡ list_any (λ b. top 7 (f b)) v
+any_marked f v lanes fits lanes_are =
+    let test = λ (b : ℕ). top 7 (f b) in
+    ap (λ m. not (m == 0)) (ap (λ l. mask_l l % 2 ^ 64) (ap (map (top 7)) lanes_are ∙ map-map (top 7) f v)
+    ∙ mask_l-mod (map test v) 64 (omega (arith, length-map v test)))
+    ∙ any_set test v
+  where
+    any_set : (test : ℕ → Bool) (v : List ℕ) → not (mask_l (map test v) == 0) ≡ list_any test v
+    any_set test [] = refl
+    any_set test (b ∷ v) = one_more (test b) (mask_l (map test v)) ∙ ap (λ x. test b || x) (any_set test v)
+      where
+        one_more : (x : Bool) (n : ℕ) → not (cond x 1 0 + 2 * n == 0) ≡ (x || not (n == 0))
+        one_more true n = ap not (ne_eqb (1 + 2 * n) 0 (omega arith))
+        one_more false zero = refl
+        one_more false (suc n) =
+            ap not (ne_eqb (0 + 2 * suc n) 0 (omega arith) ∙ sym (ne_eqb (suc n) 0 (omega arith)))
+
+abbrev lane : Bool → ℕ
+lane x = cond x 255 0
+
+abbrev escape_lane : ℕ → ℕ
+escape_lane b = bit_or (bit_or (bit_or (bit_or (bit_or (lane (ltb b 0x21)) (lane (b == 0x22)))
+    (lane (b == 0x3C))) (lane (b == 0x3E))) (lane (b == 0x60))) (lane (ltb 0x7E b))
+
+joined : (x y : Bool) → bit_or (lane x) (lane y) ≡ lane (x || y)
+joined true true = refl
+joined true false = refl
+joined false true = refl
+joined false false = refl
+
+regrouped : (u v w x y z : Bool) → (((((u || v) || w) || x) || y) || z) ≡ (u || v || w || x || y || z)
+regrouped true v w x y z = refl
+regrouped false true w x y z = refl
+regrouped false false true x y z = refl
+regrouped false false false true y z = refl
+regrouped false false false false true z = refl
+regrouped false false false false false z = refl
+
+top_lane : (x : Bool) → top 7 (lane x) ≡ x
+top_lane true = refl
+top_lane false = refl
+
+escape_lane_is : (b : ℕ) → top 7 (escape_lane b) ≡ is_escaped b
+escape_lane_is b =
+    let u = ltb b 0x21 in let v = b == 0x22 in let w = b == 0x3C in let x = b == 0x3E in let y = b == 0x60 in
+    let z = ltb 0x7E b in
+    rw (
+      joined u v,
+      joined (u || v) w,
+      joined ((u || v) || w) x,
+      joined (((u || v) || w) || x) y,
+      joined ((((u || v) || w) || x) || y) z,
+    )
+    (top_lane (((((u || v) || w) || x) || y) || z) ∙ regrouped u v w x y z)
+
+pub escaped_lane : (v lanes : List ℕ) → length v ≤ 64 → lanes ≡ map escape_lane v
+    → not (mask_l (map (top 7) lanes) % 2 ^ 64 == 0) ≡ list_any is_escaped v
+escaped_lane v lanes fits lanes_are = any_marked escape_lane v lanes fits lanes_are
+    ∙ ap (λ test. list_any test v) (fun_ext escape_lane_is)

@@ -1,5 +1,5 @@
 //! The escape.
-ghost use Rattle.std.specs.Prelude.{◌≡◌, ◌++◌, All, IsOk, OnErr, OnOk, IfOk, false, string_bytes};
+ghost use Rattle.std.specs.Prelude.{◌≡◌, ◌++◌, All, IsOk, OnErr, OnOk, IfOk, false, length, string_bytes};
 ghost use Rattle.std.specs.Cow.{cow_str_bytes};
 ghost use Rattle.std.specs.List.{list_any};
 ghost use Rattle.texting_robots.specs.Escape.{escaped, is_escaped};
@@ -7,6 +7,7 @@ ghost use Rattle.texting_robots.specs.Escape.{escaped, is_escaped};
 use percent_encoding::{AsciiSet, CONTROLS, ascii_set, percent_encode, utf8_percent_encode};
 use std::alloc::{AllocError, Global};
 use std::borrow::CowStr;
+use std::simd::prelude::*;
 
 /// The ASCII bytes that are escaped.
 const ESCAPED: AsciiSet = ascii_set!(CONTROLS.add(b' ').add(b'"').add(b'<').add(b'>').add(b'`'));
@@ -42,17 +43,47 @@ fn holds_escaped_among(bytes: &[u8]) -> bool
     holds
 }
 
-/// Whether some byte is escaped. A short text is tested in two parts of one length, which may overlap: at such a length many bytes
-/// are tested at once.
+/// Whether some byte of eight is escaped.
+#[inline(always)]
+fn eight_hold_escaped(bytes: &[u8]) -> bool
+    requires { length bytes.now ≡ 8 }
+    ensures { result ≡ list_any is_escaped bytes.now }
+{
+    let bytes = u8x8::from_slice(bytes);
+    let escaped = bytes.simd_lt(u8x8::splat(b'!'))
+        | bytes.simd_eq(u8x8::splat(b'"'))
+        | bytes.simd_eq(u8x8::splat(b'<'))
+        | bytes.simd_eq(u8x8::splat(b'>'))
+        | bytes.simd_eq(u8x8::splat(b'`'))
+        | bytes.simd_gt(u8x8::splat(b'~'));
+    escaped.any()
+}
+
+/// Whether some byte of sixteen is escaped.
+#[inline(always)]
+fn sixteen_hold_escaped(bytes: &[u8]) -> bool
+    requires { length bytes.now ≡ 16 }
+    ensures { result ≡ list_any is_escaped bytes.now }
+{
+    let bytes = u8x16::from_slice(bytes);
+    let escaped = bytes.simd_lt(u8x16::splat(b'!'))
+        | bytes.simd_eq(u8x16::splat(b'"'))
+        | bytes.simd_eq(u8x16::splat(b'<'))
+        | bytes.simd_eq(u8x16::splat(b'>'))
+        | bytes.simd_eq(u8x16::splat(b'`'))
+        | bytes.simd_gt(u8x16::splat(b'~'));
+    escaped.any()
+}
+
+/// Whether some byte is escaped. A short text is tested in two parts of one length, which may overlap.
 fn holds_escaped(bytes: &[u8]) -> bool
     ensures { result ≡ list_any is_escaped bytes.now }
 {
-    match bytes.len() {
+    let len = bytes.len();
+    match len {
         0..8 => holds_escaped_among(bytes),
-        8..16 => holds_escaped_among(&bytes[..8]) || holds_escaped_among(&bytes[bytes.len() - 8..]),
-        16..=32 => {
-            holds_escaped_among(&bytes[..16]) || holds_escaped_among(&bytes[bytes.len() - 16..])
-        }
+        8..16 => eight_hold_escaped(&bytes[..8]) || eight_hold_escaped(&bytes[len - 8..]),
+        16..=32 => sixteen_hold_escaped(&bytes[..16]) || sixteen_hold_escaped(&bytes[len - 16..]),
         _ => holds_escaped_among(bytes),
     }
 }

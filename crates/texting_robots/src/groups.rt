@@ -25,6 +25,7 @@ pub(crate) struct Group<'a> {
 /// The first pass. It reads the lines up to the first user-agent line, where a delay may stand, and then looks for a line that
 /// names the agent.
 #[tactic(auto, using(crate::proofs::RulesLemmas::last_more, crate::proofs::NameLemmas::tested_names))]
+#[inline(never)]
 pub(crate) fn group_for<'a>(agent: &'a [u8], lines: UnreadLines<'_>) -> Group<'a>
     ensures name { str_to_ascii_lowercase result.name.now ≡ group_name agent.now lines.entry }
     ensures named { result.is_named ≡ is_named agent.now lines.entry }

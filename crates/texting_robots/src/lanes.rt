@@ -1,6 +1,10 @@
 //! Bytes that are compared many at once.
 ghost use Rattle.std.specs.Prelude.{◌≡◌, ◌==◌, if◌then◌else◌};
+ghost use Rattle.std.specs.List.{list_all};
 ghost use Rattle.std.specs.Int.{trailing_zeros, w64};
+
+/// How many bytes are compared at once.
+pub(crate) const LANES: usize = 32;
 
 /// The place of the mask's lowest bit that is set, or `lanes` where none is.
 #[inline(always)]
@@ -12,4 +16,15 @@ pub(crate) fn first_lane(mask: u64, lanes: usize) -> usize
     } else {
         mask.trailing_zeros() as usize
     }
+}
+
+/// Whether each byte is this one. All are tested, with no early exit, so that the compiler can test many at once.
+pub(crate) fn all_are(bytes: &[u8], byte: u8) -> bool
+    ensures { result ≡ list_all (λ b. b == byte) bytes.now }
+{
+    let mut all = true;
+    for other in bytes {
+        all &= *other == byte;
+    }
+    all
 }

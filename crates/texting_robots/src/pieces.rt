@@ -8,7 +8,7 @@ ghost use Rattle.texting_robots.specs.Pattern.{IsOverlong, Matches, collapsed, s
 ghost use Rattle.texting_robots.specs.View.{LooksAtMost};
 
 use crate::asked::Asked;
-use crate::lanes::first_lane;
+use crate::lanes::{LANES, all_are, first_lane};
 use memchr::memchr2;
 use std::alloc::AllocError;
 use std::marker::Model;
@@ -178,12 +178,24 @@ fn cut_at_mark(pattern: &[u8]) -> (&[u8], &[u8])
     pattern.split_at(first_mark(pattern))
 }
 
-/// How many stars stand at the front.
-fn stars_len(pattern: &[u8]) -> usize
+/// How many stars stand at the front, counted one by one.
+fn few_stars_len(pattern: &[u8]) -> usize
     ensures value { result ≡ prefix_len (λ b. b == star) pattern.now }
     ensures within { result ≤ length pattern.now }
 {
     pattern.iter().take_while(|b| **b == STAR).count()
+}
+
+/// How many stars stand at the front. Many are counted `LANES` at a time.
+fn stars_len(pattern: &[u8]) -> usize
+    ensures value { result ≡ prefix_len (λ b. b == star) pattern.now }
+    ensures within { result ≤ length pattern.now }
+{
+    let mut rest = pattern;
+    while rest.len() >= LANES && all_are(&rest[..LANES], STAR) {
+        rest = rest.split_at(LANES).1;
+    }
+    pattern.len() - rest.len() + few_stars_len(rest)
 }
 
 /// Whether there are only stars and dollars.

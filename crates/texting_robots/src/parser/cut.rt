@@ -1,15 +1,11 @@
 //! Where a line ends.
 ghost use Rattle.std.specs.Prelude.{◌≡◌, ◌<◌, ◌≤◌, ◌==◌, MatchOption, drop, if◌then◌else◌, length, take};
-ghost use Rattle.std.specs.List.{list_all};
 ghost use Rattle.texting_robots.specs.Cut.{cr, lf};
 ghost use Rattle.texting_robots.specs.Steps.Cut.{body_len, end_len, read_as, read_byte};
 
-use crate::lanes::first_lane;
+use crate::lanes::{LANES, all_are, first_lane};
 use memchr::{memchr2, memchr3};
 use std::simd::prelude::*;
-
-/// How many bytes are compared at once. Most lines are as short as that, or twice.
-const LANES: usize = 32;
 
 /// How many bytes are compared at once where fewer than `LANES` are left.
 const HALF: usize = 16;
@@ -100,24 +96,13 @@ fn feeds(byte: u8, nul_ends: bool) -> bool
     byte == b'\n' || nul_ends && byte == 0
 }
 
-/// Whether each byte is a CR. All are tested, with no early exit, so that the compiler can test many at once.
-fn are_returns(bytes: &[u8]) -> bool
-    ensures { result ≡ list_all (λ b. b == cr) bytes.now }
-{
-    let mut all = true;
-    for byte in bytes {
-        all &= *byte == b'\r';
-    }
-    all
-}
-
 /// The text without most of the CRs at its front, which are passed over `LANES` at a time.
 #[inline(never)]
 fn skip_returns<'a>(text: &'a [u8], nul_ends: bool) -> &'a [u8]
     ensures { drop (end_len (read_as nul_ends result.now)) result.now ≡ drop (end_len (read_as nul_ends text.now)) text.now }
 {
     let mut rest = text;
-    while rest.len() >= LANES && are_returns(&rest[..LANES]) {
+    while rest.len() >= LANES && all_are(&rest[..LANES], b'\r') {
         rest = rest.split_at(LANES).1;
     }
     rest

@@ -5,6 +5,6 @@ use Rattle.texting_robots.proofs.parser.cut.skip_returns.Goals as goal
 pub loop-rest-preserved : goal.loop-rest-preserved
 loop-rest-preserved c =
     let rest = c.loop-rest.rest.now in
-    let all = sym c.are_returns.ensures ∙ c.if-are_returns.true in
+    let all = sym c.all_are.ensures ∙ c.if-all_are.true in
     rw c.split_at.ensures.back
     (past_returns c.args.nul_ends 32 rest all (omega arith) ∙ c.loop-rest.invariant)
