@@ -13,9 +13,26 @@ ghost use Rattle.texting_robots.specs.Steps.Robot.{IsComputedRobot, IsRefusalOf,
 use crate::error::Error;
 use crate::groups::{Walk, group_for};
 use crate::parser::{Kind, Line, Unread, unread_file_lines};
-use crate::robot::Robot;
 use crate::rules::{Gathered, Rules};
 use std::alloc::{AllocError, Global};
+use std::marker::Model;
+
+/// What a file gives one crawler: the parts of its robot.
+#[derive(Drop)]
+pub(crate) struct Parts {
+    pub(crate) delay: Option<u64>,
+    pub(crate) sitemaps: Vec<String>,
+    pub(crate) rules: Rules,
+}
+
+impl Model for Parts {
+    ghost use Rattle.std.specs.Prelude.{map, string_bytes};
+    ghost use Rattle.texting_robots.specs.Robot.{RobotValue};
+
+    ghost Value = { RobotValue };
+
+    ghost view = { λ p. record { delay = p.delay; sitemaps = map string_bytes p.sitemaps.items; rules = p.rules } };
+}
 
 /// Why a file gives no robot.
 #[derive(Drop)]
@@ -154,7 +171,7 @@ impl Reading {
 }
 
 /// Reads a whole file, in two passes: for the agent's group, and for what the group's lines give.
-pub(crate) fn read_file(alloc: Global, agent: &str, txt: &[u8]) -> Result<Robot, Refusal>
+pub(crate) fn read_file(alloc: Global, agent: &str, txt: &[u8]) -> Result<Parts, Refusal>
     ensures robot { IfOk result (IsComputedRobot agent.now (file_lines txt.now)) }
     ensures refused { IfErr result (IsRefusalOf (placed_rules agent.now (file_lines txt.now))) }
     ensures without_memory { placed_rules agent.now (file_lines txt.now) ≡ []
@@ -168,7 +185,7 @@ pub(crate) fn read_file(alloc: Global, agent: &str, txt: &[u8]) -> Result<Robot,
             return Err(refusal_at(number, error));
         }
     }
-    Ok(Robot {
+    Ok(Parts {
         delay: reading.delay.or(group.delay_before_agents),
         sitemaps: reading.sitemaps,
         rules: Rules::sorted(reading.rules),

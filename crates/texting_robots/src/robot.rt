@@ -76,7 +76,11 @@ impl Robot {
         ensures without_memory { HasLines (take limit txt.now) (GivesNothing agent.now) → IsOk result }
     {
         match read_file(alloc, agent, &txt[..limit.min(txt.len())]) {
-            Ok(robot) => Ok(robot),
+            Ok(parts) => Ok(Robot {
+                delay: parts.delay,
+                sitemaps: parts.sitemaps,
+                rules: parts.rules,
+            }),
             Err(Refusal::Overlong(_)) => Err(Error::InvalidRule),
             Err(Refusal::Memory) => Err(Error::Memory),
         }

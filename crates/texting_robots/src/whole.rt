@@ -1,5 +1,5 @@
 //! Whole URLs that the URL parser would leave as they are: the text that rules are matched with stands at their end.
-ghost use Rattle.std.specs.Prelude.{◌≡◌, ◌<◌, ◌≤◌, ◌≢◌, ℕ, List, drop, false, true, length, map, slice_index};
+ghost use Rattle.std.specs.Prelude.{◌≡◌, ◌<◌, ◌≤◌, ◌≢◌, ◌↔◌, ℕ, List, drop, false, true, length, map, slice_index};
 ghost use Rattle.std.specs.Prelude.{IfSome, IsSome, IsSomeAnd, IsTrue, decimal, option_map};
 ghost use Rattle.std.specs.Char.{is_ascii_lowercase};
 ghost use Rattle.std.specs.List.{prefix_len};
@@ -143,8 +143,7 @@ fn is_own(own: u16, digits: &[u8]) -> bool
 /// one, so it is a call of its own too.
 #[inline(never)]
 fn is_port(own: u16, digits: &[u8]) -> bool
-    ensures some { IsTrue result → IsOther own digits.now }
-    ensures whole { IsOther own digits.now → IsTrue result }
+    ensures { IsTrue result ↔ IsOther own digits.now }
 {
     if is_own(own, digits) {
         return false;
@@ -217,8 +216,7 @@ fn dot_len(text: &[u8]) -> usize
 /// Whether the segment is one dot or two, each written as it is or escaped.
 #[tactic(auto, unfolding(url::specs::Path::dot_count))]
 fn is_dots(segment: &[u8]) -> bool
-    ensures some { result ≡ true → dot_count segment.now ≢ 0 }
-    ensures none { result ≡ false → dot_count segment.now ≡ 0 }
+    ensures { IsTrue result ↔ (dot_count segment.now ≢ 0) }
 {
     let dot = dot_len(segment);
     let rest = &segment[dot..];
@@ -292,8 +290,7 @@ fn after_marked<'a>(mark: u8, part: &[u8; 16], text: &'a [u8]) -> &'a [u8]
 
 /// Whether the text is a path, a query and a fragment that stand as they are.
 fn is_target(text: &[u8]) -> bool
-    ensures some { IsTrue result → IsTarget text.now }
-    ensures whole { IsTarget text.now → IsTrue result }
+    ensures { IsTrue result ↔ IsTarget text.now }
 {
     let Some(query) = after_path(text) else {
         return false;

@@ -1,5 +1,5 @@
-use Rattle.std.proofs.Common.{◌≢◌, ◌∙◌, ◌-◌, ap, arith, drop, get_or, length, sym, take}
-use Rattle.std.proofs.lemmas.Bool.{cond-false, ne_eqb}
+use Rattle.std.proofs.Common.{◌≢◌, ◌∙◌, ◌-◌, ap, arith, drop, get_or, inl, inr, length, sym, take}
+use Rattle.std.proofs.lemmas.Bool.{cases_eq, cond-false, false≢true, ne_eqb}
 use Rattle.std.proofs.lemmas.List.{take_rest, get_or_past}
 use Rattle.url.specs.Path.{dot_count}
 use Rattle.texting_robots.specs.Steps.Whole.{past_path}
@@ -18,12 +18,15 @@ pub returns-then-is_dots : goal.returns-then-is_dots
 returns-then-is_dots c =
     let front = ap dot_count (rw take_rest at c.split.ensures.front) in
     c.loop-rest.invariant ∙ past_dots c.loop-rest.rest.now (omega arith)
-    (λ none. c.is_dots.ensures.some c.if-is_dots.true (front ∙ none))
+    (λ none. c.is_dots.ensures.0 c.if-is_dots.true (front ∙ none))
 
 pub loop-rest-preserved-else-is_dots : goal.loop-rest-preserved-else-is_dots
 loop-rest-preserved-else-is_dots c =
     let front = ap dot_count (rw take_rest at c.split.ensures.front) in
-    let none = sym front ∙ c.is_dots.ensures.none c.if-is_dots.false in
+    let none = sym front ∙ elim (cases_eq (dot_count c.split.result.0.now) 0) [
+      | inl none ↦ none
+      | inr dots ↦ absurd (false≢true (sym c.if-is_dots.false ∙ c.is_dots.ensures.1 dots))
+    ] in
     c.loop-rest.invariant ∙ past_more c.loop-rest.rest.now (omega arith) none
     ∙ ap past_path (sym (rw take_rest at c.split.ensures.rest))
 

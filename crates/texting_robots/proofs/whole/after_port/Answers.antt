@@ -7,7 +7,7 @@ use Rattle.texting_robots.proofs.whole.after_port.Goals as goal
 pub returns-then-is_port-clause-some : goal.returns-then-is_port-clause-some
 returns-then-is_port-clause-some c =
     let digits = rw take_rest at c.split.ensures.front in
-    let other = subst (IsOther c.args.own) digits (c.if-is_port.ensures.some refl) in
+    let other = subst (IsOther c.args.own) digits (c.if-is_port.ensures.0 refl) in
     rw (rw take_rest at c.split.ensures.rest) (port_read c.args.own c.args.text.now (omega arith) other)
 
 pub returns-then-is_port-clause-whole : goal.returns-then-is_port-clause-whole
@@ -19,4 +19,4 @@ pub returns-else-is_port-clause-whole : goal.returns-else-is_port-clause-whole
 returns-else-is_port-clause-whole c rest ends left =
     let read = port_left c.args.own c.args.text.now rest (omega arith) ends left in
     let digits = rw take_rest at c.split.ensures.front in
-    absurd (false≢true (c.if-is_port.ensures.whole (subst (IsOther c.args.own) (sym digits) read.0)))
+    absurd (false≢true (c.if-is_port.ensures.1 (subst (IsOther c.args.own) (sym digits) read.0)))

@@ -22,7 +22,7 @@ returns-in-47-clause-text c =
     let url = c.args.url.now in
     let target = c.in_ok-target.target.now in
     let (site, spelled, is_site) = rw c.as_bytes.ensures.value at c.in_ok-target.ensures.some in
-    let is = c.if-is_target.ensures.some refl in
+    let is = c.if-is_target.ensures.0 refl in
     let front : length site ≡ length url - length target =
     omega (arith, ap length spelled, length-append site target) in
     c.range_from.ensures.value ∙ ap (drop _) spelled ∙ drop_at site target _ front

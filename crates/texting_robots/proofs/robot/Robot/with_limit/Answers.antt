@@ -9,7 +9,7 @@ read limit n txt is = ap (λ n. take n txt) is ∙ take_min _ _
 
 pub returns-in-Ok-clause-robot : goal.returns-in-Ok-clause-robot
 returns-in-Ok-clause-robot c =
-    robot_of _ _ _ (rw (read _ _ _ c.min.ensures) at c.in-Ok.ensures.robot)
+    robot_of _ _ _ (rw (read _ _ _ c.min.ensures, ← c.parts.view_is) at c.in-Ok.ensures.robot)
 
 pub returns-in-Err-Overlong-clause-refused : goal.returns-in-Err-Overlong-clause-refused
 returns-in-Err-Overlong-clause-refused c =
