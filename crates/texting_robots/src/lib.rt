@@ -37,6 +37,7 @@ mod groups;
 mod lanes;
 pub mod laws;
 pub mod marks;
+mod matching;
 pub mod minregex;
 mod needs;
 mod one_agent;

@@ -1,13 +1,10 @@
 //! The pieces of a pattern, and where they stand in a text.
-ghost use Rattle.std.specs.Prelude.{◌≡◌, ℕ, ◌+◌, ◌-◌, ◌*◌, ◌≤◌, ◌↔◌, ◌++◌, ◌==◌, [], IsTrue, IfOk, length, take};
+ghost use Rattle.std.specs.Prelude.{◌≡◌, ℕ, ◌+◌, ◌-◌, ◌≤◌, ◌↔◌, ◌++◌, ◌==◌, IsTrue, IfOk, length, take};
 ghost use Rattle.std.specs.List.{list_all, position_or_len, prefix_len};
-ghost use Rattle.texting_robots.specs.Steps.Asked.{PassesTo};
 ghost use Rattle.texting_robots.specs.Steps.Border.{IsTable};
-ghost use Rattle.texting_robots.specs.Steps.Pieces.{AddsPieces, ArePieces, Closes, EndsAs, IsCutAtMark, IsEnding, is_mark};
-ghost use Rattle.texting_robots.specs.Pattern.{IsOverlong, Matches, collapsed, star};
-ghost use Rattle.texting_robots.specs.View.{LooksAtMost};
+ghost use Rattle.texting_robots.specs.Steps.Pieces.{AddsPieces, ArePieces, Closes, IsCutAtMark, is_mark};
+ghost use Rattle.texting_robots.specs.Pattern.{IsOverlong, collapsed, star};
 
-use crate::asked::Asked;
 use crate::lanes::{LANES, all_are, first_lane};
 use memchr::memchr2;
 use std::alloc::AllocError;
@@ -72,7 +69,7 @@ pub(crate) struct Pattern<'a> {
     pub(crate) bytes: &'a [u8],
     pub(crate) ends: Ends,
     pub(crate) pieces: &'a [Piece],
-    borders: &'a [usize],
+    pub(crate) borders: &'a [usize],
 }
 
 impl<'a> Model for Pattern<'a> {
@@ -103,25 +100,6 @@ impl<'a> Pattern<'a> {
             pieces,
             borders,
         }
-    }
-
-    /// Whether the pattern matches the text, or a beginning of it.
-    pub(crate) fn matches<A: Asked>(&self, asked: &mut A) -> bool
-        ensures answer { IsTrue result ↔ Matches self.now (A.seen asked.old).text }
-        ensures looks { LooksAtMost (A.seen asked.old) (A.seen asked.new) (2 * length (A.seen asked.old).text) }
-    {
-        let Some(mut rest) = asked.begins_with(&self.bytes[..self.ends.first_len]) else {
-            return false;
-        };
-        for piece in self.pieces {
-            let bytes = &self.bytes[piece.span.start..piece.span.end];
-            let table = &self.borders[piece.table..piece.table + bytes.len().saturating_sub(1)];
-            let Some(behind) = asked.find(rest, bytes, table) else {
-                return false;
-            };
-            rest = behind;
-        }
-        ends_as(asked, rest, self.bytes, self.ends.ending)
     }
 }
 
@@ -264,21 +242,6 @@ fn push_borders(borders: &mut Vec<usize>, piece: &[u8]) -> Result<(), AllocError
         borders.push(matched)?;
     }
     Ok(())
-}
-
-/// Whether what is left of the text is as the ending says.
-fn ends_as<A: Asked>(asked: &mut A, rest: A::Rest, pattern: &[u8], ending: Ending) -> bool
-    requires rest { A.is_rest rest (A.seen asked.old).text }
-    requires ending { IsEnding pattern.now ending }
-    ensures answer { IsTrue result ↔ EndsAs pattern.now ending (A.left rest (A.seen asked.old).text) }
-    ensures cost { PassesTo (A.seen asked.old) (A.seen asked.new) (A.left rest (A.seen asked.old).text) [] }
-{
-    match ending {
-        Ending::Open => true,
-        Ending::Closed => asked.is_at_end(rest),
-        Ending::Last(span) => asked.ends_with(rest, &pattern[span.start..span.end]),
-        Ending::Never => false,
-    }
 }
 
 /// Cuts a pattern, and adds its searched pieces and their tables at the end.
