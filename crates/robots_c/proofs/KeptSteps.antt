@@ -1,19 +1,30 @@
--- The machine values of a `Kept`.
-use Rattle.std.proofs.Common.{◌≡◌, ◌<◌, ◌^◌, ℤ, List, [], ◌∷◌, ◌++◌, Option, refl, subst}
+-- What C keeps: the machine values of a `Kept` and a `Handle`, and what they own.
+use Rattle.std.proofs.Common.{◌≡◌, ◌<◌, ◌^◌, ℕ, ℤ, List, [], ◌∷◌, ◌++◌, Option, Some, refl, subst, sym}
 use seplogic.Ra.Ura.{Ura}
+use base.Fml.{fall, fex}
+use base.Logic.{all_i, ent, guard_i, snd∗, via}
+use mir.Raw.{raw as bare}
 use mir.Syntax.{w32}
-use mir.Val.{Val, vint, vstruct, vcons, vnil, of_list, of_z, hbits}
+use mir.Val.{Val, vint, vptr, vstruct, vcons, vnil, of_list, of_z, hbits}
 use lib.Signed.{mag}
-use types.Logic.{Logic}
-use types.Kit.{Item, Goal, Seq, Step, step, ‵, ◌$◌, drop, fsplit, fjoin, fpick, fpack, feq_i, feq_l, flt_i}
+use types.Logic.{Logic, sem}
+use types.Kit.{Item, Goal, Seq, Step, step, ‵, given, ◌$◌, ◌∵◌, !, qed, done, drop, learn, use1, fsplit, fjoin}
+use types.Kit.{fpick, fpack, feq_i, feq_l, flt_i, move}
+use contract.Monad.{fact_use}
 use denote.RattleType.{RattleType, Valss}
 use denote.Builtin.{RawPtr, i32}
 use denote.Laws.{Is, shows}
-use denote.RawPtr.{Ptr, ptr_val}
+use denote.Memory.{lone}
+use denote.RawPtr.{Ptr, Testable, block_ptr, null_ptr, ptr_val}
 use denote.Steps.{nothing, peeks}
 use denote.Struct.Struct.{within}
 use denote.Struct.Owning.{shape}
-use Rattle.robots_c.specs.Kept.{kept_at}
+use Rattle.std.proofs.GlobalToken.{dealloc_token-Testable}
+use Rattle.std.specs.Ptr.{points_to}
+use Rattle.std.specs.contracts.alloc.Global as Global
+use Rattle.std.specs.declared.alloc.Global.{Global as GlobalValue}
+use Rattle.robots_c.specs.Kept.{frees, heap, kept_at, opened_at, owned_at, owned_or_null}
+use Rattle.robots_c.specs.contracts.kept.Handle as Handle
 use Rattle.robots_c.specs.contracts.kept.Kept as kept
 
 abbrev pub word : ℤ → Val → Val
@@ -21,6 +32,10 @@ word z v = vstruct (vcons (vint w32 (of_z w32 z)) (vcons v vnil))
 
 abbrev pub Fits : ℤ → Type 0
 Fits z = mag z < 2 ^ hbits w32
+
+-- the pointer of a handle, and its handle of the heap
+abbrev pub handle_word : ℕ → ℕ → Val → Val
+handle_word b o h = vstruct (vcons (vptr b o) (vcons h vnil))
 
 module _ (R : RattleType) where
   abbrev pub Row : RattleType
@@ -51,3 +66,39 @@ module _ (R : RattleType) where
         k (subst (λ (ps : List Val). vs ≡ vstruct (of_list ((vint w32 (of_z w32 d.status)
         ∷ []) ++ (ps ++ []))) ∷ []) ep (subst
         (λ (ws : List Val). vs ≡ vstruct (of_list (ws ++ (vss.1.0 ++ []))) ∷ []) is.0 ev)) is.1))))
+
+    pub handle_in : K → (g : GlobalValue) (h : Val) (b o : ℕ) (x : R.Denot)
+        → Step K 𝓛 (‵ ((Handle.the_row R).own_val (record { at = block_ptr b o; alloc = g; value = x })
+        (handle_word b o h ∷ [])) ∷ Γ) G
+        (‵ (Global.the_row.own_val g (h ∷ [])) ∷ ‵ (owned_at R (block_ptr b o) x) ∷ Γ) G
+    handle_in t g h b o x = step (λ s. let w = handle_word b o h in
+        nothing t $ move t (1 ∷ 0 ∷ []) $ fjoin t $
+        feq_i t (List Val) (vptr b o ∷ []) (vptr b o ∷ []) refl $ fjoin t $
+        feq_i t (List Val) (w ∷ []) (w ∷ []) refl $ fjoin t $
+        fpack t (Valss (RawPtr ∷ Global.the_row ∷ [])) (within (shape (Handle.the_type R)) (
+          block_ptr b o,
+          (((tt, tt), tt), tt),
+        ) (w ∷ [])) (vptr b o ∷ [], (h ∷ [], tt)) $ fjoin t $ s)
+
+    -- the pointer is null and nothing is owned, or it points to a value, and may be compared with null
+    pub null_or_owned : K → (p : Ptr) (x : R.Denot) → (p ≡ null_ptr → Seq K 𝓛 Γ G)
+        → ((b o : ℕ) → p ≡ block_ptr b o → Testable (block_ptr b o)
+        → Seq K 𝓛 (‵ (owned_at R (block_ptr b o) x) ∷ Γ) G)
+        → Seq K 𝓛 (‵ (owned_or_null R p x) ∷ Γ) G
+    null_or_owned t null_ptr x none some' = drop t $ none refl
+    null_or_owned t (block_ptr b o) x none some' =
+        let at = block_ptr b o in let F = owned_at R at x in let τ = bare (lone R.mir) in
+        use1 𝓛 (given (Testable at) (‵ F)) (fact_use 𝓤 (Testable at)
+        (via 𝓤 _ (snd∗ 𝓤 (sem 𝓛 (points_to R at x)) (sem 𝓛 (frees τ at))) (dealloc_token-Testable 𝓛 heap τ at))
+        (guard_i 𝓤 (Testable at) (sem 𝓛 F))) $ learn t (λ may. some' b o refl may)
+
+  -- a value that C owns from then on
+  module _ {M : Type 1} {𝓤 : Ura M} (𝓛 : Logic 𝓤) (P : R.Denot → Type 0) (at : Ptr) where
+    pub owned_then : (kept : Option R.Denot) (A : Type 0) → (A
+        → (x : R.Denot) × P x × (kept ≡ Some x))
+        → ent 𝓤 (sem 𝓛 (kept_at R at kept)) (sem 𝓛 (fall A (λ _. opened_at R P at)))
+    owned_then kept A known = all_i 𝓤 (λ (e : A). sem 𝓛 (opened_at R P at)) (λ e. let x = known e in
+        subst (λ (k : Option R.Denot). ent 𝓤 (sem 𝓛 (kept_at R at k)) (sem 𝓛
+        (opened_at R P at))) (sym x.2)
+        (qed 𝓛 (‵ (owned_at R at x.0) ∷ []) ∵ fpack ! (P x.0) (λ _. owned_at R at x.0) x.1 $
+        fpack ! R.Denot (λ x. fex (P x) (λ _. owned_at R at x)) x.0 $ done !))

@@ -1,3 +1,4 @@
 pub mod KeptSteps
 pub mod MatrixLemmas
 pub mod NumberLemmas
+pub mod WalkSteps

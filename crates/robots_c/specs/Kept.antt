@@ -9,10 +9,14 @@ use Rattle.std.specs.declared.alloc.Global.{Global}
 use Rattle.std.specs.contracts.impls.GlobalAllocator.TheImpl.{ghosts}
 use Rattle.std_alloc.specs.Box.Ownership.{box_owns}
 use Rattle.texting_robots.specs.contracts.robot.Robot as Robot-type
+use Rattle.texting_robots.specs.contracts.site.Site as Site-type
 
 -- the types that C keeps
 abbrev pub Robots : RattleType
 Robots = Robot-type.the_row
+
+abbrev pub Sites : RattleType
+Sites = Site-type.the_row
 
 -- a handle of the heap: it carries nothing, so this is each of them
 abbrev pub heap : Global

@@ -1,7 +1,7 @@
 -- The status that C gets, and its cause.
 use Rattle.std.specs.Prelude.{◌≡◌, ◌⊎◌, ℕ, ◌*◌, ◌<◌, ℤ, pos, negsuc, List}
-use Rattle.std.specs.Prelude.{Option, None, Ok, Err, IsUtf8, if◌then◌else◌, length}
-use Rattle.texting_robots.specs.Callers.{IsFirstOverlong, TakesNoMemory, file_lines, is_named}
+use Rattle.std.specs.Prelude.{Option, None, Ok, Err, IsUtf8, length}
+use Rattle.texting_robots.specs.Callers.{IsFirstOverlong, TakesNoMemory, file_lines}
 use Rattle.texting_robots.specs.Callers.{placed_rules, robots_address}
 use Rattle.url.specs.declared.error.ParseError.{ParseError}
 use Rattle.robots_c.specs.File.{HasDelay}
@@ -47,6 +47,10 @@ IsWhyNoRobot agent site NotUtf8 = ¬ IsUtf8 agent
 IsWhyNoRobot agent site Memory = IsUtf8 agent
 IsWhyNoRobot agent site (Overlong line) = IsUtf8 agent × IsOverlongLine agent site line
 IsWhyNoRobot agent site _ = ⊥
+
+-- of a site
+abbrev pub IsWhyNoSite : Fault → Type 0
+IsWhyNoSite fault = fault ≡ Memory
 
 -- of results for the URLs in a text, where there is room for so many
 abbrev pub IsWhyNoResults : List ℕ → ℕ → Fault → Type 0

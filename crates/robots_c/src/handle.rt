@@ -2,41 +2,15 @@
 ghost use Rattle.std.specs.Prelude.{◌≡◌, ◌≢◌, Option, Some, None, IfErr, IfOk, pos};
 ghost use Rattle.robots_c.specs.File.{GivesRobot, IsRobotFor, bytes_read};
 ghost use Rattle.robots_c.specs.Status.{HasFault, HasFaultAt, IsWhyNoRobot, IsWhyNone};
-ghost use Rattle.texting_robots.specs.Callers.{RobotValue};
 
 use crate::fault::Fault;
 use crate::file::robot_of;
-use crate::kept::Kept;
+use crate::kept::{Handle, Kept};
 use std::alloc::Global;
-use std::marker::Model;
 use texting_robots::Robot;
 
-/// A robot that C keeps: the handle owns the block that `at` points to.
-#[repr(C)]
-pub struct Handle {
-    pub(crate) at: *mut u8,
-    pub(crate) alloc: Global,
-    pub ghost value: { RobotValue },
-}
-
-impl Model for Handle {
-    ghost use Rattle.robots_c.specs.Kept.{Robots, owned_at};
-
-    ghost also_owns = { λ h. owned_at Robots h.at h.value };
-}
-
-impl Handle {
-    /// The robot in its box.
-    pub(crate) fn into_box(self) -> Box<Robot>
-        ensures { result.value ≡ self.value }
-    {
-        let Handle { at, alloc } = self;
-        unsafe { Box::from_raw(alloc, at as *mut Robot) }
-    }
-}
-
-/// Frees what a handle owns.
-pub(crate) fn close(robot: Handle) {
+/// Frees a robot that C gives back.
+pub(crate) fn close(robot: Handle<Robot>) {
     drop(robot.into_box());
 }
 

@@ -1,7 +1,8 @@
 //! What C keeps between calls.
 ghost use Rattle.std.specs.Prelude.{◌≡◌, Option, Some};
-ghost use Rattle.robots_c.specs.Kept.{kept_at};
+ghost use Rattle.robots_c.specs.Kept.{kept_at, owned_at};
 
+use std::alloc::Global;
 use std::marker::Model;
 
 /// The status of a call, and the place of the value that C owns from then on, if it owns one.
@@ -33,5 +34,26 @@ impl<T> Kept<T> {
         ensures at { result.at ≡ at }
     {
         Kept { status, at }
+    }
+}
+
+/// A value that C gives back: the handle owns the block that `at` points to.
+pub(crate) struct Handle<T> {
+    pub(crate) at: *mut T,
+    pub(crate) alloc: Global,
+    pub ghost value: { T },
+}
+
+impl<T> Model for Handle<T> {
+    ghost also_owns = { λ h. owned_at T.row h.at h.value };
+}
+
+impl<T: Drop> Handle<T> {
+    /// The value in its box.
+    pub(crate) fn into_box(self) -> Box<T>
+        ensures { result.value ≡ self.value }
+    {
+        let Handle { at, alloc } = self;
+        unsafe { Box::from_raw(alloc, at) }
     }
 }

@@ -9,30 +9,31 @@ ghost use base.Fml.{Lft, Share, fall, flft};
 ghost use denote.Struct.Lending.{lent_at};
 ghost use Rattle.robots_c.specs.File.{AreAgents, AreSitemaps, GivesRobot, HasDelay, IsRobotFor, IsRobotOfSomeFile};
 ghost use Rattle.robots_c.specs.File.{bytes_read};
-ghost use Rattle.robots_c.specs.Kept.{Robots, opened_at, owned_or_null};
+ghost use Rattle.robots_c.specs.Kept.{Robots, Sites, opened_at, owned_or_null};
 ghost use Rattle.robots_c.specs.Results.{ArePutIn, HasResult, IsMatrixPutIn};
 ghost use Rattle.robots_c.specs.Status.{HasFault, HasFaultAt, IsAddress, IsWhyNoAddress, IsWhyNoDelay, IsWhyNoMatrix};
-ghost use Rattle.robots_c.specs.Status.{IsWhyNoResult, IsWhyNoResults, IsWhyNoRobot, IsWhyNone, IsWhyUndecided};
-ghost use Rattle.robots_c.specs.Status.{status_of};
+ghost use Rattle.robots_c.specs.Status.{IsWhyNoResult, IsWhyNoResults, IsWhyNoRobot, IsWhyNoSite, IsWhyNone};
+ghost use Rattle.robots_c.specs.Status.{IsWhyUndecided, status_of};
 ghost use Rattle.robots_c.specs.Text.{IsTooLong, IsWritten};
 ghost use Rattle.texting_robots.specs.Callers.{RobotValue};
 
 mod fault;
 mod file;
-pub mod handle;
+mod handle;
 mod kept;
 mod matrix;
 mod overlong;
+mod site;
 mod texts;
 mod urls;
 
 use fault::Fault;
 use file::delay_of;
-use handle::{Handle, close, opened, query_delay};
-use kept::Kept;
+use handle::{close, opened, query_delay};
+use kept::{Handle, Kept};
 use matrix::matrix_of;
 use std::alloc::Global;
-use texting_robots::Robot;
+use texting_robots::{Robot, Site};
 use texts::{address, agents_of, put, sitemaps_of};
 use urls::{decide, query, query_many};
 
@@ -240,5 +241,36 @@ pub unsafe extern "C" fn robots_close(alloc: Global, robot: *mut u8)
     if robot.is_null() {
         return;
     }
-    close(Handle { at: robot, alloc })
+    close(Handle {
+        at: robot as *mut Robot,
+        alloc,
+    })
+}
+
+/// Reads a file for all crawlers, and writes a pointer to the site that it gives, which C owns from then on. Only memory can be
+/// short.
+#[unsafe(no_mangle)]
+pub extern "C" fn robots_site_open(alloc: Global, file: &[u8], out: &mut *mut u8) -> i32
+    ensures kept { result ≢ pos 0 → out.new ≡ out.old }
+    ensures why { HasFault IsWhyNoSite result }
+    ensures* opened { sem 𝓛 (fall (result ≡ pos 0) (λ _. opened_at Sites (λ site. site ≡ bytes_read file.now) out.new)) }
+{
+    let Kept { status, at } = site::opened(alloc, file, *out as *mut Site);
+    *out = at as *mut u8;
+    status
+}
+
+/// Frees a site that `robots_site_open` opened. If the pointer is null, it does nothing.
+#[unsafe(no_mangle)]
+pub unsafe extern "C" fn robots_site_close(alloc: Global, site: *mut u8)
+    ghost value: { List ℕ }
+    requires* owned { sem 𝓛 (owned_or_null Sites site value) }
+{
+    if site.is_null() {
+        return;
+    }
+    site::close(Handle {
+        at: site as *mut Site,
+        alloc,
+    })
 }

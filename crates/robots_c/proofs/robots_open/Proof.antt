@@ -1,22 +1,18 @@
 -- `robots_open` writes the place of the robot that C owns.
-use Rattle.std.proofs.Common.{◌≡◌, ◌≢◌, ℕ, pos, List, [], ◌∷◌, ◌++◌, Option, Some, length, refl, sym, ap}
-use Rattle.std.proofs.Common.{subst}
-use seplogic.Ra.Ura.{Ura}
-use lib.Dec.{T as IsT}
+use Rattle.std.proofs.Common.{◌≡◌, ◌≢◌, ℕ, pos, List, [], ◌∷◌, ◌++◌, Some, length, refl, ap}
 use base.Fraction.{full_share}
-use base.Fml.{Lft, ftrue, flft, fall, fex}
-use base.Logic.{SProp, ent, emp, id⊢, all_i}
-use mir.Syntax.{impl, tnil, dnil, named, imm, w8, w32, ty_int, ty_ptr, ty_ref}
-use mir.Val.{Val, vptr, vint, of_z, has_ty, WT}
+use base.Fml.{Lft, ftrue, flft, fall}
+use base.Logic.{SProp, id⊢}
+use mir.Syntax.{named, imm, w8, w32, ty_int, ty_ptr}
+use mir.Val.{Val, vptr}
 use mir.ValLaws.{of_z_fits}
 use prog.Wp.{WpFn}
-use types.Logic.{Logic, sem}
-use types.Kit.{‵, raw, ◌⊛◌, some, later, prop, ◌$◌, ◌∵◌, !, qed, by, done, move, keep, drop, split, join}
-use types.Kit.{fsplit, fsplit3, fjoin, fpack, pick, regoal, rewrite, use0, use1, await, feq_l, feq_i}
+use types.Kit.{‵, raw, ◌⊛◌, some, later, prop, ◌$◌, ◌∵◌, !, qed, by, move, keep, drop, split, join}
+use types.Kit.{fsplit, fsplit3, fjoin, pick, regoal, rewrite, use1, await, feq_l, feq_i}
 use types.Run.{of_opd, addr, load, look, store, stop, fld, assigns, no_more, and_then, returns, enter}
 use types.ByLocal.{alloc_all, pass_all, free_all, look_at, get, get_in, through, sets, lands_as}
 use types.Part.{sub, whole}
-use contract.Monad.{fact, fact_i}
+use contract.Monad.{fact}
 use contract.Running.{tables}
 use denote.Builtin.{i32, u8, usize, SliceRefOf}
 use denote.Exit.{yes}
@@ -26,7 +22,7 @@ use denote.RawPtr.{Ptr, RawPtr, ptr_val, rawptr_Lawful}
 use denote.Ref.{MutRef, mut_Tells}
 use denote.Signed.{sint_Makes}
 use denote.Signature.{types_at, plain}
-use denote.Slice.{ShrSlice, shr_slice_Tells, slice_val, slice_ty}
+use denote.Slice.{ShrSlice, shr_slice_Tells, slice_val}
 use denote.Steps.{nothing, only, heard, owned, opens, closes}
 use denote.Triple.Clauses.{Lasts, lasts}
 use denote.Triple.Entry.{Args}
@@ -35,44 +31,21 @@ use denote.Triple.Call.{calls_at}
 use denote.Triple.Table.{framed}
 use denote.Triple.Walked.{Stays, stay_dropped, Goes-dropped, stay_ref, Goes-ref, gave_ref, Goes-gave_ref}
 use denote.Triple.Walked.{walk_of}
-use Rattle.std.proofs.alloc.Calls.{Al, Goes-blank, handle_tells}
+use Rattle.std.proofs.alloc.Calls.{Goes-blank, handle_tells}
 use Rattle.std.proofs.raw_atomic.Walks.{proved_at, leaves}
 use Rattle.std_alloc.proofs.ResultValues.{and_tt}
-use Rattle.std.specs.contracts.alloc.Global as Global
-use Rattle.std.proofs.alloc.Global.TheLaws as Global-laws
 use Rattle.robots_c.specs.File.{GivesRobot, IsRobotFor, bytes_read}
-use Rattle.robots_c.specs.Kept.{Robots, kept_at, opened_at, owned_at}
+use Rattle.robots_c.specs.Kept.{Robots, opened_at}
 use Rattle.robots_c.specs.Status.{HasFaultAt, IsWhyNoRobot}
-use Rattle.texting_robots.specs.Callers.{RobotValue}
 use Rattle.robots_c.specs.contracts.handle.opened as callee
 use Rattle.robots_c.proofs.handle.opened.Met.{met}
-use Rattle.robots_c.proofs.KeptSteps.{Row, kept_out}
+use Rattle.robots_c.proofs.KeptSteps.{Row, kept_out, owned_then}
+use Rattle.robots_c.proofs.WalkSteps.{Good, Heap, heap_slot, hears, pointer_slot, slice_good, status_val}
+use Rattle.robots_c.proofs.WalkSteps.{tells}
 use Rattle.robots_c.specs.contracts.robots_open.{ended, clauses}
 use Rattle.robots_c.specs.contracts.robots_open.Key.{name as #self}
 use Rattle.robots_c.proofs.robots_open.Statement.{statement}
 use Rattle.robots_c.proofs.robots_open.Code as code
-
-abbrev Z : Al
-Z = record {
-  row = Global.the_row;
-  laws = Global-laws.the_row_laws;
-  g = record {
-    dealloc_token = λ a σ p.
-        ftrue;
-  };
-  d = impl [] tnil dnil;
-  drops = impl [] tnil dnil;
-}
-
-module _ {M : Type 1} {𝓤 : Ura M} (𝓛 : Logic 𝓤) (P : RobotValue → Type 0) (at : Ptr) where
-  owned_then : (kept : Option RobotValue) (A : Type 0) → (A
-      → (robot : RobotValue) × P robot × (kept ≡ Some robot))
-      → ent 𝓤 (sem 𝓛 (kept_at Robots at kept)) (sem 𝓛 (fall A (λ _. opened_at Robots P at)))
-  owned_then kept A given = all_i 𝓤 (λ (e : A). sem 𝓛 (opened_at Robots P at)) (λ e. let x = given e in
-      subst (λ (k : Option RobotValue). ent 𝓤 (sem 𝓛 (kept_at Robots at k)) (sem 𝓛
-      (opened_at Robots P at))) (sym x.2)
-      (qed 𝓛 (‵ (owned_at Robots at x.0) ∷ []) ∵ fpack ! (P x.0) (λ _. owned_at Robots at x.0) x.1 $
-      fpack ! RobotValue (λ robot. fex (P robot) (λ _. owned_at Robots at robot)) x.0 $ done !))
 
 abbrev Opened : List ℕ → List ℕ → (Row Robots).Denot → Type 0
 Opened agent file r = r.status ≡ pos 0 → GivesRobot agent (bytes_read file) (λ robot. r.value ≡ Some robot)
@@ -85,38 +58,23 @@ robots_open_spec 𝓤 𝓛 𝓜 𝓡 wired =
     let H = 𝓛.H in let 𝓣 = tables 𝓤 H 𝓜 𝓡 𝓡.env in let R : RattleType = Robots in
     let En = ended in let c = clauses 𝓛 𝓜.mem 𝓡.returns in let fn = code.function in
     let hs : Stays En.signature.params En.kept = (
-      stay_dropped (plain (λ _. Global.the_row)) yes,
+      stay_dropped (heap_slot 4) yes,
       (
         stay_dropped (SliceRefOf (0 ∷ []) tt (plain (λ _. u8)) (λ κs. tt)) yes,
         (
-          stay_dropped (SliceRefOf (1 ∷ []) tt (plain (λ _. u8))
-              (λ κs. tt)) yes,
-          (
-            stay_ref (2 ∷ []) tt (plain (λ _. RawPtr)),
-            (
-              gave_ref (3 ∷ []) tt (plain
-                  (λ _. usize)),
-              tt,
-            ),
-          ),
+          stay_dropped (SliceRefOf (1 ∷ []) tt (plain (λ _. u8)) (λ κs. tt)) yes,
+          (stay_ref (2 ∷ []) tt (pointer_slot 4), (gave_ref (3 ∷ []) tt (plain (λ _. usize)), tt)),
         ),
       ),
     ) in
     proved_at 𝓛 En hs c 𝓜 𝓡 (
-      Goes-blank 𝓛 4 (plain (λ _. Global.the_row)) yes (λ κs x f. tt),
+      Goes-blank 𝓛 4 (heap_slot 4) yes (λ κs x f. tt),
       (
         Goes-dropped 𝓛 4 (SliceRefOf (0 ∷ []) tt (plain (λ _. u8)) (λ κs. tt)) yes (λ κs x f. refl),
         (
           Goes-dropped 𝓛 4 (SliceRefOf (1 ∷ []) tt (plain (λ _. u8)) (λ κs. tt)) yes
               (λ κs x f. refl),
-          (
-            Goes-ref 𝓛 4 2 tt (plain (λ _. RawPtr)),
-            (
-              Goes-gave_ref 𝓛 4 3 tt (plain
-                  (λ _. usize)),
-              tt,
-            ),
-          ),
+          (Goes-ref 𝓛 4 2 tt (pointer_slot 4), (Goes-gave_ref 𝓛 4 3 tt (plain (λ _. usize)), tt)),
         ),
       ),
     ) #self fn (code.unfolded 𝓤 H 𝓜 𝓡 wired) (λ z are.
@@ -130,12 +88,12 @@ robots_open_spec 𝓤 𝓛 𝓜 𝓡 wired =
     let e2 = shr_slice_Tells (named 1) β u8 file vs.1.1.0 are.1.1.0 in
     let e3 = mut_Tells (named 2) γ RawPtr out vs.1.1.1.0 are.1.1.1.0 in
     let e4 = mut_Tells (named 3) δ usize line vs.1.1.1.1.0 are.1.1.1.1.0 in
-    let good_p : (x : Ptr) → IsT (has_ty ty_ptr (ptr_val x)) × WT (ptr_val x) = λ x.
+    let good_p : (x : Ptr) → Good ty_ptr (ptr_val x) = λ x.
     ((rawptr_Lawful 𝓛).typed x (ptr_val x ∷ []) refl).0 in
     let Cell = λ (us : List Val). ‵ (cell_at full_share RawPtr.mir us b o) in
     qed 𝓛 (((‵ (flft α qα) ⊛ ‵ (flft β qβ) ⊛ ‵ (flft γ qγ) ⊛ ‵ (flft δ qδ) ⊛ ‵ ftrue)
     ⊛ ‵ (owns (types_at En.signature.params z.0.0) a vs)) ∷ ‵ ftrue ∷ []) ∵
-    split ! $ move ! (2 ∷ []) $ drop ! $ move ! (1 ∷ []) $ fsplit ! $ handle_tells Z ! g vs.0 (λ h eh fits.
+    split ! $ move ! (2 ∷ []) $ drop ! $ move ! (1 ∷ []) $ fsplit ! $ handle_tells Heap ! g vs.0 (λ h eh fits.
     move ! (1 ∷ []) $ fsplit ! $ rewrite ! 0
     (λ (ws : List Val). ‵ ((ShrSlice (named 0) α u8).own_val agent ws)) e1 refl $
     move ! (1 ∷ []) $ fsplit ! $ rewrite ! 0
@@ -149,25 +107,20 @@ robots_open_spec 𝓤 𝓛 𝓜 𝓡 wired =
     let sa : Val = slice_val agent.ref_ptr (length agent.now) in
     let sf : Val = slice_val file.ref_ptr (length file.now) in
     let sl : Val = vptr line.ref_ptr.0 line.ref_ptr.1 in
-    let good_a : IsT (has_ty (slice_ty (ty_ref (named 0) imm (ty_int w8))) sa) × WT sa = (
-      tt,
-      (
-        tt,
-        (record { fits = are.1.0.0.1.0 }, tt),
-      ),
-    ) in
-    let good_f : IsT (has_ty (slice_ty (ty_ref (named 1) imm (ty_int w8))) sf) × WT sf = (
-      tt,
-      (
-        tt,
-        (record { fits = are.1.1.0.0.1.0 }, tt),
-      ),
-    ) in
     let ws : List Val = h ∷ sa ∷ sf ∷ vptr b o ∷ sl ∷ [] in
     regoal ! (λ (us : List Val). prop (WpFn 𝓤 H 𝓣.C 𝓣.Λ fn us Post))
     (λ j. eh j ++ (e1 j ++ (e2 j ++ (e3 j ++ (e4 j ++ []))))) refl $
     enter ! 𝓣.C 𝓣.Λ fn ws Post $ alloc_all !
-    (λ l. pass_all ! refl (fits, (good_a, (good_f, ((tt, tt), ((tt, tt), tt))))) $
+    (λ l. pass_all ! refl (
+      fits,
+      (
+        slice_good (named 0) imm w8 agent.ref_ptr _ are.1.0.0.1.0,
+        (
+          slice_good (named 1) imm w8 file.ref_ptr _ are.1.1.0.0.1.0,
+          ((tt, tt), ((tt, tt), tt)),
+        ),
+      ),
+    ) $
     fsplit3 ! $ move ! (1 ∷ 2 ∷ 3 ∷ []) $ opens ! tt RawPtr b o (λ us. move ! (1 ∷ []) $
     feq_l ! (λ eus. rewrite ! 0 Cell eus refl $
     -- [the cell; the open borrow, in three entries; the place; nothing; δ; β; α; nothing; file; agent; the
@@ -215,15 +168,15 @@ robots_open_spec 𝓤 𝓛 𝓜 𝓡 wired =
     ⊛ (raw (fact 𝓤 (r.status ≢ pos 0 → r.at ≡ p))
     ⊛ raw (fact 𝓤 (Why agent.now file.now r line.now ls.1.1.1.1.0)))))))) (id⊢ 𝓤 (k.post y u)) $
     await ! tt $ pick ! (λ r. split ! $ move ! (1 ∷ []) $ pick ! (λ ls. let w = ls.1.1.1.1.0 in
-    split ! $ move ! (1 ∷ []) $ split ! $ heard ! (Opened agent.now file.now r) (λ opened. split ! $
-    heard ! (r.status ≢ pos 0 → r.at ≡ p) (λ kept. heard ! (Why agent.now file.now r line.now w) (λ why.
+    split ! $ move ! (1 ∷ []) $ hears ! (Opened agent.now file.now r) (λ opened.
+    hears ! (r.status ≢ pos 0 → r.at ≡ p) (λ kept. heard ! (Why agent.now file.now r line.now w) (λ why.
     fsplit ! $ drop ! $ fsplit ! $ drop ! $ fsplit ! $ drop ! $ fsplit ! $ drop ! $ fsplit ! $
     move ! (1 ∷ []) $ drop ! $
     move ! (1 ∷ []) $ split ! $ move ! (1 ∷ []) $ kept_out R ! r (u ∷ []) (λ eu small.
     -- [what is kept; the tokens; what line was given; the cell; the open borrow, in three entries; the
     -- place; nothing]
-    let n = r.status in let i : Val = vint w32 (of_z w32 n) in
-    let good_i : IsT (has_ty (ty_int w32) i) × WT i = (tt, of_z_fits w32 n (record { sfits = small })) in
+    let n = r.status in let i : Val = status_val n in
+    let good_i : Good (ty_int w32) i = (tt, of_z_fits w32 n (record { sfits = small })) in
     lands_as ! (ap only eu) refl (and_tt _ (good_p r.at).0, (good_i.1, ((good_p r.at).1, tt))) $
     sets ! (of_opd ! (get_in ! (fld ! refl (stop !)) (sub ! 0 refl (whole !)))) refl good_i $
     sets ! (of_opd ! (get_in ! (fld ! refl (stop !)) (sub ! 1 refl (whole !)))) refl (good_p r.at) $
@@ -242,11 +195,9 @@ robots_open_spec 𝓤 𝓛 𝓜 𝓡 wired =
     move ! (1 ∷ 0 ∷ []) $ join ! $ move ! (1 ∷ 0 ∷ []) $ join ! $
     -- [the tokens; the parameters; what is kept; nothing]
     move ! (2 ∷ []) $ use1 𝓛 (‵ (fall (n ≡ pos 0)
-    (λ _. opened_at Robots (IsRobotFor agent.now (bytes_read file.now)) r.at))) (owned_then 𝓛
+    (λ _. opened_at Robots (IsRobotFor agent.now (bytes_read file.now)) r.at))) (owned_then Robots 𝓛
     (IsRobotFor agent.now (bytes_read file.now)) r.at r.value (n ≡ pos 0) opened) $
-    use0 𝓛 (raw (fact 𝓤 (Why agent.now file.now r line.now w))) (fact_i 𝓤
-    (Why agent.now file.now r line.now w) (emp 𝓤) why) $ join ! $
-    use0 𝓛 (raw (fact 𝓤 (n ≢ pos 0 → r.at ≡ p))) (fact_i 𝓤 (n ≢ pos 0 → r.at ≡ p) (emp 𝓤) kept) $ join ! $
+    tells ! why $ tells ! kept $
     owned ! i32 _ (sint_Makes 𝓛 w32) n _ (refl, small) $ keep ! (2 ∷ 3 ∷ 0 ∷ 1 ∷ []) $
     by ! (leaves 𝓛 En hs c z i n (tt, (tt, (tt, (r.at, (w, tt))))) (
       tt,

@@ -1,77 +1,66 @@
 -- `into_box` makes the box again.
 use Rattle.std.proofs.Common.{◌≡◌, List, [], ◌∷◌, ◌++◌, refl, sym, ap, subst}
-use mir.Syntax.{dnil, impl, tcons, tnil}
-use mir.Val.{Val, vptr, vstruct, vcons, vnil, of_list, has_ty, WT}
 use lib.Dec.{T as IsT}
 use mathlib.Core.Bool.{true, ◌&&◌}
-use Rattle.std_alloc.proofs.ResultValues.{and_tt}
-use base.Fml.{Incl-refl}
-use mir.Syntax.{Ty}
+use mir.Syntax.{a_type, dcons, dnil, impl, tcons, tnil}
 use mir.Raw.{raw as bare}
+use mir.MapTy.{inst_fn}
+use mir.Val.{Val, vptr, vstruct, vcons, vnil, of_list, has_ty, WT}
 use base.Fraction.{full_share}
+use base.Fml.{Incl-refl, Lft, Share, ftrue, flft}
 use base.Logic.{SProp, ent, id⊢, never, fst∗, emp}
-use base.Fml.{ftrue, flft, Lft, Share}
 use prog.Wp.{WpFn}
 use types.Logic.{sem}
-use types.Kit.{‵, raw, ◌⊛◌, some, later, at_ret, ◌$◌, ◌∵◌, !, qed, by, move, keep, drop}
-use types.Kit.{split, split3, join, fsplit, fjoin, fpick, feq_l, pick, suffices, use0, use1, await, rewrite}
-use types.Kit.{feq_i}
+use types.Kit.{‵, raw, ◌⊛◌, some, later, at_ret, ◌$◌, ◌∵◌, !, qed, by, move, keep, drop, split, split3, join}
+use types.Kit.{fsplit, fjoin, fpick, feq_l, feq_i, pick, suffices, use0, use1, await, rewrite}
 use types.Run.{stop, fld, of_opd, no_more, and_then, first, blocks, exec, returns, enter}
 use types.ByLocal.{alloc_all, pass_all, free_all, look_at, get, get_in, sets, lands_last, env}
 use types.Part.{sub, whole}
 use contract.Monad.{fact, fact_i}
 use contract.BorrowLft.{◌⊑◌}
-use contract.Running.{tables, tables_of}
+use contract.Running.{tables}
+use denote.Exit.{no}
 use denote.RattleType.{RattleType, owns}
 use denote.RawPtr.{Ptr, block_ptr, null_ptr, ptr_val, in_a_block}
 use denote.Memory.{lone}
 use denote.Signature.{types_at, plain}
 use denote.Steps.{nothing, only}
-use denote.Param.{layout}
+use denote.Param.{arg, bounded, layout, param}
+use denote.Param.Laws.{Laws, arg_laws}
 use denote.Param.NoDrop as NoDrop
-use denote.Triple.Entry.{alive}
 use denote.Triple.Clauses.{Lasts, lasts}
 use denote.Triple.Spec.{triple_of}
 use denote.Triple.Call.{calls_at_last}
+use denote.Triple.Table.{framed}
 use denote.Triple.Walked.{Stays, stay_dropped, walk_of}
 use Rattle.std.proofs.alloc.Calls.{Goes-blank, handle_tells}
+use Rattle.std.proofs.raw_atomic.Walks.{proved_at, leaves}
 use Rattle.std.proofs.Shapes.{after}
-use sound.WpLaws.{FmC}
-use denote.Triple.Table.{framed}
+use Rattle.std_alloc.specs.Box.Ownership.{box_owns}
 use Rattle.std_alloc.proofs.BoxSteps.Form as box
 use Rattle.std_alloc.proofs.BoxSteps.Steps.{box_out, box_in}
-use Rattle.std_alloc.specs.Box.Ownership.{box_owns}
-use Rattle.std.proofs.raw_atomic.Walks.{proved_at, leaves}
+use Rattle.std_alloc.proofs.ResultValues.{and_tt}
+use Rattle.std.specs.contracts.alloc.Global as Global
+use Rattle.std.proofs.alloc.Global.TheLaws as Global-laws
 use Rattle.std.specs.contracts.impls.GlobalAllocator.TheImpl as TheImpl
 use Rattle.std.proofs.impls.GlobalAllocator.TheImpl.Met as heap
 use Rattle.std_alloc.specs.contracts.boxed.Box.from_raw as callee
 use Rattle.std_alloc.proofs.boxed.Box.from_raw.Met.{met}
-use Rattle.texting_robots.specs.contracts.robot.Robot as Robot
-use Rattle.texting_robots.proofs.robot.Robot.TheLaws as Robot-laws
-use Rattle.std.specs.contracts.alloc.Global as Global
-use Rattle.std.proofs.alloc.Global.TheLaws as Global-laws
-use denote.Exit.{no}
-use denote.Param.{arg}
-use denote.Param.Laws.{Laws, arg_laws}
-use Rattle.robots_c.specs.contracts.handle.Handle as Handle
-use Rattle.robots_c.specs.contracts.handle.Handle.into_box.{ended, clauses}
-use Rattle.robots_c.specs.contracts.handle.Handle.into_box.Key.{name as #self}
-use Rattle.robots_c.proofs.handle.Handle.into_box.Statement.{statement}
-use Rattle.robots_c.proofs.handle.Handle.into_box.Code as code
+use Rattle.robots_c.specs.contracts.kept.Handle as Handle
+use Rattle.robots_c.proofs.WalkSteps.{Good}
+use Rattle.robots_c.specs.contracts.kept.Handle.into_box.{ended, clauses}
+use Rattle.robots_c.specs.contracts.kept.Handle.into_box.Key.{name as #self}
+use Rattle.robots_c.proofs.kept.Handle.into_box.Statement.{statement}
+use Rattle.robots_c.proofs.kept.Handle.into_box.Code as code
 use Rattle.robots_c.proofs.Destruct++none.drop.Code as none
 
-abbrev Good : Ty → Val → Type 0
-Good τ v = IsT (has_ty τ v) × WT v
-
 pub into_box_spec : {M : Type 1} → statement M
-unfolding tables_of code.code none.code
-into_box_spec {M = M} 𝓤 𝓛 𝓜 𝓡 wired =
+unfolding none.code
+into_box_spec {M = M} 𝓤 𝓛 𝓜 𝓡 wired T L dx glue =
     let H = 𝓛.H in let 𝓣 = tables 𝓤 H 𝓜 𝓡 𝓡.env in
-    let T : RattleType = arg (bare (layout Robot.the_row)) no Robot.the_row in
     let A : RattleType = arg (bare (layout Global.the_row)) no Global.the_row in
-    let L : Laws T = arg_laws (bare (layout Robot.the_row)) no Robot.the_row Robot-laws.the_row_laws refl
-    in let LA : Laws A = arg_laws (bare (layout Global.the_row)) no Global.the_row Global-laws.the_row_laws
-    refl in
+    let LA : Laws A = arg_laws (bare
+    (layout Global.the_row)) no Global.the_row Global-laws.the_row_laws refl in
     let g = TheImpl.ghosts in let d = TheImpl.dict in
     let dd = impl ("robots_c::Destruct++none::drop" ∷ []) (tcons (layout A) tnil) dnil in
     let E : box.Bx = record {
@@ -85,32 +74,27 @@ into_box_spec {M = M} 𝓤 𝓛 𝓜 𝓡 wired =
         drops = dd;
       };
     } in
-    let En = ended in let c = clauses 𝓛 𝓜.mem 𝓡.returns in
-    let fn = code.function in
-    let hs : Stays En.signature.params En.kept = (
-      stay_dropped (plain (λ _.
-          Handle.the_row)) En.kept.0,
-      tt,
-    ) in
+    let R : RattleType = param 0 T in let B : RattleType = box.B E in
+    let En = ended T dx in let c = clauses T dx 𝓛 𝓜.mem 𝓡.returns in
+    let at = bounded (a_type ∷ []) (T, tt) (dcons dx dnil) in let fn = inst_fn at code.function in
+    let hs : Stays En.signature.params En.kept = (stay_dropped (plain (λ _. Handle.the_row R)) En.kept.0, tt) in
     proved_at 𝓛 En hs c 𝓜 𝓡 (
-      Goes-blank 𝓛 0 (plain (λ _.
-          Handle.the_row)) En.kept.0 (λ κs x f. tt),
+      Goes-blank 𝓛 1 (plain (λ _. Handle.the_row R)) En.kept.0 (λ κs x f. tt),
       tt,
-    ) #self fn (code.unfolded 𝓤 H 𝓜 𝓡 wired) (λ z
-    are.
-    let v = z.0.3.0 in let a = v.alloc in let Post : Val → SProp 𝓤 = (walk_of 𝓛 En hs c).post z in
+    ) (#self at) fn (code.unfolded 𝓤 H 𝓜 𝓡 wired (T, tt) dx) (λ z are.
+    let κ = z.0.0.0 in let q = z.0.1.0 in let v = z.0.3.0 in let a = v.alloc in
+    let Post : Val → SProp 𝓤 = (walk_of 𝓛 En hs c).post z in
     let Run : List Val → SProp 𝓤 = λ ws. WpFn 𝓤 H 𝓣.C 𝓣.Λ fn ws Post in
-    let R : RattleType = box.R E in let B : RattleType = box.B E in
-    let κs : Lft × (Lft × Unit {0}) = ([], ([], tt)) in
-    let qs : Share × (Share × Unit {0}) = (full_share, (full_share, tt)) in
-    let fm : FmC 𝓤 H 𝓛.laws 𝓣.C = λ f. framed 𝓤 H 𝓜 𝓣 f in
-    let asked = raw ((c z.0.0 z.0.3).requires z.1) in
-    qed 𝓛 ((raw (alive 𝓛 En.signature z.0.0 z.0.1) ⊛ ‵ (owns (types_at En.signature.params z.0.0)
-    z.0.3 z.0.4)) ∷ asked ∷ []) ∵ split ! $ move ! (1 ∷ []) $ fsplit ! $
+    let κs : Lft × (Lft × Unit {0}) = (κ, ([], tt)) in
+    let qs : Share × (Share × Unit {0}) = (q, (full_share, tt)) in
+    qed 𝓛 (((‵ (flft κ q) ⊛ ‵ ftrue) ⊛ ‵ (owns (types_at En.signature.params z.0.0) z.0.3 z.0.4))
+    ∷ (raw (fact 𝓤 (κ ⊑ T.lives)) ⊛ raw (emp 𝓤)) ∷ []) ∵
+    split ! $ move ! (1 ∷ []) $ fsplit ! $
     fsplit ! $ fpick ! (λ vss. fsplit ! $ feq_l ! (λ ev. fsplit ! $ feq_l ! (λ ep. fsplit ! $
     handle_tells E.al ! a vss.1.0 (λ h ea fits. move ! (1 ∷ []) $ drop ! $ move ! (1 ∷ []) $
     in_a_block ! v.at (λ p. box_owns (g.dealloc_token a) R p v.value) (fst∗ 𝓤 (never 𝓤) (sem 𝓛
     (g.dealloc_token a (bare (lone R.mir)) null_ptr))) (λ b o e.
+    -- [the block; the handle of the heap; nothing; the tokens; what is asked]
     let w : Val = vstruct (vcons (vptr b o) (vcons h vnil)) in
     let ws : z.0.4.0 ≡ w ∷ [] = subst (λ (p : Ptr).
     z.0.4.0 ≡ vstruct (of_list (ptr_val p ∷ h ∷ [])) ∷ []) e
@@ -127,15 +111,14 @@ into_box_spec {M = M} 𝓤 𝓛 𝓜 𝓡 wired =
     𝓡.returns) in
     let y : k.Ghost = ((κs, qs, tt, (a, (block_ptr b o, tt)), (h ∷ [], (vptr b o ∷ [], tt))), v.value)
     in
-    move ! (4 ∷ []) $ drop ! $
-    use0 𝓛 (raw (fact 𝓤 (κs.1.0 ⊑ A.lives))) (fact_i 𝓤 (κs.1.0 ⊑ A.lives) (emp 𝓤)
-    (Incl-refl [])) $ join ! $
-    use0 𝓛 (raw (fact 𝓤 (κs.0 ⊑ T.lives))) (fact_i 𝓤 (κs.0 ⊑ T.lives) (emp 𝓤) (Incl-refl
-    [])) $ join ! $
-    move ! (2 ∷ []) $ feq_i ! (List Val) (vptr b o ∷ []) (vptr b o ∷ []) refl $ fjoin ! $
-    move ! (2 ∷ 0 ∷ []) $ fjoin ! $
-    nothing ! $ use0 𝓛 (‵ (flft [] full_share)) (𝓛.lfts.lft-nil full_share) $ join ! $
-    use0 𝓛 (‵ (flft [] full_share)) (𝓛.lfts.lft-nil full_share) $ join ! $
+    move ! (4 ∷ []) $ split ! $ move ! (2 ∷ []) $
+    use0 𝓛 (raw (fact 𝓤 ([] ⊑ A.lives))) (fact_i 𝓤 ([] ⊑ A.lives) (emp 𝓤) (Incl-refl [])) $ join ! $
+    move ! (1 ∷ 0 ∷ []) $ join ! $ move ! (3 ∷ []) $
+    feq_i ! (List Val) (vptr b o ∷ []) (vptr b o ∷ []) refl $ fjoin ! $
+    move ! (3 ∷ 0 ∷ []) $ fjoin ! $
+    -- [the arguments; what is asked; nothing; the tokens]
+    move ! (3 ∷ []) $ split ! $ move ! (1 ∷ []) $
+    use0 𝓛 (‵ (flft [] full_share)) (𝓛.lfts.lft-nil full_share) $ join ! $ move ! (1 ∷ 0 ∷ []) $ join ! $
     join ! $ join ! $ use1 𝓛 (raw (k.pre y)) (id⊢ 𝓤 _) $
     suffices ! (Run (w ∷ [])) (subst (λ (us : List Val). ent 𝓤 (Run (w ∷ [])) (Run us)) (sym (λ i.
     ws i ++ [])) (id⊢ 𝓤 (Run (w ∷ [])))) $
@@ -143,8 +126,8 @@ into_box_spec {M = M} 𝓤 𝓛 𝓜 𝓡 wired =
     let Ev = env fn.locals l in
     sets ! (of_opd ! (get_in ! (fld ! refl (stop !)) (sub ! 0 refl (whole !)))) refl (tt, tt) $
     sets ! (of_opd ! (get_in ! (fld ! refl (stop !)) (sub ! 1 refl (whole !)))) refl fits $ first ! $
-    blocks ! $ sets ! (of_opd ! (get ! refl)) refl (tt, tt) $
-    calls_at_last ! fm k (met 𝓤 𝓛 𝓜 𝓡 (code.calls-std_alloc::boxed::Box::from_raw 𝓡.env
+    blocks ! $
+    calls_at_last ! (framed 𝓤 H 𝓜 𝓣) k (met 𝓤 𝓛 𝓜 𝓡 (code.calls-std_alloc::boxed::Box::from_raw 𝓡.env
     wired) T A L LA g d dd
     (heap.passed 𝓡.env (code.calls-std_heap::GlobalAllocator::allocate 𝓡.env wired)
     (code.calls-std_heap::GlobalAllocator::deallocate 𝓡.env wired)
@@ -153,12 +136,14 @@ into_box_spec {M = M} 𝓤 𝓛 𝓜 𝓡 wired =
     (NoDrop.glues "robots_c::Destruct++none::drop" 𝓡.env (code.calls-robots_c::Destruct++none::drop
     𝓡.env wired) A LA M 𝓤 𝓛 𝓜 𝓡)) y (and_then ! (get ! refl) (and_then ! (get ! refl)
     (no_more !))) (λ u.
-    use1 𝓛 (later (some (λ (r : B.Denot). ((‵ (flft [] full_share) ⊛ ‵ (flft [] full_share) ⊛
+    use1 𝓛 (later (some (λ (r : B.Denot). ((‵ (flft κ q) ⊛ ‵ (flft [] full_share) ⊛
     ‵ ftrue) ⊛ ‵ (B.own_val r (u ∷ []))) ⊛ some (λ (ls : Lasts (callee.ended T A g d dd) κs
     y.0.3). ‵ (lasts (callee.ended T A g d dd) κs y.0.3 ls) ⊛ (raw (fact 𝓤 (r.value ≡ v.value))
     ⊛ raw (fact 𝓤 (r.alloc ≡ a))))))) (id⊢ 𝓤 (k.post y u)) $
     await ! tt $ pick ! (λ r. split ! $ move ! (1 ∷ []) $ pick ! (λ _. split3 ! $ drop ! $
-    move ! (2 ∷ []) $ split ! $ drop ! $
+    move ! (2 ∷ []) $ split ! $ split ! $ move ! (1 ∷ []) $ split ! $ drop ! $ move ! (1 ∷ 0 ∷ []) $ join ! $
+    -- [the tokens; the box; its value; its handle of the heap; nothing]
+    move ! (1 ∷ []) $
     box_out E ! r (u ∷ []) (λ b' o' h' e' us fits'. box_in E ! r b' o' r.value e' refl $
     rewrite ! 0 (λ (xs : List Val). ‵ (B.own_val r xs)) (sym us) refl $
     let good : Good (layout B) u = subst (Good (layout B)) (sym (ap only us)) (
@@ -168,5 +153,5 @@ into_box_spec {M = M} 𝓤 𝓛 𝓜 𝓡 wired =
     ) in
     lands_last ! refl good $ exec ! 𝓣.C 𝓣.Λ Ev (after 3 fn.body) (at_ret Ev Post) $
     sets ! (of_opd ! (get ! refl)) refl good $ nothing ! $ nothing ! $ fjoin ! $
-    returns ! (look_at ! 0 refl) $ free_all ! refl $ keep ! (4 ∷ 0 ∷ 1 ∷ 2 ∷ []) $
+    returns ! (look_at ! 0 refl) $ free_all ! refl $ keep ! (2 ∷ 0 ∷ 1 ∷ 3 ∷ []) $
     by ! (leaves 𝓛 En hs c z u r (tt, tt) (tt, tt)))))))))))))
