@@ -4,7 +4,7 @@ use seplogic.Ra.Ura.{Ura}
 use lib.Dec.{T as IsT}
 use base.Fml.{Lft, Share, ftrue, flft}
 use base.Logic.{emp, fst∗, id⊢, never}
-use mir.Syntax.{Lifetime, Mutability, Ty, Width, impl, tnil, dnil, ty_int, ty_ref, w32}
+use mir.Syntax.{Lifetime, Mutability, Ty, Width, impl, named, tnil, dnil, ty_int, ty_ref, w32}
 use mir.Val.{Val, WT, has_ty, of_z, vint, vptr}
 use mir.ValLaws.{of_z_fits}
 use types.Logic.{Logic, sem}
@@ -58,12 +58,12 @@ status_val n = vint w32 (of_z w32 n)
 
 module _ {M : Type 1} {𝓤 : Ura M} {𝓛 : Logic 𝓤} {K : Type 0} {Γ : List (Item 𝓤)} {G : Goal 𝓤 𝓛.H} where
   -- the pointer of what is lent isn't null, and there is a reference to it
-  pub lent : K → (R : RattleType) (at : Ptr) (x : R.Denot) (κ : Lft) (q : Share) (ℓ : Lifetime)
+  pub lent : K → (R : RattleType) (at : Ptr) (x : R.Denot) (κ : Lft) (q : Share)
       → ((b o : ℕ) → at ≡ block_ptr b o
-      → Seq K 𝓛 (‵ ((ShrRef ℓ κ R).own_val (record { ref_ptr = (b, o); now = x }) (vptr b o ∷ []))
+      → Seq K 𝓛 (‵ ((ShrRef (named 0) κ R).own_val (record { ref_ptr = (b, o); now = x }) (vptr b o ∷ []))
       ∷ ‵ (flft κ q) ∷ Γ) G)
       → Seq K 𝓛 ((‵ (lent_at R at x κ) ⊛ ‵ (flft κ q)) ∷ Γ) G
-  lent t R at x κ q ℓ k = split t $
+  lent t R at x κ q k = split t $
       in_a_block t at (λ p. lent_at R p x κ) (fst∗ 𝓤 (never 𝓤) (sem 𝓛 (shared_of R x 0 0 κ)))
       (λ b o e. fsplit t $ drop t $ use1 𝓛 (‵ (hidden_shr R κ x b o)) (id⊢ 𝓤 _) $
       feq_i t (List Val) (vptr b o ∷ []) (vptr b o ∷ []) refl $ fjoin t $ k b o e)

@@ -8,11 +8,11 @@ ghost use Rattle.std.specs.Borrow.{sem};
 ghost use base.Fml.{Lft, Share, fall, flft};
 ghost use denote.Struct.Lending.{lent_at};
 ghost use Rattle.robots_c.specs.File.{AreAgents, AreSitemaps, GivesRobot, HasDelay, IsRobotFor, IsRobotOfSomeFile};
-ghost use Rattle.robots_c.specs.File.{bytes_read};
+ghost use Rattle.robots_c.specs.File.{IsSiteOfSomeFile, bytes_read};
 ghost use Rattle.robots_c.specs.Kept.{Robots, Sites, opened_at, owned_or_null};
 ghost use Rattle.robots_c.specs.Results.{ArePutIn, HasResult, IsMatrixPutIn};
-ghost use Rattle.robots_c.specs.Status.{HasFault, HasFaultAt, IsAddress, IsWhyNoAddress, IsWhyNoDelay, IsWhyNoMatrix};
-ghost use Rattle.robots_c.specs.Status.{IsWhyNoResult, IsWhyNoResults, IsWhyNoRobot, IsWhyNoSite, IsWhyNone};
+ghost use Rattle.robots_c.specs.Status.{HasFault, HasFaultAt, IsAddress, IsWhyNoAddress, IsWhyNoDelay, IsWhyNoDelayOf};
+ghost use Rattle.robots_c.specs.Status.{IsWhyNoMatrix, IsWhyNoResult, IsWhyNoResults, IsWhyNoRobot, IsWhyNoSite, IsWhyNone};
 ghost use Rattle.robots_c.specs.Status.{IsWhyUndecided, status_of};
 ghost use Rattle.robots_c.specs.Text.{IsTooLong, IsWritten};
 ghost use Rattle.texting_robots.specs.Callers.{RobotValue};
@@ -31,7 +31,7 @@ use fault::Fault;
 use file::delay_of;
 use handle::{close, opened, query_delay};
 use kept::{Handle, Kept};
-use matrix::matrix_of;
+use matrix::{matrix_by, matrix_of};
 use std::alloc::Global;
 use texting_robots::{Robot, Site};
 use texts::{address, agents_of, put, sitemaps_of};
@@ -247,8 +247,8 @@ pub unsafe extern "C" fn robots_close(alloc: Global, robot: *mut u8)
     })
 }
 
-/// Reads a file for all crawlers, and writes a pointer to the site that it gives, which C owns from then on. Only memory can be
-/// short.
+/// Reads a file for all crawlers, and writes a pointer to the site that it gives, which C owns from then on. It fails
+/// only if an allocation fails.
 #[unsafe(no_mangle)]
 pub extern "C" fn robots_site_open(alloc: Global, file: &[u8], out: &mut *mut u8) -> i32
     ensures kept { result ≢ pos 0 → out.new ≡ out.old }
@@ -258,6 +258,61 @@ pub extern "C" fn robots_site_open(alloc: Global, file: &[u8], out: &mut *mut u8
     let Kept { status, at } = site::opened(alloc, file, *out as *mut Site);
     *out = at as *mut u8;
     status
+}
+
+/// Writes a pointer to a crawler's robot, as `robots_open` does. The site is lent, so any number of calls may read it at once.
+#[unsafe(no_mangle)]
+pub unsafe extern "C" fn robots_site_robot(
+    alloc: Global,
+    site: *const u8,
+    agent: &[u8],
+    out: &mut *mut u8,
+    line: &mut usize,
+) -> i32
+    ghost g: { Lft × Share × List ℕ }
+    requires* lent { sem 𝓛 (lent_at Sites site g.2 g.0) ∗ sem 𝓛 (flft g.0 g.1) }
+    ensures kept { result ≢ pos 0 → out.new ≡ out.old }
+    ensures why { HasFaultAt (IsWhyNoRobot agent.now g.2) result line.old line.new }
+    ensures* opened { sem 𝓛 (fall (result ≡ pos 0) (λ _. opened_at Robots (IsRobotFor agent.now g.2) out.new)) }
+    ensures* lent { sem 𝓛 (flft g.0 g.1) }
+{
+    let Kept { status, at } =
+        site::robot_opened(alloc, &*(site as *const Site), agent, *out as *mut Robot, line);
+    *out = at as *mut u8;
+    status
+}
+
+/// Writes a matrix of numbers, as `robots_matrix` does. The site is lent, as by `robots_site_robot`.
+#[unsafe(no_mangle)]
+pub unsafe extern "C" fn robots_site_matrix(
+    alloc: Global,
+    site: *const u8,
+    agents: &[u8],
+    urls: &[u8],
+    out: &mut [i64],
+) -> i32
+    ghost g: { Lft × Share × List ℕ }
+    requires site { IsSiteOfSomeFile g.2 }
+    requires* lent { sem 𝓛 (lent_at Sites site g.2 g.0) ∗ sem 𝓛 (flft g.0 g.1) }
+    ensures written { result ≡ pos 0 → IsMatrixPutIn g.2 agents.now urls.now out.old out.new }
+    ensures kept { result ≢ pos 0 → out.new ≡ out.old }
+    ensures why { HasFault (IsWhyNoMatrix agents.now urls.now (length out.old)) result }
+    ensures* lent { sem 𝓛 (flft g.0 g.1) }
+{
+    matrix_by(alloc, &*(site as *const Site), agents, urls, out)
+}
+
+/// Writes a crawler's delay, as `robots_delay` does. The site is lent, as by `robots_site_robot`. It allocates nothing.
+#[unsafe(no_mangle)]
+pub unsafe extern "C" fn robots_site_delay(site: *const u8, agent: &[u8], out: &mut u64) -> i32
+    ghost g: { Lft × Share × List ℕ }
+    requires* lent { sem 𝓛 (lent_at Sites site g.2 g.0) ∗ sem 𝓛 (flft g.0 g.1) }
+    ensures written { result ≡ pos 0 → HasDelay agent.now g.2 (Some out.new) }
+    ensures kept { result ≢ pos 0 → out.new ≡ out.old }
+    ensures why { HasFault (IsWhyNoDelayOf agent.now g.2) result }
+    ensures* lent { sem 𝓛 (flft g.0 g.1) }
+{
+    site::delay(&*(site as *const Site), agent, out)
 }
 
 /// Frees a site that `robots_site_open` opened. If the pointer is null, it does nothing.

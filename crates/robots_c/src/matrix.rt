@@ -1,9 +1,9 @@
 //! The results of many crawlers for many URLs.
-ghost use Rattle.std.specs.Prelude.{◌≡◌, ◌≤◌, IfErr, IfOk, IfSome, codes, length, map, string_bytes};
+ghost use Rattle.std.specs.Prelude.{◌≡◌, ◌≢◌, ◌≤◌, IfErr, IfOk, IfSome, codes, length, map, pos, string_bytes};
 ghost use Rattle.std.specs.List.{AllZip};
 ghost use Rattle.robots_c.specs.File.{IsSiteOfSomeFile, bytes_read};
-ghost use Rattle.robots_c.specs.Results.{AreRows, HasMatrix, IsResultOn, IsRow, LinesFit, items_in};
-ghost use Rattle.robots_c.specs.Status.{IsWhyNoMatrix};
+ghost use Rattle.robots_c.specs.Results.{AreRows, HasMatrix, IsMatrixPutIn, IsResultOn, IsRow, LinesFit, items_in};
+ghost use Rattle.robots_c.specs.Status.{HasFault, IsWhyNoMatrix};
 ghost use Rattle.texting_robots.specs.Callers.{prepared};
 
 use crate::fault::Fault;
@@ -150,4 +150,26 @@ pub(crate) fn matrix_of(
     let site = Site::new(alloc, file)?;
     let numbers = matrix(alloc, &site, agents, urls, room)?;
     Ok(numbers)
+}
+
+/// Writes the matrix of the crawlers and the URLs in two texts, by a site.
+pub(crate) fn matrix_by(
+    alloc: Global,
+    site: &Site,
+    agents: &[u8],
+    urls: &[u8],
+    out: &mut [i64],
+) -> i32
+    requires { IsSiteOfSomeFile site.now }
+    ensures written { result ≡ pos 0 → IsMatrixPutIn site.now agents.now urls.now out.old out.new }
+    ensures kept { result ≢ pos 0 → out.new ≡ out.old }
+    ensures why { HasFault (IsWhyNoMatrix agents.now urls.now (length out.old)) result }
+{
+    match matrix(alloc, site, agents, urls, out.len()) {
+        Ok(numbers) => {
+            out[..numbers.len()].copy_from_slice(&numbers);
+            0
+        }
+        Err(fault) => fault.status(),
+    }
 }

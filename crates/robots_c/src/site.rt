@@ -1,13 +1,15 @@
 //! A site that C keeps between calls: a file that is read once for all crawlers.
 ghost use Rattle.std.specs.Prelude.{◌≡◌, ◌≢◌, Some, IfErr, IfOk, pos};
-ghost use Rattle.robots_c.specs.File.{bytes_read};
-ghost use Rattle.robots_c.specs.Status.{HasFault, IsWhyNoSite};
+ghost use Rattle.robots_c.specs.File.{GivesRobot, HasDelay, IsRobotFor, bytes_read};
+ghost use Rattle.robots_c.specs.Status.{HasFault, HasFaultAt, IsWhyNoDelayOf, IsWhyNoRobot, IsWhyNoSite};
 
 use crate::fault::Fault;
+use crate::file::{delay_in, text_of};
 use crate::handle::for_any_thread;
 use crate::kept::{Handle, Kept};
+use crate::overlong::overlong_line;
 use std::alloc::Global;
-use texting_robots::Site;
+use texting_robots::{Error, Robot, Site};
 
 /// Frees a site that C gives back.
 pub(crate) fn close(site: Handle<Site>) {
@@ -33,5 +35,51 @@ pub(crate) fn opened(alloc: Global, file: &[u8], at: *mut Site) -> Kept<Site>
     match open(alloc, file) {
         Ok(site) => Kept::boxed(0, site),
         Err(fault) => Kept::nothing(fault.status(), at),
+    }
+}
+
+/// What a crawler gets of a site, in a box, or why it can't use it.
+fn robot(alloc: Global, site: &Site, agent: &[u8]) -> Result<Box<Robot>, Fault>
+    ensures ok { IfOk result (λ robot. IsRobotFor agent.now site.now robot.value) }
+    ensures fault { IfErr result (IsWhyNoRobot agent.now site.now) }
+{
+    let agent = text_of(agent)?;
+    match site.robot(alloc, agent) {
+        Ok(robot) => Ok(Box::new(alloc, robot)?),
+        Err(Error::InvalidRule) => Err(Fault::Overlong(overlong_line(alloc, agent, site.text())?)),
+        Err(_) => Err(Fault::Memory),
+    }
+}
+
+/// Opens a crawler's robot for C. If there is none, the pointer is `at`, and the line of an overlong rule is written.
+pub(crate) fn robot_opened(
+    alloc: Global,
+    site: &Site,
+    agent: &[u8],
+    at: *mut Robot,
+    line: &mut usize,
+) -> Kept<Robot>
+    ensures opened { result.status ≡ pos 0 → GivesRobot agent.now site.now (λ robot. result.value ≡ Some robot) }
+    ensures kept { result.status ≢ pos 0 → result.at ≡ at }
+    ensures why { HasFaultAt (IsWhyNoRobot agent.now site.now) result.status line.old line.new }
+{
+    match robot(alloc, site, agent) {
+        Ok(robot) => Kept::boxed(0, robot),
+        Err(fault) => Kept::nothing(fault.status_at(line), at),
+    }
+}
+
+/// Writes a crawler's delay. It allocates nothing.
+pub(crate) fn delay(site: &Site, agent: &[u8], out: &mut u64) -> i32
+    ensures written { result ≡ pos 0 → HasDelay agent.now site.now (Some out.new) }
+    ensures kept { result ≢ pos 0 → out.new ≡ out.old }
+    ensures why { HasFault (IsWhyNoDelayOf agent.now site.now) result }
+{
+    match delay_in(site, agent) {
+        Ok(delay) => {
+            *out = delay;
+            0
+        }
+        Err(fault) => fault.status(),
     }
 }
