@@ -10,6 +10,16 @@
  *         fetch("https://example.com/a");
  *     robots_close(robot);
  *
+ * A site is a file that is read once for all crawlers. Here two crawlers and two URLs give four results:
+ *
+ *     robots_site *site = NULL;
+ *     int64_t results[2][2];
+ *     if (robots_site_open(file, file_len, &site) == ROBOTS_OK &&
+ *         robots_site_matrix(site, ROBOTS_STRING("MyBot\nOtherBot"), ROBOTS_STRING("/a\n/b"), results[0], 4) == ROBOTS_OK &&
+ *         robots_may_fetch(results[1][0]))
+ *         fetch_for("OtherBot", "/a");
+ *     robots_site_close(site);
+ *
  * TEXTS. Each text is a pointer and a length in bytes; no NUL is needed at the end, and one inside is a byte like any other. NULL with
  * length 0 is the empty text. `agent` is the crawler's product token without a version ("MyBot", not "MyBot/1.0"), in UTF-8; ASCII
  * letters match in any case. `file` is the body of the response, any bytes; only the first ROBOTS_FILE_LIMIT count. A URL is UTF-8:
@@ -23,18 +33,19 @@
  * RESULT. The result for a URL is a number: 0 if the crawler may fetch it and no line says so, n if line n of the file allows it, and -n
  * if line n denies it. Lines count from 1. Don't write `if (result)`: use robots_may_fetch(result) and robots_line(result).
  *
- * MEMORY comes from malloc, realloc and free. A call frees what it allocates, except for the robot that robots_open opens. Another
+ * MEMORY comes from malloc, realloc and free. A call frees what it allocates, except for a robot or a site that it opens. Another
  * allocator: define rattle_alloc, rattle_realloc and rattle_dealloc in your program, before the archive (USING.md).
  *
  * THREADS. The library has no global state: calls may run on any number of threads at once, with the same texts too. No call may run in
- * a signal handler. Queries of one robot only read it. Proved: a query borrows the robot, so any number of them may overlap, and a robot
- * may go from thread to thread (Rattle's `Sync` and `Send`). Tested: queries on four threads have no data race (ThreadSanitizer,
- * helgrind). The toolchain's rule for C, which is stricter: one call at a time for one robot, with a lock, a thread's start or its end
- * between calls on two threads. A lock around the calls with one robot keeps it.
+ * a signal handler. Calls on one open robot or site only read it. Proved: such a call borrows it, so any number of them may overlap, and
+ * it may go from thread to thread (Rattle's `Sync` and `Send`). Tested: calls on four threads have no data race (ThreadSanitizer,
+ * helgrind). The toolchain's rule for C, which is stricter: one call at a time for one robot or site, with a lock, a thread's start or
+ * its end between calls on two threads. A lock around the calls with it keeps that rule.
  *
  * THE CALLER'S PART, which nothing checks: each pointer is valid for its length; the places that a call writes overlap nothing else that
- * it is given; nobody writes to the texts during a call; a robot is one that robots_open opened, and is closed once, when no call uses
- * it. No call keeps a pointer to a text.
+ * it is given; nobody writes to the texts during a call; a robot is one that robots_open or robots_site_robot opened, and a site one
+ * that robots_site_open opened; each is closed once, when no call uses it. Robots and sites don't need each other, nor the texts that
+ * they were opened with. No call keeps a pointer to a text.
  *
  * PROOF. crates/robots_c/src/lib.rt has a contract for each call, from the file's bytes to every number written. USING.md says what is
  * proved and what is tested. The compiled library is for Linux on x86-64-v2 processors (SSE4.1). */
@@ -76,7 +87,10 @@ enum robots_status {
 /* What a file says to one crawler. */
 typedef struct robots robots;
 
-/* In the matrix of robots_matrix: a rule for this crawler is too long. No result is this number. */
+/* What a file says to every crawler. */
+typedef struct robots_site robots_site;
+
+/* In the matrix of robots_matrix and robots_site_matrix: a rule for this crawler is too long. No result is this number. */
 #define ROBOTS_NO_RESULT INT64_MIN
 
 /* A C string as a pointer and a length. The string is evaluated twice. */
@@ -127,6 +141,33 @@ ROBOTS_CHECK int32_t robots_sitemaps(const void *file, size_t file_len, char *ou
 /* Writes the names in the file's user-agent lines, as robots_sitemaps writes sitemaps: in the file's order, `*` like any other, and of
  * names that differ only in the case of ASCII letters the first. A name that isn't UTF-8 is left out. */
 ROBOTS_CHECK int32_t robots_agents(const void *file, size_t file_len, char *out, size_t out_len, size_t *len);
+
+/* Reads a file for all crawlers, and writes a new site to *site, for robots_site_close. The status is ROBOTS_OK or ROBOTS_NO_MEMORY: a
+ * rule that is too long is an error only for the crawlers that it is for. */
+ROBOTS_CHECK int32_t robots_site_open(const void *file, size_t file_len, robots_site **site);
+
+/* robots_open for a site, with the same robot, errors and line. The robot stays open when the site is closed. */
+ROBOTS_CHECK int32_t robots_site_robot(const robots_site *site, const char *agent, size_t agent_len, robots **robot, size_t *line);
+
+/* robots_matrix for a site. */
+ROBOTS_CHECK int32_t robots_site_matrix(const robots_site *site, const char *agents, size_t agents_len, const char *urls,
+                                        size_t urls_len, int64_t *results, size_t results_len);
+
+/* robots_delay for a site. It needs no memory. */
+ROBOTS_CHECK int32_t robots_site_delay(const robots_site *site, const char *agent, size_t agent_len, uint64_t *microseconds);
+
+/* robots_sitemaps for a site. */
+ROBOTS_CHECK int32_t robots_site_sitemaps(const robots_site *site, char *out, size_t out_len, size_t *len);
+
+/* robots_agents for a site. */
+ROBOTS_CHECK int32_t robots_site_agents(const robots_site *site, char *out, size_t out_len, size_t *len);
+
+/* Returns 1 if a user-agent line names the crawler, 0 if none does, or ROBOTS_NOT_UTF8. All crawlers that none names have the robot of
+ * `*`, so they can share it. It needs no memory. */
+ROBOTS_CHECK int32_t robots_site_is_named(const robots_site *site, const char *agent, size_t agent_len);
+
+/* Frees a site, or does nothing if `site` is NULL. */
+void robots_site_close(robots_site *site);
 
 /* Writes the address of the robots.txt file of the site of an http or https URL, in ASCII with no NUL at its end, and its length to *len.
  * At ROBOTS_NO_ROOM *len is the length that is needed. */

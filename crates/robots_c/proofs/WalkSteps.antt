@@ -1,5 +1,5 @@
 -- What the walks of the calls have in common.
-use Rattle.std.proofs.Common.{◌≡◌, ◌<◌, ◌^◌, ℕ, ℤ, List, [], ◌∷◌, refl, ap}
+use Rattle.std.proofs.Common.{◌≡◌, ◌≢◌, ◌⊎◌, ◌<◌, ◌^◌, ℕ, ℤ, pos, List, [], ◌∷◌, length, refl, ap}
 use seplogic.Ra.Ura.{Ura}
 use lib.Dec.{T as IsT}
 use base.Fml.{Lft, Share, ftrue, flft}
@@ -8,7 +8,7 @@ use mir.Syntax.{Lifetime, Mutability, Ty, Width, impl, named, tnil, dnil, ty_int
 use mir.Val.{Val, WT, has_ty, of_z, vint, vptr}
 use mir.ValLaws.{of_z_fits}
 use types.Logic.{Logic, sem}
-use types.Kit.{Goal, Item, Seq, Step, ‵, raw, ◌⊛◌, ◌$◌, drop, feq_i, fjoin, fsplit, join, rewrite, split}
+use types.Kit.{Goal, Item, Seq, Step, ‵, raw, ◌⊛◌, ◌$◌, drop, feq_i, fjoin, fsplit, join, move, rewrite, split}
 use types.Kit.{step, use0, use1}
 use contract.Monad.{fact, fact_i}
 use denote.Builtin.{i32}
@@ -24,6 +24,9 @@ use denote.Struct.Lending.{lent_at}
 use Rattle.std.proofs.alloc.Calls.{Al}
 use Rattle.std.specs.contracts.alloc.Global as Global
 use Rattle.std.proofs.alloc.Global.TheLaws as Global-laws
+use Rattle.robots_c.specs.Status.{status_of}
+use Rattle.robots_c.specs.Text.{IsTooLong, IsWritten}
+use Rattle.robots_c.specs.declared.fault.Fault.TheVariants.{Memory, NoRoom}
 
 abbrev pub Good : Ty → Val → Type 0
 Good τ v = IsT (has_ty τ v) × WT v
@@ -56,6 +59,15 @@ pointer_slot n = plain (λ _. RawPtr)
 abbrev pub status_val : ℤ → Val
 status_val n = vint w32 (of_z w32 n)
 
+-- what is said of a call that writes a text of which P holds: its status, the buffer and the length, before and after
+abbrev pub text_said : {M : Type 1} (𝓤 : Ura M) → (List ℕ → Type 0) → ℤ → List ℕ → List ℕ → ℕ → ℕ → Item 𝓤
+text_said 𝓤 P r old new was len =
+    raw (fact 𝓤 (r ≡ pos 0 → IsWritten P old new len))
+    ⊛ raw (fact 𝓤 (r ≡ status_of NoRoom → IsTooLong P (length old) len))
+    ⊛ raw (fact 𝓤 (r ≢ pos 0 → r ≢ status_of NoRoom → len ≡ was))
+    ⊛ raw (fact 𝓤 (r ≢ pos 0 → new ≡ old))
+    ⊛ raw (fact 𝓤 ((r ≡ pos 0) ⊎ ((r ≡ status_of NoRoom) ⊎ (r ≡ status_of Memory))))
+
 module _ {M : Type 1} {𝓤 : Ura M} {𝓛 : Logic 𝓤} {K : Type 0} {Γ : List (Item 𝓤)} {G : Goal 𝓤 𝓛.H} where
   -- the pointer of what is lent isn't null, and there is a reference to it
   pub lent : K → (R : RattleType) (at : Ptr) (x : R.Denot) (κ : Lft) (q : Share)
@@ -76,6 +88,13 @@ module _ {M : Type 1} {𝓤 : Ura M} {𝓛 : Logic 𝓤} {K : Type 0} {Γ : List
   -- a fact before some
   pub tells : K → {A : Type 0} {P : Item 𝓤} → A → Step K 𝓛 ((raw (fact 𝓤 A) ⊛ P) ∷ Γ) G (P ∷ Γ) G
   tells t {A} {P} a = step (λ s. use0 𝓛 (raw (fact 𝓤 A)) (fact_i 𝓤 A (emp 𝓤) a) $ join t $ s)
+
+  -- what is said of a call that writes a text, before what is handed back
+  pub tells_text : K → {A B C D E L : Item 𝓤}
+      → Step K 𝓛 ((A ⊛ B ⊛ C ⊛ D ⊛ E ⊛ L) ∷ Γ) G ((A ⊛ B ⊛ C ⊛ D ⊛ E) ∷ L ∷ Γ) G
+  tells_text t = step (λ s. split t $ move t (1 ∷ []) $ split t $ move t (1 ∷ []) $ split t $ move t (1 ∷ []) $
+      split t $ move t (1 ∷ 5 ∷ []) $ join t $ move t (1 ∷ 0 ∷ []) $ join t $ move t (1 ∷ 0 ∷ []) $ join t $
+      move t (1 ∷ 0 ∷ []) $ join t $ move t (1 ∷ 0 ∷ []) $ join t $ s)
 
   -- a call's status
   pub status : K → (n : ℤ) (u : Val) → (u ≡ status_val n → Good (ty_int w32) (status_val n)

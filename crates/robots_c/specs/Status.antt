@@ -1,7 +1,7 @@
 -- The status that C gets, and its cause.
 use Rattle.std.specs.Prelude.{◌≡◌, ◌⊎◌, ℕ, ◌*◌, ◌<◌, ℤ, pos, negsuc, List}
-use Rattle.std.specs.Prelude.{Option, None, Ok, Err, IsUtf8, length}
-use Rattle.texting_robots.specs.Callers.{IsFirstOverlong, TakesNoMemory, file_lines}
+use Rattle.std.specs.Prelude.{Option, None, Ok, Err, IsUtf8, if◌then◌else◌, length}
+use Rattle.texting_robots.specs.Callers.{IsFirstOverlong, TakesNoMemory, file_lines, is_named}
 use Rattle.texting_robots.specs.Callers.{placed_rules, robots_address}
 use Rattle.url.specs.declared.error.ParseError.{ParseError}
 use Rattle.robots_c.specs.File.{HasDelay}
@@ -105,3 +105,11 @@ IsWhyNoAddress url NotUtf8 = ¬ IsUtf8 url
 IsWhyNoAddress url Memory = IsUtf8 url
 IsWhyNoAddress url NoAddress = IsUtf8 url × ((error : ParseError) × (robots_address url ≡ Err error))
 IsWhyNoAddress url _ = ⊥
+
+-- ---- whether a site names a crawler
+
+-- 1 if it does, 0 if it doesn't, and the status of a name that isn't UTF-8
+abbrev pub SaysNamed : List ℕ → List ℕ → ℤ → Type 0
+SaysNamed agent site number =
+    (IsUtf8 agent × (number ≡ (if is_named agent (file_lines site) then pos 1 else pos 0)))
+    ⊎ ((¬ IsUtf8 agent) × (number ≡ status_of NotUtf8))

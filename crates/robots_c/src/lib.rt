@@ -13,7 +13,7 @@ ghost use Rattle.robots_c.specs.Kept.{Robots, Sites, opened_at, owned_or_null};
 ghost use Rattle.robots_c.specs.Results.{ArePutIn, HasResult, IsMatrixPutIn};
 ghost use Rattle.robots_c.specs.Status.{HasFault, HasFaultAt, IsAddress, IsWhyNoAddress, IsWhyNoDelay, IsWhyNoDelayOf};
 ghost use Rattle.robots_c.specs.Status.{IsWhyNoMatrix, IsWhyNoResult, IsWhyNoResults, IsWhyNoRobot, IsWhyNoSite, IsWhyNone};
-ghost use Rattle.robots_c.specs.Status.{IsWhyUndecided, status_of};
+ghost use Rattle.robots_c.specs.Status.{IsWhyUndecided, SaysNamed, status_of};
 ghost use Rattle.robots_c.specs.Text.{IsTooLong, IsWritten};
 ghost use Rattle.texting_robots.specs.Callers.{RobotValue};
 
@@ -276,8 +276,13 @@ pub unsafe extern "C" fn robots_site_robot(
     ensures* opened { sem 𝓛 (fall (result ≡ pos 0) (λ _. opened_at Robots (IsRobotFor agent.now g.2) out.new)) }
     ensures* lent { sem 𝓛 (flft g.0 g.1) }
 {
-    let Kept { status, at } =
-        site::robot_opened(alloc, &*(site as *const Site), agent, *out as *mut Robot, line);
+    let Kept { status, at } = site::robot_opened(
+        alloc,
+        &*(site as *const Site),
+        agent,
+        *out as *mut Robot,
+        line,
+    );
     *out = at as *mut u8;
     status
 }
@@ -313,6 +318,58 @@ pub unsafe extern "C" fn robots_site_delay(site: *const u8, agent: &[u8], out: &
     ensures* lent { sem 𝓛 (flft g.0 g.1) }
 {
     site::delay(&*(site as *const Site), agent, out)
+}
+
+/// Writes the sitemaps, as `robots_sitemaps` does. The site is lent, as by `robots_site_robot`.
+#[unsafe(no_mangle)]
+pub unsafe extern "C" fn robots_site_sitemaps(
+    alloc: Global,
+    site: *const u8,
+    out: &mut [u8],
+    len: &mut usize,
+) -> i32
+    ghost g: { Lft × Share × List ℕ }
+    requires* lent { sem 𝓛 (lent_at Sites site g.2 g.0) ∗ sem 𝓛 (flft g.0 g.1) }
+    ensures written { result ≡ pos 0 → IsWritten (AreSitemaps g.2) out.old out.new len.new }
+    ensures no_room { result ≡ status_of Fault.NoRoom → IsTooLong (AreSitemaps g.2) (length out.old) len.new }
+    ensures length_kept { result ≢ pos 0 → result ≢ status_of Fault.NoRoom → len.new ≡ len.old }
+    ensures kept { result ≢ pos 0 → out.new ≡ out.old }
+    ensures why { (result ≡ pos 0) ⊎ ((result ≡ status_of Fault.NoRoom) ⊎ (result ≡ status_of Fault.Memory)) }
+    ensures* lent { sem 𝓛 (flft g.0 g.1) }
+{
+    site::sitemaps(alloc, &*(site as *const Site), out, len)
+}
+
+/// Writes the names of crawlers, as `robots_agents` does. The site is lent, as by `robots_site_robot`.
+#[unsafe(no_mangle)]
+pub unsafe extern "C" fn robots_site_agents(
+    alloc: Global,
+    site: *const u8,
+    out: &mut [u8],
+    len: &mut usize,
+) -> i32
+    ghost g: { Lft × Share × List ℕ }
+    requires* lent { sem 𝓛 (lent_at Sites site g.2 g.0) ∗ sem 𝓛 (flft g.0 g.1) }
+    ensures written { result ≡ pos 0 → IsWritten (AreAgents g.2) out.old out.new len.new }
+    ensures no_room { result ≡ status_of Fault.NoRoom → IsTooLong (AreAgents g.2) (length out.old) len.new }
+    ensures length_kept { result ≢ pos 0 → result ≢ status_of Fault.NoRoom → len.new ≡ len.old }
+    ensures kept { result ≢ pos 0 → out.new ≡ out.old }
+    ensures why { (result ≡ pos 0) ⊎ ((result ≡ status_of Fault.NoRoom) ⊎ (result ≡ status_of Fault.Memory)) }
+    ensures* lent { sem 𝓛 (flft g.0 g.1) }
+{
+    site::agents(alloc, &*(site as *const Site), out, len)
+}
+
+/// Whether the file names a crawler: 1 if it does, 0 if it doesn't, so that the crawler gets what `*` gets, and -1 if the crawler's
+/// name isn't UTF-8. The site is lent, as by `robots_site_robot`. It allocates nothing.
+#[unsafe(no_mangle)]
+pub unsafe extern "C" fn robots_site_is_named(site: *const u8, agent: &[u8]) -> i32
+    ghost g: { Lft × Share × List ℕ }
+    requires* lent { sem 𝓛 (lent_at Sites site g.2 g.0) ∗ sem 𝓛 (flft g.0 g.1) }
+    ensures named { SaysNamed agent.now g.2 result }
+    ensures* lent { sem 𝓛 (flft g.0 g.1) }
+{
+    site::is_named(&*(site as *const Site), agent)
 }
 
 /// Frees a site that `robots_site_open` opened. If the pointer is null, it does nothing.

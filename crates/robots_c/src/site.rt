@@ -1,13 +1,16 @@
 //! A site that C keeps between calls: a file that is read once for all crawlers.
-ghost use Rattle.std.specs.Prelude.{◌≡◌, ◌≢◌, Some, IfErr, IfOk, pos};
-ghost use Rattle.robots_c.specs.File.{GivesRobot, HasDelay, IsRobotFor, bytes_read};
+ghost use Rattle.std.specs.Prelude.{◌≡◌, ◌≢◌, ◌⊎◌, Some, IfErr, IfOk, length, pos};
+ghost use Rattle.robots_c.specs.File.{AreAgents, AreSitemaps, GivesRobot, HasDelay, IsRobotFor, bytes_read};
 ghost use Rattle.robots_c.specs.Status.{HasFault, HasFaultAt, IsWhyNoDelayOf, IsWhyNoRobot, IsWhyNoSite};
+ghost use Rattle.robots_c.specs.Status.{SaysNamed, status_of};
+ghost use Rattle.robots_c.specs.Text.{IsTooLong, IsWritten};
 
 use crate::fault::Fault;
 use crate::file::{delay_in, text_of};
 use crate::handle::for_any_thread;
 use crate::kept::{Handle, Kept};
 use crate::overlong::overlong_line;
+use crate::texts::{agents_in, put, sitemaps_in};
 use std::alloc::Global;
 use texting_robots::{Error, Robot, Site};
 
@@ -80,6 +83,44 @@ pub(crate) fn delay(site: &Site, agent: &[u8], out: &mut u64) -> i32
             *out = delay;
             0
         }
+        Err(fault) => fault.status(),
+    }
+}
+
+/// Writes the sitemaps, as `robots_sitemaps` does.
+pub(crate) fn sitemaps(alloc: Global, site: &Site, out: &mut [u8], len: &mut usize) -> i32
+    ensures written { result ≡ pos 0 → IsWritten (AreSitemaps site.now) out.old out.new len.new }
+    ensures no_room { result ≡ status_of Fault.NoRoom → IsTooLong (AreSitemaps site.now) (length out.old) len.new }
+    ensures length_kept { result ≢ pos 0 → result ≢ status_of Fault.NoRoom → len.new ≡ len.old }
+    ensures kept { result ≢ pos 0 → out.new ≡ out.old }
+    ensures why { (result ≡ pos 0) ⊎ ((result ≡ status_of Fault.NoRoom) ⊎ (result ≡ status_of Fault.Memory)) }
+{
+    match sitemaps_in(alloc, site) {
+        Ok(text) => put(&text, out, len),
+        Err(_) => Fault::Memory.status(),
+    }
+}
+
+/// Writes the names of crawlers, as `robots_agents` does.
+pub(crate) fn agents(alloc: Global, site: &Site, out: &mut [u8], len: &mut usize) -> i32
+    ensures written { result ≡ pos 0 → IsWritten (AreAgents site.now) out.old out.new len.new }
+    ensures no_room { result ≡ status_of Fault.NoRoom → IsTooLong (AreAgents site.now) (length out.old) len.new }
+    ensures length_kept { result ≢ pos 0 → result ≢ status_of Fault.NoRoom → len.new ≡ len.old }
+    ensures kept { result ≢ pos 0 → out.new ≡ out.old }
+    ensures why { (result ≡ pos 0) ⊎ ((result ≡ status_of Fault.NoRoom) ⊎ (result ≡ status_of Fault.Memory)) }
+{
+    match agents_in(alloc, site) {
+        Ok(text) => put(&text, out, len),
+        Err(_) => Fault::Memory.status(),
+    }
+}
+
+/// 1 if the file names the crawler, 0 if it doesn't, and -1 if the crawler's name isn't UTF-8.
+pub(crate) fn is_named(site: &Site, agent: &[u8]) -> i32
+    ensures { SaysNamed agent.now site.now result }
+{
+    match text_of(agent) {
+        Ok(agent) => i32::from(site.is_named(agent)),
         Err(fault) => fault.status(),
     }
 }

@@ -35,7 +35,7 @@ fn lines_of_names(alloc: Global, names: &[&str]) -> Result<String, AllocError>
 }
 
 /// The sitemaps that a site lists, each ended by LF.
-fn sitemaps_in(alloc: Global, site: &Site) -> Result<String, AllocError>
+pub(crate) fn sitemaps_in(alloc: Global, site: &Site) -> Result<String, AllocError>
     ensures { IfOk result (λ text. AreSitemaps site.now (string_bytes text)) }
 {
     let sitemaps = site.sitemaps(alloc)?;
@@ -51,7 +51,7 @@ pub(crate) fn sitemaps_of(alloc: Global, file: &[u8]) -> Result<String, AllocErr
 }
 
 /// The crawlers that a site names, each once and ended by LF.
-fn agents_in(alloc: Global, site: &Site) -> Result<String, AllocError>
+pub(crate) fn agents_in(alloc: Global, site: &Site) -> Result<String, AllocError>
     ensures { IfOk result (λ text. AreAgents site.now (string_bytes text)) }
 {
     let agents = site.agents(alloc)?;

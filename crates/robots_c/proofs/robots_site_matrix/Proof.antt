@@ -111,10 +111,16 @@ robots_site_matrix_spec 𝓤 𝓛 𝓜 𝓡 wired =
     regoal ! (λ (us : List Val). prop (WpFn 𝓤 H 𝓣.C 𝓣.Λ fn us Post))
     (λ j. eh j ++ (ep j ++ (e1 j ++ (e2 j ++ (e3 j ++ []))))) refl $
     enter ! 𝓣.C 𝓣.Λ fn ws Post $ alloc_all !
-    (λ l. pass_all ! refl (fits, ((tt, tt), (
-      slice_good (named 0) imm w8 agents.ref_ptr _ are.1.1.0.0.1.0,
-      (slice_good (named 1) imm w8 urls.ref_ptr _ are.1.1.1.0.0.1.0, (good_o, tt)),
-    ))) $
+    (λ l. pass_all ! refl (
+      fits,
+      (
+        (tt, tt),
+        (
+          slice_good (named 0) imm w8 agents.ref_ptr _ are.1.1.0.0.1.0,
+          (slice_good (named 1) imm w8 urls.ref_ptr _ are.1.1.1.0.0.1.0, (good_o, tt)),
+        ),
+      ),
+    ) $
     sets ! (of_opd ! (get ! refl)) refl (tt, tt) $ sets ! (addr ! (through ! refl (stop !))) refl (tt, tt) $
     sets ! (addr ! (from ! (fld ! refl (hop ! (look_in_at ! 5 (sub ! 0 refl (whole !))) (stop !))))) refl
     (tt, tt) $

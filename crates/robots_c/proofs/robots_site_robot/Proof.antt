@@ -112,10 +112,16 @@ robots_site_robot_spec 𝓤 𝓛 𝓜 𝓡 wired =
     regoal ! (λ (us : List Val). prop (WpFn 𝓤 H 𝓣.C 𝓣.Λ fn us Post))
     (λ j. eh j ++ (ep j ++ (e1 j ++ (e2 j ++ (e3 j ++ []))))) refl $
     enter ! 𝓣.C 𝓣.Λ fn ws Post $ alloc_all !
-    (λ l. pass_all ! refl (fits, ((tt, tt), (
-      slice_good (named 0) imm w8 agent.ref_ptr _ are.1.1.0.0.1.0,
-      ((tt, tt), ((tt, tt), tt)),
-    ))) $
+    (λ l. pass_all ! refl (
+      fits,
+      (
+        (tt, tt),
+        (
+          slice_good (named 0) imm w8 agent.ref_ptr _ are.1.1.0.0.1.0,
+          ((tt, tt), ((tt, tt), tt)),
+        ),
+      ),
+    ) $
     sets ! (of_opd ! (get ! refl)) refl (tt, tt) $
     sets ! (addr ! (through ! refl (stop !))) refl (tt, tt) $
     fsplit3 ! $ move ! (1 ∷ 2 ∷ 3 ∷ []) $ opens ! tt RawPtr b o (λ us. move ! (1 ∷ []) $
