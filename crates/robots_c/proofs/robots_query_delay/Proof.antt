@@ -32,11 +32,12 @@ use denote.Triple.Call.{calls_at}
 use denote.Triple.Table.{framed}
 use denote.Triple.Walked.{Stays, stay_dropped, Goes-dropped, gave_ref, Goes-gave_ref, walk_of}
 use Rattle.std.proofs.raw_atomic.Walks.{proved_at, leaves}
+use Rattle.robots_c.specs.Kept.{Robots}
 use Rattle.robots_c.specs.Status.{HasFault, IsWhyNone}
 use Rattle.texting_robots.specs.Callers.{RobotValue}
-use Rattle.texting_robots.specs.contracts.robot.Robot as Robot-type
 use Rattle.robots_c.specs.contracts.handle.query_delay as callee
 use Rattle.robots_c.proofs.handle.query_delay.Met.{met}
+use Rattle.robots_c.proofs.WalkSteps.{hears, lent, pointer_slot, status, tells}
 use Rattle.robots_c.specs.contracts.robots_query_delay.{ended, clauses}
 use Rattle.robots_c.specs.contracts.robots_query_delay.Key.{name as #self}
 use Rattle.robots_c.proofs.robots_query_delay.Statement.{statement}
@@ -50,15 +51,14 @@ Why robot status = HasFault (IsWhyNone robot.delay) status
 
 pub robots_query_delay_spec : {M : Type 1} → statement M
 robots_query_delay_spec 𝓤 𝓛 𝓜 𝓡 wired =
-    let H = 𝓛.H in let 𝓣 = tables 𝓤 H 𝓜 𝓡 𝓡.env in let R : RattleType = Robot-type.the_row in
+    let H = 𝓛.H in let 𝓣 = tables 𝓤 H 𝓜 𝓡 𝓡.env in let R : RattleType = Robots in
     let En = ended in let c = clauses 𝓛 𝓜.mem 𝓡.returns in let fn = code.function in
     let hs : Stays En.signature.params En.kept = (
-      stay_dropped (plain
-          (λ _. RawPtr)) yes,
+      stay_dropped (pointer_slot 1) yes,
       (gave_ref (0 ∷ []) tt (plain (λ _. u64)), tt),
     ) in
     proved_at 𝓛 En hs c 𝓜 𝓡 (
-      Goes-dropped 𝓛 1 (plain (λ _. RawPtr)) yes (λ κs x f. refl),
+      Goes-dropped 𝓛 1 (pointer_slot 1) yes (λ κs x f. refl),
       (Goes-gave_ref 𝓛 1 0 tt (plain (λ _. u64)), tt),
     ) #self fn (code.unfolded 𝓤 H 𝓜 𝓡 wired) (λ z are.
     let Post : Val → SProp 𝓤 = (walk_of 𝓛 En hs c).post z in
@@ -69,11 +69,7 @@ robots_query_delay_spec 𝓤 𝓛 𝓜 𝓡 wired =
     let e2 = mut_Tells (named 0) α u64 out vs.1.0 are.1.0 in
     qed 𝓛 (((‵ (flft α qα) ⊛ ‵ ftrue) ⊛ ‵ (owns (types_at En.signature.params z.0.0) a vs))
     ∷ (‵ (lent_at R at x κ) ⊛ ‵ (flft κ q)) ∷ []) ∵
-    move ! (1 ∷ []) $ split ! $
-    in_a_block ! at (λ p. lent_at R p x κ) (fst∗ 𝓤 (never 𝓤) (sem 𝓛 (shared_of R x 0 0 κ)))
-    (λ b o e. fsplit ! $ drop ! $
-    use1 𝓛 (‵ (hidden_shr R κ x b o)) (id⊢ 𝓤 _) $
-    feq_i ! (List Val) (vptr b o ∷ []) (vptr b o ∷ []) refl $ fjoin ! $
+    move ! (1 ∷ []) $ lent ! R at x κ q (λ b o e.
     -- [the reference; κ; the rest]
     move ! (2 ∷ []) $ split ! $ move ! (1 ∷ []) $ fsplit ! $ drop ! $
     fsplit ! $ rewrite ! 0 (λ (ws : List Val). ‵ ((MutRef (named 0) α u64).own_val out ws)) e2 refl $
@@ -100,21 +96,13 @@ robots_query_delay_spec 𝓤 𝓛 𝓜 𝓡 wired =
     ⊛ (raw (fact 𝓤 (Written x r ls.1.0)) ⊛ (raw (fact 𝓤 (r ≢ pos 0 → ls.1.0 ≡ out.now))
     ⊛ raw (fact 𝓤 (Why x r)))))))) (id⊢ 𝓤 (k.post y u)) $
     await ! tt $ pick ! (λ r. split ! $ move ! (1 ∷ []) $ pick ! (λ ls. let w = ls.1.0 in
-    split ! $ move ! (1 ∷ []) $ split ! $ heard ! (Written x r w) (λ written. split ! $
-    heard ! (r ≢ pos 0 → w ≡ out.now) (λ kept. heard ! (Why x r) (λ why.
+    split ! $ move ! (1 ∷ []) $ hears ! (Written x r w) (λ written.
+    hears ! (r ≢ pos 0 → w ≡ out.now) (λ kept. heard ! (Why x r) (λ why.
     fsplit ! $ drop ! $ fsplit ! $ move ! (1 ∷ []) $ drop ! $
     -- [what out was given; the tokens with the result; nothing]
-    move ! (1 ∷ []) $ split ! $ move ! (1 ∷ []) $ peeks ! i32 (Is i32) (shows 𝓛 i32) r (u ∷ []) (λ is.
-    let i : Val = vint w32 (of_z w32 r) in
-    let good_i : IsT (has_ty (ty_int w32) i) × WT i = (tt, of_z_fits w32 r (record { sfits = is.1 })) in
-    rewrite ! 0 (λ (us : List Val). ‵ (i32.own_val r us)) is.0 refl $
-    lands_as ! (ap only is.0) refl good_i $ returns ! (look_at ! 0 refl) $ free_all ! refl $
+    move ! (1 ∷ []) $ split ! $ move ! (1 ∷ []) $ status ! r u (λ eu good.
+    lands_as ! eu refl good $ returns ! (look_at ! 0 refl) $ free_all ! refl $
     -- [the result; the tokens; what out was given; nothing]
     nothing ! $ move ! (3 ∷ 0 ∷ []) $ fjoin ! $ nothing ! $ fjoin ! $
-    move ! (2 ∷ []) $ split ! $
-    use0 𝓛 (raw (fact 𝓤 (Why x r))) (fact_i 𝓤 (Why x r) (emp 𝓤) why) $ join ! $
-    use0 𝓛 (raw (fact 𝓤 (r ≢ pos 0 → w ≡ out.now))) (fact_i 𝓤 (r ≢ pos 0 → w ≡ out.now) (emp 𝓤) kept) $
-    join ! $
-    use0 𝓛 (raw (fact 𝓤 (Written x r w))) (fact_i 𝓤 (Written x r w) (emp 𝓤) written) $ join ! $
-    keep ! (1 ∷ 2 ∷ 3 ∷ 0 ∷ []) $
-    by ! (leaves 𝓛 En hs c z i r (tt, (w, tt)) (tt, (tt, tt)))))))))))))
+    move ! (2 ∷ []) $ split ! $ tells ! why $ tells ! kept $ tells ! written $ keep ! (1 ∷ 2 ∷ 3 ∷ 0 ∷ []) $
+    by ! (leaves 𝓛 En hs c z _ r (tt, (w, tt)) (tt, (tt, tt)))))))))))))

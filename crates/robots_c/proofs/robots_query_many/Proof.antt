@@ -32,33 +32,22 @@ use denote.Triple.Spec.{triple_of}
 use denote.Triple.Call.{calls_at}
 use denote.Triple.Table.{framed}
 use denote.Triple.Walked.{Stays, stay_dropped, Goes-dropped, gave_slice, Goes-gave_slice, walk_of}
-use Rattle.std.proofs.alloc.Calls.{Al, Goes-blank, handle_tells}
+use Rattle.std.proofs.alloc.Calls.{Goes-blank, handle_tells}
 use Rattle.std.proofs.raw_atomic.Walks.{proved_at, leaves}
 use Rattle.std.specs.contracts.alloc.Global as Global
 use Rattle.std.proofs.alloc.Global.TheLaws as Global-laws
 use Rattle.robots_c.specs.Results.{ArePutIn}
 use Rattle.robots_c.specs.File.{IsRobotOfSomeFile}
+use Rattle.robots_c.specs.Kept.{Robots}
 use Rattle.robots_c.specs.Status.{HasFault, IsWhyNoResults}
 use Rattle.texting_robots.specs.Callers.{RobotValue}
-use Rattle.texting_robots.specs.contracts.robot.Robot as Robot-type
 use Rattle.robots_c.specs.contracts.urls.query_many as callee
 use Rattle.robots_c.proofs.urls.query_many.Met.{met}
+use Rattle.robots_c.proofs.WalkSteps.{Heap, heap_slot, hears, lent, pointer_slot, slice_good, status, tells}
 use Rattle.robots_c.specs.contracts.robots_query_many.{ended, clauses}
 use Rattle.robots_c.specs.contracts.robots_query_many.Key.{name as #self}
 use Rattle.robots_c.proofs.robots_query_many.Statement.{statement}
 use Rattle.robots_c.proofs.robots_query_many.Code as code
-
-abbrev Z : Al
-Z = record {
-  row = Global.the_row;
-  laws = Global-laws.the_row_laws;
-  g = record {
-    dealloc_token = λ a σ p.
-        ftrue;
-  };
-  d = impl [] tnil dnil;
-  drops = impl [] tnil dnil;
-}
 
 abbrev Written : RobotValue → List ℕ → ℤ → List ℤ → List ℤ → Type 0
 Written robot urls status old new = status ≡ pos 0 → ArePutIn robot.rules urls old new
@@ -68,33 +57,26 @@ Why urls room status = HasFault (IsWhyNoResults urls room) status
 
 pub robots_query_many_spec : {M : Type 1} → statement M
 robots_query_many_spec 𝓤 𝓛 𝓜 𝓡 wired =
-    let H = 𝓛.H in let 𝓣 = tables 𝓤 H 𝓜 𝓡 𝓡.env in let R : RattleType = Robot-type.the_row in
+    let H = 𝓛.H in let 𝓣 = tables 𝓤 H 𝓜 𝓡 𝓡.env in let R : RattleType = Robots in
     let En = ended in let c = clauses 𝓛 𝓜.mem 𝓡.returns in let fn = code.function in
     let hs : Stays En.signature.params En.kept = (
-      stay_dropped (plain
-          (λ _. Global.the_row)) yes,
+      stay_dropped (heap_slot 2) yes,
       (
-        stay_dropped (plain (λ _. RawPtr)) yes,
+        stay_dropped (pointer_slot 2) yes,
         (
-          stay_dropped (SliceRefOf (0 ∷ []) tt (plain (λ _. u8))
-              (λ κs. tt)) yes,
+          stay_dropped (SliceRefOf (0 ∷ []) tt (plain (λ _. u8)) (λ κs. tt)) yes,
           (gave_slice (1 ∷ []) tt (plain (λ _. i64)), tt),
         ),
       ),
     ) in
     proved_at 𝓛 En hs c 𝓜 𝓡 (
-      Goes-blank 𝓛 2 (plain (λ _. Global.the_row)) yes
-          (λ κs x f. tt),
+      Goes-blank 𝓛 2 (heap_slot 2) yes (λ κs x f. tt),
       (
-        Goes-dropped 𝓛 2 (plain (λ _. RawPtr)) yes (λ κs x f. refl),
+        Goes-dropped 𝓛 2 (pointer_slot 2) yes (λ κs x f. refl),
         (
           Goes-dropped 𝓛 2 (SliceRefOf (0 ∷ []) tt (plain (λ _. u8)) (λ κs. tt)) yes
               (λ κs x f. refl),
-          (
-            Goes-gave_slice 𝓛 2 1 tt (plain
-                (λ _. i64)),
-            tt,
-          ),
+          (Goes-gave_slice 𝓛 2 1 tt (plain (λ _. i64)), tt),
         ),
       ),
     ) #self fn (code.unfolded 𝓤 H 𝓜 𝓡 wired) (λ z are.
@@ -108,13 +90,9 @@ robots_query_many_spec 𝓤 𝓛 𝓜 𝓡 wired =
     qed 𝓛 (((‵ (flft α qα) ⊛ ‵ (flft β qβ) ⊛ ‵ ftrue)
     ⊛ ‵ (owns (types_at En.signature.params z.0.0) a vs)) ∷ (raw (fact 𝓤 (IsRobotOfSomeFile x))
     ⊛ (‵ (lent_at R at x κ) ⊛ ‵ (flft κ q))) ∷ []) ∵
-    move ! (1 ∷ []) $ split ! $ heard ! (IsRobotOfSomeFile x) (λ some'. split ! $
-    in_a_block ! at (λ p. lent_at R p x κ) (fst∗ 𝓤 (never 𝓤) (sem 𝓛 (shared_of R x 0 0 κ)))
-    (λ b o e. fsplit ! $ drop ! $
-    use1 𝓛 (‵ (hidden_shr R κ x b o)) (id⊢ 𝓤 _) $ feq_i ! (List Val) (vptr b o ∷ []) (vptr b o ∷ []) refl $
-    fjoin ! $
+    move ! (1 ∷ []) $ hears ! (IsRobotOfSomeFile x) (λ some'. lent ! R at x κ q (λ b o e.
     -- [the reference; κ; the rest]
-    move ! (2 ∷ []) $ split ! $ move ! (1 ∷ []) $ fsplit ! $ handle_tells Z ! g vs.0 (λ h eh fits.
+    move ! (2 ∷ []) $ split ! $ move ! (1 ∷ []) $ fsplit ! $ handle_tells Heap ! g vs.0 (λ h eh fits.
     move ! (1 ∷ []) $ fsplit ! $ drop ! $ fsplit ! $
     rewrite ! 0 (λ (ws : List Val). ‵ ((ShrSlice (named 0) α u8).own_val url ws)) e1 refl $
     move ! (1 ∷ []) $ fsplit ! $ rewrite ! 0
@@ -122,26 +100,13 @@ robots_query_many_spec 𝓤 𝓛 𝓜 𝓡 wired =
     -- [out; nothing; url; the handle; the tokens; the reference; κ]
     let su : Val = slice_val url.ref_ptr (length url.now) in
     let so : Val = slice_val out.ref_ptr (length out.now) in
-    let good_o : IsT (has_ty (slice_ty (ty_ref (named 1) mut (ty_int w64))) so) × WT so = (
-      tt,
-      (
-        tt,
-        (record { fits = are.1.1.1.0.0.1.0 }, tt),
-      ),
-    ) in
-    let good_u : IsT (has_ty (slice_ty (ty_ref (named 0) imm (ty_int w8))) su) × WT su = (
-      tt,
-      (
-        tt,
-        (record { fits = are.1.1.0.0.1.0 }, tt),
-      ),
-    ) in
+    let good_o = slice_good (named 1) mut w64 out.ref_ptr (length out.now) are.1.1.1.0.0.1.0 in
     let ep : vs.1.0 ≡ vptr b o ∷ [] = are.1.0 ∙ ap (λ (p : Ptr). ptr_val p ∷ []) e in
     let ws : List Val = h ∷ vptr b o ∷ su ∷ so ∷ [] in
     regoal ! (λ (us : List Val). prop (WpFn 𝓤 H 𝓣.C 𝓣.Λ fn us Post))
     (λ j. eh j ++ (ep j ++ (e1 j ++ (e2 j ++ [])))) refl $
     enter ! 𝓣.C 𝓣.Λ fn ws Post $ alloc_all !
-    (λ l. pass_all ! refl (fits, ((tt, tt), (good_u, (good_o, tt)))) $
+    (λ l. pass_all ! refl (fits, ((tt, tt), (slice_good (named 0) imm w8 url.ref_ptr _ are.1.1.0.0.1.0, (good_o, tt)))) $
     sets ! (of_opd ! (get ! refl)) refl (tt, tt) $ sets ! (addr ! (through ! refl (stop !))) refl (tt, tt) $
     sets ! (addr ! (from ! (fld ! refl (hop ! (look_in_at ! 4 (sub ! 0 refl (whole !))) (stop !))))) refl
     (tt, tt) $
@@ -163,16 +128,7 @@ robots_query_many_spec 𝓤 𝓛 𝓜 𝓡 wired =
         (q, (qα, (qβ, tt))),
         tt,
         args,
-        (
-          h ∷ [],
-          (
-            vptr b o ∷ [],
-            (
-              su ∷ [],
-              (so ∷ [], tt),
-            ),
-          ),
-        ),
+        (h ∷ [], (vptr b o ∷ [], (su ∷ [], (so ∷ [], tt)))),
       ),
       tt,
     ) in
@@ -186,24 +142,15 @@ robots_query_many_spec 𝓤 𝓛 𝓜 𝓡 wired =
     ⊛ (raw (fact 𝓤 (r ≢ pos 0 → ls.1.1.1.0 ≡ out.now))
     ⊛ raw (fact 𝓤 (Why url.now (length out.now) r)))))))) (id⊢ 𝓤 (k.post y u)) $
     await ! tt $ pick ! (λ r. split ! $ move ! (1 ∷ []) $ pick ! (λ ls. let w = ls.1.1.1.0 in
-    split ! $ move ! (1 ∷ []) $ split ! $ heard ! (Written x url.now r out.now w) (λ written. split ! $
-    heard ! (r ≢ pos 0 → w ≡ out.now) (λ kept. heard ! (Why url.now (length out.now) r) (λ why.
+    split ! $ move ! (1 ∷ []) $ hears ! (Written x url.now r out.now w) (λ written.
+    hears ! (r ≢ pos 0 → w ≡ out.now) (λ kept. heard ! (Why url.now (length out.now) r) (λ why.
     fsplit ! $ drop ! $ fsplit ! $ drop ! $ fsplit ! $ drop ! $ fsplit ! $ move ! (1 ∷ []) $ drop ! $
     fsplit ! $ fsplit ! $ move ! (1 ∷ []) $ feq_l ! (λ long. fjoin ! $
     -- [what out was given; the tokens with the result; nothing]
-    move ! (1 ∷ []) $ split ! $ move ! (1 ∷ []) $ peeks ! i32 (Is i32) (shows 𝓛 i32) r (u ∷ []) (λ is.
-    let i : Val = vint w32 (of_z w32 r) in
-    let good_i : IsT (has_ty (ty_int w32) i) × WT i = (tt, of_z_fits w32 r (record { sfits = is.1 })) in
-    rewrite ! 0 (λ (us : List Val). ‵ (i32.own_val r us)) is.0 refl $
-    lands_as ! (ap only is.0) refl good_i $ returns ! (look_at ! 0 refl) $ free_all ! refl $
+    move ! (1 ∷ []) $ split ! $ move ! (1 ∷ []) $ status ! r u (λ eu good.
+    lands_as ! eu refl good $ returns ! (look_at ! 0 refl) $ free_all ! refl $
     -- [the result; the tokens; what out was given; nothing]
     nothing ! $ move ! (3 ∷ 0 ∷ []) $ fjoin ! $ nothing ! $ fjoin ! $ nothing ! $ fjoin ! $ nothing ! $
     fjoin ! $
-    move ! (2 ∷ []) $ split ! $
-    use0 𝓛 (raw (fact 𝓤 (Why url.now (length out.now) r))) (fact_i 𝓤 (Why url.now (length out.now) r)
-    (emp 𝓤) why) $ join ! $
-    use0 𝓛 (raw (fact 𝓤 (r ≢ pos 0 → w ≡ out.now))) (fact_i 𝓤 (r ≢ pos 0 → w ≡ out.now) (emp 𝓤) kept) $
-    join ! $
-    use0 𝓛 (raw (fact 𝓤 (Written x url.now r out.now w))) (fact_i 𝓤 (Written x url.now r out.now w)
-    (emp 𝓤) written) $ join ! $ keep ! (1 ∷ 2 ∷ 3 ∷ 0 ∷ []) $
-    by ! (leaves 𝓛 En hs c z i r (tt, (tt, (tt, (w, tt)))) (tt, (tt, (tt, (long, tt))))))))))))))))))
+    move ! (2 ∷ []) $ split ! $ tells ! why $ tells ! kept $ tells ! written $ keep ! (1 ∷ 2 ∷ 3 ∷ 0 ∷ []) $
+    by ! (leaves 𝓛 En hs c z _ r (tt, (tt, (tt, (w, tt)))) (tt, (tt, (tt, (long, tt))))))))))))))))))
