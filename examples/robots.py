@@ -1,4 +1,5 @@
-"""The calls of robots.h: decide, matrix, delay, sitemaps, agents, address, and Robot, which is a robot that stays open.
+"""The calls of robots.h: decide, matrix, delay, sitemaps, agents, address; Robot, which is a robot that stays open; and Site, which is a
+file that is read once for all crawlers.
 
 The shared object is the one that ROBOTS_SO names, else librobots_c.so next to this file. A failed call raises a RobotsError, whose
 `status` is that of robots.h, or a MemoryError.
@@ -30,10 +31,18 @@ for name, arguments in {
     "robots_query": [c_void_p] + TEXT + [POINTER(c_int64)],
     "robots_query_many": [c_void_p] + TEXT + NUMBERS,
     "robots_query_delay": [c_void_p, POINTER(c_uint64)],
+    "robots_site_open": TEXT + [POINTER(c_void_p)],
+    "robots_site_robot": [c_void_p] + TEXT + [POINTER(c_void_p)] + LINE,
+    "robots_site_matrix": [c_void_p] + TEXT * 2 + NUMBERS,
+    "robots_site_delay": [c_void_p] + TEXT + [POINTER(c_uint64)],
+    "robots_site_sitemaps": [c_void_p] + WRITTEN,
+    "robots_site_agents": [c_void_p] + WRITTEN,
+    "robots_site_is_named": [c_void_p] + TEXT,
 }.items():
     getattr(library, name).argtypes = arguments
     getattr(library, name).restype = c_int32
-library.robots_close.argtypes, library.robots_close.restype = [c_void_p], None
+for close in (library.robots_close, library.robots_site_close):
+    close.argtypes, close.restype = [c_void_p], None
 NO_RESULT = -(2**63)
 
 
@@ -62,12 +71,12 @@ def joined(items):
     return text("\n".join(items))
 
 
-def written(call, one):
+def written(call, *words):
     """What a call writes, with as much room as it asks for."""
     room, length = 256, c_size_t()
     while True:
         out = ctypes.create_string_buffer(room)
-        status = call(*text(one), out, room, byref(length))
+        status = call(*words, out, room, byref(length))
         if status != NO_ROOM:
             check(status)
             return out.raw[: length.value].decode()
@@ -95,8 +104,13 @@ def matrix(agents, file, urls):
     """For each crawler the numbers of `decide`, or NO_RESULT for each URL if a rule for the crawler is too long."""
     if not agents or not urls:
         return [[] for _ in agents]
+    return rows_of(lambda *out: library.robots_matrix(*joined(agents), *text(file), *joined(urls), *out), agents, urls)
+
+
+def rows_of(call, agents, urls):
+    """The rows of the matrix that a call writes."""
     out = (c_int64 * (len(agents) * len(urls)))()
-    check(library.robots_matrix(*joined(agents), *text(file), *joined(urls), out, len(out)))
+    check(call(out, len(out)))
     return [out[at : at + len(urls)] for at in range(0, len(out), len(urls))]
 
 
@@ -107,25 +121,54 @@ def delay(agent, file):
 
 
 def sitemaps(file):
-    return written(library.robots_sitemaps, file).split("\n")[:-1]
+    return written(library.robots_sitemaps, *text(file)).split("\n")[:-1]
 
 
 def agents(file):
     """The crawlers that the file names, each once."""
-    return written(library.robots_agents, file).split("\n")[:-1]
+    return written(library.robots_agents, *text(file)).split("\n")[:-1]
 
 
 def address(url):
-    return written(library.robots_address, url)
+    return written(library.robots_address, *text(url))
 
 
-class Robot:
-    """What a file says to one crawler, for `with`. A lock lets one thread at a time call the library."""
+class Opened:
+    """What a call opens, for `with`. A lock lets one thread at a time call the library with it."""
+
+    def __init__(self, handle, close):
+        self.handle, self.free, self.lock = handle, close, threading.Lock()
+
+    def open(self):
+        if not self.handle:
+            raise ValueError("it is closed")
+        return self.handle
+
+    def close(self):
+        with self.lock:
+            if self.handle:
+                self.free(self.handle)
+            self.handle = c_void_p()
+
+    def __enter__(self):
+        return self
+
+    def __exit__(self, *error):
+        self.close()
+
+
+class Robot(Opened):
+    """What a file, or a Site, says to one crawler. It stays open when the Site is closed."""
 
     def __init__(self, agent, file):
-        self.robot, self.lock = c_void_p(), threading.Lock()
-        line = c_size_t()
-        check(library.robots_open(*text(agent), *text(file), byref(self.robot), byref(line)), line.value)
+        handle, line = c_void_p(), c_size_t()
+        if isinstance(file, Site):
+            with file.lock:
+                status = library.robots_site_robot(file.open(), *text(agent), byref(handle), byref(line))
+        else:
+            status = library.robots_open(*text(agent), *text(file), byref(handle), byref(line))
+        check(status, line.value)
+        super().__init__(handle, library.robots_close)
 
     def query(self, url):
         """The number of `decide` for one URL."""
@@ -148,19 +191,37 @@ class Robot:
         with self.lock:
             return delay_of(library.robots_query_delay(self.open(), byref(out)), out)
 
-    def open(self):
-        if not self.robot:
-            raise ValueError("the robot is closed")
-        return self.robot
 
-    def close(self):
+class Site(Opened):
+    """What a file says to every crawler: it is read once. A Robot takes a Site in place of a file."""
+
+    def __init__(self, file):
+        handle = c_void_p()
+        check(library.robots_site_open(*text(file), byref(handle)))
+        super().__init__(handle, library.robots_site_close)
+
+    def matrix(self, agents, urls):
+        if not agents or not urls:
+            return [[] for _ in agents]
         with self.lock:
-            if self.robot:
-                library.robots_close(self.robot)
-            self.robot = c_void_p()
+            return rows_of(lambda *out: library.robots_site_matrix(self.open(), *joined(agents), *joined(urls), *out), agents, urls)
 
-    def __enter__(self):
-        return self
+    def delay(self, agent):
+        out = c_uint64()
+        with self.lock:
+            return delay_of(library.robots_site_delay(self.open(), *text(agent), byref(out)), out)
 
-    def __exit__(self, *error):
-        self.close()
+    def sitemaps(self):
+        with self.lock:
+            return written(library.robots_site_sitemaps, self.open()).split("\n")[:-1]
+
+    def agents(self):
+        with self.lock:
+            return written(library.robots_site_agents, self.open()).split("\n")[:-1]
+
+    def is_named(self, agent):
+        """Whether a user-agent line names the crawler."""
+        with self.lock:
+            named = library.robots_site_is_named(self.open(), *text(agent))
+        check(min(named, OK))
+        return named == 1

@@ -54,10 +54,11 @@ void __wrap_free(void *block) {
     __real_free(block);
 }
 
-/* ---- the worked examples: lines 2, 3 and 6 are rules, 4 is a delay, 5 and 7 are sitemaps */
+/* ---- the worked examples: lines 2, 3 and 6 are rules, 4 is a delay, 5 and 7 are sitemaps; lines 8 and 10 name a crawler */
 
 static const char file[] = "User-agent: *\nDisallow: /private\nAllow: /private/open\nCrawl-delay: 2.5\n"
-                           "Sitemap: https://example.com/a.xml\nDisallow: /*.pdf$\nSitemap: https://example.com/b.xml\n";
+                           "Sitemap: https://example.com/a.xml\nDisallow: /*.pdf$\nSitemap: https://example.com/b.xml\n"
+                           "User-agent: A\nAllow: /\nuser-agent: a\n";
 static const char urls[] = "https://example.com/a\n/private/x\nhttps://example.com/private/open\n/x.pdf\n/x.pdf?y\n"
                            "/private/\xC3\xA9 b";
 static const int64_t verdicts[] = {0, -2, 3, -6, 0, -2};
@@ -95,16 +96,17 @@ static struct outcome decide_with(const char *agent, const char *these, size_t r
 
 static struct outcome decide(void) { return decide_with("Bot", urls, COUNT); }
 
-/* Two rows of a matrix: crawlers that the file doesn't name have the same. */
-static struct outcome matrix_with(const char *agents, size_t room) {
+/* Two rows of a matrix, by a site or else by the file: crawlers that the file doesn't name have the same. */
+static struct outcome matrix_with(const robots_site *site, const char *agents, size_t room) {
     int64_t out[2 * COUNT + 1];
     memset(out, 0x77, sizeof out);
-    int32_t status = robots_matrix(ROBOTS_STRING(agents), FILE_OF(file), ROBOTS_STRING(urls), out, room);
+    int32_t status = site ? robots_site_matrix(site, ROBOTS_STRING(agents), ROBOTS_STRING(urls), out, room)
+                          : robots_matrix(ROBOTS_STRING(agents), FILE_OF(file), ROBOTS_STRING(urls), out, room);
     bool rows = memcmp(out, verdicts, sizeof verdicts) == 0 && memcmp(out + COUNT, verdicts, sizeof verdicts) == 0;
     return (struct outcome){status, status == ROBOTS_OK && rows && all_are(out + 2 * COUNT, 8, 0x77), all_are(out, sizeof out, 0x77)};
 }
 
-static struct outcome matrix(void) { return matrix_with("Bot\nOther", 2 * COUNT); }
+static struct outcome matrix(void) { return matrix_with(NULL, "Bot\nOther", 2 * COUNT); }
 
 static struct outcome delay(void) {
     uint64_t out = 77;
@@ -120,23 +122,23 @@ static struct outcome text_is(int32_t status, const char *out, size_t len, const
     return (struct outcome){status, right, counted && all_are(out, 99, 77)};
 }
 
-static struct outcome list_sitemaps(size_t room) {
+static struct outcome list_sitemaps(const robots_site *site, size_t room) {
     char out[99];
     size_t len = 7;
     memset(out, 77, sizeof out);
-    int32_t status = robots_sitemaps(FILE_OF(file), out, room, &len);
+    int32_t status = site ? robots_site_sitemaps(site, out, room, &len) : robots_sitemaps(FILE_OF(file), out, room, &len);
     return text_is(status, out, len, sitemaps, room);
 }
 
-static struct outcome list_agents(size_t room) {
+static struct outcome list_agents(const robots_site *site, size_t room) {
     char out[99];
     size_t len = 7;
     memset(out, 77, sizeof out);
-    int32_t status = robots_agents(FILE_OF("User-agent: A\nAllow: /\nuser-agent: *\nuser-agent: a\n"), out, room, &len);
-    return text_is(status, out, len, "A\n*\n", room);
+    int32_t status = site ? robots_site_agents(site, out, room, &len) : robots_agents(FILE_OF(file), out, room, &len);
+    return text_is(status, out, len, "*\nA\n", room);
 }
 
-static struct outcome all_agents(void) { return list_agents(4); }
+static struct outcome all_agents(void) { return list_agents(NULL, 4); }
 
 static struct outcome find_address(const char *url, size_t room) {
     char out[99];
@@ -146,7 +148,7 @@ static struct outcome find_address(const char *url, size_t room) {
     return text_is(status, out, len, address, room);
 }
 
-static struct outcome all_sitemaps(void) { return list_sitemaps(sizeof sitemaps - 1); }
+static struct outcome all_sitemaps(void) { return list_sitemaps(NULL, sizeof sitemaps - 1); }
 
 static struct outcome whole_address(void) { return find_address(page, sizeof address - 1); }
 
@@ -180,6 +182,69 @@ static bool is(struct outcome outcome, int32_t status) {
     return outcome.status == status && (status == ROBOTS_OK ? outcome.right : outcome.untouched);
 }
 
+/* Opens a robot of a site, closes the site, and queries the robot. */
+static struct outcome keep_robot_of(robots_site *site) {
+    robots *robot = NULL;
+    size_t line = 7;
+    int32_t status = robots_site_robot(site, ROBOTS_STRING("Bot"), &robot, &line);
+    robots_site_close(site);
+    if (status != ROBOTS_OK)
+        return (struct outcome){status, false, robot == NULL && line == 7};
+    struct outcome many = query_with(robot, COUNT);
+    robots_close(robot);
+    return (struct outcome){many.status, many.right && line == 7, many.untouched && line == 7};
+}
+
+/* Opens a site and makes each call on it. What needs no memory is never reported as out of memory. */
+static struct outcome keep_site(void) {
+    robots_site *site = NULL;
+    uint64_t wait = 77;
+    int32_t status = robots_site_open(FILE_OF(file), &site);
+    if (status != ROBOTS_OK)
+        return (struct outcome){status, false, site == NULL};
+    bool known = robots_site_delay(site, "Bot", 3, &wait) == ROBOTS_OK && wait == 2500000;
+    known &= robots_site_is_named(site, "Bot", 3) == 0 && robots_site_is_named(site, "a", 1) == 1;
+    struct outcome each[] = {matrix_with(site, "Bot\nOther", 2 * COUNT), list_sitemaps(site, sizeof sitemaps - 1), list_agents(site, 4),
+                             keep_robot_of(site)};
+    struct outcome all = {ROBOTS_OK, known, known};
+    for (size_t i = 0; i < sizeof each / sizeof *each; i++) {
+        all.right &= each[i].right;
+        all.untouched &= is(each[i], ROBOTS_OK) || is(each[i], ROBOTS_NO_MEMORY);
+        all.status = all.status == ROBOTS_OK ? each[i].status : all.status;
+    }
+    return all;
+}
+
+/* The errors of each call on a site. A rule for the crawler Long is too long. */
+static void try_site(void) {
+    char text[5000] = "User-agent: Long\nDisallow: /$";
+    robots_site *site = NULL;
+    robots *robot = NULL;
+    uint64_t wait = 77;
+    size_t line = 7, start = strlen(text);
+    int64_t out[] = {77, 77, 77, 77};
+    memset(text + start, 'a', 4095);
+    strcpy(text + start + 4095, "\nUser-agent: B\nDisallow: /b");
+    tell("a site with a rule that is too long", robots_site_open(ROBOTS_STRING(text), &site) == ROBOTS_OK && site != NULL);
+    tell("no robot of a site", robots_site_robot(site, "long", 4, &robot, &line) == ROBOTS_OVERLONG_RULE && robot == NULL && line == 2);
+    tell("a robot of what isn't UTF-8", robots_site_robot(site, "\xFF", 1, &robot, &line) == ROBOTS_NOT_UTF8 && robot == NULL && line == 2);
+    tell("no delay of a site", robots_site_delay(site, "Long", 4, &wait) == ROBOTS_NO_DELAY && wait == 77);
+    tell("a delay of what isn't UTF-8", robots_site_delay(site, "\xFF", 1, &wait) == ROBOTS_NOT_UTF8 && wait == 77);
+    tell("a name that isn't UTF-8", robots_site_is_named(site, "\xFF", 1) == ROBOTS_NOT_UTF8);
+    tell("no sitemaps of a site", robots_site_sitemaps(site, NULL, 0, &line) == ROBOTS_OK && line == 0);
+    tell("a row of no results", robots_site_matrix(site, "Long\nB", 6, "/b\n/c", 5, out, 4) == ROBOTS_OK && out[0] == ROBOTS_NO_RESULT
+        && out[1] == ROBOTS_NO_RESULT && out[2] == -4 && out[3] == 0);
+    robots_site_close(site);
+    site = NULL;
+    bool opened = robots_site_open(FILE_OF(file), &site) == ROBOTS_OK;
+    tell("a matrix of a site with a number too little room", opened && is(matrix_with(site, "Bot\nOther", 2 * COUNT - 1), ROBOTS_NO_ROOM));
+    tell("a matrix of a site, a crawler that isn't UTF-8", opened && is(matrix_with(site, "Bot\n\xFF", 2 * COUNT), ROBOTS_NOT_UTF8));
+    tell("sitemaps of a site with a byte too little room", opened && is(list_sitemaps(site, sizeof sitemaps - 2), ROBOTS_NO_ROOM));
+    tell("crawlers of a site with a byte too little room", opened && is(list_agents(site, 3), ROBOTS_NO_ROOM));
+    robots_site_close(site);
+    robots_site_close(NULL);
+}
+
 static void try_examples(void) {
     int64_t out = 77;
     uint64_t wait = 77;
@@ -194,13 +259,13 @@ static void try_examples(void) {
     tell("a delay", is(delay(), ROBOTS_OK));
     tell("no delay", robots_delay("Bot", 3, "Disallow: /", 11, &wait) == ROBOTS_NO_DELAY && wait == 77);
     tell("sitemaps", is(all_sitemaps(), ROBOTS_OK));
-    tell("sitemaps with a byte too little room", is(list_sitemaps(sizeof sitemaps - 2), ROBOTS_NO_ROOM));
+    tell("sitemaps with a byte too little room", is(list_sitemaps(NULL, sizeof sitemaps - 2), ROBOTS_NO_ROOM));
     tell("the length of sitemaps", robots_sitemaps(FILE_OF(file), NULL, 0, &length) == ROBOTS_NO_ROOM && length == sizeof sitemaps - 1);
     tell("crawlers", is(all_agents(), ROBOTS_OK));
-    tell("crawlers with a byte too little room", is(list_agents(3), ROBOTS_NO_ROOM));
+    tell("crawlers with a byte too little room", is(list_agents(NULL, 3), ROBOTS_NO_ROOM));
     tell("a matrix", is(matrix(), ROBOTS_OK));
-    tell("a matrix with a number too little room", is(matrix_with("Bot\nOther", 2 * COUNT - 1), ROBOTS_NO_ROOM));
-    tell("a matrix, a crawler that isn't UTF-8", is(matrix_with("Bot\n\xFF", 2 * COUNT), ROBOTS_NOT_UTF8));
+    tell("a matrix with a number too little room", is(matrix_with(NULL, "Bot\nOther", 2 * COUNT - 1), ROBOTS_NO_ROOM));
+    tell("a matrix, a crawler that isn't UTF-8", is(matrix_with(NULL, "Bot\n\xFF", 2 * COUNT), ROBOTS_NOT_UTF8));
     tell("a matrix of empty texts", robots_matrix(NULL, 0, NULL, 0, NULL, 0, &out, 1) == ROBOTS_OK && out == 0);
     tell("no result", !robots_may_fetch(ROBOTS_NO_RESULT) && robots_line(ROBOTS_NO_RESULT) == 0);
     tell("an address", is(whole_address(), ROBOTS_OK));
@@ -216,6 +281,8 @@ static void try_examples(void) {
     tell("queries with too little room", opened && is(query_with(robot, COUNT - 1), ROBOTS_NO_ROOM));
     robots_close(robot);
     robots_close(NULL);
+    tell("a site", is(keep_site(), ROBOTS_OK));
+    try_site();
     tell("the version", robots_version() == ROBOTS_VERSION);
 }
 
@@ -248,6 +315,7 @@ int main(void) {
         fail_each("a matrix", matrix, all_later);
         fail_each("an address", whole_address, all_later);
         fail_each("a robot", keep, all_later);
+        fail_each("a site", keep_site, all_later);
     }
     printf("%d passed, %d failed\n", passed, failed);
     return failed != 0;

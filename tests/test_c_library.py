@@ -93,7 +93,7 @@ def test_called_from_c(objects, tmp_path, sanitizers):
 
 
 @pytest.mark.parametrize("under", [[], ["valgrind", "-q", "--tool=helgrind", "--error-exitcode=9"]], ids=["sanitizer", "helgrind"])
-def test_many_threads_query_one_robot(objects, tmp_path, under):
+def test_many_threads_query_one_robot_and_one_site(objects, tmp_path, under):
     """ThreadSanitizer sees what the program does, and helgrind what the library does too."""
     sanitizer = [] if under else ["-fsanitize=thread"]
     needs(CC, *sanitizer, "-xc")
@@ -107,26 +107,37 @@ def test_many_threads_query_one_robot(objects, tmp_path, under):
 THREADS = r"""
 #include "robots.h"
 #include <pthread.h>
+#include <stdbool.h>
 static robots *robot;
+static robots_site *site;
 static void *query(void *right) {
     int64_t results[2];
     uint64_t delay;
+    char text[2];
+    size_t len;
+    robots *own;
     for (int i = 0; i < 250; i++)
         *(int *)right += robots_query_many(robot, "/\xC3\xA9\n/a", 6, results, 2) == ROBOTS_OK && results[0] == 0
             && robots_query(robot, "/a", 2, results) == ROBOTS_OK && results[0] == -1 && results[1] == -1
-            && robots_query_delay(robot, &delay) == ROBOTS_OK && delay == 3000000;
+            && robots_query_delay(robot, &delay) == ROBOTS_OK && delay == 3000000
+            && robots_site_matrix(site, "A\nB", 3, "/a", 2, results, 2) == ROBOTS_OK && results[0] == -1 && results[1] == -1
+            && robots_site_delay(site, "A", 1, &delay) == ROBOTS_OK && robots_site_is_named(site, "A", 1) == 0
+            && robots_site_sitemaps(site, text, 2, &len) == ROBOTS_OK && robots_site_agents(site, text, 2, &len) == ROBOTS_OK
+            && robots_site_robot(site, "A", 1, &own, &len) == ROBOTS_OK && (robots_close(own), true);
     return NULL;
 }
 int main(void) {
     pthread_t threads[4];
     int right[4] = {0};
     size_t line;
-    int32_t status = robots_open("Bot", 3, "Disallow: /a\nCrawl-delay: 3", 27, &robot, &line);
+    int32_t status = robots_site_open("Disallow: /a\nCrawl-delay: 3", 27, &site);
+    status |= robots_open("Bot", 3, "Disallow: /a\nCrawl-delay: 3", 27, &robot, &line);
     for (int i = 0; i < 4; i++)
         status |= pthread_create(&threads[i], NULL, query, &right[i]);
     for (int i = 0; i < 4; i++)
         status |= pthread_join(threads[i], NULL);
     robots_close(robot);
+    robots_site_close(site);
     return status != 0 || right[0] + right[1] + right[2] + right[3] != 1000;
 }
 """
@@ -243,6 +254,23 @@ def test_python_overlong_rule(robots):
     assert robots.matrix(["Bot", "Other"], long_rules(4097), ["/b", "/c"]) == [[robots.NO_RESULT] * 2, [-6, -6]]
 
 
+def test_python_site(robots):
+    with robots.Site(FILE) as site:
+        assert site.matrix(["Bot", "*", ""], URLS) == [VERDICTS] * 3
+        assert site.matrix([], URLS) == [] and site.matrix(["Bot", "*"], []) == [[], []]
+        assert (site.delay("Bot"), site.agents(), site.is_named("Bot"), site.is_named("*")) == (2_500_000, ["*"], False, True)
+        assert site.sitemaps() == ["https://example.com/a.xml", "https://example.com/b.xml"]
+        assert status_of(robots, site.is_named, b"\xff") == (robots.NOT_UTF8, 0)
+        robot = robots.Robot("Bot", site)
+    with robot:
+        assert robot.query_many(URLS) == VERDICTS
+    with pytest.raises(ValueError):
+        site.agents()
+    with robots.Site(long_rules(4097)) as site:
+        assert site.matrix(["Other", "Bot"], ["/b", "/a"]) == [[-6, -6], [robots.NO_RESULT] * 2]
+        assert status_of(robots, robots.Robot, "Bot", site) == (robots.OVERLONG_RULE, 2)
+
+
 # ---- random files
 
 
@@ -259,6 +287,19 @@ def random_case(chance):
     return chance.choice(["Bot", "bot", "o", "*", "other"]), file.encode("utf-8", "surrogateescape"), urls
 
 
+def check_site(robots, file, crawlers, urls):
+    """Each call on a site of the file gives what the same call on the file gives."""
+    with robots.Site(file) as site:
+        assert site.matrix(crawlers, urls) == robots.matrix(crawlers, file, urls)
+        assert [site.delay(crawler) for crawler in crawlers] == [robots.delay(crawler, file) for crawler in crawlers]
+        assert (site.sitemaps(), site.agents()) == (robots.sitemaps(file), robots.agents(file))
+        named = {name.lower() for name in site.agents()}
+        assert all(site.is_named(crawler) == (crawler.lower() in named) for crawler in crawlers)
+        robot = robots.Robot(crawlers[0], site)
+    with robot:
+        assert robot.query_many(urls) == robots.decide(crawlers[0], file, urls)
+
+
 @pytest.mark.parametrize("seed", range(4))
 def test_random_files_have_the_verdicts_of_robots_verdict(robots, seed):
     verdict, chance = program("robots_verdict"), random.Random(seed)
@@ -270,6 +311,7 @@ def test_random_files_have_the_verdicts_of_robots_verdict(robots, seed):
         crawlers = [agent, "nobody", *robots.agents(file), "Bot"]
         assert robots.matrix(crawlers, file, urls) == [robots.decide(crawler, file, urls) for crawler in crawlers]
         assert delay == robots.delay(agent, file)
+        check_site(robots, file, crawlers, urls)
         report = [f"delay {'none' if delay is None else delay}"] + [f"sitemap {it}" for it in robots.sitemaps(file)]
         report += [f"{'deny' if it < 0 else 'allow'} {abs(it) or '-'} {url}" for it, url in zip(results, urls)]
         text = "".join(f"{line}\n" for line in [agent, *urls, ""]).encode() + file
@@ -305,6 +347,14 @@ def test_nothing_outside_of_the_texts_is_read(robots, at_end):
         assert robots.library.robots_query_many(robot, *urls_text, out, 9) == robots.OK
         robots.library.robots_close(robot)
         assert robots.library.robots_delay(*agent_text, *file_text, number) in (robots.OK, robots.NO_DELAY)
+        site = ctypes.c_void_p()
+        assert robots.library.robots_site_open(*file_text, site) == robots.OK
+        assert robots.library.robots_site_matrix(site, *agent_text, *urls_text, out, 9) == robots.OK
+        assert robots.library.robots_site_delay(site, *agent_text, number) in (robots.OK, robots.NO_DELAY)
+        assert robots.library.robots_site_robot(site, *agent_text, robot, line) == robots.OK
+        assert robots.library.robots_site_is_named(site, *agent_text) in (0, 1)
+        robots.library.robots_close(robot)
+        robots.library.robots_site_close(site)
         assert robots.library.robots_sitemaps(*file_text, None, 0, line) in (robots.OK, robots.NO_ROOM)
         assert robots.library.robots_agents(*file_text, None, 0, line) in (robots.OK, robots.NO_ROOM)
         assert robots.library.robots_matrix(*agent_text, *file_text, *urls_text, out, 9) == robots.OK

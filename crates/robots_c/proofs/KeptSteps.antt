@@ -8,8 +8,8 @@ use mir.Syntax.{w32}
 use mir.Val.{Val, vint, vptr, vstruct, vcons, vnil, of_list, of_z, hbits}
 use lib.Signed.{mag}
 use types.Logic.{Logic, sem}
-use types.Kit.{Item, Goal, Seq, Step, step, ‵, given, ◌$◌, ◌∵◌, !, qed, done, drop, learn, use1, fsplit, fjoin}
-use types.Kit.{fpick, fpack, feq_i, feq_l, flt_i, move}
+use types.Kit.{Item, Goal, Seq, Step, step, ‵, given, ◌$◌, ◌∵◌, !, qed, done, drop, learn, use1, fsplit}
+use types.Kit.{fjoin, fpick, fpack, feq_i, feq_l, flt_i, move}
 use contract.Monad.{fact_use}
 use denote.RattleType.{RattleType, Valss}
 use denote.Builtin.{RawPtr, i32}
@@ -89,7 +89,8 @@ module _ (R : RattleType) where
     null_or_owned t (block_ptr b o) x none some' =
         let at = block_ptr b o in let F = owned_at R at x in let τ = bare (lone R.mir) in
         use1 𝓛 (given (Testable at) (‵ F)) (fact_use 𝓤 (Testable at)
-        (via 𝓤 _ (snd∗ 𝓤 (sem 𝓛 (points_to R at x)) (sem 𝓛 (frees τ at))) (dealloc_token-Testable 𝓛 heap τ at))
+        (via 𝓤 _ (snd∗ 𝓤 (sem 𝓛 (points_to R at x)) (sem 𝓛 (frees τ at)))
+        (dealloc_token-Testable 𝓛 heap τ at))
         (guard_i 𝓤 (Testable at) (sem 𝓛 F))) $ learn t (λ may. some' b o refl may)
 
   -- a value that C owns from then on

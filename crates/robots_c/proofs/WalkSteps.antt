@@ -8,8 +8,8 @@ use mir.Syntax.{Lifetime, Mutability, Ty, Width, impl, named, tnil, dnil, ty_int
 use mir.Val.{Val, WT, has_ty, of_z, vint, vptr}
 use mir.ValLaws.{of_z_fits}
 use types.Logic.{Logic, sem}
-use types.Kit.{Goal, Item, Seq, Step, ‵, raw, ◌⊛◌, ◌$◌, drop, feq_i, fjoin, fsplit, join, move, rewrite, split}
-use types.Kit.{step, use0, use1}
+use types.Kit.{Goal, Item, Seq, Step, ‵, raw, ◌⊛◌, ◌$◌, drop, feq_i, fjoin, fsplit, join, move, rewrite}
+use types.Kit.{split, step, use0, use1}
 use contract.Monad.{fact, fact_i}
 use denote.Builtin.{i32}
 use denote.Laws.{Is, shows}
@@ -59,7 +59,8 @@ pointer_slot n = plain (λ _. RawPtr)
 abbrev pub status_val : ℤ → Val
 status_val n = vint w32 (of_z w32 n)
 
--- what is said of a call that writes a text of which P holds: its status, the buffer and the length, before and after
+-- what is said of a call that writes a text of which P holds: its status, and the buffer and the length before
+-- and after
 abbrev pub text_said : {M : Type 1} (𝓤 : Ura M) → (List ℕ → Type 0) → ℤ → List ℕ → List ℕ → ℕ → ℕ → Item 𝓤
 text_said 𝓤 P r old new was len =
     raw (fact 𝓤 (r ≡ pos 0 → IsWritten P old new len))
@@ -92,8 +93,8 @@ module _ {M : Type 1} {𝓤 : Ura M} {𝓛 : Logic 𝓤} {K : Type 0} {Γ : List
   -- what is said of a call that writes a text, before what is handed back
   pub tells_text : K → {A B C D E L : Item 𝓤}
       → Step K 𝓛 ((A ⊛ B ⊛ C ⊛ D ⊛ E ⊛ L) ∷ Γ) G ((A ⊛ B ⊛ C ⊛ D ⊛ E) ∷ L ∷ Γ) G
-  tells_text t = step (λ s. split t $ move t (1 ∷ []) $ split t $ move t (1 ∷ []) $ split t $ move t (1 ∷ []) $
-      split t $ move t (1 ∷ 5 ∷ []) $ join t $ move t (1 ∷ 0 ∷ []) $ join t $ move t (1 ∷ 0 ∷ []) $ join t $
+  tells_text t = step (λ s. split t $ move t (1 ∷ []) $ split t $ move t (1 ∷ []) $ split t $
+      move t (1 ∷ []) $ split t $ move t (1 ∷ 5 ∷ []) $ join t $ move t (1 ∷ 0 ∷ []) $ join t $ move t (1 ∷ 0 ∷ []) $ join t $
       move t (1 ∷ 0 ∷ []) $ join t $ move t (1 ∷ 0 ∷ []) $ join t $ s)
 
   -- a call's status

@@ -232,7 +232,7 @@ pub unsafe extern "C" fn robots_query_delay(robot: *const u8, out: &mut u64) -> 
     query_delay(&*(robot as *const Robot), out)
 }
 
-/// Frees a robot that `robots_open` opened. If the pointer is null, it does nothing.
+/// Frees a robot that `robots_open` or `robots_site_robot` opened. If the pointer is null, it does nothing.
 #[unsafe(no_mangle)]
 pub unsafe extern "C" fn robots_close(alloc: Global, robot: *mut u8)
     ghost value: { RobotValue }
@@ -247,8 +247,8 @@ pub unsafe extern "C" fn robots_close(alloc: Global, robot: *mut u8)
     })
 }
 
-/// Reads a file for all crawlers, and writes a pointer to the site that it gives, which C owns from then on. It fails
-/// only if an allocation fails.
+/// Reads a file for all crawlers, and writes a pointer to the site that it gives, which C owns from then on. It fails only if an
+/// allocation fails.
 #[unsafe(no_mangle)]
 pub extern "C" fn robots_site_open(alloc: Global, file: &[u8], out: &mut *mut u8) -> i32
     ensures kept { result ≢ pos 0 → out.new ≡ out.old }

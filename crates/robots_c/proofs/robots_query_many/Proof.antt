@@ -106,7 +106,16 @@ robots_query_many_spec 𝓤 𝓛 𝓜 𝓡 wired =
     regoal ! (λ (us : List Val). prop (WpFn 𝓤 H 𝓣.C 𝓣.Λ fn us Post))
     (λ j. eh j ++ (ep j ++ (e1 j ++ (e2 j ++ [])))) refl $
     enter ! 𝓣.C 𝓣.Λ fn ws Post $ alloc_all !
-    (λ l. pass_all ! refl (fits, ((tt, tt), (slice_good (named 0) imm w8 url.ref_ptr _ are.1.1.0.0.1.0, (good_o, tt)))) $
+    (λ l. pass_all ! refl (
+      fits,
+      (
+        (tt, tt),
+        (
+          slice_good (named 0) imm w8 url.ref_ptr _ are.1.1.0.0.1.0,
+          (good_o, tt),
+        ),
+      ),
+    ) $
     sets ! (of_opd ! (get ! refl)) refl (tt, tt) $ sets ! (addr ! (through ! refl (stop !))) refl (tt, tt) $
     sets ! (addr ! (from ! (fld ! refl (hop ! (look_in_at ! 4 (sub ! 0 refl (whole !))) (stop !))))) refl
     (tt, tt) $

@@ -86,7 +86,13 @@ robots_site_delay_spec 𝓤 𝓛 𝓜 𝓡 wired =
     regoal ! (λ (us : List Val). prop (WpFn 𝓤 H 𝓣.C 𝓣.Λ fn us Post))
     (λ j. ep j ++ (e1 j ++ (e2 j ++ []))) refl $
     enter ! 𝓣.C 𝓣.Λ fn ws Post $ alloc_all !
-    (λ l. pass_all ! refl ((tt, tt), (slice_good (named 0) imm w8 agent.ref_ptr _ are.1.0.0.1.0, ((tt, tt), tt))) $
+    (λ l. pass_all ! refl (
+      (tt, tt),
+      (
+        slice_good (named 0) imm w8 agent.ref_ptr _ are.1.0.0.1.0,
+        ((tt, tt), tt),
+      ),
+    ) $
     sets ! (of_opd ! (get ! refl)) refl (tt, tt) $
     sets ! (addr ! (through ! refl (stop !))) refl (tt, tt) $
     sets ! (addr ! (through ! refl (stop !))) refl (tt, tt) $

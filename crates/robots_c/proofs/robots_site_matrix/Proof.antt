@@ -168,4 +168,5 @@ robots_site_matrix_spec 𝓤 𝓛 𝓜 𝓡 wired =
     nothing ! $ move ! (3 ∷ 0 ∷ []) $ fjoin ! $ nothing ! $ fjoin ! $ nothing ! $ fjoin ! $ nothing ! $
     fjoin ! $ nothing ! $ fjoin ! $
     move ! (2 ∷ []) $ split ! $ tells ! why $ tells ! kept $ tells ! written $ keep ! (1 ∷ 2 ∷ 3 ∷ 0 ∷ []) $
-    by ! (leaves 𝓛 En hs c z _ r (tt, (tt, (tt, (tt, (w, tt))))) (tt, (tt, (tt, (tt, (long, tt)))))))))))))))))))
+    by ! (leaves 𝓛 En hs c z _ r (tt, (tt, (tt, (tt, (w, tt)))))
+    (tt, (tt, (tt, (tt, (long, tt)))))))))))))))))))

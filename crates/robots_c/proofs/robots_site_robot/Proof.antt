@@ -41,8 +41,8 @@ use Rattle.robots_c.specs.Status.{HasFaultAt, IsWhyNoRobot}
 use Rattle.robots_c.specs.contracts.site.robot_opened as callee
 use Rattle.robots_c.proofs.site.robot_opened.Met.{met}
 use Rattle.robots_c.proofs.KeptSteps.{Row, kept_out, owned_then}
-use Rattle.robots_c.proofs.WalkSteps.{Good, Heap, heap_slot, hears, lent, pointer_slot, slice_good, status_val}
-use Rattle.robots_c.proofs.WalkSteps.{tells}
+use Rattle.robots_c.proofs.WalkSteps.{Good, Heap, heap_slot, hears, lent, pointer_slot, slice_good}
+use Rattle.robots_c.proofs.WalkSteps.{status_val, tells}
 use Rattle.robots_c.specs.contracts.robots_site_robot.{ended, clauses}
 use Rattle.robots_c.specs.contracts.robots_site_robot.Key.{name as #self}
 use Rattle.robots_c.proofs.robots_site_robot.Statement.{statement}
@@ -190,4 +190,5 @@ robots_site_robot_spec 𝓤 𝓛 𝓜 𝓡 wired =
     (owned_then R 𝓛 (IsRobotFor agent.now x) r.at r.value (n ≡ pos 0) opened) $
     move ! (0 ∷ 2 ∷ []) $ join ! $ tells ! why $ tells ! kept $
     owned ! i32 _ (sint_Makes 𝓛 w32) n _ (refl, small) $ keep ! (2 ∷ 3 ∷ 0 ∷ 1 ∷ []) $
-    by ! (leaves 𝓛 En hs c z i n (tt, (tt, (tt, (r.at, (w, tt))))) (tt, (tt, (tt, (tt, (tt, tt)))))))))))))))))))
+    by ! (leaves 𝓛 En hs c z i n (tt, (tt, (tt, (r.at, (w, tt)))))
+    (tt, (tt, (tt, (tt, (tt, tt)))))))))))))))))))

@@ -77,7 +77,10 @@ into_box_spec {M = M} 𝓤 𝓛 𝓜 𝓡 wired T L dx glue =
     let R : RattleType = param 0 T in let B : RattleType = box.B E in
     let En = ended T dx in let c = clauses T dx 𝓛 𝓜.mem 𝓡.returns in
     let at = bounded (a_type ∷ []) (T, tt) (dcons dx dnil) in let fn = inst_fn at code.function in
-    let hs : Stays En.signature.params En.kept = (stay_dropped (plain (λ _. Handle.the_row R)) En.kept.0, tt) in
+    let hs : Stays En.signature.params En.kept = (
+      stay_dropped (plain (λ _. Handle.the_row R)) En.kept.0,
+      tt,
+    ) in
     proved_at 𝓛 En hs c 𝓜 𝓡 (
       Goes-blank 𝓛 1 (plain (λ _. Handle.the_row R)) En.kept.0 (λ κs x f. tt),
       tt,
