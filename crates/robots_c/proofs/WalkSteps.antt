@@ -59,8 +59,8 @@ pointer_slot n = plain (λ _. RawPtr)
 abbrev pub status_val : ℤ → Val
 status_val n = vint w32 (of_z w32 n)
 
--- what is said of a call that writes a text of which P holds: its status, and the buffer and the length before
--- and after
+-- what is said of a call that writes a text of which P holds: of its status, and of the buffer and the length,
+-- before and after
 abbrev pub text_said : {M : Type 1} (𝓤 : Ura M) → (List ℕ → Type 0) → ℤ → List ℕ → List ℕ → ℕ → ℕ → Item 𝓤
 text_said 𝓤 P r old new was len =
     raw (fact 𝓤 (r ≡ pos 0 → IsWritten P old new len))
@@ -94,8 +94,8 @@ module _ {M : Type 1} {𝓤 : Ura M} {𝓛 : Logic 𝓤} {K : Type 0} {Γ : List
   pub tells_text : K → {A B C D E L : Item 𝓤}
       → Step K 𝓛 ((A ⊛ B ⊛ C ⊛ D ⊛ E ⊛ L) ∷ Γ) G ((A ⊛ B ⊛ C ⊛ D ⊛ E) ∷ L ∷ Γ) G
   tells_text t = step (λ s. split t $ move t (1 ∷ []) $ split t $ move t (1 ∷ []) $ split t $
-      move t (1 ∷ []) $ split t $ move t (1 ∷ 5 ∷ []) $ join t $ move t (1 ∷ 0 ∷ []) $ join t $ move t (1 ∷ 0 ∷ []) $ join t $
-      move t (1 ∷ 0 ∷ []) $ join t $ move t (1 ∷ 0 ∷ []) $ join t $ s)
+      move t (1 ∷ []) $ split t $ move t (1 ∷ 5 ∷ []) $ join t $ move t (1 ∷ 0 ∷ []) $ join t $
+      move t (1 ∷ 0 ∷ []) $ join t $ move t (1 ∷ 0 ∷ []) $ join t $ move t (1 ∷ 0 ∷ []) $ join t $ s)
 
   -- a call's status
   pub status : K → (n : ℤ) (u : Val) → (u ≡ status_val n → Good (ty_int w32) (status_val n)

@@ -1,16 +1,13 @@
 -- `robots_query` reads what is lent to it.
 use Rattle.std.proofs.Common.{◌≡◌, ◌≢◌, ℕ, ℤ, pos, List, [], ◌∷◌, ◌++◌, length, refl, ap, ◌∙◌}
 use Rattle.std.proofs.Common.{Bor}
-use lib.Dec.{T as IsT}
 use base.Fml.{Lft, ftrue, flft}
-use base.Logic.{SProp, emp, id⊢, fst∗, never}
-use mir.Syntax.{impl, tnil, dnil, named, imm, w8, w32, ty_int, ty_ref}
-use mir.Val.{Val, vptr, vint, of_z, has_ty, WT}
-use mir.ValLaws.{of_z_fits}
+use base.Logic.{SProp, emp, id⊢}
+use mir.Syntax.{named, imm, w8}
+use mir.Val.{Val, vptr}
 use prog.Wp.{WpFn}
-use types.Logic.{sem}
 use types.Kit.{‵, raw, ◌⊛◌, some, later, prop, ◌$◌, ◌∵◌, !, qed, by, move, keep, drop, split, join, fsplit}
-use types.Kit.{fjoin, pick, regoal, rewrite, use0, use1, await, feq_i}
+use types.Kit.{fjoin, pick, regoal, rewrite, use0, use1, await}
 use types.Run.{of_opd, addr, stop, no_more, and_then, returns, enter}
 use types.ByLocal.{alloc_all, pass_all, free_all, look_at, get, through, sets, lands_as}
 use contract.Monad.{fact, fact_i}
@@ -18,14 +15,12 @@ use contract.Running.{tables}
 use denote.Builtin.{i32, i64, u8, SliceRefOf}
 use denote.Exit.{yes}
 use denote.RattleType.{RattleType, owns}
-use denote.RawPtr.{Ptr, RawPtr, ptr_val, in_a_block}
+use denote.RawPtr.{Ptr, ptr_val}
 use denote.Ref.{MutRef, mut_Tells}
 use denote.Struct.Lending.{lent_at}
-use denote.Memory.{hidden_shr, shared_of}
-use denote.Laws.{Is, shows}
 use denote.Signature.{types_at, plain}
-use denote.Slice.{ShrSlice, shr_slice_Tells, slice_val, slice_ty}
-use denote.Steps.{nothing, only, heard, peeks}
+use denote.Slice.{ShrSlice, shr_slice_Tells, slice_val}
+use denote.Steps.{nothing, heard}
 use denote.Triple.Clauses.{Lasts, lasts}
 use denote.Triple.Entry.{Args}
 use denote.Triple.Spec.{triple_of}
@@ -34,8 +29,6 @@ use denote.Triple.Table.{framed}
 use denote.Triple.Walked.{Stays, stay_dropped, Goes-dropped, gave_ref, Goes-gave_ref, walk_of}
 use Rattle.std.proofs.alloc.Calls.{Goes-blank, handle_tells}
 use Rattle.std.proofs.raw_atomic.Walks.{proved_at, leaves}
-use Rattle.std.specs.contracts.alloc.Global as Global
-use Rattle.std.proofs.alloc.Global.TheLaws as Global-laws
 use Rattle.robots_c.specs.Results.{HasResult}
 use Rattle.robots_c.specs.File.{IsRobotOfSomeFile}
 use Rattle.robots_c.specs.Kept.{Robots}

@@ -1,30 +1,25 @@
 -- `robots_query_delay` reads what is lent to it.
 use Rattle.std.proofs.Common.{◌≡◌, ◌≢◌, ℕ, ℤ, pos, List, [], ◌∷◌, ◌++◌, Some, refl, ap, ◌∙◌}
 use Rattle.std.proofs.Common.{Bor}
-use lib.Dec.{T as IsT}
 use base.Fml.{Lft, ftrue, flft}
-use base.Logic.{SProp, emp, id⊢, fst∗, never}
-use mir.Syntax.{named, w32, ty_int}
-use mir.Val.{Val, vptr, vint, of_z, has_ty, WT}
-use mir.ValLaws.{of_z_fits}
+use base.Logic.{SProp, id⊢}
+use mir.Syntax.{named}
+use mir.Val.{Val, vptr}
 use prog.Wp.{WpFn}
-use types.Logic.{sem}
 use types.Kit.{‵, raw, ◌⊛◌, some, later, prop, ◌$◌, ◌∵◌, !, qed, by, move, keep, drop, split, join, fsplit}
-use types.Kit.{fjoin, pick, regoal, rewrite, use0, use1, await, feq_i}
+use types.Kit.{fjoin, pick, regoal, rewrite, use1, await}
 use types.Run.{of_opd, addr, stop, no_more, and_then, returns, enter}
 use types.ByLocal.{alloc_all, pass_all, free_all, look_at, get, through, sets, lands_as}
-use contract.Monad.{fact, fact_i}
+use contract.Monad.{fact}
 use contract.Running.{tables}
 use denote.Builtin.{i32, u64}
 use denote.Exit.{yes}
 use denote.RattleType.{RattleType, owns}
-use denote.RawPtr.{Ptr, RawPtr, ptr_val, in_a_block}
+use denote.RawPtr.{Ptr, ptr_val}
 use denote.Ref.{MutRef, mut_Tells}
 use denote.Struct.Lending.{lent_at}
-use denote.Memory.{hidden_shr, shared_of}
-use denote.Laws.{Is, shows}
 use denote.Signature.{types_at, plain}
-use denote.Steps.{nothing, only, heard, peeks}
+use denote.Steps.{nothing, heard}
 use denote.Triple.Clauses.{Lasts, lasts}
 use denote.Triple.Entry.{Args}
 use denote.Triple.Spec.{triple_of}

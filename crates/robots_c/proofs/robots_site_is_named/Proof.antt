@@ -1,5 +1,5 @@
 -- `robots_site_is_named` reads what is lent to it.
-use Rattle.std.proofs.Common.{◌≡◌, ◌≢◌, ℕ, ℤ, pos, List, [], ◌∷◌, ◌++◌, Some, length, refl, ap, ◌∙◌}
+use Rattle.std.proofs.Common.{◌≡◌, ℕ, ℤ, List, [], ◌∷◌, ◌++◌, length, refl, ap, ◌∙◌}
 use Rattle.std.proofs.Common.{Bor}
 use base.Fml.{Lft, ftrue, flft}
 use base.Logic.{SProp, id⊢}
@@ -12,27 +12,26 @@ use types.Run.{of_opd, addr, stop, no_more, and_then, returns, enter}
 use types.ByLocal.{alloc_all, pass_all, free_all, look_at, get, through, sets, lands_as}
 use contract.Monad.{fact}
 use contract.Running.{tables}
-use denote.Builtin.{i32, u64, u8, SliceRefOf}
+use denote.Builtin.{i32, u8, SliceRefOf}
 use denote.Exit.{yes}
 use denote.RattleType.{RattleType, owns}
 use denote.RawPtr.{Ptr, ptr_val}
-use denote.Ref.{MutRef, mut_Tells}
 use denote.Struct.Lending.{lent_at}
 use denote.Signature.{types_at, plain}
 use denote.Slice.{ShrSlice, shr_slice_Tells, slice_val}
-use denote.Steps.{heard, nothing}
+use denote.Steps.{nothing}
 use denote.Triple.Clauses.{Lasts, lasts}
 use denote.Triple.Entry.{Args}
 use denote.Triple.Spec.{triple_of}
 use denote.Triple.Call.{calls_at}
 use denote.Triple.Table.{framed}
-use denote.Triple.Walked.{Stays, stay_dropped, Goes-dropped, gave_ref, Goes-gave_ref, walk_of}
+use denote.Triple.Walked.{Stays, stay_dropped, Goes-dropped, walk_of}
 use Rattle.std.proofs.raw_atomic.Walks.{proved_at, leaves}
 use Rattle.robots_c.specs.Kept.{Sites}
 use Rattle.robots_c.specs.Status.{SaysNamed}
 use Rattle.robots_c.specs.contracts.site.is_named as callee
 use Rattle.robots_c.proofs.site.is_named.Met.{met}
-use Rattle.robots_c.proofs.WalkSteps.{hears, lent, pointer_slot, slice_good, status, tells}
+use Rattle.robots_c.proofs.WalkSteps.{lent, pointer_slot, slice_good, status}
 use Rattle.robots_c.specs.contracts.robots_site_is_named.{ended, clauses}
 use Rattle.robots_c.specs.contracts.robots_site_is_named.Key.{name as #self}
 use Rattle.robots_c.proofs.robots_site_is_named.Statement.{statement}

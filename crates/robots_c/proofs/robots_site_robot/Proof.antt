@@ -35,7 +35,7 @@ use denote.Triple.Walked.{walk_of}
 use Rattle.std.proofs.alloc.Calls.{Goes-blank, handle_tells}
 use Rattle.std.proofs.raw_atomic.Walks.{proved_at, leaves}
 use Rattle.std_alloc.proofs.ResultValues.{and_tt}
-use Rattle.robots_c.specs.File.{GivesRobot, IsRobotFor, bytes_read}
+use Rattle.robots_c.specs.File.{GivesRobot, IsRobotFor}
 use Rattle.robots_c.specs.Kept.{Robots, Sites, opened_at}
 use Rattle.robots_c.specs.Status.{HasFaultAt, IsWhyNoRobot}
 use Rattle.robots_c.specs.contracts.site.robot_opened as callee
