@@ -59,8 +59,8 @@ pointer_slot n = plain (λ _. RawPtr)
 abbrev pub status_val : ℤ → Val
 status_val n = vint w32 (of_z w32 n)
 
--- what is said of a call that writes a text of which P holds: of its status, and of the buffer and the length,
--- before and after
+-- what is said of a call that writes a text of which P holds: of its status, and of the buffer and the length
+-- before and after it
 abbrev pub text_said : {M : Type 1} (𝓤 : Ura M) → (List ℕ → Type 0) → ℤ → List ℕ → List ℕ → ℕ → ℕ → Item 𝓤
 text_said 𝓤 P r old new was len =
     raw (fact 𝓤 (r ≡ pos 0 → IsWritten P old new len))
