@@ -2,7 +2,7 @@
 use crate::helpers::{check_equal, indented};
 use std::process::Abort;
 use texting_robots::parser::{
-    BodyIter, Line, LineIter, file_bodies, file_lines, lines, robots_txt_parse,
+    BodyIter, Kind, Line, LineIter, file_bodies, file_lines, lines, robots_txt_parse, spellings,
 };
 
 /// A text and its lines.
@@ -419,5 +419,34 @@ fn nul_ends_a_line_of_a_file(rt: HostRuntime) {
 fn lines_have_their_bodies(rt: HostRuntime) {
     for case in BODIES {
         check_bodies(&rt, case.name, file_bodies(case.file), case.bodies);
+    }
+}
+
+/// How the field names of each kind are spelled.
+const SPELLINGS: &[(Kind, &[&str])] = &[
+    (Kind::UserAgent, &["User-agent", "user agent", "useragent"]),
+    (Kind::Allow, &["Allow"]),
+    (
+        Kind::Disallow,
+        &[
+            "Disallow",
+            "dissallow",
+            "dissalow",
+            "disalow",
+            "diasllow",
+            "disallaw",
+        ],
+    ),
+    (Kind::Sitemap, &["Sitemap", "site-map", "site map"]),
+    (
+        Kind::CrawlDelay,
+        &["Crawl-delay", "crawl delay", "crawldelay"],
+    ),
+];
+
+#[test]
+fn kinds_have_their_spellings(rt: HostRuntime) {
+    for (kind, spelled) in SPELLINGS {
+        check_equal(&rt, "spellings", &spellings(*kind), spelled);
     }
 }

@@ -22,7 +22,7 @@ use crate::error::Error;
 use agents::after_others;
 use cut::{after_end, body_len};
 pub use delay::read_delay;
-pub use statement::Kind;
+pub use statement::{Kind, spellings};
 use statement::{kind_by, skip_blanks, tail_as, value_of};
 use std::alloc::{AllocError, Global};
 use std::marker::Model;

@@ -9,7 +9,7 @@ ghost use Rattle.texting_robots.specs.Steps.Statement.{skip_blanks, kind_by, beg
 use bstr::ByteSlice;
 use memchr::memchr;
 
-/// What a statement is about, as its key says. No call takes or gives one: the definition of a statement speaks of it.
+/// What a statement is about, as its key says.
 #[derive(Clone, Copy, PartialEq, Eq)]
 pub enum Kind {
     /// A crawler that the group is for.
@@ -24,8 +24,9 @@ pub enum Kind {
     CrawlDelay,
 }
 
-/// How a key of this kind is spelled, ASCII letters in any case. The first is the usual one, as it is mostly written.
-fn spellings(kind: Kind) -> &'static [&'static str]
+/// How a key of this kind is spelled, ASCII letters in any case. The first is the usual one, as it is mostly written. It allocates
+/// nothing.
+pub fn spellings(kind: Kind) -> &'static [&'static str]
     ensures { map (λ spelling. str_to_ascii_lowercase spelling.now) result.now ≡ spellings kind }
 {
     match kind {
