@@ -75,7 +75,9 @@ fn sixteen_hold_escaped(bytes: &[u8]) -> bool
     escaped.any()
 }
 
-/// Whether some byte is escaped. A short text is tested in two parts of one length, which may overlap.
+/// Whether some byte is escaped. A short text is tested in two parts of one length, which may overlap. It is a call of its own, so that
+/// [`push_escaped`] stays small.
+#[inline(never)]
 fn holds_escaped(bytes: &[u8]) -> bool
     ensures { result ≡ list_any is_escaped bytes.now }
 {
