@@ -26,9 +26,9 @@
  * a whole URL (https://example.com/a?b) or a path (/a?b). Any other text, as example.com/a, is no error: it is compared with the rules
  * as it is, mostly matches none, and then may be fetched. Check URLs before you query them.
  *
- * STATUS. Each call returns 0 (ROBOTS_OK) or a negative status. Where the status isn't 0, nothing is written, except for what the call
- * says, and nothing stays allocated. Of two causes either may be the status. ROBOTS_NO_MEMORY can come in place of every other status,
- * but not for text that isn't UTF-8, and not from a call that says that it needs no memory.
+ * STATUS. Each call returns 0 (ROBOTS_OK) or a negative status; robots_site_is_named returns 1 too. Where the status isn't 0, nothing is
+ * written, except for what the call says, and nothing stays allocated. Of two causes either may be the status. ROBOTS_NO_MEMORY can come
+ * in place of every other status, but not for text that isn't UTF-8, and not from a call that says that it needs no memory.
  *
  * RESULT. The result for a URL is a number: 0 if the crawler may fetch it and no line says so, n if line n of the file allows it, and -n
  * if line n denies it. Lines count from 1. Don't write `if (result)`: use robots_may_fetch(result) and robots_line(result).

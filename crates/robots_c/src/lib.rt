@@ -1,6 +1,7 @@
 //! The calls of `robots.h`, next to `src/`: what a robots.txt file says to a crawler, for C and every language that calls C.
 //!
-//! Each call returns a status, which is 0 or the negative number of a fault. Only at 0 is a result written.
+//! Each call returns a status, which is 0 or the negative number of a fault. Only at 0 is a result written. The one call that writes
+//! none, `robots_site_is_named`, returns its result.
 #![tactic(auto)]
 
 ghost use Rattle.std.specs.Prelude.{◌≡◌, ◌≢◌, ◌⊎◌, ℕ, List, Some, length, pos};
