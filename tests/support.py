@@ -90,13 +90,16 @@ def documented_warnings():
 WARNINGS = documented_warnings()
 
 
+OF_A_URL = {"not-a-url-or-path", "invalid-url"}
+
+
 def text_of(name, detail=""):
     """The documented text of a warning. Its detail is the key that may be meant, or else the URL that the warning is about."""
     for text in WARNINGS[name]:
         if detail and "KEY" in text:
             return text.replace("KEY", detail)
     text = WARNINGS[name][-1]
-    return f"{text}: {detail}" if detail else text
+    return f"URL '{detail}': {text}" if name in OF_A_URL else text
 
 
 def warning_line(warning):

@@ -22,7 +22,7 @@ VERDICT_INPUT = (CRATES / "robots_verdict/stdin").read_bytes()
 AUDIT_INPUT = (CRATES / "robots_audit/stdin").read_bytes()
 AUDIT_ARGS = (CRATES / "robots_audit/args").read_text().splitlines()
 VERDICT = Result(0, (CRATES / "robots_verdict/stdout").read_bytes(), "")
-AUDIT_WARNINGS = "".join(map(warning_line, ["6 rule-not-utf8", "11 noindex-line", "2 rule-above-agents"]))
+AUDIT_WARNINGS = "".join(map(warning_line, ["6 rule-not-utf-8", "11 noindex-line", "2 rule-before-user-agent"]))
 AUDIT = Result(1, (CRATES / "robots_audit/stdout").read_bytes(), AUDIT_WARNINGS)
 URLS = ["https://example.com/b", "/a%20b/c"]
 
@@ -134,7 +134,7 @@ def long_file(tmp_path):
 @pytest.mark.parametrize("is_named", [True, False], ids=["of a named file", "of standard input"])
 def test_robots_audit_reports_a_failed_read(failing_heap, long_file, is_named):
     args = ["Ferris", URLS[0]] if not is_named else ["--file", long_file, "Ferris", URLS[0]]
-    why = f"the file {long_file} can't be read" if is_named else "reading standard input failed"
+    why = f"cannot read {long_file}" if is_named else "cannot read standard input"
     program = Failing(failing_heap, "robots_audit", args, b"" if is_named else long_file.read_bytes())
     break_each(program, "READ", lambda result, right, number: result == Result(2, "", f"robots_audit: {why}\n"))
 
@@ -146,7 +146,7 @@ def test_robots_audit_reports_a_failed_write(failing_heap, long_file, options):
 
     def is_reported(result, right, number):
         if result.status == 2:
-            return right.out.startswith(result.out) and result.err == "robots_audit: writing the report failed\n"
+            return right.out.startswith(result.out) and result.err == "robots_audit: cannot write the report\n"
         return (result.status, result.out) == (right.status, right.out) and right.err.startswith(result.err)
 
     program = Failing(failing_heap, "robots_audit", [*options, "Ferris", URLS[0]], long_file.read_bytes())

@@ -9,6 +9,7 @@ import re
 import shutil
 import subprocess
 import sys
+from decimal import Decimal
 from pathlib import Path
 
 import pytest
@@ -367,8 +368,9 @@ EXAMPLES = cases_of((ROOT / "tests/golden/ask.toml").read_text())
 
 
 def verdict_lines(report):
-    """The lines on the delay and on URLs. robots_audit shows a delay in seconds too."""
-    report = re.sub(r"^delay .* \((\d+) microseconds\)$", r"delay \1", report, flags=re.M)
+    """The lines on the delay and on URLs. robots_audit shows a delay in seconds."""
+    report = re.sub(r"^delay: (\S+) s$", lambda it: f"delay {int(Decimal(it[1]) * 1_000_000)}", report, flags=re.M)
+    report = report.replace("delay: none", "delay none")
     return re.findall(r"^(?:delay|allow|deny) .*$", report, re.M)
 
 

@@ -184,7 +184,7 @@ def test_fault_has_the_documented_text(failing_heap, program, name, status, text
     assert result.status == status
     if text.startswith("`"):
         usage = "usage: robots_audit [OPTIONS] AGENT [URL].."
-        said = re.match(r"`([^`]*)`", text)[1].replace("USAGE", usage).replace("line N ", "line 2 ")
+        said = re.match(r"`([^`]*)`", text)[1].replace("USAGE", usage).replace("line N:", "line 2:").replace("line N ", "line 2 ")
         assert result.err == said + "\n"
         assert f"`{usage}`" in SPECIFICATION
     else:

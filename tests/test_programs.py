@@ -99,7 +99,7 @@ def test_a_rule_with_a_byte_that_urls_escape_is_warned_about(start, misses):
         rule = f"{start}{byte}/"
         result = run("robots_audit", ["Ferris", f"http://example.com{rule}"], f"Disallow: {rule}".encode())
         if result.status == 0:
-            assert result.err == warning_line("1 byte-spelled-otherwise")
+            assert result.err == warning_line("1 unencoded-character")
             warned += byte
         else:
             assert (result.status, result.err) == (1, "")
@@ -116,7 +116,7 @@ def report_on(rules, urls):
     width = len(str(rules + 1))
     out = [f"{1:{width}} + user-agent  Ferris"]
     out += [f"{n + 1:{width}} + {'disallow' if n % 2 else 'allow':11} /{n}/" for n in range(1, rules + 1)]
-    out += ["group Ferris, named in the file", "delay none", "allow - "]
+    out += ["group: Ferris", "delay: none", "allow - "]
     for url in urls[1:]:
         n = int(url.split("/")[-2])
         line = f"{'deny' if n % 2 else 'allow'} {n + 1}" if n <= rules else "allow -"
@@ -128,7 +128,7 @@ def report_on(rules, urls):
 def test_many_rules_and_urls(rules, count):
     urls = [""] + [f"{'' if n % 2 else 'https://example.com'}/{17 * n}/" for n in range(1, count)]
     result = run("robots_audit", ["Ferris", *urls], file_of(rules).encode())
-    warnings = ["odd-url"] + ["1 empty-group"] * (rules == 0)
+    warnings = ["not-a-url-or-path"] + ["1 empty-group"] * (rules == 0)
     out = report_on(rules, urls)
     assert result == Result(1 if "\ndeny" in out else 0, out, "".join(map(warning_line, warnings)))
 
@@ -136,11 +136,11 @@ def test_many_rules_and_urls(rules, count):
 def test_many_agents():
     """Agent N, of 100, may not fetch /N/. Every other one is named again, in capitals, which makes no further agent."""
     urls = [f"/{n}/" for n in range(1, 31)]
-    text, out = "", "group none, as neither the agent nor * is named in the file\ndelay none\n"
+    text, out = "", "group: none (no group for *; everything is allowed)\ndelay: none\n"
     out += "".join(f"allow - {url}\n" for url in urls)
     for n in range(1, 101):
         text += f"User-agent: {'a' * n}_\nDisallow: /{n}/\n"
-        out += f"group {'a' * n}_, named in the file\ndelay none\n"
+        out += f"group: {'a' * n}_\ndelay: none\n"
         out += "".join(f"{f'deny {2 * n}' if m == n else 'allow -'} {url}\n" for m, url in enumerate(urls, 1))
     for n in range(1, 101, 2):
         text += f"User-agent: {'A' * n}_\nAllow: /none/{n}\n"

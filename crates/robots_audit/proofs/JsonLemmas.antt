@@ -260,9 +260,9 @@ kind_plain (CrawlDelay delay) = ascii_plain true (codes "crawl-delay") refl
 kind_plain (Sitemap value) = ascii_plain true (codes "sitemap") refl
 kind_plain (Raw body) = either (is_blank body)
   where
-    either : (blank : Bool) → IsPlain (if blank then codes "blank" else codes "unread")
-    either true = ascii_plain true (codes "blank") refl
-    either false = ascii_plain true (codes "unread") refl
+    either : (blank : Bool) → IsPlain (if blank then codes "empty" else codes "ignored")
+    either true = ascii_plain true (codes "empty") refl
+    either false = ascii_plain true (codes "ignored") refl
 
 text_has : (has : Bool) (text : List ℕ) → IsPlain text → HasPlain (if has then string text else null)
 text_has true text is = is

@@ -1,6 +1,6 @@
 -- What is written of an audit steers no terminal, nor what is said of it.
 use Rattle.std.proofs.Common.{ℕ, zero, suc, ◌*◌, ◌-◌, ◌/◌, ◌%◌, ◌==◌, Bool, true, false}
-use Rattle.std.proofs.Common.{List, [], ◌∷◌, ◌++◌, Option, Some, None, codes, decimal, flat_map}
+use Rattle.std.proofs.Common.{List, [], ◌∷◌, ◌++◌, Option, Some, None, bytes_eq, codes, decimal, flat_map}
 use Rattle.std.proofs.Common.{length, map, refl, replicate}
 use Rattle.std.specs.Prelude.{if◌then◌else◌}
 use Rattle.std.specs.List.{AllByRecursion as Each}
@@ -17,7 +17,7 @@ use Rattle.robots_audit.specs.Answer.{has_rows, output, said}
 use Rattle.robots_audit.specs.Audit.{AgentValue, Asked, AuditValue, VerdictValue}
 use Rattle.robots_audit.specs.Delay.{delay_line, delay_text, fraction, million, seconds}
 use Rattle.robots_audit.specs.Json.{json_text}
-use Rattle.robots_audit.specs.Report.{agent_lines, group_line, report_lines, said_line, verdict_line}
+use Rattle.robots_audit.specs.Report.{agent_lines, group_line, nobody_text, report_lines, said_line, verdict_line}
 use Rattle.robots_audit.specs.Report.{warning_lines}
 use Rattle.robots_warnings.specs.File.{space}
 use Rattle.robots_audit.specs.Rows.{has_value, kind_text, mark_text, right_aligned, row, rows}
@@ -77,7 +77,7 @@ seconds_plain micros =
     (either_plain (millionths == 0) [] behind (nil_plain true) point)
 
 delay_plain : (micros : ℕ) → IsPlain (delay_text micros)
-delay_plain micros = search (append_plain true, ascii_plain true, decimal_plain true, seconds_plain)
+delay_plain micros = search (append_plain true, ascii_plain true, seconds_plain)
 
 value_plain : (line : LineValue) → IsPlain (value_text line)
 value_plain (UserAgent value) = shown_plain value
@@ -116,12 +116,17 @@ row_plain width mark =
 
 group_plain : (agent : List ℕ) (group : Group) → IsPlain (group_line agent group)
 group_plain agent Named = search (append_plain true, ascii_plain true, shown_plain)
-group_plain agent Star = ascii_plain true (group_line agent Star) refl
-group_plain agent Nobody = ascii_plain true (group_line agent Nobody) refl
+group_plain agent Star = search (append_plain true, ascii_plain true, shown_plain)
+group_plain agent Nobody =
+    let nobody : IsPlain (nobody_text agent) =
+    either_plain (bytes_eq agent (codes "*")) (codes "none (no group for *; everything is allowed)") _
+    (ascii_plain true (codes "none (no group for *; everything is allowed)") refl)
+    (search (append_plain true, ascii_plain true, shown_plain)) in
+    append_plain true (codes "group: ") (nobody_text agent) (ascii_plain true (codes "group: ") refl) nobody
 group_plain agent Everyone = ascii_plain true (group_line agent Everyone) refl
 
 delay_line_plain : (delay : Option ℕ) → IsPlain (delay_line delay)
-delay_line_plain None = ascii_plain true (codes "delay none") refl
+delay_line_plain None = ascii_plain true (codes "delay: none") refl
 delay_line_plain (Some micros) = search (append_plain true, ascii_plain true, delay_plain)
 
 front_plain : (allowed : Bool) (line : Option ℕ) → IsPlain (verdict_front allowed line)

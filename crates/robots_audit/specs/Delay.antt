@@ -1,4 +1,4 @@
--- How a delay is shown: in seconds, exactly, and in microseconds.
+-- How a delay is shown: in seconds, exactly.
 use Rattle.std.specs.Prelude.{ℕ, zero, suc, ◌*◌, ◌/◌, ◌%◌, ◌==◌, List, []}
 use Rattle.std.specs.Prelude.{◌++◌, Option, Some, None}
 use Rattle.std.specs.Prelude.{codes, decimal, if◌then◌else◌}
@@ -6,7 +6,7 @@ use Rattle.std.specs.Prelude.{codes, decimal, if◌then◌else◌}
 abbrev pub million : ℕ
 million = 1000000
 
--- so many millionths as digits behind a point, so many at most, without zeros at the end
+-- so many millionths as digits after a point, so many at most, without zeros at the end
 abbrev pub fraction : ℕ → ℕ → List ℕ
 fraction zero millionths = []
 fraction (suc digits) millionths =
@@ -19,8 +19,8 @@ seconds micros =
     decimal (micros / million) ++ (if millionths == 0 then [] else codes "." ++ fraction 6 millionths)
 
 abbrev pub delay_text : ℕ → List ℕ
-delay_text micros = seconds micros ++ codes " s (" ++ decimal micros ++ codes " microseconds)"
+delay_text micros = seconds micros ++ codes " s"
 
 abbrev pub delay_line : Option ℕ → List ℕ
-delay_line None = codes "delay none"
-delay_line (Some micros) = codes "delay " ++ delay_text micros
+delay_line None = codes "delay: none"
+delay_line (Some micros) = codes "delay: " ++ delay_text micros

@@ -13,14 +13,14 @@ use Rattle.robots_audit.specs.declared.fault.Outcome.{Outcome}
 -- why the program stopped
 abbrev pub reason_of : Fault → List ℕ
 reason_of (Words text) = string_bytes text
-reason_of Usage = codes "no agent was given"
-reason_of NotUtf8 = codes "an argument isn't UTF-8"
-reason_of (File name) = codes "the file " ++ string_bytes name ++ codes " can't be read"
-reason_of Read = codes "reading standard input failed"
-reason_of Write = codes "writing the report failed"
+reason_of Usage = codes "missing AGENT (or use --agents)"
+reason_of NotUtf8 = codes "arguments must be valid UTF-8"
+reason_of (File name) = codes "cannot read " ++ string_bytes name
+reason_of Read = codes "cannot read standard input"
+reason_of Write = codes "cannot write the report"
 reason_of (InvalidRule line) =
-    codes "the rule in line " ++ decimal line
-    ++ codes " holds $ and is too long, so a crawler can't use the file"
+    codes "line " ++ decimal line
+    ++ codes ": a pattern with $ longer than 4,096 bytes isn't supported; shorten it"
 reason_of Memory = codes "out of memory"
 
 -- behind a fault in the words, how the program is called

@@ -15,7 +15,8 @@ use Rattle.robots_audit.specs.Audit.{AgentValue, AuditValue, VerdictValue}
 use Rattle.robots_warnings.specs.File.{lines_of}
 use Rattle.robots_audit.specs.Rows.{has_value, kind_text, value_text}
 use Rattle.robots_warnings.specs.Shown.{shown}
-use Rattle.robots_warnings.specs.Warnings.{WarningValue, cause_name, warning_text}
+use Rattle.robots_warnings.specs.Table.{name_of}
+use Rattle.robots_warnings.specs.Warnings.{WarningValue, warning_text}
 
 -- ---- values
 
@@ -81,7 +82,7 @@ line_json mark = object
 abbrev pub warning_json : WarningValue → Data
 warning_json warning = object
     (member (codes "line") (number_json warning.line)
-    (member (codes "name") (string (cause_name warning.cause))
+    (member (codes "name") (string (name_of warning.cause))
     (member (codes "text") (string (warning_text warning)) no_members)))
 
 -- what each agent gets, the lines of the file, if rows are wanted, its sitemaps, and what is warned of

@@ -1,5 +1,5 @@
 -- What is found out about a file, as lines of text.
-use Rattle.std.specs.Prelude.{ℕ, Bool, List, [], ◌∷◌, ◌++◌, codes, flat_map}
+use Rattle.std.specs.Prelude.{ℕ, Bool, List, [], ◌∷◌, ◌++◌, bytes_eq, codes, flat_map}
 use Rattle.std.specs.Prelude.{if◌then◌else◌, map}
 use Rattle.robots_io.specs.Verdicts.{verdict_front}
 use Rattle.robots_audit.specs.declared.group.Group.{Group}
@@ -10,15 +10,21 @@ use Rattle.robots_audit.specs.Rows.{rows}
 use Rattle.robots_warnings.specs.Shown.{shown}
 use Rattle.robots_warnings.specs.Warnings.{WarningValue, warning_line}
 
--- the group of an agent, and why it is that one
+-- neither the crawler nor `*` has a group
+abbrev pub nobody_text : List ℕ → List ℕ
+nobody_text agent =
+    if bytes_eq agent (codes "*") then codes "none (no group for *; everything is allowed)"
+    else codes "none (no group for " ++ shown agent ++ codes " or *; everything is allowed)"
+
+-- the group of a crawler, and why it is that one
 abbrev pub group_text : List ℕ → Group → List ℕ
-group_text agent Named = shown agent ++ codes ", named in the file"
-group_text agent Star = codes "*, as the agent isn't named in the file"
-group_text agent Nobody = codes "none, as neither the agent nor * is named in the file"
-group_text agent Everyone = codes "of every agent, as the file has no user-agent line"
+group_text agent Named = shown agent
+group_text agent Star = codes "* (" ++ shown agent ++ codes " has no group of its own)"
+group_text agent Nobody = nobody_text agent
+group_text agent Everyone = codes "none (the file has no User-agent line; all rules are applied)"
 
 abbrev pub group_line : List ℕ → Group → List ℕ
-group_line agent group = codes "group " ++ group_text agent group
+group_line agent group = codes "group: " ++ group_text agent group
 
 -- what is decided on a URL, and by which line
 abbrev pub verdict_line : VerdictValue → List ℕ

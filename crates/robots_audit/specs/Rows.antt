@@ -35,7 +35,7 @@ kind_text (Allow value) = codes "allow"
 kind_text (Disallow value) = codes "disallow"
 kind_text (CrawlDelay delay) = codes "crawl-delay"
 kind_text (Sitemap value) = codes "sitemap"
-kind_text (Raw body) = if is_blank body then codes "blank" else codes "unread"
+kind_text (Raw body) = if is_blank body then codes "empty" else codes "ignored"
 
 -- its value as it is shown, or how a delay is shown
 abbrev pub value_text : LineValue → List ℕ

@@ -37,15 +37,16 @@ fn with_words<'a>(alloc: Global, called: Command<'a>) -> Result<Command<'a>, All
         .value_name("AGENT")
         .help("The crawler's product token, without a version");
     let called = called.arg(agent)?;
-    let urls = Arg::new(alloc, "url").value_name("URL").num_args(0..).help(
-        "URLs, or paths by themselves, that the crawler would fetch",
-    );
+    let urls = Arg::new(alloc, "url")
+        .value_name("URL")
+        .num_args(0..)
+        .help("URLs or paths to check");
     let called = called.arg(urls)?;
     let file = Arg::new(alloc, "file")
         .short('f')
         .long("file")
         .value_name("FILE")
-        .help("The robots.txt file; without it, or for -, standard input");
+        .help("robots.txt file to read (default, or -: standard input)");
     called.arg(file)
 }
 
@@ -54,18 +55,14 @@ fn with_switches<'a>(alloc: Global, called: Command<'a>) -> Result<Command<'a>, 
     let agents = switch(
         alloc,
         "agents",
-        "Instead of AGENT: * and each crawler that the file names",
+        "Report on * and every crawler named in the file, instead of AGENT",
     );
     let called = called.arg(agents.short('a'))?;
-    let quiet = switch(alloc, "quiet", "Leave out the rows of the lines");
+    let quiet = switch(alloc, "quiet", "Don't list the lines of the file");
     let called = called.arg(quiet.short('q'))?;
     let json = switch(alloc, "json", "Write JSON, with the warnings in it");
     let called = called.arg(json)?;
-    let strict = switch(
-        alloc,
-        "strict",
-        "End with status 1 where something is warned of",
-    );
+    let strict = switch(alloc, "strict", "Exit with status 1 if there are warnings");
     called.arg(strict)
 }
 
@@ -73,7 +70,7 @@ fn with_switches<'a>(alloc: Global, called: Command<'a>) -> Result<Command<'a>, 
 pub fn command<'a>(alloc: Global) -> Result<Command<'a>, AllocError> {
     let called = Command::new(alloc, "robots_audit")
         .version("0.1.0")
-        .about("Shows what a crawler makes of a robots.txt file")
+        .about("Explains how a crawler interprets a robots.txt file")
         .override_usage("robots_audit [OPTIONS] AGENT [URL]..");
     with_switches(alloc, with_words(alloc, called)?)
 }

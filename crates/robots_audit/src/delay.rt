@@ -9,7 +9,7 @@ use std::alloc::AllocError;
 /// How many microseconds a second has.
 const MILLION: u64 = 1_000_000;
 
-/// How many digits stand behind the point at most.
+/// How many digits are after the point at most.
 const DIGITS: u32 = 6;
 
 /// Adds so many millionths as digits, without zeros at the end.
@@ -27,7 +27,7 @@ fn push_fraction(text: &mut String, millionths: u64) -> Result<(), AllocError>
     Ok(())
 }
 
-/// Adds so many microseconds in seconds.
+/// Adds so many microseconds as a number of seconds.
 fn push_seconds(text: &mut String, micros: u64) -> Result<(), AllocError>
     ensures { OnOk result (string_bytes text.new ≡ string_bytes text.old ++ seconds micros) }
 {
@@ -40,15 +40,12 @@ fn push_seconds(text: &mut String, micros: u64) -> Result<(), AllocError>
     Ok(())
 }
 
-/// Adds so many microseconds, in seconds and as they are.
+/// Adds so many microseconds, in seconds.
 pub(crate) fn push_delay_text(text: &mut String, micros: u64) -> Result<(), AllocError>
     ensures { OnOk result (string_bytes text.new ≡ string_bytes text.old ++ delay_text micros) }
 {
     push_seconds(text, micros)?;
-    text.push_str(" s (")?;
-    push_number(text, micros)?;
-    text.push_str(" microseconds)")?;
-    Ok(())
+    text.push_str(" s")
 }
 
 /// Adds the line of the delay.
@@ -56,9 +53,9 @@ pub(crate) fn push_delay(text: &mut String, delay: Option<u64>) -> Result<(), Al
     ensures { OnOk result (string_bytes text.new ≡ string_bytes text.old ++ ended (delay_line delay ∷ [])) }
 {
     let Some(micros) = delay else {
-        return push_line(text, "delay ", "none");
+        return push_line(text, "delay: ", "none");
     };
-    text.push_str("delay ")?;
+    text.push_str("delay: ")?;
     push_delay_text(text, micros)?;
     push_line(text, "", "")
 }

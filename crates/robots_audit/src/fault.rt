@@ -49,14 +49,14 @@ impl fmt::Display for Fault {
     fn fmt<W: fmt::Write>(&self, f: &mut fmt::Formatter<W>) -> fmt::Result {
         match self {
             Fault::Words(text) => f.write_str(text),
-            Fault::Usage => f.write_str("no agent was given"),
-            Fault::NotUtf8 => f.write_str("an argument isn't UTF-8"),
-            Fault::File(name) => write!(f, "the file {name} can't be read"),
-            Fault::Read => f.write_str("reading standard input failed"),
-            Fault::Write => f.write_str("writing the report failed"),
+            Fault::Usage => f.write_str("missing AGENT (or use --agents)"),
+            Fault::NotUtf8 => f.write_str("arguments must be valid UTF-8"),
+            Fault::File(name) => write!(f, "cannot read {name}"),
+            Fault::Read => f.write_str("cannot read standard input"),
+            Fault::Write => f.write_str("cannot write the report"),
             Fault::InvalidRule(line) => write!(
                 f,
-                "the rule in line {line} holds $ and is too long, so a crawler can't use the file"
+                "line {line}: a pattern with $ longer than 4,096 bytes isn't supported; shorten it"
             ),
             Fault::Memory => f.write_str("out of memory"),
         }

@@ -1,7 +1,7 @@
 //! What is found out about a file, as lines of text.
 ghost use Rattle.std.specs.Prelude.{◌≡◌, ◌++◌, ◌∷◌, [], IfOk, OnOk, flat_map, map, string_bytes};
 ghost use Rattle.robots_io.specs.Lines.{ended};
-ghost use Rattle.robots_audit.specs.Report.{agent_lines, group_line, group_text, report_lines, said_line, verdict_line, warning_lines};
+ghost use Rattle.robots_audit.specs.Report.{agent_lines, group_line, group_text, nobody_text, report_lines, said_line, verdict_line, warning_lines};
 ghost use Rattle.robots_warnings.specs.Shown.{shown};
 ghost use Rattle.robots_warnings.specs.Steps.{warning_value};
 ghost use Rattle.robots_audit.specs.Steps.{agent_value, audit_value, verdict_value};
@@ -24,18 +24,38 @@ pub(crate) fn push_shown_line(text: &mut String, bytes: &[u8]) -> Result<(), All
     text.push('\n')
 }
 
-/// Adds the group of an agent, and why it is that one.
+/// Adds the name of a crawler between two texts.
+fn push_around(text: &mut String, before: &str, agent: &str, after: &str) -> Result<(), AllocError>
+    ensures { OnOk result (string_bytes text.new ≡ string_bytes text.old
+        ++ (before.now ++ shown agent.now ++ after.now)) }
+{
+    text.push_str(before)?;
+    push_shown(text, agent.as_bytes())?;
+    text.push_str(after)
+}
+
+/// Adds that neither the crawler nor `*` has a group.
+fn push_nobody(text: &mut String, agent: &str) -> Result<(), AllocError>
+    ensures { OnOk result (string_bytes text.new ≡ string_bytes text.old ++ nobody_text agent.now) }
+{
+    if agent == "*" {
+        return text.push_str("none (no group for *; everything is allowed)");
+    }
+    let after = " or *; everything is allowed)";
+    push_around(text, "none (no group for ", agent, after)
+}
+
+/// Adds the group of a crawler, and why it is that one.
 fn push_group_text(text: &mut String, agent: &str, group: Group) -> Result<(), AllocError>
     ensures { OnOk result (string_bytes text.new ≡ string_bytes text.old ++ group_text agent.now group) }
 {
     match group {
-        Group::Named => {
-            push_shown(text, agent.as_bytes())?;
-            text.push_str(", named in the file")
+        Group::Named => push_shown(text, agent.as_bytes()),
+        Group::Star => push_around(text, "* (", agent, " has no group of its own)"),
+        Group::Nobody => push_nobody(text, agent),
+        Group::Everyone => {
+            text.push_str("none (the file has no User-agent line; all rules are applied)")
         }
-        Group::Star => text.push_str("*, as the agent isn't named in the file"),
-        Group::Nobody => text.push_str("none, as neither the agent nor * is named in the file"),
-        Group::Everyone => text.push_str("of every agent, as the file has no user-agent line"),
     }
 }
 
@@ -44,7 +64,7 @@ fn push_group(text: &mut String, agent: &str, group: Group) -> Result<(), AllocE
     ensures { OnOk result (string_bytes text.new ≡ string_bytes text.old
         ++ ended (group_line agent.now group ∷ [])) }
 {
-    text.push_str("group ")?;
+    text.push_str("group: ")?;
     push_group_text(text, agent, group)?;
     text.push('\n')
 }
@@ -113,7 +133,8 @@ fn push_warning_line(text: &mut String, warning: &Warning<'_>) -> Result<(), All
 {
     text.push_str("robots_audit: warning: ")?;
     push_warning(text, warning)?;
-    text.push('\n')
+    text.push('\n')?;
+    Ok(())
 }
 
 /// The lines of warnings.

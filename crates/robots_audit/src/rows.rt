@@ -56,8 +56,8 @@ pub(crate) fn kind_text(line: Line<'_>) -> &'static str
         Line::Disallow(_) => "disallow",
         Line::CrawlDelay(_) => "crawl-delay",
         Line::Sitemap(_) => "sitemap",
-        Line::Raw(body) if is_blank(body) => "blank",
-        Line::Raw(_) => "unread",
+        Line::Raw(body) if is_blank(body) => "empty",
+        Line::Raw(_) => "ignored",
     }
 }
 

@@ -1,11 +1,11 @@
 pub mod BothWaysLemmas
-pub mod FileFaultLemmas
+pub mod FactLemmas
 pub mod FileLemmas
-pub mod KeyFaultLemmas
+pub mod FieldNameLemmas
 pub mod NameLemmas
 pub mod NamesBeyondLemmas
-pub mod PlaceFaultLemmas
+pub mod PositionLemmas
 pub mod PlainLemmas
-pub mod RuleFaultLemmas
+pub mod RuleLemmas
 pub mod ShownLemmas
-pub mod WarningLemmas
+pub mod TableLemmas

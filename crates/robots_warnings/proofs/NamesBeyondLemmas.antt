@@ -13,7 +13,7 @@ use Rattle.std.proofs.lemmas.List.Folds.{list_any-append}
 use Rattle.std.proofs.lemmas.Slice.Eq.{bytes_eq-Decides}
 use Rattle.texting_robots.specs.Callers.{Allow, CrawlDelay, Disallow, LineValue, Raw, Sitemap, UserAgent}
 use Rattle.texting_robots.specs.Callers.{file_limit, file_lines, lines_read}
-use Rattle.robots_warnings.specs.FileFaults.{has_bytes_beyond}
+use Rattle.robots_warnings.specs.Facts.{is_too_large}
 use Rattle.robots_warnings.specs.NamesBeyond.{has_new_name, is_beyond, names_beyond}
 use Rattle.robots_warnings.specs.Steps.Names.{HasMet, IsFoundUpto, Key, MeetsLine, beyond_from}
 use Rattle.robots_warnings.proofs.BothWaysLemmas.{picked}
@@ -80,7 +80,7 @@ none_from read all before (line ∷ left) place same parts =
     rw known_here (none_from read all (before ++ line ∷ []) left (place + 1) same later)
 
 -- no name stands behind the bytes that count if there are no more
-pub none_beyond : (file : List ℕ) → has_bytes_beyond file ≡ false → names_beyond file ≡ []
+pub none_beyond : (file : List ℕ) → is_too_large file ≡ false → names_beyond file ≡ []
 none_beyond file short =
     let same = ap file_lines (take_all file_limit file (ltb-false _ _ short)) in
     ap (λ (found : List (ℕ × LineValue)). map (λ p. p.0 + 1) found)

@@ -1,67 +1,28 @@
--- What is warned of: what silently means something other than it seems.
+-- What is warned of: what is valid but probably isn't what the owner meant.
 use Rattle.std.specs.Prelude.{ℕ, Bool, true, false, List, [], ◌∷◌, ◌++◌, Option, Some, None}
-use Rattle.std.specs.Prelude.{codes, decimal}
-use Rattle.std.specs.Prelude.{flat_map, if◌then◌else◌, map}
-use Rattle.std.specs.Option.{option_map_or}
-use Rattle.texting_robots.specs.Callers.{Allow, CrawlDelay, Disallow, LineValue, Mark, Raw, Sitemap}
-use Rattle.texting_robots.specs.Callers.{UserAgent, is_own}
+use Rattle.std.specs.Prelude.{codes, decimal, flat_map, if◌then◌else◌, map}
+use Rattle.texting_robots.specs.Callers.{Mark, is_own}
 use Rattle.texting_robots.specs.declared.marks.Standing.{Standing}
-use Rattle.robots_warnings.specs.declared.file_faults.FileFault.{FileFault}
-use Rattle.robots_warnings.specs.declared.place_faults.PlaceFault.{PlaceFault}
-use Rattle.robots_warnings.specs.declared.file_faults.FileFault.TheVariants.{BytesBeyond, NothingRead}
-use Rattle.robots_warnings.specs.declared.file_faults.FileFault.TheVariants.{SeemsPage}
-use Rattle.robots_warnings.specs.declared.file_faults.FileFault.TheVariants.{SeemsUtf16}
-use Rattle.robots_warnings.specs.declared.place_faults.PlaceFault.TheVariants.{BothWays, NamedBeyond}
-use Rattle.robots_warnings.specs.declared.value_faults.DelayFault.TheVariants.{AboveADay}
-use Rattle.robots_warnings.specs.declared.value_faults.SitemapFault.TheVariants.{NoWholeUrl}
-use Rattle.robots_warnings.specs.declared.warning.Cause.{Cause}
-use Rattle.robots_warnings.specs.declared.warning.Cause.TheVariants as cause
+use Rattle.robots_warnings.specs.declared.checks.Check.{Check}
+use Rattle.robots_warnings.specs.declared.facts.FileFacts.{FileFacts}
+use Rattle.robots_warnings.specs.declared.positions.Passed.{Passed}
+use Rattle.robots_warnings.specs.declared.positions.Passed.TheVariants.{Other}
+use Rattle.robots_warnings.specs.declared.table.Cause.{Cause}
+use Rattle.robots_warnings.specs.declared.table.Cause.TheVariants.{AllowedAndDisallowed, GroupPastSizeLimit}
 use Rattle.robots_warnings.specs.BothWays.{both_ways}
-use Rattle.robots_warnings.specs.FileFaults.{file_fault, file_fault_name, file_fault_text, has_bytes_beyond}
-use Rattle.robots_warnings.specs.FileFaults.{is_read}
-use Rattle.robots_warnings.specs.KeyFaults.{key_fault_holds, key_fault_name, key_fault_text, read_faults}
-use Rattle.robots_warnings.specs.KeyFaults.{unread_fault}
-use Rattle.robots_warnings.specs.NameFaults.{name_fault_holds, name_fault_name, name_fault_text, name_faults}
+use Rattle.robots_warnings.specs.Checks.{agent_checks, file_checks, line_checks, position_checks, url_checks}
+use Rattle.robots_warnings.specs.Facts.{facts_of, hides_lines}
 use Rattle.robots_warnings.specs.NamesBeyond.{names_beyond}
-use Rattle.robots_warnings.specs.PlaceFaults.{place_fault_name, place_fault_text, place_faults}
-use Rattle.robots_warnings.specs.RuleFaults.{rule_fault_holds, rule_fault_name, rule_fault_text, rule_faults}
+use Rattle.robots_warnings.specs.Positions.{last_group, passed_with}
 use Rattle.robots_warnings.specs.Scopes.{scoped_rules}
 use Rattle.robots_warnings.specs.Shown.{shown}
-use Rattle.robots_warnings.specs.ValueFaults.{delay_fault_holds, delay_fault_name, delay_fault_text}
-use Rattle.robots_warnings.specs.ValueFaults.{sitemap_fault_holds, sitemap_fault_name, sitemap_fault_text}
-use Rattle.robots_warnings.specs.WordFaults.{agent_fault_holds, agent_fault_name, agent_fault_text}
-use Rattle.robots_warnings.specs.WordFaults.{agent_faults}
-use Rattle.robots_warnings.specs.WordFaults.{url_fault, url_fault_name, url_fault_text}
+use Rattle.robots_warnings.specs.Table.{name_of, text_of}
 
--- a warning: the number of its line, where it has one; why; and the URL that it is about, else nothing
+-- a warning: the number of its line, where it has one; why; and the URL, where it is about one
 pub record WarningValue : Type 0 where
   pub line : Option ℕ
   pub cause : Cause
-  pub about : List ℕ
-
--- what a warning's cause is called
-abbrev pub cause_name : Cause → List ℕ
-cause_name (cause.File fault) = file_fault_name fault
-cause_name (cause.Agent fault) = agent_fault_name fault
-cause_name (cause.Url fault) = url_fault_name fault
-cause_name (cause.Key fault) = key_fault_name fault
-cause_name (cause.Name fault) = name_fault_name fault
-cause_name (cause.Rule fault) = rule_fault_name fault
-cause_name (cause.Delay fault) = delay_fault_name fault
-cause_name (cause.Sitemap fault) = sitemap_fault_name fault
-cause_name (cause.Place fault) = place_fault_name fault
-
--- what is said of it
-abbrev pub cause_text : Cause → List ℕ
-cause_text (cause.File fault) = file_fault_text fault
-cause_text (cause.Agent fault) = agent_fault_text fault
-cause_text (cause.Url fault) = url_fault_text fault
-cause_text (cause.Key fault) = key_fault_text fault
-cause_text (cause.Name fault) = name_fault_text fault
-cause_text (cause.Rule fault) = rule_fault_text fault
-cause_text (cause.Delay fault) = delay_fault_text fault
-cause_text (cause.Sitemap fault) = sitemap_fault_text fault
-cause_text (cause.Place fault) = place_fault_text fault
+  pub about : Option (List ℕ)
 
 -- ---- as text
 
@@ -69,92 +30,54 @@ abbrev pub place_text : Option ℕ → List ℕ
 place_text None = []
 place_text (Some number) = codes "line " ++ decimal number ++ codes ": "
 
--- the URL behind what is said of it
-abbrev pub about_text : List ℕ → List ℕ
-about_text [] = []
-about_text (b ∷ about) = codes ": " ++ shown (b ∷ about)
+-- the URL before the text
+abbrev pub about_text : Option (List ℕ) → List ℕ
+about_text None = []
+about_text (Some url) = codes "URL '" ++ shown url ++ codes "': "
 
 abbrev pub name_text : Cause → List ℕ
-name_text cause = codes " [" ++ cause_name cause ++ codes "]"
+name_text cause = codes " [" ++ name_of cause ++ codes "]"
 
--- what is said
+-- its text, after the URL
 abbrev pub warning_text : WarningValue → List ℕ
-warning_text warning = cause_text warning.cause ++ about_text warning.about
+warning_text warning = about_text warning.about ++ text_of warning.cause
 
--- the number of its line, what is said, and its name
-abbrev pub warning_line : WarningValue → List ℕ
+-- the number of its line, its text, and its name
+unfoldable pub warning_line : WarningValue → List ℕ
 warning_line warning = place_text warning.line ++ (warning_text warning ++ name_text warning.cause)
 
--- ---- of the file, the agent and the URLs
+-- ---- of what was checked
 
--- of the file or the agent
-abbrev pub general : Cause → WarningValue
-general cause = record { line = None; cause = cause; about = [] }
+-- the warning, if its condition holds
+abbrev pub warning_of : Option ℕ → Option (List ℕ) → Check → List WarningValue
+warning_of line about check =
+    if check.holds then record { line = line; cause = check.cause; about = about } ∷ [] else []
 
--- of a line
-abbrev pub of_line : ℕ → Cause → WarningValue
-of_line number cause = record { line = Some number; cause = cause; about = [] }
+-- those whose conditions hold
+abbrev pub warned : Option ℕ → Option (List ℕ) → List Check → List WarningValue
+warned line about checks = flat_map (warning_of line about) checks
 
--- the warning, if there is cause for it
-abbrev pub warned : Bool → WarningValue → List WarningValue
-warned holds warning = if holds then warning ∷ [] else []
+-- the same warning of each line with one of these numbers
+abbrev pub warned_at : Cause → List ℕ → List WarningValue
+warned_at cause numbers = map (λ number. record { line = Some number; cause = cause; about = None }) numbers
 
-abbrev pub file_warnings : List ℕ → List Mark → List WarningValue
-file_warnings file marks =
-    option_map_or (λ fault. general (cause.File fault) ∷ []) (file_fault file marks) []
-    ++ warned (has_bytes_beyond file) (general (cause.File BytesBeyond))
+-- ---- of the parts of a file and of a request
 
 abbrev pub agent_warnings : Option (List ℕ) → List WarningValue
 agent_warnings None = []
-agent_warnings (Some agent) =
-    flat_map (λ fault. warned (agent_fault_holds fault agent) (general (cause.Agent fault))) agent_faults
+agent_warnings (Some agent) = warned None None (agent_checks agent)
 
 abbrev pub url_warnings : List ℕ → List WarningValue
-url_warnings url =
-    option_map_or (λ fault. record { line = None; cause = cause.Url fault; about = url } ∷ [])
-    (url_fault url) []
+url_warnings url = warned None (Some url) (url_checks url)
 
--- ---- of a line
-
-abbrev pub name_warnings : ℕ → List ℕ → List WarningValue
-name_warnings number value =
-    flat_map (λ fault. warned (name_fault_holds fault value) (of_line number (cause.Name fault))) name_faults
-
-abbrev pub rule_warnings : ℕ → List ℕ → List WarningValue
-rule_warnings number value =
-    flat_map (λ fault. warned (rule_fault_holds fault value) (of_line number (cause.Rule fault))) rule_faults
-
--- of the key of a line that is read and has this body
-abbrev pub key_warnings : ℕ → List ℕ → List WarningValue
-key_warnings number body =
-    flat_map (λ fault. warned (key_fault_holds fault body) (of_line number (cause.Key fault))) read_faults
-
--- of a delay line; one that gives no delay isn't read as one
-abbrev pub delay_warnings : ℕ → Option ℕ → List WarningValue
-delay_warnings number None = []
-delay_warnings number (Some micros) =
-    warned (delay_fault_holds AboveADay micros) (of_line number (cause.Delay AboveADay))
-
--- of what a line holds; rules are warned of where `is_asked` says so
-abbrev pub value_warnings : Bool → ℕ → LineValue → List WarningValue
-value_warnings is_asked number (UserAgent value) = name_warnings number value
-value_warnings is_asked number (Allow value) = if is_asked then rule_warnings number value else []
-value_warnings is_asked number (Disallow value) = if is_asked then rule_warnings number value else []
-value_warnings is_asked number (CrawlDelay delay) = delay_warnings number delay
-value_warnings is_asked number (Sitemap value) =
-    warned (sitemap_fault_holds NoWholeUrl value) (of_line number (cause.Sitemap NoWholeUrl))
-value_warnings is_asked number (Raw body) =
-    option_map_or (λ fault. of_line number (cause.Key fault) ∷ []) (unread_fault body) []
-
--- rules are warned of where they are captured, or everywhere
+-- rules are checked where they are the crawler's, or everywhere
 abbrev pub is_asked_of : Bool → Standing → Bool
 is_asked_of everywhere standing = if everywhere then true else is_own standing
 
 -- of a line with this body
 abbrev pub line_warnings : Bool → Mark → List ℕ → List WarningValue
 line_warnings everywhere mark body =
-    (if is_read mark.line then key_warnings mark.number body else [])
-    ++ value_warnings (is_asked_of everywhere mark.standing) mark.number mark.line
+    warned (Some mark.number) None (line_checks (is_asked_of everywhere mark.standing) mark.line body)
 
 -- of lines, each with its body
 abbrev pub lines_warnings : Bool → List (List ℕ) → List Mark → List WarningValue
@@ -163,56 +86,51 @@ lines_warnings everywhere (body ∷ bodies) [] = []
 lines_warnings everywhere (body ∷ bodies) (mark ∷ marks) =
     line_warnings everywhere mark body ++ lines_warnings everywhere bodies marks
 
--- the file seems to be something else, so that each of its lines would be warned of
-abbrev pub hides_lines : Option FileFault → Bool
-hides_lines (Some SeemsPage) = true
-hides_lines (Some SeemsUtf16) = true
-hides_lines (Some NothingRead) = false
-hides_lines (Some BytesBeyond) = false
-hides_lines None = false
+-- of the lines of a file, unless it seems to be something else
+abbrev pub file_lines_warnings : FileFacts → Bool → List Mark → List (List ℕ) → List WarningValue
+file_lines_warnings facts everywhere marks bodies =
+    if hides_lines facts then [] else lines_warnings everywhere bodies marks
 
--- of the lines of a file
-abbrev pub file_lines_warnings : Bool → List ℕ → List Mark → List (List ℕ) → List WarningValue
-file_lines_warnings everywhere file marks bodies =
-    if hides_lines (file_fault file marks) then [] else lines_warnings everywhere bodies marks
+-- of where lines are, by the number of the last rule or delay and by what is above the first of them
+abbrev pub positions_from : Option ℕ → Passed → List Mark → List WarningValue
+positions_from last passed [] = []
+positions_from last passed (mark ∷ marks) =
+    warned (Some mark.number) None (position_checks last passed mark)
+    ++ positions_from last (passed_with passed mark.line) marks
 
--- ---- of how lines stand to each other
+-- of where all lines are
+abbrev pub position_warnings : List Mark → List WarningValue
+position_warnings marks = positions_from (last_group marks) Other marks
 
-abbrev pub place_warning : ℕ × PlaceFault → WarningValue
-place_warning found = of_line found.0 (cause.Place found.1)
+-- of names past the size limit, unless the file seems to be something else
+abbrev pub past_limit_warnings : FileFacts → List ℕ → List WarningValue
+past_limit_warnings facts file =
+    if hides_lines facts then [] else warned_at GroupPastSizeLimit (names_beyond file)
 
--- of the line with this number
-abbrev pub numbered_warning : PlaceFault → ℕ → WarningValue
-numbered_warning fault number = of_line number (cause.Place fault)
-
--- of the names that stand only behind the bytes that count
-abbrev pub beyond_warnings : List ℕ → List Mark → List WarningValue
-beyond_warnings file marks =
-    if hides_lines (file_fault file marks) then []
-    else map (numbered_warning NamedBeyond) (names_beyond file)
-
--- of the rules that are allowed and disallowed at once
+-- of rules that are allowed and disallowed at once
 abbrev pub both_ways_warnings : Bool → List Mark → List WarningValue
 both_ways_warnings everywhere marks =
-    map (numbered_warning BothWays) (both_ways (scoped_rules everywhere marks))
-
--- of where each line stands, and of both of these
-abbrev pub layout_warnings : Bool → List ℕ → List Mark → List WarningValue
-layout_warnings everywhere file marks =
-    map place_warning (place_faults marks)
-    ++ (beyond_warnings file marks ++ both_ways_warnings everywhere marks)
+    warned_at AllowedAndDisallowed (both_ways (scoped_rules everywhere marks))
 
 -- ---- all
 
--- where no one agent is asked for, rules are warned of everywhere
+-- where no one crawler is asked about, rules are checked everywhere
 abbrev pub is_everywhere : Option (List ℕ) → Bool
 is_everywhere None = true
 is_everywhere (Some agent) = false
 
--- those of the file, of the agent, of the URLs, of each line, and of how lines stand to each other
+-- of the file, the crawler and the URLs
+abbrev pub general_warnings : FileFacts → Option (List ℕ) → List (List ℕ) → List WarningValue
+general_warnings facts agent urls =
+    warned None None (file_checks facts) ++ (agent_warnings agent ++ flat_map url_warnings urls)
+
+-- of the file, the crawler, the URLs, each line by itself, and where lines are
 abbrev pub warnings : Option (List ℕ) → List (List ℕ) → List ℕ → List Mark → List (List ℕ)
     → List WarningValue
 warnings agent urls file marks bodies =
-    file_warnings file marks ++ (agent_warnings agent ++ (flat_map url_warnings urls
-    ++ (file_lines_warnings (is_everywhere agent) file marks bodies
-    ++ layout_warnings (is_everywhere agent) file marks)))
+    let facts = facts_of file marks in
+    let everywhere = is_everywhere agent in
+    general_warnings facts agent urls
+    ++ (file_lines_warnings facts everywhere marks bodies
+    ++ (position_warnings marks
+    ++ (past_limit_warnings facts file ++ both_ways_warnings everywhere marks)))

@@ -1,12 +1,12 @@
-//! Names that stand in a file only behind the bytes that count.
+//! Names that are in a file only past the size limit.
 ghost use Rattle.std.specs.Prelude.{◌≡◌, IfOk};
 ghost use Rattle.texting_robots.specs.Callers.{by_value, lines_read};
 ghost use Rattle.robots_warnings.specs.NamesBeyond.{names_beyond};
 ghost use Rattle.robots_warnings.specs.Steps.Names.{HasNames, MeetsLine};
 
 use crate::both_ways::add;
+use crate::facts::is_too_large;
 use crate::file::counted;
-use crate::file_faults::has_bytes_beyond;
 use crate::names::{Names, add_name};
 use std::alloc::{AllocError, Global};
 use std::collections::BTreeSet;
@@ -22,7 +22,7 @@ fn meet(alloc: Global, met: &mut Names, line: Line<'_>) -> Result<bool, AllocErr
     }
 }
 
-/// The names that stand in the bytes that count.
+/// The names before the size limit.
 fn names_read(alloc: Global, file: &[u8]) -> Result<Names, AllocError>
     ensures { IfOk result (λ met. HasNames met (lines_read file.now)) }
 {
@@ -33,7 +33,7 @@ fn names_read(alloc: Global, file: &[u8]) -> Result<Names, AllocError>
     Ok(met)
 }
 
-/// The numbers of the lines that are the first to have a name which no line of the bytes that count has.
+/// The numbers of the lines that are the first to have a name which no line before the size limit has.
 fn new_names(alloc: Global, file: &[u8]) -> Result<Vec<usize>, AllocError>
     ensures { IfOk result (λ found. found.items ≡ names_beyond file.now) }
 {
@@ -45,11 +45,11 @@ fn new_names(alloc: Global, file: &[u8]) -> Result<Vec<usize>, AllocError>
     Ok(found)
 }
 
-/// The same, without a look at the lines of a file all of whose bytes count.
+/// The same. The lines of a file within the size limit aren't looked at.
 pub(crate) fn names_beyond(alloc: Global, file: &[u8]) -> Result<Vec<usize>, AllocError>
     ensures { IfOk result (λ found. found.items ≡ names_beyond file.now) }
 {
-    if has_bytes_beyond(file) {
+    if is_too_large(file) {
         new_names(alloc, file)
     } else {
         Ok(Vec::new(alloc))

@@ -1,29 +1,24 @@
-//! What is warned of: what silently means something other than it seems.
-ghost use Rattle.std.specs.Prelude.{◌≡◌, ◌++◌, ◌∷◌, [], IfOk, OnOk, flat_map, if◌then◌else◌, map, option_map};
-ghost use Rattle.std.specs.Option.{option_map_or};
+//! What is warned of: what is valid but probably isn't what the owner meant.
+ghost use Rattle.std.specs.Prelude.{◌≡◌, ◌++◌, [], IfOk, OnOk, if◌then◌else◌, map, option_map};
 ghost use Rattle.texting_robots.specs.Callers.{bodies_read, by_value, mark_by_value};
-ghost use Rattle.robots_warnings.specs.KeyFaults.{unread_fault};
-ghost use Rattle.robots_warnings.specs.PlaceFaults.{place_faults};
-ghost use Rattle.robots_warnings.specs.FileFaults.{is_read};
+ghost use Rattle.robots_warnings.specs.Checks.{field_checks, is_directive, value_checks};
 ghost use Rattle.robots_warnings.specs.Steps.{warning_value};
-ghost use Rattle.robots_warnings.specs.ValueFaults.{sitemap_fault_holds};
-ghost use Rattle.robots_warnings.specs.Warnings.{agent_warnings, beyond_warnings, both_ways_warnings, delay_warnings, file_lines_warnings, file_warnings, general, hides_lines, layout_warnings};
-ghost use Rattle.robots_warnings.specs.Warnings.{is_asked_of, is_everywhere, key_warnings, line_warnings, lines_warnings};
-ghost use Rattle.robots_warnings.specs.Warnings.{name_warnings, numbered_warning, of_line, place_warning, rule_warnings, url_warnings};
-ghost use Rattle.robots_warnings.specs.Warnings.{value_warnings, warned, warnings};
+ghost use Rattle.robots_warnings.specs.Warnings.{agent_warnings, both_ways_warnings, file_lines_warnings, general_warnings};
+ghost use Rattle.robots_warnings.specs.Warnings.{is_asked_of, is_everywhere, line_warnings, lines_warnings};
+ghost use Rattle.robots_warnings.specs.Warnings.{past_limit_warnings, position_warnings, warned, warned_at, warnings};
 
 use crate::both_ways::both_ways;
-use crate::file::counted;
-use crate::file_faults::{FileFault, file_fault, has_bytes_beyond};
-use crate::key_faults::{READ_FAULTS, unread_fault};
-use crate::name_faults::NAME_FAULTS;
+use crate::checks::{
+    Check, agent_checks, delay_checks, field_checks, file_checks, ignored_checks, position_checks,
+    rule_checks, sitemap_checks, url_checks, user_agent_checks,
+};
+use crate::facts::{FileFacts, facts_of, hides_lines};
+use crate::file::{counted, is_blank};
 use crate::names_beyond::names_beyond;
-use crate::place_faults::{PlaceFault, place_faults};
-use crate::rule_faults::RULE_FAULTS;
+use crate::positions::{Passed, last_group, passed_with};
 use crate::scopes::scoped_rules;
-use crate::value_faults::{DelayFault, SitemapFault};
-use crate::warning::{Cause, Warning};
-use crate::word_faults::{AGENT_FAULTS, url_fault};
+use crate::table::Cause;
+use crate::warning::Warning;
 use std::alloc::{AllocError, Global};
 use texting_robots::marks::{MarkedLine, Standing};
 use texting_robots::parser::{Line, file_bodies};
@@ -31,184 +26,71 @@ use texting_robots::parser::{Line, file_bodies};
 /// A list of warnings that grows.
 type Found<'a> = Vec<Warning<'a>>;
 
-/// Adds a warning of the file or the agent, if there is cause for it.
-fn warn(found: &mut Found<'_>, holds: bool, cause: Cause) -> Result<(), AllocError>
+/// Adds the warnings whose conditions hold.
+fn warn<'a>(
+    found: &mut Found<'a>,
+    line: Option<usize>,
+    about: Option<&'a str>,
+    checks: &[Check],
+) -> Result<(), AllocError>
     ensures { OnOk result (map warning_value found.new.items
-        ≡ map warning_value found.old.items ++ warned holds (general cause)) }
+        ≡ map warning_value found.old.items ++ warned line (option_map (λ url. url.now) about.entry) checks.now) }
 {
-    if holds {
+    for check in checks {
+        if check.holds {
+            found.push(Warning {
+                line,
+                cause: check.cause,
+                about,
+            })?;
+        }
+    }
+    Ok(())
+}
+
+/// Adds the same warning of each line with one of these numbers.
+fn warn_at(found: &mut Found<'_>, cause: Cause, numbers: &[usize]) -> Result<(), AllocError>
+    ensures { OnOk result (map warning_value found.new.items
+        ≡ map warning_value found.old.items ++ warned_at cause numbers.now) }
+{
+    for number in numbers {
         found.push(Warning {
-            line: None,
+            line: Some(*number),
             cause,
-            about: "",
+            about: None,
         })?;
     }
     Ok(())
 }
 
-/// Adds a warning of the line with this number, if there is cause for it.
-fn warn_at(
-    found: &mut Found<'_>,
-    holds: bool,
-    number: usize,
-    cause: Cause,
-) -> Result<(), AllocError>
-    ensures { OnOk result (map warning_value found.new.items
-        ≡ map warning_value found.old.items ++ warned holds (of_line number cause)) }
-{
-    if holds {
-        found.push(Warning {
-            line: Some(number),
-            cause,
-            about: "",
-        })?;
-    }
-    Ok(())
-}
-
-/// Adds the warnings of the file.
-fn warn_of_file(
-    found: &mut Found<'_>,
-    file: &[u8],
-    marks: &[MarkedLine<'_>],
-) -> Result<(), AllocError>
-    ensures { OnOk result (map warning_value found.new.items
-        ≡ map warning_value found.old.items ++ file_warnings file.now (map mark_by_value marks.now)) }
-{
-    if let Some(fault) = file_fault(file, marks) {
-        warn(found, true, Cause::File(fault))?;
-    }
-    let beyond = Cause::File(FileFault::BytesBeyond);
-    warn(found, has_bytes_beyond(file), beyond)
-}
-
-/// Adds the warnings of the agent that is asked for, if one is.
+/// Adds the warnings of the crawler that is asked about, if one is.
 fn warn_of_agent(found: &mut Found<'_>, agent: Option<&str>) -> Result<(), AllocError>
     ensures { OnOk result (map warning_value found.new.items ≡ map warning_value found.old.items
         ++ agent_warnings (option_map (λ agent. agent.now) agent.entry)) }
 {
-    let Some(agent) = agent else {
-        return Ok(());
-    };
-    for fault in AGENT_FAULTS {
-        warn(found, fault.holds(agent), Cause::Agent(fault))?;
-    }
-    Ok(())
-}
-
-/// Adds the warning of a URL, if there is one.
-fn warn_of_url<'a>(alloc: Global, found: &mut Found<'a>, url: &'a str) -> Result<(), AllocError>
-    ensures { OnOk result (map warning_value found.new.items
-        ≡ map warning_value found.old.items ++ url_warnings url.now) }
-{
-    if let Some(fault) = url_fault(alloc, url)? {
-        found.push(Warning {
-            line: None,
-            cause: Cause::Url(fault),
-            about: url,
-        })?;
-    }
-    Ok(())
-}
-
-/// Adds the warnings of the URLs.
-fn warn_of_urls<'a>(
-    alloc: Global,
-    found: &mut Found<'a>,
-    urls: &[&'a str],
-) -> Result<(), AllocError>
-    ensures { OnOk result (map warning_value found.new.items
-        ≡ map warning_value found.old.items ++ flat_map url_warnings (map (λ url. url.now) urls.now)) }
-{
-    for url in urls {
-        warn_of_url(alloc, found, url)?;
-    }
-    Ok(())
-}
-
-/// Adds the warnings of a name in a user-agent line.
-fn warn_of_name(found: &mut Found<'_>, number: usize, value: &[u8]) -> Result<(), AllocError>
-    ensures { OnOk result (map warning_value found.new.items
-        ≡ map warning_value found.old.items ++ name_warnings number value.now) }
-{
-    for fault in NAME_FAULTS {
-        warn_at(found, fault.holds(value), number, Cause::Name(fault))?;
-    }
-    Ok(())
-}
-
-/// Adds the warnings of a rule, if it is asked about.
-fn warn_of_rule(
-    found: &mut Found<'_>,
-    is_asked: bool,
-    number: usize,
-    value: &[u8],
-) -> Result<(), AllocError>
-    ensures { OnOk result (map warning_value found.new.items ≡ map warning_value found.old.items
-        ++ (if is_asked then rule_warnings number value.now else [])) }
-{
-    if !is_asked {
-        return Ok(());
-    }
-    for fault in RULE_FAULTS {
-        warn_at(found, fault.holds(value), number, Cause::Rule(fault))?;
-    }
-    Ok(())
-}
-
-/// Adds the warnings of the key of a line that is read.
-fn warn_of_key(found: &mut Found<'_>, number: usize, body: &[u8]) -> Result<(), AllocError>
-    ensures { OnOk result (map warning_value found.new.items
-        ≡ map warning_value found.old.items ++ key_warnings number body.now) }
-{
-    for fault in READ_FAULTS {
-        warn_at(found, fault.holds(body), number, Cause::Key(fault))?;
-    }
-    Ok(())
-}
-
-/// Adds the warning of a delay, if there is one.
-fn warn_of_delay(found: &mut Found<'_>, number: usize, delay: Option<u64>) -> Result<(), AllocError>
-    ensures { OnOk result (map warning_value found.new.items
-        ≡ map warning_value found.old.items ++ delay_warnings number delay) }
-{
-    let Some(micros) = delay else {
-        return Ok(());
-    };
-    let fault = DelayFault::AboveADay;
-    warn_at(found, fault.holds(micros), number, Cause::Delay(fault))
-}
-
-/// Adds the warning of a sitemap, if there is one.
-fn warn_of_sitemap(
-    alloc: Global,
-    found: &mut Found<'_>,
-    number: usize,
-    value: &[u8],
-) -> Result<(), AllocError>
-    ensures { OnOk result (map warning_value found.new.items ≡ map warning_value found.old.items
-        ++ warned (sitemap_fault_holds SitemapFault.NoWholeUrl value.now)
-        (of_line number (Cause.Sitemap SitemapFault.NoWholeUrl))) }
-{
-    let fault = SitemapFault::NoWholeUrl;
-    let holds = fault.holds(alloc, value)?;
-    warn_at(found, holds, number, Cause::Sitemap(fault))
-}
-
-/// Adds the warning of a line that isn't read, if there is one.
-fn warn_of_unread(
-    alloc: Global,
-    found: &mut Found<'_>,
-    number: usize,
-    body: &[u8],
-) -> Result<(), AllocError>
-    ensures { OnOk result (map warning_value found.new.items ≡ map warning_value found.old.items
-        ++ option_map_or (λ fault. of_line number (Cause.Key fault) ∷ []) (unread_fault body.now) []) }
-{
-    match unread_fault(alloc, body)? {
-        Some(fault) => warn_at(found, true, number, Cause::Key(fault)),
+    match agent {
+        Some(agent) => warn(found, None, None, &agent_checks(agent)),
         None => Ok(()),
     }
+}
+
+/// Adds the warnings of the file, of the crawler and of the URLs.
+fn warn_in_general<'a>(
+    alloc: Global,
+    found: &mut Found<'a>,
+    facts: FileFacts,
+    agent: Option<&str>,
+    urls: &[&'a str],
+) -> Result<(), AllocError>
+    ensures { OnOk result (map warning_value found.new.items ≡ map warning_value found.old.items
+        ++ general_warnings facts (option_map (λ agent. agent.now) agent.entry) (map (λ url. url.now) urls.now)) }
+{
+    warn(found, None, None, &file_checks(facts))?;
+    warn_of_agent(found, agent)?;
+    for url in urls {
+        warn(found, None, Some(url), &url_checks(alloc, url)?)?;
+    }
+    Ok(())
 }
 
 /// Adds the warnings of what a line holds.
@@ -220,38 +102,42 @@ fn warn_of_value(
     line: Line<'_>,
 ) -> Result<(), AllocError>
     ensures { OnOk result (map warning_value found.new.items ≡ map warning_value found.old.items
-        ++ value_warnings is_asked number (by_value line.entry)) }
+        ++ warned (Some number) None (value_checks is_asked (by_value line.entry))) }
 {
+    let at = Some(number);
     match line {
-        Line::UserAgent(value) => warn_of_name(found, number, value),
-        Line::Allow(value) => warn_of_rule(found, is_asked, number, value),
-        Line::Disallow(value) => warn_of_rule(found, is_asked, number, value),
-        Line::CrawlDelay(delay) => warn_of_delay(found, number, delay),
-        Line::Sitemap(value) => warn_of_sitemap(alloc, found, number, value),
-        Line::Raw(body) => warn_of_unread(alloc, found, number, body),
+        Line::UserAgent(value) => warn(found, at, None, &user_agent_checks(value)),
+        Line::Allow(value) | Line::Disallow(value) if is_asked => {
+            warn(found, at, None, &rule_checks(value))
+        }
+        Line::CrawlDelay(Some(micros)) => warn(found, at, None, &delay_checks(micros)),
+        Line::Sitemap(value) => warn(found, at, None, &sitemap_checks(alloc, value)?),
+        Line::Raw(body) if !is_blank(body) => warn(found, at, None, &ignored_checks(alloc, body)?),
+        _ => Ok(()),
     }
 }
 
-/// Whether a rule is warned of.
-fn is_asked_of(everywhere: bool, standing: Standing) -> bool
-    ensures { result ≡ is_asked_of everywhere standing }
-{
-    everywhere || standing == Standing::Own
-}
-
-/// Adds the warnings of the key of a line, if it is read.
-fn warn_of_read(
+/// Adds the warnings of the field name of a line with this body, if it is a directive.
+fn warn_of_field(
     found: &mut Found<'_>,
     marked: &MarkedLine<'_>,
     body: &[u8],
 ) -> Result<(), AllocError>
     ensures { OnOk result (map warning_value found.new.items ≡ map warning_value found.old.items
-        ++ (if is_read (by_value marked.now.line) then key_warnings marked.now.number body.now else [])) }
+        ++ warned (Some marked.now.number) None
+        (if is_directive (by_value marked.now.line) then field_checks body.now else [])) }
 {
     match marked.line {
         Line::Raw(_) => Ok(()),
-        _ => warn_of_key(found, marked.number, body),
+        _ => warn(found, Some(marked.number), None, &field_checks(body)),
     }
+}
+
+/// Whether a rule is checked.
+fn is_asked_of(everywhere: bool, standing: Standing) -> bool
+    ensures { result ≡ is_asked_of everywhere standing }
+{
+    everywhere || standing == Standing::Own
 }
 
 /// Adds the warnings of a line with this body.
@@ -265,7 +151,7 @@ fn warn_of_line(
     ensures { OnOk result (map warning_value found.new.items ≡ map warning_value found.old.items
         ++ line_warnings everywhere (mark_by_value marked.now) body.now) }
 {
-    warn_of_read(found, marked, body)?;
+    warn_of_field(found, marked, body)?;
     let is_asked = is_asked_of(everywhere, marked.standing);
     warn_of_value(alloc, found, is_asked, marked.number, marked.line)
 }
@@ -292,76 +178,57 @@ fn warn_of_lines(
     Ok(())
 }
 
-/// Whether the file seems to be something else, so that each of its lines would be warned of.
-fn hides_lines(fault: Option<FileFault>) -> bool
-    ensures { result ≡ hides_lines fault }
-{
-    matches!(fault, Some(FileFault::SeemsPage | FileFault::SeemsUtf16))
-}
-
-/// Adds the warnings of the lines of a file, unless it seems to be something else.
+/// Adds the warnings of each line of a file, unless the file seems to be something else.
 fn warn_of_file_lines(
     alloc: Global,
     found: &mut Found<'_>,
+    facts: FileFacts,
     everywhere: bool,
     marks: &[MarkedLine<'_>],
     file: &[u8],
 ) -> Result<(), AllocError>
     ensures { OnOk result (map warning_value found.new.items ≡ map warning_value found.old.items
-        ++ file_lines_warnings everywhere file.now (map mark_by_value marks.now) (bodies_read file.now)) }
+        ++ file_lines_warnings facts everywhere (map mark_by_value marks.now) (bodies_read file.now)) }
 {
-    if hides_lines(file_fault(file, marks)) {
+    if hides_lines(facts) {
         return Ok(());
     }
     warn_of_lines(alloc, found, everywhere, marks, file)
 }
 
-/// Adds the warnings of where a line stands.
-fn warn_of_places(
-    alloc: Global,
-    found: &mut Found<'_>,
-    marks: &[MarkedLine<'_>],
-) -> Result<(), AllocError>
+/// Adds the warnings of where lines are.
+fn warn_of_positions(found: &mut Found<'_>, marks: &[MarkedLine<'_>]) -> Result<(), AllocError>
     ensures { OnOk result (map warning_value found.new.items ≡ map warning_value found.old.items
-        ++ map place_warning (place_faults (map mark_by_value marks.now))) }
+        ++ position_warnings (map mark_by_value marks.now)) }
 {
-    let places = place_faults(alloc, marks)?;
-    for place in &places {
-        warn_at(found, true, place.0, Cause::Place(place.1))?;
+    let last = last_group(marks);
+    let mut passed = Passed::Other;
+    for marked in marks {
+        let checks = position_checks(last, passed, marked);
+        warn(found, Some(marked.number), None, &checks)?;
+        passed = passed_with(passed, marked.line);
     }
     Ok(())
 }
 
-/// Adds a warning of each line with one of these numbers.
-fn warn_of_numbers(
-    found: &mut Found<'_>,
-    numbers: &[usize],
-    fault: PlaceFault,
-) -> Result<(), AllocError>
-    ensures { OnOk result (map warning_value found.new.items
-        ≡ map warning_value found.old.items ++ map (numbered_warning fault) numbers.now) }
-{
-    for number in numbers {
-        warn_at(found, true, *number, Cause::Place(fault))?;
-    }
-    Ok(())
-}
-
-/// Adds the warnings of names behind the bytes that count, unless the file seems to be something else.
-fn warn_of_names_beyond(
+/// Adds the warnings of names past the size limit, unless the file seems to be something else.
+fn warn_past_limit(
     alloc: Global,
     found: &mut Found<'_>,
-    marks: &[MarkedLine<'_>],
+    facts: FileFacts,
     file: &[u8],
 ) -> Result<(), AllocError>
-    ensures { OnOk result (map warning_value found.new.items ≡ map warning_value found.old.items
-        ++ beyond_warnings file.now (map mark_by_value marks.now)) }
+    ensures { OnOk result (map warning_value found.new.items
+        ≡ map warning_value found.old.items ++ past_limit_warnings facts file.now) }
 {
-    if hides_lines(file_fault(file, marks)) {
+    if hides_lines(facts) {
         return Ok(());
     }
-    let numbers = names_beyond(alloc, file)?;
-    warn_of_numbers(found, &numbers, PlaceFault::NamedBeyond)
+    warn_at(
+        found,
+        Cause::GroupPastSizeLimit,
+        &names_beyond(alloc, file)?,
+    )
 }
 
 /// Adds the warnings of what is allowed and disallowed.
@@ -375,27 +242,14 @@ fn warn_of_both_ways(
         ++ both_ways_warnings everywhere (map mark_by_value marks.now)) }
 {
     let rules = scoped_rules(alloc, everywhere, marks)?;
-    let numbers = both_ways(alloc, &rules)?;
-    warn_of_numbers(found, &numbers, PlaceFault::BothWays)
+    warn_at(
+        found,
+        Cause::AllowedAndDisallowed,
+        &both_ways(alloc, &rules)?,
+    )
 }
 
-/// Adds the warnings of how lines stand to each other.
-fn warn_of_layout(
-    alloc: Global,
-    found: &mut Found<'_>,
-    everywhere: bool,
-    marks: &[MarkedLine<'_>],
-    file: &[u8],
-) -> Result<(), AllocError>
-    ensures { OnOk result (map warning_value found.new.items ≡ map warning_value found.old.items
-        ++ layout_warnings everywhere file.now (map mark_by_value marks.now)) }
-{
-    warn_of_places(alloc, found, marks)?;
-    warn_of_names_beyond(alloc, found, marks, file)?;
-    warn_of_both_ways(alloc, found, everywhere, marks)
-}
-
-/// Whether rules are warned of everywhere: where no one agent is asked for.
+/// Whether rules are checked everywhere: where no one crawler is asked about.
 fn is_everywhere(agent: Option<&str>) -> bool
     ensures { result ≡ is_everywhere (option_map (λ agent. agent.now) agent.entry) }
 {
@@ -418,12 +272,13 @@ pub fn warnings<'a>(
         (map (λ url. url.now) urls.now) file.now (map mark_by_value marks.now)
         (bodies_read file.now)) }
 {
+    let facts = facts_of(file, marks);
     let everywhere = is_everywhere(agent);
     let mut found = Vec::new(alloc);
-    warn_of_file(&mut found, file, marks)?;
-    warn_of_agent(&mut found, agent)?;
-    warn_of_urls(alloc, &mut found, urls)?;
-    warn_of_file_lines(alloc, &mut found, everywhere, marks, file)?;
-    warn_of_layout(alloc, &mut found, everywhere, marks, file)?;
+    warn_in_general(alloc, &mut found, facts, agent, urls)?;
+    warn_of_file_lines(alloc, &mut found, facts, everywhere, marks, file)?;
+    warn_of_positions(&mut found, marks)?;
+    warn_past_limit(alloc, &mut found, facts, file)?;
+    warn_of_both_ways(alloc, &mut found, everywhere, marks)?;
     Ok(found)
 }

@@ -1,0 +1,26 @@
+-- How a file's bytes and lines are looked at.
+use Rattle.std.proofs.Common.{◌≡◌, ℕ, ◌+◌, ◌<◌, ◌==◌, ◌||◌}
+use Rattle.std.proofs.Common.{◌&&◌, Bool, List, drop, length, map, not, refl, slice_index_or, take}
+use Rattle.std.proofs.Math.Bool.{or-false}
+use Rattle.std.proofs.lemmas.List.{drop_more, map-append, take_more}
+use Rattle.std.proofs.lemmas.List.Folds.{list_any-append}
+use Rattle.texting_robots.specs.declared.marks.MarkedLine.{MarkedLine}
+use Rattle.texting_robots.specs.Callers.{by_value, mark_by_value}
+use Rattle.robots_warnings.specs.Facts.{kinds_of}
+use Rattle.robots_warnings.specs.File.{lines_of}
+use Rattle.robots_warnings.specs.Steps.{kinds_with}
+use Rattle.robots_warnings.specs.Facts.{nul_at_every_other}
+
+-- whether NULs stand at every other place from one place on, by the byte there
+pub nul_from : (here : Bool) (bytes : List ℕ) (at byte : ℕ) → at < length bytes
+    → nul_at_every_other here (drop at bytes)
+    ≡ ((not here || slice_index_or bytes at byte == 0)
+    && nul_at_every_other (not here) (drop (at + 1) bytes))
+nul_from here bytes at byte below = rw (drop_more bytes at byte below) refl
+
+-- the kinds of one line more
+pub kinds_next : (marks : List MarkedLine) (at : ℕ) (marked : MarkedLine) → at < length marks
+    → kinds_of (lines_of (map mark_by_value (take (at + 1) marks)))
+    ≡ kinds_with (kinds_of (lines_of (map mark_by_value (take at marks))))
+    (by_value (slice_index_or marks at marked).line)
+kinds_next marks at marked below = rw (take_more marks at marked below) (simp (map-append, list_any-append, or-false))

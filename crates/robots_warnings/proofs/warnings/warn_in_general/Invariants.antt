@@ -1,0 +1,10 @@
+use Rattle.std.proofs.Common.{◌≡◌, ◌++◌, flat_map, map, take}
+use Rattle.robots_warnings.specs.Steps.{warning_value}
+use Rattle.robots_warnings.specs.Warnings.{url_warnings}
+use Rattle.robots_warnings.proofs.warnings.warn_in_general.Given as goal
+
+abbrev pub invariant-loop-url : goal.invariant-loop-url
+invariant-loop-url l =
+    map warning_value l.found.items
+    ≡ map warning_value l.initial.found.items
+    ++ flat_map url_warnings (map (λ url. url.now) (take l.url-index l.urls))

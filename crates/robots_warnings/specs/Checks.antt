@@ -1,0 +1,115 @@
+-- The condition of each warning, grouped by what it inspects, in the order of output.
+use Rattle.std.specs.Prelude.{ℕ, Bool, true, false, List, [], ◌∷◌, ◌++◌, Option, None, Some, if◌then◌else◌}
+use Rattle.std.specs.Prelude.{nat_lt, not}
+use Rattle.std.specs.Str.{is_utf8}
+use Rattle.texting_robots.specs.Callers.{Allow, CrawlDelay, Disallow, LineValue, Mark, Raw, Sitemap}
+use Rattle.texting_robots.specs.Callers.{UserAgent}
+use Rattle.robots_warnings.specs.declared.checks.Check.{Check}
+use Rattle.robots_warnings.specs.declared.facts.FileFacts.{FileFacts}
+use Rattle.robots_warnings.specs.declared.positions.Passed.{Passed}
+use Rattle.robots_warnings.specs.declared.table.Cause.{Cause}
+use Rattle.robots_warnings.specs.declared.table.Cause.TheVariants as cause
+use Rattle.robots_warnings.specs.FieldNames.{is_misspelled, is_without_colon, meant_by}
+use Rattle.robots_warnings.specs.File.{is_blank}
+use Rattle.robots_warnings.specs.Positions.{is_above_agents, is_empty_group, is_split}
+use Rattle.robots_warnings.specs.Rules.{begins_odd_escape, has_dollar_inside, has_dot_segment, has_odd_start}
+use Rattle.robots_warnings.specs.Rules.{holds_otherwise, is_expression, is_quoted, somewhere}
+use Rattle.robots_warnings.specs.Tokens.{has_slash, has_space_around, is_product_token}
+use Rattle.robots_warnings.specs.Urls.{begins_as_url, is_absolute_url, is_invalid_url, is_url_or_path}
+
+-- a warning that is given if this holds
+abbrev pub warn_if : Cause → Bool → Check
+warn_if cause holds = record { cause = cause; holds = holds }
+
+abbrev pub file_checks : FileFacts → List Check
+file_checks facts =
+    warn_if cause.LooksLikeHtml facts.is_html
+    ∷ warn_if cause.LooksLikeUtf16 facts.is_utf_16
+    ∷ warn_if cause.NoDirectives facts.is_other_text
+    ∷ warn_if cause.FileTooLarge facts.is_too_large
+    ∷ []
+
+-- the crawler that is asked about
+abbrev pub agent_checks : List ℕ → List Check
+agent_checks agent =
+    warn_if cause.SpaceAroundAgent (has_space_around agent)
+    ∷ warn_if cause.VersionInAgent (has_slash agent)
+    ∷ []
+
+-- a URL that is asked about
+abbrev pub url_checks : List ℕ → List Check
+url_checks url =
+    warn_if cause.NotAUrlOrPath (not (is_url_or_path url))
+    ∷ warn_if cause.InvalidUrl (is_invalid_url url)
+    ∷ []
+
+-- a line with this body that is neither a directive nor empty nor a comment
+abbrev pub ignored_checks : List ℕ → List Check
+ignored_checks body = warn_if (meant_by body) true ∷ []
+
+-- the field name of a directive with this body
+abbrev pub field_checks : List ℕ → List Check
+field_checks body =
+    warn_if cause.NonstandardField (is_misspelled body)
+    ∷ warn_if cause.MissingColon (is_without_colon body)
+    ∷ []
+
+-- the value of a user-agent line
+abbrev pub user_agent_checks : List ℕ → List Check
+user_agent_checks value = warn_if cause.InvalidProductToken (not (is_product_token value)) ∷ []
+
+-- the value of an Allow or a Disallow
+abbrev pub rule_checks : List ℕ → List Check
+rule_checks value =
+    warn_if cause.RuleNotUtf8 (not (is_utf8 value))
+    ∷ warn_if cause.MissingSlash (has_odd_start value)
+    ∷ warn_if cause.UrlAsRule (begins_as_url value)
+    ∷ warn_if cause.UnencodedCharacter (holds_otherwise false value)
+    ∷ warn_if cause.QuotedRule (is_quoted value)
+    ∷ warn_if cause.RegexSyntax (is_expression value)
+    ∷ warn_if cause.DollarNotAtEnd (has_dollar_inside value)
+    ∷ warn_if cause.NonstandardEscape (somewhere begins_odd_escape value)
+    ∷ warn_if cause.DotSegment (has_dot_segment value)
+    ∷ []
+
+-- a day, in microseconds
+abbrev pub day : ℕ
+day = 86400000000
+
+-- a delay, in microseconds
+abbrev pub delay_checks : ℕ → List Check
+delay_checks micros = warn_if cause.DelayOverADay (nat_lt day micros) ∷ []
+
+-- the value of a sitemap line
+abbrev pub sitemap_checks : List ℕ → List Check
+sitemap_checks value = warn_if cause.SitemapNotAbsolute (not (is_absolute_url value)) ∷ []
+
+-- a line, by the number of the last rule or delay and by what is above the line
+abbrev pub position_checks : Option ℕ → Passed → Mark → List Check
+position_checks last passed mark =
+    warn_if cause.RuleBeforeUserAgent (is_above_agents mark)
+    ∷ warn_if cause.EmptyGroup (is_empty_group last mark)
+    ∷ warn_if cause.DelaySplitsGroup (is_split passed mark)
+    ∷ []
+
+-- ---- a line
+
+-- any line but one that is ignored
+abbrev pub is_directive : LineValue → Bool
+is_directive (Raw body) = false
+is_directive _ = true
+
+-- what a line holds; rules are checked where `is_asked` says so
+abbrev pub value_checks : Bool → LineValue → List Check
+value_checks is_asked (UserAgent value) = user_agent_checks value
+value_checks is_asked (Allow value) = if is_asked then rule_checks value else []
+value_checks is_asked (Disallow value) = if is_asked then rule_checks value else []
+value_checks is_asked (CrawlDelay None) = []
+value_checks is_asked (CrawlDelay (Some micros)) = delay_checks micros
+value_checks is_asked (Sitemap value) = sitemap_checks value
+value_checks is_asked (Raw body) = if is_blank body then [] else ignored_checks body
+
+-- a line with this body
+abbrev pub line_checks : Bool → LineValue → List ℕ → List Check
+line_checks is_asked line body =
+    (if is_directive line then field_checks body else []) ++ value_checks is_asked line

@@ -1,0 +1,84 @@
+-- What is found out about a whole file, once.
+use Rattle.std.specs.Prelude.{ℕ, ◌==◌, Bool, true, false, nat_eq, nat_le, nat_lt, not, ◌||◌}
+use Rattle.std.specs.Prelude.{◌&&◌, List, [], ◌∷◌, codes, length, take}
+use Rattle.std.specs.List.{list_any, starts_with}
+use Rattle.texting_robots.specs.Callers.{Allow, CrawlDelay, Disallow, LineValue, Mark, Raw, Sitemap}
+use Rattle.texting_robots.specs.Callers.{file_limit}
+use Rattle.texting_robots.specs.Group.{is_agent}
+use Rattle.robots_warnings.specs.declared.facts.FileFacts.{FileFacts}
+use Rattle.robots_warnings.specs.declared.facts.LineKinds.{LineKinds}
+use Rattle.robots_warnings.specs.File.{is_blank, lines_of}
+
+-- ---- the lines
+
+-- neither empty nor a comment
+abbrev pub has_text : LineValue → Bool
+has_text (Raw body) = not (is_blank body)
+has_text _ = true
+
+-- an Allow or a Disallow
+abbrev pub is_rule : LineValue → Bool
+is_rule (Allow value) = true
+is_rule (Disallow value) = true
+is_rule _ = false
+
+-- a delay or a sitemap
+abbrev pub is_extra : LineValue → Bool
+is_extra (CrawlDelay delay) = true
+is_extra (Sitemap value) = true
+is_extra _ = false
+
+-- which kinds of lines are among these
+abbrev pub kinds_of : List LineValue → LineKinds
+kinds_of lines = record {
+  text = list_any has_text lines;
+  user_agent = list_any is_agent lines;
+  rule = list_any is_rule lines;
+  extra = list_any is_extra lines;
+}
+
+-- ---- the bytes
+
+-- every other byte is a NUL: the first, the third and so on, or else the second and so on
+abbrev pub nul_at_every_other : Bool → List ℕ → Bool
+nul_at_every_other here [] = true
+nul_at_every_other here (b ∷ bytes) = (not here || b == 0) && nul_at_every_other (not here) bytes
+
+-- a byte order mark of UTF-16 comes first, or every other byte of the first 64 is a NUL
+abbrev pub seems_utf_16 : List ℕ → Bool
+seems_utf_16 file =
+    starts_with nat_eq file (255 ∷ 254 ∷ []) || (starts_with nat_eq file (254 ∷ 255 ∷ [])
+    || (nat_le 4 (length file)
+    && (nul_at_every_other true (take 64 file) || nul_at_every_other false (take 64 file))))
+
+-- it begins as a page does
+abbrev pub seems_html : List ℕ → Bool
+seems_html file = starts_with nat_eq file (codes "<")
+
+-- ---- the file
+
+-- it has text, and no directive
+abbrev pub is_unknown : LineKinds → Bool
+is_unknown kinds = kinds.text && not (kinds.user_agent || kinds.rule || kinds.extra)
+
+-- more bytes than are read
+abbrev pub is_too_large : List ℕ → Bool
+is_too_large file = nat_lt file_limit (length file)
+
+-- by its bytes and the kinds of its lines
+abbrev pub facts_by : List ℕ → LineKinds → FileFacts
+facts_by file kinds = record {
+  kinds = kinds;
+  is_html = is_unknown kinds && seems_html file;
+  is_utf_16 = is_unknown kinds && (not (seems_html file) && seems_utf_16 file);
+  is_other_text = is_unknown kinds && not (seems_html file || seems_utf_16 file);
+  is_too_large = is_too_large file;
+}
+
+-- by its bytes and its lines
+abbrev pub facts_of : List ℕ → List Mark → FileFacts
+facts_of file marks = facts_by file (kinds_of (lines_of marks))
+
+-- the file seems to be something else, so that each of its lines would be warned of
+abbrev pub hides_lines : FileFacts → Bool
+hides_lines facts = facts.is_html || facts.is_utf_16

@@ -1,0 +1,128 @@
+-- Conditions on the value of an Allow or a Disallow line.
+use Rattle.std.specs.Prelude.{ℕ, ◌+◌, ◌-◌, ◌*◌, ◌==◌, nat_eq, nat_lt, Bool, false}
+use Rattle.std.specs.Prelude.{not, ◌||◌, ◌&&◌, List, [], ◌∷◌, bytes_eq, codes}
+use Rattle.std.specs.Prelude.{if◌then◌else◌, length, slice_index}
+use Rattle.std.specs.Char.{digit_value, is_ascii_alphanumeric, is_ascii_hexdigit, is_ascii_lowercase}
+use Rattle.std.specs.List.{after_first, before_first, ends_with, list_any, starts_with}
+use Rattle.std.specs.Str.{byte}
+use Rattle.robots_warnings.specs.Urls.{begins_as_url}
+
+-- ---- texts
+
+-- the byte is in the text
+abbrev pub has : ℕ → List ℕ → Bool
+has b text = list_any (λ c. c == b) text
+
+-- what stands before the first such byte, or all where none does
+abbrev pub before_byte : ℕ → List ℕ → List ℕ
+before_byte b text = before_first (λ c. c == b) text
+
+-- what stands behind the first such byte, or nothing where none does
+abbrev pub behind_byte : ℕ → List ℕ → List ℕ
+behind_byte b text = after_first (λ c. c == b) text
+
+-- the test holds of what stands in the text from some byte on
+abbrev pub somewhere : (List ℕ → Bool) → List ℕ → Bool
+somewhere test [] = false
+somewhere test (b ∷ text) = test (b ∷ text) || somewhere test text
+
+-- ---- how a rule begins
+
+-- it isn't empty, and begins with neither a slash nor a star
+abbrev pub begins_oddly : List ℕ → Bool
+begins_oddly [] = false
+begins_oddly (b ∷ value) = not (b == byte "/" || b == byte "*")
+
+-- ---- bytes that a whole URL has otherwise
+
+-- a byte that, inside a rule, a URL of a site has otherwise: escaped in only one of the two, taken for `/`,
+-- or taken out
+abbrev pub is_spelled_otherwise : Bool → ℕ → Bool
+is_spelled_otherwise in_query b =
+    if in_query then (b == byte "\t" || (b == byte "'" || b == byte "`"))
+    else (b == byte "\t" || (b == byte "\\" || (b == byte "^" || (b == byte "{" || b == byte "}"))))
+
+-- the value holds such a byte; what follows a `?` is a query, and that a star may reach into one isn't
+-- looked at
+abbrev pub holds_otherwise : Bool → List ℕ → Bool
+holds_otherwise in_query [] = false
+holds_otherwise in_query (b ∷ value) =
+    is_spelled_otherwise in_query b || holds_otherwise (in_query || b == byte "?") value
+
+-- ---- quotes
+
+-- the byte stands first and last, and these are two
+abbrev pub stands_around : ℕ → List ℕ → Bool
+stands_around b value =
+    nat_lt 1 (length value)
+    && (slice_index value 0 == b && slice_index value (length value - 1) == b)
+
+abbrev pub is_quoted : List ℕ → Bool
+is_quoted value = stands_around (byte "\"") value || stands_around (byte "'") value
+
+-- it begins oddly, and neither as a URL nor as a text in quotes
+abbrev pub has_odd_start : List ℕ → Bool
+has_odd_start value = begins_oddly value && not (begins_as_url value || is_quoted value)
+
+-- ---- regular expressions
+
+-- a choice, as `(a|b)`: a `)` behind a `|` behind a `(`
+abbrev pub has_choice : List ℕ → Bool
+has_choice value = has (byte ")") (behind_byte (byte "|") (behind_byte (byte "(") value))
+
+-- it begins with a range, as `[0-9]` does
+abbrev pub begins_range : List ℕ → Bool
+begins_range text =
+    nat_lt 3 (length text) && (slice_index text 0 == byte "[" && slice_index text 2 == byte "-")
+
+-- it begins with a class, as `\d`
+abbrev pub begins_class : List ℕ → Bool
+begins_class text = slice_index text 0 == byte "\\" && is_ascii_alphanumeric (slice_index text 1)
+
+-- it begins with a range, `.*` or a class
+abbrev pub begins_sign : List ℕ → Bool
+begins_sign text = begins_range text || (starts_with nat_eq text (codes ".*") || begins_class text)
+
+-- it holds a choice or one of these signs, or ends with a `+`
+abbrev pub is_expression : List ℕ → Bool
+is_expression value =
+    has_choice value || (somewhere begins_sign value || ends_with nat_eq value (codes "+"))
+
+-- ---- dollars
+
+-- behind its first `$` stands something other than stars and `$`
+abbrev pub has_dollar_inside : List ℕ → Bool
+has_dollar_inside value =
+    list_any (λ b. not (b == byte "*" || b == byte "$")) (behind_byte (byte "$") value)
+
+-- ---- escapes
+
+-- a byte that needs no escape anywhere in a URL
+abbrev pub needs_no_escape : ℕ → Bool
+needs_no_escape b = is_ascii_alphanumeric b || has b (codes "-._~")
+
+-- hex digits of which one is a small letter, or which are those of a byte that needs no escape
+abbrev pub are_odd_digits : ℕ → ℕ → Bool
+are_odd_digits high low =
+    (is_ascii_lowercase high || is_ascii_lowercase low)
+    || needs_no_escape (digit_value high * 16 + digit_value low)
+
+-- it begins with an escape that has such digits
+abbrev pub begins_odd_escape : List ℕ → Bool
+begins_odd_escape text =
+    let high = slice_index text 1 in
+    let low = slice_index text 2 in
+    (slice_index text 0 == byte "%" && (is_ascii_hexdigit high && is_ascii_hexdigit low))
+    && are_odd_digits high low
+
+-- ---- dot segments
+
+-- it begins with a slash and a segment of one dot or two, which a slash or the end of URLs follows
+abbrev pub begins_dot_segment : List ℕ → Bool
+begins_dot_segment text =
+    starts_with nat_eq text (codes "/./") || starts_with nat_eq text (codes "/../")
+    || bytes_eq text (codes "/.$") || bytes_eq text (codes "/..$")
+
+-- it has such a segment before its first `?`
+abbrev pub has_dot_segment : List ℕ → Bool
+has_dot_segment value = somewhere begins_dot_segment (before_byte (byte "?") value)

@@ -1,0 +1,137 @@
+//! The condition of each warning, grouped by what it inspects, in the order of output.
+ghost use Rattle.std.specs.Prelude.{◌≡◌, IfOk};
+ghost use Rattle.texting_robots.specs.Callers.{mark_by_value};
+ghost use Rattle.robots_warnings.specs.Checks.{agent_checks, delay_checks, field_checks, file_checks, ignored_checks};
+ghost use Rattle.robots_warnings.specs.Checks.{position_checks, rule_checks, sitemap_checks, url_checks, user_agent_checks, warn_if};
+
+use crate::facts::FileFacts;
+use crate::field_names::{is_misspelled, is_without_colon, meant_by};
+use crate::positions::{Passed, is_above_agents, is_empty_group, is_split};
+use crate::rules::{
+    has_dollar_inside, has_dot_segment, has_odd_escape, has_odd_start, holds_otherwise,
+    is_expression, is_quoted, is_utf8,
+};
+use crate::table::Cause;
+use crate::tokens::{has_slash, has_space_around, is_product_token};
+use crate::urls::{begins_as_url, is_absolute_url, is_invalid_url, is_url_or_path};
+use std::alloc::{AllocError, Global};
+use texting_robots::marks::MarkedLine;
+
+/// A warning that is given if its condition holds.
+#[derive(Clone, Copy)]
+pub struct Check {
+    pub cause: Cause,
+    pub holds: bool,
+}
+
+/// How many microseconds a day has.
+const DAY: u64 = 86_400_000_000;
+
+/// A warning and its condition.
+fn warn_if(cause: Cause, holds: bool) -> Check
+    ensures { result ≡ warn_if cause holds }
+{
+    Check { cause, holds }
+}
+
+/// Those of a file.
+pub(crate) fn file_checks(facts: FileFacts) -> [Check; 4]
+    ensures { result ≡ file_checks facts }
+{
+    [
+        warn_if(Cause::LooksLikeHtml, facts.is_html),
+        warn_if(Cause::LooksLikeUtf16, facts.is_utf_16),
+        warn_if(Cause::NoDirectives, facts.is_other_text),
+        warn_if(Cause::FileTooLarge, facts.is_too_large),
+    ]
+}
+
+/// Those of the crawler that is asked about.
+pub(crate) fn agent_checks(agent: &str) -> [Check; 2]
+    ensures { result ≡ agent_checks agent.now }
+{
+    [
+        warn_if(Cause::SpaceAroundAgent, has_space_around(agent)),
+        warn_if(Cause::VersionInAgent, has_slash(agent)),
+    ]
+}
+
+/// Those of a URL that is asked about.
+pub(crate) fn url_checks(alloc: Global, url: &str) -> Result<[Check; 2], AllocError>
+    ensures { IfOk result (λ checks. checks ≡ url_checks url.now) }
+{
+    Ok([
+        warn_if(Cause::NotAUrlOrPath, !is_url_or_path(url)),
+        warn_if(Cause::InvalidUrl, is_invalid_url(alloc, url)?),
+    ])
+}
+
+/// Those of a line with this body that is neither a directive nor empty nor a comment.
+pub(crate) fn ignored_checks(alloc: Global, body: &[u8]) -> Result<[Check; 1], AllocError>
+    ensures { IfOk result (λ checks. checks ≡ ignored_checks body.now) }
+{
+    Ok([warn_if(meant_by(alloc, body)?, true)])
+}
+
+/// Those of the field name of a directive with this body.
+pub(crate) fn field_checks(body: &[u8]) -> [Check; 2]
+    ensures { result ≡ field_checks body.now }
+{
+    [
+        warn_if(Cause::NonstandardField, is_misspelled(body)),
+        warn_if(Cause::MissingColon, is_without_colon(body)),
+    ]
+}
+
+/// Those of the value of a user-agent line.
+pub(crate) fn user_agent_checks(value: &[u8]) -> [Check; 1]
+    ensures { result ≡ user_agent_checks value.now }
+{
+    [warn_if(Cause::InvalidProductToken, !is_product_token(value))]
+}
+
+/// Those of the value of an Allow or a Disallow.
+pub(crate) fn rule_checks(value: &[u8]) -> [Check; 9]
+    ensures { result ≡ rule_checks value.now }
+{
+    [
+        warn_if(Cause::RuleNotUtf8, !is_utf8(value)),
+        warn_if(Cause::MissingSlash, has_odd_start(value)),
+        warn_if(Cause::UrlAsRule, begins_as_url(value)),
+        warn_if(Cause::UnencodedCharacter, holds_otherwise(value)),
+        warn_if(Cause::QuotedRule, is_quoted(value)),
+        warn_if(Cause::RegexSyntax, is_expression(value)),
+        warn_if(Cause::DollarNotAtEnd, has_dollar_inside(value)),
+        warn_if(Cause::NonstandardEscape, has_odd_escape(value)),
+        warn_if(Cause::DotSegment, has_dot_segment(value)),
+    ]
+}
+
+/// Those of a delay, in microseconds.
+pub(crate) fn delay_checks(micros: u64) -> [Check; 1]
+    ensures { result ≡ delay_checks micros }
+{
+    [warn_if(Cause::DelayOverADay, micros > DAY)]
+}
+
+/// Those of the value of a sitemap line.
+pub(crate) fn sitemap_checks(alloc: Global, value: &[u8]) -> Result<[Check; 1], AllocError>
+    ensures { IfOk result (λ checks. checks ≡ sitemap_checks value.now) }
+{
+    Ok([warn_if(Cause::SitemapNotAbsolute, !is_absolute_url(alloc, value)?)])
+}
+
+/// Those of a line, by the number of the last rule or delay and by what is above the line.
+pub(crate) fn position_checks(
+    last: Option<usize>,
+    passed: Passed,
+    marked: &MarkedLine<'_>,
+) -> [Check; 3]
+    ensures { result ≡ position_checks last passed (mark_by_value marked.now) }
+{
+    [
+        warn_if(Cause::RuleBeforeUserAgent, is_above_agents(marked)),
+        warn_if(Cause::EmptyGroup, is_empty_group(last, marked)),
+        warn_if(Cause::DelaySplitsGroup, is_split(passed, marked)),
+    ]
+}

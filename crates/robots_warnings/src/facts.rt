@@ -1,0 +1,171 @@
+//! What is found out about a whole file, once.
+ghost use Rattle.std.specs.Prelude.{◌≡◌, ◌==◌, ◌||◌, map, not, take};
+ghost use Rattle.texting_robots.specs.Callers.{by_value, mark_by_value};
+ghost use Rattle.robots_warnings.specs.Facts.{facts_by, facts_of, has_text, hides_lines, is_too_large, is_unknown};
+ghost use Rattle.robots_warnings.specs.Facts.{kinds_of, nul_at_every_other, seems_html, seems_utf_16};
+ghost use Rattle.robots_warnings.specs.File.{lines_of};
+ghost use Rattle.robots_warnings.specs.Steps.{kinds_with};
+
+use crate::file::is_blank;
+use texting_robots::marks::MarkedLine;
+use texting_robots::parser::Line;
+use texting_robots::robot::FILE_LIMIT;
+
+/// How many bytes of a file are looked at for what it is saved as.
+const FIRST: usize = 64;
+
+/// Which kinds of lines a file has.
+#[derive(Clone, Copy, PartialEq, Eq)]
+pub struct LineKinds {
+    /// A line that is neither empty nor a comment.
+    pub text: bool,
+    /// A user-agent line.
+    pub user_agent: bool,
+    /// An Allow or a Disallow.
+    pub rule: bool,
+    /// A delay or a sitemap.
+    pub extra: bool,
+}
+
+/// What is found out about a whole file.
+#[derive(Clone, Copy, PartialEq, Eq)]
+pub struct FileFacts {
+    pub kinds: LineKinds,
+    /// It has text and no directive, and begins as a page does.
+    pub is_html: bool,
+    /// It has text and no directive, and seems to be saved as UTF-16.
+    pub is_utf_16: bool,
+    /// It has text and no directive, and is neither of these.
+    pub is_other_text: bool,
+    /// It has more bytes than are read.
+    pub is_too_large: bool,
+}
+
+/// Whether a line is neither empty nor a comment.
+fn has_text(line: Line<'_>) -> bool
+    ensures { result ≡ has_text (by_value line.entry) }
+{
+    match line {
+        Line::Raw(body) => !is_blank(body),
+        _ => true,
+    }
+}
+
+/// The kinds of some lines and of one more.
+fn kinds_with(kinds: LineKinds, line: Line<'_>) -> LineKinds
+    ensures { result ≡ kinds_with kinds (by_value line.entry) }
+{
+    LineKinds {
+        text: kinds.text || has_text(line),
+        user_agent: kinds.user_agent || matches!(line, Line::UserAgent(_)),
+        rule: kinds.rule || matches!(line, Line::Allow(_) | Line::Disallow(_)),
+        extra: kinds.extra || matches!(line, Line::CrawlDelay(_) | Line::Sitemap(_)),
+    }
+}
+
+/// The kinds of lines.
+#[tactic(auto, using(crate::proofs::FactLemmas::kinds_next))]
+fn kinds_of(marks: &[MarkedLine<'_>]) -> LineKinds
+    ensures { result ≡ kinds_of (lines_of (map mark_by_value marks.now)) }
+{
+    let mut kinds = LineKinds {
+        text: false,
+        user_agent: false,
+        rule: false,
+        extra: false,
+    };
+    for marked in marks {
+        kinds = kinds_with(kinds, marked.line);
+    }
+    kinds
+}
+
+/// Whether the byte is a NUL, where one is due.
+fn is_as_due(is_due: bool, byte: u8) -> bool
+    ensures { result ≡ (not is_due || byte == 0) }
+{
+    !is_due || byte == 0
+}
+
+/// Whether every other byte is a NUL: the first, the third and so on where `here`, else the second and so on.
+#[tactic(auto, using(crate::proofs::FactLemmas::nul_from))]
+fn has_nuls(here: bool, bytes: &[u8]) -> bool
+    ensures { result ≡ nul_at_every_other here bytes.now }
+{
+    let mut is_due = here;
+    for byte in bytes {
+        if !is_as_due(is_due, *byte) {
+            return false;
+        }
+        is_due = !is_due;
+    }
+    true
+}
+
+/// The first bytes of a file, 64 at most.
+fn first_bytes<'a>(file: &'a [u8]) -> &'a [u8]
+    ensures { result.now ≡ take 64 file.now }
+{
+    &file[..FIRST.min(file.len())]
+}
+
+/// Whether the file seems to be saved as UTF-16.
+fn seems_utf_16(file: &[u8]) -> bool
+    ensures { result ≡ seems_utf_16 file.now }
+{
+    let first = first_bytes(file);
+    file.starts_with(&[0xff, 0xfe])
+        || file.starts_with(&[0xfe, 0xff])
+        || (file.len() >= 4 && (has_nuls(true, first) || has_nuls(false, first)))
+}
+
+/// Whether the file begins as a page does.
+fn seems_html(file: &[u8]) -> bool
+    ensures { result ≡ seems_html file.now }
+{
+    file.starts_with(b"<")
+}
+
+/// Whether a file with these kinds of lines has text and no directive.
+fn is_unknown(kinds: LineKinds) -> bool
+    ensures { result ≡ is_unknown kinds }
+{
+    kinds.text && !(kinds.user_agent || kinds.rule || kinds.extra)
+}
+
+/// Whether the file has more bytes than are read.
+pub(crate) fn is_too_large(file: &[u8]) -> bool
+    ensures { result ≡ is_too_large file.now }
+{
+    file.len() > FILE_LIMIT
+}
+
+/// What is found out about a file with these kinds of lines.
+fn facts_by(file: &[u8], kinds: LineKinds) -> FileFacts
+    ensures { result ≡ facts_by file.now kinds }
+{
+    let is_unknown = is_unknown(kinds);
+    let is_html = is_unknown && seems_html(file);
+    let is_utf_16 = is_unknown && !is_html && seems_utf_16(file);
+    FileFacts {
+        kinds,
+        is_html,
+        is_utf_16,
+        is_other_text: is_unknown && !is_html && !is_utf_16,
+        is_too_large: is_too_large(file),
+    }
+}
+
+/// What is found out about a file with these lines.
+pub fn facts_of(file: &[u8], marks: &[MarkedLine<'_>]) -> FileFacts
+    ensures { result ≡ facts_of file.now (map mark_by_value marks.now) }
+{
+    facts_by(file, kinds_of(marks))
+}
+
+/// Whether the file seems to be something else, so that each of its lines would be warned of.
+pub(crate) fn hides_lines(facts: FileFacts) -> bool
+    ensures { result ≡ hides_lines facts }
+{
+    facts.is_html || facts.is_utf_16
+}

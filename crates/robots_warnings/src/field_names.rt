@@ -1,0 +1,310 @@
+//! What the field name of a line may be, where the line is ignored, and what is unusual in it, where the line is a directive.
+ghost use Rattle.std.specs.Prelude.{◌≡◌, ◌<◌, ℕ, IfOk, IfSome, List, length, map, position};
+ghost use Rattle.robots_warnings.specs.declared.table.Cause.{Cause};
+ghost use Rattle.robots_warnings.specs.Steps.{name_value};
+ghost use Rattle.std.specs.List.{before_first, list_any};
+ghost use Rattle.texting_robots.specs.Statement.{spellings};
+ghost use Rattle.robots_warnings.specs.FieldNames.{begins_with, first_word, is_accepted, is_colon, is_misspelled, is_name};
+ghost use Rattle.robots_warnings.specs.FieldNames.{is_near, is_space_or_tab, is_without_colon, kinds, may_mean, meant_among};
+ghost use Rattle.robots_warnings.specs.FieldNames.{directives, meant_by, meant_in, name_in, without_end, without_front};
+
+use crate::table::Cause;
+use std::alloc::{AllocError, Global};
+use strsim::generic_levenshtein;
+use texting_robots::parser::Kind;
+
+/// The usual names of directives, in the order in which they are looked for, and the warning where one may be meant.
+const DIRECTIVES: [(&str, Cause); 5] = [
+    ("user-agent", Cause::LikeUserAgent),
+    ("allow", Cause::LikeAllow),
+    ("disallow", Cause::LikeDisallow),
+    ("sitemap", Cause::LikeSitemap),
+    ("crawl-delay", Cause::LikeCrawlDelay),
+];
+
+/// Names that other crawlers know, or knew, in the order in which they are looked for, and the warning of each.
+const UNSUPPORTED: [(&str, Cause); 10] = [
+    ("noindex", Cause::NoindexLine),
+    ("nofollow", Cause::NofollowLine),
+    ("host", Cause::HostLine),
+    ("request-rate", Cause::RequestRateLine),
+    ("visit-time", Cause::VisitTimeLine),
+    ("clean-param", Cause::CleanParamLine),
+    ("content-signal", Cause::ContentSignalLine),
+    ("content-usage", Cause::ContentUsageLine),
+    ("robot-version", Cause::RobotVersionLine),
+    ("comment", Cause::CommentLine),
+];
+
+/// The kinds of directives.
+const KINDS: [Kind; 5] = [
+    Kind::UserAgent,
+    Kind::Allow,
+    Kind::Disallow,
+    Kind::Sitemap,
+    Kind::CrawlDelay,
+];
+
+/// The names that the parser accepts for this kind of directive, in small letters.
+fn spellings(kind: Kind) -> &'static [&'static str]
+    ensures { map (λ name. name.now) result.now ≡ spellings kind }
+{
+    match kind {
+        Kind::UserAgent => &["user-agent", "user agent", "useragent"],
+        Kind::Allow => &["allow"],
+        Kind::Disallow => &[
+            "disallow",
+            "dissallow",
+            "dissalow",
+            "disalow",
+            "diasllow",
+            "disallaw",
+        ],
+        Kind::Sitemap => &["sitemap", "site-map", "site map"],
+        Kind::CrawlDelay => &["crawl-delay", "crawl delay", "crawldelay"],
+    }
+}
+
+/// Whether a byte is a space or a tab.
+fn is_space_or_tab(byte: u8) -> bool
+    ensures { result ≡ is_space_or_tab byte }
+{
+    byte == b' ' || byte == b'\t'
+}
+
+/// The text without spaces and tabs at the start.
+fn without_front<'a>(text: &'a [u8]) -> &'a [u8]
+    ensures { result.now ≡ without_front text.now }
+{
+    let mut rest = text;
+    while let [b' ' | b'\t', after @ ..] = rest {
+        rest = after;
+    }
+    rest
+}
+
+/// The text without spaces and tabs at its end.
+fn without_end<'a>(text: &'a [u8]) -> &'a [u8]
+    ensures { result.now ≡ without_end text.now }
+{
+    let mut rest = text;
+    while let [before @ .., b' ' | b'\t'] = rest {
+        rest = before;
+    }
+    rest
+}
+
+/// The index of the first colon.
+fn colon_at(text: &[u8]) -> Option<usize>
+    ensures place { result ≡ position is_colon text.now }
+    ensures within { IfSome result (λ at. at < length text.now) }
+{
+    text.iter().position(|byte| *byte == b':')
+}
+
+/// The index of the first space or tab.
+fn blank_at(text: &[u8]) -> Option<usize>
+    ensures place { result ≡ position is_space_or_tab text.now }
+    ensures within { IfSome result (λ at. at < length text.now) }
+{
+    text.iter().position(|byte| is_space_or_tab(*byte))
+}
+
+/// What is before the first colon, or all where there is none.
+fn before_colon<'a>(text: &'a [u8]) -> &'a [u8]
+    ensures { result.now ≡ before_first is_colon text.now }
+{
+    match colon_at(text) {
+        Some(at) => &text[..at],
+        None => text,
+    }
+}
+
+/// What is before the first space or tab, or all where there is none.
+fn before_blank<'a>(text: &'a [u8]) -> &'a [u8]
+    ensures { result.now ≡ before_first is_space_or_tab text.now }
+{
+    match blank_at(text) {
+        Some(at) => &text[..at],
+        None => text,
+    }
+}
+
+/// What is before the first colon, or all where there is none, without the spaces and tabs around it.
+fn name_in<'a>(body: &'a [u8]) -> &'a [u8]
+    ensures { result.now ≡ name_in body.now }
+{
+    without_end(without_front(before_colon(body)))
+}
+
+/// What is between the spaces and tabs at the start and the next.
+fn first_word<'a>(body: &'a [u8]) -> &'a [u8]
+    ensures { result.now ≡ first_word body.now }
+{
+    before_blank(without_front(body))
+}
+
+/// Whether the word is the name, ASCII letters in any case.
+fn is_name(name: &str, word: &[u8]) -> bool
+    ensures { result ≡ is_name name.now word.now }
+{
+    word.eq_ignore_ascii_case(name.as_bytes())
+}
+
+/// Whether the word begins with the name, ASCII letters in any case.
+fn begins_with(name: &str, word: &[u8]) -> bool
+    ensures { result ≡ begins_with name.now word.now }
+{
+    is_name(name, &word[..name.len().min(word.len())])
+}
+
+/// Whether the word is one of the accepted names of this kind of directive.
+fn is_accepted(kind: Kind, word: &[u8]) -> bool
+    ensures { result ≡ is_accepted kind word.now }
+{
+    for name in spellings(kind) {
+        if is_name(name, word) {
+            return true;
+        }
+    }
+    false
+}
+
+/// Whether two edits at most, each of one byte, make the name of the word in small letters.
+fn is_near(alloc: Global, name: &str, word: &[u8]) -> Result<bool, AllocError>
+    ensures { IfOk result (λ answer. answer ≡ is_near name.now word.now) }
+{
+    if name.len().abs_diff(word.len()) > 2 {
+        return Ok(false);
+    }
+    let lowered = word.to_ascii_lowercase(alloc)?;
+    Ok(generic_levenshtein(alloc, &lowered, name.as_bytes())? <= 2)
+}
+
+/// Whether the name may be meant by the word.
+fn may_mean(alloc: Global, name: &str, word: &[u8]) -> Result<bool, AllocError>
+    ensures { IfOk result (λ answer. answer ≡ may_mean name.now word.now) }
+{
+    Ok(begins_with(name, word) || is_near(alloc, name, word)?)
+}
+
+/// Whether the name may be meant by one of the words.
+fn may_any_mean(alloc: Global, name: &str, words: &[&[u8]]) -> Result<bool, AllocError>
+    ensures { IfOk result (λ answer. answer ≡ list_any (may_mean name.now) (map (λ word. word.now) words.now)) }
+{
+    for word in words {
+        if may_mean(alloc, name, word)? {
+            return Ok(true);
+        }
+    }
+    Ok(false)
+}
+
+/// Whether one of the words is the name, ASCII letters in any case.
+fn is_any_name(name: &str, words: &[&[u8]]) -> bool
+    ensures { result ≡ list_any (is_name name.now) (map (λ word. word.now) words.now) }
+{
+    for word in words {
+        if is_name(name, word) {
+            return true;
+        }
+    }
+    false
+}
+
+/// Whether one of the words is an accepted name of this kind of directive.
+fn is_any_accepted(kind: Kind, words: &[&[u8]]) -> bool
+    ensures { result ≡ list_any (is_accepted kind) (map (λ word. word.now) words.now) }
+{
+    for word in words {
+        if is_accepted(kind, word) {
+            return true;
+        }
+    }
+    false
+}
+
+/// The warning of the first of these names that is one of the words.
+fn named_in(names: &[(&str, Cause)], words: &[&[u8]]) -> Option<Cause>
+    ensures { result ≡ meant_in is_name (map name_value names.now) (map (λ word. word.now) words.now) }
+{
+    for (name, cause) in names {
+        if is_any_name(name, words) {
+            return Some(*cause);
+        }
+    }
+    None
+}
+
+/// The warning of the first directive that may be meant by one of the words.
+fn directive_among(alloc: Global, words: &[&[u8]]) -> Result<Option<Cause>, AllocError>
+    ensures { IfOk result (λ cause. cause ≡ meant_in may_mean directives (map (λ word. word.now) words.now)) }
+{
+    for (name, cause) in &DIRECTIVES {
+        if may_any_mean(alloc, name, words)? {
+            return Ok(Some(*cause));
+        }
+    }
+    Ok(None)
+}
+
+/// The warning of an ignored line with these words.
+fn meant_among(alloc: Global, words: &[&[u8]]) -> Result<Cause, AllocError>
+    ensures { IfOk result (λ cause. cause ≡ meant_among (map (λ word. word.now) words.now)) }
+{
+    if is_any_accepted(Kind::CrawlDelay, words) {
+        return Ok(Cause::InvalidDelay);
+    }
+    if let Some(cause) = named_in(&UNSUPPORTED, words) {
+        return Ok(cause);
+    }
+    match directive_among(alloc, words)? {
+        Some(cause) => Ok(cause),
+        None => Ok(Cause::UnrecognizedLine),
+    }
+}
+
+/// The warning of an ignored line with this body.
+pub(crate) fn meant_by(alloc: Global, body: &[u8]) -> Result<Cause, AllocError>
+    ensures { IfOk result (λ cause. cause ≡ meant_by body.now) }
+{
+    meant_among(alloc, &[name_in(body), first_word(body)])
+}
+
+/// Whether the text begins with one of these names.
+fn begins_with_any(names: &[(&str, Cause)], text: &[u8]) -> bool
+    ensures { result ≡ list_any (λ (row : List ℕ × Cause). begins_with row.0 text.now) (map name_value names.now) }
+{
+    for (name, _) in names {
+        if begins_with(name, text) {
+            return true;
+        }
+    }
+    false
+}
+
+/// Whether the directive with this body begins with none of the usual names.
+pub(crate) fn is_misspelled(body: &[u8]) -> bool
+    ensures { result ≡ is_misspelled body.now }
+{
+    !begins_with_any(&DIRECTIVES, without_front(body))
+}
+
+/// Whether the word is an accepted name of a directive.
+fn is_directive(word: &[u8]) -> bool
+    ensures { result ≡ list_any (λ kind. is_accepted kind word.now) kinds }
+{
+    for kind in KINDS {
+        if is_accepted(kind, word) {
+            return true;
+        }
+    }
+    false
+}
+
+/// Whether no colon is after the field name of the directive with this body.
+pub(crate) fn is_without_colon(body: &[u8]) -> bool
+    ensures { result ≡ is_without_colon body.now }
+{
+    !(body.contains(&b':') && is_directive(name_in(body)))
+}

@@ -1,0 +1,234 @@
+//! Conditions on the value of an Allow or a Disallow line.
+ghost use Rattle.std.specs.Prelude.{◌≡◌, ◌<◌, ◌≤◌, ◌==◌, ℕ, Bool, List, false, length, true};
+ghost use Rattle.std.specs.Char.{digit_value, is_ascii_hexdigit};
+ghost use Rattle.std.specs.Fn.{FnReturnsAt};
+ghost use Rattle.std.specs.List.{position_or_len};
+ghost use Rattle.std.specs.Str.{is_utf8};
+ghost use Rattle.robots_warnings.specs.Rules.{are_odd_digits, before_byte, begins_class};
+ghost use Rattle.robots_warnings.specs.Rules.{begins_dot_segment, begins_odd_escape};
+ghost use Rattle.robots_warnings.specs.Rules.{begins_oddly, begins_range, begins_sign, behind_byte, has};
+ghost use Rattle.robots_warnings.specs.Rules.{has_choice, has_dollar_inside, has_dot_segment, has_odd_start, holds_otherwise};
+ghost use Rattle.robots_warnings.specs.Rules.{is_expression, is_quoted, is_spelled_otherwise, needs_no_escape};
+ghost use Rattle.robots_warnings.specs.Rules.{somewhere};
+
+use crate::urls::begins_as_url;
+
+/// Whether the byte is in the text.
+fn has(byte: u8, text: &[u8]) -> bool
+    ensures { result ≡ has byte text.now }
+{
+    text.iter().any(|other| *other == byte)
+}
+
+/// Where the first such byte stands, or how long the text is where none does.
+fn place(byte: u8, text: &[u8]) -> usize
+    ensures value { result ≡ position_or_len (λ b. b == byte) text.now }
+    ensures within { result ≤ length text.now }
+{
+    text.iter().take_while(|other| **other != byte).count()
+}
+
+/// What stands before the first such byte, or all where none does.
+fn before_byte(byte: u8, text: &[u8]) -> &[u8]
+    ensures { result.now ≡ before_byte byte text.now }
+{
+    &text[..place(byte, text)]
+}
+
+/// What stands behind the first such byte, or nothing where none does.
+fn behind_byte(byte: u8, text: &[u8]) -> &[u8]
+    ensures { result.now ≡ behind_byte byte text.now }
+{
+    match &text[place(byte, text)..] {
+        [_, behind @ ..] => behind,
+        [] => &[],
+    }
+}
+
+/// Whether the test holds of what stands in the text from some byte on.
+#[tactic(auto, using(crate::proofs::RuleLemmas::somewhere_next))]
+fn somewhere<F: Fn(&[u8]) -> bool>(text: &[u8], test: F) -> bool
+    requires { F.IsAlwaysCallable test }
+    ensures { (p : List ℕ → Bool) → ((x : List ℕ) (r : Bool) → FnReturnsAt F.Fn test x r → r ≡ p x)
+        → result ≡ somewhere p text.now }
+{
+    let mut rest = text;
+    while let [_, behind @ ..] = rest {
+        if test(rest) {
+            return true;
+        }
+        rest = behind;
+    }
+    false
+}
+
+/// Whether the value is UTF-8.
+pub(crate) fn is_utf8(value: &[u8]) -> bool
+    ensures { result ≡ is_utf8 value.now }
+{
+    match std::str::from_utf8(value) {
+        Ok(_) => true,
+        Err(_) => false,
+    }
+}
+
+/// Whether the value begins with neither a slash nor a star, and isn't empty.
+fn begins_oddly(value: &[u8]) -> bool
+    ensures { result ≡ begins_oddly value.now }
+{
+    !matches!(value, [] | [b'/' | b'*', ..])
+}
+
+/// Whether a whole URL has the byte otherwise than a rule, in its query or in its path.
+fn is_spelled_otherwise(in_query: bool, byte: u8) -> bool
+    ensures { result ≡ is_spelled_otherwise in_query byte }
+{
+    if in_query {
+        matches!(byte, b'\t' | b'\'' | b'`')
+    } else {
+        matches!(byte, b'\t' | b'\\' | b'^' | b'{' | b'}')
+    }
+}
+
+/// Whether the value has a byte that a whole URL has otherwise.
+#[tactic(auto, using(crate::proofs::RuleLemmas::otherwise_at))]
+pub(crate) fn holds_otherwise(value: &[u8]) -> bool
+    ensures { result ≡ holds_otherwise false value.now }
+{
+    let mut in_query = false;
+    for byte in value {
+        if is_spelled_otherwise(in_query, *byte) {
+            return true;
+        }
+        in_query = in_query || *byte == b'?';
+    }
+    false
+}
+
+/// Whether the value stands in quotes.
+pub(crate) fn is_quoted(value: &[u8]) -> bool
+    ensures { result ≡ is_quoted value.now }
+{
+    matches!(value, [b'"', .., b'"'] | [b'\'', .., b'\''])
+}
+
+/// Whether the value has a choice, as `(a|b)`.
+fn has_choice(value: &[u8]) -> bool
+    ensures { result ≡ has_choice value.now }
+{
+    has(b')', behind_byte(b'|', behind_byte(b'(', value)))
+}
+
+/// Whether the text begins with a range, as `[0-9]` does.
+fn begins_range(text: &[u8]) -> bool
+    ensures { result ≡ begins_range text.now }
+{
+    matches!(text, [b'[', _, b'-', _, ..])
+}
+
+/// Whether the text begins with a class, as `\d`.
+fn begins_class(text: &[u8]) -> bool
+    ensures { result ≡ begins_class text.now }
+{
+    match text {
+        [b'\\', letter, ..] => letter.is_ascii_alphanumeric(),
+        _ => false,
+    }
+}
+
+/// Whether the text begins with a range, `.*` or a class.
+fn begins_sign(text: &[u8]) -> bool
+    ensures { result ≡ begins_sign text.now }
+{
+    begins_range(text) || text.starts_with(b".*") || begins_class(text)
+}
+
+/// Whether the value holds a choice or such a sign, or ends with a `+`.
+pub(crate) fn is_expression(value: &[u8]) -> bool
+    ensures { result ≡ is_expression value.now }
+{
+    has_choice(value) || somewhere(value, begins_sign) || value.ends_with(b"+")
+}
+
+/// Whether something other than stars and `$` stands behind a `$` of the value.
+pub(crate) fn has_dollar_inside(value: &[u8]) -> bool
+    ensures { result ≡ has_dollar_inside value.now }
+{
+    behind_byte(b'$', value)
+        .iter()
+        .any(|byte| !(*byte == b'*' || *byte == b'$'))
+}
+
+/// Whether a byte needs no escape anywhere in a URL.
+fn needs_no_escape(byte: u8) -> bool
+    ensures { result ≡ needs_no_escape byte }
+{
+    byte.is_ascii_alphanumeric() || has(byte, b"-._~")
+}
+
+/// The value of a hex digit.
+fn hex_value(digit: u8) -> u8
+    requires { is_ascii_hexdigit digit ≡ true }
+    ensures value { result ≡ digit_value digit }
+    ensures bound { result < 16 }
+{
+    match digit {
+        b'0'..=b'9' => digit - b'0',
+        b'A'..=b'F' => digit - b'A' + 10,
+        _ => digit - b'a' + 10,
+    }
+}
+
+/// Whether one of two hex digits is a small letter, or they are those of a byte that needs no escape.
+fn are_odd_digits(high: u8, low: u8) -> bool
+    requires high { is_ascii_hexdigit high ≡ true }
+    requires low { is_ascii_hexdigit low ≡ true }
+    ensures { result ≡ are_odd_digits high low }
+{
+    high.is_ascii_lowercase()
+        || low.is_ascii_lowercase()
+        || needs_no_escape(hex_value(high) * 16 + hex_value(low))
+}
+
+/// Whether the text begins with an escape that has such digits.
+fn begins_odd_escape(text: &[u8]) -> bool
+    ensures { result ≡ begins_odd_escape text.now }
+{
+    match text {
+        [b'%', high, low, ..] if high.is_ascii_hexdigit() && low.is_ascii_hexdigit() => {
+            are_odd_digits(*high, *low)
+        }
+        _ => false,
+    }
+}
+
+/// Whether the value has such an escape.
+pub(crate) fn has_odd_escape(value: &[u8]) -> bool
+    ensures { result ≡ somewhere begins_odd_escape value.now }
+{
+    somewhere(value, begins_odd_escape)
+}
+
+/// Whether the value begins oddly, and neither as a URL nor as a text in quotes.
+pub(crate) fn has_odd_start(value: &[u8]) -> bool
+    ensures { result ≡ has_odd_start value.now }
+{
+    begins_oddly(value) && !(begins_as_url(value) || is_quoted(value))
+}
+
+/// Whether the text begins with a slash and a segment of one dot or two, which a slash or the end of URLs follows.
+fn begins_dot_segment(text: &[u8]) -> bool
+    ensures { result ≡ begins_dot_segment text.now }
+{
+    text.starts_with(b"/./")
+        || text.starts_with(b"/../")
+        || text == b"/.$".as_slice()
+        || text == b"/..$".as_slice()
+}
+
+/// Whether the value has such a segment before its first `?`.
+pub(crate) fn has_dot_segment(value: &[u8]) -> bool
+    ensures { result ≡ has_dot_segment value.now }
+{
+    somewhere(before_byte(b'?', value), begins_dot_segment)
+}

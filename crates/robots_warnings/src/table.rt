@@ -1,0 +1,204 @@
+//! Every warning, in the order of output: its name, which is shown in `[..]` and is the `name` in JSON, and its text, which says what
+//! is wrong, what happens, and what to do. `checks` has the condition of each.
+ghost use Rattle.std.specs.Prelude.{◌≡◌, ◌<◌, length};
+ghost use Rattle.robots_warnings.specs.Steps.{IsRowAt};
+ghost use Rattle.robots_warnings.specs.Table.{name_of, text_of};
+
+/// Why something is warned of. A row of [`WARNINGS`] explains each.
+#[derive(Clone, Copy, PartialEq, Eq)]
+#[rattlefmt::skip]
+pub enum Cause {
+    // the file
+    LooksLikeHtml,
+    LooksLikeUtf16,
+    NoDirectives,
+    FileTooLarge,
+    // the crawler
+    SpaceAroundAgent,
+    VersionInAgent,
+    // a URL
+    NotAUrlOrPath,
+    InvalidUrl,
+    // an ignored line
+    InvalidDelay,
+    NoindexLine,
+    NofollowLine,
+    HostLine,
+    RequestRateLine,
+    VisitTimeLine,
+    CleanParamLine,
+    ContentSignalLine,
+    ContentUsageLine,
+    RobotVersionLine,
+    CommentLine,
+    LikeUserAgent,
+    LikeAllow,
+    LikeDisallow,
+    LikeSitemap,
+    LikeCrawlDelay,
+    UnrecognizedLine,
+    // the field name of a line
+    NonstandardField,
+    MissingColon,
+    // the value of a user-agent line
+    InvalidProductToken,
+    // a rule
+    RuleNotUtf8,
+    MissingSlash,
+    UrlAsRule,
+    UnencodedCharacter,
+    QuotedRule,
+    RegexSyntax,
+    DollarNotAtEnd,
+    NonstandardEscape,
+    DotSegment,
+    // a delay
+    DelayOverADay,
+    // a sitemap
+    SitemapNotAbsolute,
+    // where a line is
+    RuleBeforeUserAgent,
+    EmptyGroup,
+    DelaySplitsGroup,
+    GroupPastSizeLimit,
+    AllowedAndDisallowed,
+}
+
+/// The warnings with their names and texts.
+#[rattlefmt::skip]
+pub static WARNINGS: [(Cause, &str, &str); 44] = [
+    // the file
+    (Cause::LooksLikeHtml, "looks-like-html",
+        "no valid line found; the file starts with < and looks like an HTML page; serve a plain-text robots.txt instead"),
+    (Cause::LooksLikeUtf16, "looks-like-utf-16",
+        "no valid line found; the file looks like UTF-16; save it as UTF-8"),
+    (Cause::NoDirectives, "no-directives",
+        "no User-agent, Allow, Disallow, Crawl-delay or Sitemap line found, so everything is allowed; write one directive per line, for example: Disallow: /search"),
+    (Cause::FileTooLarge, "file-too-large",
+        "the file is larger than 512,000 bytes (500 KiB); the rest is ignored; shorten it or move important groups to the top"),
+    // the crawler
+    (Cause::SpaceAroundAgent, "space-around-agent",
+        "AGENT has leading or trailing white space, so it matches no User-agent line; remove the spaces"),
+    (Cause::VersionInAgent, "version-in-agent",
+        "AGENT contains /; names are compared in full, so pass only the product token: FerrisBot, not FerrisBot/1.0"),
+    // a URL
+    (Cause::NotAUrlOrPath, "not-a-url-or-path",
+        "not an http(s) URL and not a path; the string is matched literally, so rules for paths don't apply; write https://host/path or /path"),
+    (Cause::InvalidUrl, "invalid-url",
+        "invalid URL; it is matched as a plain string and will usually be reported as allowed; correct the URL"),
+    // an ignored line
+    (Cause::InvalidDelay, "invalid-delay",
+        "the delay is ignored: its value isn't a number; write seconds, for example: Crawl-delay: 1.5"),
+    (Cause::NoindexLine, "noindex-line",
+        "Noindex isn't supported in robots.txt and is ignored; use a robots meta tag or an X-Robots-Tag header, and keep the page crawlable so that crawlers see it"),
+    (Cause::NofollowLine, "nofollow-line",
+        "Nofollow isn't supported in robots.txt and is ignored; use a robots meta tag or rel=\"nofollow\" on the links"),
+    (Cause::HostLine, "host-line",
+        "Host isn't supported and is ignored; redirect the other host names to the preferred one"),
+    (Cause::RequestRateLine, "request-rate-line",
+        "Request-rate isn't supported and is ignored; use Crawl-delay with the seconds between requests, for example: Crawl-delay: 10"),
+    (Cause::VisitTimeLine, "visit-time-line",
+        "Visit-time isn't supported and is ignored; use Crawl-delay, or return HTTP 429 or 503 when the server is busy"),
+    (Cause::CleanParamLine, "clean-param-line",
+        "Clean-param isn't supported and is ignored; use rel=\"canonical\", or block the parameter, for example: Disallow: /*?ref="),
+    (Cause::ContentSignalLine, "content-signal-line",
+        "Content-Signal states how content may be used and doesn't affect crawling; to block a crawler, add a Disallow rule to its group"),
+    (Cause::ContentUsageLine, "content-usage-line",
+        "Content-Usage states how content may be used and doesn't affect crawling; to block a crawler, add a Disallow rule to its group"),
+    (Cause::RobotVersionLine, "robot-version-line",
+        "Robot-version isn't supported and is ignored; delete the line"),
+    (Cause::CommentLine, "comment-line",
+        "Comment isn't a directive and is ignored; start comments with #"),
+    (Cause::LikeUserAgent, "unrecognized-line",
+        "the line is ignored; did you mean \"User-agent:\"?"),
+    (Cause::LikeAllow, "unrecognized-line",
+        "the line is ignored; did you mean \"Allow:\"?"),
+    (Cause::LikeDisallow, "unrecognized-line",
+        "the line is ignored; did you mean \"Disallow:\"?"),
+    (Cause::LikeSitemap, "unrecognized-line",
+        "the line is ignored; did you mean \"Sitemap:\"?"),
+    (Cause::LikeCrawlDelay, "unrecognized-line",
+        "the line is ignored; did you mean \"Crawl-delay:\"?"),
+    (Cause::UnrecognizedLine, "unrecognized-line",
+        "the line isn't a known directive and is ignored; write, for example, \"Disallow: /path\", or start a comment with #"),
+    // the field name of a line
+    (Cause::NonstandardField, "nonstandard-field",
+        "nonstandard spelling of the field name; accepted here, but other crawlers may ignore the line; write User-agent, Allow, Disallow, Sitemap or Crawl-delay"),
+    (Cause::MissingColon, "missing-colon",
+        "no colon after the field name; accepted here, but other crawlers may ignore the line; add the colon"),
+    // the value of a user-agent line
+    (Cause::InvalidProductToken, "invalid-product-token",
+        "not a valid product token (letters, _ and - only, or a single *); crawlers disagree on how to match it; write one name per User-agent line, without version, quotes or *"),
+    // a rule
+    (Cause::RuleNotUtf8, "rule-not-utf-8",
+        "the rule isn't valid UTF-8 and is ignored; save the file as UTF-8"),
+    (Cause::MissingSlash, "missing-slash",
+        "the rule doesn't start with / or *, so it matches no path; add a leading /"),
+    (Cause::UrlAsRule, "url-as-rule",
+        "the rule is a full URL, but rules apply to paths, so it matches none; keep only the part after the host, for example: /search"),
+    (Cause::UnencodedCharacter, "unencoded-character",
+        "the rule contains a character that URLs encode differently (^ { } \\ in a path, ' or a backquote in a query, or a tab), so it won't match them; use * in its place, or the encoded form, such as %7B for {"),
+    (Cause::QuotedRule, "quoted-rule",
+        "the quotes are treated as part of the path, so the rule won't match; remove them"),
+    (Cause::RegexSyntax, "regex-syntax",
+        "this looks like a regular expression, which robots.txt doesn't support; only * (any characters) and a final $ (end of URL) are special"),
+    (Cause::DollarNotAtEnd, "dollar-not-at-end",
+        "a $ that isn't last matches nothing here (some crawlers match it literally); use $ only at the end, or * in place of a literal $"),
+    (Cause::NonstandardEscape, "nonstandard-escape",
+        "the rule has a lowercase or unnecessary percent escape, so it matches only URLs written exactly that way; use uppercase (%C3), and don't encode letters, digits, - . _ ~"),
+    (Cause::DotSegment, "dot-segment",
+        "the rule contains a . or .. path segment; parsed URLs never do, so it matches none of them; write the resolved path"),
+    // a delay
+    (Cause::DelayOverADay, "delay-over-a-day",
+        "the delay is longer than a day; the value is in seconds between requests, for example: Crawl-delay: 10"),
+    // a sitemap
+    (Cause::SitemapNotAbsolute, "sitemap-not-absolute",
+        "the sitemap must be an absolute URL; write, for example, https://example.com/sitemap.xml"),
+    // where a line is
+    (Cause::RuleBeforeUserAgent, "rule-before-user-agent",
+        "the rule comes before the first User-agent line, so it belongs to no group and is ignored; move it below the User-agent line it is meant for"),
+    (Cause::EmptyGroup, "empty-group",
+        "no rules follow this User-agent line; a crawler with no other group may fetch everything, whatever the rules for * say; add rules or delete the line"),
+    (Cause::DelaySplitsGroup, "delay-splits-group",
+        "the Crawl-delay above this line ends the previous group, so that group doesn't get the rules below; move the Crawl-delay below all its User-agent lines (some crawlers ignore it)"),
+    (Cause::GroupPastSizeLimit, "group-past-size-limit",
+        "this crawler is named only after the first 512,000 bytes, so its group is ignored; move the group up or shorten the file"),
+    (Cause::AllowedAndDisallowed, "allowed-and-disallowed",
+        "the same crawler has an Allow with this path, so this Disallow has no effect; delete one of them"),
+];
+
+/// The row with this number.
+fn row_at(
+    rows: &'static [(Cause, &'static str, &'static str)],
+    number: usize,
+) -> &'static (Cause, &'static str, &'static str)
+    requires { number < length rows.now }
+    ensures { IsRowAt rows.now number result.now }
+{
+    &rows[number]
+}
+
+impl Cause {
+    /// Its row.
+    fn row(self) -> &'static (Cause, &'static str, &'static str)
+        ensures own { result.now.0 ≡ self }
+        ensures name { result.now.1.now ≡ name_of self }
+        ensures text { result.now.2.now ≡ text_of self }
+    {
+        row_at(&WARNINGS, self as usize)
+    }
+
+    /// Its name.
+    pub fn name(self) -> &'static str
+        ensures { result.now ≡ name_of self }
+    {
+        self.row().1
+    }
+
+    /// Its text.
+    pub fn text(self) -> &'static str
+        ensures { result.now ≡ text_of self }
+    {
+        self.row().2
+    }
+}

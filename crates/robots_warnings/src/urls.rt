@@ -1,0 +1,63 @@
+//! What is a URL of a site, and what is a path.
+ghost use Rattle.std.specs.Prelude.{◌≡◌, ◌&&◌, IfOk, not};
+ghost use Rattle.robots_warnings.specs.Urls.{begins_as_url, begins_in_any_case, is_absolute_url, is_invalid_url};
+ghost use Rattle.robots_warnings.specs.Urls.{is_unparsable, is_url_or_path};
+
+use std::alloc::{AllocError, Global};
+use url::{ParseError, Url};
+
+/// Whether the text begins with the other, ASCII letters in any case.
+fn begins_in_any_case(front: &[u8], text: &[u8]) -> bool
+    ensures { result ≡ begins_in_any_case front.now text.now }
+{
+    text[..front.len().min(text.len())].eq_ignore_ascii_case(front)
+}
+
+/// Whether the text begins as a URL of a site does.
+pub(crate) fn begins_as_url(text: &[u8]) -> bool
+    ensures { result ≡ begins_as_url text.now }
+{
+    begins_in_any_case(b"http://", text) || begins_in_any_case(b"https://", text)
+}
+
+/// Whether the text begins as a URL of a site or as a path does.
+pub(crate) fn is_url_or_path(text: &str) -> bool
+    ensures { result ≡ is_url_or_path text.now }
+{
+    text.starts_with("/") || begins_as_url(text.as_bytes())
+}
+
+/// Whether `url` can't parse the text.
+fn is_unparsable(alloc: Global, text: &str) -> Result<bool, AllocError>
+    ensures { IfOk result (λ answer. answer ≡ is_unparsable text.now) }
+{
+    match Url::parse(alloc, text) {
+        Ok(_) => Ok(false),
+        Err(ParseError::OutOfMemory | ParseError::Overflow) => Err(AllocError),
+        Err(_) => Ok(true),
+    }
+}
+
+/// Whether the text begins as a URL of a site does, and can't be parsed.
+pub(crate) fn is_invalid_url(alloc: Global, text: &str) -> Result<bool, AllocError>
+    ensures { IfOk result (λ answer. answer ≡ is_invalid_url text.now) }
+{
+    Ok(begins_as_url(text.as_bytes()) && is_unparsable(alloc, text)?)
+}
+
+/// Whether the text begins as a URL of a site does, and can be parsed.
+fn is_parsable_url(alloc: Global, text: &str) -> Result<bool, AllocError>
+    ensures { IfOk result (λ answer. answer ≡ (begins_as_url text.now && not (is_unparsable text.now))) }
+{
+    Ok(begins_as_url(text.as_bytes()) && !is_unparsable(alloc, text)?)
+}
+
+/// Whether the value is the URL of a site.
+pub(crate) fn is_absolute_url(alloc: Global, value: &[u8]) -> Result<bool, AllocError>
+    ensures { IfOk result (λ answer. answer ≡ is_absolute_url value.now) }
+{
+    match std::str::from_utf8(value) {
+        Ok(text) => is_parsable_url(alloc, text),
+        Err(_) => Ok(false),
+    }
+}
