@@ -32,12 +32,12 @@ use Rattle.robots_audit.specs.Json.{number_json, shown_json, standing_word, valu
 use Rattle.robots_audit.specs.Json.{warning_json}
 use Rattle.robots_warnings.specs.File.{is_blank, lines_of}
 use Rattle.robots_audit.specs.Rows.{kind_text}
-use Rattle.robots_warnings.specs.Shown.{IsPlain, is_plain, is_plain_byte}
+use Rattle.robots_io.specs.Shown.{IsPlain, is_plain, is_plain_byte}
 use Rattle.robots_warnings.specs.Warnings.{WarningValue}
 use Rattle.robots_warnings.proofs.PlainLemmas.{names_plain, text_plain}
-use Rattle.robots_warnings.proofs.ShownLemmas.{append_plain, ascii_plain, char_plain, decimal_plain}
-use Rattle.robots_warnings.proofs.ShownLemmas.{nil_plain}
-use Rattle.robots_warnings.proofs.ShownLemmas.{shown_plain}
+use Rattle.robots_io.proofs.ShownLemmas.{append_plain, ascii_plain, char_plain, decimal_plain}
+use Rattle.robots_io.proofs.ShownLemmas.{nil_plain}
+use Rattle.robots_io.proofs.ShownLemmas.{shown_plain}
 
 -- ---- sitemaps
 

@@ -22,12 +22,12 @@ use Rattle.robots_audit.specs.Report.{warning_lines}
 use Rattle.robots_warnings.specs.File.{space}
 use Rattle.robots_audit.specs.Rows.{has_value, kind_text, mark_text, right_aligned, row, rows}
 use Rattle.robots_audit.specs.Rows.{value_text, word_and_value, word_width}
-use Rattle.robots_warnings.specs.Shown.{IsPlain}
+use Rattle.robots_io.specs.Shown.{IsPlain}
 use Rattle.robots_warnings.specs.Warnings.{WarningValue, warning_line}
 use Rattle.robots_audit.proofs.JsonLemmas.{json_plain, kind_plain}
 use Rattle.robots_warnings.proofs.PlainLemmas.{line_plain}
-use Rattle.robots_warnings.proofs.ShownLemmas.{append_plain, ascii_plain, blanks_plain, decimal_plain}
-use Rattle.robots_warnings.proofs.ShownLemmas.{ended_plain, nil_plain, shown_plain}
+use Rattle.robots_io.proofs.ShownLemmas.{append_plain, ascii_plain, blanks_plain, decimal_plain}
+use Rattle.robots_io.proofs.ShownLemmas.{ended_plain, nil_plain, shown_plain}
 
 -- ---- lists and cases
 

@@ -14,7 +14,7 @@ use Rattle.robots_audit.specs.Audit.{Asked, AuditValue, IsAuditOf, agents_asked,
 use Rattle.robots_audit.specs.Fault.{MayFail}
 use Rattle.robots_audit.specs.Json.{json_text}
 use Rattle.robots_audit.specs.Report.{report_lines, warning_lines}
-use Rattle.robots_warnings.specs.Shown.{shown, shown_lines}
+use Rattle.robots_io.specs.Shown.{shown, shown_lines}
 
 -- the bytes that a reader has left, and those that a writer held before and holds after; `None` where an end
 -- doesn't tell its bytes

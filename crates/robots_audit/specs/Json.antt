@@ -14,7 +14,7 @@ use Rattle.robots_audit.specs.declared.group.Group.TheVariants.{Everyone, Named,
 use Rattle.robots_audit.specs.Audit.{AgentValue, AuditValue, VerdictValue}
 use Rattle.robots_warnings.specs.File.{lines_of}
 use Rattle.robots_audit.specs.Rows.{has_value, kind_text, value_text}
-use Rattle.robots_warnings.specs.Shown.{shown}
+use Rattle.robots_io.specs.Shown.{shown}
 use Rattle.robots_warnings.specs.Table.{name_of}
 use Rattle.robots_warnings.specs.Warnings.{WarningValue, warning_text}
 

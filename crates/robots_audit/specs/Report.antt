@@ -7,7 +7,7 @@ use Rattle.robots_audit.specs.declared.group.Group.TheVariants.{Everyone, Named,
 use Rattle.robots_audit.specs.Audit.{AgentValue, AuditValue, VerdictValue}
 use Rattle.robots_audit.specs.Delay.{delay_line}
 use Rattle.robots_audit.specs.Rows.{rows}
-use Rattle.robots_warnings.specs.Shown.{shown}
+use Rattle.robots_io.specs.Shown.{shown}
 use Rattle.robots_warnings.specs.Warnings.{WarningValue, warning_line}
 
 -- neither the crawler nor `*` has a group

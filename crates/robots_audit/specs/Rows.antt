@@ -7,7 +7,7 @@ use Rattle.texting_robots.specs.Callers.{UserAgent}
 use Rattle.texting_robots.specs.declared.marks.Standing.{Standing}
 use Rattle.robots_warnings.specs.File.{is_blank, space}
 use Rattle.robots_audit.specs.Delay.{delay_text}
-use Rattle.robots_warnings.specs.Shown.{shown}
+use Rattle.robots_io.specs.Shown.{shown}
 use Rattle.texting_robots.specs.declared.marks.Standing.TheVariants.{Other, Outside, Own}
 
 -- ---- columns

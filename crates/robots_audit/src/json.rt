@@ -11,7 +11,7 @@ use crate::agents::as_text;
 use crate::audit::{AgentAudit, Audit, Verdict};
 use crate::group::Group;
 use crate::rows::{has_value, kind_text, push_value};
-use robots_warnings::shown::push_shown;
+use robots_io::shown::push_shown;
 use robots_warnings::warning::{Warning, push_warning_text};
 use serde_json::{Value, json};
 use std::alloc::{AllocError, Global};

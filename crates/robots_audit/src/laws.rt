@@ -3,7 +3,7 @@ ghost use Rattle.std.specs.Prelude.{◌≡◌, ℕ, Contains, List};
 ghost use Rattle.texting_robots.specs.Callers.{IsRefused, lines_read};
 ghost use Rattle.robots_audit.specs.Answer.{output, said};
 ghost use Rattle.robots_audit.specs.Audit.{Asked, AuditValue, IsAuditOf, agents_asked};
-ghost use Rattle.robots_warnings.specs.Shown.{IsPlain};
+ghost use Rattle.robots_io.specs.Shown.{IsPlain};
 
 /// A file has one audit at most, so one report.
 pub fn each_file_has_one_audit()

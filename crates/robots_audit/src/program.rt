@@ -9,7 +9,7 @@ use crate::fault::{Fault, Outcome};
 use crate::json::json_text;
 use crate::report::{report_text, warning_lines};
 use robots_io::ends::{read_all, write_out};
-use robots_warnings::shown::{push_shown, push_shown_lines};
+use robots_io::shown::{push_shown, push_shown_lines};
 use robots_warnings::warning::Warning;
 use std::alloc::{AllocError, Global};
 use std::io::{Read, Write};

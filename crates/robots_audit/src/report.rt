@@ -2,7 +2,7 @@
 ghost use Rattle.std.specs.Prelude.{◌≡◌, ◌++◌, ◌∷◌, [], IfOk, OnOk, flat_map, map, string_bytes};
 ghost use Rattle.robots_io.specs.Lines.{ended};
 ghost use Rattle.robots_audit.specs.Report.{agent_lines, group_line, group_text, nobody_text, report_lines, said_line, verdict_line, warning_lines};
-ghost use Rattle.robots_warnings.specs.Shown.{shown};
+ghost use Rattle.robots_io.specs.Shown.{shown};
 ghost use Rattle.robots_warnings.specs.Steps.{warning_value};
 ghost use Rattle.robots_audit.specs.Steps.{agent_value, audit_value, verdict_value};
 
@@ -12,7 +12,7 @@ use crate::group::Group;
 use crate::rows::push_rows;
 use robots_io::lines::push_line;
 use robots_io::verdicts::push_decision;
-use robots_warnings::shown::push_shown;
+use robots_io::shown::push_shown;
 use robots_warnings::warning::{Warning, push_warning};
 use std::alloc::{AllocError, Global};
 

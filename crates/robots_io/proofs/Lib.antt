@@ -1,3 +1,4 @@
 pub mod EndsLemmas
 pub mod LinesLemmas
+pub mod ShownLemmas
 pub mod VerdictsLemmas

@@ -1,8 +1,9 @@
-//! What the programs over `texting_robots` share: reading all of an input, writing all of a report, and the lines that
-//! their reports have in common.
+//! What the programs over `texting_robots` share: reading all of an input, writing all of a report, the lines that their reports have
+//! in common, and untrusted text as it is shown.
 #![tactic(auto)]
 
 pub mod ends;
 pub mod fakes;
 pub mod lines;
+pub mod shown;
 pub mod verdicts;

@@ -7,5 +7,4 @@ pub mod NamesBeyondLemmas
 pub mod PositionLemmas
 pub mod PlainLemmas
 pub mod RuleLemmas
-pub mod ShownLemmas
 pub mod TableLemmas

@@ -5,11 +5,11 @@ use Rattle.std.specs.Prelude.{slice_index_or}
 use Rattle.robots_warnings.specs.declared.table.Cause.{Cause}
 use Rattle.robots_warnings.specs.declared.table.TheConstants.{WARNINGS}
 use Rattle.robots_warnings.specs.Table.{name_of, number_of, text_of}
-use Rattle.robots_warnings.specs.Shown.{IsPlain, is_plain_byte}
+use Rattle.robots_io.specs.Shown.{IsPlain, is_plain_byte}
 use Rattle.robots_warnings.specs.Warnings.{WarningValue, about_text, name_text, place_text, warning_line}
 use Rattle.robots_warnings.specs.Warnings.{warning_text}
-use Rattle.robots_warnings.proofs.ShownLemmas.{append_plain, ascii_plain, decimal_plain, nil_plain}
-use Rattle.robots_warnings.proofs.ShownLemmas.{shown_plain}
+use Rattle.robots_io.proofs.ShownLemmas.{append_plain, ascii_plain, decimal_plain, nil_plain}
+use Rattle.robots_io.proofs.ShownLemmas.{shown_plain}
 
 -- ---- the table
 

@@ -1,5 +1,4 @@
 pub mod File
-pub mod Shown
 pub mod Table
 pub mod Facts
 pub mod Tokens

@@ -15,7 +15,7 @@ use Rattle.robots_warnings.specs.Facts.{facts_of, hides_lines}
 use Rattle.robots_warnings.specs.NamesBeyond.{names_beyond}
 use Rattle.robots_warnings.specs.Positions.{last_group, passed_with}
 use Rattle.robots_warnings.specs.Scopes.{scoped_rules}
-use Rattle.robots_warnings.specs.Shown.{shown}
+use Rattle.robots_io.specs.Shown.{shown}
 use Rattle.robots_warnings.specs.Table.{name_of, text_of}
 
 -- a warning: the number of its line, where it has one; why; and the URL, where it is about one

@@ -12,7 +12,6 @@ mod names_beyond;
 pub mod positions;
 pub mod rules;
 mod scopes;
-pub mod shown;
 pub mod table;
 pub mod tokens;
 pub mod urls;

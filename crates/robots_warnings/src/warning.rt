@@ -3,7 +3,7 @@ ghost use Rattle.std.specs.Prelude.{◌≡◌, ◌++◌, OnOk, option_map, strin
 ghost use Rattle.robots_warnings.specs.Steps.{warning_value};
 ghost use Rattle.robots_warnings.specs.Warnings.{about_text, name_text, place_text, warning_line, warning_text};
 
-use crate::shown::push_shown;
+use robots_io::shown::push_shown;
 use crate::table::Cause;
 use robots_io::lines::push_number;
 use std::alloc::AllocError;

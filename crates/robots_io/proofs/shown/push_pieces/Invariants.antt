@@ -1,6 +1,6 @@
 use Rattle.std.proofs.Common.{◌≡◌, ◌++◌, length, string_bytes}
-use Rattle.robots_warnings.specs.Shown.{shown_in}
-use Rattle.robots_warnings.proofs.shown.push_pieces.Given as goal
+use Rattle.robots_io.specs.Shown.{shown_in}
+use Rattle.robots_io.proofs.shown.push_pieces.Given as goal
 
 -- what was added and what the rest is shown as are the whole
 abbrev pub invariant-loop-rest : goal.invariant-loop-rest

@@ -1,8 +1,8 @@
 use Rattle.std.proofs.Common.{◌≡◌, ◌<◌, arith, length}
 use Rattle.std.proofs.lemmas.Bool.Decides.{nat_tests}
 use Rattle.bstr.proofs.lemmas.PieceLemmas.{piece-bounds, size-within}
-use Rattle.robots_warnings.proofs.ShownLemmas.{all_added, piece_added}
-use Rattle.robots_warnings.proofs.shown.push_pieces.Goals as goal
+use Rattle.robots_io.proofs.ShownLemmas.{all_added, piece_added}
+use Rattle.robots_io.proofs.shown.push_pieces.Goals as goal
 
 pub split_at-requires : goal.split_at-requires
 split_at-requires c = omega (arith, size-within c.loop-rest.rest.now)

@@ -1,6 +1,6 @@
 use Rattle.std.proofs.Common.{rules, sym, ◌∙◌}
-use Rattle.robots_warnings.proofs.ShownLemmas.{ascii_plain, plain_kept}
-use Rattle.robots_warnings.proofs.shown.push_shown_in.Goals as goal
+use Rattle.robots_io.proofs.ShownLemmas.{ascii_plain, plain_kept}
+use Rattle.robots_io.proofs.shown.push_shown_in.Goals as goal
 
 pub returns : goal.returns
 returns c =

@@ -22,8 +22,8 @@ use Rattle.bstr.proofs.lemmas.PieceLemmas.{pieces-nil, pieces-step}
 use Rattle.bstr.proofs.lemmas.SoundLemmas.{SpellsChar-decoded}
 use Rattle.texting_robots.specs.Escape.{escape_byte, is_escaped}
 use Rattle.robots_io.specs.Lines.{ended, lf}
-use Rattle.robots_warnings.specs.Shown.{IsPlain, IsPlainIn, is_plain, is_plain_byte, shown, shown_in}
-use Rattle.robots_warnings.specs.Shown.{shown_lines, shown_piece, shown_pieces}
+use Rattle.robots_io.specs.Shown.{IsPlain, IsPlainIn, is_plain, is_plain_byte, shown, shown_in}
+use Rattle.robots_io.specs.Shown.{shown_lines, shown_piece, shown_pieces}
 use lib.Utf8.{scalar}
 
 module _ (has_lines : Bool) where

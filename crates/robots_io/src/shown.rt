@@ -1,7 +1,7 @@
 //! Texts of others as they are shown.
 ghost use Rattle.std.specs.Prelude.{◌≡◌, ◌++◌, OnOk, string_bytes};
 ghost use Rattle.std.specs.List.{list_all};
-ghost use Rattle.robots_warnings.specs.Shown.{is_plain, is_plain_byte, shown, shown_in, shown_lines, shown_piece, turns_text};
+ghost use Rattle.robots_io.specs.Shown.{is_plain, is_plain_byte, shown, shown_in, shown_lines, shown_piece, turns_text};
 
 use bstr::decode_utf8;
 use std::alloc::AllocError;
