@@ -1,7 +1,6 @@
 pub mod BothWaysLemmas
 pub mod FactLemmas
 pub mod FileLemmas
-pub mod FieldNameLemmas
 pub mod NameLemmas
 pub mod NamesBeyondLemmas
 pub mod PositionLemmas

@@ -4,7 +4,6 @@ use Rattle.std.specs.Prelude.{nat_lt, not}
 use Rattle.std.specs.Str.{is_utf8}
 use Rattle.texting_robots.specs.Callers.{Allow, CrawlDelay, Disallow, LineValue, Mark, Raw, Sitemap}
 use Rattle.texting_robots.specs.Callers.{UserAgent}
-use Rattle.robots_warnings.specs.declared.checks.Check.{Check}
 use Rattle.robots_warnings.specs.declared.facts.FileFacts.{FileFacts}
 use Rattle.robots_warnings.specs.declared.positions.Passed.{Passed}
 use Rattle.robots_warnings.specs.declared.table.Cause.{Cause}
@@ -17,59 +16,59 @@ use Rattle.robots_warnings.specs.Rules.{holds_otherwise, is_expression, is_quote
 use Rattle.robots_warnings.specs.Tokens.{has_slash, has_space_around, is_product_token}
 use Rattle.robots_warnings.specs.Urls.{begins_as_url, is_absolute_url, is_invalid_url, is_url_or_path}
 
--- a warning that is given if this holds
-abbrev pub warn_if : Cause → Bool → Check
-warn_if cause holds = record { cause = cause; holds = holds }
+-- a warning, and whether it is given
+abbrev pub Check : Type 0
+Check = Cause × Bool
 
 abbrev pub file_checks : FileFacts → List Check
 file_checks facts =
-    warn_if cause.LooksLikeHtml facts.is_html
-    ∷ warn_if cause.LooksLikeUtf16 facts.is_utf_16
-    ∷ warn_if cause.NoDirectives facts.is_other_text
-    ∷ warn_if cause.FileTooLarge facts.is_too_large
+    (cause.LooksLikeHtml, facts.is_html)
+    ∷ (cause.LooksLikeUtf16, facts.is_utf_16)
+    ∷ (cause.NoDirectives, facts.is_other_text)
+    ∷ (cause.FileTooLarge, facts.is_too_large)
     ∷ []
 
 -- the crawler that is asked about
 abbrev pub agent_checks : List ℕ → List Check
 agent_checks agent =
-    warn_if cause.SpaceAroundAgent (has_space_around agent)
-    ∷ warn_if cause.VersionInAgent (has_slash agent)
+    (cause.SpaceAroundAgent, has_space_around agent)
+    ∷ (cause.VersionInAgent, has_slash agent)
     ∷ []
 
 -- a URL that is asked about
 abbrev pub url_checks : List ℕ → List Check
 url_checks url =
-    warn_if cause.NotAUrlOrPath (not (is_url_or_path url))
-    ∷ warn_if cause.InvalidUrl (is_invalid_url url)
+    (cause.NotAUrlOrPath, not (is_url_or_path url))
+    ∷ (cause.InvalidUrl, is_invalid_url url)
     ∷ []
 
 -- a line with this body that is neither a directive nor empty nor a comment
 abbrev pub ignored_checks : List ℕ → List Check
-ignored_checks body = warn_if (meant_by body) true ∷ []
+ignored_checks body = (meant_by body, true) ∷ []
 
 -- the field name of a directive with this body
 abbrev pub field_checks : List ℕ → List Check
 field_checks body =
-    warn_if cause.NonstandardField (is_misspelled body)
-    ∷ warn_if cause.MissingColon (is_without_colon body)
+    (cause.NonstandardField, is_misspelled body)
+    ∷ (cause.MissingColon, is_without_colon body)
     ∷ []
 
 -- the value of a user-agent line
 abbrev pub user_agent_checks : List ℕ → List Check
-user_agent_checks value = warn_if cause.InvalidProductToken (not (is_product_token value)) ∷ []
+user_agent_checks value = (cause.InvalidProductToken, not (is_product_token value)) ∷ []
 
 -- the value of an Allow or a Disallow
 abbrev pub rule_checks : List ℕ → List Check
 rule_checks value =
-    warn_if cause.RuleNotUtf8 (not (is_utf8 value))
-    ∷ warn_if cause.MissingSlash (has_odd_start value)
-    ∷ warn_if cause.UrlAsRule (begins_as_url value)
-    ∷ warn_if cause.UnencodedCharacter (holds_otherwise false value)
-    ∷ warn_if cause.QuotedRule (is_quoted value)
-    ∷ warn_if cause.RegexSyntax (is_expression value)
-    ∷ warn_if cause.DollarNotAtEnd (has_dollar_inside value)
-    ∷ warn_if cause.NonstandardEscape (somewhere begins_odd_escape value)
-    ∷ warn_if cause.DotSegment (has_dot_segment value)
+    (cause.RuleNotUtf8, not (is_utf8 value))
+    ∷ (cause.MissingSlash, has_odd_start value)
+    ∷ (cause.UrlAsRule, begins_as_url value)
+    ∷ (cause.UnencodedCharacter, holds_otherwise false value)
+    ∷ (cause.QuotedRule, is_quoted value)
+    ∷ (cause.RegexSyntax, is_expression value)
+    ∷ (cause.DollarNotAtEnd, has_dollar_inside value)
+    ∷ (cause.NonstandardEscape, somewhere begins_odd_escape value)
+    ∷ (cause.DotSegment, has_dot_segment value)
     ∷ []
 
 -- a day, in microseconds
@@ -78,18 +77,18 @@ day = 86400000000
 
 -- a delay, in microseconds
 abbrev pub delay_checks : ℕ → List Check
-delay_checks micros = warn_if cause.DelayOverADay (nat_lt day micros) ∷ []
+delay_checks micros = (cause.DelayOverADay, nat_lt day micros) ∷ []
 
 -- the value of a sitemap line
 abbrev pub sitemap_checks : List ℕ → List Check
-sitemap_checks value = warn_if cause.SitemapNotAbsolute (not (is_absolute_url value)) ∷ []
+sitemap_checks value = (cause.SitemapNotAbsolute, not (is_absolute_url value)) ∷ []
 
 -- a line, by the number of the last rule or delay and by what is above the line
 abbrev pub position_checks : Option ℕ → Passed → Mark → List Check
 position_checks last passed mark =
-    warn_if cause.RuleBeforeUserAgent (is_above_agents mark)
-    ∷ warn_if cause.EmptyGroup (is_empty_group last mark)
-    ∷ warn_if cause.DelaySplitsGroup (is_split passed mark)
+    (cause.RuleBeforeUserAgent, is_above_agents mark)
+    ∷ (cause.EmptyGroup, is_empty_group last mark)
+    ∷ (cause.DelaySplitsGroup, is_split passed mark)
     ∷ []
 
 -- ---- a line

@@ -10,14 +10,12 @@ use Rattle.texting_robots.specs.Statement.{spellings}
 use Rattle.texting_robots.specs.declared.parser.statement.Kind.{Kind}
 use Rattle.texting_robots.specs.declared.parser.statement.Kind.TheVariants as kind
 use Rattle.robots_warnings.specs.File.{space, tab}
-use Rattle.robots_warnings.specs.declared.field_names.TheConstants.{DIRECTIVES, UNSUPPORTED}
+use Rattle.robots_warnings.specs.Rules.{before_byte}
+use Rattle.robots_warnings.specs.declared.field_names.TheConstants.{DIRECTIVES, KINDS, UNSUPPORTED}
 use Rattle.robots_warnings.specs.declared.table.Cause.{Cause}
 use Rattle.robots_warnings.specs.declared.table.Cause.TheVariants.{InvalidDelay, UnrecognizedLine}
 
 -- ---- the words of a body
-
-abbrev pub is_colon : ℕ → Bool
-is_colon b = b == byte ":"
 
 abbrev pub is_space_or_tab : ℕ → Bool
 is_space_or_tab b = b == space || b == tab
@@ -33,15 +31,11 @@ without_end text = reverse (without_front (reverse text))
 
 -- what is before the first colon, or all where there is none, without the spaces and tabs around it
 abbrev pub name_in : List ℕ → List ℕ
-name_in body = without_end (without_front (before_first is_colon body))
+name_in body = without_end (without_front (before_byte (byte ":") body))
 
 -- what is between the spaces and tabs at the start and the next
 abbrev pub first_word : List ℕ → List ℕ
 first_word body = before_first is_space_or_tab (without_front body)
-
--- in which a field name is looked for
-abbrev pub words_of : List ℕ → List (List ℕ)
-words_of body = name_in body ∷ first_word body ∷ []
 
 -- ---- names
 
@@ -50,7 +44,7 @@ abbrev pub is_name : List ℕ → List ℕ → Bool
 is_name name word = bytes_eq (str_to_ascii_lowercase word) (str_to_ascii_lowercase name)
 
 -- the word begins with the name, ASCII letters in any case
-abbrev pub begins_with : List ℕ → List ℕ → Bool
+unfoldable pub begins_with : List ℕ → List ℕ → Bool
 begins_with name word = is_name name (take (length name) word)
 
 -- the word is one of the accepted names of this kind of directive
@@ -70,43 +64,58 @@ is_near name word =
 abbrev pub may_mean : List ℕ → List ℕ → Bool
 may_mean name word = begins_with name word || is_near name word
 
--- ---- what a line that is ignored may be
+-- ---- what a line that is ignored may be, by its name and its first word
 
--- the warning beside the first of these names that the test finds in some word
-abbrev pub meant_in : (List ℕ → List ℕ → Bool) → List (List ℕ × Cause) → List (List ℕ) → Option Cause
-meant_in means names words =
-    option_map (λ (row : List ℕ × Cause). row.1)
-    (find (λ (row : List ℕ × Cause). list_any (means row.0) words) names)
+-- a name with its warning
+abbrev pub Row : Type 0
+Row = List ℕ × Cause
 
--- the usual names of directives, and those that other crawlers know, each with its warning
-abbrev pub directives : List (List ℕ × Cause)
+-- the usual names of directives, and those that other crawlers know
+abbrev pub directives : List Row
 directives = map (λ row. (row.0.now, row.1)) DIRECTIVES
 
-abbrev pub unsupported : List (List ℕ × Cause)
+abbrev pub unsupported : List Row
 unsupported = map (λ row. (row.0.now, row.1)) UNSUPPORTED
 
--- the warning of a line with these words: of a delay, of a name that other crawlers know, or of a directive
-abbrev pub meant_among : List (List ℕ) → Cause
-meant_among words =
-    if list_any (is_accepted kind.CrawlDelay) words then InvalidDelay
-    else unwrap_or (option_or (meant_in is_name unsupported words) (meant_in may_mean directives words))
-    UnrecognizedLine
+-- the warning of the first of these names that passes a test
+abbrev pub first_that : (List ℕ → Bool) → List Row → Option Cause
+first_that test rows = option_map (λ (row : Row). row.1) (find (λ (row : Row). test row.0) rows)
+
+-- one of the two words is the name, or may mean it
+unfoldable pub is_either : List ℕ → List ℕ → List ℕ → Bool
+is_either name word known = is_name known name || is_name known word
+
+unfoldable pub may_either_mean : List ℕ → List ℕ → List ℕ → Bool
+may_either_mean name word known = may_mean known name || may_mean known word
+
+-- a name that other crawlers know
+abbrev pub unsupported_in : List ℕ → List ℕ → Option Cause
+unsupported_in name word = first_that (is_either name word) unsupported
+
+-- the usual name of a directive
+abbrev pub directive_in : List ℕ → List ℕ → Option Cause
+directive_in name word = first_that (may_either_mean name word) directives
+
+-- the warning of a delay, of a name that other crawlers know, or of a directive
+abbrev pub meant_among : List ℕ → List ℕ → Cause
+meant_among name word =
+    if is_accepted kind.CrawlDelay name || is_accepted kind.CrawlDelay word then InvalidDelay
+    else unwrap_or (option_or (unsupported_in name word) (directive_in name word)) UnrecognizedLine
 
 -- the warning of a line with this body
 abbrev pub meant_by : List ℕ → Cause
-meant_by body = meant_among (words_of body)
+meant_by body = meant_among (name_in body) (first_word body)
 
 -- ---- what is unusual in a directive
 
 -- it begins with none of the usual names
 abbrev pub is_misspelled : List ℕ → Bool
-is_misspelled body =
-    not (list_any (λ (row : List ℕ × Cause). begins_with row.0 (without_front body)) directives)
+is_misspelled body = not (list_any (λ row. begins_with row.0.now (without_front body)) DIRECTIVES)
 
-abbrev pub kinds : List Kind
-kinds = kind.UserAgent ∷ kind.Allow ∷ kind.Disallow ∷ kind.Sitemap ∷ kind.CrawlDelay ∷ []
+-- the word is an accepted name of a directive
+abbrev pub is_any_accepted : List ℕ → Bool
+is_any_accepted word = list_any (λ kind. is_accepted kind word) KINDS
 
 -- no colon is after the field name
 abbrev pub is_without_colon : List ℕ → Bool
-is_without_colon body =
-    not (list_any is_colon body && list_any (λ kind. is_accepted kind (name_in body)) kinds)
+is_without_colon body = not (list_any (λ b. b == byte ":") body && is_any_accepted (name_in body))

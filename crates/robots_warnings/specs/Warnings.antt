@@ -1,17 +1,17 @@
 -- What is warned of: what is valid but probably isn't what the owner meant.
 use Rattle.std.specs.Prelude.{ℕ, Bool, true, false, List, [], ◌∷◌, ◌++◌, Option, Some, None}
-use Rattle.std.specs.Prelude.{codes, decimal, flat_map, if◌then◌else◌, map}
-use Rattle.texting_robots.specs.Callers.{Mark, is_own}
+use Rattle.std.specs.Prelude.{codes, decimal, flat_map, if◌then◌else◌, map, not, ◌||◌}
+use Rattle.texting_robots.specs.Callers.{Mark, bodies_read, is_own}
 use Rattle.texting_robots.specs.declared.marks.Standing.{Standing}
-use Rattle.robots_warnings.specs.declared.checks.Check.{Check}
 use Rattle.robots_warnings.specs.declared.facts.FileFacts.{FileFacts}
 use Rattle.robots_warnings.specs.declared.positions.Passed.{Passed}
 use Rattle.robots_warnings.specs.declared.positions.Passed.TheVariants.{Other}
 use Rattle.robots_warnings.specs.declared.table.Cause.{Cause}
 use Rattle.robots_warnings.specs.declared.table.Cause.TheVariants.{AllowedAndDisallowed, GroupPastSizeLimit}
 use Rattle.robots_warnings.specs.BothWays.{both_ways}
-use Rattle.robots_warnings.specs.Checks.{agent_checks, file_checks, line_checks, position_checks, url_checks}
-use Rattle.robots_warnings.specs.Facts.{facts_of, hides_lines}
+use Rattle.robots_warnings.specs.Checks.{Check, agent_checks, file_checks, line_checks, position_checks, url_checks}
+use Rattle.robots_warnings.specs.Facts.{hides_lines}
+use Rattle.robots_warnings.specs.File.{lines_of}
 use Rattle.robots_warnings.specs.NamesBeyond.{names_beyond}
 use Rattle.robots_warnings.specs.Positions.{last_group, passed_with}
 use Rattle.robots_warnings.specs.Scopes.{scoped_rules}
@@ -51,7 +51,7 @@ warning_line warning = place_text warning.line ++ (warning_text warning ++ name_
 -- the warning, if its condition holds
 abbrev pub warning_of : Option ℕ → Option (List ℕ) → Check → List WarningValue
 warning_of line about check =
-    if check.holds then record { line = line; cause = check.cause; about = about } ∷ [] else []
+    if check.1 then record { line = line; cause = check.0; about = about } ∷ [] else []
 
 -- those whose conditions hold
 abbrev pub warned : Option ℕ → Option (List ℕ) → List Check → List WarningValue
@@ -103,9 +103,10 @@ abbrev pub position_warnings : List Mark → List WarningValue
 position_warnings marks = positions_from (last_group marks) Other marks
 
 -- of names past the size limit, unless the file seems to be something else
-abbrev pub past_limit_warnings : FileFacts → List ℕ → List WarningValue
-past_limit_warnings facts file =
-    if hides_lines facts then [] else warned_at GroupPastSizeLimit (names_beyond file)
+abbrev pub past_limit_warnings : FileFacts → List ℕ → List Mark → List WarningValue
+past_limit_warnings facts file marks =
+    if not facts.is_too_large || hides_lines facts then []
+    else warned_at GroupPastSizeLimit (names_beyond (lines_of marks) file)
 
 -- of rules that are allowed and disallowed at once
 abbrev pub both_ways_warnings : Bool → List Mark → List WarningValue
@@ -125,12 +126,10 @@ general_warnings facts agent urls =
     warned None None (file_checks facts) ++ (agent_warnings agent ++ flat_map url_warnings urls)
 
 -- of the file, the crawler, the URLs, each line by itself, and where lines are
-abbrev pub warnings : Option (List ℕ) → List (List ℕ) → List ℕ → List Mark → List (List ℕ)
-    → List WarningValue
-warnings agent urls file marks bodies =
-    let facts = facts_of file marks in
+abbrev pub warnings : Option (List ℕ) → List (List ℕ) → List ℕ → FileFacts → List Mark → List WarningValue
+warnings agent urls file facts marks =
     let everywhere = is_everywhere agent in
     general_warnings facts agent urls
-    ++ (file_lines_warnings facts everywhere marks bodies
+    ++ (file_lines_warnings facts everywhere marks (bodies_read file)
     ++ (position_warnings marks
-    ++ (past_limit_warnings facts file ++ both_ways_warnings everywhere marks)))
+    ++ (past_limit_warnings facts file marks ++ both_ways_warnings everywhere marks)))

@@ -2,7 +2,7 @@
 ghost use Rattle.std.specs.Prelude.{◌≡◌, IfOk};
 ghost use Rattle.texting_robots.specs.Callers.{mark_by_value};
 ghost use Rattle.robots_warnings.specs.Checks.{agent_checks, delay_checks, field_checks, file_checks, ignored_checks};
-ghost use Rattle.robots_warnings.specs.Checks.{position_checks, rule_checks, sitemap_checks, url_checks, user_agent_checks, warn_if};
+ghost use Rattle.robots_warnings.specs.Checks.{position_checks, rule_checks, sitemap_checks, url_checks, user_agent_checks};
 
 use crate::facts::FileFacts;
 use crate::field_names::{is_misspelled, is_without_colon, meant_by};
@@ -17,32 +17,21 @@ use crate::urls::{begins_as_url, is_absolute_url, is_invalid_url, is_url_or_path
 use std::alloc::{AllocError, Global};
 use texting_robots::marks::MarkedLine;
 
-/// A warning that is given if its condition holds.
-#[derive(Clone, Copy)]
-pub struct Check {
-    pub cause: Cause,
-    pub holds: bool,
-}
+/// A warning, and whether it is given.
+pub(crate) type Check = (Cause, bool);
 
 /// How many microseconds a day has.
 const DAY: u64 = 86_400_000_000;
-
-/// A warning and its condition.
-fn warn_if(cause: Cause, holds: bool) -> Check
-    ensures { result ≡ warn_if cause holds }
-{
-    Check { cause, holds }
-}
 
 /// Those of a file.
 pub(crate) fn file_checks(facts: FileFacts) -> [Check; 4]
     ensures { result ≡ file_checks facts }
 {
     [
-        warn_if(Cause::LooksLikeHtml, facts.is_html),
-        warn_if(Cause::LooksLikeUtf16, facts.is_utf_16),
-        warn_if(Cause::NoDirectives, facts.is_other_text),
-        warn_if(Cause::FileTooLarge, facts.is_too_large),
+        (Cause::LooksLikeHtml, facts.is_html),
+        (Cause::LooksLikeUtf16, facts.is_utf_16),
+        (Cause::NoDirectives, facts.is_other_text),
+        (Cause::FileTooLarge, facts.is_too_large),
     ]
 }
 
@@ -51,8 +40,8 @@ pub(crate) fn agent_checks(agent: &str) -> [Check; 2]
     ensures { result ≡ agent_checks agent.now }
 {
     [
-        warn_if(Cause::SpaceAroundAgent, has_space_around(agent)),
-        warn_if(Cause::VersionInAgent, has_slash(agent)),
+        (Cause::SpaceAroundAgent, has_space_around(agent)),
+        (Cause::VersionInAgent, has_slash(agent)),
     ]
 }
 
@@ -61,8 +50,8 @@ pub(crate) fn url_checks(alloc: Global, url: &str) -> Result<[Check; 2], AllocEr
     ensures { IfOk result (λ checks. checks ≡ url_checks url.now) }
 {
     Ok([
-        warn_if(Cause::NotAUrlOrPath, !is_url_or_path(url)),
-        warn_if(Cause::InvalidUrl, is_invalid_url(alloc, url)?),
+        (Cause::NotAUrlOrPath, !is_url_or_path(url)),
+        (Cause::InvalidUrl, is_invalid_url(alloc, url)?),
     ])
 }
 
@@ -70,7 +59,7 @@ pub(crate) fn url_checks(alloc: Global, url: &str) -> Result<[Check; 2], AllocEr
 pub(crate) fn ignored_checks(alloc: Global, body: &[u8]) -> Result<[Check; 1], AllocError>
     ensures { IfOk result (λ checks. checks ≡ ignored_checks body.now) }
 {
-    Ok([warn_if(meant_by(alloc, body)?, true)])
+    Ok([(meant_by(alloc, body)?, true)])
 }
 
 /// Those of the field name of a directive with this body.
@@ -78,8 +67,8 @@ pub(crate) fn field_checks(body: &[u8]) -> [Check; 2]
     ensures { result ≡ field_checks body.now }
 {
     [
-        warn_if(Cause::NonstandardField, is_misspelled(body)),
-        warn_if(Cause::MissingColon, is_without_colon(body)),
+        (Cause::NonstandardField, is_misspelled(body)),
+        (Cause::MissingColon, is_without_colon(body)),
     ]
 }
 
@@ -87,7 +76,7 @@ pub(crate) fn field_checks(body: &[u8]) -> [Check; 2]
 pub(crate) fn user_agent_checks(value: &[u8]) -> [Check; 1]
     ensures { result ≡ user_agent_checks value.now }
 {
-    [warn_if(Cause::InvalidProductToken, !is_product_token(value))]
+    [(Cause::InvalidProductToken, !is_product_token(value))]
 }
 
 /// Those of the value of an Allow or a Disallow.
@@ -95,15 +84,15 @@ pub(crate) fn rule_checks(value: &[u8]) -> [Check; 9]
     ensures { result ≡ rule_checks value.now }
 {
     [
-        warn_if(Cause::RuleNotUtf8, !is_utf8(value)),
-        warn_if(Cause::MissingSlash, has_odd_start(value)),
-        warn_if(Cause::UrlAsRule, begins_as_url(value)),
-        warn_if(Cause::UnencodedCharacter, holds_otherwise(value)),
-        warn_if(Cause::QuotedRule, is_quoted(value)),
-        warn_if(Cause::RegexSyntax, is_expression(value)),
-        warn_if(Cause::DollarNotAtEnd, has_dollar_inside(value)),
-        warn_if(Cause::NonstandardEscape, has_odd_escape(value)),
-        warn_if(Cause::DotSegment, has_dot_segment(value)),
+        (Cause::RuleNotUtf8, !is_utf8(value)),
+        (Cause::MissingSlash, has_odd_start(value)),
+        (Cause::UrlAsRule, begins_as_url(value)),
+        (Cause::UnencodedCharacter, holds_otherwise(value)),
+        (Cause::QuotedRule, is_quoted(value)),
+        (Cause::RegexSyntax, is_expression(value)),
+        (Cause::DollarNotAtEnd, has_dollar_inside(value)),
+        (Cause::NonstandardEscape, has_odd_escape(value)),
+        (Cause::DotSegment, has_dot_segment(value)),
     ]
 }
 
@@ -111,14 +100,14 @@ pub(crate) fn rule_checks(value: &[u8]) -> [Check; 9]
 pub(crate) fn delay_checks(micros: u64) -> [Check; 1]
     ensures { result ≡ delay_checks micros }
 {
-    [warn_if(Cause::DelayOverADay, micros > DAY)]
+    [(Cause::DelayOverADay, micros > DAY)]
 }
 
 /// Those of the value of a sitemap line.
 pub(crate) fn sitemap_checks(alloc: Global, value: &[u8]) -> Result<[Check; 1], AllocError>
     ensures { IfOk result (λ checks. checks ≡ sitemap_checks value.now) }
 {
-    Ok([warn_if(Cause::SitemapNotAbsolute, !is_absolute_url(alloc, value)?)])
+    Ok([(Cause::SitemapNotAbsolute, !is_absolute_url(alloc, value)?)])
 }
 
 /// Those of a line, by the number of the last rule or delay and by what is above the line.
@@ -130,8 +119,8 @@ pub(crate) fn position_checks(
     ensures { result ≡ position_checks last passed (mark_by_value marked.now) }
 {
     [
-        warn_if(Cause::RuleBeforeUserAgent, is_above_agents(marked)),
-        warn_if(Cause::EmptyGroup, is_empty_group(last, marked)),
-        warn_if(Cause::DelaySplitsGroup, is_split(passed, marked)),
+        (Cause::RuleBeforeUserAgent, is_above_agents(marked)),
+        (Cause::EmptyGroup, is_empty_group(last, marked)),
+        (Cause::DelaySplitsGroup, is_split(passed, marked)),
     ]
 }

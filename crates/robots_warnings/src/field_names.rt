@@ -1,13 +1,13 @@
 //! What the field name of a line may be, where the line is ignored, and what is unusual in it, where the line is a directive.
-ghost use Rattle.std.specs.Prelude.{◌≡◌, ◌<◌, ℕ, IfOk, IfSome, List, length, map, position};
-ghost use Rattle.robots_warnings.specs.declared.table.Cause.{Cause};
-ghost use Rattle.robots_warnings.specs.Steps.{name_value};
-ghost use Rattle.std.specs.List.{before_first, list_any};
+ghost use Rattle.std.specs.Prelude.{◌≡◌, ◌≤◌, IfOk, length, map};
+ghost use Rattle.std.specs.List.{list_any, position_or_len};
 ghost use Rattle.texting_robots.specs.Statement.{spellings};
-ghost use Rattle.robots_warnings.specs.FieldNames.{begins_with, first_word, is_accepted, is_colon, is_misspelled, is_name};
-ghost use Rattle.robots_warnings.specs.FieldNames.{is_near, is_space_or_tab, is_without_colon, kinds, may_mean, meant_among};
-ghost use Rattle.robots_warnings.specs.FieldNames.{directives, meant_by, meant_in, name_in, without_end, without_front};
+ghost use Rattle.robots_warnings.specs.FieldNames.{begins_with, directive_in, first_that, first_word, is_accepted, is_either, is_any_accepted, is_misspelled, is_name};
+ghost use Rattle.robots_warnings.specs.FieldNames.{is_near, is_space_or_tab, is_without_colon, may_either_mean, may_mean};
+ghost use Rattle.robots_warnings.specs.FieldNames.{meant_among, meant_by, name_in, without_end, without_front};
+ghost use Rattle.robots_warnings.specs.Steps.{name_value};
 
+use crate::rules::before_byte;
 use crate::table::Cause;
 use std::alloc::{AllocError, Global};
 use strsim::generic_levenshtein;
@@ -94,54 +94,29 @@ fn without_end<'a>(text: &'a [u8]) -> &'a [u8]
     rest
 }
 
-/// The index of the first colon.
-fn colon_at(text: &[u8]) -> Option<usize>
-    ensures place { result ≡ position is_colon text.now }
-    ensures within { IfSome result (λ at. at < length text.now) }
-{
-    text.iter().position(|byte| *byte == b':')
-}
-
-/// The index of the first space or tab.
-fn blank_at(text: &[u8]) -> Option<usize>
-    ensures place { result ≡ position is_space_or_tab text.now }
-    ensures within { IfSome result (λ at. at < length text.now) }
-{
-    text.iter().position(|byte| is_space_or_tab(*byte))
-}
-
-/// What is before the first colon, or all where there is none.
-fn before_colon<'a>(text: &'a [u8]) -> &'a [u8]
-    ensures { result.now ≡ before_first is_colon text.now }
-{
-    match colon_at(text) {
-        Some(at) => &text[..at],
-        None => text,
-    }
-}
-
-/// What is before the first space or tab, or all where there is none.
-fn before_blank<'a>(text: &'a [u8]) -> &'a [u8]
-    ensures { result.now ≡ before_first is_space_or_tab text.now }
-{
-    match blank_at(text) {
-        Some(at) => &text[..at],
-        None => text,
-    }
-}
-
 /// What is before the first colon, or all where there is none, without the spaces and tabs around it.
 fn name_in<'a>(body: &'a [u8]) -> &'a [u8]
     ensures { result.now ≡ name_in body.now }
 {
-    without_end(without_front(before_colon(body)))
+    without_end(without_front(before_byte(b':', body)))
+}
+
+/// The index of the first space or tab, or how long the text is where there is none.
+fn word_len(text: &[u8]) -> usize
+    ensures value { result ≡ position_or_len is_space_or_tab text.now }
+    ensures within { result ≤ length text.now }
+{
+    text.iter()
+        .take_while(|byte| !is_space_or_tab(**byte))
+        .count()
 }
 
 /// What is between the spaces and tabs at the start and the next.
 fn first_word<'a>(body: &'a [u8]) -> &'a [u8]
     ensures { result.now ≡ first_word body.now }
 {
-    before_blank(without_front(body))
+    let text = without_front(body);
+    &text[..word_len(text)]
 }
 
 /// Whether the word is the name, ASCII letters in any case.
@@ -152,6 +127,7 @@ fn is_name(name: &str, word: &[u8]) -> bool
 }
 
 /// Whether the word begins with the name, ASCII letters in any case.
+#[tactic(auto, unfolding(crate::specs::FieldNames::begins_with))]
 fn begins_with(name: &str, word: &[u8]) -> bool
     ensures { result ≡ begins_with name.now word.now }
 {
@@ -188,60 +164,40 @@ fn may_mean(alloc: Global, name: &str, word: &[u8]) -> Result<bool, AllocError>
     Ok(begins_with(name, word) || is_near(alloc, name, word)?)
 }
 
-/// Whether the name may be meant by one of the words.
-fn may_any_mean(alloc: Global, name: &str, words: &[&[u8]]) -> Result<bool, AllocError>
-    ensures { IfOk result (λ answer. answer ≡ list_any (may_mean name.now) (map (λ word. word.now) words.now)) }
+/// Whether one of the two words is the name.
+#[tactic(auto, unfolding(crate::specs::FieldNames::is_either))]
+fn is_either(name: &[u8], word: &[u8], known: &str) -> bool
+    ensures { result ≡ is_either name.now word.now known.now }
 {
-    for word in words {
-        if may_mean(alloc, name, word)? {
-            return Ok(true);
-        }
-    }
-    Ok(false)
+    is_name(known, name) || is_name(known, word)
 }
 
-/// Whether one of the words is the name, ASCII letters in any case.
-fn is_any_name(name: &str, words: &[&[u8]]) -> bool
-    ensures { result ≡ list_any (is_name name.now) (map (λ word. word.now) words.now) }
+/// Whether the name may be meant by one of the two words.
+#[tactic(auto, unfolding(crate::specs::FieldNames::may_either_mean))]
+fn may_either_mean(alloc: Global, name: &[u8], word: &[u8], known: &str) -> Result<bool, AllocError>
+    ensures { IfOk result (λ answer. answer ≡ may_either_mean name.now word.now known.now) }
 {
-    for word in words {
-        if is_name(name, word) {
-            return true;
-        }
-    }
-    false
+    Ok(may_mean(alloc, known, name)? || may_mean(alloc, known, word)?)
 }
 
-/// Whether one of the words is an accepted name of this kind of directive.
-fn is_any_accepted(kind: Kind, words: &[&[u8]]) -> bool
-    ensures { result ≡ list_any (is_accepted kind) (map (λ word. word.now) words.now) }
+/// The warning of the first of these names that is one of the two words.
+fn first_in(names: &[(&str, Cause)], name: &[u8], word: &[u8]) -> Option<Cause>
+    ensures { result ≡ first_that (is_either name.now word.now) (map name_value names.now) }
 {
-    for word in words {
-        if is_accepted(kind, word) {
-            return true;
-        }
-    }
-    false
-}
-
-/// The warning of the first of these names that is one of the words.
-fn named_in(names: &[(&str, Cause)], words: &[&[u8]]) -> Option<Cause>
-    ensures { result ≡ meant_in is_name (map name_value names.now) (map (λ word. word.now) words.now) }
-{
-    for (name, cause) in names {
-        if is_any_name(name, words) {
+    for (known, cause) in names {
+        if is_either(name, word, known) {
             return Some(*cause);
         }
     }
     None
 }
 
-/// The warning of the first directive that may be meant by one of the words.
-fn directive_among(alloc: Global, words: &[&[u8]]) -> Result<Option<Cause>, AllocError>
-    ensures { IfOk result (λ cause. cause ≡ meant_in may_mean directives (map (λ word. word.now) words.now)) }
+/// The warning of the first directive that may be meant by one of the two words.
+fn directive_in(alloc: Global, name: &[u8], word: &[u8]) -> Result<Option<Cause>, AllocError>
+    ensures { IfOk result (λ cause. cause ≡ directive_in name.now word.now) }
 {
-    for (name, cause) in &DIRECTIVES {
-        if may_any_mean(alloc, name, words)? {
+    for (known, cause) in &DIRECTIVES {
+        if may_either_mean(alloc, name, word, known)? {
             return Ok(Some(*cause));
         }
     }
@@ -249,16 +205,16 @@ fn directive_among(alloc: Global, words: &[&[u8]]) -> Result<Option<Cause>, Allo
 }
 
 /// The warning of an ignored line with these words.
-fn meant_among(alloc: Global, words: &[&[u8]]) -> Result<Cause, AllocError>
-    ensures { IfOk result (λ cause. cause ≡ meant_among (map (λ word. word.now) words.now)) }
+fn meant_among(alloc: Global, name: &[u8], word: &[u8]) -> Result<Cause, AllocError>
+    ensures { IfOk result (λ cause. cause ≡ meant_among name.now word.now) }
 {
-    if is_any_accepted(Kind::CrawlDelay, words) {
+    if is_accepted(Kind::CrawlDelay, name) || is_accepted(Kind::CrawlDelay, word) {
         return Ok(Cause::InvalidDelay);
     }
-    if let Some(cause) = named_in(&UNSUPPORTED, words) {
+    if let Some(cause) = first_in(&UNSUPPORTED, name, word) {
         return Ok(cause);
     }
-    match directive_among(alloc, words)? {
+    match directive_in(alloc, name, word)? {
         Some(cause) => Ok(cause),
         None => Ok(Cause::UnrecognizedLine),
     }
@@ -268,19 +224,14 @@ fn meant_among(alloc: Global, words: &[&[u8]]) -> Result<Cause, AllocError>
 pub(crate) fn meant_by(alloc: Global, body: &[u8]) -> Result<Cause, AllocError>
     ensures { IfOk result (λ cause. cause ≡ meant_by body.now) }
 {
-    meant_among(alloc, &[name_in(body), first_word(body)])
+    meant_among(alloc, name_in(body), first_word(body))
 }
 
 /// Whether the text begins with one of these names.
 fn begins_with_any(names: &[(&str, Cause)], text: &[u8]) -> bool
-    ensures { result ≡ list_any (λ (row : List ℕ × Cause). begins_with row.0 text.now) (map name_value names.now) }
+    ensures { result ≡ list_any (λ row. begins_with row.0.now text.now) names.now }
 {
-    for (name, _) in names {
-        if begins_with(name, text) {
-            return true;
-        }
-    }
-    false
+    names.iter().any(|row| begins_with(row.0, text))
 }
 
 /// Whether the directive with this body begins with none of the usual names.
@@ -291,20 +242,15 @@ pub(crate) fn is_misspelled(body: &[u8]) -> bool
 }
 
 /// Whether the word is an accepted name of a directive.
-fn is_directive(word: &[u8]) -> bool
-    ensures { result ≡ list_any (λ kind. is_accepted kind word.now) kinds }
+fn is_any_accepted(word: &[u8]) -> bool
+    ensures { result ≡ is_any_accepted word.now }
 {
-    for kind in KINDS {
-        if is_accepted(kind, word) {
-            return true;
-        }
-    }
-    false
+    KINDS.iter().any(|kind| is_accepted(*kind, word))
 }
 
 /// Whether no colon is after the field name of the directive with this body.
 pub(crate) fn is_without_colon(body: &[u8]) -> bool
     ensures { result ≡ is_without_colon body.now }
 {
-    !(body.contains(&b':') && is_directive(name_in(body)))
+    !(body.contains(&b':') && is_any_accepted(name_in(body)))
 }

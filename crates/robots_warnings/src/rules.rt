@@ -29,7 +29,7 @@ fn place(byte: u8, text: &[u8]) -> usize
 }
 
 /// What stands before the first such byte, or all where none does.
-fn before_byte(byte: u8, text: &[u8]) -> &[u8]
+pub(crate) fn before_byte(byte: u8, text: &[u8]) -> &[u8]
     ensures { result.now ≡ before_byte byte text.now }
 {
     &text[..place(byte, text)]

@@ -3,9 +3,9 @@ ghost use Rattle.std.specs.Prelude.{◌≡◌, ◌++◌, OnOk, option_map, strin
 ghost use Rattle.robots_warnings.specs.Steps.{warning_value};
 ghost use Rattle.robots_warnings.specs.Warnings.{about_text, name_text, place_text, warning_line, warning_text};
 
-use robots_io::shown::push_shown;
 use crate::table::Cause;
 use robots_io::lines::push_number;
+use robots_io::shown::push_shown;
 use std::alloc::AllocError;
 
 /// A warning.

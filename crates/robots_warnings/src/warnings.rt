@@ -12,7 +12,7 @@ use crate::checks::{
     Check, agent_checks, delay_checks, field_checks, file_checks, ignored_checks, position_checks,
     rule_checks, sitemap_checks, url_checks, user_agent_checks,
 };
-use crate::facts::{FileFacts, facts_of, hides_lines};
+use crate::facts::{FileFacts, hides_lines};
 use crate::file::{counted, is_blank};
 use crate::names_beyond::names_beyond;
 use crate::positions::{Passed, last_group, passed_with};
@@ -37,12 +37,9 @@ fn warn<'a>(
         ≡ map warning_value found.old.items ++ warned line (option_map (λ url. url.now) about.entry) checks.now) }
 {
     for check in checks {
-        if check.holds {
-            found.push(Warning {
-                line,
-                cause: check.cause,
-                about,
-            })?;
+        let (cause, holds) = *check;
+        if holds {
+            found.push(Warning { line, cause, about })?;
         }
     }
     Ok(())
@@ -217,18 +214,16 @@ fn warn_past_limit(
     found: &mut Found<'_>,
     facts: FileFacts,
     file: &[u8],
+    marks: &[MarkedLine<'_>],
 ) -> Result<(), AllocError>
-    ensures { OnOk result (map warning_value found.new.items
-        ≡ map warning_value found.old.items ++ past_limit_warnings facts file.now) }
+    ensures { OnOk result (map warning_value found.new.items ≡ map warning_value found.old.items
+        ++ past_limit_warnings facts file.now (map mark_by_value marks.now)) }
 {
-    if hides_lines(facts) {
+    if !facts.is_too_large || hides_lines(facts) {
         return Ok(());
     }
-    warn_at(
-        found,
-        Cause::GroupPastSizeLimit,
-        &names_beyond(alloc, file)?,
-    )
+    let numbers = names_beyond(alloc, file, marks)?;
+    warn_at(found, Cause::GroupPastSizeLimit, &numbers)
 }
 
 /// Adds the warnings of what is allowed and disallowed.
@@ -242,11 +237,8 @@ fn warn_of_both_ways(
         ++ both_ways_warnings everywhere (map mark_by_value marks.now)) }
 {
     let rules = scoped_rules(alloc, everywhere, marks)?;
-    warn_at(
-        found,
-        Cause::AllowedAndDisallowed,
-        &both_ways(alloc, &rules)?,
-    )
+    let numbers = both_ways(alloc, &rules)?;
+    warn_at(found, Cause::AllowedAndDisallowed, &numbers)
 }
 
 /// Whether rules are checked everywhere: where no one crawler is asked about.
@@ -259,26 +251,25 @@ fn is_everywhere(agent: Option<&str>) -> bool
     }
 }
 
-/// All warnings of a file, whose lines these are.
+/// All warnings of a file, of which these are the facts and the lines.
 pub fn warnings<'a>(
     alloc: Global,
     agent: Option<&str>,
     urls: &[&'a str],
     file: &[u8],
+    facts: FileFacts,
     marks: &[MarkedLine<'_>],
 ) -> Result<Vec<Warning<'a>>, AllocError>
     ensures { IfOk result (λ found. map warning_value found.items
-        ≡ warnings (option_map (λ agent. agent.now) agent.entry)
-        (map (λ url. url.now) urls.now) file.now (map mark_by_value marks.now)
-        (bodies_read file.now)) }
+        ≡ warnings (option_map (λ agent. agent.now) agent.entry) (map (λ url. url.now) urls.now)
+        file.now facts (map mark_by_value marks.now)) }
 {
-    let facts = facts_of(file, marks);
     let everywhere = is_everywhere(agent);
     let mut found = Vec::new(alloc);
     warn_in_general(alloc, &mut found, facts, agent, urls)?;
     warn_of_file_lines(alloc, &mut found, facts, everywhere, marks, file)?;
     warn_of_positions(&mut found, marks)?;
-    warn_past_limit(alloc, &mut found, facts, file)?;
+    warn_past_limit(alloc, &mut found, facts, file, marks)?;
     warn_of_both_ways(alloc, &mut found, everywhere, marks)?;
     Ok(found)
 }

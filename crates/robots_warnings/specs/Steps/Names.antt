@@ -8,7 +8,7 @@ use Rattle.std.specs.List.{enumerate_from, list_any}
 use Rattle.std.specs.Ordering.{nat_cmp}
 use Rattle.std.specs.Str.{str_to_ascii_lowercase}
 use Rattle.std.specs.declared.cmp.Ordering.{Ordering}
-use Rattle.texting_robots.specs.Callers.{LineValue, file_lines, is_agent_named, lines_read}
+use Rattle.texting_robots.specs.Callers.{LineValue, file_lines, is_agent_named}
 use Rattle.robots_warnings.specs.NamesBeyond.{has_new_name, is_beyond, names_beyond}
 
 -- a name, lowered
@@ -38,20 +38,17 @@ pub record MeetsLine (old new : BTreeSet Key) (line : LineValue) (is_new : Bool)
   pub was : (lines : List LineValue) → HasNames old lines → is_new ≡ has_new_name lines line
   pub has : (lines : List LineValue) → HasNames old lines → HasNames new (lines ++ line ∷ [])
 
--- the set has the names of some lines, and of those of a list up to a place, from which on these are left
-pub record HasMet (met : BTreeSet Key) (lines all : List LineValue) (place : ℕ) (left : List LineValue)
-    : Type 0 where
-  pub before : List LineValue
-  pub count : length before ≡ place
-  pub parts : before ++ left ≡ all
-  pub has : HasNames met (lines ++ before)
+-- the numbers of the lines with new names among those of a file that are left from an index on
+abbrev pub beyond_from : List LineValue → List ℕ → ℕ → List LineValue → List ℕ
+beyond_from read file index left =
+    map (λ p. p.0 + 1) (filter (is_beyond read file) (enumerate_from index left))
 
--- the numbers of the lines with new names among those of a file that are left from a place on
-abbrev pub beyond_from : List ℕ → ℕ → List LineValue → List ℕ
-beyond_from file place left = map (λ p. p.0 + 1) (filter (is_beyond file) (enumerate_from place left))
-
--- the numbers that were found, and those among the lines that are left from a place on, are all
-pub record IsFoundUpto (file : List ℕ) (met : BTreeSet Key) (found : List ℕ) (place : ℕ)
+-- the set has the names of the lines that were read and of those before an index of a file, from which on
+-- these are left; and the numbers that were found, and those among the lines that are left, are all
+pub record IsFoundUpto (read : List LineValue) (file : List ℕ) (met : BTreeSet Key) (found : List ℕ) (index : ℕ)
     (left : List LineValue) : Type 0 where
-  pub passed : HasMet met (lines_read file) (file_lines file) place left
-  pub all : found ++ beyond_from file place left ≡ names_beyond file
+  pub before : List LineValue
+  pub count : length before ≡ index
+  pub parts : before ++ left ≡ file_lines file
+  pub has : HasNames met (read ++ before)
+  pub all : found ++ beyond_from read file index left ≡ names_beyond read file

@@ -1,7 +1,8 @@
-use Rattle.std.proofs.Common.{ℕ, []}
-use Rattle.texting_robots.specs.Callers.{lines_read}
-use Rattle.robots_warnings.specs.Steps.Names.{HasMet}
+use Rattle.std.proofs.Common.{map, take}
+use Rattle.texting_robots.specs.Callers.{mark_by_value}
+use Rattle.robots_warnings.specs.File.{lines_of}
+use Rattle.robots_warnings.specs.Steps.Names.{HasNames}
 use Rattle.robots_warnings.proofs.names_beyond.names_read.Given as goal
 
-abbrev pub invariant-loop-line : goal.invariant-loop-line
-invariant-loop-line l = (place : ℕ) × HasMet l.met [] (lines_read l.fn.file) place l.line-iterator
+abbrev pub invariant-loop-marked : goal.invariant-loop-marked
+invariant-loop-marked l = HasNames l.met (lines_of (map mark_by_value (take l.marked-index l.marks)))

@@ -11,5 +11,4 @@ returns c =
       c.in_ok-warn_in_general.ensures,
       c.new-found.ensures.items,
       c.is_everywhere-everywhere.ensures,
-      c.facts_of-facts.ensures,
     ) (simp (append_assoc))
