@@ -10,10 +10,12 @@ use Rattle.std.specs.Str.{all_scalars, chars, encode_utf8_all}
 use Rattle.std.proofs.lemmas.Bool.{agree_below, agree_below_at, and_parts, cases_lt}
 use Rattle.std.proofs.lemmas.Bool.Decides.{nat_tests}
 use Rattle.std.proofs.lemmas.Grind.{flat_map-append}
-use Rattle.std.proofs.lemmas.List.{drop_more, map-append, Elements.filter_map-append}
+use Rattle.std.proofs.lemmas.List.{drop_more, Elements.filter_map-append}
+use Rattle.std.proofs.lemmas.Simd.{map-map}
 use Rattle.std.proofs.lemmas.Str.{encode_ascii, encodes-chars, inside_one, scalars-chars}
 use Rattle.serde_json.specs.Data.{Data, Items, Members, array, boolean, item, member, no_items, no_members}
 use Rattle.serde_json.specs.Data.{null, number, object, string}
+use Rattle.serde_json.specs.View.{items_of}
 use Rattle.serde_json.specs.Written.{comma_if, compact_text, has_float, items_text, members_text}
 use Rattle.serde_json.specs.Written.{number_text}
 use Rattle.serde_json.proofs.OnLiterals.{serde_json_on_literals}
@@ -43,16 +45,21 @@ use Rattle.robots_io.proofs.ShownLemmas.{shown_plain}
 
 -- the sitemaps from one place on, by the line there
 pub sitemaps_next : (marks : List MarkedLine) (at : ℕ) (marked : MarkedLine) → at < length marks
-    → map shown_json (sitemaps_in (lines_of (map mark_by_value (drop at marks))))
-    ≡ map shown_json (sitemaps_in (by_value (slice_index_or marks at marked).line ∷ []))
-    ++ map shown_json (sitemaps_in (lines_of (map mark_by_value (drop (at + 1) marks))))
+    → sitemaps_in (lines_of (map mark_by_value (drop at marks)))
+    ≡ sitemaps_in (by_value (slice_index_or marks at marked).line ∷ [])
+    ++ sitemaps_in (lines_of (map mark_by_value (drop (at + 1) marks)))
 sitemaps_next marks at marked below =
     let here = by_value (slice_index_or marks at marked).line ∷ [] in
     let later = lines_of (map mark_by_value (drop (at + 1) marks)) in
-    ap (λ marks. map shown_json (sitemaps_in (lines_of (map mark_by_value marks))))
-    (drop_more marks at marked below)
-    ∙ ap (map shown_json) (filter_map-append sitemap_in here later)
-    ∙ map-append shown_json (sitemaps_in here) (sitemaps_in later)
+    ap (λ marks. sitemaps_in (lines_of (map mark_by_value marks))) (drop_more marks at marked below)
+    ∙ filter_map-append sitemap_in here later
+
+-- ---- lists
+
+-- a list of what is written by its value
+pub listed : {X Y : Type 0} (json : Y → Data) (value : X → Y) (xs : List X)
+    → list_json (λ x. json (value x)) xs ≡ list_json json (map value xs)
+listed json value xs = ap (λ (values : List Data). array (items_of values)) (sym (map-map json value xs))
 
 -- ---- floats
 

@@ -3,15 +3,13 @@ use Rattle.std.proofs.Common.{◌≡◌, ℕ, suc, List, [], ◌∷◌, Contains
 use Rattle.std.proofs.Common.{◌∙◌}
 use Rattle.std.specs.List.{AllZip}
 use Rattle.texting_robots.specs.Callers.{IsRefused, LineValue, PlacedRule}
-use Rattle.texting_robots.specs.Callers.{bodies_read, delay_for, lines_read, placed_rules, prepared, unplaced}
+use Rattle.texting_robots.specs.Callers.{delay_for, lines_read, placed_rules, prepared, unplaced}
 use Rattle.texting_robots.specs.declared.decision.Decision.{Decision}
 use Rattle.texting_robots.proofs.BestLemmas.{each_text_answered}
 use Rattle.texting_robots.proofs.VerdictLemmas.{one_line_decides, one_verdict}
 use Rattle.robots_io.specs.Verdicts.{IsDecisionOn}
 use Rattle.robots_audit.specs.Audit.{AgentValue, Asked, AuditValue, IsAgentAudit, IsAuditOf, IsVerdictOn}
-use Rattle.robots_audit.specs.Audit.{VerdictValue, agents_asked, group_of, marking_agent}
-use Rattle.robots_warnings.specs.File.{marks_for}
-use Rattle.robots_warnings.specs.Warnings.{warnings}
+use Rattle.robots_audit.specs.Audit.{VerdictValue, agents_asked, group_of, marks_asked, warnings_asked}
 
 -- ---- one at most
 
@@ -117,13 +115,13 @@ pub some_audit : (asked : Asked) (file : List ℕ)
     → (audit : AuditValue) × IsAuditOf asked file audit
 some_audit asked file accepted =
     let lines = lines_read file in
-    let marks = marks_for (marking_agent asked.agent) lines in
+    let marks = marks_asked asked file in
     let (agents, are) = zip_some (IsAgentAudit asked.urls lines) (agents_asked asked.agent lines)
     (λ agent has. some_agent asked.urls lines agent (accepted agent has)) in (
       record {
         marks = marks;
         agents = agents;
-        warnings = warnings asked.agent asked.urls file marks (bodies_read file);
+        warnings = warnings_asked asked file marks;
       },
       record { marks_are = refl; agents_are = are; warnings_are = refl },
     )

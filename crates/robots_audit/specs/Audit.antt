@@ -5,12 +5,13 @@ use Rattle.std.specs.Prelude.{if◌then◌else◌}
 use Rattle.std.specs.List.{AllZip, list_all, list_any}
 use Rattle.std.specs.Str.{is_utf8, str_to_ascii_lowercase}
 use Rattle.texting_robots.specs.Callers.{IsRefused, LineValue, Mark, PlacedRule, UserAgent}
-use Rattle.texting_robots.specs.Callers.{bodies_read, delay_for, is_named, lines_read, placed_rules}
+use Rattle.texting_robots.specs.Callers.{delay_for, is_named, lines_read, placed_rules}
 use Rattle.texting_robots.specs.Group.{is_agent}
 use Rattle.texting_robots.specs.declared.decision.Decision.{Decision}
 use Rattle.robots_io.specs.Verdicts.{IsDecisionOn}
 use Rattle.robots_audit.specs.declared.group.Group.{Group}
 use Rattle.robots_audit.specs.declared.group.Group.TheVariants.{Everyone, Named, Nobody, Star}
+use Rattle.robots_warnings.specs.Facts.{facts_of}
 use Rattle.robots_warnings.specs.File.{marks_for}
 use Rattle.robots_warnings.specs.Warnings.{WarningValue, warnings}
 
@@ -93,12 +94,19 @@ abbrev pub marking_agent : Option (List ℕ) → List ℕ
 marking_agent (Some agent) = agent
 marking_agent None = codes "*"
 
+-- the lines, marked
+abbrev pub marks_asked : Asked → List ℕ → List Mark
+marks_asked asked file = marks_for (marking_agent asked.agent) (lines_read file)
+
+-- what is warned of
+abbrev pub warnings_asked : Asked → List ℕ → List Mark → List WarningValue
+warnings_asked asked file marks = warnings asked.agent asked.urls file (facts_of file marks) marks
+
 pub record IsAuditOf (asked : Asked) (file : List ℕ) (audit : AuditValue) : Type 0 where
-  pub marks_are : audit.marks ≡ marks_for (marking_agent asked.agent) (lines_read file)
+  pub marks_are : audit.marks ≡ marks_asked asked file
   pub agents_are : AllZip (IsAgentAudit asked.urls (lines_read file))
       (agents_asked asked.agent (lines_read file)) audit.agents
-  pub warnings_are : audit.warnings ≡ warnings asked.agent asked.urls file
-      (marks_for (marking_agent asked.agent) (lines_read file)) (bodies_read file)
+  pub warnings_are : audit.warnings ≡ warnings_asked asked file (marks_asked asked file)
 
 -- each of these verdicts allows
 abbrev pub allows_all : List VerdictValue → Bool

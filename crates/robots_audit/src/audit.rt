@@ -1,7 +1,8 @@
 //! What is found out about a file.
 ghost use Rattle.std.specs.Prelude.{◌≡◌, ◌≢◌, ◌∷◌, [], IfErr, IfOk, map, option_map, string_bytes, take};
-ghost use Rattle.std.specs.List.{AllZip};
-ghost use Rattle.texting_robots.specs.Callers.{IsRobotOfFile, bodies_read, file_limit, lines_read, mark_by_value};
+ghost use Rattle.std.specs.List.{AllZip, list_any};
+ghost use Rattle.texting_robots.specs.Callers.{IsRobotOfFile, file_limit, lines_read, mark_by_value};
+ghost use Rattle.texting_robots.specs.Group.{is_agent};
 ghost use Rattle.robots_audit.specs.Answer.{asked_by};
 ghost use Rattle.robots_audit.specs.Audit.{IsAgentAudit, IsAuditOf, IsVerdictOn, agents_asked, all_allowed, allows_all, marking_agent};
 ghost use Rattle.robots_audit.specs.Fault.{MayFail};
@@ -15,6 +16,7 @@ use crate::command::Request;
 use crate::fault::Fault;
 use crate::group::{Group, group_of};
 use robots_io::verdicts::decision_on;
+use robots_warnings::facts::{FileFacts, facts_of};
 use robots_warnings::file::{counted, marks_for};
 use robots_warnings::warning::Warning;
 use robots_warnings::warnings::warnings;
@@ -82,16 +84,16 @@ fn verdicts_on<'a>(
     Ok(verdicts)
 }
 
-/// What an agent gets of a file, whose lines these are.
+/// What an agent gets of a file; `has_agents` says whether the file has a user-agent line.
 fn agent_audit<'a>(
     alloc: Global,
     agent: &str,
     file: &[u8],
     site: &Site,
-    marks: &[MarkedLine<'_>],
+    has_agents: bool,
     urls: &[&'a str],
 ) -> Result<AgentAudit<'a>, Fault>
-    requires marks { lines_of (map mark_by_value marks.now) ≡ lines_read file.now }
+    requires agents { has_agents ≡ list_any is_agent (lines_read file.now) }
     requires site { site.now ≡ take file_limit file.now }
     ensures ok { IfOk result (λ audit. IsAgentAudit (map (λ url. url.now) urls.now) (lines_read file.now)
         agent.now (agent_value audit)) }
@@ -103,7 +105,7 @@ fn agent_audit<'a>(
     match verdicts_on(alloc, &robot, urls) {
         Ok(verdicts) => Ok(AgentAudit {
             agent: name,
-            group: group_of(agent, site, marks),
+            group: group_of(agent, site, has_agents),
             delay: robot.delay,
             verdicts,
         }),
@@ -111,16 +113,16 @@ fn agent_audit<'a>(
     }
 }
 
-/// What each of these agents gets of a file, whose lines these are.
+/// What each of these agents gets of a file; `has_agents` says whether the file has a user-agent line.
 fn agent_audits<'a>(
     alloc: Global,
     agents: &[String],
     file: &[u8],
     site: &Site,
-    marks: &[MarkedLine<'_>],
+    has_agents: bool,
     urls: &[&'a str],
 ) -> Result<Vec<AgentAudit<'a>>, Fault>
-    requires marks { lines_of (map mark_by_value marks.now) ≡ lines_read file.now }
+    requires agents { has_agents ≡ list_any is_agent (lines_read file.now) }
     requires site { site.now ≡ take file_limit file.now }
     ensures ok { IfOk result (λ audits. AllZip (IsAgentAudit (map (λ url. url.now) urls.now) (lines_read file.now))
         (map string_bytes agents.now) (map agent_value audits.items)) }
@@ -129,19 +131,21 @@ fn agent_audits<'a>(
 {
     let mut audits = Vec::with_capacity(alloc, agents.len())?;
     for agent in agents {
-        audits.push(agent_audit(alloc, agent, file, site, marks, urls)?)?;
+        audits.push(agent_audit(alloc, agent, file, site, has_agents, urls)?)?;
     }
     Ok(audits)
 }
 
-/// What each agent gets that is asked for, of a file, whose lines these are.
+/// What each agent gets that is asked for, of a file, of which these are the facts and the lines.
 fn agents_of<'a>(
     alloc: Global,
     request: &Request<'a>,
     file: &[u8],
+    facts: FileFacts,
     marks: &[MarkedLine<'_>],
 ) -> Result<Vec<AgentAudit<'a>>, Fault>
-    requires { lines_of (map mark_by_value marks.now) ≡ lines_read file.now }
+    requires marks { lines_of (map mark_by_value marks.now) ≡ lines_read file.now }
+    requires facts { facts.kinds.user_agent ≡ list_any is_agent (lines_read file.now) }
     ensures ok { IfOk result (λ audits. AllZip (IsAgentAudit (asked_by request.now).urls (lines_read file.now))
         (agents_asked (asked_by request.now).agent (lines_read file.now)) (map agent_value audits.items)) }
     ensures fault { IfErr result (λ fault. (fault ≢ Fault.Write)
@@ -149,7 +153,8 @@ fn agents_of<'a>(
 {
     let names = agents_asked(alloc, request.agent, marks)?;
     let site = Site::new(alloc, file)?;
-    agent_audits(alloc, &names, file, &site, marks, &request.urls)
+    let has_agents = facts.kinds.user_agent;
+    agent_audits(alloc, &names, file, &site, has_agents, &request.urls)
 }
 
 /// The agent by which lines are marked.
@@ -162,18 +167,19 @@ fn marking_agent<'a>(agent: Option<&'a str>) -> &'a str
     }
 }
 
-/// What is warned of in a file, whose lines these are.
+/// What is warned of in a file, of which these are the facts and the lines.
 fn warnings_of<'a>(
     alloc: Global,
     request: &Request<'a>,
     file: &[u8],
+    facts: FileFacts,
     marks: &[MarkedLine<'_>],
 ) -> Result<Vec<Warning<'a>>, AllocError>
     ensures { IfOk result (λ found. map warning_value found.items
-        ≡ warnings (asked_by request.now).agent (asked_by request.now).urls file.now
-        (map mark_by_value marks.now) (bodies_read file.now)) }
+        ≡ warnings (asked_by request.now).agent (asked_by request.now).urls file.now facts
+        (map mark_by_value marks.now)) }
 {
-    warnings(alloc, request.agent, &request.urls, file, marks)
+    warnings(alloc, request.agent, &request.urls, file, facts, marks)
 }
 
 /// What is found out about a file.
@@ -187,8 +193,9 @@ pub(crate) fn audit_of<'a, 'b>(
         × MayFail (agents_asked (asked_by request.now).agent (lines_read file.now)) fault file.now) }
 {
     let marks = marks_for(alloc, marking_agent(request.agent), file)?;
-    let agents = agents_of(alloc, request, file, &marks)?;
-    let warnings = warnings_of(alloc, request, file, &marks)?;
+    let facts = facts_of(file, &marks);
+    let agents = agents_of(alloc, request, file, facts, &marks)?;
+    let warnings = warnings_of(alloc, request, file, facts, &marks)?;
     Ok(Audit {
         marks,
         agents,

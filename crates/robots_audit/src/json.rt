@@ -18,7 +18,28 @@ use std::alloc::{AllocError, Global};
 use texting_robots::marks::{MarkedLine, Standing};
 use texting_robots::parser::Line;
 
-/// A text of others, as it is shown.
+/// What is written as JSON.
+trait Json {
+    ghost use Rattle.serde_json.specs.Data.{Data};
+
+    ghost json: { Self → Data };
+
+    fn json(&self, alloc: Global) -> Result<Value, AllocError>
+        ensures { IfOk result (λ value. view value ≡ json self.now) };
+}
+
+/// A list of what is written as JSON.
+fn list_json<T: Json>(alloc: Global, items: &[T]) -> Result<Value, AllocError>
+    ensures { IfOk result (λ value. view value ≡ list_json T.json items.now) }
+{
+    let mut list = Vec::with_capacity(alloc, items.len())?;
+    for item in items {
+        list.push(item.json(alloc)?)?;
+    }
+    Ok(Value::Array(list))
+}
+
+/// Untrusted text, as it is shown.
 fn shown_json(alloc: Global, bytes: &[u8]) -> Result<Value, AllocError>
     ensures { IfOk result (λ value. view value ≡ shown_json bytes.now) }
 {
@@ -27,27 +48,20 @@ fn shown_json(alloc: Global, bytes: &[u8]) -> Result<Value, AllocError>
     Ok(Value::String(text))
 }
 
-/// What is decided on a URL.
-fn verdict_json(alloc: Global, verdict: &Verdict<'_>) -> Result<Value, AllocError>
-    ensures { IfOk result (λ value. view value ≡ verdict_json (verdict_value verdict.now)) }
-{
-    let url = shown_json(alloc, verdict.url.as_bytes())?;
-    json!(in alloc; {
-        "allowed": verdict.decision.allowed,
-        "line": verdict.decision.line,
-        "url": url,
-    })
-}
+impl<'a> Json for Verdict<'a> {
+    ghost use Rattle.robots_audit.specs.Json.{verdict_json};
+    ghost use Rattle.robots_audit.specs.Steps.{verdict_value};
 
-/// What is decided on each URL.
-fn verdicts_json(alloc: Global, verdicts: &[Verdict<'_>]) -> Result<Value, AllocError>
-    ensures { IfOk result (λ value. view value ≡ list_json verdict_json (map verdict_value verdicts.now)) }
-{
-    let mut list = Vec::with_capacity(alloc, verdicts.len())?;
-    for verdict in verdicts {
-        list.push(verdict_json(alloc, verdict)?)?;
+    ghost json = { λ verdict. verdict_json (verdict_value verdict) };
+
+    fn json(&self, alloc: Global) -> Result<Value, AllocError> {
+        let url = shown_json(alloc, self.url.as_bytes())?;
+        json!(in alloc; {
+            "allowed": self.decision.allowed,
+            "line": self.decision.line,
+            "url": url,
+        })
     }
-    Ok(Value::Array(list))
 }
 
 /// The word for a group.
@@ -62,29 +76,29 @@ fn group_word(group: Group) -> &'static str
     }
 }
 
-/// What an agent gets.
-fn agent_json(alloc: Global, agent: &AgentAudit<'_>) -> Result<Value, AllocError>
-    ensures { IfOk result (λ value. view value ≡ agent_json (agent_value agent.now)) }
+/// What is decided on each URL.
+fn verdicts_json(alloc: Global, verdicts: &[Verdict<'_>]) -> Result<Value, AllocError>
+    ensures { IfOk result (λ value. view value ≡ list_json verdict_json (map verdict_value verdicts.now)) }
 {
-    let name = shown_json(alloc, agent.agent.as_bytes())?;
-    let verdicts = verdicts_json(alloc, &agent.verdicts)?;
-    json!(in alloc; {
-        "agent": name,
-        "delay": agent.delay,
-        "group": group_word(agent.group),
-        "verdicts": verdicts,
-    })
+    list_json(alloc, verdicts)
 }
 
-/// What each agent gets.
-fn agents_json(alloc: Global, agents: &[AgentAudit<'_>]) -> Result<Value, AllocError>
-    ensures { IfOk result (λ value. view value ≡ list_json agent_json (map agent_value agents.now)) }
-{
-    let mut list = Vec::with_capacity(alloc, agents.len())?;
-    for agent in agents {
-        list.push(agent_json(alloc, agent)?)?;
+impl<'a> Json for AgentAudit<'a> {
+    ghost use Rattle.robots_audit.specs.Json.{agent_json};
+    ghost use Rattle.robots_audit.specs.Steps.{agent_value};
+
+    ghost json = { λ agent. agent_json (agent_value agent) };
+
+    fn json(&self, alloc: Global) -> Result<Value, AllocError> {
+        let name = shown_json(alloc, self.agent.as_bytes())?;
+        let verdicts = verdicts_json(alloc, &self.verdicts)?;
+        json!(in alloc; {
+            "agent": name,
+            "delay": self.delay,
+            "group": group_word(self.group),
+            "verdicts": verdicts,
+        })
     }
-    Ok(Value::Array(list))
 }
 
 /// The word for where a line stands.
@@ -113,34 +127,37 @@ fn value_json(alloc: Global, line: Line<'_>) -> Result<Value, AllocError>
     }
 }
 
-/// A line of the file.
-fn line_json(alloc: Global, marked: &MarkedLine<'_>) -> Result<Value, AllocError>
-    ensures { IfOk result (λ value. view value ≡ line_json (mark_by_value marked.now)) }
-{
-    let value = value_json(alloc, marked.line)?;
-    json!(in alloc; {
-        "kind": kind_text(marked.line),
-        "number": marked.number,
-        "standing": standing_word(marked.standing),
-        "value": value,
-    })
+impl<'a> Json for MarkedLine<'a> {
+    ghost use Rattle.robots_audit.specs.Json.{line_json};
+    ghost use Rattle.texting_robots.specs.Callers.{mark_by_value};
+
+    ghost json = { λ marked. line_json (mark_by_value marked) };
+
+    fn json(&self, alloc: Global) -> Result<Value, AllocError> {
+        let value = value_json(alloc, self.line)?;
+        json!(in alloc; {
+            "kind": kind_text(self.line),
+            "number": self.number,
+            "standing": standing_word(self.standing),
+            "value": value,
+        })
+    }
 }
 
-/// The lines of the file.
-fn lines_json(alloc: Global, marks: &[MarkedLine<'_>]) -> Result<Value, AllocError>
-    ensures { IfOk result (λ value. view value ≡ list_json line_json (map mark_by_value marks.now)) }
-{
-    let mut list = Vec::with_capacity(alloc, marks.len())?;
-    for marked in marks {
-        list.push(line_json(alloc, marked)?)?;
+impl<'a> Json for &'a [u8] {
+    ghost use Rattle.robots_audit.specs.Json.{shown_json};
+
+    ghost json = { λ text. shown_json text.now };
+
+    fn json(&self, alloc: Global) -> Result<Value, AllocError> {
+        shown_json(alloc, self)
     }
-    Ok(Value::Array(list))
 }
 
 /// Adds the sitemap that a line lists.
-fn add_sitemap(alloc: Global, list: &mut Vec<Value>, line: Line<'_>) -> Result<(), AllocError>
-    ensures { OnOk result (map view list.new.items
-        ≡ map view list.old.items ++ map shown_json (sitemaps_in (by_value line.entry ∷ []))) }
+fn add_sitemap<'a>(sitemaps: &mut Vec<&'a [u8]>, line: Line<'a>) -> Result<(), AllocError>
+    ensures { OnOk result (map (λ sitemap. sitemap.now) sitemaps.new.items
+        ≡ map (λ sitemap. sitemap.now) sitemaps.old.items ++ sitemaps_in (by_value line.entry ∷ [])) }
 {
     let Line::Sitemap(value) = line else {
         return Ok(());
@@ -148,44 +165,60 @@ fn add_sitemap(alloc: Global, list: &mut Vec<Value>, line: Line<'_>) -> Result<(
     if as_text(value).is_none() {
         return Ok(());
     }
-    Ok(list.push(shown_json(alloc, value)?)?)
+    Ok(sitemaps.push(value)?)
 }
 
 /// The sitemaps that the file lists.
 #[tactic(auto, using(crate::proofs::JsonLemmas::sitemaps_next))]
-fn sitemaps_json(alloc: Global, marks: &[MarkedLine<'_>]) -> Result<Value, AllocError>
-    ensures { IfOk result (λ value. view value
-        ≡ list_json shown_json (sitemaps_in (lines_of (map mark_by_value marks.now)))) }
+fn sitemaps_of<'a>(alloc: Global, marks: &[MarkedLine<'a>]) -> Result<Vec<&'a [u8]>, AllocError>
+    ensures { IfOk result (λ sitemaps. map (λ sitemap. sitemap.now) sitemaps.items
+        ≡ sitemaps_in (lines_of (map mark_by_value marks.now))) }
 {
-    let mut list = Vec::new(alloc);
+    let mut sitemaps = Vec::new(alloc);
     for marked in marks {
-        add_sitemap(alloc, &mut list, marked.line)?;
+        add_sitemap(&mut sitemaps, marked.line)?;
     }
-    Ok(Value::Array(list))
+    Ok(sitemaps)
 }
 
-/// A warning.
-fn warning_json(alloc: Global, warning: &Warning<'_>) -> Result<Value, AllocError>
-    ensures { IfOk result (λ value. view value ≡ warning_json (warning_value warning.now)) }
+impl<'a> Json for Warning<'a> {
+    ghost use Rattle.robots_audit.specs.Json.{warning_json};
+    ghost use Rattle.robots_warnings.specs.Steps.{warning_value};
+
+    ghost json = { λ warning. warning_json (warning_value warning) };
+
+    fn json(&self, alloc: Global) -> Result<Value, AllocError> {
+        let mut text = String::new(alloc);
+        push_warning_text(&mut text, self)?;
+        json!(in alloc; {
+            "line": self.line,
+            "name": self.cause.name(),
+            "text": text,
+        })
+    }
+}
+
+/// What each agent gets.
+fn agents_json(alloc: Global, agents: &[AgentAudit<'_>]) -> Result<Value, AllocError>
+    ensures { IfOk result (λ value. view value ≡ list_json agent_json (map agent_value agents.now)) }
 {
-    let mut text = String::new(alloc);
-    push_warning_text(&mut text, warning)?;
-    json!(in alloc; {
-        "line": warning.line,
-        "name": warning.cause.name(),
-        "text": text,
-    })
+    list_json(alloc, agents)
 }
 
 /// What is warned of.
 fn warnings_json(alloc: Global, warnings: &[Warning<'_>]) -> Result<Value, AllocError>
     ensures { IfOk result (λ value. view value ≡ list_json warning_json (map warning_value warnings.now)) }
 {
-    let mut list = Vec::with_capacity(alloc, warnings.len())?;
-    for warning in warnings {
-        list.push(warning_json(alloc, warning)?)?;
-    }
-    Ok(Value::Array(list))
+    list_json(alloc, warnings)
+}
+
+/// The sitemaps that the file lists.
+fn sitemaps_json(alloc: Global, marks: &[MarkedLine<'_>]) -> Result<Value, AllocError>
+    ensures { IfOk result (λ value. view value
+        ≡ list_json shown_json (sitemaps_in (lines_of (map mark_by_value marks.now)))) }
+{
+    let sitemaps = sitemaps_of(alloc, marks)?;
+    list_json(alloc, &sitemaps)
 }
 
 /// The lines of the file, or none where no rows are asked for.
@@ -194,7 +227,7 @@ fn rows_json(alloc: Global, has_rows: bool, marks: &[MarkedLine<'_>]) -> Result<
         ≡ list_json line_json (if has_rows then map mark_by_value marks.now else [])) }
 {
     if has_rows {
-        lines_json(alloc, marks)
+        list_json(alloc, marks)
     } else {
         Ok(Value::Array(Vec::new(alloc)))
     }

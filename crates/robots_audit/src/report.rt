@@ -11,8 +11,8 @@ use crate::delay::push_delay;
 use crate::group::Group;
 use crate::rows::push_rows;
 use robots_io::lines::push_line;
-use robots_io::verdicts::push_decision;
 use robots_io::shown::push_shown;
+use robots_io::verdicts::push_decision;
 use robots_warnings::warning::{Warning, push_warning};
 use std::alloc::{AllocError, Global};
 

@@ -7,8 +7,8 @@ ghost use Rattle.robots_audit.specs.Rows.{has_value, kind_text, mark_text, right
 
 use crate::delay::push_delay_text;
 use itoa::Buffer;
-use robots_warnings::file::is_blank;
 use robots_io::shown::push_shown;
+use robots_warnings::file::is_blank;
 use std::alloc::AllocError;
 use texting_robots::marks::{MarkedLine, Standing};
 use texting_robots::parser::Line;

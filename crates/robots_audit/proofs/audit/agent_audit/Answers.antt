@@ -1,5 +1,7 @@
 use Rattle.std.proofs.Common.{List, ap, sym, ◌∙◌}
+use Rattle.std.specs.List.{list_any}
 use Rattle.texting_robots.specs.Callers.{LineValue, RobotValue, file_lines}
+use Rattle.texting_robots.specs.Group.{is_agent}
 use Rattle.robots_audit.specs.Audit.{group_of}
 use Rattle.robots_audit.specs.Steps.{agent_value}
 use Rattle.robots_audit.proofs.AuditLemmas.{agent_made}
@@ -14,8 +16,9 @@ returns-in-Ok-clause-ok c =
       verdicts = c.in-Ok.verdicts;
     }) c.in_ok-robot.robot
     c.in_ok-robot.ensures.ok c.in_ok-name.ensures.ok
-    (c.group_of.ensures ∙ ap (λ (lines : List LineValue). group_of c.args.agent.now lines) c.requires.marks)
+    (c.group_of.ensures ∙ ap (λ text. group_of c.args.agent.now (file_lines text)) c.requires.site)
     (ap (λ (r : RobotValue). r.delay) c.robot.view_is) c.in-Ok.ensures.ok
 
 pub group_of-requires : goal.group_of-requires
-group_of-requires c = ap file_lines c.requires.site ∙ sym c.requires.marks
+group_of-requires c =
+    c.requires.agents ∙ sym (ap (λ text. list_any is_agent (file_lines text)) c.requires.site)
