@@ -16,7 +16,7 @@ agents_of-requires-clause-facts c =
     ap (λ facts. facts.kinds.user_agent) c.facts_of-facts.ensures
     ∙ ap (λ marks. list_any is_agent (lines_of (map mark_by_value marks))) c.deref.ensures.value
     ∙ ap (λ marks. list_any is_agent (lines_of marks)) c.in_ok-marks.ensures
-    ∙ ap (list_any is_agent) (lines_marked _ _)
+    ∙ ap (list_any is_agent) (lines_marked c.marking_agent.result.now (lines_read c.args.file.now))
 
 pub returns-clause-ok : goal.returns-clause-ok
 returns-clause-ok c = record {
