@@ -147,6 +147,7 @@ FAULTS = {
     "an unknown option and the like": {"args": ["--bogus"]},
     "no agent, without `--agents`": {},
     "an argument that isn't UTF-8": {"args": [b"\xff"]},
+    "a name after `--only` or `--ignore` that no warning has": {"args": ["--ignore", "NAME", "B"]},
     "a file that can't be opened or read": {"args": ["-f", "NAME", "B"]},
     "standard input that can't be read": {"args": ["B"], "stdin": "/"},
     "a write or a flush that fails, as into a closed pipe": {"args": ["B"], "stdout": "/dev/full"},

@@ -10,7 +10,7 @@ use Rattle.robots_audit.specs.declared.audit.AgentAudit.{AgentAudit}
 use Rattle.robots_audit.specs.declared.audit.Verdict.{Verdict}
 use Rattle.robots_audit.specs.declared.fault.Fault.{Fault}
 use Rattle.robots_audit.specs.declared.fault.Fault.TheVariants.{File, InvalidRule, Memory}
-use Rattle.robots_audit.specs.declared.fault.Fault.TheVariants.{NotUtf8, Read, Usage, Words, Write}
+use Rattle.robots_audit.specs.declared.fault.Fault.TheVariants.{NotUtf8, Read, UnknownWarning, Usage, Words, Write}
 use Rattle.texting_robots.specs.Callers.{LineValue, group_name}
 use Rattle.texting_robots.specs.Marks.{mark_at}
 use Rattle.robots_warnings.specs.File.{lines_of, marks_for}
@@ -63,6 +63,7 @@ pub may_fail : (agents : List (List ℕ)) (agent : List ℕ) (fault : Fault) (fi
 may_fail agents agent (Words text) file has may = may
 may_fail agents agent Usage file has may = may
 may_fail agents agent NotUtf8 file has may = may
+may_fail agents agent (UnknownWarning name) file has may = may
 may_fail agents agent (File name) file has may = may
 may_fail agents agent Read file has may = tt
 may_fail agents agent Write file has may = tt

@@ -30,6 +30,8 @@ asked_by request = record {
   urls = map (λ url. url.now) request.urls.items;
   is_quiet = request.is_quiet;
   is_json = request.is_json;
+  only = map (λ name. name.now) request.only.items;
+  ignored = map (λ name. name.now) request.ignored.items;
 }
 
 -- ---- what is said

@@ -14,14 +14,18 @@ use Rattle.robots_audit.specs.declared.group.Group.TheVariants.{Everyone, Named,
 use Rattle.robots_warnings.specs.Facts.{facts_of}
 use Rattle.robots_warnings.specs.File.{marks_for}
 use Rattle.robots_warnings.specs.Warnings.{WarningValue, warnings}
+use Rattle.robots_audit.specs.Chosen.{chosen}
 
 -- what an audit is asked for: an agent, or none for each that the file names; URLs; whether there are rows;
--- and whether it is written as JSON
+-- whether it is written as JSON; the names of the warnings that are given, or none for all; and of those that
+-- are left out
 pub record Asked : Type 0 where
   pub agent : Option (List ℕ)
   pub urls : List (List ℕ)
   pub is_quiet : Bool
   pub is_json : Bool
+  pub only : List (List ℕ)
+  pub ignored : List (List ℕ)
 
 -- ---- which agents
 
@@ -98,9 +102,10 @@ marking_agent None = codes "*"
 abbrev pub marks_asked : Asked → List ℕ → List Mark
 marks_asked asked file = marks_for (marking_agent asked.agent) (lines_read file)
 
--- what is warned of
+-- what is warned of, as far as it is asked for
 abbrev pub warnings_asked : Asked → List ℕ → List Mark → List WarningValue
-warnings_asked asked file marks = warnings asked.agent asked.urls file (facts_of file marks) marks
+warnings_asked asked file marks =
+    chosen asked.only asked.ignored (warnings asked.agent asked.urls file (facts_of file marks) marks)
 
 pub record IsAuditOf (asked : Asked) (file : List ℕ) (audit : AuditValue) : Type 0 where
   pub marks_are : audit.marks ≡ marks_asked asked file

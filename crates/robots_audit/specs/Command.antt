@@ -1,13 +1,17 @@
 -- What the words behind the program's name ask for, by what `clap` found in them.
 use Rattle.std.specs.Prelude.{◌≡◌, ◌⊎◌, ℕ, Bool, true, false, List, [], ◌∷◌, ◌++◌}
 use Rattle.std.specs.Prelude.{Option, Some, None}
-use Rattle.std.specs.Prelude.{Result, Ok, Err, bytes_eq, codes, if◌then◌else◌, is_none, map, option_map}
+use Rattle.std.specs.Prelude.{Contains, IsTrue, Result, Ok, Err, bytes_eq, codes, if◌then◌else◌, is_none, map}
+use Rattle.std.specs.Prelude.{option_map, string_bytes}
+use Rattle.std.specs.List.{list_all}
 use Rattle.std.specs.Option.{option_map_or}
 use Rattle.clap.specs.Words.{first_value, found_of, matched_of, one_text, raw_values}
 use Rattle.clap.specs.declared.parser.matches.ArgMatches.{ArgMatches}
 use Rattle.robots_audit.specs.declared.command.Request.{Request}
 use Rattle.robots_audit.specs.declared.fault.Fault.{Fault}
-use Rattle.robots_audit.specs.declared.fault.Fault.TheVariants.{Memory, Usage}
+use Rattle.robots_audit.specs.declared.fault.Fault.TheVariants.{Memory, UnknownWarning, Usage}
+use Rattle.robots_io.specs.Shown.{shown}
+use Rattle.robots_warnings.specs.Table.{is_name}
 
 -- the first value that was given under a name
 abbrev pub value_of : ArgMatches → List ℕ → Option (List ℕ)
@@ -38,6 +42,11 @@ abbrev pub AreWordsOf : Option (List ℕ) → List (List ℕ) → List (List ℕ
 AreWordsOf (Some agent) urls words = words ≡ agent ∷ urls
 AreWordsOf None urls words = words ≡ urls
 
+-- names of warnings that were given under a name
+pub record AreNamesOf (matches : ArgMatches) (id : List ℕ) (names : List (List ℕ)) : Type 0 where
+  pub all : names ≡ values_of matches id
+  pub known : IsTrue (list_all is_name names)
+
 pub record IsRequestOf (matches : ArgMatches) (request : Request) : Type 0 where
   pub file : option_map (λ name. name.now) request.file ≡ file_read (value_of matches (codes "file"))
   pub quiet : IsOn matches (codes "quiet") request.is_quiet
@@ -46,8 +55,23 @@ pub record IsRequestOf (matches : ArgMatches) (request : Request) : Type 0 where
   pub agents : IsOn matches (codes "agents") (is_none request.agent)
   pub words : AreWordsOf (option_map (λ agent. agent.now) request.agent)
       (map (λ url. url.now) request.urls.items) (words_of matches)
+  pub only : AreNamesOf matches (codes "only") (map (λ name. name.now) request.only.items)
+  pub ignored : AreNamesOf matches (codes "ignore") (map (λ name. name.now) request.ignored.items)
 
--- a request, or a fault: no agent was given, or memory is wanting
+-- no warning has this name, or an allocation failed
+abbrev pub IsUnknown : List ℕ → Fault → Type 0
+IsUnknown name (UnknownWarning text) = string_bytes text ≡ shown name
+IsUnknown name fault = fault ≡ Memory
+
+-- no warning has some name of these, or an allocation failed
+abbrev pub IsUnknownIn : List (List ℕ) → Fault → Type 0
+IsUnknownIn names fault =
+    (fault ≡ Memory) ⊎ ((name : List ℕ) × Contains names name × (is_name name ≡ false) × IsUnknown name fault)
+
+-- a request, or a fault: no agent was given, no warning has a name that was given, or an allocation failed
 abbrev pub Asks : ArgMatches → Result Request Fault → Type 0
 Asks matches (Ok request) = IsRequestOf matches request
-Asks matches (Err fault) = ((words_of matches ≡ []) × (fault ≡ Usage)) ⊎ (fault ≡ Memory)
+Asks matches (Err fault) =
+    ((words_of matches ≡ []) × (fault ≡ Usage))
+    ⊎ (IsUnknownIn (values_of matches (codes "only")) fault
+    ⊎ IsUnknownIn (values_of matches (codes "ignore")) fault)

@@ -7,7 +7,7 @@ use Rattle.robots_io.specs.declared.ends.ReadFault.{ReadFault}
 use Rattle.robots_io.specs.declared.ends.ReadFault.TheVariants as read
 use Rattle.robots_audit.specs.declared.fault.Fault.{Fault}
 use Rattle.robots_audit.specs.declared.fault.Fault.TheVariants.{File, InvalidRule, Memory}
-use Rattle.robots_audit.specs.declared.fault.Fault.TheVariants.{NotUtf8, Read, Usage, Words, Write}
+use Rattle.robots_audit.specs.declared.fault.Fault.TheVariants.{NotUtf8, Read, UnknownWarning, Usage, Words, Write}
 use Rattle.robots_audit.specs.declared.fault.Outcome.{Outcome}
 
 -- why the program stopped
@@ -15,6 +15,7 @@ abbrev pub reason_of : Fault → List ℕ
 reason_of (Words text) = string_bytes text
 reason_of Usage = codes "missing AGENT (or use --agents)"
 reason_of NotUtf8 = codes "arguments must be valid UTF-8"
+reason_of (UnknownWarning name) = codes "unknown warning " ++ string_bytes name
 reason_of (File name) = codes "cannot read " ++ string_bytes name
 reason_of Read = codes "cannot read standard input"
 reason_of Write = codes "cannot write the report"
@@ -28,6 +29,7 @@ abbrev pub usage_behind : Fault → List ℕ
 usage_behind (Words text) = []
 usage_behind Usage = codes "; usage: robots_audit [OPTIONS] AGENT [URL].."
 usage_behind NotUtf8 = codes "; usage: robots_audit [OPTIONS] AGENT [URL].."
+usage_behind (UnknownWarning name) = codes "; usage: robots_audit [OPTIONS] AGENT [URL].."
 usage_behind (File name) = []
 usage_behind Read = []
 usage_behind Write = []
@@ -60,6 +62,7 @@ abbrev pub MayFail : List (List ℕ) → Fault → List ℕ → Type 0
 MayFail agents (Words text) file = ⊥
 MayFail agents Usage file = ⊥
 MayFail agents NotUtf8 file = ⊥
+MayFail agents (UnknownWarning name) file = ⊥
 MayFail agents (File name) file = ⊥
 MayFail agents Read file = ⊤
 MayFail agents Write file = ⊤

@@ -3,6 +3,7 @@ pub mod Fault
 pub mod Delay
 pub mod Rows
 pub mod Audit
+pub mod Chosen
 pub mod Report
 pub mod Json
 pub mod Answer

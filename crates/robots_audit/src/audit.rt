@@ -5,6 +5,7 @@ ghost use Rattle.texting_robots.specs.Callers.{IsRobotOfFile, file_limit, lines_
 ghost use Rattle.texting_robots.specs.Group.{is_agent};
 ghost use Rattle.robots_audit.specs.Answer.{asked_by};
 ghost use Rattle.robots_audit.specs.Audit.{IsAgentAudit, IsAuditOf, IsVerdictOn, agents_asked, all_allowed, allows_all, marking_agent};
+ghost use Rattle.robots_audit.specs.Chosen.{chosen};
 ghost use Rattle.robots_audit.specs.Fault.{MayFail};
 ghost use Rattle.robots_warnings.specs.File.{lines_of, marks_for};
 ghost use Rattle.robots_warnings.specs.Steps.{warning_value};
@@ -12,6 +13,7 @@ ghost use Rattle.robots_warnings.specs.Warnings.{warnings};
 ghost use Rattle.robots_audit.specs.Steps.{agent_value, audit_value, verdict_value};
 
 use crate::agents::agents_asked;
+use crate::chosen::chosen;
 use crate::command::Request;
 use crate::fault::Fault;
 use crate::group::{Group, group_of};
@@ -176,10 +178,12 @@ fn warnings_of<'a>(
     marks: &[MarkedLine<'_>],
 ) -> Result<Vec<Warning<'a>>, AllocError>
     ensures { IfOk result (λ found. map warning_value found.items
-        ≡ warnings (asked_by request.now).agent (asked_by request.now).urls file.now facts
-        (map mark_by_value marks.now)) }
+        ≡ chosen (asked_by request.now).only (asked_by request.now).ignored
+        (warnings (asked_by request.now).agent (asked_by request.now).urls file.now facts
+        (map mark_by_value marks.now))) }
 {
-    warnings(alloc, request.agent, &request.urls, file, facts, marks)
+    let all = warnings(alloc, request.agent, &request.urls, file, facts, marks)?;
+    chosen(alloc, &request.only, &request.ignored, &all)
 }
 
 /// What is found out about a file.

@@ -1,9 +1,13 @@
 //! What the words behind the program's name ask for.
-ghost use Rattle.std.specs.Prelude.{◌≡◌, ◌++◌, IfOk, OnOk, map, option_map};
-ghost use Rattle.robots_audit.specs.Command.{Asks, file_read, values_of, words_of};
+ghost use Rattle.std.specs.Prelude.{◌≡◌, ◌++◌, IfErr, IfOk, IsTrue, OnOk, map, option_map};
+ghost use Rattle.std.specs.List.{list_all};
+ghost use Rattle.robots_warnings.specs.Table.{is_name};
+ghost use Rattle.robots_audit.specs.Command.{AreNamesOf, Asks, IsUnknown, IsUnknownIn, file_read, values_of, words_of};
 
 use crate::fault::Fault;
 use clap::{Arg, ArgAction, ArgMatches, Command};
+use robots_io::shown::push_shown;
+use robots_warnings::table::is_name;
 use std::alloc::{AllocError, Global};
 
 /// What the program is asked for.
@@ -21,6 +25,10 @@ pub struct Request<'a> {
     pub agent: Option<&'a str>,
     /// The URLs.
     pub urls: Vec<&'a str>,
+    /// The names of the warnings that are given; none for all.
+    pub only: Vec<&'a str>,
+    /// The names of warnings that are left out.
+    pub ignored: Vec<&'a str>,
 }
 
 /// An option that is on or off.
@@ -66,13 +74,39 @@ fn with_switches<'a>(alloc: Global, called: Command<'a>) -> Result<Command<'a>, 
     called.arg(strict)
 }
 
+/// An option that takes the name of a warning, and may be repeated.
+fn naming<'a>(alloc: Global, name: &'a str, help: &'a str) -> Arg<'a> {
+    Arg::new(alloc, name)
+        .long(name)
+        .value_name("NAME")
+        .action(ArgAction::Append)
+        .help(help)
+}
+
+/// Takes the names of warnings.
+fn with_names<'a>(alloc: Global, called: Command<'a>) -> Result<Command<'a>, AllocError> {
+    let only = naming(
+        alloc,
+        "only",
+        "Give only warnings with this name; may be repeated",
+    );
+    let called = called.arg(only)?;
+    let ignored = naming(
+        alloc,
+        "ignore",
+        "Leave out warnings with this name; may be repeated",
+    );
+    called.arg(ignored)
+}
+
 /// How the program is called.
 pub fn command<'a>(alloc: Global) -> Result<Command<'a>, AllocError> {
     let called = Command::new(alloc, "robots_audit")
         .version("0.1.0")
         .about("Explains how a crawler interprets a robots.txt file")
         .override_usage("robots_audit [OPTIONS] AGENT [URL]..");
-    with_switches(alloc, with_words(alloc, called)?)
+    let called = with_switches(alloc, with_words(alloc, called)?)?;
+    with_names(alloc, called)
 }
 
 /// The name of the file that is read; none for standard input.
@@ -110,6 +144,53 @@ fn words_of<'a>(alloc: Global, matches: &ArgMatches<'a>) -> Result<Vec<&'a str>,
     Ok(words)
 }
 
+/// All values that were given under a name.
+fn values_of<'a>(
+    alloc: Global,
+    matches: &ArgMatches<'a>,
+    id: &str,
+) -> Result<Vec<&'a str>, AllocError>
+    ensures { IfOk result (λ values. map (λ value. value.now) values.items ≡ values_of matches.now id.now) }
+{
+    let mut values = Vec::new(alloc);
+    add_values(&mut values, matches, id)?;
+    Ok(values)
+}
+
+/// The fault of a name that no warning has.
+fn unknown(alloc: Global, name: &str) -> Fault
+    ensures { IsUnknown name.now result }
+{
+    let mut shown = String::new(alloc);
+    match push_shown(&mut shown, name.as_bytes()) {
+        Ok(()) => Fault::UnknownWarning(shown),
+        Err(_) => Fault::Memory,
+    }
+}
+
+/// Fails with the first of these names that no warning has.
+fn known(alloc: Global, names: &[&str]) -> Result<(), Fault>
+    ensures ok { OnOk result (IsTrue (list_all is_name (map (λ name. name.now) names.now))) }
+    ensures fault { IfErr result (IsUnknownIn (map (λ name. name.now) names.now)) }
+{
+    for name in names {
+        if !is_name(name) {
+            return Err(unknown(alloc, name));
+        }
+    }
+    Ok(())
+}
+
+/// The names of warnings that were given under a name.
+fn names_of<'a>(alloc: Global, matches: &ArgMatches<'a>, id: &str) -> Result<Vec<&'a str>, Fault>
+    ensures ok { IfOk result (λ names. AreNamesOf matches.now id.now (map (λ name. name.now) names.items)) }
+    ensures fault { IfErr result (IsUnknownIn (values_of matches.now id.now)) }
+{
+    let names = values_of(alloc, matches, id)?;
+    known(alloc, &names)?;
+    Ok(names)
+}
+
 /// What was asked for.
 pub fn requested<'a>(alloc: Global, matches: &ArgMatches<'a>) -> Result<Request<'a>, Fault>
     ensures { Asks matches.now result }
@@ -129,5 +210,7 @@ pub fn requested<'a>(alloc: Global, matches: &ArgMatches<'a>) -> Result<Request<
         is_strict: matches.get_flag("strict"),
         agent,
         urls,
+        only: names_of(alloc, matches, "only")?,
+        ignored: names_of(alloc, matches, "ignore")?,
     })
 }

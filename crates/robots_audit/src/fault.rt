@@ -28,6 +28,8 @@ pub enum Fault {
     Usage,
     /// An argument isn't UTF-8.
     NotUtf8,
+    /// No warning has this name, as it is shown.
+    UnknownWarning(String),
     /// The file with this name, as it is shown, can't be read.
     File(String),
     /// A read failed, or the file didn't end within the reads that are made.
@@ -51,6 +53,7 @@ impl fmt::Display for Fault {
             Fault::Words(text) => f.write_str(text),
             Fault::Usage => f.write_str("missing AGENT (or use --agents)"),
             Fault::NotUtf8 => f.write_str("arguments must be valid UTF-8"),
+            Fault::UnknownWarning(name) => write!(f, "unknown warning {name}"),
             Fault::File(name) => write!(f, "cannot read {name}"),
             Fault::Read => f.write_str("cannot read standard input"),
             Fault::Write => f.write_str("cannot write the report"),
@@ -115,7 +118,8 @@ fn usage_behind(fault: &Fault) -> &'static str
     ensures { result.now ≡ usage_behind fault.now }
 {
     match fault {
-        Fault::Usage | Fault::NotUtf8 => "; usage: robots_audit [OPTIONS] AGENT [URL]..",
+        Fault::Usage | Fault::NotUtf8 | Fault::UnknownWarning(_) =>
+            "; usage: robots_audit [OPTIONS] AGENT [URL]..",
         _ => "",
     }
 }

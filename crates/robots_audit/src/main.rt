@@ -11,6 +11,7 @@
 
 mod agents;
 mod audit;
+mod chosen;
 mod command;
 mod delay;
 mod fault;

@@ -1,5 +1,6 @@
 -- Every warning, with its name and its text. The texts are those of the table in src/table.rt.
-use Rattle.std.specs.Prelude.{ℕ, List, [], map, slice_index_or}
+use Rattle.std.specs.Prelude.{ℕ, Bool, List, [], bytes_eq, map, slice_index_or}
+use Rattle.std.specs.List.{list_any}
 use denote.Enum.Declared.{tag_of}
 use Rattle.robots_warnings.specs.contracts.table.Cause.{the_type}
 use Rattle.robots_warnings.specs.declared.table.Cause.{Cause}
@@ -16,3 +17,7 @@ name_of cause = slice_index_or (map (λ row. row.1.now) WARNINGS) (number_of cau
 -- its text
 unfoldable pub text_of : Cause → List ℕ
 text_of cause = slice_index_or (map (λ row. row.2.now) WARNINGS) (number_of cause) []
+
+-- some warning has this name
+unfoldable pub is_name : List ℕ → Bool
+is_name name = list_any (λ row. bytes_eq row.1.now name) WARNINGS

@@ -1,8 +1,9 @@
 //! Every warning, in the order of output: its name, which is shown in `[..]` and is the `name` in JSON, and its text, which says what
 //! is wrong, what happens, and what to do. `checks` has the condition of each.
-ghost use Rattle.std.specs.Prelude.{◌≡◌, ◌<◌, length};
+ghost use Rattle.std.specs.Prelude.{◌≡◌, ◌<◌, bytes_eq, length};
+ghost use Rattle.std.specs.List.{list_any};
 ghost use Rattle.robots_warnings.specs.Steps.{IsRowAt};
-ghost use Rattle.robots_warnings.specs.Table.{name_of, text_of};
+ghost use Rattle.robots_warnings.specs.Table.{is_name, name_of, text_of};
 
 /// Why something is warned of. A row of [`WARNINGS`] explains each.
 #[derive(Clone, Copy, PartialEq, Eq)]
@@ -176,6 +177,21 @@ fn row_at(
     ensures { IsRowAt rows.now number result.now }
 {
     &rows[number]
+}
+
+/// Whether one of the rows has this name.
+fn has_name(rows: &'static [(Cause, &'static str, &'static str)], name: &str) -> bool
+    ensures { result ≡ list_any (λ row. bytes_eq row.1.now name.now) rows.now }
+{
+    rows.iter().any(|row| row.1 == name)
+}
+
+/// Whether a warning has this name.
+#[tactic(auto, unfolding(crate::specs::Table::is_name))]
+pub fn is_name(name: &str) -> bool
+    ensures { result ≡ is_name name.now }
+{
+    has_name(&WARNINGS, name)
 }
 
 impl Cause {

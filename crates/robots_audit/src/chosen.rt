@@ -1,0 +1,46 @@
+//! Which warnings are given, by their names.
+ghost use Rattle.std.specs.Prelude.{◌≡◌, IfOk, map};
+ghost use Rattle.robots_audit.specs.Chosen.{chosen, is_among_names, is_chosen};
+ghost use Rattle.robots_warnings.specs.Steps.{warning_value};
+
+use robots_warnings::warning::Warning;
+use std::alloc::{AllocError, Global};
+
+/// Whether the name is one of these.
+fn is_among_names(names: &[&str], name: &str) -> bool
+    ensures { result ≡ is_among_names (map (λ name. name.now) names.now) name.now }
+{
+    for other in names {
+        if *other == name {
+            return true;
+        }
+    }
+    false
+}
+
+/// Whether a warning with this name is given.
+fn is_chosen(only: &[&str], ignored: &[&str], name: &str) -> bool
+    ensures { result ≡ is_chosen (map (λ name. name.now) only.now) (map (λ name. name.now) ignored.now) name.now }
+{
+    (only.is_empty() || is_among_names(only, name)) && !is_among_names(ignored, name)
+}
+
+/// Those of the warnings that are given: those named by `only`, or all where it is empty, without those named by `ignored`.
+pub(crate) fn chosen<'a>(
+    alloc: Global,
+    only: &[&str],
+    ignored: &[&str],
+    warnings: &[Warning<'a>],
+) -> Result<Vec<Warning<'a>>, AllocError>
+    ensures { IfOk result (λ found. map warning_value found.items
+        ≡ chosen (map (λ name. name.now) only.now) (map (λ name. name.now) ignored.now)
+        (map warning_value warnings.now)) }
+{
+    let mut found = Vec::new(alloc);
+    for warning in warnings {
+        if is_chosen(only, ignored, warning.cause.name()) {
+            found.push(*warning)?;
+        }
+    }
+    Ok(found)
+}
