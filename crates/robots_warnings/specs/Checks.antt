@@ -1,6 +1,6 @@
 -- The condition of each warning, grouped by what it inspects, in the order of output.
 use Rattle.std.specs.Prelude.{ℕ, Bool, true, false, List, [], ◌∷◌, ◌++◌, Option, None, Some, if◌then◌else◌}
-use Rattle.std.specs.Prelude.{nat_lt, not}
+use Rattle.std.specs.Prelude.{nat_lt, not, ◌&&◌}
 use Rattle.std.specs.Str.{is_utf8}
 use Rattle.texting_robots.specs.Callers.{Allow, CrawlDelay, Disallow, LineValue, Mark, Raw, Sitemap}
 use Rattle.texting_robots.specs.Callers.{UserAgent}
@@ -26,6 +26,7 @@ file_checks facts =
     ∷ (cause.LooksLikeUtf16, facts.is_utf_16)
     ∷ (cause.NoDirectives, facts.is_other_text)
     ∷ (cause.FileTooLarge, facts.is_too_large)
+    ∷ (cause.NoUserAgent, facts.kinds.rule && not facts.kinds.user_agent)
     ∷ []
 
 -- the crawler that is asked about

@@ -24,7 +24,7 @@ pub(crate) type Check = (Cause, bool);
 const DAY: u64 = 86_400_000_000;
 
 /// Those of a file.
-pub(crate) fn file_checks(facts: FileFacts) -> [Check; 4]
+pub(crate) fn file_checks(facts: FileFacts) -> [Check; 5]
     ensures { result ≡ file_checks facts }
 {
     [
@@ -32,6 +32,10 @@ pub(crate) fn file_checks(facts: FileFacts) -> [Check; 4]
         (Cause::LooksLikeUtf16, facts.is_utf_16),
         (Cause::NoDirectives, facts.is_other_text),
         (Cause::FileTooLarge, facts.is_too_large),
+        (
+            Cause::NoUserAgent,
+            facts.kinds.rule && !facts.kinds.user_agent,
+        ),
     ]
 }
 

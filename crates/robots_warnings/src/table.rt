@@ -14,6 +14,7 @@ pub enum Cause {
     LooksLikeUtf16,
     NoDirectives,
     FileTooLarge,
+    NoUserAgent,
     // the crawler
     SpaceAroundAgent,
     VersionInAgent,
@@ -67,7 +68,7 @@ pub enum Cause {
 
 /// The warnings with their names and texts.
 #[rattlefmt::skip]
-pub static WARNINGS: [(Cause, &str, &str); 44] = [
+pub static WARNINGS: [(Cause, &str, &str); 45] = [
     // the file
     (Cause::LooksLikeHtml, "looks-like-html",
         "no valid line found; the file starts with < and looks like an HTML page; serve a plain-text robots.txt instead"),
@@ -77,6 +78,8 @@ pub static WARNINGS: [(Cause, &str, &str); 44] = [
         "no User-agent, Allow, Disallow, Crawl-delay or Sitemap line found, so everything is allowed; write one directive per line, for example: Disallow: /search"),
     (Cause::FileTooLarge, "file-too-large",
         "the file is larger than 512,000 bytes (500 KiB); the rest is ignored; shorten it or move important groups to the top"),
+    (Cause::NoUserAgent, "no-user-agent",
+        "the file has rules but no User-agent line; they are applied here, but Google ignores them; add User-agent: * above them"),
     // the crawler
     (Cause::SpaceAroundAgent, "space-around-agent",
         "AGENT has leading or trailing white space, so it matches no User-agent line; remove the spaces"),
