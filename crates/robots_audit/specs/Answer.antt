@@ -46,7 +46,7 @@ output asked audit =
     if asked.is_json then json_text (has_rows asked) audit
     else ended (report_lines (has_rows asked) audit)
 
--- what is said of it on standard error: the warnings, unless they stand in the JSON
+-- what is said of it on standard error: the warnings, unless they are in the JSON
 abbrev pub said : Asked → AuditValue → List ℕ
 said asked audit = if asked.is_json then [] else ended (warning_lines audit.warnings)
 
@@ -93,12 +93,12 @@ pub record Helps (text : List ℕ) (old new : Option (List ℕ)) (result : Resul
   pub fault : IfErr result (λ fault. fault ≡ Write)
   pub beginning : AppendsBeginning old new text
 
--- the words can't be read, of which `clap` says this, or memory is wanting to say so
+-- the words can't be read, of which `clap` says this, or an allocation failed
 abbrev pub IsRefusal : List ℕ → Fault → Type 0
 IsRefusal said (Words text) = string_bytes text ≡ shown_lines said
 IsRefusal said fault = fault ≡ Memory
 
--- a file with this name can't be read, or memory is wanting to say so
+-- a file with this name can't be read, or an allocation failed
 abbrev pub IsUnread : List ℕ → Fault → Type 0
 IsUnread name (File text) = string_bytes text ≡ shown name
 IsUnread name fault = fault ≡ Memory

@@ -34,7 +34,7 @@ abbrev pub is_among : List ℕ → List (List ℕ) → Bool
 is_among name names =
     list_any (λ other. bytes_eq (str_to_ascii_lowercase other) (str_to_ascii_lowercase name)) names
 
--- the names, and that of the line behind them where it is a new one; an agent is given as text, so a name
+-- the names, and that of the line after them where it is a new one; an agent is given as text, so a name
 -- that isn't UTF-8 is no agent's
 abbrev pub with_name : List (List ℕ) → LineValue → List (List ℕ)
 with_name names (UserAgent name) =

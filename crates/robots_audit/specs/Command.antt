@@ -1,4 +1,4 @@
--- What the words behind the program's name ask for, by what `clap` found in them.
+-- What the arguments ask for, by what `clap` found in them.
 use Rattle.std.specs.Prelude.{◌≡◌, ◌⊎◌, ℕ, Bool, true, false, List, [], ◌∷◌, ◌++◌}
 use Rattle.std.specs.Prelude.{Option, Some, None}
 use Rattle.std.specs.Prelude.{Contains, IsTrue, Result, Ok, Err, bytes_eq, codes, if◌then◌else◌, is_none, map}

@@ -24,7 +24,7 @@ reason_of (InvalidRule line) =
     ++ codes ": a pattern with $ longer than 4,096 bytes isn't supported; shorten it"
 reason_of Memory = codes "out of memory"
 
--- behind a fault in the words, how the program is called
+-- after a fault in the arguments, how the program is called
 abbrev pub usage_behind : Fault → List ℕ
 usage_behind (Words text) = []
 usage_behind Usage = codes "; usage: robots_audit [OPTIONS] AGENT [URL].."

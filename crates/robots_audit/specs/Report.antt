@@ -43,7 +43,7 @@ report_lines has_rows audit =
 
 -- ---- what is warned of
 
--- a warning behind the program's name
+-- a warning after the program's name
 abbrev pub said_line : WarningValue → List ℕ
 said_line warning = codes "robots_audit: warning: " ++ warning_line warning
 

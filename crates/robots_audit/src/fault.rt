@@ -13,7 +13,7 @@ pub struct Outcome {
     pub all_allowed: bool,
     /// Whether something is warned of.
     pub is_warned: bool,
-    /// What is warned of, a line each; nothing where it stands in the report.
+    /// What is warned of, a line each; nothing where it is in the report.
     pub warnings: String,
     /// Whether a warning counts as a URL that is denied.
     pub is_strict: bool,
@@ -113,7 +113,7 @@ impl From<WriteFault> for Fault {
     }
 }
 
-/// How the program is called, behind a fault in the words.
+/// How the program is called, after a fault in the arguments.
 fn usage_behind(fault: &Fault) -> &'static str
     ensures { result.now ≡ usage_behind fault.now }
 {

@@ -101,7 +101,7 @@ impl<'a> Json for AgentAudit<'a> {
     }
 }
 
-/// The word for where a line stands.
+/// The word for the standing of a line.
 fn standing_word(standing: Standing) -> &'static str
     ensures { result.now ≡ standing_word standing }
 {

@@ -11,7 +11,7 @@ use Rattle.robots_warnings.specs.File.{lines_of}
 use Rattle.robots_warnings.specs.Steps.{kinds_with}
 use Rattle.robots_warnings.specs.Facts.{nul_at_every_other}
 
--- whether NULs stand at every other place from one place on, by the byte there
+-- whether every other byte is a NUL from one index on, by the byte there
 pub nul_from : (here : Bool) (bytes : List ℕ) (at byte : ℕ) → at < length bytes
     → nul_at_every_other here (drop at bytes)
     ≡ ((not here || slice_index_or bytes at byte == 0)

@@ -13,15 +13,15 @@ use Rattle.robots_warnings.specs.Urls.{begins_as_url}
 abbrev pub has : ℕ → List ℕ → Bool
 has b text = list_any (λ c. c == b) text
 
--- what stands before the first such byte, or all where none does
+-- what is before the first such byte, or all if there is none
 abbrev pub before_byte : ℕ → List ℕ → List ℕ
 before_byte b text = before_first (λ c. c == b) text
 
--- what stands behind the first such byte, or nothing where none does
+-- what is after the first such byte, or nothing if there is none
 abbrev pub behind_byte : ℕ → List ℕ → List ℕ
 behind_byte b text = after_first (λ c. c == b) text
 
--- the test holds of what stands in the text from some byte on
+-- the test holds of the text from some byte on
 abbrev pub somewhere : (List ℕ → Bool) → List ℕ → Bool
 somewhere test [] = false
 somewhere test (b ∷ text) = test (b ∷ text) || somewhere test text
@@ -51,7 +51,7 @@ holds_otherwise in_query (b ∷ value) =
 
 -- ---- quotes
 
--- the byte stands first and last, and these are two
+-- the byte is first and last, and these are two
 abbrev pub stands_around : ℕ → List ℕ → Bool
 stands_around b value =
     nat_lt 1 (length value)
@@ -66,7 +66,7 @@ has_odd_start value = begins_oddly value && not (begins_as_url value || is_quote
 
 -- ---- regular expressions
 
--- a choice, as `(a|b)`: a `)` behind a `|` behind a `(`
+-- a choice, as `(a|b)`: a `)` after a `|` after a `(`
 abbrev pub has_choice : List ℕ → Bool
 has_choice value = has (byte ")") (behind_byte (byte "|") (behind_byte (byte "(") value))
 
@@ -90,7 +90,7 @@ is_expression value =
 
 -- ---- dollars
 
--- behind its first `$` stands something other than stars and `$`
+-- something other than stars and `$` is after its first `$`
 abbrev pub has_dollar_inside : List ℕ → Bool
 has_dollar_inside value =
     list_any (λ b. not (b == byte "*" || b == byte "$")) (behind_byte (byte "$") value)

@@ -6,7 +6,7 @@ use Rattle.texting_robots.specs.Callers.{UserAgent, is_own}
 use Rattle.robots_warnings.specs.declared.scopes.Run.{Run}
 use Rattle.robots_warnings.specs.BothWays.{Scoped}
 
--- the run of user-agent lines behind a line, by the run before it: the number of its first line, and whether
+-- the run of user-agent lines after a line, by the run before it: the number of its first line, and whether
 -- the next user-agent line belongs to it
 abbrev pub run_with : Run → ℕ → LineValue → Run
 run_with run number (UserAgent value) =

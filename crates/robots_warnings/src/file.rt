@@ -22,7 +22,7 @@ fn most_lines(file: &[u8]) -> usize {
     ends.count().saturating_add(1)
 }
 
-/// The lines of a file, each with its number and where it stands to the agent.
+/// The lines of a file, each with its number and its standing for the crawler.
 pub fn marks_for<'a>(
     alloc: Global,
     agent: &str,

@@ -20,7 +20,7 @@ fn has(byte: u8, text: &[u8]) -> bool
     text.iter().any(|other| *other == byte)
 }
 
-/// Where the first such byte stands, or how long the text is where none does.
+/// The index of the first such byte, or how long the text is if there is none.
 fn place(byte: u8, text: &[u8]) -> usize
     ensures value { result ≡ position_or_len (λ b. b == byte) text.now }
     ensures within { result ≤ length text.now }
@@ -28,14 +28,14 @@ fn place(byte: u8, text: &[u8]) -> usize
     text.iter().take_while(|other| **other != byte).count()
 }
 
-/// What stands before the first such byte, or all where none does.
+/// What is before the first such byte, or all if there is none.
 pub(crate) fn before_byte(byte: u8, text: &[u8]) -> &[u8]
     ensures { result.now ≡ before_byte byte text.now }
 {
     &text[..place(byte, text)]
 }
 
-/// What stands behind the first such byte, or nothing where none does.
+/// What is after the first such byte, or nothing if there is none.
 fn behind_byte(byte: u8, text: &[u8]) -> &[u8]
     ensures { result.now ≡ behind_byte byte text.now }
 {
@@ -45,7 +45,7 @@ fn behind_byte(byte: u8, text: &[u8]) -> &[u8]
     }
 }
 
-/// Whether the test holds of what stands in the text from some byte on.
+/// Whether the test holds of the text from some byte on.
 #[tactic(auto, using(crate::proofs::RuleLemmas::somewhere_next))]
 fn somewhere<F: Fn(&[u8]) -> bool>(text: &[u8], test: F) -> bool
     requires { F.IsAlwaysCallable test }
@@ -105,7 +105,7 @@ pub(crate) fn holds_otherwise(value: &[u8]) -> bool
     false
 }
 
-/// Whether the value stands in quotes.
+/// Whether the value is in quotes.
 pub(crate) fn is_quoted(value: &[u8]) -> bool
     ensures { result ≡ is_quoted value.now }
 {
@@ -150,7 +150,7 @@ pub(crate) fn is_expression(value: &[u8]) -> bool
     has_choice(value) || somewhere(value, begins_sign) || value.ends_with(b"+")
 }
 
-/// Whether something other than stars and `$` stands behind a `$` of the value.
+/// Whether something other than stars and `$` is after a `$` of the value.
 pub(crate) fn has_dollar_inside(value: &[u8]) -> bool
     ensures { result ≡ has_dollar_inside value.now }
 {

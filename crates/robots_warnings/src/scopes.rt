@@ -9,16 +9,16 @@ use std::alloc::{AllocError, Global};
 use texting_robots::marks::{MarkedLine, Standing};
 use texting_robots::parser::Line;
 
-/// A run of user-agent lines, one behind the other, which name whom the rules below are for.
+/// A run of user-agent lines, one after the other, which name whom the rules below are for.
 #[derive(Clone, Copy)]
 pub struct Run {
-    /// The number of its first line; 0 where none stands above.
+    /// The number of its first line; 0 if there is none above.
     pub first: usize,
     /// Whether the next user-agent line belongs to it.
     pub is_open: bool,
 }
 
-/// The run behind a line.
+/// The run after a line.
 fn run_with(run: Run, number: usize, line: Line<'_>) -> Run
     ensures { result ≡ run_with run number (by_value line.entry) }
 {
@@ -36,7 +36,7 @@ fn run_with(run: Run, number: usize, line: Line<'_>) -> Run
     }
 }
 
-/// Whom the rules are for behind this run.
+/// Whom the rules are for after this run.
 fn scope_in(everywhere: bool, run: Run) -> usize
     ensures { result ≡ scope_in everywhere run }
 {
