@@ -1,7 +1,6 @@
 -- Warnings hold nothing that could control a terminal.
-use Rattle.std.proofs.Common.{◌≡◌, ℕ, zero, suc, ◌&&◌, true, false, List, [], ◌∷◌, ◌++◌, Option, Some, None, Bool, map, refl}
-use Rattle.std.specs.List.{list_all}
-use Rattle.std.specs.Prelude.{slice_index_or}
+use Rattle.std.proofs.Common.{◌≡◌, ℕ, zero, suc, true, List, [], ◌∷◌, ◌++◌, Option, Some, None, Bool, map, refl}
+use Rattle.std.{specs.List.list_all, specs.Prelude.slice_index_or, proofs.lemmas.Bool.and_parts}
 use Rattle.robots_warnings.specs.declared.table.Cause.{Cause}
 use Rattle.robots_warnings.specs.declared.table.TheConstants.{WARNINGS}
 use Rattle.robots_warnings.specs.Table.{name_of, number_of, text_of}
@@ -17,21 +16,13 @@ use Rattle.robots_io.proofs.ShownLemmas.{shown_plain}
 abbrev is_ascii : List ℕ → Bool
 is_ascii text = list_all (is_plain_byte true) text
 
-first_true : (a b : Bool) → (a && b) ≡ true → a ≡ true
-first_true true b both = refl
-first_true false b both = both
-
-rest_true : (a b : Bool) → (a && b) ≡ true → b ≡ true
-rest_true true b both = both
-rest_true false b both = cc
-
 -- each of these texts, and no text in place of one that is missing
 each_ascii : (texts : List (List ℕ)) (at : ℕ) → list_all is_ascii texts ≡ true
     → is_ascii (slice_index_or texts at []) ≡ true
 each_ascii [] at all = refl
-each_ascii (text ∷ texts) zero all = first_true (is_ascii text) (list_all is_ascii texts) all
+each_ascii (text ∷ texts) zero all = (and_parts (is_ascii text) (list_all is_ascii texts) all).0
 each_ascii (text ∷ texts) (suc at) all =
-    each_ascii texts at (rest_true (is_ascii text) (list_all is_ascii texts) all)
+    each_ascii texts at (and_parts (is_ascii text) (list_all is_ascii texts) all).1
 
 pub names_plain : (cause : Cause) → IsPlain (name_of cause)
 unfolding name_of

@@ -49,7 +49,7 @@ begins_with name word = is_name name (take (length name) word)
 
 -- the word is one of the accepted names of this kind of directive
 abbrev pub is_accepted : Kind → List ℕ → Bool
-is_accepted kind word = list_any (λ name. is_name name word) (spellings kind)
+is_accepted kind word = list_any (bytes_eq (str_to_ascii_lowercase word)) (spellings kind)
 
 -- the lengths differ by two at most
 abbrev pub is_as_long : List ℕ → List ℕ → Bool

@@ -1,7 +1,7 @@
 -- What is kept, by value, and how it grows.
 pub mod BothWays
 pub mod Names
-use Rattle.std.specs.Prelude.{◌≡◌, ℕ, ◌||◌, List, Some, option_map, slice_get}
+use Rattle.std.specs.Prelude.{◌≡◌, ℕ, ◌||◌, ◌++◌, List, Some, map, option_map, slice_get}
 use Rattle.std.specs.Borrow.{Bor}
 use Rattle.texting_robots.specs.Callers.{LineValue}
 use Rattle.texting_robots.specs.Group.{is_agent}
@@ -14,6 +14,10 @@ use Rattle.robots_warnings.specs.Warnings.{WarningValue}
 abbrev pub warning_value : Warning → WarningValue
 warning_value warning =
     record { line = warning.line; cause = warning.cause; about = option_map (λ url. url.now) warning.about }
+
+-- the found warnings are the old ones and these
+abbrev pub Adds : List Warning → List Warning → List WarningValue → Type 0
+Adds old found more = map warning_value found ≡ map warning_value old ++ more
 
 -- the kinds of some lines and of one more
 abbrev pub kinds_with : LineKinds → LineValue → LineKinds

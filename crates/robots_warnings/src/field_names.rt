@@ -1,7 +1,6 @@
 //! What the field name of a line may be, where the line is ignored, and what is unusual in it, where the line is a directive.
 ghost use Rattle.std.specs.Prelude.{◌≡◌, ◌≤◌, IfOk, length, map};
 ghost use Rattle.std.specs.List.{list_any, position_or_len};
-ghost use Rattle.texting_robots.specs.Statement.{spellings};
 ghost use Rattle.robots_warnings.specs.FieldNames.{begins_with, directive_in, first_that, first_word, is_accepted, is_either, is_any_accepted, is_misspelled, is_name};
 ghost use Rattle.robots_warnings.specs.FieldNames.{is_near, is_space_or_tab, is_without_colon, may_either_mean, may_mean};
 ghost use Rattle.robots_warnings.specs.FieldNames.{meant_among, meant_by, name_in, without_end, without_front};
@@ -11,7 +10,7 @@ use crate::rules::before_byte;
 use crate::table::Cause;
 use std::alloc::{AllocError, Global};
 use strsim::generic_levenshtein;
-use texting_robots::parser::Kind;
+use texting_robots::parser::{Kind, spellings};
 
 /// The usual names of directives, in the order in which they are looked for, and the warning where one may be meant.
 const DIRECTIVES: [(&str, Cause); 5] = [
@@ -44,26 +43,6 @@ const KINDS: [Kind; 5] = [
     Kind::Sitemap,
     Kind::CrawlDelay,
 ];
-
-/// The names that the parser accepts for this kind of directive, in small letters.
-fn spellings(kind: Kind) -> &'static [&'static str]
-    ensures { map (λ name. name.now) result.now ≡ spellings kind }
-{
-    match kind {
-        Kind::UserAgent => &["user-agent", "user agent", "useragent"],
-        Kind::Allow => &["allow"],
-        Kind::Disallow => &[
-            "disallow",
-            "dissallow",
-            "dissalow",
-            "disalow",
-            "diasllow",
-            "disallaw",
-        ],
-        Kind::Sitemap => &["sitemap", "site-map", "site map"],
-        Kind::CrawlDelay => &["crawl-delay", "crawl delay", "crawldelay"],
-    }
-}
 
 /// Whether a byte is a space or a tab.
 fn is_space_or_tab(byte: u8) -> bool
@@ -138,8 +117,8 @@ fn begins_with(name: &str, word: &[u8]) -> bool
 fn is_accepted(kind: Kind, word: &[u8]) -> bool
     ensures { result ≡ is_accepted kind word.now }
 {
-    for name in spellings(kind) {
-        if is_name(name, word) {
+    for spelling in spellings(kind) {
+        if is_name(spelling, word) {
             return true;
         }
     }

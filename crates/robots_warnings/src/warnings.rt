@@ -2,7 +2,7 @@
 ghost use Rattle.std.specs.Prelude.{◌≡◌, ◌++◌, [], IfOk, OnOk, if◌then◌else◌, map, option_map};
 ghost use Rattle.texting_robots.specs.Callers.{bodies_read, by_value, mark_by_value};
 ghost use Rattle.robots_warnings.specs.Checks.{field_checks, is_directive, value_checks};
-ghost use Rattle.robots_warnings.specs.Steps.{warning_value};
+ghost use Rattle.robots_warnings.specs.Steps.{Adds, warning_value};
 ghost use Rattle.robots_warnings.specs.Warnings.{agent_warnings, both_ways_warnings, file_lines_warnings, general_warnings};
 ghost use Rattle.robots_warnings.specs.Warnings.{is_asked_of, is_everywhere, line_warnings, lines_warnings};
 ghost use Rattle.robots_warnings.specs.Warnings.{past_limit_warnings, position_warnings, warned, warned_at, warnings};
@@ -33,8 +33,7 @@ fn warn<'a>(
     about: Option<&'a str>,
     checks: &[Check],
 ) -> Result<(), AllocError>
-    ensures { OnOk result (map warning_value found.new.items
-        ≡ map warning_value found.old.items ++ warned line (option_map (λ url. url.now) about.entry) checks.now) }
+    ensures { OnOk result (Adds found.old.items found.new.items (warned line (option_map (λ url. url.now) about.entry) checks.now)) }
 {
     for check in checks {
         let (cause, holds) = *check;
@@ -47,8 +46,7 @@ fn warn<'a>(
 
 /// Adds the same warning of each line with one of these numbers.
 fn warn_at(found: &mut Found<'_>, cause: Cause, numbers: &[usize]) -> Result<(), AllocError>
-    ensures { OnOk result (map warning_value found.new.items
-        ≡ map warning_value found.old.items ++ warned_at cause numbers.now) }
+    ensures { OnOk result (Adds found.old.items found.new.items (warned_at cause numbers.now)) }
 {
     for number in numbers {
         found.push(Warning {
@@ -62,8 +60,7 @@ fn warn_at(found: &mut Found<'_>, cause: Cause, numbers: &[usize]) -> Result<(),
 
 /// Adds the warnings of the crawler that is asked about, if one is.
 fn warn_of_agent(found: &mut Found<'_>, agent: Option<&str>) -> Result<(), AllocError>
-    ensures { OnOk result (map warning_value found.new.items ≡ map warning_value found.old.items
-        ++ agent_warnings (option_map (λ agent. agent.now) agent.entry)) }
+    ensures { OnOk result (Adds found.old.items found.new.items (agent_warnings (option_map (λ agent. agent.now) agent.entry))) }
 {
     match agent {
         Some(agent) => warn(found, None, None, &agent_checks(agent)),
@@ -79,8 +76,7 @@ fn warn_in_general<'a>(
     agent: Option<&str>,
     urls: &[&'a str],
 ) -> Result<(), AllocError>
-    ensures { OnOk result (map warning_value found.new.items ≡ map warning_value found.old.items
-        ++ general_warnings facts (option_map (λ agent. agent.now) agent.entry) (map (λ url. url.now) urls.now)) }
+    ensures { OnOk result (Adds found.old.items found.new.items (general_warnings facts (option_map (λ agent. agent.now) agent.entry) (map (λ url. url.now) urls.now))) }
 {
     warn(found, None, None, &file_checks(facts))?;
     warn_of_agent(found, agent)?;
@@ -98,8 +94,7 @@ fn warn_of_value(
     number: usize,
     line: Line<'_>,
 ) -> Result<(), AllocError>
-    ensures { OnOk result (map warning_value found.new.items ≡ map warning_value found.old.items
-        ++ warned (Some number) None (value_checks is_asked (by_value line.entry))) }
+    ensures { OnOk result (Adds found.old.items found.new.items (warned (Some number) None (value_checks is_asked (by_value line.entry)))) }
 {
     let at = Some(number);
     match line {
@@ -120,9 +115,7 @@ fn warn_of_field(
     marked: &MarkedLine<'_>,
     body: &[u8],
 ) -> Result<(), AllocError>
-    ensures { OnOk result (map warning_value found.new.items ≡ map warning_value found.old.items
-        ++ warned (Some marked.now.number) None
-        (if is_directive (by_value marked.now.line) then field_checks body.now else [])) }
+    ensures { OnOk result (Adds found.old.items found.new.items (warned (Some marked.now.number) None (if is_directive (by_value marked.now.line) then field_checks body.now else []))) }
 {
     match marked.line {
         Line::Raw(_) => Ok(()),
@@ -145,8 +138,7 @@ fn warn_of_line(
     marked: &MarkedLine<'_>,
     body: &[u8],
 ) -> Result<(), AllocError>
-    ensures { OnOk result (map warning_value found.new.items ≡ map warning_value found.old.items
-        ++ line_warnings everywhere (mark_by_value marked.now) body.now) }
+    ensures { OnOk result (Adds found.old.items found.new.items (line_warnings everywhere (mark_by_value marked.now) body.now)) }
 {
     warn_of_field(found, marked, body)?;
     let is_asked = is_asked_of(everywhere, marked.standing);
@@ -161,8 +153,7 @@ fn warn_of_lines(
     marks: &[MarkedLine<'_>],
     file: &[u8],
 ) -> Result<(), AllocError>
-    ensures { OnOk result (map warning_value found.new.items ≡ map warning_value found.old.items
-        ++ lines_warnings everywhere (bodies_read file.now) (map mark_by_value marks.now)) }
+    ensures { OnOk result (Adds found.old.items found.new.items (lines_warnings everywhere (bodies_read file.now) (map mark_by_value marks.now))) }
 {
     let mut rest = marks;
     for body in file_bodies(counted(file)) {
@@ -184,8 +175,7 @@ fn warn_of_file_lines(
     marks: &[MarkedLine<'_>],
     file: &[u8],
 ) -> Result<(), AllocError>
-    ensures { OnOk result (map warning_value found.new.items ≡ map warning_value found.old.items
-        ++ file_lines_warnings facts everywhere (map mark_by_value marks.now) (bodies_read file.now)) }
+    ensures { OnOk result (Adds found.old.items found.new.items (file_lines_warnings facts everywhere (map mark_by_value marks.now) (bodies_read file.now))) }
 {
     if hides_lines(facts) {
         return Ok(());
@@ -195,8 +185,7 @@ fn warn_of_file_lines(
 
 /// Adds the warnings of where lines are.
 fn warn_of_positions(found: &mut Found<'_>, marks: &[MarkedLine<'_>]) -> Result<(), AllocError>
-    ensures { OnOk result (map warning_value found.new.items ≡ map warning_value found.old.items
-        ++ position_warnings (map mark_by_value marks.now)) }
+    ensures { OnOk result (Adds found.old.items found.new.items (position_warnings (map mark_by_value marks.now))) }
 {
     let last = last_group(marks);
     let mut passed = Passed::Other;
@@ -216,8 +205,7 @@ fn warn_past_limit(
     file: &[u8],
     marks: &[MarkedLine<'_>],
 ) -> Result<(), AllocError>
-    ensures { OnOk result (map warning_value found.new.items ≡ map warning_value found.old.items
-        ++ past_limit_warnings facts file.now (map mark_by_value marks.now)) }
+    ensures { OnOk result (Adds found.old.items found.new.items (past_limit_warnings facts file.now (map mark_by_value marks.now))) }
 {
     if !facts.is_too_large || hides_lines(facts) {
         return Ok(());
@@ -233,8 +221,7 @@ fn warn_of_both_ways(
     everywhere: bool,
     marks: &[MarkedLine<'_>],
 ) -> Result<(), AllocError>
-    ensures { OnOk result (map warning_value found.new.items ≡ map warning_value found.old.items
-        ++ both_ways_warnings everywhere (map mark_by_value marks.now)) }
+    ensures { OnOk result (Adds found.old.items found.new.items (both_ways_warnings everywhere (map mark_by_value marks.now))) }
 {
     let rules = scoped_rules(alloc, everywhere, marks)?;
     let numbers = both_ways(alloc, &rules)?;
