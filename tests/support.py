@@ -1,4 +1,4 @@
-"""What the tests share: running a program, the texts that docs/SPECIFICATION.md gives, and the notation of golden cases."""
+"""What the tests share: running a program, the messages that docs/PROGRAMS.md has, and the notation of golden cases."""
 
 import json
 import os
@@ -13,7 +13,7 @@ import pytest
 ROOT = Path(__file__).resolve().parent.parent
 CRATES = ROOT / "crates"
 CC = os.environ.get("CC", "cc")
-SPECIFICATION = (ROOT / "docs/SPECIFICATION.md").read_text()
+DOCUMENTS = {path.relative_to(ROOT).as_posix(): path.read_text() for path in [*sorted(ROOT.glob("*.md")), *sorted(ROOT.glob("docs/*.md"))]}
 
 
 @dataclass
@@ -79,9 +79,9 @@ def shown(document):
 
 
 def documented_warnings():
-    """The texts of each warning by its name, in the order of docs/SPECIFICATION.md. One of them has KEY in place of a key."""
+    """The messages of each warning by its name, in the order of docs/PROGRAMS.md. One of them has KEY in place of a field name."""
     texts = {}
-    for row in tables(SPECIFICATION):
+    for row in tables(DOCUMENTS["docs/PROGRAMS.md"]):
         if len(row) == 3 and re.fullmatch(r"`[a-z0-9-]+`", row[0]):
             texts.setdefault(row[0].strip("`"), []).append(row[2])
     return texts

@@ -1,5 +1,6 @@
-"""What documents show is what the sources and the programs have: contracts, code, commands with their output, options, warnings and
-errors. The texts of warnings are compared by every golden case, since those name a warning and take its text from the document."""
+"""What documents show is what the sources and the programs have: contracts, code, commands with their output, options, warnings, errors,
+examples, links and names. The messages of warnings are compared by every golden case, since those name a warning and take its message
+from docs/PROGRAMS.md."""
 
 import json
 import os
@@ -8,11 +9,10 @@ import shlex
 import subprocess
 
 import pytest
-from support import CRATES, ROOT, SPECIFICATION, run, shown, tables
+from support import CRATES, DOCUMENTS, ROOT, WARNINGS, run, shown, spelled, tables
 
 LIBRARY = CRATES / "texting_robots"
-README = (ROOT / "README.md").read_text()
-USING = (ROOT / "USING.md").read_text()
+README, GUIDE, PROGRAMS, PROOFS, CONTRACTS = map(DOCUMENTS.get, ["README.md", *(f"docs/{name}.md" for name in ("GUIDE", "PROGRAMS", "PROOFS", "CONTRACTS"))])
 
 
 def code(document, language):
@@ -20,7 +20,18 @@ def code(document, language):
     return re.findall(rf"^```{language}\n(.*?)^```$", document, re.M | re.S)
 
 
-# ---- public contracts rest on definitions alone, and on nothing that computes
+def prose(document):
+    """The lines of a document outside of code, tables and headings."""
+    document = re.sub(r"^```.*?^```$", "", document, flags=re.M | re.S)
+    return [line for line in document.splitlines() if not re.match(r"    |\||#", line)]
+
+
+def section(document, heading):
+    """What is below a heading of the second level, up to the next one."""
+    return document.split(f"\n## {heading}\n")[1].split("\n## ")[0]
+
+
+# ---- public contracts rest on specifications alone, and on nothing that follows the code
 
 
 def imports(path):
@@ -45,7 +56,7 @@ def reached(path):
 
 
 @pytest.mark.parametrize("module", ["lib", "one_agent", "robot", "decision", "address", "error", "escape"])
-def test_public_contracts_rest_on_definitions(module):
+def test_public_contracts_rest_on_specifications(module):
     assert not [name for name in reached(LIBRARY / f"src/{module}.rt") if re.match(r"(Computed|Steps)\b", name)]
 
 
@@ -100,63 +111,165 @@ def quoted(document):
     return found
 
 
-@pytest.mark.parametrize("name, function", [("README.md", "one_agent_allowed"), ("CALLING.md", "Robot::new")])
-def test_quoted_contracts_are_those_of_the_source(name, function):
+@pytest.mark.parametrize("document, function", [(PROOFS, "one_agent_allowed"), (CONTRACTS, "Robot::new")], ids=["PROOFS", "CONTRACTS"])
+def test_quoted_contracts_are_those_of_the_source(document, function):
     found = set().union(*map(contracts, (LIBRARY / "src").rglob("*.rt")))
-    parts = quoted((ROOT / name).read_text())
+    parts = quoted(document)
     assert function in {name for name, _ in parts}
     assert parts - found == set()
 
 
-# ---- code and commands
+# ---- links, names and layout
+
+
+def anchors(document):
+    """The anchors of a document's headings, as GitHub makes them."""
+    headings = re.findall(r"^#+ (.*)$", re.sub(r"^```.*?^```$", "", document, flags=re.M | re.S), re.M)
+    return {re.sub(r"[^\w\- ]", "", heading.lower()).replace(" ", "-") for heading in headings}
+
+
+@pytest.mark.parametrize("name", DOCUMENTS)
+def test_links_lead_to_files_and_headings(name):
+    for target in re.findall(r"\]\(([^)\s]+)\)", "\n".join(re.sub(r"`[^`]*`", "", line) for line in DOCUMENTS[name].splitlines())):
+        path, _, anchor = target.partition("#")
+        if path.startswith("https://"):
+            continue
+        file = (ROOT / name).parent / path if path else ROOT / name
+        assert file.exists(), target
+        assert not anchor or anchor in anchors(file.read_text()), target
+
+
+@pytest.mark.parametrize("name", DOCUMENTS)
+def test_documents_name_what_exists(name):
+    """Paths from the root of the repository, theorems, and predicates of the specifications."""
+    spans = set(re.findall(r"`([^`\n]+)`", DOCUMENTS[name]))
+    assert not [span for span in spans if re.fullmatch(r"(crates|docs|tests|examples|bindings)/[\w./-]+", span) and not (ROOT / span).exists()]
+    laws = (LIBRARY / "src/laws.rt").read_text()
+    assert not [span for span in spans if span.startswith("laws::") and f"pub fn {span[6:]}()" not in laws]
+    specified = "".join(path.read_text() for path in CRATES.glob("*/specs/**/*.antt"))
+    assert not [span for span in spans if re.fullmatch(r"(Is|Are|Has)[A-Z]\w+", span) and not re.search(rf"\b{span} :|record {span}\b", specified)]
+
+
+@pytest.mark.parametrize("name", DOCUMENTS)
+def test_prose_has_at_most_100_columns(name):
+    assert not [line for line in prose(DOCUMENTS[name]) if len(line) > 100]
+
+
+PRIVATE_WORDS = r"want of memory|headline|captured?|overlong|behind|beside|stands?|stood|refus\w+|lent|mostly|hands? in|handed|spelled|told"
+
+
+@pytest.mark.parametrize("name", DOCUMENTS)
+def test_documents_use_plain_words(name):
+    """The main theorem has words of its own; everything else avoids them, and others that a reader would have to learn."""
+    document = DOCUMENTS[name].replace(section(PROOFS, "The main theorem"), "")
+    text = re.sub(r"`[^`]*`", "", "\n".join([*prose(document), *(" | ".join(row) for row in tables(document))]))
+    assert not re.findall(rf"\b(?:{PRIVATE_WORDS})\b", text, re.I)
+
+
+def test_guide_names_the_public_items():
+    named = set(re.findall(r"`(\w+)`", "".join(row[1] for row in tables(section(GUIDE, "From Rattle")))))
+    modules = ["robot", "site", "parser", "marks", "minregex", "view", "address"]
+    text = "".join((LIBRARY / f"src/{module}.rt").read_text() for module in ["lib", *modules])
+    public = re.findall(r"^pub (?:fn|struct|enum|const) (\w+)", text, re.M)
+    public += [name for names in re.findall(r"^pub use [\w:]+::(.*);", text, re.M) for name in re.findall(r"\w+", names)]
+    assert set(public) <= named
+
+
+def test_guide_names_calls_of_the_c_library():
+    header = (CRATES / "robots_c/robots.h").read_text()
+    named = set(re.findall(r"`(robots_\w+)`", section(GUIDE, "From C"))) - {"robots_c", "robots_io"}
+    assert named and not [name for name in named if f" {name}(" not in header]
+
+
+def test_guide_shows_the_functions_of_another_allocator():
+    defined = (ROOT / "tests/test_c_library.py").read_text()
+    assert all(line.rstrip(";") in defined for line in code(GUIDE, "c")[0].splitlines())
+
+
+# ---- code, commands and their output
 
 
 def test_readme_shows_the_example():
     assert code(README, "rust")[0] in (CRATES / "robots_vectors/src/example.rt").read_text()
 
 
-def test_using_shows_may_fetch():
-    assert code(USING, "rust")[0] in (CRATES / "may_fetch/src/main.rt").read_text()
+def test_guide_shows_may_fetch():
+    assert code(GUIDE, "rust")[0] in (CRATES / "may_fetch/src/main.rt").read_text()
 
 
 def test_readme_shows_what_the_first_command_prints():
+    """Some lines of the output, in its order."""
     words = shlex.split(re.search(r"^    \(cd crates/robots_audit && rt run -- (.*)\)$", README, re.M)[1])
     at = words.index("<")
     result = run("robots_audit", words[:at], (CRATES / "robots_audit" / words[at + 1]).read_bytes())
     assert result.status == 1
-    assert result.out in shown(README)
-    assert result.err in shown(README)
+    lines = iter((result.out + result.err).splitlines())
+    examples = shown(section(README, "Audit a file").split("It prints")[1].split("`+` marks")[0]).splitlines()
+    assert len(examples) > 5
+    assert [line for line in examples if line not in lines] == []
 
 
-def test_readme_names_the_toolchain():
+def test_proofs_name_the_toolchain():
     version = subprocess.run(["rt", "version"], capture_output=True, text=True).stdout.splitlines()[0]
-    assert version in shown(README).splitlines()
+    assert version in [line.strip() for line in PROOFS.splitlines()]
 
 
-# ---- docs/SPECIFICATION.md
+# ---- docs/PROGRAMS.md
+
+PREFIXED = ("**An ignored line", "**A directive", "**A rule", "**A delay")
 
 
-OVERLONG = b"Disallow: /b\nAllow: $" + b"a" * 4096
-FAULTS = {
+def examples_of_warnings():
+    """Each warning with its example: the arguments and the file."""
+    for part in re.split(r"\n(?=\*\*)", section(PROGRAMS, "Warnings")):
+        for name, example, _ in (row for row in tables(part) if row[0].strip("`") in WARNINGS):
+            what, text = re.fullmatch(r"(AGENT|URL|) ?`(.*)`", example).groups()
+            bytes_of = spelled(text.replace("⏎", "\n"))
+            args = {"AGENT": [bytes_of], "URL": ["FerrisBot", bytes_of]}.get(what, ["FerrisBot"])
+            file = (b"User-agent: *\n" if part.startswith(PREFIXED) else b"") + bytes_of if not what else b""
+            yield pytest.param(name.strip("`"), args, file, id=f"{name} {example[:60]}")
+
+
+@pytest.mark.parametrize("name, args, file", examples_of_warnings())
+def test_example_triggers_its_warning(name, args, file):
+    assert f" [{name}]\n" in run("robots_audit", args, file).err
+
+
+def test_each_warning_has_an_example():
+    assert {it.values[0] for it in examples_of_warnings()} == set(WARNINGS)
+
+
+def test_warnings_have_the_order_and_messages_of_the_table():
+    table = (CRATES / "robots_warnings/src/table.rt").read_text()
+    rows = re.findall(r'\(Cause::\w+, "([a-z0-9-]+)",\s+"((?:[^"\\]|\\.)*)"\)', table)
+    messages = [(name, text.replace('\\"', '"').replace("\\\\", "\\")) for name, text in rows]
+    documented = [(name, text) for name, texts in WARNINGS.items() for text in texts]
+    names = ["User-agent", "Allow", "Disallow", "Sitemap", "Crawl-delay"]
+    assert messages == [(name, text.replace("KEY", key)) for name, text in documented for key in (names if "KEY" in text else [""])]
+
+
+LONG_RULE = b"Disallow: /b\nAllow: $" + b"a" * 4096
+ERRORS = {
+    "unknown option": {"args": ["--bogus"]},
+    "AGENT is missing": {},
+    "an argument isn't UTF-8": {"args": [b"\xff"]},
+    "no warning has this name": {"args": ["--ignore", "NAME", "B"]},
+    "a file can't be opened or read": {"args": ["-f", "NAME", "B"]},
+    "standard input can't be read": {"args": ["B"], "stdin": "/"},
+    "the report can't be written": {"args": ["B"], "stdout": "/dev/full"},
+    "the file is rejected for the crawler": {"args": ["B"], "text": LONG_RULE},
+    "an allocation fails, or a URL is too long for the crate `url`": {"args": ["B"], "text": LONG_RULE, "fails": True},
     "Read": {"stdin": "/"},
     "Write": {"text": b"B\n\n", "stdout": "/dev/full"},
     "NoEmptyLine": {"text": b"B\n/a\n"},
     "HeaderNotUtf8": {"text": b"\xff\n\n"},
-    "InvalidRule": {"text": b"B\n\n" + OVERLONG},
-    "Memory": {"text": b"B\n\n" + OVERLONG, "fails": True},
-    "an unknown option and the like": {"args": ["--bogus"]},
-    "no agent, without `--agents`": {},
-    "an argument that isn't UTF-8": {"args": [b"\xff"]},
-    "a name after `--only` or `--ignore` that no warning has": {"args": ["--ignore", "NAME", "B"]},
-    "a file that can't be opened or read": {"args": ["-f", "NAME", "B"]},
-    "standard input that can't be read": {"args": ["B"], "stdin": "/"},
-    "a write or a flush that fails, as into a closed pipe": {"args": ["B"], "stdout": "/dev/full"},
-    "an agent captures an overlong rule": {"args": ["B"], "text": OVERLONG},
-    "memory that is refused": {"args": ["B"], "text": OVERLONG, "fails": True},
+    "InvalidRule": {"text": b"B\n\n" + LONG_RULE},
+    "Memory": {"text": b"B\n\n" + LONG_RULE, "fails": True},
 }
 
 
-def make_fault(name, heap, args=(), text=b"", stdin=None, stdout=None, fails=False):
+def run_into(name, heap, args=(), text=b"", stdin=None, stdout=None, fails=False):
+    """Runs a program so that it meets this error."""
     given = os.open(stdin, os.O_RDONLY) if stdin else text
     options = {"env": os.environ | {"LD_PRELOAD": str(heap), "FAIL_ALLOCATION": "1", "FAIL_LATER": "1"}} if fails else {}
     if stdout:
@@ -168,47 +281,96 @@ def make_fault(name, heap, args=(), text=b"", stdin=None, stdout=None, fails=Fal
             os.close(end)
 
 
-def faults_of(program):
-    """The rows of the table of faults of a program: the fault, its status, and its text on standard error."""
-    section = SPECIFICATION.split(f"\n## `{program}`\n")[1].split("\n## ")[0]
-    rows = [(re.sub(r"^`(\w+)`$", r"\1", row[0]), *row[1:]) for row in tables(section)]
-    return [(row[0], int(row[2]) if len(row) == 4 else 2, row[-1]) for row in rows if row[0] in FAULTS]
+def errors_of(program):
+    """The rows of the table of errors of a program: the error, its status, and its message."""
+    rows = [(re.sub(r"^`(\w+)`$", r"\1", row[0]), *row[1:]) for row in tables(section(PROGRAMS, f"`{program}`"))]
+    return [(program, row[0], int(row[2]) if len(row) == 4 else 2, row[-1]) for row in rows if row[0] in ERRORS]
 
 
-def test_all_documented_faults_are_tried():
-    assert [name for program in ("robots_verdict", "robots_audit") for name, _, _ in faults_of(program)] == list(FAULTS)
+DOCUMENTED = [*errors_of("robots_audit"), *errors_of("robots_verdict")]
 
 
-@pytest.mark.parametrize("program, name, status, text", [(it, *row) for it in ("robots_verdict", "robots_audit") for row in faults_of(it)])
-def test_fault_has_the_documented_text(failing_heap, program, name, status, text):
-    result = make_fault(program, failing_heap, **FAULTS[name])
+def test_all_documented_errors_are_tried():
+    assert [row[1] for row in DOCUMENTED] == list(ERRORS)
+
+
+@pytest.mark.parametrize("program, name, status, text", DOCUMENTED, ids=[row[1] for row in DOCUMENTED])
+def test_error_has_the_documented_message(failing_heap, program, name, status, text):
+    result = run_into(program, failing_heap, **ERRORS[name])
     assert result.status == status
+    usage = "usage: robots_audit [OPTIONS] AGENT [URL].."
+    assert usage in shown(PROGRAMS).splitlines()
     if text.startswith("`"):
-        usage = "usage: robots_audit [OPTIONS] AGENT [URL].."
-        said = re.match(r"`([^`]*)`", text)[1].replace("USAGE", usage).replace("line N:", "line 2:").replace("line N ", "line 2 ")
-        assert result.err == said + "\n"
-        assert f"`{usage}`" in SPECIFICATION
+        assert result.err == text.strip("`").replace("USAGE", usage).replace("line N:", "line 2:") + "\n"
     else:
         assert "Usage: robots_audit" in result.err
 
 
 def test_documented_options_are_those_of_help():
     option = r"(?<![\w-])(?:--[a-z-]+|-[a-zA-Z])(?![\w-])"
-    documented = [name for row in tables(SPECIFICATION) if row[0].startswith("`-") for name in re.findall(option, row[0])]
+    documented = [name for row in tables(PROGRAMS) if row[0].startswith("`-") for name in re.findall(option, row[0])]
     usage = run("robots_audit", ["--help"]).out
     assert sorted(documented) == sorted(re.findall(option, usage[usage.index("\nOptions:") :]))
 
 
-def members(value):
-    """The names of all members in a JSON value."""
-    if isinstance(value, dict):
-        return set(value).union(*map(members, value.values()))
-    return set().union(*map(members, value)) if isinstance(value, list) else set()
+def test_documented_json_is_that_of_the_program():
+    report = json.loads(run("robots_audit", ["--json", "FerrisBot", "/search"], b"User-agent: *\nDisallow: search").out)
+    assert json.loads(code(PROGRAMS, "json")[0]) == report
 
 
-def test_documented_json_members_are_those_of_the_report():
-    report = json.loads(run("robots_audit", ["--json", "B", "/a"], b"Disallow: a\nSitemap: https://example.com/s").out)
-    rows = {row[0].strip("`"): row[1] for row in tables(SPECIFICATION) if row[0].strip("`") in report}
-    assert set(rows) == set(report)
-    for name, value in report.items():
-        assert members(value) <= set(re.findall(r"`(\w+)`", rows[name]))
+def test_robots_verdict_prints_the_documented_report():
+    text = section(PROGRAMS, "`robots_verdict`")
+    stdin, out = (part.group(0) for part in re.finditer(r"(?:^    .*\n(?:\n(?=    ))?)+", text, re.M))
+    result = run("robots_verdict", (), re.sub("^    ", "", stdin, flags=re.M).encode())
+    assert (result.status, result.out) == (0, re.sub("^    ", "", out, flags=re.M))
+
+
+# ---- examples in docs/SPECIFICATION.md and docs/COMPATIBILITY.md
+
+
+def bytes_in(cell):
+    """The bytes that a cell shows in its first code span."""
+    return spelled(re.search(r"`([^`]*)`", cell)[1].replace("⏎", "\n"))
+
+
+def rows_under(name, *columns):
+    """The rows of a document's tables that begin with these columns."""
+    blocks = re.findall(r"(?:^\|.*\n)+", DOCUMENTS[name], re.M)
+    return [pytest.param(*row, id=" ".join(row[:2])) for rows in map(tables, blocks) if rows[0][: len(columns)] == [*columns] for row in rows[1:] if row[0][0] != "-"]
+
+
+@pytest.mark.parametrize("line, read", rows_under("docs/SPECIFICATION.md", "Line", "Read as"))
+def test_line_is_read_as_documented(line, read):
+    row = run("robots_audit", ["FerrisBot"], bytes_in(line)).out.splitlines()[0]
+    assert row[4:].split(maxsplit=1) == read.strip("`").split(maxsplit=1)
+
+
+@pytest.mark.parametrize("file, url, result", rows_under("docs/SPECIFICATION.md", "File", "URL", "Result"))
+def test_url_has_the_documented_verdict(file, url, result):
+    out = run("robots_audit", ["-q", "FerrisBot", bytes_in(url)], bytes_in(file)).out
+    assert out.splitlines()[-1].startswith(result.strip("`") + " ")
+
+
+@pytest.mark.parametrize("url, target", rows_under("docs/SPECIFICATION.md", "URL", "Match target"))
+def test_url_has_the_documented_match_target(url, target):
+    """A rule that ends with $ denies exactly the target that is written before it."""
+    out = run("robots_audit", ["-q", "FerrisBot", bytes_in(url)], b"Disallow: " + bytes_in(target) + b"$").out
+    assert out.splitlines()[-1].startswith("deny 1 ")
+
+
+@pytest.mark.parametrize("file, url, standard, google, crate, here, warning", rows_under("docs/COMPATIBILITY.md", "File", "URL"))
+def test_file_is_read_as_documented(file, url, standard, google, crate, here, warning):
+    crawler = (re.search(r"crawler `(.*)`", file) or [0, "a"])[1]
+    text = bytes_in(file) if "ser-agent" in file else b"User-agent: a\n" + bytes_in(file)
+    result = run("robots_audit", ["-q", crawler, bytes_in(url)], text)
+    assert here.split(":")[0] == ["allowed", "denied", "rejected"][result.status]
+    warned, documented = set(re.findall(r" \[([a-z0-9-]+)\]$", result.err, re.M)), set(re.findall(r"`(.*)`", warning))
+    assert documented <= warned and bool(documented) == bool(warned)
+
+
+@pytest.mark.parametrize("url, crate, here", rows_under("docs/COMPATIBILITY.md", "URL", "Rust crate", "Here"))
+def test_url_has_the_documented_path(url, crate, here):
+    """Where a path is documented; a rule that ends with $ denies exactly this path."""
+    for given, path in zip(re.findall(r"`(.*?)`", url), re.findall(r"`(/.*?)`", here)):
+        out = run("robots_audit", ["-q", "FerrisBot", given], f"Disallow: {path}$".encode()).out
+        assert out.splitlines()[-1].startswith("deny 1 ")

@@ -34,7 +34,7 @@
  * if line n denies it. Lines count from 1. Don't write `if (result)`: use robots_may_fetch(result) and robots_line(result).
  *
  * MEMORY comes from malloc, realloc and free. A call frees what it allocates, except for a robot or a site that it opens. Another
- * allocator: define rattle_alloc, rattle_realloc and rattle_dealloc in your program, before the archive (USING.md).
+ * allocator: define rattle_alloc, rattle_realloc and rattle_dealloc in your program, before the archive (docs/GUIDE.md).
  *
  * THREADS. The library has no global state: calls may run on any number of threads at once, with the same texts too. No call may run in
  * a signal handler. Calls on one open robot or site only read it. Proved: such a call borrows it, so any number of them may overlap, and
@@ -47,8 +47,8 @@
  * that robots_site_open opened; each is closed once, when no call uses it. Robots and sites don't need each other, nor the texts that
  * they were opened with. No call keeps a pointer to a text.
  *
- * PROOF. crates/robots_c/src/lib.rt has a contract for each call, from the file's bytes to every number written. USING.md says what is
- * proved and what is tested. The compiled library is for Linux on x86-64-v2 processors (SSE4.1). */
+ * PROOF. crates/robots_c/src/lib.rt has a contract for each call, from the file's bytes to every number written. docs/PROOFS.md says
+ * what is proved and what is tested. The compiled library is for Linux on x86-64-v2 processors (SSE4.1). */
 #ifndef ROBOTS_H
 #define ROBOTS_H
 #include <stddef.h>
