@@ -141,9 +141,10 @@ def test_links_lead_to_files_and_headings(name):
 
 @pytest.mark.parametrize("name", DOCUMENTS)
 def test_documents_name_what_exists(name):
-    """Paths from the root of the repository, theorems, and predicates of the specifications."""
+    """Paths in the repository or in a crate, theorems, and predicates of the specifications."""
     spans = set(re.findall(r"`([^`\n]+)`", DOCUMENTS[name]))
     assert not [span for span in spans if re.fullmatch(r"(crates|docs|tests|examples|bindings)/[\w./-]+", span) and not (ROOT / span).exists()]
+    assert not [span for span in spans if re.fullmatch(r"(specs|src|proofs)/[\w./-]+", span) and not [*CRATES.glob(f"*/{span.rstrip('/')}")]]
     laws = (LIBRARY / "src/laws.rt").read_text()
     assert not [span for span in spans if span.startswith("laws::") and f"pub fn {span[6:]}()" not in laws]
     specified = "".join(path.read_text() for path in CRATES.glob("*/specs/**/*.antt"))
