@@ -1,6 +1,6 @@
 //! Reads the bytes of a robots.txt file for one crawler, and says which URLs that crawler may fetch, how long it waits
 //! between two requests, and which sitemaps the file lists. It has the behaviour of the Rust crate `texting_robots`, which
-//! follows Google's reading of the Robots Exclusion Protocol (RFC 9309); `docs/DIFFERENCES.md` lists where it departs.
+//! follows Google's reading of the Robots Exclusion Protocol (RFC 9309); `docs/COMPATIBILITY.md` lists where it departs.
 //!
 //! [`Robot`] is the way in: `Robot::new` reads a file for an agent, and `allowed` answers for a URL. [`Site`] reads a file once
 //! for many agents, and `Site::robot` gives the same robots. [`one_agent_allowed`] reads a file and asks about one text, and its
