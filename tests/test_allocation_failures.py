@@ -1,7 +1,7 @@
 """Each allocation of a program fails in turn, and so does each read and write: the program gives the right result or reports the
 failure, writes nothing else, and frees all that it allocated.
 
-The program robots_refusals makes each call of the libraries that its input names. `rt ci` runs it with enough memory, on large inputs
+The program robots_fault_injection makes each call of the libraries that its input names. `rt ci` runs it with enough memory, on large inputs
 too.
 """
 
@@ -12,7 +12,7 @@ from itertools import count
 import pytest
 from support import CRATES, Result, run, warning_line
 
-CALLS = [line.removesuffix(": right") for line in (CRATES / "robots_refusals/stdout").read_text().splitlines()]
+CALLS = [line.removesuffix(": right") for line in (CRATES / "robots_fault_injection/stdout").read_text().splitlines()]
 WITHOUT_MEMORY = [name for name in CALLS if name.endswith(" without memory")]
 WITH_MEMORY = [name for name in CALLS if not name.endswith((" without memory", " on large inputs"))]
 # The call that makes what those without memory use.
@@ -76,16 +76,16 @@ later = pytest.mark.parametrize("later", [False, True], ids=["one allocation", "
 @later
 @pytest.mark.parametrize("name", WITH_MEMORY)
 def test_call(failing_heap, name, later):
-    call = Failing(failing_heap, "robots_refusals", stdin=f"{name}\n".encode())
+    call = Failing(failing_heap, "robots_fault_injection", stdin=f"{name}\n".encode())
     fail_each_allocation(call, Result(0, f"{name}: right\n", ""), Result(0, f"{name}: out of memory\n", ""), later)
 
 
 @pytest.mark.parametrize("name", WITHOUT_MEMORY)
 def test_call_without_memory(failing_heap, name):
     """Every allocation fails after those that make what the call uses: it makes none."""
-    set_up = Failing(failing_heap, "robots_refusals", stdin=f"{SET_UP}\n".encode())
+    set_up = Failing(failing_heap, "robots_fault_injection", stdin=f"{SET_UP}\n".encode())
     set_up()
-    call = Failing(failing_heap, "robots_refusals", stdin=f"{name}\n".encode())
+    call = Failing(failing_heap, "robots_fault_injection", stdin=f"{name}\n".encode())
     assert call(FAIL_ALLOCATION=set_up.allocations + 1, FAIL_LATER=1) == Result(0, f"{name}: right\n", "")
     assert (call.allocations, call.failed) == (set_up.allocations, 0)
 

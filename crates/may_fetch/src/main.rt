@@ -7,7 +7,7 @@ use texting_robots::{Error, Robot};
 
 /// Says whether the crawler may fetch a URL. A text that is neither a URL nor a path is matched as it stands: since it begins with
 /// no slash, mostly no rule matches it, and the answer is yes.
-fn tell(rt: &HostRuntime, robot: &Robot, url: &str) -> io::Result<()> {
+fn print_verdict(rt: &HostRuntime, robot: &Robot, url: &str) -> io::Result<()> {
     match robot.allowed(rt.alloc(), url) {
         Ok(true) => println!(rt; "allow {url}"),
         Ok(false) => println!(rt; "deny {url}"),
@@ -28,7 +28,7 @@ fn main(rt: HostRuntime) -> io::Result<()> {
         Err(_) => return rt.eprintln("may_fetch: the file can't be used, as a rule is too long"),
     };
     for url in words {
-        tell(&rt, &robot, &url)?;
+        print_verdict(&rt, &robot, &url)?;
     }
     Ok(())
 }

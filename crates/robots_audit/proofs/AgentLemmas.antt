@@ -9,8 +9,8 @@ use Rattle.std.proofs.lemmas.List.{append-nil}
 use Rattle.std.proofs.lemmas.Slice.Eq.{bytes_eq-Decides}
 use Rattle.texting_robots.specs.Callers.{UserAgent}
 use Rattle.robots_audit.specs.Audit.{is_among}
-use Rattle.robots_warnings.specs.Steps.Names.{AddsName, Key}
-use Rattle.robots_audit.specs.Steps.Agents.{AddsAgent, HasAgents, has_lowered}
+use Rattle.robots_warnings.specs.Internal.Names.{AddsName, Key}
+use Rattle.robots_audit.specs.Internal.Agents.{AddsAgent, HasAgents, has_lowered}
 use Rattle.robots_warnings.proofs.NameLemmas.{any_last}
 
 -- a name that is among the others adds nothing to them

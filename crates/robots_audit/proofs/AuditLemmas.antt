@@ -12,16 +12,16 @@ use Rattle.robots_audit.specs.declared.fault.Fault.{Fault}
 use Rattle.robots_audit.specs.declared.fault.Fault.TheVariants.{File, InvalidRule, Memory}
 use Rattle.robots_audit.specs.declared.fault.Fault.TheVariants.{NotUtf8, Read, UnknownWarning, Usage, Words, Write}
 use Rattle.texting_robots.specs.Callers.{LineValue, group_name}
-use Rattle.texting_robots.specs.Marks.{mark_at}
-use Rattle.robots_warnings.specs.File.{lines_of, marks_for}
+use Rattle.texting_robots.specs.Labels.{label_at}
+use Rattle.robots_warnings.specs.File.{lines_of, labels_for}
 use Rattle.texting_robots.specs.Callers.{AnswerAlike, IsRobotOfFile, PlacedRule, RobotValue}
 use Rattle.texting_robots.specs.Callers.{file_limit, lines_read, placed_rules, prepared}
 use Rattle.texting_robots.proofs.GivenLemmas.{delay_is_computed}
-use Rattle.texting_robots.proofs.HeadlineLemmas.{answers_computed, read_robot}
+use Rattle.texting_robots.proofs.MainTheoremLemmas.{answers_computed, read_robot}
 use Rattle.robots_audit.specs.Audit.{AgentValue, IsAgentAudit, IsVerdictOn, VerdictValue}
 use Rattle.robots_audit.specs.Audit.{all_allowed, allows_all, group_of}
 use Rattle.robots_audit.specs.Fault.{MayFail}
-use Rattle.robots_audit.specs.Steps.{agent_value, verdict_value}
+use Rattle.robots_audit.specs.Internal.{agent_value, verdict_value}
 
 zip_push : {B V : Type 0} (R : B → V → Type 0) (items : List B) (found : List V) (item : B) (next : V)
     → AllZip R items found → R item next → AllZip R (items ++ item ∷ []) (found ++ next ∷ [])
@@ -94,13 +94,13 @@ pub among_mapped : {A B : Type 0} (f : A → B) (items : List A) (place : ℕ) (
 among_mapped f items place item below = (place, rw length-map below, get_or-map f items place item _ below)
 
 lines_from : (name : List ℕ) (all lines : List LineValue) (n : ℕ)
-    → lines_of (map (mark_at name all) (enumerate_from n lines)) ≡ lines
+    → lines_of (map (label_at name all) (enumerate_from n lines)) ≡ lines
 lines_from name all [] n = refl
 lines_from name all (line ∷ lines) n = ap (λ t. line ∷ t) (lines_from name all lines (n + 1))
 
 -- the lines of the marks are the lines
-pub lines_marked : (agent : List ℕ) (lines : List LineValue) → lines_of (marks_for agent lines) ≡ lines
-lines_marked agent lines = lines_from (group_name agent lines) lines lines 0
+pub lines_labeled : (agent : List ℕ) (lines : List LineValue) → lines_of (labels_for agent lines) ≡ lines
+lines_labeled agent lines = lines_from (group_name agent lines) lines lines 0
 
 -- ---- what an agent gets
 

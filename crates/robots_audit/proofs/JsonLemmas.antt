@@ -19,39 +19,39 @@ use Rattle.serde_json.specs.View.{items_of}
 use Rattle.serde_json.specs.Written.{comma_if, compact_text, has_float, items_text, members_text}
 use Rattle.serde_json.specs.Written.{number_text}
 use Rattle.serde_json.proofs.OnLiterals.{serde_json_on_literals}
-use Rattle.texting_robots.specs.declared.marks.MarkedLine.{MarkedLine}
-use Rattle.texting_robots.specs.declared.marks.Standing.{Standing}
-use Rattle.texting_robots.specs.declared.marks.Standing.TheVariants.{Other, Outside, Own}
-use Rattle.texting_robots.specs.Callers.{Allow, CrawlDelay, Disallow, LineValue, Mark, Raw, Sitemap}
-use Rattle.texting_robots.specs.Callers.{UserAgent, by_value, mark_by_value, sitemaps_in}
-use Rattle.texting_robots.specs.Computed.{sitemap_in}
+use Rattle.texting_robots.specs.declared.labels.LabeledLine.{LabeledLine}
+use Rattle.texting_robots.specs.declared.labels.Membership.{Membership}
+use Rattle.texting_robots.specs.declared.labels.Membership.TheVariants.{Other, Ungrouped, Own}
+use Rattle.texting_robots.specs.Callers.{Allow, CrawlDelay, Disallow, LineValue, Label, Raw, Sitemap}
+use Rattle.texting_robots.specs.Callers.{UserAgent, by_value, label_by_value, sitemaps_in}
+use Rattle.texting_robots.specs.Executable.{sitemap_in}
 use Rattle.robots_io.specs.Lines.{lf}
 use Rattle.robots_audit.specs.declared.group.Group.{Group}
 use Rattle.robots_audit.specs.declared.group.Group.TheVariants.{Everyone, Named, Nobody, Star}
 use Rattle.robots_audit.specs.Audit.{AgentValue, AuditValue, VerdictValue}
 use Rattle.robots_audit.specs.Json.{agent_json, audit_json, group_word, json_text, line_json, list_json}
-use Rattle.robots_audit.specs.Json.{number_json, shown_json, standing_word, value_json, verdict_json}
+use Rattle.robots_audit.specs.Json.{number_json, sanitized_json, membership_word, value_json, verdict_json}
 use Rattle.robots_audit.specs.Json.{warning_json}
 use Rattle.robots_warnings.specs.File.{is_blank, lines_of}
 use Rattle.robots_audit.specs.Rows.{kind_text}
-use Rattle.robots_io.specs.Shown.{IsPlain, is_plain, is_plain_byte}
+use Rattle.robots_io.specs.Sanitize.{IsPrintable, is_printable, is_printable_byte}
 use Rattle.robots_warnings.specs.Warnings.{WarningValue}
-use Rattle.robots_warnings.proofs.PlainLemmas.{names_plain, text_plain}
-use Rattle.robots_io.proofs.ShownLemmas.{append_plain, ascii_plain, char_plain, decimal_plain}
-use Rattle.robots_io.proofs.ShownLemmas.{nil_plain}
-use Rattle.robots_io.proofs.ShownLemmas.{shown_plain}
+use Rattle.robots_warnings.proofs.PrintableLemmas.{names_printable, text_printable}
+use Rattle.robots_io.proofs.SanitizeLemmas.{append_printable, ascii_printable, char_printable, decimal_printable}
+use Rattle.robots_io.proofs.SanitizeLemmas.{nil_printable}
+use Rattle.robots_io.proofs.SanitizeLemmas.{sanitized_printable}
 
 -- ---- sitemaps
 
 -- the sitemaps from one place on, by the line there
-pub sitemaps_next : (marks : List MarkedLine) (at : ℕ) (marked : MarkedLine) → at < length marks
-    → sitemaps_in (lines_of (map mark_by_value (drop at marks)))
-    ≡ sitemaps_in (by_value (slice_index_or marks at marked).line ∷ [])
-    ++ sitemaps_in (lines_of (map mark_by_value (drop (at + 1) marks)))
-sitemaps_next marks at marked below =
-    let here = by_value (slice_index_or marks at marked).line ∷ [] in
-    let later = lines_of (map mark_by_value (drop (at + 1) marks)) in
-    ap (λ marks. sitemaps_in (lines_of (map mark_by_value marks))) (drop_more marks at marked below)
+pub sitemaps_next : (labels : List LabeledLine) (at : ℕ) (labeled : LabeledLine) → at < length labels
+    → sitemaps_in (lines_of (map label_by_value (drop at labels)))
+    ≡ sitemaps_in (by_value (slice_index_or labels at labeled).line ∷ [])
+    ++ sitemaps_in (lines_of (map label_by_value (drop (at + 1) labels)))
+sitemaps_next labels at labeled below =
+    let here = by_value (slice_index_or labels at labeled).line ∷ [] in
+    let later = lines_of (map label_by_value (drop (at + 1) labels)) in
+    ap (λ labels. sitemaps_in (lines_of (map label_by_value labels))) (drop_more labels at labeled below)
     ∙ filter_map-append sitemap_in here later
 
 -- ---- lists
@@ -94,8 +94,8 @@ agent_without_float agent = rw (
   list_without_float verdict_json verdict_without_float agent.verdicts,
 )
 
-line_without_float : (mark : Mark) → has_float (line_json mark) ≡ false
-line_without_float mark = rw (value_without_float mark.line)
+line_without_float : (label : Label) → has_float (line_json label) ≡ false
+line_without_float label = rw (value_without_float label.line)
 
 warning_without_float : (warning : WarningValue) → has_float (warning_json warning) ≡ false
 warning_without_float warning = rw (number_without_float warning.line)
@@ -103,19 +103,19 @@ warning_without_float warning = rw (number_without_float warning.line)
 pub no_float : (has_rows : Bool) (audit : AuditValue) → has_float (audit_json has_rows audit) ≡ false
 no_float has_rows audit = rw (
   list_without_float agent_json agent_without_float audit.agents,
-  list_without_float line_json line_without_float (if has_rows then audit.marks else []),
-  list_without_float shown_json (λ text. refl) (sitemaps_in (lines_of audit.marks)),
+  list_without_float line_json line_without_float (if has_rows then audit.labels else []),
+  list_without_float sanitized_json (λ text. refl) (sitemaps_in (lines_of audit.labels)),
   list_without_float warning_json warning_without_float audit.warnings,
 )
 
 -- ---- a plain text in quotes
 
 -- the byte isn't plain, or what stands for it is plain too
-abbrev stays_plain : (ℕ → List ℕ) → ℕ → Bool
-stays_plain escape byte = not (is_plain true byte) || list_all (is_plain_byte true) (escape byte)
+abbrev stays_printable : (ℕ → List ℕ) → ℕ → Bool
+stays_printable escape byte = not (is_printable true byte) || list_all (is_printable_byte true) (escape byte)
 
 -- what stands in quotes for a byte: something plain for a plain byte of ASCII, and any byte beyond for itself
-module _ (escape : ℕ → List ℕ) (stay : agree_below (stays_plain escape) (λ _. true) 128 ≡ true)
+module _ (escape : ℕ → List ℕ) (stay : agree_below (stays_printable escape) (λ _. true) 128 ≡ true)
     (high_stay : (byte : ℕ) → 128 ≤ byte → escape byte ≡ byte ∷ []) where
   beyond_kept : (bytes : List ℕ) → ((k : ℕ) → k < length bytes → 128 ≤ get_or bytes k 0)
       → flat_map escape bytes ≡ bytes
@@ -124,12 +124,12 @@ module _ (escape : ℕ → List ℕ) (stay : agree_below (stays_plain escape) (�
       ap₂ (λ (one two : List ℕ). one ++ two) (high_stay byte (high 0 (omega arith)))
       (beyond_kept bytes (λ k below. high (suc k) (omega arith)))
 
-  char_escaped : (char : ℕ) → IsScalar char → is_plain true char ≡ true
-      → IsPlain (flat_map escape (encode_utf8 char))
+  char_escaped : (char : ℕ) → IsScalar char → is_printable true char ≡ true
+      → IsPrintable (flat_map escape (encode_utf8 char))
   char_escaped char is plain = elim (cases_lt char 128) [
     | inl low ↦
-        let stays = agree_below_at (stays_plain escape) (λ _. true) 128 char stay low in
-        rw (encode_ascii char low, append-nil) (ascii_plain true (escape char) (rw plain at stays))
+        let stays = agree_below_at (stays_printable escape) (λ _. true) 128 char stay low in
+        rw (encode_ascii char low, append-nil) (ascii_printable true (escape char) (rw plain at stays))
     | inr beyond ↦
         let bytes = encode_utf8 char in
         let high : (k : ℕ) → k < length bytes → 128 ≤ get_or bytes k 0 = λ k below.
@@ -137,182 +137,182 @@ module _ (escape : ℕ → List ℕ) (stay : agree_below (stays_plain escape) (�
           | inl low ↦ absurd (omega (arith, inside_one char [] bytes k (sym (append-nil _)) below low))
           | inr is ↦ is
         ] in
-        subst IsPlain (sym (beyond_kept bytes high)) (char_plain true char is plain)
+        subst IsPrintable (sym (beyond_kept bytes high)) (char_printable true char is plain)
   ]
 
-  text_escaped : (cs : List ℕ) → all_scalars cs ≡ true → IsTrue (list_all (is_plain true) cs)
-      → IsPlain (flat_map escape (encode_utf8_all cs))
-  text_escaped [] scalars are = nil_plain true
+  text_escaped : (cs : List ℕ) → all_scalars cs ≡ true → IsTrue (list_all (is_printable true) cs)
+      → IsPrintable (flat_map escape (encode_utf8_all cs))
+  text_escaped [] scalars are = nil_printable true
   text_escaped (char ∷ cs) scalars are =
       let is = and_parts _ (all_scalars cs) scalars in
-      let plain = and_parts (is_plain true char) (list_all (is_plain true) cs) are in
+      let plain = and_parts (is_printable true char) (list_all (is_printable true) cs) are in
       let front = encode_utf8 char in
       let rest = encode_utf8_all cs in
-      subst IsPlain (sym (flat_map-append escape front rest))
-      (append_plain true (flat_map escape front) (flat_map escape rest)
+      subst IsPrintable (sym (flat_map-append escape front rest))
+      (append_printable true (flat_map escape front) (flat_map escape rest)
       (char_escaped char is.0 plain.0) (text_escaped cs is.1 plain.1))
 
-  in_quotes : (text : List ℕ) → IsPlain text → IsPlain (34 ∷ (flat_map escape text ++ 34 ∷ []))
+  in_quotes : (text : List ℕ) → IsPrintable text → IsPrintable (34 ∷ (flat_map escape text ++ 34 ∷ []))
   in_quotes text is =
-      let quote = ascii_plain true (34 ∷ []) refl in
-      let inside = subst (λ t. IsPlain (flat_map escape t)) (encodes-chars text is.utf8)
+      let quote = ascii_printable true (34 ∷ []) refl in
+      let inside = subst (λ t. IsPrintable (flat_map escape t)) (encodes-chars text is.utf8)
       (text_escaped (chars text) (scalars-chars text is.utf8) is.all) in
-      append_plain true (34 ∷ []) (flat_map escape text ++ 34 ∷ []) quote
-      (append_plain true (flat_map escape text) (34 ∷ []) inside quote)
+      append_printable true (34 ∷ []) (flat_map escape text ++ 34 ∷ []) quote
+      (append_printable true (flat_map escape text) (34 ∷ []) inside quote)
 
-quoted_plain : (text : List ℕ) → IsPlain text → IsPlain (compact_text (string text))
+quoted_printable : (text : List ℕ) → IsPrintable text → IsPrintable (compact_text (string text))
 unfolding serde_json_on_literals
-quoted_plain text is = in_quotes _ refl (λ byte high. grind (arith, nat_tests)) text is
+quoted_printable text is = in_quotes _ refl (λ byte high. grind (arith, nat_tests)) text is
 
 -- ---- JSON of plain texts
 
 -- the texts in it are plain, and its names of members plain ASCII
 abbrev mutual
-  HasPlain : Data → Type 0
-  HasPlain null = Unit {0}
-  HasPlain (boolean b) = Unit {0}
-  HasPlain (number n) = IsPlain (number_text n)
-  HasPlain (string text) = IsPlain text
-  HasPlain (array items) = ItemsHavePlain items
-  HasPlain (object members) = MembersHavePlain members
+  HasPrintable : Data → Type 0
+  HasPrintable null = Unit {0}
+  HasPrintable (boolean b) = Unit {0}
+  HasPrintable (number n) = IsPrintable (number_text n)
+  HasPrintable (string text) = IsPrintable text
+  HasPrintable (array items) = ItemsHavePrintable items
+  HasPrintable (object members) = MembersHavePrintable members
 
-  ItemsHavePlain : Items → Type 0
-  ItemsHavePlain no_items = Unit {0}
-  ItemsHavePlain (item value items) = HasPlain value × ItemsHavePlain items
+  ItemsHavePrintable : Items → Type 0
+  ItemsHavePrintable no_items = Unit {0}
+  ItemsHavePrintable (item value items) = HasPrintable value × ItemsHavePrintable items
 
-  MembersHavePlain : Members → Type 0
-  MembersHavePlain no_members = Unit {0}
-  MembersHavePlain (member name value members) =
-      IsTrue (list_all (is_plain_byte true) name) × HasPlain value × MembersHavePlain members
+  MembersHavePrintable : Members → Type 0
+  MembersHavePrintable no_members = Unit {0}
+  MembersHavePrintable (member name value members) =
+      IsTrue (list_all (is_printable_byte true) name) × HasPrintable value × MembersHavePrintable members
 
-byte_then : (byte : ℕ) → IsTrue (list_all (is_plain_byte true) (byte ∷ [])) → (text : List ℕ)
-    → IsPlain text → IsPlain (byte ∷ text)
-byte_then byte plain text is = append_plain true (byte ∷ []) text (ascii_plain true (byte ∷ []) plain) is
+byte_then : (byte : ℕ) → IsTrue (list_all (is_printable_byte true) (byte ∷ [])) → (text : List ℕ)
+    → IsPrintable text → IsPrintable (byte ∷ text)
+byte_then byte plain text is = append_printable true (byte ∷ []) text (ascii_printable true (byte ∷ []) plain) is
 
-comma_then : (later : Bool) (text : List ℕ) → IsPlain text → IsPlain (comma_if later ++ text)
+comma_then : (later : Bool) (text : List ℕ) → IsPrintable text → IsPrintable (comma_if later ++ text)
 comma_then true text is = byte_then 44 refl text is
 comma_then false text is = is
 
 mutual
-  data_plain : (value : Data) → HasPlain value → IsPlain (compact_text value)
-  data_plain null are = ascii_plain true (compact_text null) refl
-  data_plain (boolean true) are = ascii_plain true (compact_text (boolean true)) refl
-  data_plain (boolean false) are = ascii_plain true (compact_text (boolean false)) refl
-  data_plain (number n) are = are
-  data_plain (string text) are = quoted_plain text are
-  data_plain (array items) are = byte_then 91 refl (items_text false items) (items_plain false items are)
-  data_plain (object members) are =
-      byte_then 123 refl (members_text false members) (members_plain false members are)
+  data_printable : (value : Data) → HasPrintable value → IsPrintable (compact_text value)
+  data_printable null are = ascii_printable true (compact_text null) refl
+  data_printable (boolean true) are = ascii_printable true (compact_text (boolean true)) refl
+  data_printable (boolean false) are = ascii_printable true (compact_text (boolean false)) refl
+  data_printable (number n) are = are
+  data_printable (string text) are = quoted_printable text are
+  data_printable (array items) are = byte_then 91 refl (items_text false items) (items_printable false items are)
+  data_printable (object members) are =
+      byte_then 123 refl (members_text false members) (members_printable false members are)
 
-  items_plain : (later : Bool) (items : Items) → ItemsHavePlain items → IsPlain (items_text later items)
-  items_plain later no_items are = ascii_plain true (93 ∷ []) refl
-  items_plain later (item value items) are =
+  items_printable : (later : Bool) (items : Items) → ItemsHavePrintable items → IsPrintable (items_text later items)
+  items_printable later no_items are = ascii_printable true (93 ∷ []) refl
+  items_printable later (item value items) are =
       comma_then later (compact_text value ++ items_text true items)
-      (append_plain true (compact_text value) (items_text true items)
-      (data_plain value are.0) (items_plain true items are.1))
+      (append_printable true (compact_text value) (items_text true items)
+      (data_printable value are.0) (items_printable true items are.1))
 
-  members_plain : (later : Bool) (members : Members) → MembersHavePlain members
-      → IsPlain (members_text later members)
-  members_plain later no_members are = ascii_plain true (125 ∷ []) refl
-  members_plain later (member name value members) are =
+  members_printable : (later : Bool) (members : Members) → MembersHavePrintable members
+      → IsPrintable (members_text later members)
+  members_printable later no_members are = ascii_printable true (125 ∷ []) refl
+  members_printable later (member name value members) are =
       let rest = compact_text value ++ members_text true members in
       let quoted = compact_text (string name) in
       comma_then later (quoted ++ 58 ∷ rest)
-      (append_plain true quoted (58 ∷ rest) (quoted_plain name (ascii_plain true name are.0))
-      (byte_then 58 refl rest (append_plain true (compact_text value) (members_text true members)
-      (data_plain value are.1) (members_plain true members are.2))))
+      (append_printable true quoted (58 ∷ rest) (quoted_printable name (ascii_printable true name are.0))
+      (byte_then 58 refl rest (append_printable true (compact_text value) (members_text true members)
+      (data_printable value are.1) (members_printable true members are.2))))
 
 -- ---- the texts of an audit
 
-list_has : {X : Type 0} (value : X → Data) → ((x : X) → HasPlain (value x)) → (xs : List X)
-    → HasPlain (list_json value xs)
+list_has : {X : Type 0} (value : X → Data) → ((x : X) → HasPrintable (value x)) → (xs : List X)
+    → HasPrintable (list_json value xs)
 list_has value are [] = tt
 list_has value are (x ∷ xs) = (are x, list_has value are xs)
 
-number_has : (n : Option ℕ) → HasPlain (number_json n)
+number_has : (n : Option ℕ) → HasPrintable (number_json n)
 number_has None = tt
-number_has (Some n) = decimal_plain true n
+number_has (Some n) = decimal_printable true n
 
-verdict_has : (verdict : VerdictValue) → HasPlain (verdict_json verdict)
+verdict_has : (verdict : VerdictValue) → HasPrintable (verdict_json verdict)
 verdict_has verdict =
-    (refl, tt, (refl, number_has verdict.decision.line, (refl, shown_plain verdict.url, tt)))
+    (refl, tt, (refl, number_has verdict.decision.line, (refl, sanitized_printable verdict.url, tt)))
 
-group_plain : (group : Group) → IsPlain (group_word group)
-group_plain Named = ascii_plain true (codes "named") refl
-group_plain Star = ascii_plain true (codes "star") refl
-group_plain Nobody = ascii_plain true (codes "none") refl
-group_plain Everyone = ascii_plain true (codes "everyone") refl
+group_printable : (group : Group) → IsPrintable (group_word group)
+group_printable Named = ascii_printable true (codes "named") refl
+group_printable Star = ascii_printable true (codes "star") refl
+group_printable Nobody = ascii_printable true (codes "none") refl
+group_printable Everyone = ascii_printable true (codes "everyone") refl
 
-agent_has : (agent : AgentValue) → HasPlain (agent_json agent)
+agent_has : (agent : AgentValue) → HasPrintable (agent_json agent)
 agent_has agent = (
   refl,
-  shown_plain agent.agent,
+  sanitized_printable agent.agent,
   (
     refl,
     number_has agent.delay,
-    (refl, group_plain agent.group, (refl, list_has verdict_json verdict_has agent.verdicts, tt)),
+    (refl, group_printable agent.group, (refl, list_has verdict_json verdict_has agent.verdicts, tt)),
   ),
 )
 
-standing_plain : (standing : Standing) → IsPlain (standing_word standing)
-standing_plain Own = ascii_plain true (codes "own") refl
-standing_plain Other = ascii_plain true (codes "other") refl
-standing_plain Outside = ascii_plain true (codes "outside") refl
+membership_printable : (membership : Membership) → IsPrintable (membership_word membership)
+membership_printable Own = ascii_printable true (codes "own") refl
+membership_printable Other = ascii_printable true (codes "other") refl
+membership_printable Ungrouped = ascii_printable true (codes "outside") refl
 
-pub kind_plain : (line : LineValue) → IsPlain (kind_text line)
-kind_plain (UserAgent value) = ascii_plain true (codes "user-agent") refl
-kind_plain (Allow value) = ascii_plain true (codes "allow") refl
-kind_plain (Disallow value) = ascii_plain true (codes "disallow") refl
-kind_plain (CrawlDelay delay) = ascii_plain true (codes "crawl-delay") refl
-kind_plain (Sitemap value) = ascii_plain true (codes "sitemap") refl
-kind_plain (Raw body) = either (is_blank body)
+pub kind_printable : (line : LineValue) → IsPrintable (kind_text line)
+kind_printable (UserAgent value) = ascii_printable true (codes "user-agent") refl
+kind_printable (Allow value) = ascii_printable true (codes "allow") refl
+kind_printable (Disallow value) = ascii_printable true (codes "disallow") refl
+kind_printable (CrawlDelay delay) = ascii_printable true (codes "crawl-delay") refl
+kind_printable (Sitemap value) = ascii_printable true (codes "sitemap") refl
+kind_printable (Raw body) = either (is_blank body)
   where
-    either : (blank : Bool) → IsPlain (if blank then codes "empty" else codes "ignored")
-    either true = ascii_plain true (codes "empty") refl
-    either false = ascii_plain true (codes "ignored") refl
+    either : (blank : Bool) → IsPrintable (if blank then codes "empty" else codes "ignored")
+    either true = ascii_printable true (codes "empty") refl
+    either false = ascii_printable true (codes "ignored") refl
 
-text_has : (has : Bool) (text : List ℕ) → IsPlain text → HasPlain (if has then string text else null)
+text_has : (has : Bool) (text : List ℕ) → IsPrintable text → HasPrintable (if has then string text else null)
 text_has true text is = is
 text_has false text is = tt
 
-value_has : (line : LineValue) → HasPlain (value_json line)
-value_has (UserAgent value) = text_has _ _ (shown_plain value)
-value_has (Allow value) = text_has _ _ (shown_plain value)
-value_has (Disallow value) = text_has _ _ (shown_plain value)
+value_has : (line : LineValue) → HasPrintable (value_json line)
+value_has (UserAgent value) = text_has _ _ (sanitized_printable value)
+value_has (Allow value) = text_has _ _ (sanitized_printable value)
+value_has (Disallow value) = text_has _ _ (sanitized_printable value)
 value_has (CrawlDelay delay) = number_has delay
-value_has (Sitemap value) = text_has _ _ (shown_plain value)
-value_has (Raw body) = text_has _ _ (shown_plain body)
+value_has (Sitemap value) = text_has _ _ (sanitized_printable value)
+value_has (Raw body) = text_has _ _ (sanitized_printable body)
 
-line_has : (mark : Mark) → HasPlain (line_json mark)
-line_has mark = (
+line_has : (label : Label) → HasPrintable (line_json label)
+line_has label = (
   refl,
-  kind_plain mark.line,
+  kind_printable label.line,
   (
     refl,
-    decimal_plain true mark.number,
-    (refl, standing_plain mark.standing, (refl, value_has mark.line, tt)),
+    decimal_printable true label.number,
+    (refl, membership_printable label.membership, (refl, value_has label.line, tt)),
   ),
 )
 
-warning_has : (warning : WarningValue) → HasPlain (warning_json warning)
+warning_has : (warning : WarningValue) → HasPrintable (warning_json warning)
 warning_has warning =
-    (refl, number_has warning.line, (refl, names_plain warning.cause, (refl, text_plain warning, tt)))
+    (refl, number_has warning.line, (refl, names_printable warning.cause, (refl, text_printable warning, tt)))
 
-pub json_plain : (has_rows : Bool) (audit : AuditValue) → IsPlain (json_text has_rows audit)
-json_plain has_rows audit =
-    append_plain true (compact_text (audit_json has_rows audit)) (lf ∷ [])
-    (data_plain (audit_json has_rows audit) are) (ascii_plain true (lf ∷ []) refl)
+pub json_printable : (has_rows : Bool) (audit : AuditValue) → IsPrintable (json_text has_rows audit)
+json_printable has_rows audit =
+    append_printable true (compact_text (audit_json has_rows audit)) (lf ∷ [])
+    (data_printable (audit_json has_rows audit) are) (ascii_printable true (lf ∷ []) refl)
   where
-    are : HasPlain (audit_json has_rows audit)
+    are : HasPrintable (audit_json has_rows audit)
     are = (
       refl,
       list_has agent_json agent_has audit.agents,
       (
         refl,
-        list_has line_json line_has (if has_rows then audit.marks else []),
+        list_has line_json line_has (if has_rows then audit.labels else []),
         (
           refl,
-          list_has shown_json shown_plain (sitemaps_in (lines_of audit.marks)),
+          list_has sanitized_json sanitized_printable (sitemaps_in (lines_of audit.labels)),
           (refl, list_has warning_json warning_has audit.warnings, tt),
         ),
       ),

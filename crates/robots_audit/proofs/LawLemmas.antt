@@ -2,14 +2,14 @@
 use Rattle.std.proofs.Common.{◌≡◌, ℕ, suc, List, [], ◌∷◌, Contains, ap, ap₂, arith, refl, sym}
 use Rattle.std.proofs.Common.{◌∙◌}
 use Rattle.std.specs.List.{AllZip}
-use Rattle.texting_robots.specs.Callers.{IsRefused, LineValue, PlacedRule}
+use Rattle.texting_robots.specs.Callers.{IsRejected, LineValue, PlacedRule}
 use Rattle.texting_robots.specs.Callers.{delay_for, lines_read, placed_rules, prepared, unplaced}
 use Rattle.texting_robots.specs.declared.decision.Decision.{Decision}
 use Rattle.texting_robots.proofs.BestLemmas.{each_text_answered}
 use Rattle.texting_robots.proofs.VerdictLemmas.{one_line_decides, one_verdict}
 use Rattle.robots_io.specs.Verdicts.{IsDecisionOn}
-use Rattle.robots_audit.specs.Audit.{AgentValue, Asked, AuditValue, IsAgentAudit, IsAuditOf, IsVerdictOn}
-use Rattle.robots_audit.specs.Audit.{VerdictValue, agents_asked, group_of, marks_asked, warnings_asked}
+use Rattle.robots_audit.specs.Audit.{AgentValue, RequestValue, AuditValue, IsAgentAudit, IsAuditOf, IsVerdictOn}
+use Rattle.robots_audit.specs.Audit.{VerdictValue, agents_requested, group_of, labels_requested, warnings_requested}
 
 -- ---- one at most
 
@@ -58,15 +58,15 @@ agent_once urls lines agent one two is too =
       verdicts = verdicts;
     }) (is.delay_is ∙ sym too.delay_is) verdicts
 
-pub one_audit : (asked : Asked) (file : List ℕ) (audit other : AuditValue)
-    → IsAuditOf asked file audit → IsAuditOf asked file other → audit ≡ other
-one_audit asked file audit other is too =
+pub one_audit : (requested : RequestValue) (file : List ℕ) (audit other : AuditValue)
+    → IsAuditOf requested file audit → IsAuditOf requested file other → audit ≡ other
+one_audit requested file audit other is too =
     let lines = lines_read file in
-    let agents = zip_once (IsAgentAudit asked.urls lines) (agent_once asked.urls lines)
-    (agents_asked asked.agent lines) audit.agents other.agents is.agents_are too.agents_are in
-    ap₂ (λ marks warnings. record { marks = marks; agents = audit.agents; warnings = warnings })
-    (is.marks_are ∙ sym too.marks_are) (is.warnings_are ∙ sym too.warnings_are)
-    ∙ ap (λ agents. record { marks = other.marks; agents = agents; warnings = other.warnings }) agents
+    let agents = zip_once (IsAgentAudit requested.urls lines) (agent_once requested.urls lines)
+    (agents_requested requested.agent lines) audit.agents other.agents is.agents_are too.agents_are in
+    ap₂ (λ labels warnings. record { labels = labels; agents = audit.agents; warnings = warnings })
+    (is.labels_are ∙ sym too.labels_are) (is.warnings_are ∙ sym too.warnings_are)
+    ∙ ap (λ agents. record { labels = other.labels; agents = agents; warnings = other.warnings }) agents
 
 -- ---- there is one
 
@@ -89,7 +89,7 @@ some_verdict rules url =
       },
     )
 
-some_agent : (urls : List (List ℕ)) (lines : List LineValue) (agent : List ℕ) → ¬ IsRefused agent lines
+some_agent : (urls : List (List ℕ)) (lines : List LineValue) (agent : List ℕ) → ¬ IsRejected agent lines
     → (value : AgentValue) × IsAgentAudit urls lines agent value
 some_agent urls lines agent accepted =
     let rules = placed_rules agent lines in
@@ -109,19 +109,19 @@ some_agent urls lines agent accepted =
       },
     )
 
-pub some_audit : (asked : Asked) (file : List ℕ)
-    → ((agent : List ℕ) → Contains (agents_asked asked.agent (lines_read file)) agent
-    → ¬ IsRefused agent (lines_read file))
-    → (audit : AuditValue) × IsAuditOf asked file audit
-some_audit asked file accepted =
+pub some_audit : (requested : RequestValue) (file : List ℕ)
+    → ((agent : List ℕ) → Contains (agents_requested requested.agent (lines_read file)) agent
+    → ¬ IsRejected agent (lines_read file))
+    → (audit : AuditValue) × IsAuditOf requested file audit
+some_audit requested file accepted =
     let lines = lines_read file in
-    let marks = marks_asked asked file in
-    let (agents, are) = zip_some (IsAgentAudit asked.urls lines) (agents_asked asked.agent lines)
-    (λ agent has. some_agent asked.urls lines agent (accepted agent has)) in (
+    let labels = labels_requested requested file in
+    let (agents, are) = zip_some (IsAgentAudit requested.urls lines) (agents_requested requested.agent lines)
+    (λ agent has. some_agent requested.urls lines agent (accepted agent has)) in (
       record {
-        marks = marks;
+        labels = labels;
         agents = agents;
-        warnings = warnings_asked asked file marks;
+        warnings = warnings_requested requested file labels;
       },
-      record { marks_are = refl; agents_are = are; warnings_are = refl },
+      record { labels_are = refl; agents_are = are; warnings_are = refl },
     )

@@ -4,5 +4,5 @@ pub mod AuditLemmas
 pub mod DelayLemmas
 pub mod JsonLemmas
 pub mod LawLemmas
-pub mod PlainLemmas
+pub mod PrintableLemmas
 pub mod RowLemmas

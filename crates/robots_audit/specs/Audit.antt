@@ -4,7 +4,7 @@ use Rattle.std.specs.Prelude.{bytes_eq, codes}
 use Rattle.std.specs.Prelude.{if◌then◌else◌}
 use Rattle.std.specs.List.{AllZip, list_all, list_any}
 use Rattle.std.specs.Str.{is_utf8, str_to_ascii_lowercase}
-use Rattle.texting_robots.specs.Callers.{IsRefused, LineValue, Mark, PlacedRule, UserAgent}
+use Rattle.texting_robots.specs.Callers.{IsRejected, LineValue, Label, PlacedRule, UserAgent}
 use Rattle.texting_robots.specs.Callers.{delay_for, is_named, lines_read, placed_rules}
 use Rattle.texting_robots.specs.Group.{is_agent}
 use Rattle.texting_robots.specs.declared.decision.Decision.{Decision}
@@ -12,14 +12,14 @@ use Rattle.robots_io.specs.Verdicts.{IsDecisionOn}
 use Rattle.robots_audit.specs.declared.group.Group.{Group}
 use Rattle.robots_audit.specs.declared.group.Group.TheVariants.{Everyone, Named, Nobody, Star}
 use Rattle.robots_warnings.specs.Facts.{facts_of}
-use Rattle.robots_warnings.specs.File.{marks_for}
+use Rattle.robots_warnings.specs.File.{labels_for}
 use Rattle.robots_warnings.specs.Warnings.{WarningValue, warnings}
 use Rattle.robots_audit.specs.Chosen.{chosen}
 
 -- what an audit is asked for: an agent, or none for each that the file names; URLs; whether there are rows;
 -- whether it is written as JSON; the names of the warnings that are given, or none for all; and of those that
 -- are left out
-pub record Asked : Type 0 where
+pub record RequestValue : Type 0 where
   pub agent : Option (List ℕ)
   pub urls : List (List ℕ)
   pub is_quiet : Bool
@@ -49,9 +49,9 @@ with_names names (line ∷ lines) = with_names (with_name names line) lines
 abbrev pub agents_in : List LineValue → List (List ℕ)
 agents_in lines = with_names (codes "*" ∷ []) lines
 
-abbrev pub agents_asked : Option (List ℕ) → List LineValue → List (List ℕ)
-agents_asked (Some agent) lines = agent ∷ []
-agents_asked None lines = agents_in lines
+abbrev pub agents_requested : Option (List ℕ) → List LineValue → List (List ℕ)
+agents_requested (Some agent) lines = agent ∷ []
+agents_requested None lines = agents_in lines
 
 -- ---- what an agent gets
 
@@ -80,7 +80,7 @@ pub record IsVerdictOn (rules : List PlacedRule) (url : List ℕ) (verdict : Ver
 -- what an agent gets that can use the file
 pub record IsAgentAudit (urls : List (List ℕ)) (lines : List LineValue) (agent : List ℕ)
     (value : AgentValue) : Type 0 where
-  pub accepted : ¬ IsRefused agent lines
+  pub accepted : ¬ IsRejected agent lines
   pub agent_is : value.agent ≡ agent
   pub group_is : value.group ≡ group_of agent lines
   pub delay_is : value.delay ≡ delay_for agent lines
@@ -89,29 +89,29 @@ pub record IsAgentAudit (urls : List (List ℕ)) (lines : List LineValue) (agent
 -- ---- a file
 
 pub record AuditValue : Type 0 where
-  pub marks : List Mark
+  pub labels : List Label
   pub agents : List AgentValue
   pub warnings : List WarningValue
 
 -- the agent by which lines are marked: `*` where each is asked for
-abbrev pub marking_agent : Option (List ℕ) → List ℕ
-marking_agent (Some agent) = agent
-marking_agent None = codes "*"
+abbrev pub labeling_agent : Option (List ℕ) → List ℕ
+labeling_agent (Some agent) = agent
+labeling_agent None = codes "*"
 
 -- the lines, marked
-abbrev pub marks_asked : Asked → List ℕ → List Mark
-marks_asked asked file = marks_for (marking_agent asked.agent) (lines_read file)
+abbrev pub labels_requested : RequestValue → List ℕ → List Label
+labels_requested requested file = labels_for (labeling_agent requested.agent) (lines_read file)
 
 -- what is warned of, as far as it is asked for
-abbrev pub warnings_asked : Asked → List ℕ → List Mark → List WarningValue
-warnings_asked asked file marks =
-    chosen asked.only asked.ignored (warnings asked.agent asked.urls file (facts_of file marks) marks)
+abbrev pub warnings_requested : RequestValue → List ℕ → List Label → List WarningValue
+warnings_requested requested file labels =
+    chosen requested.only requested.ignored (warnings requested.agent requested.urls file (facts_of file labels) labels)
 
-pub record IsAuditOf (asked : Asked) (file : List ℕ) (audit : AuditValue) : Type 0 where
-  pub marks_are : audit.marks ≡ marks_asked asked file
-  pub agents_are : AllZip (IsAgentAudit asked.urls (lines_read file))
-      (agents_asked asked.agent (lines_read file)) audit.agents
-  pub warnings_are : audit.warnings ≡ warnings_asked asked file (marks_asked asked file)
+pub record IsAuditOf (requested : RequestValue) (file : List ℕ) (audit : AuditValue) : Type 0 where
+  pub labels_are : audit.labels ≡ labels_requested requested file
+  pub agents_are : AllZip (IsAgentAudit requested.urls (lines_read file))
+      (agents_requested requested.agent (lines_read file)) audit.agents
+  pub warnings_are : audit.warnings ≡ warnings_requested requested file (labels_requested requested file)
 
 -- each of these verdicts allows
 abbrev pub allows_all : List VerdictValue → Bool

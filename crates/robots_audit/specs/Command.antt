@@ -10,7 +10,7 @@ use Rattle.clap.specs.declared.parser.matches.ArgMatches.{ArgMatches}
 use Rattle.robots_audit.specs.declared.command.Request.{Request}
 use Rattle.robots_audit.specs.declared.fault.Fault.{Fault}
 use Rattle.robots_audit.specs.declared.fault.Fault.TheVariants.{Memory, UnknownWarning, Usage}
-use Rattle.robots_io.specs.Shown.{shown}
+use Rattle.robots_io.specs.Sanitize.{sanitized}
 use Rattle.robots_warnings.specs.Table.{is_name}
 
 -- the first value that was given under a name
@@ -60,7 +60,7 @@ pub record IsRequestOf (matches : ArgMatches) (request : Request) : Type 0 where
 
 -- no warning has this name, or an allocation failed
 abbrev pub IsUnknown : List ℕ → Fault → Type 0
-IsUnknown name (UnknownWarning text) = string_bytes text ≡ shown name
+IsUnknown name (UnknownWarning text) = string_bytes text ≡ sanitized name
 IsUnknown name fault = fault ≡ Memory
 
 -- no warning has some name of these, or an allocation failed

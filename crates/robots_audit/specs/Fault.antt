@@ -3,8 +3,8 @@ use Rattle.std.specs.Prelude.{ℕ, not, ◌&&◌, List, [], ◌∷◌, ◌++◌,
 use Rattle.std.specs.Prelude.{⊤, Contains, codes, decimal, if◌then◌else◌, string_bytes}
 use Rattle.texting_robots.specs.Callers.{IsFirstOverlong, lines_read, placed_rules}
 use Rattle.robots_io.specs.Lines.{lf}
-use Rattle.robots_io.specs.declared.ends.ReadFault.{ReadFault}
-use Rattle.robots_io.specs.declared.ends.ReadFault.TheVariants as read
+use Rattle.robots_io.specs.declared.streams.ReadFault.{ReadFault}
+use Rattle.robots_io.specs.declared.streams.ReadFault.TheVariants as read
 use Rattle.robots_audit.specs.declared.fault.Fault.{Fault}
 use Rattle.robots_audit.specs.declared.fault.Fault.TheVariants.{File, InvalidRule, Memory}
 use Rattle.robots_audit.specs.declared.fault.Fault.TheVariants.{NotUtf8, Read, UnknownWarning, Usage, Words, Write}
@@ -25,26 +25,26 @@ reason_of (InvalidRule line) =
 reason_of Memory = codes "out of memory"
 
 -- after a fault in the arguments, how the program is called
-abbrev pub usage_behind : Fault → List ℕ
-usage_behind (Words text) = []
-usage_behind Usage = codes "; usage: robots_audit [OPTIONS] AGENT [URL].."
-usage_behind NotUtf8 = codes "; usage: robots_audit [OPTIONS] AGENT [URL].."
-usage_behind (UnknownWarning name) = codes "; usage: robots_audit [OPTIONS] AGENT [URL].."
-usage_behind (File name) = []
-usage_behind Read = []
-usage_behind Write = []
-usage_behind (InvalidRule line) = []
-usage_behind Memory = []
+abbrev pub usage_after : Fault → List ℕ
+usage_after (Words text) = []
+usage_after Usage = codes "; usage: robots_audit [OPTIONS] AGENT [URL].."
+usage_after NotUtf8 = codes "; usage: robots_audit [OPTIONS] AGENT [URL].."
+usage_after (UnknownWarning name) = codes "; usage: robots_audit [OPTIONS] AGENT [URL].."
+usage_after (File name) = []
+usage_after Read = []
+usage_after Write = []
+usage_after (InvalidRule line) = []
+usage_after Memory = []
 
 -- a fault, as a line; what `clap` says has its own line ends
 abbrev pub fault_text : Fault → List ℕ
 fault_text (Words text) = string_bytes text
-fault_text fault = codes "robots_audit: " ++ reason_of fault ++ usage_behind fault ++ lf ∷ []
+fault_text fault = codes "robots_audit: " ++ reason_of fault ++ usage_after fault ++ lf ∷ []
 
 -- what is said on standard error before the process ends: the warnings, a line each, or the fault
-abbrev pub said_after : Result Outcome Fault → List ℕ
-said_after (Ok outcome) = string_bytes outcome.warnings
-said_after (Err fault) = fault_text fault
+abbrev pub message_after : Result Outcome Fault → List ℕ
+message_after (Ok outcome) = string_bytes outcome.warnings
+message_after (Err fault) = fault_text fault
 
 -- the status that the process ends with: 0 where every URL is allowed, and in a strict run nothing is warned
 -- of; else 1, and 2 after a fault

@@ -5,24 +5,24 @@ use Rattle.serde_json.specs.Data.{Data, array, boolean, member, no_members, null
 use Rattle.serde_json.specs.Data.{unsigned}
 use Rattle.serde_json.specs.View.{items_of}
 use Rattle.serde_json.specs.Written.{compact_text}
-use Rattle.texting_robots.specs.Callers.{CrawlDelay, LineValue, Mark, sitemaps_in}
-use Rattle.texting_robots.specs.declared.marks.Standing.{Standing}
-use Rattle.texting_robots.specs.declared.marks.Standing.TheVariants.{Other, Outside, Own}
+use Rattle.texting_robots.specs.Callers.{CrawlDelay, LineValue, Label, sitemaps_in}
+use Rattle.texting_robots.specs.declared.labels.Membership.{Membership}
+use Rattle.texting_robots.specs.declared.labels.Membership.TheVariants.{Other, Ungrouped, Own}
 use Rattle.robots_io.specs.Lines.{lf}
 use Rattle.robots_audit.specs.declared.group.Group.{Group}
 use Rattle.robots_audit.specs.declared.group.Group.TheVariants.{Everyone, Named, Nobody, Star}
 use Rattle.robots_audit.specs.Audit.{AgentValue, AuditValue, VerdictValue}
 use Rattle.robots_warnings.specs.File.{lines_of}
 use Rattle.robots_audit.specs.Rows.{has_value, kind_text, value_text}
-use Rattle.robots_io.specs.Shown.{shown}
+use Rattle.robots_io.specs.Sanitize.{sanitized}
 use Rattle.robots_warnings.specs.Table.{name_of}
 use Rattle.robots_warnings.specs.Warnings.{WarningValue, warning_text}
 
 -- ---- values
 
 -- a text of others, as it is shown
-abbrev pub shown_json : List ℕ → Data
-shown_json text = string (shown text)
+abbrev pub sanitized_json : List ℕ → Data
+sanitized_json text = string (sanitized text)
 
 -- a number, or null where there is none
 abbrev pub number_json : Option ℕ → Data
@@ -40,7 +40,7 @@ abbrev pub verdict_json : VerdictValue → Data
 verdict_json verdict = object
     (member (codes "allowed") (boolean verdict.decision.allowed)
     (member (codes "line") (number_json verdict.decision.line)
-    (member (codes "url") (shown_json verdict.url) no_members)))
+    (member (codes "url") (sanitized_json verdict.url) no_members)))
 
 abbrev pub group_word : Group → List ℕ
 group_word Named = codes "named"
@@ -51,17 +51,17 @@ group_word Everyone = codes "everyone"
 -- an agent, its group, its delay in microseconds, and what is decided on each URL
 abbrev pub agent_json : AgentValue → Data
 agent_json agent = object
-    (member (codes "agent") (shown_json agent.agent)
+    (member (codes "agent") (sanitized_json agent.agent)
     (member (codes "delay") (number_json agent.delay)
     (member (codes "group") (string (group_word agent.group))
     (member (codes "verdicts") (list_json verdict_json agent.verdicts) no_members))))
 
 -- ---- a line
 
-abbrev pub standing_word : Standing → List ℕ
-standing_word Own = codes "own"
-standing_word Other = codes "other"
-standing_word Outside = codes "outside"
+abbrev pub membership_word : Membership → List ℕ
+membership_word Own = codes "own"
+membership_word Other = codes "other"
+membership_word Ungrouped = codes "outside"
 
 -- a delay in microseconds, and else the value as it is shown, or null where there is none
 abbrev pub value_json : LineValue → Data
@@ -69,12 +69,12 @@ value_json (CrawlDelay delay) = number_json delay
 value_json line = if has_value line then string (value_text line) else null
 
 -- a line of the file: what it was read as, its number, where it stands, and its value
-abbrev pub line_json : Mark → Data
-line_json mark = object
-    (member (codes "kind") (string (kind_text mark.line))
-    (member (codes "number") (number (unsigned mark.number))
-    (member (codes "standing") (string (standing_word mark.standing))
-    (member (codes "value") (value_json mark.line) no_members))))
+abbrev pub line_json : Label → Data
+line_json label = object
+    (member (codes "kind") (string (kind_text label.line))
+    (member (codes "number") (number (unsigned label.number))
+    (member (codes "standing") (string (membership_word label.membership))
+    (member (codes "value") (value_json label.line) no_members))))
 
 -- ---- the audit
 
@@ -89,8 +89,8 @@ warning_json warning = object
 abbrev pub audit_json : Bool → AuditValue → Data
 audit_json has_rows audit = object
     (member (codes "agents") (list_json agent_json audit.agents)
-    (member (codes "lines") (list_json line_json (if has_rows then audit.marks else []))
-    (member (codes "sitemaps") (list_json shown_json (sitemaps_in (lines_of audit.marks)))
+    (member (codes "lines") (list_json line_json (if has_rows then audit.labels else []))
+    (member (codes "sitemaps") (list_json sanitized_json (sitemaps_in (lines_of audit.labels)))
     (member (codes "warnings") (list_json warning_json audit.warnings) no_members))))
 
 -- the same as text, in one line

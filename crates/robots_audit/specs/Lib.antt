@@ -7,4 +7,4 @@ pub mod Chosen
 pub mod Report
 pub mod Json
 pub mod Answer
-pub mod Steps
+pub mod Internal

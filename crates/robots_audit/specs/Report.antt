@@ -7,19 +7,19 @@ use Rattle.robots_audit.specs.declared.group.Group.TheVariants.{Everyone, Named,
 use Rattle.robots_audit.specs.Audit.{AgentValue, AuditValue, VerdictValue}
 use Rattle.robots_audit.specs.Delay.{delay_line}
 use Rattle.robots_audit.specs.Rows.{rows}
-use Rattle.robots_io.specs.Shown.{shown}
+use Rattle.robots_io.specs.Sanitize.{sanitized}
 use Rattle.robots_warnings.specs.Warnings.{WarningValue, warning_line}
 
 -- neither the crawler nor `*` has a group
 abbrev pub nobody_text : List ℕ → List ℕ
 nobody_text agent =
     if bytes_eq agent (codes "*") then codes "none (no group for *; everything is allowed)"
-    else codes "none (no group for " ++ shown agent ++ codes " or *; everything is allowed)"
+    else codes "none (no group for " ++ sanitized agent ++ codes " or *; everything is allowed)"
 
 -- the group of a crawler, and why it is that one
 abbrev pub group_text : List ℕ → Group → List ℕ
-group_text agent Named = shown agent
-group_text agent Star = codes "* (" ++ shown agent ++ codes " has no group of its own)"
+group_text agent Named = sanitized agent
+group_text agent Star = codes "* (" ++ sanitized agent ++ codes " has no group of its own)"
 group_text agent Nobody = nobody_text agent
 group_text agent Everyone = codes "none (the file has no User-agent line; all rules are applied)"
 
@@ -29,7 +29,7 @@ group_line agent group = codes "group: " ++ group_text agent group
 -- what is decided on a URL, and by which line
 abbrev pub verdict_line : VerdictValue → List ℕ
 verdict_line verdict =
-    verdict_front verdict.decision.allowed verdict.decision.line ++ shown verdict.url
+    verdict_front verdict.decision.allowed verdict.decision.line ++ sanitized verdict.url
 
 -- an agent's group, its delay, and what is decided on each URL
 abbrev pub agent_lines : AgentValue → List (List ℕ)
@@ -39,13 +39,13 @@ agent_lines agent =
 -- a row for each line of the file, if rows are wanted, and what each agent gets
 abbrev pub report_lines : Bool → AuditValue → List (List ℕ)
 report_lines has_rows audit =
-    (if has_rows then rows audit.marks else []) ++ flat_map agent_lines audit.agents
+    (if has_rows then rows audit.labels else []) ++ flat_map agent_lines audit.agents
 
 -- ---- what is warned of
 
 -- a warning after the program's name
-abbrev pub said_line : WarningValue → List ℕ
-said_line warning = codes "robots_audit: warning: " ++ warning_line warning
+abbrev pub message_line : WarningValue → List ℕ
+message_line warning = codes "robots_audit: warning: " ++ warning_line warning
 
 abbrev pub warning_lines : List WarningValue → List (List ℕ)
-warning_lines warnings = map said_line warnings
+warning_lines warnings = map message_line warnings

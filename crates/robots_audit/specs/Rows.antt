@@ -2,13 +2,13 @@
 use Rattle.std.specs.Prelude.{ℕ, ◌-◌, ◌==◌, Bool, not}
 use Rattle.std.specs.Prelude.{List, [], ◌++◌, Some, None, codes}
 use Rattle.std.specs.Prelude.{decimal, if◌then◌else◌, is_some, length, map, replicate}
-use Rattle.texting_robots.specs.Callers.{Allow, CrawlDelay, Disallow, LineValue, Mark, Raw, Sitemap}
+use Rattle.texting_robots.specs.Callers.{Allow, CrawlDelay, Disallow, LineValue, Label, Raw, Sitemap}
 use Rattle.texting_robots.specs.Callers.{UserAgent}
-use Rattle.texting_robots.specs.declared.marks.Standing.{Standing}
+use Rattle.texting_robots.specs.declared.labels.Membership.{Membership}
 use Rattle.robots_warnings.specs.File.{is_blank, space}
 use Rattle.robots_audit.specs.Delay.{delay_text}
-use Rattle.robots_io.specs.Shown.{shown}
-use Rattle.texting_robots.specs.declared.marks.Standing.TheVariants.{Other, Outside, Own}
+use Rattle.robots_io.specs.Sanitize.{sanitized}
+use Rattle.texting_robots.specs.declared.labels.Membership.TheVariants.{Other, Ungrouped, Own}
 
 -- ---- columns
 
@@ -23,10 +23,10 @@ word_width = 12
 -- ---- a line of a file
 
 -- `+` in the agent's group, `-` in another, and a blank in none
-abbrev pub mark_text : Standing → List ℕ
-mark_text Own = codes "+"
-mark_text Other = codes "-"
-mark_text Outside = codes " "
+abbrev pub label_text : Membership → List ℕ
+label_text Own = codes "+"
+label_text Other = codes "-"
+label_text Ungrouped = codes " "
 
 -- what the line was read as
 abbrev pub kind_text : LineValue → List ℕ
@@ -39,13 +39,13 @@ kind_text (Raw body) = if is_blank body then codes "empty" else codes "ignored"
 
 -- its value as it is shown, or how a delay is shown
 abbrev pub value_text : LineValue → List ℕ
-value_text (UserAgent value) = shown value
-value_text (Allow value) = shown value
-value_text (Disallow value) = shown value
+value_text (UserAgent value) = sanitized value
+value_text (Allow value) = sanitized value
+value_text (Disallow value) = sanitized value
 value_text (CrawlDelay None) = []
 value_text (CrawlDelay (Some micros)) = delay_text micros
-value_text (Sitemap value) = shown value
-value_text (Raw body) = shown body
+value_text (Sitemap value) = sanitized value
+value_text (Raw body) = sanitized body
 
 -- there is such a text
 abbrev pub has_value : LineValue → Bool
@@ -63,11 +63,11 @@ word_and_value line =
     if has_value line then word ++ replicate (word_width - length word) space ++ value_text line else word
 
 -- its number, its mark, what it was read as, and its value
-abbrev pub row : ℕ → Mark → List ℕ
-row width mark =
-    right_aligned width (decimal mark.number) ++ codes " " ++ mark_text mark.standing ++ codes " "
-    ++ word_and_value mark.line
+abbrev pub row : ℕ → Label → List ℕ
+row width label =
+    right_aligned width (decimal label.number) ++ codes " " ++ label_text label.membership ++ codes " "
+    ++ word_and_value label.line
 
 -- a row for each line, the numbers as wide as the last
-abbrev pub rows : List Mark → List (List ℕ)
-rows marks = map (row (length (decimal (length marks)))) marks
+abbrev pub rows : List Label → List (List ℕ)
+rows labels = map (row (length (decimal (length labels)))) labels

@@ -1,15 +1,15 @@
 //! Which agents a file names.
 ghost use Rattle.std.specs.Prelude.{◌≡◌, ◌++◌, ◌∷◌, [], IfOk, MatchOption, OnOk, false, if◌then◌else◌, true, map, option_map, string_bytes};
 ghost use Rattle.std.specs.Str.{is_utf8};
-ghost use Rattle.texting_robots.specs.Callers.{by_value, mark_by_value};
-ghost use Rattle.robots_audit.specs.Audit.{agents_asked, agents_in};
+ghost use Rattle.texting_robots.specs.Callers.{by_value, label_by_value};
+ghost use Rattle.robots_audit.specs.Audit.{agents_requested, agents_in};
 ghost use Rattle.robots_warnings.specs.File.{lines_of};
-ghost use Rattle.robots_audit.specs.Steps.Agents.{AddsAgent};
+ghost use Rattle.robots_audit.specs.Internal.Agents.{AddsAgent};
 
 use robots_warnings::names::{Names, add_name};
 use std::alloc::{AllocError, Global};
 use std::collections::BTreeSet;
-use texting_robots::marks::MarkedLine;
+use texting_robots::labels::LabeledLine;
 use texting_robots::parser::Line;
 
 /// The bytes as text, where they are UTF-8.
@@ -63,30 +63,30 @@ fn only(alloc: Global, name: &str) -> Result<Vec<String>, AllocError>
 }
 
 /// `*` and each agent that the lines name.
-fn agents_in(alloc: Global, marks: &[MarkedLine<'_>]) -> Result<Vec<String>, AllocError>
+fn agents_in(alloc: Global, labels: &[LabeledLine<'_>]) -> Result<Vec<String>, AllocError>
     ensures { IfOk result (λ names. map string_bytes names.items
-        ≡ agents_in (lines_of (map mark_by_value marks.now))) }
+        ≡ agents_in (lines_of (map label_by_value labels.now))) }
 {
     let mut met = BTreeSet::new(alloc);
     add_name(alloc, &mut met, b"*")?;
     let mut names = only(alloc, "*")?;
-    for marked in marks {
-        add_agent(alloc, &mut met, &mut names, marked.line)?;
+    for labeled in labels {
+        add_agent(alloc, &mut met, &mut names, labeled.line)?;
     }
     Ok(names)
 }
 
 /// The agents that are asked for: one, or each.
-pub(crate) fn agents_asked(
+pub(crate) fn agents_requested(
     alloc: Global,
     agent: Option<&str>,
-    marks: &[MarkedLine<'_>],
+    labels: &[LabeledLine<'_>],
 ) -> Result<Vec<String>, AllocError>
     ensures { IfOk result (λ names. map string_bytes names.items
-        ≡ agents_asked (option_map (λ agent. agent.now) agent.entry) (lines_of (map mark_by_value marks.now))) }
+        ≡ agents_requested (option_map (λ agent. agent.now) agent.entry) (lines_of (map label_by_value labels.now))) }
 {
     match agent {
         Some(agent) => only(alloc, agent),
-        None => agents_in(alloc, marks),
+        None => agents_in(alloc, labels),
     }
 }

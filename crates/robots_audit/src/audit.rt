@@ -1,29 +1,29 @@
 //! What is found out about a file.
 ghost use Rattle.std.specs.Prelude.{◌≡◌, ◌≢◌, ◌∷◌, [], IfErr, IfOk, map, option_map, string_bytes, take};
 ghost use Rattle.std.specs.List.{AllZip, list_any};
-ghost use Rattle.texting_robots.specs.Callers.{IsRobotOfFile, file_limit, lines_read, mark_by_value};
+ghost use Rattle.texting_robots.specs.Callers.{IsRobotOfFile, file_limit, lines_read, label_by_value};
 ghost use Rattle.texting_robots.specs.Group.{is_agent};
-ghost use Rattle.robots_audit.specs.Answer.{asked_by};
-ghost use Rattle.robots_audit.specs.Audit.{IsAgentAudit, IsAuditOf, IsVerdictOn, agents_asked, all_allowed, allows_all, marking_agent};
+ghost use Rattle.robots_audit.specs.Answer.{requested_by};
+ghost use Rattle.robots_audit.specs.Audit.{IsAgentAudit, IsAuditOf, IsVerdictOn, agents_requested, all_allowed, allows_all, labeling_agent};
 ghost use Rattle.robots_audit.specs.Chosen.{chosen};
 ghost use Rattle.robots_audit.specs.Fault.{MayFail};
-ghost use Rattle.robots_warnings.specs.File.{lines_of, marks_for};
-ghost use Rattle.robots_warnings.specs.Steps.{warning_value};
+ghost use Rattle.robots_warnings.specs.File.{lines_of, labels_for};
+ghost use Rattle.robots_warnings.specs.Internal.{warning_value};
 ghost use Rattle.robots_warnings.specs.Warnings.{warnings};
-ghost use Rattle.robots_audit.specs.Steps.{agent_value, audit_value, verdict_value};
+ghost use Rattle.robots_audit.specs.Internal.{agent_value, audit_value, verdict_value};
 
-use crate::agents::agents_asked;
+use crate::agents::agents_requested;
 use crate::chosen::chosen;
 use crate::command::Request;
 use crate::fault::Fault;
 use crate::group::{Group, group_of};
 use robots_io::verdicts::decision_on;
 use robots_warnings::facts::{FileFacts, facts_of};
-use robots_warnings::file::{counted, marks_for};
+use robots_warnings::file::{counted, labels_for};
 use robots_warnings::warning::Warning;
 use robots_warnings::warnings::warnings;
 use std::alloc::{AllocError, Global};
-use texting_robots::marks::{MarkedLine, overlong_line};
+use texting_robots::labels::{LabeledLine, first_overlong_line};
 use texting_robots::robot::Decision;
 use texting_robots::{Error, Robot, Site};
 
@@ -47,7 +47,7 @@ pub(crate) struct AgentAudit<'a> {
 /// What is found out about a file.
 #[derive(Drop)]
 pub(crate) struct Audit<'a, 'b> {
-    pub(crate) marks: Vec<MarkedLine<'b>>,
+    pub(crate) labels: Vec<LabeledLine<'b>>,
     pub(crate) agents: Vec<AgentAudit<'a>>,
     pub(crate) warnings: Vec<Warning<'a>>,
 }
@@ -60,7 +60,7 @@ fn robot_for(alloc: Global, agent: &str, file: &[u8], site: &Site) -> Result<Rob
 {
     match site.robot(alloc, agent) {
         Ok(robot) => Ok(robot),
-        Err(Error::InvalidRule) => match overlong_line(alloc, agent, counted(file))? {
+        Err(Error::InvalidRule) => match first_overlong_line(alloc, agent, counted(file))? {
             Some(line) => Err(Fault::InvalidRule(line)),
             None => unreachable!(),
         },
@@ -144,24 +144,24 @@ fn agents_of<'a>(
     request: &Request<'a>,
     file: &[u8],
     facts: FileFacts,
-    marks: &[MarkedLine<'_>],
+    labels: &[LabeledLine<'_>],
 ) -> Result<Vec<AgentAudit<'a>>, Fault>
-    requires marks { lines_of (map mark_by_value marks.now) ≡ lines_read file.now }
+    requires labels { lines_of (map label_by_value labels.now) ≡ lines_read file.now }
     requires facts { facts.kinds.user_agent ≡ list_any is_agent (lines_read file.now) }
-    ensures ok { IfOk result (λ audits. AllZip (IsAgentAudit (asked_by request.now).urls (lines_read file.now))
-        (agents_asked (asked_by request.now).agent (lines_read file.now)) (map agent_value audits.items)) }
+    ensures ok { IfOk result (λ audits. AllZip (IsAgentAudit (requested_by request.now).urls (lines_read file.now))
+        (agents_requested (requested_by request.now).agent (lines_read file.now)) (map agent_value audits.items)) }
     ensures fault { IfErr result (λ fault. (fault ≢ Fault.Write)
-        × MayFail (agents_asked (asked_by request.now).agent (lines_read file.now)) fault file.now) }
+        × MayFail (agents_requested (requested_by request.now).agent (lines_read file.now)) fault file.now) }
 {
-    let names = agents_asked(alloc, request.agent, marks)?;
+    let names = agents_requested(alloc, request.agent, labels)?;
     let site = Site::new(alloc, file)?;
     let has_agents = facts.kinds.user_agent;
     agent_audits(alloc, &names, file, &site, has_agents, &request.urls)
 }
 
 /// The agent by which lines are marked.
-fn marking_agent<'a>(agent: Option<&'a str>) -> &'a str
-    ensures { result.now ≡ marking_agent (option_map (λ agent. agent.now) agent.entry) }
+fn labeling_agent<'a>(agent: Option<&'a str>) -> &'a str
+    ensures { result.now ≡ labeling_agent (option_map (λ agent. agent.now) agent.entry) }
 {
     match agent {
         Some(agent) => agent,
@@ -175,14 +175,14 @@ fn warnings_of<'a>(
     request: &Request<'a>,
     file: &[u8],
     facts: FileFacts,
-    marks: &[MarkedLine<'_>],
+    labels: &[LabeledLine<'_>],
 ) -> Result<Vec<Warning<'a>>, AllocError>
     ensures { IfOk result (λ found. map warning_value found.items
-        ≡ chosen (asked_by request.now).only (asked_by request.now).ignored
-        (warnings (asked_by request.now).agent (asked_by request.now).urls file.now facts
-        (map mark_by_value marks.now))) }
+        ≡ chosen (requested_by request.now).only (requested_by request.now).ignored
+        (warnings (requested_by request.now).agent (requested_by request.now).urls file.now facts
+        (map label_by_value labels.now))) }
 {
-    let all = warnings(alloc, request.agent, &request.urls, file, facts, marks)?;
+    let all = warnings(alloc, request.agent, &request.urls, file, facts, labels)?;
     chosen(alloc, &request.only, &request.ignored, &all)
 }
 
@@ -192,16 +192,16 @@ pub(crate) fn audit_of<'a, 'b>(
     request: &Request<'a>,
     file: &'b [u8],
 ) -> Result<Audit<'a, 'b>, Fault>
-    ensures ok { IfOk result (λ audit. IsAuditOf (asked_by request.now) file.now (audit_value audit)) }
+    ensures ok { IfOk result (λ audit. IsAuditOf (requested_by request.now) file.now (audit_value audit)) }
     ensures fault { IfErr result (λ fault. (fault ≢ Fault.Write)
-        × MayFail (agents_asked (asked_by request.now).agent (lines_read file.now)) fault file.now) }
+        × MayFail (agents_requested (requested_by request.now).agent (lines_read file.now)) fault file.now) }
 {
-    let marks = marks_for(alloc, marking_agent(request.agent), file)?;
-    let facts = facts_of(file, &marks);
-    let agents = agents_of(alloc, request, file, facts, &marks)?;
-    let warnings = warnings_of(alloc, request, file, facts, &marks)?;
+    let labels = labels_for(alloc, labeling_agent(request.agent), file)?;
+    let facts = facts_of(file, &labels);
+    let agents = agents_of(alloc, request, file, facts, &labels)?;
+    let warnings = warnings_of(alloc, request, file, facts, &labels)?;
     Ok(Audit {
-        marks,
+        labels,
         agents,
         warnings,
     })

@@ -1,7 +1,7 @@
 //! Which warnings are given, by their names.
 ghost use Rattle.std.specs.Prelude.{◌≡◌, IfOk, map};
 ghost use Rattle.robots_audit.specs.Chosen.{chosen, is_among_names, is_chosen};
-ghost use Rattle.robots_warnings.specs.Steps.{warning_value};
+ghost use Rattle.robots_warnings.specs.Internal.{warning_value};
 
 use robots_warnings::warning::Warning;
 use std::alloc::{AllocError, Global};

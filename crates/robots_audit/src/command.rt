@@ -6,7 +6,7 @@ ghost use Rattle.robots_audit.specs.Command.{AreNamesOf, Asks, IsUnknown, IsUnkn
 
 use crate::fault::Fault;
 use clap::{Arg, ArgAction, ArgMatches, Command};
-use robots_io::shown::push_shown;
+use robots_io::sanitize::push_sanitized;
 use robots_warnings::table::is_name;
 use std::alloc::{AllocError, Global};
 
@@ -161,9 +161,9 @@ fn values_of<'a>(
 fn unknown(alloc: Global, name: &str) -> Fault
     ensures { IsUnknown name.now result }
 {
-    let mut shown = String::new(alloc);
-    match push_shown(&mut shown, name.as_bytes()) {
-        Ok(()) => Fault::UnknownWarning(shown),
+    let mut sanitized = String::new(alloc);
+    match push_sanitized(&mut sanitized, name.as_bytes()) {
+        Ok(()) => Fault::UnknownWarning(sanitized),
         Err(_) => Fault::Memory,
     }
 }

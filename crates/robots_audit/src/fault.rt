@@ -1,8 +1,8 @@
 //! How a run ends.
 ghost use Rattle.std.specs.Prelude.{◌≡◌};
-ghost use Rattle.robots_audit.specs.Fault.{status_after, usage_behind};
+ghost use Rattle.robots_audit.specs.Fault.{status_after, usage_after};
 
-use robots_io::ends::{ReadFault, WriteFault};
+use robots_io::streams::{ReadFault, WriteFault};
 use std::alloc::{AllocError, AllocFailed};
 use std::fmt;
 
@@ -114,8 +114,8 @@ impl From<WriteFault> for Fault {
 }
 
 /// How the program is called, after a fault in the arguments.
-fn usage_behind(fault: &Fault) -> &'static str
-    ensures { result.now ≡ usage_behind fault.now }
+fn usage_after(fault: &Fault) -> &'static str
+    ensures { result.now ≡ usage_after fault.now }
 {
     match fault {
         Fault::Usage | Fault::NotUtf8 | Fault::UnknownWarning(_) =>
@@ -126,21 +126,21 @@ fn usage_behind(fault: &Fault) -> &'static str
 
 /// What the process says on standard error after a run that answered this. Whoever prints it asks for no memory.
 #[derive(Drop)]
-pub struct Said<'a> {
+pub struct StderrMessage<'a> {
     pub outcome: &'a Result<Outcome, Fault>,
 }
 
-impl<'a> fmt::Display for Said<'a> {
+impl<'a> fmt::Display for StderrMessage<'a> {
     ghost use Rattle.std.specs.Prelude.{Some};
-    ghost use Rattle.robots_audit.specs.Fault.{said_after};
+    ghost use Rattle.robots_audit.specs.Fault.{message_after};
 
-    ghost output = { λ said. Some (said_after said.outcome.now) };
+    ghost output = { λ message. Some (message_after message.outcome.now) };
 
     fn fmt<W: fmt::Write>(&self, f: &mut fmt::Formatter<W>) -> fmt::Result {
         match self.outcome {
             Ok(outcome) => f.write_str(&outcome.warnings),
             Err(Fault::Words(text)) => f.write_str(text),
-            Err(fault) => writeln!(f, "robots_audit: {fault}{}", usage_behind(fault)),
+            Err(fault) => writeln!(f, "robots_audit: {fault}{}", usage_after(fault)),
         }
     }
 }

@@ -1,21 +1,21 @@
 //! What is found out about a file, as JSON.
 ghost use Rattle.std.specs.Prelude.{◌≡◌, ◌++◌, ◌∷◌, [], IfOk, OnOk, if◌then◌else◌, map, string_bytes};
 ghost use Rattle.serde_json.specs.View.{view};
-ghost use Rattle.texting_robots.specs.Callers.{by_value, mark_by_value, sitemaps_in};
-ghost use Rattle.robots_audit.specs.Json.{agent_json, audit_json, group_word, json_text, line_json, list_json, shown_json, standing_word, value_json, verdict_json, warning_json};
+ghost use Rattle.texting_robots.specs.Callers.{by_value, label_by_value, sitemaps_in};
+ghost use Rattle.robots_audit.specs.Json.{agent_json, audit_json, group_word, json_text, line_json, list_json, sanitized_json, membership_word, value_json, verdict_json, warning_json};
 ghost use Rattle.robots_warnings.specs.File.{lines_of};
-ghost use Rattle.robots_warnings.specs.Steps.{warning_value};
-ghost use Rattle.robots_audit.specs.Steps.{agent_value, audit_value, verdict_value};
+ghost use Rattle.robots_warnings.specs.Internal.{warning_value};
+ghost use Rattle.robots_audit.specs.Internal.{agent_value, audit_value, verdict_value};
 
 use crate::agents::as_text;
 use crate::audit::{AgentAudit, Audit, Verdict};
 use crate::group::Group;
 use crate::rows::{has_value, kind_text, push_value};
-use robots_io::shown::push_shown;
+use robots_io::sanitize::push_sanitized;
 use robots_warnings::warning::{Warning, push_warning_text};
 use serde_json::{Value, json};
 use std::alloc::{AllocError, Global};
-use texting_robots::marks::{MarkedLine, Standing};
+use texting_robots::labels::{LabeledLine, Membership};
 use texting_robots::parser::Line;
 
 /// What is written as JSON.
@@ -40,22 +40,22 @@ fn list_json<T: Json>(alloc: Global, items: &[T]) -> Result<Value, AllocError>
 }
 
 /// Untrusted text, as it is shown.
-fn shown_json(alloc: Global, bytes: &[u8]) -> Result<Value, AllocError>
-    ensures { IfOk result (λ value. view value ≡ shown_json bytes.now) }
+fn sanitized_json(alloc: Global, bytes: &[u8]) -> Result<Value, AllocError>
+    ensures { IfOk result (λ value. view value ≡ sanitized_json bytes.now) }
 {
     let mut text = String::new(alloc);
-    push_shown(&mut text, bytes)?;
+    push_sanitized(&mut text, bytes)?;
     Ok(Value::String(text))
 }
 
 impl<'a> Json for Verdict<'a> {
     ghost use Rattle.robots_audit.specs.Json.{verdict_json};
-    ghost use Rattle.robots_audit.specs.Steps.{verdict_value};
+    ghost use Rattle.robots_audit.specs.Internal.{verdict_value};
 
     ghost json = { λ verdict. verdict_json (verdict_value verdict) };
 
     fn json(&self, alloc: Global) -> Result<Value, AllocError> {
-        let url = shown_json(alloc, self.url.as_bytes())?;
+        let url = sanitized_json(alloc, self.url.as_bytes())?;
         json!(in alloc; {
             "allowed": self.decision.allowed,
             "line": self.decision.line,
@@ -85,12 +85,12 @@ fn verdicts_json(alloc: Global, verdicts: &[Verdict<'_>]) -> Result<Value, Alloc
 
 impl<'a> Json for AgentAudit<'a> {
     ghost use Rattle.robots_audit.specs.Json.{agent_json};
-    ghost use Rattle.robots_audit.specs.Steps.{agent_value};
+    ghost use Rattle.robots_audit.specs.Internal.{agent_value};
 
     ghost json = { λ agent. agent_json (agent_value agent) };
 
     fn json(&self, alloc: Global) -> Result<Value, AllocError> {
-        let name = shown_json(alloc, self.agent.as_bytes())?;
+        let name = sanitized_json(alloc, self.agent.as_bytes())?;
         let verdicts = verdicts_json(alloc, &self.verdicts)?;
         json!(in alloc; {
             "agent": name,
@@ -102,13 +102,13 @@ impl<'a> Json for AgentAudit<'a> {
 }
 
 /// The word for the standing of a line.
-fn standing_word(standing: Standing) -> &'static str
-    ensures { result.now ≡ standing_word standing }
+fn membership_word(membership: Membership) -> &'static str
+    ensures { result.now ≡ membership_word membership }
 {
-    match standing {
-        Standing::Own => "own",
-        Standing::Other => "other",
-        Standing::Outside => "outside",
+    match membership {
+        Membership::Own => "own",
+        Membership::Other => "other",
+        Membership::Ungrouped => "outside",
     }
 }
 
@@ -127,30 +127,30 @@ fn value_json(alloc: Global, line: Line<'_>) -> Result<Value, AllocError>
     }
 }
 
-impl<'a> Json for MarkedLine<'a> {
+impl<'a> Json for LabeledLine<'a> {
     ghost use Rattle.robots_audit.specs.Json.{line_json};
-    ghost use Rattle.texting_robots.specs.Callers.{mark_by_value};
+    ghost use Rattle.texting_robots.specs.Callers.{label_by_value};
 
-    ghost json = { λ marked. line_json (mark_by_value marked) };
+    ghost json = { λ labeled. line_json (label_by_value labeled) };
 
     fn json(&self, alloc: Global) -> Result<Value, AllocError> {
         let value = value_json(alloc, self.line)?;
         json!(in alloc; {
             "kind": kind_text(self.line),
             "number": self.number,
-            "standing": standing_word(self.standing),
+            "standing": membership_word(self.membership),
             "value": value,
         })
     }
 }
 
 impl<'a> Json for &'a [u8] {
-    ghost use Rattle.robots_audit.specs.Json.{shown_json};
+    ghost use Rattle.robots_audit.specs.Json.{sanitized_json};
 
-    ghost json = { λ text. shown_json text.now };
+    ghost json = { λ text. sanitized_json text.now };
 
     fn json(&self, alloc: Global) -> Result<Value, AllocError> {
-        shown_json(alloc, self)
+        sanitized_json(alloc, self)
     }
 }
 
@@ -170,20 +170,20 @@ fn add_sitemap<'a>(sitemaps: &mut Vec<&'a [u8]>, line: Line<'a>) -> Result<(), A
 
 /// The sitemaps that the file lists.
 #[tactic(auto, using(crate::proofs::JsonLemmas::sitemaps_next))]
-fn sitemaps_of<'a>(alloc: Global, marks: &[MarkedLine<'a>]) -> Result<Vec<&'a [u8]>, AllocError>
+fn sitemaps_of<'a>(alloc: Global, labels: &[LabeledLine<'a>]) -> Result<Vec<&'a [u8]>, AllocError>
     ensures { IfOk result (λ sitemaps. map (λ sitemap. sitemap.now) sitemaps.items
-        ≡ sitemaps_in (lines_of (map mark_by_value marks.now))) }
+        ≡ sitemaps_in (lines_of (map label_by_value labels.now))) }
 {
     let mut sitemaps = Vec::new(alloc);
-    for marked in marks {
-        add_sitemap(&mut sitemaps, marked.line)?;
+    for labeled in labels {
+        add_sitemap(&mut sitemaps, labeled.line)?;
     }
     Ok(sitemaps)
 }
 
 impl<'a> Json for Warning<'a> {
     ghost use Rattle.robots_audit.specs.Json.{warning_json};
-    ghost use Rattle.robots_warnings.specs.Steps.{warning_value};
+    ghost use Rattle.robots_warnings.specs.Internal.{warning_value};
 
     ghost json = { λ warning. warning_json (warning_value warning) };
 
@@ -213,21 +213,21 @@ fn warnings_json(alloc: Global, warnings: &[Warning<'_>]) -> Result<Value, Alloc
 }
 
 /// The sitemaps that the file lists.
-fn sitemaps_json(alloc: Global, marks: &[MarkedLine<'_>]) -> Result<Value, AllocError>
+fn sitemaps_json(alloc: Global, labels: &[LabeledLine<'_>]) -> Result<Value, AllocError>
     ensures { IfOk result (λ value. view value
-        ≡ list_json shown_json (sitemaps_in (lines_of (map mark_by_value marks.now)))) }
+        ≡ list_json sanitized_json (sitemaps_in (lines_of (map label_by_value labels.now)))) }
 {
-    let sitemaps = sitemaps_of(alloc, marks)?;
+    let sitemaps = sitemaps_of(alloc, labels)?;
     list_json(alloc, &sitemaps)
 }
 
 /// The lines of the file, or none where no rows are asked for.
-fn rows_json(alloc: Global, has_rows: bool, marks: &[MarkedLine<'_>]) -> Result<Value, AllocError>
+fn rows_json(alloc: Global, has_rows: bool, labels: &[LabeledLine<'_>]) -> Result<Value, AllocError>
     ensures { IfOk result (λ value. view value
-        ≡ list_json line_json (if has_rows then map mark_by_value marks.now else [])) }
+        ≡ list_json line_json (if has_rows then map label_by_value labels.now else [])) }
 {
     if has_rows {
-        list_json(alloc, marks)
+        list_json(alloc, labels)
     } else {
         Ok(Value::Array(Vec::new(alloc)))
     }
@@ -238,8 +238,8 @@ fn audit_json(alloc: Global, has_rows: bool, audit: &Audit<'_, '_>) -> Result<Va
     ensures { IfOk result (λ value. view value ≡ audit_json has_rows (audit_value audit.now)) }
 {
     let agents = agents_json(alloc, &audit.agents)?;
-    let lines = rows_json(alloc, has_rows, &audit.marks)?;
-    let sitemaps = sitemaps_json(alloc, &audit.marks)?;
+    let lines = rows_json(alloc, has_rows, &audit.labels)?;
+    let sitemaps = sitemaps_json(alloc, &audit.labels)?;
     let warnings = warnings_json(alloc, &audit.warnings)?;
     json!(in alloc; {
         "agents": agents,

@@ -25,8 +25,8 @@ mod rows;
 use clap::ArgMatches;
 use clap::error::ErrorKind as WordsKind;
 use command::{Request, command, requested};
-use fault::{Fault, Outcome, Said, status_after};
-use program::{help, refused, run, unread};
+use fault::{Fault, Outcome, StderrMessage, status_after};
+use program::{help, rejected, run, unread};
 use std::alloc::Global;
 use std::env;
 use std::fs::File;
@@ -43,13 +43,13 @@ fn words(rt: &HostRuntime) -> Result<Vec<String>, Fault> {
 }
 
 /// What `clap` answers of words that ask for help or the version, or can't be read.
-fn told(rt: &HostRuntime, error: clap::Error) -> Result<Outcome, Fault> {
+fn reported(rt: &HostRuntime, error: clap::Error) -> Result<Outcome, Fault> {
     if error.kind() == WordsKind::OutOfMemory {
         return Err(Fault::Memory);
     }
     let text = error.to_string(rt.alloc())?;
     if error.use_stderr() {
-        Err(refused(rt.alloc(), &text))
+        Err(rejected(rt.alloc(), &text))
     } else {
         help(rt.alloc(), &text, &mut rt.stdout())
     }
@@ -80,12 +80,12 @@ fn outcome(rt: &HostRuntime) -> Result<Outcome, Fault> {
     let words = words(rt)?;
     match command(rt.alloc())?.try_get_matches_from(&words) {
         Ok(matches) => audited(rt, &matches),
-        Err(error) => told(rt, error),
+        Err(error) => reported(rt, error),
     }
 }
 
 fn main(rt: HostRuntime) -> ExitCode {
     let outcome = outcome(&rt);
-    let _ = rt.eprint(Said { outcome: &outcome });
+    let _ = rt.eprint(StderrMessage { outcome: &outcome });
     ExitCode::from(status_after(&outcome))
 }

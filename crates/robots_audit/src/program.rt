@@ -1,15 +1,15 @@
 //! The program over a reader and a writer.
 ghost use Rattle.std.specs.Prelude.{◌≡◌, ◌==◌, IfOk, length, not, string_bytes};
-ghost use Rattle.robots_audit.specs.Answer.{Audits, Helps, IsRefusal, IsUnread, asked_by, has_rows, output, said};
-ghost use Rattle.robots_audit.specs.Steps.{audit_value};
+ghost use Rattle.robots_audit.specs.Answer.{Audits, Helps, IsRejection, IsFileUnreadable, requested_by, has_rows, output, message};
+ghost use Rattle.robots_audit.specs.Internal.{audit_value};
 
 use crate::audit::{Audit, all_allowed, audit_of};
 use crate::command::Request;
 use crate::fault::{Fault, Outcome};
 use crate::json::json_text;
 use crate::report::{report_text, warning_lines};
-use robots_io::ends::{read_all, write_out};
-use robots_io::shown::{push_shown, push_shown_lines};
+use robots_io::sanitize::{push_sanitized, push_sanitized_lines};
+use robots_io::streams::{read_all, write_out};
 use robots_warnings::warning::Warning;
 use std::alloc::{AllocError, Global};
 use std::io::{Read, Write};
@@ -23,14 +23,14 @@ fn is_warned(warnings: &[Warning<'_>]) -> bool
 
 /// Whether the report has rows.
 fn shows_rows(request: &Request<'_>) -> bool
-    ensures { result ≡ has_rows (asked_by request.now) }
+    ensures { result ≡ has_rows (requested_by request.now) }
 {
     !request.is_quiet && request.agent.is_some()
 }
 
 /// What is written of an audit.
 fn output(alloc: Global, request: &Request<'_>, audit: &Audit<'_, '_>) -> Result<String, AllocError>
-    ensures { IfOk result (λ text. string_bytes text ≡ output (asked_by request.now) (audit_value audit.now)) }
+    ensures { IfOk result (λ text. string_bytes text ≡ output (requested_by request.now) (audit_value audit.now)) }
 {
     let has_rows = shows_rows(request);
     if request.is_json {
@@ -41,8 +41,12 @@ fn output(alloc: Global, request: &Request<'_>, audit: &Audit<'_, '_>) -> Result
 }
 
 /// What is said of it on standard error.
-fn said(alloc: Global, request: &Request<'_>, audit: &Audit<'_, '_>) -> Result<String, AllocError>
-    ensures { IfOk result (λ text. string_bytes text ≡ said (asked_by request.now) (audit_value audit.now)) }
+fn message(
+    alloc: Global,
+    request: &Request<'_>,
+    audit: &Audit<'_, '_>,
+) -> Result<String, AllocError>
+    ensures { IfOk result (λ text. string_bytes text ≡ message (requested_by request.now) (audit_value audit.now)) }
 {
     if request.is_json {
         Ok(String::new(alloc))
@@ -72,7 +76,7 @@ pub fn run<R: Read, W: Write>(
     let input = read_all(alloc, reader)?;
     let audit = audit_of(alloc, request, input.as_slice())?;
     let text = output(alloc, request, &audit)?;
-    let warnings = said(alloc, request, &audit)?;
+    let warnings = message(alloc, request, &audit)?;
     write_out(writer, text.as_bytes())?;
     Ok(Outcome {
         all_allowed: all_allowed(&audit.agents),
@@ -96,23 +100,23 @@ pub fn help<W: Write>(alloc: Global, text: &str, writer: &mut W) -> Result<Outco
 }
 
 /// The fault of words of which `clap` says this. It may repeat a word, so it is shown as texts of others are.
-pub fn refused(alloc: Global, text: &str) -> Fault
-    ensures { IsRefusal text.now result }
+pub fn rejected(alloc: Global, text: &str) -> Fault
+    ensures { IsRejection text.now result }
 {
-    let mut shown = String::new(alloc);
-    match push_shown_lines(&mut shown, text.as_bytes()) {
-        Ok(()) => Fault::Words(shown),
+    let mut sanitized = String::new(alloc);
+    match push_sanitized_lines(&mut sanitized, text.as_bytes()) {
+        Ok(()) => Fault::Words(sanitized),
         Err(_) => Fault::Memory,
     }
 }
 
 /// The fault of a file with this name that can't be read.
 pub fn unread(alloc: Global, name: &str) -> Fault
-    ensures { IsUnread name.now result }
+    ensures { IsFileUnreadable name.now result }
 {
-    let mut shown = String::new(alloc);
-    match push_shown(&mut shown, name.as_bytes()) {
-        Ok(()) => Fault::File(shown),
+    let mut sanitized = String::new(alloc);
+    match push_sanitized(&mut sanitized, name.as_bytes()) {
+        Ok(()) => Fault::File(sanitized),
         Err(_) => Fault::Memory,
     }
 }

@@ -1,36 +1,36 @@
 //! What is found out about a file, as lines of text.
 ghost use Rattle.std.specs.Prelude.{◌≡◌, ◌++◌, ◌∷◌, [], IfOk, OnOk, flat_map, map, string_bytes};
 ghost use Rattle.robots_io.specs.Lines.{ended};
-ghost use Rattle.robots_audit.specs.Report.{agent_lines, group_line, group_text, nobody_text, report_lines, said_line, verdict_line, warning_lines};
-ghost use Rattle.robots_io.specs.Shown.{shown};
-ghost use Rattle.robots_warnings.specs.Steps.{warning_value};
-ghost use Rattle.robots_audit.specs.Steps.{agent_value, audit_value, verdict_value};
+ghost use Rattle.robots_audit.specs.Report.{agent_lines, group_line, group_text, nobody_text, report_lines, message_line, verdict_line, warning_lines};
+ghost use Rattle.robots_io.specs.Sanitize.{sanitized};
+ghost use Rattle.robots_warnings.specs.Internal.{warning_value};
+ghost use Rattle.robots_audit.specs.Internal.{agent_value, audit_value, verdict_value};
 
 use crate::audit::{AgentAudit, Audit, Verdict};
 use crate::delay::push_delay;
 use crate::group::Group;
 use crate::rows::push_rows;
 use robots_io::lines::push_line;
-use robots_io::shown::push_shown;
+use robots_io::sanitize::push_sanitized;
 use robots_io::verdicts::push_decision;
 use robots_warnings::warning::{Warning, push_warning};
 use std::alloc::{AllocError, Global};
 
 /// Adds text as it is shown, and ends the line.
-pub(crate) fn push_shown_line(text: &mut String, bytes: &[u8]) -> Result<(), AllocError>
-    ensures { OnOk result (string_bytes text.new ≡ string_bytes text.old ++ ended (shown bytes.now ∷ [])) }
+pub(crate) fn push_sanitized_line(text: &mut String, bytes: &[u8]) -> Result<(), AllocError>
+    ensures { OnOk result (string_bytes text.new ≡ string_bytes text.old ++ ended (sanitized bytes.now ∷ [])) }
 {
-    push_shown(text, bytes)?;
+    push_sanitized(text, bytes)?;
     text.push('\n')
 }
 
 /// Adds the name of a crawler between two texts.
 fn push_around(text: &mut String, before: &str, agent: &str, after: &str) -> Result<(), AllocError>
     ensures { OnOk result (string_bytes text.new ≡ string_bytes text.old
-        ++ (before.now ++ shown agent.now ++ after.now)) }
+        ++ (before.now ++ sanitized agent.now ++ after.now)) }
 {
     text.push_str(before)?;
-    push_shown(text, agent.as_bytes())?;
+    push_sanitized(text, agent.as_bytes())?;
     text.push_str(after)
 }
 
@@ -50,7 +50,7 @@ fn push_group_text(text: &mut String, agent: &str, group: Group) -> Result<(), A
     ensures { OnOk result (string_bytes text.new ≡ string_bytes text.old ++ group_text agent.now group) }
 {
     match group {
-        Group::Named => push_shown(text, agent.as_bytes()),
+        Group::Named => push_sanitized(text, agent.as_bytes()),
         Group::Star => push_around(text, "* (", agent, " has no group of its own)"),
         Group::Nobody => push_nobody(text, agent),
         Group::Everyone => {
@@ -75,7 +75,7 @@ fn push_verdict(text: &mut String, verdict: &Verdict<'_>) -> Result<(), AllocErr
         ++ ended (verdict_line (verdict_value verdict.now) ∷ [])) }
 {
     push_decision(text, &verdict.decision)?;
-    push_shown_line(text, verdict.url.as_bytes())
+    push_sanitized_line(text, verdict.url.as_bytes())
 }
 
 /// Adds the lines of the verdicts.
@@ -118,9 +118,9 @@ pub(crate) fn report_text(
 ) -> Result<String, AllocError>
     ensures { IfOk result (λ text. string_bytes text ≡ ended (report_lines has_rows (audit_value audit.now))) }
 {
-    let mut text = String::with_capacity(alloc, audit.marks.len())?;
+    let mut text = String::with_capacity(alloc, audit.labels.len())?;
     if has_rows {
-        push_rows(&mut text, &audit.marks)?;
+        push_rows(&mut text, &audit.labels)?;
     }
     push_agents(&mut text, &audit.agents)?;
     Ok(text)
@@ -129,7 +129,7 @@ pub(crate) fn report_text(
 /// Adds the line of a warning.
 fn push_warning_line(text: &mut String, warning: &Warning<'_>) -> Result<(), AllocError>
     ensures { OnOk result (string_bytes text.new ≡ string_bytes text.old
-        ++ ended (said_line (warning_value warning.now) ∷ [])) }
+        ++ ended (message_line (warning_value warning.now) ∷ [])) }
 {
     text.push_str("robots_audit: warning: ")?;
     push_warning(text, warning)?;

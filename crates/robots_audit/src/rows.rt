@@ -1,16 +1,16 @@
 //! The rows of a report: a line on each line of a file.
 ghost use Rattle.std.specs.Prelude.{◌≡◌, ◌++◌, ◌∷◌, [], OnOk, codes, decimal, length, map, replicate, string_bytes};
-ghost use Rattle.texting_robots.specs.Callers.{by_value, mark_by_value};
+ghost use Rattle.texting_robots.specs.Callers.{by_value, label_by_value};
 ghost use Rattle.robots_io.specs.Lines.{ended};
 ghost use Rattle.robots_warnings.specs.File.{is_blank, space};
-ghost use Rattle.robots_audit.specs.Rows.{has_value, kind_text, mark_text, right_aligned, row, rows, value_text, word_and_value};
+ghost use Rattle.robots_audit.specs.Rows.{has_value, kind_text, label_text, right_aligned, row, rows, value_text, word_and_value};
 
 use crate::delay::push_delay_text;
 use itoa::Buffer;
-use robots_io::shown::push_shown;
+use robots_io::sanitize::push_sanitized;
 use robots_warnings::file::is_blank;
 use std::alloc::AllocError;
-use texting_robots::marks::{MarkedLine, Standing};
+use texting_robots::labels::{LabeledLine, Membership};
 use texting_robots::parser::Line;
 
 /// How wide the column of the words is, with a blank behind the longest.
@@ -36,13 +36,13 @@ fn push_right(text: &mut String, width: usize, added: &str) -> Result<(), AllocE
 }
 
 /// The mark of a line.
-fn mark_text(standing: Standing) -> &'static str
-    ensures { result.now ≡ mark_text standing }
+fn label_text(membership: Membership) -> &'static str
+    ensures { result.now ≡ label_text membership }
 {
-    match standing {
-        Standing::Own => "+",
-        Standing::Other => "-",
-        Standing::Outside => " ",
+    match membership {
+        Membership::Own => "+",
+        Membership::Other => "-",
+        Membership::Ungrouped => " ",
     }
 }
 
@@ -84,7 +84,7 @@ pub(crate) fn push_value(text: &mut String, line: Line<'_>) -> Result<(), AllocE
         | Line::Allow(value)
         | Line::Disallow(value)
         | Line::Sitemap(value)
-        | Line::Raw(value) => push_shown(text, value),
+        | Line::Raw(value) => push_sanitized(text, value),
         Line::CrawlDelay(Some(micros)) => push_delay_text(text, micros),
         Line::CrawlDelay(None) => Ok(()),
     }
@@ -104,24 +104,24 @@ fn push_word_and_value(text: &mut String, line: Line<'_>) -> Result<(), AllocErr
 }
 
 /// Adds the number and the mark of a line.
-fn push_front(text: &mut String, width: usize, marked: &MarkedLine<'_>) -> Result<(), AllocError>
+fn push_front(text: &mut String, width: usize, labeled: &LabeledLine<'_>) -> Result<(), AllocError>
     ensures { OnOk result (string_bytes text.new ≡ string_bytes text.old
-        ++ (right_aligned width (decimal marked.now.number) ++ codes " "
-        ++ mark_text marked.now.standing ++ codes " ")) }
+        ++ (right_aligned width (decimal labeled.now.number) ++ codes " "
+        ++ label_text labeled.now.membership ++ codes " ")) }
 {
-    push_right(text, width, Buffer::new().format(marked.number))?;
+    push_right(text, width, Buffer::new().format(labeled.number))?;
     text.push(' ')?;
-    text.push_str(mark_text(marked.standing))?;
+    text.push_str(label_text(labeled.membership))?;
     text.push(' ')
 }
 
 /// Adds the row of a line.
-fn push_row(text: &mut String, width: usize, marked: &MarkedLine<'_>) -> Result<(), AllocError>
+fn push_row(text: &mut String, width: usize, labeled: &LabeledLine<'_>) -> Result<(), AllocError>
     ensures { OnOk result (string_bytes text.new ≡ string_bytes text.old
-        ++ ended (row width (mark_by_value marked.now) ∷ [])) }
+        ++ ended (row width (label_by_value labeled.now) ∷ [])) }
 {
-    push_front(text, width, marked)?;
-    push_word_and_value(text, marked.line)?;
+    push_front(text, width, labeled)?;
+    push_word_and_value(text, labeled.line)?;
     text.push('\n')
 }
 
@@ -133,13 +133,13 @@ fn digits(number: usize) -> usize
 }
 
 /// Adds a row for each line.
-pub(crate) fn push_rows(text: &mut String, marks: &[MarkedLine<'_>]) -> Result<(), AllocError>
+pub(crate) fn push_rows(text: &mut String, labels: &[LabeledLine<'_>]) -> Result<(), AllocError>
     ensures { OnOk result (string_bytes text.new ≡ string_bytes text.old
-        ++ ended (rows (map mark_by_value marks.now))) }
+        ++ ended (rows (map label_by_value labels.now))) }
 {
-    let width = digits(marks.len());
-    for marked in marks {
-        push_row(text, width, marked)?;
+    let width = digits(labels.len());
+    for labeled in labels {
+        push_row(text, width, labeled)?;
     }
     Ok(())
 }

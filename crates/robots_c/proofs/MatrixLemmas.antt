@@ -5,9 +5,9 @@ use Rattle.std.specs.List.{AllZip, list_any}
 use Rattle.std.specs.Str.{str_to_ascii_lowercase}
 use Rattle.std.proofs.lemmas.List.{append_assoc, length-append, length-map, length-replicate, map_push}
 use Rattle.std.proofs.lemmas.List.{take_more}
-use Rattle.texting_robots.specs.Callers.{IsCaptured, IsRefused, IsRobotOf, LineValue, file_lines}
+use Rattle.texting_robots.specs.Callers.{IsCaptured, IsRejected, IsRobotOf, LineValue, file_lines}
 use Rattle.texting_robots.specs.Callers.{group_name, is_agent_named, is_named, prepared}
-use Rattle.texting_robots.proofs.HeadlineLemmas.{has_lines}
+use Rattle.texting_robots.proofs.MainTheoremLemmas.{has_lines}
 use Rattle.texting_robots.proofs.SiteOwnLemmas.{same_robot}
 use Rattle.robots_c.specs.Results.{AreRows, IsResultOn, IsRow, items_in, no_result}
 use Rattle.robots_c.proofs.NumberLemmas.{as_many, by_lines, zip_append}
@@ -63,7 +63,7 @@ one_more_row site targets agents at agent rows row (below, here) are is =
 row_length : (site : List ℕ) (targets : List (List ℕ)) (agent : List ℕ) (row : List ℤ)
     → IsRow site targets agent row → length row ≡ length targets
 row_length site targets agent row (inl (robot, of, are)) = as_many (IsResultOn robot.rules) targets row are
-row_length site targets agent row (inr (refused, is)) = ap length is ∙ length-replicate (length targets) no_result
+row_length site targets agent row (inr (rejected, is)) = ap length is ∙ length-replicate (length targets) no_result
 
 pub rows_length : (site : List ℕ) (targets agents : List (List ℕ)) (numbers : List ℤ)
     → AreRows site targets agents numbers → length numbers ≡ length agents * length targets
@@ -102,9 +102,9 @@ starred agent lines unnamed =
     same_if (list_any (is_agent_named star) lines) star
     ∙ sym (ap (λ b. cond b (str_to_ascii_lowercase agent) star) unnamed)
 
-same_refused : (agent other : List ℕ) (lines : List LineValue)
-    → group_name agent lines ≡ group_name other lines → IsRefused agent lines → IsRefused other lines
-same_refused agent other lines same (place, rule, holds, overlong) = (
+same_rejected : (agent other : List ℕ) (lines : List LineValue)
+    → group_name agent lines ≡ group_name other lines → IsRejected agent lines → IsRejected other lines
+same_rejected agent other lines same (place, rule, holds, overlong) = (
   place,
   rule,
   record {
@@ -127,10 +127,10 @@ shared_row site targets agent row unnamed (inl (robot, of, are)) =
           (by_lines site (λ lines. IsRobotOf star lines robot) of)),
       are,
     )
-shared_row site targets agent row unnamed (inr (refused, is)) =
+shared_row site targets agent row unnamed (inr (rejected, is)) =
     inr (
-      has_lines site (IsRefused agent)
-          (same_refused star agent (file_lines site) (starred agent (file_lines site) unnamed)
-          (by_lines site (IsRefused star) refused)),
+      has_lines site (IsRejected agent)
+          (same_rejected star agent (file_lines site) (starred agent (file_lines site) unnamed)
+          (by_lines site (IsRejected star) rejected)),
       is,
     )

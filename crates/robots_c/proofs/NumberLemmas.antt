@@ -10,8 +10,8 @@ use Rattle.texting_robots.specs.Callers.{HasLines, IsDecidingLine, IsRobotOfFile
 use Rattle.texting_robots.specs.Callers.{PlacedRule, RobotValue, file_limit, file_lines, lines_read}
 use Rattle.texting_robots.specs.Callers.{nul_as_lf, unplaced}
 use Rattle.texting_robots.proofs.CountLemmas.{lines_within}
-use Rattle.texting_robots.proofs.HeadlineLemmas.{deciding_line_holds_its_rule, no_line_allows, of_lines}
-use Rattle.texting_robots.proofs.HeadlineLemmas.{read_robot}
+use Rattle.texting_robots.proofs.MainTheoremLemmas.{deciding_line_holds_its_rule, no_line_allows, of_lines}
+use Rattle.texting_robots.proofs.MainTheoremLemmas.{read_robot}
 use Rattle.texting_robots.proofs.LineLemmas.{each_text_has_its_lines}
 use Rattle.robots_c.specs.File.{IsSiteOfSomeFile, bytes_read}
 use Rattle.robots_c.specs.Results.{IsResultOn, LinesFit, number_of}

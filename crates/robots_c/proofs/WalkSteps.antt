@@ -26,7 +26,7 @@ use Rattle.std.specs.contracts.alloc.Global as Global
 use Rattle.std.proofs.alloc.Global.TheLaws as Global-laws
 use Rattle.robots_c.specs.Status.{status_of}
 use Rattle.robots_c.specs.Text.{IsTooLong, IsWritten}
-use Rattle.robots_c.specs.declared.fault.Fault.TheVariants.{Memory, NoRoom}
+use Rattle.robots_c.specs.declared.fault.Fault.TheVariants.{Memory, BufferTooSmall}
 
 abbrev pub Good : Ty → Val → Type 0
 Good τ v = IsT (has_ty τ v) × WT v
@@ -64,10 +64,10 @@ status_val n = vint w32 (of_z w32 n)
 abbrev pub text_said : {M : Type 1} (𝓤 : Ura M) → (List ℕ → Type 0) → ℤ → List ℕ → List ℕ → ℕ → ℕ → Item 𝓤
 text_said 𝓤 P r old new was len =
     raw (fact 𝓤 (r ≡ pos 0 → IsWritten P old new len))
-    ⊛ raw (fact 𝓤 (r ≡ status_of NoRoom → IsTooLong P (length old) len))
-    ⊛ raw (fact 𝓤 (r ≢ pos 0 → r ≢ status_of NoRoom → len ≡ was))
+    ⊛ raw (fact 𝓤 (r ≡ status_of BufferTooSmall → IsTooLong P (length old) len))
+    ⊛ raw (fact 𝓤 (r ≢ pos 0 → r ≢ status_of BufferTooSmall → len ≡ was))
     ⊛ raw (fact 𝓤 (r ≢ pos 0 → new ≡ old))
-    ⊛ raw (fact 𝓤 ((r ≡ pos 0) ⊎ ((r ≡ status_of NoRoom) ⊎ (r ≡ status_of Memory))))
+    ⊛ raw (fact 𝓤 ((r ≡ pos 0) ⊎ ((r ≡ status_of BufferTooSmall) ⊎ (r ≡ status_of Memory))))
 
 module _ {M : Type 1} {𝓤 : Ura M} {𝓛 : Logic 𝓤} {K : Type 0} {Γ : List (Item 𝓤)} {G : Goal 𝓤 𝓛.H} where
   -- the pointer of what is lent isn't null, and there is a reference to it

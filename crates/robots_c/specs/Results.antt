@@ -3,7 +3,7 @@ use Rattle.std.specs.Prelude.{◌≡◌, ◌⊎◌, ℕ, suc, zero, ◌-◌, ◌
 use Rattle.std.specs.Prelude.{ℤ, pos, negsuc, neg_ℤ, IsUtf8, List, [], ◌∷◌, ◌++◌, length, map, replicate}
 use Rattle.std.specs.Prelude.{Option, Some, None}
 use Rattle.std.specs.List.{AllZip, slice_split}
-use Rattle.texting_robots.specs.Callers.{IsDecidingLine, IsFileRefused, IsRobotOfFile, IsVerdict, PlacedRule}
+use Rattle.texting_robots.specs.Callers.{IsDecidingLine, IsFileRejected, IsRobotOfFile, IsVerdict, PlacedRule}
 use Rattle.texting_robots.specs.Callers.{RobotValue, prepared, unplaced}
 use Rattle.robots_c.specs.Text.{IsPutIn}
 
@@ -60,7 +60,7 @@ no_result = negsuc (2 ^ 63 - 1)
 abbrev pub IsRow : List ℕ → List (List ℕ) → List ℕ → List ℤ → Type 0
 IsRow site targets agent row =
     ((robot : RobotValue) × IsRobotOfFile agent site robot × AllZip (IsResultOn robot.rules) targets row)
-    ⊎ (IsFileRefused agent site × (row ≡ replicate (length targets) no_result))
+    ⊎ (IsFileRejected agent site × (row ≡ replicate (length targets) no_result))
 
 -- the rows of the agents, one after the other
 abbrev pub AreRows : List ℕ → List (List ℕ) → List (List ℕ) → List ℤ → Type 0

@@ -1,13 +1,13 @@
 -- The status that C gets, and its cause.
 use Rattle.std.specs.Prelude.{◌≡◌, ◌⊎◌, ℕ, ◌*◌, ◌<◌, ℤ, pos, negsuc, List}
 use Rattle.std.specs.Prelude.{Option, None, Ok, Err, IsUtf8, if◌then◌else◌, length}
-use Rattle.texting_robots.specs.Callers.{IsFirstOverlong, TakesNoMemory, file_lines, is_named}
+use Rattle.texting_robots.specs.Callers.{IsFirstOverlong, IsAllocationFree, file_lines, is_named}
 use Rattle.texting_robots.specs.Callers.{placed_rules, robots_address}
 use Rattle.url.specs.declared.error.ParseError.{ParseError}
 use Rattle.robots_c.specs.File.{HasDelay}
 use Rattle.robots_c.specs.Results.{items_in}
 use Rattle.robots_c.specs.declared.fault.Fault.{Fault}
-use Rattle.robots_c.specs.declared.fault.Fault.TheVariants.{Memory, NoAddress, NoDelay, NoRoom, NotUtf8}
+use Rattle.robots_c.specs.declared.fault.Fault.TheVariants.{Memory, NoAddress, NoDelay, BufferTooSmall, NotUtf8}
 use Rattle.robots_c.specs.declared.fault.Fault.TheVariants.{Overlong}
 
 -- ---- statuses
@@ -16,7 +16,7 @@ use Rattle.robots_c.specs.declared.fault.Fault.TheVariants.{Overlong}
 abbrev pub status_of : Fault → ℤ
 status_of NotUtf8 = negsuc 0
 status_of Memory = negsuc 1
-status_of NoRoom = negsuc 2
+status_of BufferTooSmall = negsuc 2
 status_of NoDelay = negsuc 3
 status_of NoAddress = negsuc 4
 status_of (Overlong line) = negsuc 5
@@ -54,30 +54,30 @@ IsWhyNoSite fault = fault ≡ Memory
 
 -- of results for the URLs in a text, where there is room for so many
 abbrev pub IsWhyNoResults : List ℕ → ℕ → Fault → Type 0
-IsWhyNoResults text room NotUtf8 = ¬ IsUtf8 text
-IsWhyNoResults text room Memory = IsUtf8 text
-IsWhyNoResults text room NoRoom = IsUtf8 text × (room < length (items_in text))
-IsWhyNoResults text room _ = ⊥
+IsWhyNoResults text capacity NotUtf8 = ¬ IsUtf8 text
+IsWhyNoResults text capacity Memory = IsUtf8 text
+IsWhyNoResults text capacity BufferTooSmall = IsUtf8 text × (capacity < length (items_in text))
+IsWhyNoResults text capacity _ = ⊥
 
 -- of results for a file: of a robot, or of the results
 abbrev pub IsWhyUndecided : List ℕ → List ℕ → List ℕ → ℕ → Fault → Type 0
-IsWhyUndecided agent site text room NotUtf8 = (¬ IsUtf8 agent) ⊎ (¬ IsUtf8 text)
-IsWhyUndecided agent site text room Memory = IsUtf8 agent × IsUtf8 text
-IsWhyUndecided agent site text room NoRoom = IsUtf8 agent × IsWhyNoResults text room NoRoom
-IsWhyUndecided agent site text room fault = IsUtf8 text × IsWhyNoRobot agent site fault
+IsWhyUndecided agent site text capacity NotUtf8 = (¬ IsUtf8 agent) ⊎ (¬ IsUtf8 text)
+IsWhyUndecided agent site text capacity Memory = IsUtf8 agent × IsUtf8 text
+IsWhyUndecided agent site text capacity BufferTooSmall = IsUtf8 agent × IsWhyNoResults text capacity BufferTooSmall
+IsWhyUndecided agent site text capacity fault = IsUtf8 text × IsWhyNoRobot agent site fault
 
 -- of the results of many agents for many URLs; no rule of the site is one
 abbrev pub IsWhyNoMatrix : List ℕ → List ℕ → ℕ → Fault → Type 0
-IsWhyNoMatrix agents urls room NotUtf8 = (¬ IsUtf8 agents) ⊎ (¬ IsUtf8 urls)
-IsWhyNoMatrix agents urls room Memory = IsUtf8 agents × IsUtf8 urls
-IsWhyNoMatrix agents urls room NoRoom =
-    IsUtf8 agents × IsUtf8 urls × (room < length (items_in agents) * length (items_in urls))
-IsWhyNoMatrix agents urls room _ = ⊥
+IsWhyNoMatrix agents urls capacity NotUtf8 = (¬ IsUtf8 agents) ⊎ (¬ IsUtf8 urls)
+IsWhyNoMatrix agents urls capacity Memory = IsUtf8 agents × IsUtf8 urls
+IsWhyNoMatrix agents urls capacity BufferTooSmall =
+    IsUtf8 agents × IsUtf8 urls × (capacity < length (items_in agents) * length (items_in urls))
+IsWhyNoMatrix agents urls capacity _ = ⊥
 
 -- of the result for one URL
 abbrev pub IsWhyNoResult : List ℕ → Fault → Type 0
 IsWhyNoResult url NotUtf8 = ¬ IsUtf8 url
-IsWhyNoResult url Memory = IsUtf8 url × ¬ TakesNoMemory url
+IsWhyNoResult url Memory = IsUtf8 url × ¬ IsAllocationFree url
 IsWhyNoResult url _ = ⊥
 
 -- of a robot's delay

@@ -11,4 +11,4 @@ IsWritten P old new written = (text : List ℕ) × P text × IsPutIn old new tex
 
 -- a text of which P holds is longer than the room, and this is its length
 abbrev pub IsTooLong : (List ℕ → Type 0) → ℕ → ℕ → Type 0
-IsTooLong P room wanted = (text : List ℕ) × P text × (room < length text) × (wanted ≡ length text)
+IsTooLong P capacity wanted = (text : List ℕ) × P text × (capacity < length text) × (wanted ≡ length text)

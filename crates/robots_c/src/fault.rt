@@ -9,7 +9,7 @@ pub(crate) enum Fault {
     /// An allocation failed, or a URL has more bytes than `url` can count.
     Memory,
     /// The caller's buffer is too small.
-    NoRoom,
+    BufferTooSmall,
     /// The file has no delay for the crawler.
     NoDelay,
     /// The URL has no address of a robots.txt file.
@@ -29,7 +29,7 @@ impl Fault {
         match self {
             Fault::NotUtf8 => -1,
             Fault::Memory => -2,
-            Fault::NoRoom => -3,
+            Fault::BufferTooSmall => -3,
             Fault::NoDelay => -4,
             Fault::NoAddress => -5,
             Fault::Overlong(_) => -6,

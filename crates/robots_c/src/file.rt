@@ -4,7 +4,7 @@ ghost use Rattle.robots_c.specs.File.{HasDelay, IsRobotFor, bytes_read};
 ghost use Rattle.robots_c.specs.Status.{IsWhyNoDelay, IsWhyNoDelayOf, IsWhyNoRobot};
 
 use crate::fault::Fault;
-use crate::overlong::overlong_line;
+use crate::overlong::first_overlong_line;
 use std::alloc::Global;
 use texting_robots::robot::FILE_LIMIT;
 use texting_robots::{Error, Robot, Site};
@@ -35,7 +35,7 @@ pub(crate) fn robot_of(alloc: Global, agent: &[u8], file: &[u8]) -> Result<Robot
     let agent = text_of(agent)?;
     match Robot::new(alloc, agent, file) {
         Ok(robot) => Ok(robot),
-        Err(Error::InvalidRule) => Err(Fault::Overlong(overlong_line(
+        Err(Error::InvalidRule) => Err(Fault::Overlong(first_overlong_line(
             alloc,
             agent,
             bytes_read(file),

@@ -120,10 +120,10 @@ pub extern "C" fn robots_sitemaps(
     len: &mut usize,
 ) -> i32
     ensures written { result ≡ pos 0 → IsWritten (AreSitemaps (bytes_read file.now)) out.old out.new len.new }
-    ensures no_room { result ≡ status_of Fault.NoRoom → IsTooLong (AreSitemaps (bytes_read file.now)) (length out.old) len.new }
-    ensures length_kept { result ≢ pos 0 → result ≢ status_of Fault.NoRoom → len.new ≡ len.old }
+    ensures buffer_too_small { result ≡ status_of Fault.BufferTooSmall → IsTooLong (AreSitemaps (bytes_read file.now)) (length out.old) len.new }
+    ensures length_kept { result ≢ pos 0 → result ≢ status_of Fault.BufferTooSmall → len.new ≡ len.old }
     ensures kept { result ≢ pos 0 → out.new ≡ out.old }
-    ensures why { (result ≡ pos 0) ⊎ ((result ≡ status_of Fault.NoRoom) ⊎ (result ≡ status_of Fault.Memory)) }
+    ensures why { (result ≡ pos 0) ⊎ ((result ≡ status_of Fault.BufferTooSmall) ⊎ (result ≡ status_of Fault.Memory)) }
 {
     match sitemaps_of(alloc, file) {
         Ok(text) => put(&text, out, len),
@@ -136,11 +136,11 @@ pub extern "C" fn robots_sitemaps(
 #[unsafe(no_mangle)]
 pub extern "C" fn robots_agents(alloc: Global, file: &[u8], out: &mut [u8], len: &mut usize) -> i32
     ensures written { result ≡ pos 0 → IsWritten (AreAgents (bytes_read file.now)) out.old out.new len.new }
-    ensures no_room { result ≡ status_of Fault.NoRoom
+    ensures buffer_too_small { result ≡ status_of Fault.BufferTooSmall
         → IsTooLong (AreAgents (bytes_read file.now)) (length out.old) len.new }
-    ensures length_kept { result ≢ pos 0 → result ≢ status_of Fault.NoRoom → len.new ≡ len.old }
+    ensures length_kept { result ≢ pos 0 → result ≢ status_of Fault.BufferTooSmall → len.new ≡ len.old }
     ensures kept { result ≢ pos 0 → out.new ≡ out.old }
-    ensures why { (result ≡ pos 0) ⊎ ((result ≡ status_of Fault.NoRoom) ⊎ (result ≡ status_of Fault.Memory)) }
+    ensures why { (result ≡ pos 0) ⊎ ((result ≡ status_of Fault.BufferTooSmall) ⊎ (result ≡ status_of Fault.Memory)) }
 {
     match agents_of(alloc, file) {
         Ok(text) => put(&text, out, len),
@@ -153,10 +153,10 @@ pub extern "C" fn robots_agents(alloc: Global, file: &[u8], out: &mut [u8], len:
 #[unsafe(no_mangle)]
 pub extern "C" fn robots_address(alloc: Global, url: &[u8], out: &mut [u8], len: &mut usize) -> i32
     ensures written { result ≡ pos 0 → IsWritten (IsAddress url.now) out.old out.new len.new }
-    ensures no_room { result ≡ status_of Fault.NoRoom → IsTooLong (IsAddress url.now) (length out.old) len.new }
-    ensures length_kept { result ≢ pos 0 → result ≢ status_of Fault.NoRoom → len.new ≡ len.old }
+    ensures buffer_too_small { result ≡ status_of Fault.BufferTooSmall → IsTooLong (IsAddress url.now) (length out.old) len.new }
+    ensures length_kept { result ≢ pos 0 → result ≢ status_of Fault.BufferTooSmall → len.new ≡ len.old }
     ensures kept { result ≢ pos 0 → out.new ≡ out.old }
-    ensures why { (result ≡ status_of Fault.NoRoom) ⊎ HasFault (IsWhyNoAddress url.now) result }
+    ensures why { (result ≡ status_of Fault.BufferTooSmall) ⊎ HasFault (IsWhyNoAddress url.now) result }
 {
     match address(alloc, url) {
         Ok(text) => put(&text, out, len),
@@ -332,10 +332,10 @@ pub unsafe extern "C" fn robots_site_sitemaps(
     ghost g: { Lft × Share × List ℕ }
     requires* lent { sem 𝓛 (lent_at Sites site g.2 g.0) ∗ sem 𝓛 (flft g.0 g.1) }
     ensures written { result ≡ pos 0 → IsWritten (AreSitemaps g.2) out.old out.new len.new }
-    ensures no_room { result ≡ status_of Fault.NoRoom → IsTooLong (AreSitemaps g.2) (length out.old) len.new }
-    ensures length_kept { result ≢ pos 0 → result ≢ status_of Fault.NoRoom → len.new ≡ len.old }
+    ensures buffer_too_small { result ≡ status_of Fault.BufferTooSmall → IsTooLong (AreSitemaps g.2) (length out.old) len.new }
+    ensures length_kept { result ≢ pos 0 → result ≢ status_of Fault.BufferTooSmall → len.new ≡ len.old }
     ensures kept { result ≢ pos 0 → out.new ≡ out.old }
-    ensures why { (result ≡ pos 0) ⊎ ((result ≡ status_of Fault.NoRoom) ⊎ (result ≡ status_of Fault.Memory)) }
+    ensures why { (result ≡ pos 0) ⊎ ((result ≡ status_of Fault.BufferTooSmall) ⊎ (result ≡ status_of Fault.Memory)) }
     ensures* lent { sem 𝓛 (flft g.0 g.1) }
 {
     site::sitemaps(alloc, &*(site as *const Site), out, len)
@@ -352,10 +352,10 @@ pub unsafe extern "C" fn robots_site_agents(
     ghost g: { Lft × Share × List ℕ }
     requires* lent { sem 𝓛 (lent_at Sites site g.2 g.0) ∗ sem 𝓛 (flft g.0 g.1) }
     ensures written { result ≡ pos 0 → IsWritten (AreAgents g.2) out.old out.new len.new }
-    ensures no_room { result ≡ status_of Fault.NoRoom → IsTooLong (AreAgents g.2) (length out.old) len.new }
-    ensures length_kept { result ≢ pos 0 → result ≢ status_of Fault.NoRoom → len.new ≡ len.old }
+    ensures buffer_too_small { result ≡ status_of Fault.BufferTooSmall → IsTooLong (AreAgents g.2) (length out.old) len.new }
+    ensures length_kept { result ≢ pos 0 → result ≢ status_of Fault.BufferTooSmall → len.new ≡ len.old }
     ensures kept { result ≢ pos 0 → out.new ≡ out.old }
-    ensures why { (result ≡ pos 0) ⊎ ((result ≡ status_of Fault.NoRoom) ⊎ (result ≡ status_of Fault.Memory)) }
+    ensures why { (result ≡ pos 0) ⊎ ((result ≡ status_of Fault.BufferTooSmall) ⊎ (result ≡ status_of Fault.Memory)) }
     ensures* lent { sem 𝓛 (flft g.0 g.1) }
 {
     site::agents(alloc, &*(site as *const Site), out, len)

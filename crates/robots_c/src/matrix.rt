@@ -116,19 +116,19 @@ fn matrix(
     site: &Site,
     agents: &[u8],
     urls: &[u8],
-    room: usize,
+    capacity: usize,
 ) -> Result<Vec<i64>, Fault>
     requires { IsSiteOfSomeFile site.now }
     ensures ok { IfOk result (λ numbers. HasMatrix site.now agents.now urls.now numbers.items) }
-    ensures room { IfOk result (λ numbers. length numbers.items ≤ room) }
-    ensures fault { IfErr result (IsWhyNoMatrix agents.now urls.now room) }
+    ensures capacity { IfOk result (λ numbers. length numbers.items ≤ capacity) }
+    ensures fault { IfErr result (IsWhyNoMatrix agents.now urls.now capacity) }
 {
     let agents = text_of(agents)?;
     let urls = text_of(urls)?;
     let targets = targets_of(alloc, urls)?;
     let numbers = rows_of(alloc, site, agents, &targets)?;
-    if room < numbers.len() {
-        return Err(Fault::NoRoom);
+    if capacity < numbers.len() {
+        return Err(Fault::BufferTooSmall);
     }
     Ok(numbers)
 }
@@ -139,16 +139,16 @@ pub(crate) fn matrix_of(
     agents: &[u8],
     file: &[u8],
     urls: &[u8],
-    room: usize,
+    capacity: usize,
 ) -> Result<Vec<i64>, Fault>
     ensures ok { IfOk result (λ numbers. HasMatrix (bytes_read file.now) agents.now urls.now numbers.items) }
-    ensures room { IfOk result (λ numbers. length numbers.items ≤ room) }
-    ensures fault { IfErr result (IsWhyNoMatrix agents.now urls.now room) }
+    ensures capacity { IfOk result (λ numbers. length numbers.items ≤ capacity) }
+    ensures fault { IfErr result (IsWhyNoMatrix agents.now urls.now capacity) }
 {
     text_of(agents)?;
     text_of(urls)?;
     let site = Site::new(alloc, file)?;
-    let numbers = matrix(alloc, &site, agents, urls, room)?;
+    let numbers = matrix(alloc, &site, agents, urls, capacity)?;
     Ok(numbers)
 }
 

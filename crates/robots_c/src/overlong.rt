@@ -1,17 +1,21 @@
 //! The line that makes a file unusable for a crawler.
 ghost use Rattle.std.specs.Prelude.{IfOk};
-ghost use Rattle.texting_robots.specs.Callers.{IsFileRefused};
+ghost use Rattle.texting_robots.specs.Callers.{IsFileRejected};
 ghost use Rattle.robots_c.specs.Status.{IsOverlongLine};
 
 use std::alloc::{AllocError, Global};
-use texting_robots::marks;
+use texting_robots::labels;
 
 /// The number of the first line with an overlong rule of the crawler's, in the bytes of a file that count.
-pub(crate) fn overlong_line(alloc: Global, agent: &str, site: &[u8]) -> Result<usize, AllocError>
-    requires { IsFileRefused agent.now site.now }
+pub(crate) fn first_overlong_line(
+    alloc: Global,
+    agent: &str,
+    site: &[u8],
+) -> Result<usize, AllocError>
+    requires { IsFileRejected agent.now site.now }
     ensures { IfOk result (IsOverlongLine agent.now site.now) }
 {
-    match marks::overlong_line(alloc, agent, site)? {
+    match labels::first_overlong_line(alloc, agent, site)? {
         Some(line) => Ok(line),
         None => unreachable!(),
     }

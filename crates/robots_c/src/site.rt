@@ -9,7 +9,7 @@ use crate::fault::Fault;
 use crate::file::{delay_in, text_of};
 use crate::handle::for_any_thread;
 use crate::kept::{Handle, Kept};
-use crate::overlong::overlong_line;
+use crate::overlong::first_overlong_line;
 use crate::texts::{agents_in, put, sitemaps_in};
 use std::alloc::Global;
 use texting_robots::{Error, Robot, Site};
@@ -49,7 +49,11 @@ fn robot(alloc: Global, site: &Site, agent: &[u8]) -> Result<Box<Robot>, Fault>
     let agent = text_of(agent)?;
     match site.robot(alloc, agent) {
         Ok(robot) => Ok(Box::new(alloc, robot)?),
-        Err(Error::InvalidRule) => Err(Fault::Overlong(overlong_line(alloc, agent, site.text())?)),
+        Err(Error::InvalidRule) => Err(Fault::Overlong(first_overlong_line(
+            alloc,
+            agent,
+            site.text(),
+        )?)),
         Err(_) => Err(Fault::Memory),
     }
 }
@@ -90,10 +94,10 @@ pub(crate) fn delay(site: &Site, agent: &[u8], out: &mut u64) -> i32
 /// Writes the sitemaps, as `robots_sitemaps` does.
 pub(crate) fn sitemaps(alloc: Global, site: &Site, out: &mut [u8], len: &mut usize) -> i32
     ensures written { result ≡ pos 0 → IsWritten (AreSitemaps site.now) out.old out.new len.new }
-    ensures no_room { result ≡ status_of Fault.NoRoom → IsTooLong (AreSitemaps site.now) (length out.old) len.new }
-    ensures length_kept { result ≢ pos 0 → result ≢ status_of Fault.NoRoom → len.new ≡ len.old }
+    ensures buffer_too_small { result ≡ status_of Fault.BufferTooSmall → IsTooLong (AreSitemaps site.now) (length out.old) len.new }
+    ensures length_kept { result ≢ pos 0 → result ≢ status_of Fault.BufferTooSmall → len.new ≡ len.old }
     ensures kept { result ≢ pos 0 → out.new ≡ out.old }
-    ensures why { (result ≡ pos 0) ⊎ ((result ≡ status_of Fault.NoRoom) ⊎ (result ≡ status_of Fault.Memory)) }
+    ensures why { (result ≡ pos 0) ⊎ ((result ≡ status_of Fault.BufferTooSmall) ⊎ (result ≡ status_of Fault.Memory)) }
 {
     match sitemaps_in(alloc, site) {
         Ok(text) => put(&text, out, len),
@@ -104,10 +108,10 @@ pub(crate) fn sitemaps(alloc: Global, site: &Site, out: &mut [u8], len: &mut usi
 /// Writes the names of crawlers, as `robots_agents` does.
 pub(crate) fn agents(alloc: Global, site: &Site, out: &mut [u8], len: &mut usize) -> i32
     ensures written { result ≡ pos 0 → IsWritten (AreAgents site.now) out.old out.new len.new }
-    ensures no_room { result ≡ status_of Fault.NoRoom → IsTooLong (AreAgents site.now) (length out.old) len.new }
-    ensures length_kept { result ≢ pos 0 → result ≢ status_of Fault.NoRoom → len.new ≡ len.old }
+    ensures buffer_too_small { result ≡ status_of Fault.BufferTooSmall → IsTooLong (AreAgents site.now) (length out.old) len.new }
+    ensures length_kept { result ≢ pos 0 → result ≢ status_of Fault.BufferTooSmall → len.new ≡ len.old }
     ensures kept { result ≢ pos 0 → out.new ≡ out.old }
-    ensures why { (result ≡ pos 0) ⊎ ((result ≡ status_of Fault.NoRoom) ⊎ (result ≡ status_of Fault.Memory)) }
+    ensures why { (result ≡ pos 0) ⊎ ((result ≡ status_of Fault.BufferTooSmall) ⊎ (result ≡ status_of Fault.Memory)) }
 {
     match agents_in(alloc, site) {
         Ok(text) => put(&text, out, len),

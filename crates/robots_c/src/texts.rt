@@ -81,14 +81,14 @@ pub(crate) fn address(alloc: Global, url: &[u8]) -> Result<String, Fault>
 /// Puts a text at the front of `out`, if there is room for it, and writes its length in any case.
 pub(crate) fn put(text: &str, out: &mut [u8], len: &mut usize) -> i32
     ensures put { result ≡ pos 0 → IsPutIn out.old out.new text.now }
-    ensures no_room { result ≡ status_of Fault.NoRoom → length out.old < length text.now }
+    ensures buffer_too_small { result ≡ status_of Fault.BufferTooSmall → length out.old < length text.now }
     ensures kept { result ≢ pos 0 → out.new ≡ out.old }
-    ensures status { (result ≡ pos 0) ⊎ (result ≡ status_of Fault.NoRoom) }
+    ensures status { (result ≡ pos 0) ⊎ (result ≡ status_of Fault.BufferTooSmall) }
     ensures length { len.new ≡ length text.now }
 {
     *len = text.len();
     if out.len() < text.len() {
-        return Fault::NoRoom.status();
+        return Fault::BufferTooSmall.status();
     }
     out[..text.len()].copy_from_slice(text.as_bytes());
     0

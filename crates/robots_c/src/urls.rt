@@ -4,7 +4,7 @@ ghost use Rattle.std.specs.List.{AllZip};
 ghost use Rattle.robots_c.specs.File.{GivesRobot, IsRobotOfSomeFile, bytes_read};
 ghost use Rattle.robots_c.specs.Results.{ArePutIn, HasResult, HasResults, IsResult, IsResultOn, LinesFit, number_of, items_in};
 ghost use Rattle.robots_c.specs.Status.{HasFault, IsWhyNoResult, IsWhyNoResults, IsWhyUndecided};
-ghost use Rattle.texting_robots.specs.Callers.{TakesNoMemory};
+ghost use Rattle.texting_robots.specs.Callers.{IsAllocationFree};
 
 use crate::fault::Fault;
 use crate::file::{robot_of, text_of};
@@ -35,7 +35,7 @@ pub(crate) fn number_on(robot: &Robot, target: &str) -> i64
 fn number_for(alloc: Global, robot: &Robot, url: &str) -> Result<i64, AllocError>
     requires { LinesFit robot.now.rules }
     ensures number { IfOk result (IsResult robot.now.rules url.now) }
-    ensures memory { IfErr result (λ _. ¬ TakesNoMemory url.now) }
+    ensures memory { IfErr result (λ _. ¬ IsAllocationFree url.now) }
 {
     match robot.decide(alloc, url) {
         Ok(decision) => Ok(number_of(decision)),
@@ -69,16 +69,16 @@ fn numbers_for(alloc: Global, robot: &Robot, urls: &str) -> Result<Vec<i64>, All
 }
 
 /// The results for the URLs in a text, if there is room for so many.
-fn results_for(alloc: Global, robot: &Robot, urls: &str, room: usize) -> Result<Vec<i64>, Fault>
+fn results_for(alloc: Global, robot: &Robot, urls: &str, capacity: usize) -> Result<Vec<i64>, Fault>
     requires { IsRobotOfSomeFile robot.now }
     ensures ok { IfOk result (λ numbers. AllZip (IsResult robot.now.rules) (items_in urls.now) numbers.items) }
-    ensures room { IfOk result (λ numbers. length numbers.items ≤ room) }
+    ensures capacity { IfOk result (λ numbers. length numbers.items ≤ capacity) }
     ensures fault { IfErr result (λ fault. (fault ≡ Fault.Memory)
-        ⊎ ((fault ≡ Fault.NoRoom) × (room < length (items_in urls.now)))) }
+        ⊎ ((fault ≡ Fault.BufferTooSmall) × (capacity < length (items_in urls.now)))) }
 {
     let numbers = numbers_for(alloc, robot, urls)?;
-    if room < numbers.len() {
-        return Err(Fault::NoRoom);
+    if capacity < numbers.len() {
+        return Err(Fault::BufferTooSmall);
     }
     Ok(numbers)
 }
@@ -89,28 +89,28 @@ pub(crate) fn decide(
     agent: &[u8],
     file: &[u8],
     urls: &[u8],
-    room: usize,
+    capacity: usize,
 ) -> Result<Vec<i64>, Fault>
     ensures ok { IfOk result (λ numbers. GivesRobot agent.now (bytes_read file.now) (λ robot.
         HasResults robot.rules urls.now numbers.items)) }
-    ensures room { IfOk result (λ numbers. length numbers.items ≤ room) }
-    ensures fault { IfErr result (IsWhyUndecided agent.now (bytes_read file.now) urls.now room) }
+    ensures capacity { IfOk result (λ numbers. length numbers.items ≤ capacity) }
+    ensures fault { IfErr result (IsWhyUndecided agent.now (bytes_read file.now) urls.now capacity) }
 {
     let urls = text_of(urls)?;
     let robot = robot_of(alloc, agent, file)?;
-    let numbers = results_for(alloc, &robot, urls, room)?;
+    let numbers = results_for(alloc, &robot, urls, capacity)?;
     Ok(numbers)
 }
 
 /// The results of a robot for the URLs in a text, if there is room for so many.
-fn results_of(alloc: Global, robot: &Robot, urls: &[u8], room: usize) -> Result<Vec<i64>, Fault>
+fn results_of(alloc: Global, robot: &Robot, urls: &[u8], capacity: usize) -> Result<Vec<i64>, Fault>
     requires { IsRobotOfSomeFile robot.now }
     ensures ok { IfOk result (λ numbers. HasResults robot.now.rules urls.now numbers.items) }
-    ensures room { IfOk result (λ numbers. length numbers.items ≤ room) }
-    ensures fault { IfErr result (IsWhyNoResults urls.now room) }
+    ensures capacity { IfOk result (λ numbers. length numbers.items ≤ capacity) }
+    ensures fault { IfErr result (IsWhyNoResults urls.now capacity) }
 {
     let urls = text_of(urls)?;
-    let numbers = results_for(alloc, robot, urls, room)?;
+    let numbers = results_for(alloc, robot, urls, capacity)?;
     Ok(numbers)
 }
 

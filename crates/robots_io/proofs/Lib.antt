@@ -1,4 +1,4 @@
-pub mod EndsLemmas
+pub mod StreamsLemmas
 pub mod LinesLemmas
-pub mod ShownLemmas
+pub mod SanitizeLemmas
 pub mod VerdictsLemmas

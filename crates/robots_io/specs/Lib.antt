@@ -1,4 +1,4 @@
-pub mod Ends
+pub mod Streams
 pub mod Lines
-pub mod Shown
+pub mod Sanitize
 pub mod Verdicts

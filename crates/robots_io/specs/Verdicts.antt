@@ -29,24 +29,24 @@ abbrev pub verdict_front : Bool → Option ℕ → List ℕ
 verdict_front allowed number = verdict_word allowed ++ line_text number ++ codes " "
 
 -- the line says what the rules decide on the URL, in which a program shows it in its own way
-pub record IsVerdictLine (shown : List ℕ → List ℕ) (rules : List PlacedRule) (url line : List ℕ)
+pub record IsVerdictLine (sanitized : List ℕ → List ℕ) (rules : List PlacedRule) (url line : List ℕ)
     : Type 0 where
   pub decision : Decision
   pub decided : IsDecisionOn rules url decision
-  pub whole : line ≡ verdict_front decision.allowed decision.line ++ shown url
+  pub whole : line ≡ verdict_front decision.allowed decision.line ++ sanitized url
 
 -- ---- what was added to a text
 
 -- a line that says what the rules decide on the URL
-pub record AddsVerdict (shown : List ℕ → List ℕ) (rules : List PlacedRule) (url old new : List ℕ)
+pub record AddsVerdict (sanitized : List ℕ → List ℕ) (rules : List PlacedRule) (url old new : List ℕ)
     : Type 0 where
   pub line : List ℕ
-  pub verdict : IsVerdictLine shown rules url line
+  pub verdict : IsVerdictLine sanitized rules url line
   pub whole : new ≡ old ++ ended (line ∷ [])
 
 -- such a line for each URL
-pub record AddsVerdicts (shown : List ℕ → List ℕ) (rules : List PlacedRule) (urls : List (List ℕ))
+pub record AddsVerdicts (sanitized : List ℕ → List ℕ) (rules : List PlacedRule) (urls : List (List ℕ))
     (old new : List ℕ) : Type 0 where
   pub lines : List (List ℕ)
-  pub verdicts : AllZip (IsVerdictLine shown rules) urls lines
+  pub verdicts : AllZip (IsVerdictLine sanitized rules) urls lines
   pub whole : new ≡ old ++ ended lines

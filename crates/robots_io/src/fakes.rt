@@ -12,7 +12,7 @@ pub struct Source<'a> {
     /// What of it is left.
     pub rest: &'a [u8],
     /// How many bytes a read gives at most.
-    pub piece: usize,
+    pub chunk: usize,
     /// Whether the text begins again where it ends.
     pub endless: bool,
     /// After how many good calls one fails.
@@ -25,11 +25,11 @@ pub struct Source<'a> {
 
 impl<'a> Source<'a> {
     /// A text, in pieces of so many bytes.
-    pub fn new(text: &'a [u8], piece: usize) -> Self {
+    pub fn new(text: &'a [u8], chunk: usize) -> Self {
         Source {
             text,
             rest: text,
-            piece,
+            chunk,
             endless: false,
             good_calls: None,
             calls: 0,
@@ -49,7 +49,7 @@ impl<'a> Read for Source<'a> {
         if self.endless && self.rest.is_empty() {
             self.rest = self.text;
         }
-        let count = self.rest.len().min(self.piece).min(buf.len());
+        let count = self.rest.len().min(self.chunk).min(buf.len());
         let (given, rest) = self.rest.split_at(count);
         buf[..count].copy_from_slice(given);
         self.rest = rest;
@@ -63,7 +63,7 @@ pub struct Sink {
     /// What it took.
     pub held: Vec<u8>,
     /// How many bytes a write takes at most.
-    pub piece: usize,
+    pub chunk: usize,
     /// After how many good calls one fails.
     pub good_calls: Option<u32>,
     /// Whether a flush fails.
@@ -74,10 +74,10 @@ pub struct Sink {
 
 impl Sink {
     /// Nothing yet, in pieces of so many bytes.
-    pub fn new(alloc: Global, piece: usize) -> Self {
+    pub fn new(alloc: Global, chunk: usize) -> Self {
         Sink {
             held: Vec::new(alloc),
-            piece,
+            chunk,
             good_calls: None,
             flush_fails: false,
             calls: 0,
@@ -92,7 +92,7 @@ impl Write for Sink {
         if self.good_calls == Some(call) {
             return Err(io::Error::from(ErrorKind::BrokenPipe));
         }
-        let count = buf.len().min(self.piece);
+        let count = buf.len().min(self.chunk);
         self.held.extend_from_slice(&buf[..count])?;
         Ok(count)
     }

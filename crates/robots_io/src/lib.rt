@@ -2,8 +2,8 @@
 //! in common, and untrusted text as it is shown.
 #![tactic(auto)]
 
-pub mod ends;
 pub mod fakes;
 pub mod lines;
-pub mod shown;
+pub mod sanitize;
+pub mod streams;
 pub mod verdicts;

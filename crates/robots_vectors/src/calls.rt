@@ -3,7 +3,7 @@ use crate::helpers::{check, check_equal};
 use std::alloc::Global;
 use texting_robots::parser::{Line, lines};
 use texting_robots::view::View;
-use texting_robots::{Error, Robot, one_agent_allowed};
+use texting_robots::{Error, Robot, allowed_in_file};
 
 const LINES: &[u8] =
     b"User-agent: A\nAllow: /b\nDisallow: /c\nDisallow:\nSitemap: d\nCrawl-delay: 1\nNoindex: /e";
@@ -76,7 +76,7 @@ const TEXTS: &[(&[u8], &str, bool)] = &[
 fn one_call_reads_a_file_and_answers(rt: HostRuntime) {
     for (file, text, want) in TEXTS {
         let mut view = View::new(text);
-        let answer = one_agent_allowed(rt.alloc(), "FerrisBot", file, &mut view).expect(&rt, text);
+        let answer = allowed_in_file(rt.alloc(), "FerrisBot", file, &mut view).expect(&rt, text);
         check_equal(&rt, text, &answer, want);
     }
 }

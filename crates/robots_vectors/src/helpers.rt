@@ -46,11 +46,11 @@ pub fn check_verdict(rt: &impl Abort, name: &str, text: &str, answer: bool, want
 
 /// The file with eight spaces before each line after the first, or as it stands if a CR spells its lines.
 pub fn indented(rt: &(impl Abort + AllocGlobal), name: &str, file: &[u8]) -> Vec<u8> {
-    let is_spelled_by_cr = file.contains(&b'\r');
+    let is_written_by_cr = file.contains(&b'\r');
     let mut text = Vec::new(rt.alloc());
-    for (place, byte) in file.iter().enumerate() {
+    for (position, byte) in file.iter().enumerate() {
         text.push(*byte).expect(rt, name);
-        if *byte == b'\n' && place < file.len() - 1 && !is_spelled_by_cr {
+        if *byte == b'\n' && position < file.len() - 1 && !is_written_by_cr {
             text.extend_from_slice(b"        ").expect(rt, name);
         }
     }

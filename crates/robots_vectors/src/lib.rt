@@ -14,13 +14,11 @@ mod example;
 #[cfg(test)]
 mod helpers;
 #[cfg(test)]
-mod hostile;
+mod labels;
 #[cfg(test)]
 mod limits;
 #[cfg(test)]
 mod lines;
-#[cfg(test)]
-mod marks;
 #[cfg(test)]
 mod parsed;
 #[cfg(test)]
@@ -29,6 +27,8 @@ mod patterns;
 mod printed;
 #[cfg(test)]
 mod sites;
+#[cfg(test)]
+mod stress;
 #[cfg(test)]
 mod sweep;
 #[cfg(test)]

@@ -55,7 +55,7 @@ const CUT: &[LimitCase] = &[
     },
     LimitCase {
         name: "behind_the_limit_of_new",
-        file: RULE_BEHIND,
+        file: RULE_AFTER,
         limit: 600_000,
         decisions: &[("/a", false, Some(2))],
     },
@@ -69,22 +69,22 @@ const NOTHING: &[(&str, &str, usize)] = &[
 ];
 
 /// Files whose first 512,000 bytes are a comment and its LF.
-const RULE_BEHIND: TextParts = &[("#", 511_999), ("\nDisallow: /a", 1)];
+const RULE_AFTER: TextParts = &[("#", 511_999), ("\nDisallow: /a", 1)];
 
-const OVERLONG_RULE_BEHIND: TextParts = &[
+const OVERLONG_RULE_AFTER: TextParts = &[
     ("#", 511_999),
     ("\nDisallow: /", 1),
     ("a", 4095),
     ("$", 1),
 ];
 
-const SITEMAP_BEHIND: TextParts = &[("#", 511_999), ("\nSitemap: /s", 1)];
+const SITEMAP_AFTER: TextParts = &[("#", 511_999), ("\nSitemap: /s", 1)];
 
 /// A name, and a file that gives nothing in its first 512,000 bytes.
-const BEHIND: &[(&str, TextParts)] = &[
-    ("rule", RULE_BEHIND),
-    ("overlong_rule", OVERLONG_RULE_BEHIND),
-    ("sitemap", SITEMAP_BEHIND),
+const AFTER: &[(&str, TextParts)] = &[
+    ("rule", RULE_AFTER),
+    ("overlong_rule", OVERLONG_RULE_AFTER),
+    ("sitemap", SITEMAP_AFTER),
 ];
 
 /// The robot of the file's beginning.
@@ -124,16 +124,16 @@ fn a_cut_may_leave_nothing(rt: HostRuntime) {
 #[test]
 fn new_reads_the_first_512_000_bytes(rt: HostRuntime) {
     check_equal(&rt, "limit", &FILE_LIMIT, &512_000);
-    for (name, parts) in BEHIND {
+    for (name, parts) in AFTER {
         check_nothing(&rt, name, &long_robot(&rt, name, parts));
     }
 }
 
 #[test]
 fn a_greater_limit_reads_on(rt: HostRuntime) {
-    let file = long_text(&rt, "rule", OVERLONG_RULE_BEHIND);
+    let file = long_text(&rt, "rule", OVERLONG_RULE_AFTER);
     let answer = Robot::with_limit(rt.alloc(), BOB, file.as_bytes(), 600_000);
     check(&rt, "rule", matches!(answer, Err(Error::InvalidRule)));
-    let robot = limited(&rt, "sitemap", SITEMAP_BEHIND, 600_000);
+    let robot = limited(&rt, "sitemap", SITEMAP_AFTER, 600_000);
     check_sitemaps(&rt, "sitemap", &robot.sitemaps, &["/s"]);
 }

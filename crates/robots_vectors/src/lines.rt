@@ -2,7 +2,7 @@
 use crate::helpers::{check_equal, indented};
 use std::process::Abort;
 use texting_robots::parser::{
-    BodyIter, Kind, Line, LineIter, file_bodies, file_lines, lines, robots_txt_parse, spellings,
+    BodyIter, Kind, Line, LineIter, field_names, file_bodies, file_lines, lines, robots_txt_parse,
 };
 
 /// A text and its lines.
@@ -21,7 +21,7 @@ const SIX: &[Line<'static>] = &[
     Line::Disallow(b"/"),
 ];
 
-const MARKED: &[Line<'static>] = &[Line::UserAgent(b"foo"), Line::Allow(b"/AnyValue")];
+const LABELED: &[Line<'static>] = &[Line::UserAgent(b"foo"), Line::Allow(b"/AnyValue")];
 
 /// NUL bytes among the line ends.
 const NUL_AS_LF: &[u8] =
@@ -88,7 +88,7 @@ const SIX_LINES: &[LinesCase] = &[
 ];
 
 /// A byte order mark, whole or in part.
-const MARKS: &[LinesCase] = &[
+const LABELS: &[LinesCase] = &[
     LinesCase {
         name: "partial_front",
         text: b"\xBBAllow: /",
@@ -110,17 +110,17 @@ const MARKS: &[LinesCase] = &[
     LinesCase {
         name: "whole_mark",
         text: b"\xEF\xBB\xBFUser-Agent: foo\nAllow: /AnyValue",
-        lines: MARKED,
+        lines: LABELED,
     },
     LinesCase {
         name: "two_bytes_of_a_mark",
         text: b"\xEF\xBBUser-Agent: foo\nAllow: /AnyValue",
-        lines: MARKED,
+        lines: LABELED,
     },
     LinesCase {
         name: "one_byte_of_a_mark",
         text: b"\xEFUser-Agent: foo\nAllow: /AnyValue",
-        lines: MARKED,
+        lines: LABELED,
     },
 ];
 
@@ -167,7 +167,7 @@ const KEYS: &[LinesCase] = &[
 ];
 
 /// The misspelled keys that are read; the fifth stands among the values.
-const MISSPELLED: &[LinesCase] = &[
+const NONSTANDARD: &[LinesCase] = &[
     LinesCase {
         name: "dissallow",
         text: b"dissallow: /a",
@@ -401,9 +401,9 @@ fn check_texts(rt: &(impl Abort + AllocGlobal), cases: &[LinesCase]) {
 fn texts_have_their_lines(rt: HostRuntime) {
     check_texts(&rt, ENDS);
     check_texts(&rt, SIX_LINES);
-    check_texts(&rt, MARKS);
+    check_texts(&rt, LABELS);
     check_texts(&rt, KEYS);
-    check_texts(&rt, MISSPELLED);
+    check_texts(&rt, NONSTANDARD);
     check_texts(&rt, VALUES);
     check_texts(&rt, DELAYS);
 }
@@ -423,7 +423,7 @@ fn lines_have_their_bodies(rt: HostRuntime) {
 }
 
 /// How the field names of each kind are spelled.
-const SPELLINGS: &[(Kind, &[&str])] = &[
+const FIELD_NAMES: &[(Kind, &[&str])] = &[
     (Kind::UserAgent, &["User-agent", "user agent", "useragent"]),
     (Kind::Allow, &["Allow"]),
     (
@@ -445,8 +445,8 @@ const SPELLINGS: &[(Kind, &[&str])] = &[
 ];
 
 #[test]
-fn kinds_have_their_spellings(rt: HostRuntime) {
-    for (kind, spelled) in SPELLINGS {
-        check_equal(&rt, "spellings", &spellings(*kind), spelled);
+fn kinds_have_their_field_names(rt: HostRuntime) {
+    for (kind, written) in FIELD_NAMES {
+        check_equal(&rt, "spellings", &field_names(*kind), written);
     }
 }

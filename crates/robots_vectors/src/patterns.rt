@@ -147,7 +147,7 @@ fn longer_patterns_come_first_and_then_bytes_decide(rt: HostRuntime) {
 }
 
 #[test]
-fn overlong_patterns_are_refused(rt: HostRuntime) {
+fn overlong_patterns_are_rejected(rt: HostRuntime) {
     let pattern = long_text(&rt, "letters", &[("/", 1), ("a", 4095), ("$", 1)]);
     let answer = MinRegex::new(rt.alloc(), pattern.as_str());
     check(&rt, "letters", matches!(answer, Err(Error::InvalidRule)));

@@ -63,8 +63,8 @@ fn site_of(rt: &(impl Abort + AllocGlobal), name: &str, file: &[u8]) -> Site {
 /// The sitemaps are these.
 fn check_sitemaps(rt: &impl Abort, name: &str, sitemaps: &[String], wanted: &[&str]) {
     check_equal(rt, name, &sitemaps.len(), &wanted.len());
-    for (place, sitemap) in sitemaps.iter().enumerate() {
-        check(rt, name, wanted.get(place) == Some(&sitemap.as_str()));
+    for (position, sitemap) in sitemaps.iter().enumerate() {
+        check(rt, name, wanted.get(position) == Some(&sitemap.as_str()));
     }
 }
 

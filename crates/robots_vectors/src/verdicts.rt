@@ -12,7 +12,7 @@ const EMPTY: &[(&str, &str, bool)] = &[
 ];
 
 #[test]
-fn the_empty_text_is_asked_as_a_slash(rt: HostRuntime) {
+fn empty_url_means_root(rt: HostRuntime) {
     for (name, file, want) in EMPTY {
         let robot = robot_of(&rt, name, BOB, file.as_bytes());
         check_url(&rt, name, &robot, "", *want);
@@ -20,7 +20,7 @@ fn the_empty_text_is_asked_as_a_slash(rt: HostRuntime) {
 }
 
 #[test]
-fn a_lone_dollar_refuses_the_empty_prepared_text(rt: HostRuntime) {
+fn dollar_alone_denies_empty_target(rt: HostRuntime) {
     let name = "lone_dollar";
     let robot = robot_of(&rt, name, BOB, b"Disallow: $");
     check_prepared(&rt, name, &robot, "", false);

@@ -9,13 +9,13 @@ use Rattle.std.specs.Str.{is_utf8}
 use Rattle.std.proofs.lemmas.Bool.{cases_Bool, cases_lt, eqb-false, eqb-true, false≢true}
 use Rattle.std.proofs.lemmas.Str.{IsUtf8-from_is_utf8, is_utf8-from_IsUtf8}
 use Rattle.texting_robots.specs.Pattern.{IsOverlong, collapsed, dollar}
-use Rattle.texting_robots.specs.Computed.{lines_read}
-use Rattle.texting_robots.specs.Computed.{delay_for, placed_rules, rules_for}
+use Rattle.texting_robots.specs.Executable.{lines_read}
+use Rattle.texting_robots.specs.Executable.{delay_for, placed_rules, rules_for}
 use Rattle.texting_robots.specs.Rules.{Rule}
-use Rattle.texting_robots.specs.Computed.{sitemaps_in}
-use Rattle.texting_robots.specs.Robot.{IsFileRefused, file_limit}
-use Rattle.texting_robots.proofs.HeadlineLemmas.{lines_are_read, read_refused}
-use Rattle.texting_robots.proofs.HeldLemmas.{refusal_is_computed}
+use Rattle.texting_robots.specs.Executable.{sitemaps_in}
+use Rattle.texting_robots.specs.Robot.{IsFileRejected, file_limit}
+use Rattle.texting_robots.proofs.MainTheoremLemmas.{lines_are_read, read_rejected}
+use Rattle.texting_robots.proofs.HeldLemmas.{rejection_is_computed}
 use Rattle.texting_robots.proofs.BestLemmas.{Either}
 use Rattle.robots_verdict.specs.declared.fault.Fault.{Fault}
 use Rattle.robots_verdict.specs.declared.fault.Fault.TheVariants.{HeaderNotUtf8, InvalidRule, NoEmptyLine}
@@ -64,15 +64,15 @@ Split input =
     ((agent : List ℕ) × (urls : List (List ℕ)) × (file : List ℕ) × IsInput input agent urls file)
     ⊎ ((agent : List ℕ) (urls : List (List ℕ)) (file : List ℕ) → ¬ IsInput input agent urls file)
 
-split_behind : (n : ℕ) (input agent start rest : List ℕ) (urls : List (List ℕ)) → length rest < n
+split_after : (n : ℕ) (input agent start rest : List ℕ) (urls : List (List ℕ)) → length rest < n
     → BeginsWithLine input agent start → GoesOn start urls rest → Split input
-split_behind zero input agent start rest urls short line goes = absurd (omega arith)
-split_behind (suc n) input agent start rest urls short line goes = elim (first_line rest) [
+split_after zero input agent start rest urls short line goes = absurd (omega arith)
+split_after (suc n) input agent start rest urls short line goes = elim (first_line rest) [
   | inr one ↦ inr (no_split input agent start rest urls line goes one)
   | inl ([], next, is) ↦ inl
       (agent, urls, next, split_found input agent start rest [] next urls line goes is refl)
   | inl (b ∷ url, next, is) ↦
-      split_behind n input agent start next (urls ++ (b ∷ url) ∷ [])
+      split_after n input agent start next (urls ++ (b ∷ url) ∷ [])
       (omega (arith, short, rest_shorter rest (b ∷ url) next is)) line
       (goes_more start rest next (b ∷ url) urls goes is (λ none. cc))
 ]
@@ -81,7 +81,7 @@ split_of : (input : List ℕ) → Split input
 split_of input = elim (first_line input) [
   | inr one ↦ inr (no_split_first input one)
   | inl (agent, start, line) ↦
-      split_behind (suc (length start)) input agent start start [] (omega arith) line (goes_first start)
+      split_after (suc (length start)) input agent start start [] (omega arith) line (goes_first start)
 ]
 
 -- ---- what is decided of it
@@ -166,13 +166,13 @@ some_report input = elim (split_of input) [
           (rules_for agent (lines_read file))) [
             | inl some ↦
                 let lines = lines_read file in
-                let refused : IsFileRefused agent (take file_limit file) =
-                (lines, lines_are_read file, (refusal_is_computed agent lines).1 some) in
-                (Err InvalidRule, (agent, urls, file, is, (named, each), refused))
+                let rejected : IsFileRejected agent (take file_limit file) =
+                (lines, lines_are_read file, (rejection_is_computed agent lines).1 some) in
+                (Err InvalidRule, (agent, urls, file, is, (named, each), rejected))
             | inr none ↦
                 let (text, made) = text_of_report agent urls file in
-                let accepted : ¬ IsFileRefused agent (take file_limit file) =
-                λ is. none ((refusal_is_computed agent (lines_read file)).0 (read_refused agent file is)) in
+                let accepted : ¬ IsFileRejected agent (take file_limit file) =
+                λ is. none ((rejection_is_computed agent (lines_read file)).0 (read_rejected agent file is)) in
                 (Ok text, (agent, urls, file, is, (named, each), accepted, made))
           ]
     ]

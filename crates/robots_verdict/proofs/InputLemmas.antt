@@ -16,7 +16,7 @@ use Rattle.robots_verdict.specs.declared.fault.Fault.TheVariants.{HeaderNotUtf8,
 use Rattle.robots_io.specs.Lines.{lf}
 use Rattle.robots_verdict.specs.Input.{AreUtf8, HoldNotUtf8}
 use Rattle.robots_verdict.specs.Input.{AreUrlLines, BeginsWithLine, IsInput, IsOneLine, cr}
-use Rattle.robots_verdict.specs.Steps.{IsFirstFeed}
+use Rattle.robots_verdict.specs.Internal.{IsFirstLf}
 
 -- the same splits go on from the rest, behind these URLs
 pub record GoesOn (input : List ℕ) (urls : List (List ℕ)) (rest : List ℕ) : Type 0 where
@@ -63,7 +63,7 @@ one_before (b ∷ input) zero before = tt
 one_before (b ∷ input) (suc place) before =
     (before 0 (omega arith), one_before input place (λ k below. before (suc k) (omega arith)))
 
-pub line_before : (input text rest : List ℕ) (place : ℕ) → IsFirstFeed input place
+pub line_before : (input text rest : List ℕ) (place : ℕ) → IsFirstLf input place
     → text ≡ strip_last cr (take place input) → rest ≡ drop (place + 1) input
     → BeginsWithLine input text rest
 line_before input text rest place first is after = record {

@@ -3,14 +3,14 @@ use Rattle.std.proofs.Common.{◌≡◌, ◌≢◌, ℕ, List, [], ◌∷◌, �
 use Rattle.std.proofs.Common.{Result, Ok, Err, IfSome, map, sym, refl, ap, subst, take, ◌∙◌}
 use Rattle.std.specs.Io.KnownBytes.{Appends}
 use Rattle.std.specs.Result.{IsErrAnd}
-use Rattle.texting_robots.specs.Callers.{IsFileRefused, IsRobotOf, RobotValue, delay_for, file_limit}
+use Rattle.texting_robots.specs.Callers.{IsFileRejected, IsRobotOf, RobotValue, delay_for, file_limit}
 use Rattle.texting_robots.specs.Callers.{lines_read, placed_rules, sitemaps_in}
 use Rattle.texting_robots.proofs.GivenLemmas.{delay_is_computed, sitemaps_are_computed}
-use Rattle.texting_robots.proofs.HeadlineLemmas.{answers_computed}
+use Rattle.texting_robots.proofs.MainTheoremLemmas.{answers_computed}
 use Rattle.robots_verdict.specs.declared.fault.Fault.{Fault}
 use Rattle.robots_verdict.specs.declared.fault.Fault.TheVariants.{HeaderNotUtf8, InvalidRule}
 use Rattle.robots_verdict.specs.declared.fault.Fault.TheVariants.{Memory, NoEmptyLine, Read, Write}
-use Rattle.robots_io.specs.Ends.{AppendsBeginning}
+use Rattle.robots_io.specs.Streams.{AppendsBeginning}
 use Rattle.robots_io.specs.Lines.{ended}
 use Rattle.robots_io.specs.Verdicts.{AddsVerdicts}
 use Rattle.robots_io.proofs.LinesLemmas.{ended-append, lines_added}
@@ -78,12 +78,12 @@ no_fault input text HeaderNotUtf8 report has =
     has.2 report.3 has.3 has.4)
 no_fault input text InvalidRule report has =
     report.5
-    (same_split (λ agent urls file. IsFileRefused agent (take file_limit file)) input report.0 has.0 report.1
+    (same_split (λ agent urls file. IsFileRejected agent (take file_limit file)) input report.0 has.0 report.1
     has.1 report.2 has.2 report.3 has.3 has.5)
 no_fault input text Memory report has = has
 
-not_refused : (input : List ℕ) → HasFault input HeaderNotUtf8 → HasFault input InvalidRule → ⊥
-not_refused input one two =
+not_rejected : (input : List ℕ) → HasFault input HeaderNotUtf8 → HasFault input InvalidRule → ⊥
+not_rejected input one two =
     not_both one.0 one.1
     (same_split (λ agent urls file. AreUtf8 agent urls) input one.0 two.0 one.1 two.1 one.2 two.2
     one.3 two.3 two.4) one.4
@@ -103,12 +103,12 @@ same_fault input HeaderNotUtf8 Read one two = absurd two
 same_fault input HeaderNotUtf8 Write one two = absurd two
 same_fault input HeaderNotUtf8 NoEmptyLine one two = absurd (two one.0 one.1 one.2 one.3)
 same_fault input HeaderNotUtf8 HeaderNotUtf8 one two = refl
-same_fault input HeaderNotUtf8 InvalidRule one two = absurd (not_refused input one two)
+same_fault input HeaderNotUtf8 InvalidRule one two = absurd (not_rejected input one two)
 same_fault input HeaderNotUtf8 Memory one two = absurd two
 same_fault input InvalidRule Read one two = absurd two
 same_fault input InvalidRule Write one two = absurd two
 same_fault input InvalidRule NoEmptyLine one two = absurd (two one.0 one.1 one.2 one.3)
-same_fault input InvalidRule HeaderNotUtf8 one two = absurd (not_refused input two one)
+same_fault input InvalidRule HeaderNotUtf8 one two = absurd (not_rejected input two one)
 same_fault input InvalidRule InvalidRule one two = refl
 same_fault input InvalidRule Memory one two = absurd two
 

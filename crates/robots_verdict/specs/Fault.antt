@@ -2,8 +2,8 @@
 use Rattle.std.specs.Prelude.{ℕ, List, Option, None, Some, Result, Ok, Err, codes}
 use Rattle.texting_robots.specs.declared.error.Error.{Error}
 use Rattle.texting_robots.specs.declared.error.Error.TheVariants as error
-use Rattle.robots_io.specs.declared.ends.ReadFault.{ReadFault}
-use Rattle.robots_io.specs.declared.ends.ReadFault.TheVariants as read
+use Rattle.robots_io.specs.declared.streams.ReadFault.{ReadFault}
+use Rattle.robots_io.specs.declared.streams.ReadFault.TheVariants as read
 use Rattle.robots_verdict.specs.declared.fault.Fault.{Fault}
 use Rattle.robots_verdict.specs.declared.fault.Fault.TheVariants.{HeaderNotUtf8, InvalidRule}
 use Rattle.robots_verdict.specs.declared.fault.Fault.TheVariants.{Memory, NoEmptyLine, Read, Write}
@@ -30,9 +30,9 @@ status_after (Ok _) = 0
 status_after (Err fault) = status_of fault
 
 -- what it says before on standard error
-abbrev pub said_after : Result (Unit {0}) Fault → Option (List ℕ)
-said_after (Ok _) = None
-said_after (Err fault) = Some (text_of fault)
+abbrev pub message_after : Result (Unit {0}) Fault → Option (List ℕ)
+message_after (Ok _) = None
+message_after (Err fault) = Some (text_of fault)
 
 -- what an error of the library comes to; the library never answers InvalidRobots
 abbrev pub fault_of : Error → Fault

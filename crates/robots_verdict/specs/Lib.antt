@@ -1,4 +1,4 @@
 pub mod Fault
 pub mod Input
 pub mod Report
-pub mod Steps
+pub mod Internal

@@ -3,9 +3,9 @@ use Rattle.std.specs.Prelude.{◌≡◌, ℕ, List, ◌∷◌}
 use Rattle.std.specs.Prelude.{◌++◌, Option, Some, None, Result, Ok, Err, codes, decimal, map, take}
 use Rattle.std.specs.List.{AllZip}
 use Rattle.std.specs.Io.KnownBytes.{Appends}
-use Rattle.texting_robots.specs.Callers.{IsFileRefused, delay_for, file_limit, lines_read, placed_rules}
+use Rattle.texting_robots.specs.Callers.{IsFileRejected, delay_for, file_limit, lines_read, placed_rules}
 use Rattle.texting_robots.specs.Callers.{sitemaps_in}
-use Rattle.robots_io.specs.Ends.{AppendsBeginning}
+use Rattle.robots_io.specs.Streams.{AppendsBeginning}
 use Rattle.robots_io.specs.Lines.{ended}
 use Rattle.robots_io.specs.Verdicts.{IsVerdictLine}
 use Rattle.robots_verdict.specs.declared.fault.Fault.{Fault}
@@ -45,14 +45,14 @@ HasFault input HeaderNotUtf8 = (agent : List ℕ) × (urls : List (List ℕ)) ×
     × IsInput input agent urls file × HoldNotUtf8 agent urls
 HasFault input InvalidRule =
     (agent : List ℕ) × (urls : List (List ℕ)) × (file : List ℕ) × IsInput input agent urls file
-    × AreUtf8 agent urls × IsFileRefused agent (take file_limit file)
+    × AreUtf8 agent urls × IsFileRejected agent (take file_limit file)
 HasFault input Memory = ⊥
 
 -- the text of the report, or the fault of the input
 abbrev pub IsReport : List ℕ → Result (List ℕ) Fault → Type 0
 IsReport input (Ok text) =
     (agent : List ℕ) × (urls : List (List ℕ)) × (file : List ℕ)
-    × IsInput input agent urls file × AreUtf8 agent urls × (¬ IsFileRefused agent (take file_limit file))
+    × IsInput input agent urls file × AreUtf8 agent urls × (¬ IsFileRejected agent (take file_limit file))
     × IsReportText agent urls file text
 IsReport input (Err fault) = HasFault input fault
 

@@ -1,29 +1,29 @@
 //! How the process ends.
 ghost use Rattle.std.specs.Prelude.{◌≡◌};
 ghost use Rattle.std.specs.Option.{option_map};
-ghost use Rattle.robots_verdict.specs.Fault.{said_after, status_after};
+ghost use Rattle.robots_verdict.specs.Fault.{message_after, status_after};
 
 use crate::fault::Fault;
 
 /// What the process ends with.
 #[derive(Drop)]
-pub struct Ending {
+pub struct Exit {
     pub status: u8,
     /// What is said on standard error, if something is.
     pub text: Option<&'static str>,
 }
 
 /// What the process ends with after a run that answered this.
-pub fn ending_of(outcome: &Result<(), Fault>) -> Ending
+pub fn exit_of(outcome: &Result<(), Fault>) -> Exit
     ensures status { result.status ≡ status_after outcome.now }
-    ensures text { option_map (λ text. text.now) result.text ≡ said_after outcome.now }
+    ensures text { option_map (λ text. text.now) result.text ≡ message_after outcome.now }
 {
     match outcome {
-        Ok(()) => Ending {
+        Ok(()) => Exit {
             status: 0,
             text: None,
         },
-        Err(fault) => Ending {
+        Err(fault) => Exit {
             status: fault.status(),
             text: Some(fault.text()),
         },

@@ -1,5 +1,5 @@
 //! Why the program stopped.
-use robots_io::ends::{ReadFault, WriteFault};
+use robots_io::streams::{ReadFault, WriteFault};
 use std::alloc::{AllocError, AllocFailed};
 use texting_robots::Error;
 

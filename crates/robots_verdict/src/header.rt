@@ -4,7 +4,7 @@ ghost use Rattle.std.specs.Io.BufRead.{strip_last};
 ghost use Rattle.std.specs.List.{AllByRecursion as Each};
 ghost use Rattle.robots_verdict.specs.Input.{AreUtf8, BeginsWithLine, IsInput, IsOneLine, cr};
 ghost use Rattle.robots_verdict.specs.Report.{HasFault};
-ghost use Rattle.robots_verdict.specs.Steps.{IsFirstFeed};
+ghost use Rattle.robots_verdict.specs.Internal.{IsFirstLf};
 
 use crate::fault::Fault;
 use std::alloc::Global;
@@ -19,7 +19,7 @@ pub struct Header<'a> {
 
 /// The same, before anything is known of its bytes.
 #[derive(Drop)]
-struct Parts<'a> {
+struct RawInput<'a> {
     agent: &'a [u8],
     urls: Vec<&'a [u8]>,
     file: &'a [u8],
@@ -37,8 +37,8 @@ fn without_cr<'a>(line: &'a [u8]) -> &'a [u8]
 }
 
 /// Where the first LF stands, if there is one.
-fn first_feed(input: &[u8]) -> Option<usize>
-    ensures { MatchOption result (IsOneLine input.now) (λ place. IsFirstFeed input.now place) }
+fn find_lf(input: &[u8]) -> Option<usize>
+    ensures { MatchOption result (IsOneLine input.now) (λ place. IsFirstLf input.now place) }
 {
     input.iter().position(|byte| *byte == b'\n')
 }
@@ -48,12 +48,12 @@ fn first_line<'a>(input: &'a [u8]) -> Option<(&'a [u8], &'a [u8])>
     ensures { MatchOption result (IsOneLine input.now)
         (λ found. BeginsWithLine input.now found.0.now found.1.now) }
 {
-    let end = first_feed(input)?;
+    let end = find_lf(input)?;
     Some((without_cr(&input[..end]), &input[end + 1..]))
 }
 
 /// Splits an input at its first empty line after the first line.
-fn split<'a>(alloc: Global, input: &'a [u8]) -> Result<Parts<'a>, Fault>
+fn split<'a>(alloc: Global, input: &'a [u8]) -> Result<RawInput<'a>, Fault>
     ensures ok { IfOk result (λ parts. IsInput input.now parts.agent.now
         (map (λ url. url.now) parts.urls.items) parts.file.now) }
     ensures fault { IfErr result (λ fault. fault ≢ Fault.Memory → HasFault input.now fault) }
@@ -64,7 +64,7 @@ fn split<'a>(alloc: Global, input: &'a [u8]) -> Result<Parts<'a>, Fault>
     let mut urls = Vec::new(alloc);
     while let Some((url, next)) = first_line(rest) {
         if url.is_empty() {
-            return Ok(Parts {
+            return Ok(RawInput {
                 agent,
                 urls,
                 file: next,

@@ -15,12 +15,12 @@ mod report;
 #[cfg(test)]
 mod tests;
 
-use ending::ending_of;
+use ending::exit_of;
 use program::run;
 use std::process::ExitCode;
 
 fn main(rt: HostRuntime) -> ExitCode {
-    let ending = ending_of(&run(rt.alloc(), &mut rt.stdin(), &mut rt.stdout()));
+    let ending = exit_of(&run(rt.alloc(), &mut rt.stdin(), &mut rt.stdout()));
     if let Some(text) = ending.text {
         let _ = rt.eprintln(text);
     }

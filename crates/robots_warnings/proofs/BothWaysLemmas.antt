@@ -10,9 +10,9 @@ use Rattle.std.specs.Ordering.{is_eq}
 use Rattle.std.proofs.lemmas.List.{drop_more}
 use Rattle.std.proofs.lemmas.List.Folds.{list_any_more}
 use Rattle.std.proofs.lemmas.Map.Text.{is_eq-slice_cmp}
-use Rattle.robots_warnings.specs.declared.both_ways.ScopedRule.{ScopedRule}
-use Rattle.robots_warnings.specs.BothWays.{Scoped, allows, both_among, is_allowed_too, scoped_by_value}
-use Rattle.robots_warnings.specs.Steps.BothWays.{AddsAllowed, HasAllowed, Key, key_cmp}
+use Rattle.robots_warnings.specs.declared.conflicts.ScopedRule.{ScopedRule}
+use Rattle.robots_warnings.specs.Conflicts.{Scoped, allows, both_among, is_allowed_too, scoped_by_value}
+use Rattle.robots_warnings.specs.Internal.Conflicts.{AddsAllowed, HasAllowed, Key, key_cmp}
 
 -- two keys are tied if their scopes and their values are the same
 tied : (one two : Key) → is_eq (key_cmp one two) ≡ (one.0 == two.0 && bytes_eq one.1.now two.1.now)

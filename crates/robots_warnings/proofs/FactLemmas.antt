@@ -4,11 +4,11 @@ use Rattle.std.proofs.Common.{◌&&◌, Bool, List, drop, length, map, not, refl
 use Rattle.std.proofs.Math.Bool.{or-false}
 use Rattle.std.proofs.lemmas.List.{drop_more, map-append, take_more}
 use Rattle.std.proofs.lemmas.List.Folds.{list_any-append}
-use Rattle.texting_robots.specs.declared.marks.MarkedLine.{MarkedLine}
-use Rattle.texting_robots.specs.Callers.{by_value, mark_by_value}
+use Rattle.texting_robots.specs.declared.labels.LabeledLine.{LabeledLine}
+use Rattle.texting_robots.specs.Callers.{by_value, label_by_value}
 use Rattle.robots_warnings.specs.Facts.{kinds_of}
 use Rattle.robots_warnings.specs.File.{lines_of}
-use Rattle.robots_warnings.specs.Steps.{kinds_with}
+use Rattle.robots_warnings.specs.Internal.{kinds_with}
 use Rattle.robots_warnings.specs.Facts.{nul_at_every_other}
 
 -- whether every other byte is a NUL from one index on, by the byte there
@@ -19,8 +19,8 @@ pub nul_from : (here : Bool) (bytes : List ℕ) (at byte : ℕ) → at < length 
 nul_from here bytes at byte below = rw (drop_more bytes at byte below) refl
 
 -- the kinds of one line more
-pub kinds_next : (marks : List MarkedLine) (at : ℕ) (marked : MarkedLine) → at < length marks
-    → kinds_of (lines_of (map mark_by_value (take (at + 1) marks)))
-    ≡ kinds_with (kinds_of (lines_of (map mark_by_value (take at marks))))
-    (by_value (slice_index_or marks at marked).line)
-kinds_next marks at marked below = rw (take_more marks at marked below) (simp (map-append, list_any-append, or-false))
+pub kinds_next : (labels : List LabeledLine) (at : ℕ) (labeled : LabeledLine) → at < length labels
+    → kinds_of (lines_of (map label_by_value (take (at + 1) labels)))
+    ≡ kinds_with (kinds_of (lines_of (map label_by_value (take at labels))))
+    (by_value (slice_index_or labels at labeled).line)
+kinds_next labels at labeled below = rw (take_more labels at labeled below) (simp (map-append, list_any-append, or-false))

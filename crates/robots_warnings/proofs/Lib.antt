@@ -2,8 +2,8 @@ pub mod BothWaysLemmas
 pub mod FactLemmas
 pub mod FileLemmas
 pub mod NameLemmas
-pub mod NamesBeyondLemmas
+pub mod NamesPastLimitLemmas
 pub mod PositionLemmas
-pub mod PlainLemmas
+pub mod PrintableLemmas
 pub mod RuleLemmas
 pub mod TableLemmas

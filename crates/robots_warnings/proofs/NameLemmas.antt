@@ -7,7 +7,7 @@ use Rattle.std.specs.Str.{str_to_ascii_lowercase}
 use Rattle.std.proofs.Math.Bool.{or-false}
 use Rattle.std.proofs.lemmas.List.Folds.{list_any-append}
 use Rattle.std.proofs.lemmas.Map.Text.{is_eq-slice_cmp}
-use Rattle.robots_warnings.specs.Steps.Names.{AddsName, Key, key_cmp}
+use Rattle.robots_warnings.specs.Internal.Names.{AddsName, Key, key_cmp}
 use Rattle.robots_warnings.proofs.BothWaysLemmas.{either}
 
 -- a name was put into a set

@@ -2,7 +2,7 @@
 use Rattle.std.proofs.Common.{◌≡◌, ℕ, ◌+◌, ◌<◌, ◌==◌, ◌||◌, Bool, List, [], ◌∷◌}
 use Rattle.std.proofs.Common.{arith, drop, length, refl, slice_index_or}
 use Rattle.std.proofs.lemmas.List.{drop_more}
-use Rattle.robots_warnings.specs.Rules.{holds_otherwise, is_spelled_otherwise, somewhere}
+use Rattle.robots_warnings.specs.Rules.{holds_otherwise, is_written_otherwise, somewhere}
 
 -- whether a test holds somewhere in a text, by the text and what follows its first byte
 pub somewhere_next : (test : List ℕ → Bool) (text : List ℕ) → 0 < length text
@@ -13,6 +13,6 @@ somewhere_next test (b ∷ text) some = refl
 -- whether a value holds such a byte from one place on, by its byte there
 pub otherwise_at : (in_query : Bool) (value : List ℕ) (at byte : ℕ) → at < length value
     → holds_otherwise in_query (drop at value)
-    ≡ (is_spelled_otherwise in_query (slice_index_or value at byte)
+    ≡ (is_written_otherwise in_query (slice_index_or value at byte)
     || holds_otherwise (in_query || slice_index_or value at byte == 63) (drop (at + 1) value))
 otherwise_at in_query value at byte below = rw (drop_more value at byte below) refl

@@ -10,7 +10,7 @@ use Rattle.robots_warnings.specs.contracts.table.Cause.{the_type}
 use Rattle.robots_warnings.specs.declared.table.Cause.{Cause}
 use Rattle.robots_warnings.specs.declared.table.TheConstants.{WARNINGS}
 use Rattle.robots_warnings.specs.Table.{number_of}
-use Rattle.robots_warnings.specs.Steps.{IsRowAt, Row}
+use Rattle.robots_warnings.specs.Internal.{IsRowAt, Row}
 
 -- what a row has at its place among what all rows have
 at_place : {X : Type 0} (part : Row → X) (rows : List Row) (at : ℕ) (row : Row) (other : X)

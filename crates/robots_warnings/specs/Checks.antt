@@ -2,10 +2,10 @@
 use Rattle.std.specs.Prelude.{ℕ, Bool, true, false, List, [], ◌∷◌, ◌++◌, Option, None, Some, if◌then◌else◌}
 use Rattle.std.specs.Prelude.{nat_lt, not, ◌&&◌}
 use Rattle.std.specs.Str.{is_utf8}
-use Rattle.texting_robots.specs.Callers.{Allow, CrawlDelay, Disallow, LineValue, Mark, Raw, Sitemap}
+use Rattle.texting_robots.specs.Callers.{Allow, CrawlDelay, Disallow, LineValue, Label, Raw, Sitemap}
 use Rattle.texting_robots.specs.Callers.{UserAgent}
 use Rattle.robots_warnings.specs.declared.facts.FileFacts.{FileFacts}
-use Rattle.robots_warnings.specs.declared.positions.Passed.{Passed}
+use Rattle.robots_warnings.specs.declared.positions.Preceding.{Preceding}
 use Rattle.robots_warnings.specs.declared.table.Cause.{Cause}
 use Rattle.robots_warnings.specs.declared.table.Cause.TheVariants as cause
 use Rattle.robots_warnings.specs.FieldNames.{is_misspelled, is_without_colon, meant_by}
@@ -85,11 +85,11 @@ abbrev pub sitemap_checks : List ℕ → List Check
 sitemap_checks value = (cause.SitemapNotAbsolute, not (is_absolute_url value)) ∷ []
 
 -- a line, by the number of the last rule or delay and by what is above the line
-abbrev pub position_checks : Option ℕ → Passed → Mark → List Check
-position_checks last passed mark =
-    (cause.RuleBeforeUserAgent, is_above_agents mark)
-    ∷ (cause.EmptyGroup, is_empty_group last mark)
-    ∷ (cause.DelaySplitsGroup, is_split passed mark)
+abbrev pub position_checks : Option ℕ → Preceding → Label → List Check
+position_checks last preceding label =
+    (cause.RuleBeforeUserAgent, is_above_agents label)
+    ∷ (cause.EmptyGroup, is_empty_group last label)
+    ∷ (cause.DelaySplitsGroup, is_split preceding label)
     ∷ []
 
 -- ---- a line

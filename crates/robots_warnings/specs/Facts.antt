@@ -2,7 +2,7 @@
 use Rattle.std.specs.Prelude.{ℕ, ◌==◌, Bool, true, false, nat_eq, nat_le, nat_lt, not, ◌||◌}
 use Rattle.std.specs.Prelude.{◌&&◌, List, [], ◌∷◌, codes, length, take}
 use Rattle.std.specs.List.{list_any, starts_with}
-use Rattle.texting_robots.specs.Callers.{Allow, CrawlDelay, Disallow, LineValue, Mark, Raw, Sitemap}
+use Rattle.texting_robots.specs.Callers.{Allow, CrawlDelay, Disallow, LineValue, Label, Raw, Sitemap}
 use Rattle.texting_robots.specs.Callers.{file_limit}
 use Rattle.texting_robots.specs.Group.{is_agent}
 use Rattle.robots_warnings.specs.declared.facts.FileFacts.{FileFacts}
@@ -76,9 +76,9 @@ facts_by file kinds = record {
 }
 
 -- by its bytes and its lines
-abbrev pub facts_of : List ℕ → List Mark → FileFacts
-facts_of file marks = facts_by file (kinds_of (lines_of marks))
+abbrev pub facts_of : List ℕ → List Label → FileFacts
+facts_of file labels = facts_by file (kinds_of (lines_of labels))
 
 -- the file seems to be something else, so that each of its lines would be warned of
-abbrev pub hides_lines : FileFacts → Bool
-hides_lines facts = facts.is_html || facts.is_utf_16
+abbrev pub suppresses_line_warnings : FileFacts → Bool
+suppresses_line_warnings facts = facts.is_html || facts.is_utf_16

@@ -6,7 +6,7 @@ use Rattle.std.specs.List.{before_first, list_any}
 use Rattle.std.specs.Option.{option_or}
 use Rattle.std.specs.Str.{byte, str_to_ascii_lowercase}
 use Rattle.strsim.specs.Edits.{levenshtein_row}
-use Rattle.texting_robots.specs.Statement.{spellings}
+use Rattle.texting_robots.specs.Statement.{field_names}
 use Rattle.texting_robots.specs.declared.parser.statement.Kind.{Kind}
 use Rattle.texting_robots.specs.declared.parser.statement.Kind.TheVariants as kind
 use Rattle.robots_warnings.specs.File.{space, tab}
@@ -49,7 +49,7 @@ begins_with name word = is_name name (take (length name) word)
 
 -- the word is one of the accepted names of this kind of directive
 abbrev pub is_accepted : Kind → List ℕ → Bool
-is_accepted kind word = list_any (bytes_eq (str_to_ascii_lowercase word)) (spellings kind)
+is_accepted kind word = list_any (bytes_eq (str_to_ascii_lowercase word)) (field_names kind)
 
 -- the lengths differ by two at most
 abbrev pub is_as_long : List ℕ → List ℕ → Bool

@@ -1,6 +1,6 @@
 -- The lines of a file, of the bytes that count.
 use Rattle.std.specs.Prelude.{ℕ, ◌==◌, Bool, true, ◌||◌, ◌&&◌, List, [], ◌∷◌, map}
-use Rattle.texting_robots.specs.Callers.{LineValue, Mark, group_name, marks_of}
+use Rattle.texting_robots.specs.Callers.{LineValue, Label, group_name, labels_of}
 
 abbrev pub space : ℕ
 space = 32
@@ -17,9 +17,9 @@ is_blank [] = true
 is_blank (byte ∷ body) = byte == hash || ((byte == space || byte == tab) && is_blank body)
 
 -- the marks for an agent
-abbrev pub marks_for : List ℕ → List LineValue → List Mark
-marks_for agent lines = marks_of (group_name agent lines) lines
+abbrev pub labels_for : List ℕ → List LineValue → List Label
+labels_for agent lines = labels_of (group_name agent lines) lines
 
 -- the lines of the marks
-abbrev pub lines_of : List Mark → List LineValue
-lines_of marks = map (λ (mark : Mark). mark.line) marks
+abbrev pub lines_of : List Label → List LineValue
+lines_of labels = map (λ (label : Label). label.line) labels

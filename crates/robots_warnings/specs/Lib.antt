@@ -7,8 +7,8 @@ pub mod FieldNames
 pub mod Rules
 pub mod Positions
 pub mod Checks
-pub mod BothWays
-pub mod NamesBeyond
+pub mod Conflicts
+pub mod NamesPastLimit
 pub mod Scopes
 pub mod Warnings
-pub mod Steps
+pub mod Internal

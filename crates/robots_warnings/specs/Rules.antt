@@ -18,8 +18,8 @@ abbrev pub before_byte : ℕ → List ℕ → List ℕ
 before_byte b text = before_first (λ c. c == b) text
 
 -- what is after the first such byte, or nothing if there is none
-abbrev pub behind_byte : ℕ → List ℕ → List ℕ
-behind_byte b text = after_first (λ c. c == b) text
+abbrev pub after_byte : ℕ → List ℕ → List ℕ
+after_byte b text = after_first (λ c. c == b) text
 
 -- the test holds of the text from some byte on
 abbrev pub somewhere : (List ℕ → Bool) → List ℕ → Bool
@@ -37,8 +37,8 @@ begins_oddly (b ∷ value) = not (b == byte "/" || b == byte "*")
 
 -- a byte that, inside a rule, a URL of a site has otherwise: escaped in only one of the two, taken for `/`,
 -- or taken out
-abbrev pub is_spelled_otherwise : Bool → ℕ → Bool
-is_spelled_otherwise in_query b =
+abbrev pub is_written_otherwise : Bool → ℕ → Bool
+is_written_otherwise in_query b =
     if in_query then (b == byte "\t" || (b == byte "'" || b == byte "`"))
     else (b == byte "\t" || (b == byte "\\" || (b == byte "^" || (b == byte "{" || b == byte "}"))))
 
@@ -47,7 +47,7 @@ is_spelled_otherwise in_query b =
 abbrev pub holds_otherwise : Bool → List ℕ → Bool
 holds_otherwise in_query [] = false
 holds_otherwise in_query (b ∷ value) =
-    is_spelled_otherwise in_query b || holds_otherwise (in_query || b == byte "?") value
+    is_written_otherwise in_query b || holds_otherwise (in_query || b == byte "?") value
 
 -- ---- quotes
 
@@ -68,7 +68,7 @@ has_odd_start value = begins_oddly value && not (begins_as_url value || is_quote
 
 -- a choice, as `(a|b)`: a `)` after a `|` after a `(`
 abbrev pub has_choice : List ℕ → Bool
-has_choice value = has (byte ")") (behind_byte (byte "|") (behind_byte (byte "(") value))
+has_choice value = has (byte ")") (after_byte (byte "|") (after_byte (byte "(") value))
 
 -- it begins with a range, as `[0-9]` does
 abbrev pub begins_range : List ℕ → Bool
@@ -93,7 +93,7 @@ is_expression value =
 -- something other than stars and `$` is after its first `$`
 abbrev pub has_dollar_inside : List ℕ → Bool
 has_dollar_inside value =
-    list_any (λ b. not (b == byte "*" || b == byte "$")) (behind_byte (byte "$") value)
+    list_any (λ b. not (b == byte "*" || b == byte "$")) (after_byte (byte "$") value)
 
 -- ---- escapes
 

@@ -1,10 +1,10 @@
 -- Whom a rule is for.
 use Rattle.std.specs.Prelude.{ℕ, Bool, true, false, ◌||◌, List, [], ◌∷◌, ◌++◌}
 use Rattle.std.specs.Prelude.{if◌then◌else◌}
-use Rattle.texting_robots.specs.Callers.{Allow, CrawlDelay, Disallow, LineValue, Mark, Raw, Sitemap}
+use Rattle.texting_robots.specs.Callers.{Allow, CrawlDelay, Disallow, LineValue, Label, Raw, Sitemap}
 use Rattle.texting_robots.specs.Callers.{UserAgent, is_own}
 use Rattle.robots_warnings.specs.declared.scopes.Run.{Run}
-use Rattle.robots_warnings.specs.BothWays.{Scoped}
+use Rattle.robots_warnings.specs.Conflicts.{Scoped}
 
 -- the run of user-agent lines after a line, by the run before it: the number of its first line, and whether
 -- the next user-agent line belongs to it
@@ -28,20 +28,20 @@ rule_if is_asked scope number is_allow value =
     else []
 
 -- the rule of a line, if it has one that is asked about: everywhere each, else those of the agent
-abbrev pub rule_of : Bool → Run → Mark → List Scoped
-rule_of everywhere run mark = of_value (everywhere || is_own mark.standing) mark.line
+abbrev pub rule_of : Bool → Run → Label → List Scoped
+rule_of everywhere run label = of_value (everywhere || is_own label.membership) label.line
   where
     of_value : Bool → LineValue → List Scoped
-    of_value is_asked (Allow value) = rule_if is_asked (scope_in everywhere run) mark.number true value
-    of_value is_asked (Disallow value) = rule_if is_asked (scope_in everywhere run) mark.number false value
+    of_value is_asked (Allow value) = rule_if is_asked (scope_in everywhere run) label.number true value
+    of_value is_asked (Disallow value) = rule_if is_asked (scope_in everywhere run) label.number false value
     of_value is_asked _ = []
 
 -- those of lines, by the run before them
-abbrev pub rules_from : Bool → Run → List Mark → List Scoped
+abbrev pub rules_from : Bool → Run → List Label → List Scoped
 rules_from everywhere run [] = []
-rules_from everywhere run (mark ∷ marks) =
-    rule_of everywhere run mark ++ rules_from everywhere (run_with run mark.number mark.line) marks
+rules_from everywhere run (label ∷ labels) =
+    rule_of everywhere run label ++ rules_from everywhere (run_with run label.number label.line) labels
 
 -- those of all lines
-abbrev pub scoped_rules : Bool → List Mark → List Scoped
-scoped_rules everywhere marks = rules_from everywhere (record { first = 0; is_open = false }) marks
+abbrev pub scoped_rules : Bool → List Label → List Scoped
+scoped_rules everywhere labels = rules_from everywhere (record { first = 0; is_open = false }) labels

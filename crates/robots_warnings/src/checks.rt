@@ -1,12 +1,12 @@
 //! The condition of each warning, grouped by what it inspects, in the order of output.
 ghost use Rattle.std.specs.Prelude.{◌≡◌, IfOk};
-ghost use Rattle.texting_robots.specs.Callers.{mark_by_value};
+ghost use Rattle.texting_robots.specs.Callers.{label_by_value};
 ghost use Rattle.robots_warnings.specs.Checks.{agent_checks, delay_checks, field_checks, file_checks, ignored_checks};
 ghost use Rattle.robots_warnings.specs.Checks.{position_checks, rule_checks, sitemap_checks, url_checks, user_agent_checks};
 
 use crate::facts::FileFacts;
 use crate::field_names::{is_misspelled, is_without_colon, meant_by};
-use crate::positions::{Passed, is_above_agents, is_empty_group, is_split};
+use crate::positions::{Preceding, is_above_agents, is_empty_group, is_split};
 use crate::rules::{
     has_dollar_inside, has_dot_segment, has_odd_escape, has_odd_start, holds_otherwise,
     is_expression, is_quoted, is_utf8,
@@ -15,7 +15,7 @@ use crate::table::Cause;
 use crate::tokens::{has_slash, has_space_around, is_product_token};
 use crate::urls::{begins_as_url, is_absolute_url, is_invalid_url, is_url_or_path};
 use std::alloc::{AllocError, Global};
-use texting_robots::marks::MarkedLine;
+use texting_robots::labels::LabeledLine;
 
 /// A warning, and whether it is given.
 pub(crate) type Check = (Cause, bool);
@@ -117,14 +117,14 @@ pub(crate) fn sitemap_checks(alloc: Global, value: &[u8]) -> Result<[Check; 1], 
 /// Those of a line, by the number of the last rule or delay and by what is above the line.
 pub(crate) fn position_checks(
     last: Option<usize>,
-    passed: Passed,
-    marked: &MarkedLine<'_>,
+    preceding: Preceding,
+    labeled: &LabeledLine<'_>,
 ) -> [Check; 3]
-    ensures { result ≡ position_checks last passed (mark_by_value marked.now) }
+    ensures { result ≡ position_checks last preceding (label_by_value labeled.now) }
 {
     [
-        (Cause::RuleBeforeUserAgent, is_above_agents(marked)),
-        (Cause::EmptyGroup, is_empty_group(last, marked)),
-        (Cause::DelaySplitsGroup, is_split(passed, marked)),
+        (Cause::RuleBeforeUserAgent, is_above_agents(labeled)),
+        (Cause::EmptyGroup, is_empty_group(last, labeled)),
+        (Cause::DelaySplitsGroup, is_split(preceding, labeled)),
     ]
 }

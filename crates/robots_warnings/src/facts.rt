@@ -1,13 +1,13 @@
 //! What is found out about a whole file, once.
 ghost use Rattle.std.specs.Prelude.{◌≡◌, ◌==◌, ◌||◌, map, not, take};
-ghost use Rattle.texting_robots.specs.Callers.{by_value, mark_by_value};
-ghost use Rattle.robots_warnings.specs.Facts.{facts_by, facts_of, has_text, hides_lines, is_too_large, is_unknown};
+ghost use Rattle.texting_robots.specs.Callers.{by_value, label_by_value};
+ghost use Rattle.robots_warnings.specs.Facts.{facts_by, facts_of, has_text, suppresses_line_warnings, is_too_large, is_unknown};
 ghost use Rattle.robots_warnings.specs.Facts.{kinds_of, nul_at_every_other, seems_html, seems_utf_16};
 ghost use Rattle.robots_warnings.specs.File.{lines_of};
-ghost use Rattle.robots_warnings.specs.Steps.{kinds_with};
+ghost use Rattle.robots_warnings.specs.Internal.{kinds_with};
 
 use crate::file::is_blank;
-use texting_robots::marks::MarkedLine;
+use texting_robots::labels::LabeledLine;
 use texting_robots::parser::Line;
 use texting_robots::robot::FILE_LIMIT;
 
@@ -65,8 +65,8 @@ fn kinds_with(kinds: LineKinds, line: Line<'_>) -> LineKinds
 
 /// The kinds of lines.
 #[tactic(auto, using(crate::proofs::FactLemmas::kinds_next))]
-fn kinds_of(marks: &[MarkedLine<'_>]) -> LineKinds
-    ensures { result ≡ kinds_of (lines_of (map mark_by_value marks.now)) }
+fn kinds_of(labels: &[LabeledLine<'_>]) -> LineKinds
+    ensures { result ≡ kinds_of (lines_of (map label_by_value labels.now)) }
 {
     let mut kinds = LineKinds {
         text: false,
@@ -74,8 +74,8 @@ fn kinds_of(marks: &[MarkedLine<'_>]) -> LineKinds
         rule: false,
         extra: false,
     };
-    for marked in marks {
-        kinds = kinds_with(kinds, marked.line);
+    for labeled in labels {
+        kinds = kinds_with(kinds, labeled.line);
     }
     kinds
 }
@@ -157,15 +157,15 @@ fn facts_by(file: &[u8], kinds: LineKinds) -> FileFacts
 }
 
 /// What is found out about a file with these lines.
-pub fn facts_of(file: &[u8], marks: &[MarkedLine<'_>]) -> FileFacts
-    ensures { result ≡ facts_of file.now (map mark_by_value marks.now) }
+pub fn facts_of(file: &[u8], labels: &[LabeledLine<'_>]) -> FileFacts
+    ensures { result ≡ facts_of file.now (map label_by_value labels.now) }
 {
-    facts_by(file, kinds_of(marks))
+    facts_by(file, kinds_of(labels))
 }
 
 /// Whether the file seems to be something else, so that each of its lines would be warned of.
-pub(crate) fn hides_lines(facts: FileFacts) -> bool
-    ensures { result ≡ hides_lines facts }
+pub(crate) fn suppresses_line_warnings(facts: FileFacts) -> bool
+    ensures { result ≡ suppresses_line_warnings facts }
 {
     facts.is_html || facts.is_utf_16
 }

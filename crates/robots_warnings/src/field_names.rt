@@ -4,13 +4,13 @@ ghost use Rattle.std.specs.List.{list_any, position_or_len};
 ghost use Rattle.robots_warnings.specs.FieldNames.{begins_with, directive_in, first_that, first_word, is_accepted, is_either, is_any_accepted, is_misspelled, is_name};
 ghost use Rattle.robots_warnings.specs.FieldNames.{is_near, is_space_or_tab, is_without_colon, may_either_mean, may_mean};
 ghost use Rattle.robots_warnings.specs.FieldNames.{meant_among, meant_by, name_in, without_end, without_front};
-ghost use Rattle.robots_warnings.specs.Steps.{name_value};
+ghost use Rattle.robots_warnings.specs.Internal.{name_value};
 
 use crate::rules::before_byte;
 use crate::table::Cause;
 use std::alloc::{AllocError, Global};
 use strsim::generic_levenshtein;
-use texting_robots::parser::{Kind, spellings};
+use texting_robots::parser::{Kind, field_names};
 
 /// The usual names of directives, in the order in which they are looked for, and the warning where one may be meant.
 const DIRECTIVES: [(&str, Cause); 5] = [
@@ -117,7 +117,7 @@ fn begins_with(name: &str, word: &[u8]) -> bool
 fn is_accepted(kind: Kind, word: &[u8]) -> bool
     ensures { result ≡ is_accepted kind word.now }
 {
-    for spelling in spellings(kind) {
+    for spelling in field_names(kind) {
         if is_name(spelling, word) {
             return true;
         }

@@ -1,10 +1,10 @@
 //! The lines of a file, of the bytes that count.
 ghost use Rattle.std.specs.Prelude.{◌≡◌, IfOk, map, take};
-ghost use Rattle.texting_robots.specs.Callers.{file_limit, lines_read, mark_by_value};
-ghost use Rattle.robots_warnings.specs.File.{is_blank, marks_for};
+ghost use Rattle.texting_robots.specs.Callers.{file_limit, lines_read, label_by_value};
+ghost use Rattle.robots_warnings.specs.File.{is_blank, labels_for};
 
 use std::alloc::{AllocError, Global};
-use texting_robots::marks::{MarkedLine, marked_lines};
+use texting_robots::labels::{LabeledLine, labeled_lines};
 use texting_robots::robot::FILE_LIMIT;
 
 /// The first bytes of a file, as many as a robot reads.
@@ -23,18 +23,18 @@ fn most_lines(file: &[u8]) -> usize {
 }
 
 /// The lines of a file, each with its number and its standing for the crawler.
-pub fn marks_for<'a>(
+pub fn labels_for<'a>(
     alloc: Global,
     agent: &str,
     file: &'a [u8],
-) -> Result<Vec<MarkedLine<'a>>, AllocError>
-    ensures { IfOk result (λ marks. map mark_by_value marks.items ≡ marks_for agent.now (lines_read file.now)) }
+) -> Result<Vec<LabeledLine<'a>>, AllocError>
+    ensures { IfOk result (λ labels. map label_by_value labels.items ≡ labels_for agent.now (lines_read file.now)) }
 {
-    let mut marks = Vec::with_capacity(alloc, most_lines(file))?;
-    for marked in marked_lines(agent, counted(file)) {
-        marks.push(marked)?;
+    let mut labels = Vec::with_capacity(alloc, most_lines(file))?;
+    for labeled in labeled_lines(agent, counted(file)) {
+        labels.push(labeled)?;
     }
-    Ok(marks)
+    Ok(labels)
 }
 
 /// Whether a body is nothing but blanks, or blanks and a comment.

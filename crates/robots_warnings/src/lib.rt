@@ -2,13 +2,13 @@
 //! name, the number of its line, and a text that says what to write.
 #![tactic(auto)]
 
-mod both_ways;
 pub mod checks;
+mod conflicts;
 pub mod facts;
 pub mod field_names;
 pub mod file;
 pub mod names;
-mod names_beyond;
+mod names_past_limit;
 pub mod positions;
 pub mod rules;
 mod scopes;

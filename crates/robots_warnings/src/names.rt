@@ -1,6 +1,6 @@
 //! Sets of names, ASCII letters in any case.
 ghost use Rattle.std.specs.Prelude.{IfOk};
-ghost use Rattle.robots_warnings.specs.Steps.Names.{AddsName};
+ghost use Rattle.robots_warnings.specs.Internal.Names.{AddsName};
 
 use std::alloc::{AllocError, Global};
 use std::collections::BTreeSet;

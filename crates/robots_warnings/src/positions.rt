@@ -1,15 +1,15 @@
 //! Where lines are among others.
 ghost use Rattle.std.specs.Prelude.{◌≡◌, map};
-ghost use Rattle.texting_robots.specs.Callers.{by_value, mark_by_value};
+ghost use Rattle.texting_robots.specs.Callers.{by_value, label_by_value};
 ghost use Rattle.robots_warnings.specs.Positions.{group_number, is_above_agents, is_after, is_empty_group, is_split};
-ghost use Rattle.robots_warnings.specs.Positions.{last_group, passed_with};
+ghost use Rattle.robots_warnings.specs.Positions.{last_group, preceding_with};
 
-use texting_robots::marks::{MarkedLine, Standing};
+use texting_robots::labels::{LabeledLine, Membership};
 use texting_robots::parser::Line;
 
 /// What is above a line, as far as it matters to a user-agent line there.
 #[derive(Clone, Copy, PartialEq, Eq)]
-pub enum Passed {
+pub enum Preceding {
     /// Neither of the other two.
     Other,
     /// A user-agent line, with neither a rule nor a delay after it.
@@ -19,38 +19,38 @@ pub enum Passed {
 }
 
 /// What is above the next line, by this line and what is above it.
-pub(crate) fn passed_with(passed: Passed, line: Line<'_>) -> Passed
-    ensures { result ≡ passed_with passed (by_value line.entry) }
+pub(crate) fn preceding_with(preceding: Preceding, line: Line<'_>) -> Preceding
+    ensures { result ≡ preceding_with preceding (by_value line.entry) }
 {
     match line {
-        Line::UserAgent(_) => Passed::Agent,
-        Line::Allow(_) | Line::Disallow(_) => Passed::Other,
-        Line::CrawlDelay(_) => match passed {
-            Passed::Other => Passed::Other,
-            Passed::Agent | Passed::Delay => Passed::Delay,
+        Line::UserAgent(_) => Preceding::Agent,
+        Line::Allow(_) | Line::Disallow(_) => Preceding::Other,
+        Line::CrawlDelay(_) => match preceding {
+            Preceding::Other => Preceding::Other,
+            Preceding::Agent | Preceding::Delay => Preceding::Delay,
         },
-        Line::Sitemap(_) | Line::Raw(_) => passed,
+        Line::Sitemap(_) | Line::Raw(_) => preceding,
     }
 }
 
 /// The number of the line, if it is a rule or a delay.
-fn group_number(marked: &MarkedLine<'_>) -> Option<usize>
-    ensures { result ≡ group_number (mark_by_value marked.now) }
+fn group_number(labeled: &LabeledLine<'_>) -> Option<usize>
+    ensures { result ≡ group_number (label_by_value labeled.now) }
 {
-    match marked.line {
-        Line::Allow(_) | Line::Disallow(_) | Line::CrawlDelay(_) => Some(marked.number),
+    match labeled.line {
+        Line::Allow(_) | Line::Disallow(_) | Line::CrawlDelay(_) => Some(labeled.number),
         Line::UserAgent(_) | Line::Sitemap(_) | Line::Raw(_) => None,
     }
 }
 
 /// The number of the last rule or delay.
 #[tactic(auto, using(crate::proofs::PositionLemmas::last_from))]
-pub(crate) fn last_group(marks: &[MarkedLine<'_>]) -> Option<usize>
-    ensures { result ≡ last_group (map mark_by_value marks.now) }
+pub(crate) fn last_group(labels: &[LabeledLine<'_>]) -> Option<usize>
+    ensures { result ≡ last_group (map label_by_value labels.now) }
 {
     let mut last = None;
-    for marked in marks {
-        last = group_number(marked).or(last);
+    for labeled in labels {
+        last = group_number(labeled).or(last);
     }
     last
 }
@@ -66,23 +66,23 @@ fn is_after(last: Option<usize>, number: usize) -> bool
 }
 
 /// Whether the line is a rule in no group.
-pub(crate) fn is_above_agents(marked: &MarkedLine<'_>) -> bool
-    ensures { result ≡ is_above_agents (mark_by_value marked.now) }
+pub(crate) fn is_above_agents(labeled: &LabeledLine<'_>) -> bool
+    ensures { result ≡ is_above_agents (label_by_value labeled.now) }
 {
-    matches!(marked.line, Line::Allow(_) | Line::Disallow(_))
-        && marked.standing == Standing::Outside
+    matches!(labeled.line, Line::Allow(_) | Line::Disallow(_))
+        && labeled.membership == Membership::Ungrouped
 }
 
 /// Whether the line is a user-agent line after the last rule or delay.
-pub(crate) fn is_empty_group(last: Option<usize>, marked: &MarkedLine<'_>) -> bool
-    ensures { result ≡ is_empty_group last (mark_by_value marked.now) }
+pub(crate) fn is_empty_group(last: Option<usize>, labeled: &LabeledLine<'_>) -> bool
+    ensures { result ≡ is_empty_group last (label_by_value labeled.now) }
 {
-    matches!(marked.line, Line::UserAgent(_)) && is_after(last, marked.number)
+    matches!(labeled.line, Line::UserAgent(_)) && is_after(last, labeled.number)
 }
 
 /// Whether the line is a user-agent line that delays split from one above it.
-pub(crate) fn is_split(passed: Passed, marked: &MarkedLine<'_>) -> bool
-    ensures { result ≡ is_split passed (mark_by_value marked.now) }
+pub(crate) fn is_split(preceding: Preceding, labeled: &LabeledLine<'_>) -> bool
+    ensures { result ≡ is_split preceding (label_by_value labeled.now) }
 {
-    matches!(marked.line, Line::UserAgent(_)) && passed == Passed::Delay
+    matches!(labeled.line, Line::UserAgent(_)) && preceding == Preceding::Delay
 }

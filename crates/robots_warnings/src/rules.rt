@@ -6,9 +6,9 @@ ghost use Rattle.std.specs.List.{position_or_len};
 ghost use Rattle.std.specs.Str.{is_utf8};
 ghost use Rattle.robots_warnings.specs.Rules.{are_odd_digits, before_byte, begins_class};
 ghost use Rattle.robots_warnings.specs.Rules.{begins_dot_segment, begins_odd_escape};
-ghost use Rattle.robots_warnings.specs.Rules.{begins_oddly, begins_range, begins_sign, behind_byte, has};
+ghost use Rattle.robots_warnings.specs.Rules.{begins_oddly, begins_range, begins_sign, after_byte, has};
 ghost use Rattle.robots_warnings.specs.Rules.{has_choice, has_dollar_inside, has_dot_segment, has_odd_start, holds_otherwise};
-ghost use Rattle.robots_warnings.specs.Rules.{is_expression, is_quoted, is_spelled_otherwise, needs_no_escape};
+ghost use Rattle.robots_warnings.specs.Rules.{is_expression, is_quoted, is_written_otherwise, needs_no_escape};
 ghost use Rattle.robots_warnings.specs.Rules.{somewhere};
 
 use crate::urls::begins_as_url;
@@ -36,11 +36,11 @@ pub(crate) fn before_byte(byte: u8, text: &[u8]) -> &[u8]
 }
 
 /// What is after the first such byte, or nothing if there is none.
-fn behind_byte(byte: u8, text: &[u8]) -> &[u8]
-    ensures { result.now ≡ behind_byte byte text.now }
+fn after_byte(byte: u8, text: &[u8]) -> &[u8]
+    ensures { result.now ≡ after_byte byte text.now }
 {
     match &text[place(byte, text)..] {
-        [_, behind @ ..] => behind,
+        [_, after @ ..] => after,
         [] => &[],
     }
 }
@@ -53,11 +53,11 @@ fn somewhere<F: Fn(&[u8]) -> bool>(text: &[u8], test: F) -> bool
         → result ≡ somewhere p text.now }
 {
     let mut rest = text;
-    while let [_, behind @ ..] = rest {
+    while let [_, after @ ..] = rest {
         if test(rest) {
             return true;
         }
-        rest = behind;
+        rest = after;
     }
     false
 }
@@ -80,8 +80,8 @@ fn begins_oddly(value: &[u8]) -> bool
 }
 
 /// Whether a whole URL has the byte otherwise than a rule, in its query or in its path.
-fn is_spelled_otherwise(in_query: bool, byte: u8) -> bool
-    ensures { result ≡ is_spelled_otherwise in_query byte }
+fn is_written_otherwise(in_query: bool, byte: u8) -> bool
+    ensures { result ≡ is_written_otherwise in_query byte }
 {
     if in_query {
         matches!(byte, b'\t' | b'\'' | b'`')
@@ -97,7 +97,7 @@ pub(crate) fn holds_otherwise(value: &[u8]) -> bool
 {
     let mut in_query = false;
     for byte in value {
-        if is_spelled_otherwise(in_query, *byte) {
+        if is_written_otherwise(in_query, *byte) {
             return true;
         }
         in_query = in_query || *byte == b'?';
@@ -116,7 +116,7 @@ pub(crate) fn is_quoted(value: &[u8]) -> bool
 fn has_choice(value: &[u8]) -> bool
     ensures { result ≡ has_choice value.now }
 {
-    has(b')', behind_byte(b'|', behind_byte(b'(', value)))
+    has(b')', after_byte(b'|', after_byte(b'(', value)))
 }
 
 /// Whether the text begins with a range, as `[0-9]` does.
@@ -154,7 +154,7 @@ pub(crate) fn is_expression(value: &[u8]) -> bool
 pub(crate) fn has_dollar_inside(value: &[u8]) -> bool
     ensures { result ≡ has_dollar_inside value.now }
 {
-    behind_byte(b'$', value)
+    after_byte(b'$', value)
         .iter()
         .any(|byte| !(*byte == b'*' || *byte == b'$'))
 }

@@ -1,12 +1,12 @@
 //! Whom a rule is for.
 ghost use Rattle.std.specs.Prelude.{◌≡◌, ◌++◌, IfOk, OnOk, map};
-ghost use Rattle.texting_robots.specs.Callers.{by_value, mark_by_value};
-ghost use Rattle.robots_warnings.specs.BothWays.{scoped_by_value};
+ghost use Rattle.texting_robots.specs.Callers.{by_value, label_by_value};
+ghost use Rattle.robots_warnings.specs.Conflicts.{scoped_by_value};
 ghost use Rattle.robots_warnings.specs.Scopes.{rule_of, run_with, scope_in, scoped_rules};
 
-use crate::both_ways::ScopedRule;
+use crate::conflicts::ScopedRule;
 use std::alloc::{AllocError, Global};
-use texting_robots::marks::{MarkedLine, Standing};
+use texting_robots::labels::{LabeledLine, Membership};
 use texting_robots::parser::Line;
 
 /// A run of user-agent lines, one after the other, which name whom the rules below are for.
@@ -48,22 +48,22 @@ fn add_rule<'a>(
     rules: &mut Vec<ScopedRule<'a>>,
     everywhere: bool,
     run: Run,
-    marked: &MarkedLine<'a>,
+    labeled: &LabeledLine<'a>,
 ) -> Result<(), AllocError>
     ensures { OnOk result (map scoped_by_value rules.new.items
-        ≡ map scoped_by_value rules.old.items ++ rule_of everywhere run (mark_by_value marked.now)) }
+        ≡ map scoped_by_value rules.old.items ++ rule_of everywhere run (label_by_value labeled.now)) }
 {
-    if !everywhere && marked.standing != Standing::Own {
+    if !everywhere && labeled.membership != Membership::Own {
         return Ok(());
     }
-    let (is_allow, value) = match marked.line {
+    let (is_allow, value) = match labeled.line {
         Line::Allow(value) => (true, value),
         Line::Disallow(value) => (false, value),
         _ => return Ok(()),
     };
     Ok(rules.push(ScopedRule {
         scope: scope_in(everywhere, run),
-        number: marked.number,
+        number: labeled.number,
         is_allow,
         value,
     })?)
@@ -73,19 +73,19 @@ fn add_rule<'a>(
 pub(crate) fn scoped_rules<'a>(
     alloc: Global,
     everywhere: bool,
-    marks: &[MarkedLine<'a>],
+    labels: &[LabeledLine<'a>],
 ) -> Result<Vec<ScopedRule<'a>>, AllocError>
     ensures { IfOk result (λ rules. map scoped_by_value rules.items
-        ≡ scoped_rules everywhere (map mark_by_value marks.now)) }
+        ≡ scoped_rules everywhere (map label_by_value labels.now)) }
 {
     let mut rules = Vec::new(alloc);
     let mut run = Run {
         first: 0,
         is_open: false,
     };
-    for marked in marks {
-        add_rule(&mut rules, everywhere, run, marked)?;
-        run = run_with(run, marked.number, marked.line);
+    for labeled in labels {
+        add_rule(&mut rules, everywhere, run, labeled)?;
+        run = run_with(run, labeled.number, labeled.line);
     }
     Ok(rules)
 }

@@ -2,7 +2,7 @@
 //! is wrong, what happens, and what to do. `checks` has the condition of each.
 ghost use Rattle.std.specs.Prelude.{◌≡◌, ◌<◌, bytes_eq, length};
 ghost use Rattle.std.specs.List.{list_any};
-ghost use Rattle.robots_warnings.specs.Steps.{IsRowAt};
+ghost use Rattle.robots_warnings.specs.Internal.{IsRowAt};
 ghost use Rattle.robots_warnings.specs.Table.{is_name, name_of, text_of};
 
 /// Why something is warned of. A row of [`WARNINGS`] explains each.

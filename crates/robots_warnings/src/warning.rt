@@ -1,11 +1,11 @@
 //! A warning, and how it is written.
 ghost use Rattle.std.specs.Prelude.{◌≡◌, ◌++◌, OnOk, option_map, string_bytes};
-ghost use Rattle.robots_warnings.specs.Steps.{warning_value};
+ghost use Rattle.robots_warnings.specs.Internal.{warning_value};
 ghost use Rattle.robots_warnings.specs.Warnings.{about_text, name_text, place_text, warning_line, warning_text};
 
 use crate::table::Cause;
 use robots_io::lines::push_number;
-use robots_io::shown::push_shown;
+use robots_io::sanitize::push_sanitized;
 use std::alloc::AllocError;
 
 /// A warning.
@@ -39,7 +39,7 @@ fn push_about(text: &mut String, about: Option<&str>) -> Result<(), AllocError>
         return Ok(());
     };
     text.push_str("URL '")?;
-    push_shown(text, url.as_bytes())?;
+    push_sanitized(text, url.as_bytes())?;
     text.push_str("': ")
 }
 
@@ -62,7 +62,7 @@ fn push_name(text: &mut String, cause: Cause) -> Result<(), AllocError>
 }
 
 /// Adds the text and the name of a warning.
-fn push_said(text: &mut String, warning: &Warning<'_>) -> Result<(), AllocError>
+fn push_reported(text: &mut String, warning: &Warning<'_>) -> Result<(), AllocError>
     ensures { OnOk result (string_bytes text.new ≡ string_bytes text.old
         ++ (warning_text (warning_value warning.now) ++ name_text warning.now.cause)) }
 {
@@ -77,5 +77,5 @@ pub fn push_warning(text: &mut String, warning: &Warning<'_>) -> Result<(), Allo
         ++ warning_line (warning_value warning.now)) }
 {
     push_place(text, warning.line)?;
-    push_said(text, warning)
+    push_reported(text, warning)
 }

@@ -1,26 +1,26 @@
 //! What is warned of: what is valid but probably isn't what the owner meant.
 ghost use Rattle.std.specs.Prelude.{◌≡◌, ◌++◌, [], IfOk, OnOk, if◌then◌else◌, map, option_map};
-ghost use Rattle.texting_robots.specs.Callers.{bodies_read, by_value, mark_by_value};
+ghost use Rattle.texting_robots.specs.Callers.{bodies_read, by_value, label_by_value};
 ghost use Rattle.robots_warnings.specs.Checks.{field_checks, is_directive, value_checks};
-ghost use Rattle.robots_warnings.specs.Steps.{Adds, warning_value};
+ghost use Rattle.robots_warnings.specs.Internal.{Adds, warning_value};
 ghost use Rattle.robots_warnings.specs.Warnings.{agent_warnings, both_ways_warnings, file_lines_warnings, general_warnings};
-ghost use Rattle.robots_warnings.specs.Warnings.{is_asked_of, is_everywhere, line_warnings, lines_warnings};
+ghost use Rattle.robots_warnings.specs.Warnings.{is_in_scope_of, covers_all_crawlers, line_warnings, lines_warnings};
 ghost use Rattle.robots_warnings.specs.Warnings.{past_limit_warnings, position_warnings, warned, warned_at, warnings};
 
-use crate::both_ways::both_ways;
 use crate::checks::{
     Check, agent_checks, delay_checks, field_checks, file_checks, ignored_checks, position_checks,
     rule_checks, sitemap_checks, url_checks, user_agent_checks,
 };
-use crate::facts::{FileFacts, hides_lines};
+use crate::conflicts::conflicts;
+use crate::facts::{FileFacts, suppresses_line_warnings};
 use crate::file::{counted, is_blank};
-use crate::names_beyond::names_beyond;
-use crate::positions::{Passed, last_group, passed_with};
+use crate::names_past_limit::names_past_limit;
+use crate::positions::{Preceding, last_group, preceding_with};
 use crate::scopes::scoped_rules;
 use crate::table::Cause;
 use crate::warning::Warning;
 use std::alloc::{AllocError, Global};
-use texting_robots::marks::{MarkedLine, Standing};
+use texting_robots::labels::{LabeledLine, Membership};
 use texting_robots::parser::{Line, file_bodies};
 
 /// A list of warnings that grows.
@@ -112,22 +112,22 @@ fn warn_of_value(
 /// Adds the warnings of the field name of a line with this body, if it is a directive.
 fn warn_of_field(
     found: &mut Found<'_>,
-    marked: &MarkedLine<'_>,
+    labeled: &LabeledLine<'_>,
     body: &[u8],
 ) -> Result<(), AllocError>
-    ensures { OnOk result (Adds found.old.items found.new.items (warned (Some marked.now.number) None (if is_directive (by_value marked.now.line) then field_checks body.now else []))) }
+    ensures { OnOk result (Adds found.old.items found.new.items (warned (Some labeled.now.number) None (if is_directive (by_value labeled.now.line) then field_checks body.now else []))) }
 {
-    match marked.line {
+    match labeled.line {
         Line::Raw(_) => Ok(()),
-        _ => warn(found, Some(marked.number), None, &field_checks(body)),
+        _ => warn(found, Some(labeled.number), None, &field_checks(body)),
     }
 }
 
 /// Whether a rule is checked.
-fn is_asked_of(everywhere: bool, standing: Standing) -> bool
-    ensures { result ≡ is_asked_of everywhere standing }
+fn is_in_scope_of(everywhere: bool, membership: Membership) -> bool
+    ensures { result ≡ is_in_scope_of everywhere membership }
 {
-    everywhere || standing == Standing::Own
+    everywhere || membership == Membership::Own
 }
 
 /// Adds the warnings of a line with this body.
@@ -135,14 +135,14 @@ fn warn_of_line(
     alloc: Global,
     found: &mut Found<'_>,
     everywhere: bool,
-    marked: &MarkedLine<'_>,
+    labeled: &LabeledLine<'_>,
     body: &[u8],
 ) -> Result<(), AllocError>
-    ensures { OnOk result (Adds found.old.items found.new.items (line_warnings everywhere (mark_by_value marked.now) body.now)) }
+    ensures { OnOk result (Adds found.old.items found.new.items (line_warnings everywhere (label_by_value labeled.now) body.now)) }
 {
-    warn_of_field(found, marked, body)?;
-    let is_asked = is_asked_of(everywhere, marked.standing);
-    warn_of_value(alloc, found, is_asked, marked.number, marked.line)
+    warn_of_field(found, labeled, body)?;
+    let is_asked = is_in_scope_of(everywhere, labeled.membership);
+    warn_of_value(alloc, found, is_asked, labeled.number, labeled.line)
 }
 
 /// Adds the warnings of the lines of a file, given with their marks.
@@ -150,17 +150,17 @@ fn warn_of_lines(
     alloc: Global,
     found: &mut Found<'_>,
     everywhere: bool,
-    marks: &[MarkedLine<'_>],
+    labels: &[LabeledLine<'_>],
     file: &[u8],
 ) -> Result<(), AllocError>
-    ensures { OnOk result (Adds found.old.items found.new.items (lines_warnings everywhere (bodies_read file.now) (map mark_by_value marks.now))) }
+    ensures { OnOk result (Adds found.old.items found.new.items (lines_warnings everywhere (bodies_read file.now) (map label_by_value labels.now))) }
 {
-    let mut rest = marks;
+    let mut rest = labels;
     for body in file_bodies(counted(file)) {
-        let [marked, after @ ..] = rest else {
+        let [labeled, after @ ..] = rest else {
             return Ok(());
         };
-        warn_of_line(alloc, found, everywhere, marked, body)?;
+        warn_of_line(alloc, found, everywhere, labeled, body)?;
         rest = after;
     }
     Ok(())
@@ -172,27 +172,27 @@ fn warn_of_file_lines(
     found: &mut Found<'_>,
     facts: FileFacts,
     everywhere: bool,
-    marks: &[MarkedLine<'_>],
+    labels: &[LabeledLine<'_>],
     file: &[u8],
 ) -> Result<(), AllocError>
-    ensures { OnOk result (Adds found.old.items found.new.items (file_lines_warnings facts everywhere (map mark_by_value marks.now) (bodies_read file.now))) }
+    ensures { OnOk result (Adds found.old.items found.new.items (file_lines_warnings facts everywhere (map label_by_value labels.now) (bodies_read file.now))) }
 {
-    if hides_lines(facts) {
+    if suppresses_line_warnings(facts) {
         return Ok(());
     }
-    warn_of_lines(alloc, found, everywhere, marks, file)
+    warn_of_lines(alloc, found, everywhere, labels, file)
 }
 
 /// Adds the warnings of where lines are.
-fn warn_of_positions(found: &mut Found<'_>, marks: &[MarkedLine<'_>]) -> Result<(), AllocError>
-    ensures { OnOk result (Adds found.old.items found.new.items (position_warnings (map mark_by_value marks.now))) }
+fn warn_of_positions(found: &mut Found<'_>, labels: &[LabeledLine<'_>]) -> Result<(), AllocError>
+    ensures { OnOk result (Adds found.old.items found.new.items (position_warnings (map label_by_value labels.now))) }
 {
-    let last = last_group(marks);
-    let mut passed = Passed::Other;
-    for marked in marks {
-        let checks = position_checks(last, passed, marked);
-        warn(found, Some(marked.number), None, &checks)?;
-        passed = passed_with(passed, marked.line);
+    let last = last_group(labels);
+    let mut preceding = Preceding::Other;
+    for labeled in labels {
+        let checks = position_checks(last, preceding, labeled);
+        warn(found, Some(labeled.number), None, &checks)?;
+        preceding = preceding_with(preceding, labeled.line);
     }
     Ok(())
 }
@@ -203,14 +203,14 @@ fn warn_past_limit(
     found: &mut Found<'_>,
     facts: FileFacts,
     file: &[u8],
-    marks: &[MarkedLine<'_>],
+    labels: &[LabeledLine<'_>],
 ) -> Result<(), AllocError>
-    ensures { OnOk result (Adds found.old.items found.new.items (past_limit_warnings facts file.now (map mark_by_value marks.now))) }
+    ensures { OnOk result (Adds found.old.items found.new.items (past_limit_warnings facts file.now (map label_by_value labels.now))) }
 {
-    if !facts.is_too_large || hides_lines(facts) {
+    if !facts.is_too_large || suppresses_line_warnings(facts) {
         return Ok(());
     }
-    let numbers = names_beyond(alloc, file, marks)?;
+    let numbers = names_past_limit(alloc, file, labels)?;
     warn_at(found, Cause::GroupPastSizeLimit, &numbers)
 }
 
@@ -219,18 +219,18 @@ fn warn_of_both_ways(
     alloc: Global,
     found: &mut Found<'_>,
     everywhere: bool,
-    marks: &[MarkedLine<'_>],
+    labels: &[LabeledLine<'_>],
 ) -> Result<(), AllocError>
-    ensures { OnOk result (Adds found.old.items found.new.items (both_ways_warnings everywhere (map mark_by_value marks.now))) }
+    ensures { OnOk result (Adds found.old.items found.new.items (both_ways_warnings everywhere (map label_by_value labels.now))) }
 {
-    let rules = scoped_rules(alloc, everywhere, marks)?;
-    let numbers = both_ways(alloc, &rules)?;
+    let rules = scoped_rules(alloc, everywhere, labels)?;
+    let numbers = conflicts(alloc, &rules)?;
     warn_at(found, Cause::AllowedAndDisallowed, &numbers)
 }
 
 /// Whether rules are checked everywhere: where no one crawler is asked about.
-fn is_everywhere(agent: Option<&str>) -> bool
-    ensures { result ≡ is_everywhere (option_map (λ agent. agent.now) agent.entry) }
+fn covers_all_crawlers(agent: Option<&str>) -> bool
+    ensures { result ≡ covers_all_crawlers (option_map (λ agent. agent.now) agent.entry) }
 {
     match agent {
         Some(_) => false,
@@ -245,18 +245,18 @@ pub fn warnings<'a>(
     urls: &[&'a str],
     file: &[u8],
     facts: FileFacts,
-    marks: &[MarkedLine<'_>],
+    labels: &[LabeledLine<'_>],
 ) -> Result<Vec<Warning<'a>>, AllocError>
     ensures { IfOk result (λ found. map warning_value found.items
         ≡ warnings (option_map (λ agent. agent.now) agent.entry) (map (λ url. url.now) urls.now)
-        file.now facts (map mark_by_value marks.now)) }
+        file.now facts (map label_by_value labels.now)) }
 {
-    let everywhere = is_everywhere(agent);
+    let everywhere = covers_all_crawlers(agent);
     let mut found = Vec::new(alloc);
     warn_in_general(alloc, &mut found, facts, agent, urls)?;
-    warn_of_file_lines(alloc, &mut found, facts, everywhere, marks, file)?;
-    warn_of_positions(&mut found, marks)?;
-    warn_past_limit(alloc, &mut found, facts, file, marks)?;
-    warn_of_both_ways(alloc, &mut found, everywhere, marks)?;
+    warn_of_file_lines(alloc, &mut found, facts, everywhere, labels, file)?;
+    warn_of_positions(&mut found, labels)?;
+    warn_past_limit(alloc, &mut found, facts, file, labels)?;
+    warn_of_both_ways(alloc, &mut found, everywhere, labels)?;
     Ok(found)
 }

@@ -7,10 +7,10 @@ use Rattle.std.specs.{List.list_any, Char.to_ascii_lowercase}
 use Rattle.std.proofs.lemmas.{Grind.common_steps, Bool.cases_Bool, Bool.eqb-true, Bool.ne_eqb}
 use Rattle.texting_robots.specs.{Cut.Pair, Cut.cr, Cut.lf, Group.is_agent, Group.is_agent_named}
 use Rattle.texting_robots.specs.Line.{LineValue, UserAgent}
-use Rattle.texting_robots.specs.Steps.Agents.{NoneBegins, is_named_later, may_begin, may_end}
-use Rattle.texting_robots.specs.Steps.Cut.{before_byte, before_end, body_len, end_len, read_as, read_byte}
-use Rattle.texting_robots.specs.Steps.Line.{line_of, lines_of}
-use Rattle.texting_robots.specs.Steps.Statement.{kind_by, kind_with, skip_blanks, space, tab}
+use Rattle.texting_robots.specs.Internal.Agents.{NoneBegins, is_named_later, may_begin, may_end}
+use Rattle.texting_robots.specs.Internal.Cut.{before_byte, before_end, body_len, end_len, read_as, read_byte}
+use Rattle.texting_robots.specs.Internal.Line.{line_of, lines_of}
+use Rattle.texting_robots.specs.Internal.Statement.{kind_by, kind_with, skip_blanks, space, tab}
 use Rattle.texting_robots.proofs.CutLemmas.{byte_cases, cut_cons, pair_of}
 use Rattle.texting_robots.proofs.CutFromFront.{bodies_nil, first_line, next_body}
 use Rattle.texting_robots.proofs.LineLemmas.{agent_or_other, kind_is}

@@ -12,7 +12,7 @@ use Rattle.std.proofs.lemmas.List.Elements.{All-cons, All-contains, All-nil}
 use Rattle.texting_robots.specs.Decision.{IsBetter, IsDecidingRule, IsDecidingLine}
 use Rattle.texting_robots.specs.Pattern.{IsSuffix, Matches, MatchesWith, dollar, star}
 use Rattle.texting_robots.specs.Rules.{PlacedRule, Rule, unplaced}
-use Rattle.texting_robots.specs.{Steps.Entries.rank, Verdict.IsVerdict, Verdict.robots_file}
+use Rattle.texting_robots.specs.{Internal.Entries.rank, Verdict.IsVerdict, Verdict.robots_file}
 use Rattle.texting_robots.proofs.PatternLemmas.{none_left}
 
 -- it holds, or it doesn't
@@ -31,16 +31,16 @@ abbrev at_end : Bool → List ℕ → Bool
 at_end passes [] = passes
 at_end passes (x ∷ t) = false
 
-abbrev behind : ℕ → (List ℕ → Bool) → List ℕ → Bool
-behind b test [] = false
-behind b test (x ∷ t) = (x == b) && test t
+abbrev following : ℕ → (List ℕ → Bool) → List ℕ → Bool
+following b test [] = false
+following b test (x ∷ t) = (x == b) && test t
 
 -- whether the pattern matches the text, computed
 abbrev pub matches : Bool → List ℕ → List ℕ → Bool
 matches anchors [] t = true
 matches anchors (b ∷ q) t =
     cond (b == star) (some_end (matches anchors q) t)
-    (cond (anchors && (b == dollar)) (at_end (matches anchors q []) t) (behind b (matches anchors q) t))
+    (cond (anchors && (b == dollar)) (at_end (matches anchors q []) t) (following b (matches anchors q) t))
 
 module _ (P : List ℕ → Type 0) (test : List ℕ → Bool)
     (each : (t : List ℕ) → Decides (test t) (P t)) where
@@ -66,10 +66,10 @@ module _ (P : List ℕ → Type 0) (test : List ℕ → Bool)
       (λ (s, (none, empty), is). subst P empty is) (each [])
   at_end_decides (x ∷ t) = (λ is. cc, λ (s, (none, empty), is). cc)
 
-  behind_decides : (b : ℕ) (t : List ℕ)
-      → Decides (behind b test t) ((s : List ℕ) × (t ≡ b ∷ s) × P s)
-  behind_decides b [] = (λ is. cc, λ (s, none, is). cc)
-  behind_decides b (x ∷ t) = Decides-like _ (λ (same, is). (t, ap (λ y. y ∷ t) same, is))
+  after_decides : (b : ℕ) (t : List ℕ)
+      → Decides (following b test t) ((s : List ℕ) × (t ≡ b ∷ s) × P s)
+  after_decides b [] = (λ is. cc, λ (s, none, is). cc)
+  after_decides b (x ∷ t) = Decides-like _ (λ (same, is). (t, ap (λ y. y ∷ t) same, is))
       (λ (s, whole, is). let first : x ≡ b = cc in let rest : s ≡ t = cc in (first, subst P rest is))
       (Decides-and _ _ (Decides-eqb x b) (each t))
 
@@ -81,7 +81,7 @@ matches_decides anchors (b ∷ q) t = elim (cases_Bool (b == star)) [
   | inl stars ↦ rw stars (some_end_decides _ _ (matches_decides anchors q) t)
   | inr plain ↦ rw plain (elim (cases_Bool (anchors && (b == dollar))) [
     | inl ends ↦ rw ends (at_end_decides _ _ (matches_decides anchors q) t)
-    | inr other ↦ rw other (behind_decides _ _ (matches_decides anchors q) b t)
+    | inr other ↦ rw other (after_decides _ _ (matches_decides anchors q) b t)
   ])
 ]
 
@@ -186,8 +186,8 @@ deciding_longest rules text placed other decides listed matches =
 pub verdict_by : (rules : List PlacedRule) (text : List ℕ) (placed : PlacedRule) (answer : Bool)
     → IsDecidingRule rules text placed → placed.rule.1 ≡ answer → text ≢ robots_file
     → IsVerdict (unplaced rules) text answer
-verdict_by rules text placed true decides allow other = λ (_, p, stands, matches, longest).
-    let (found, listed, rule) = placed_of rules (p, false) stands in
+verdict_by rules text placed true decides allow other = λ (_, p, splits, matches, longest).
+    let (found, listed, rule) = placed_of rules (p, false) splits in
     let less =
     longest placed.rule.0 (rw (sym allow) (unplaced_of rules placed decides.listed)) decides.matches in
     decides.best found listed (rw rule matches) (inl (rw rule less))
@@ -196,8 +196,8 @@ verdict_by rules text placed false decides deny other = (
   placed.rule.0,
   rw (sym deny) (unplaced_of rules placed decides.listed),
   decides.matches,
-  λ q stands matches.
-      let (found, listed, rule) = placed_of rules (q, true) stands in
+  λ q splits matches.
+      let (found, listed, rule) = placed_of rules (q, true) splits in
       let worse = decides.best found listed (rw rule matches) in
       elim (cases_order (length q) (length placed.rule.0)) [
         | inl same ↦ absurd (worse (inr (rw rule same, inl (ap (λ (r : Rule). r.1) rule, deny))))
@@ -212,8 +212,8 @@ NoMatch rules text = (placed : PlacedRule) → Contains rules placed → ¬ Matc
 
 pub none_denies : (rules : List PlacedRule) (text : List ℕ) → NoMatch rules text
     → IsVerdict (unplaced rules) text true
-none_denies rules text none (other, p, stands, matches, longest) =
-    let (found, listed, rule) = placed_of rules (p, false) stands in
+none_denies rules text none (other, p, splits, matches, longest) =
+    let (found, listed, rule) = placed_of rules (p, false) splits in
     none found listed (rw rule matches)
 
 -- the best rule of those that match, computed

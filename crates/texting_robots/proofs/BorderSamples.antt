@@ -7,7 +7,7 @@ use Rattle.std.specs.{Prelude.slice_index, Bool.Decides}
 use Rattle.std.proofs.lemmas.Bool.{cases_Bool, or_right}
 use Rattle.std.proofs.lemmas.Bool.Decides.{Decides-and, Decides-below_and, Decides-eqb, Decides-like}
 use Rattle.std.proofs.lemmas.Bool.Decides.{Decides-ltb, Decides-not, Decides-or}
-use Rattle.texting_robots.specs.Steps.Border.{Agrees, AreBorders, IsLongestBorder}
+use Rattle.texting_robots.specs.Internal.Border.{Agrees, AreBorders, IsLongestBorder}
 
 -- the test passes for each number below this one
 abbrev all_below : (ℕ → Bool) → ℕ → Bool
@@ -32,23 +32,23 @@ if_then p q first second = (
 )
 
 abbrev agrees : List ℕ → ℕ → ℕ → Bool
-agrees piece at end =
-    all_below (λ k. not (nat_lt (at + k) end) || (slice_index piece (at + k) == slice_index piece k))
-    (length piece)
+agrees segment at end =
+    all_below (λ k. not (nat_lt (at + k) end) || (slice_index segment (at + k) == slice_index segment k))
+    (length segment)
 
-agrees_decides : (piece : List ℕ) (at end : ℕ)
-    → Decides (agrees piece at end) (Agrees piece piece at end)
-agrees_decides piece at end =
-    below _ _ (λ k. if_then _ _ (Decides-ltb (at + k) end) (Decides-eqb _ _)) (length piece)
+agrees_decides : (segment : List ℕ) (at end : ℕ)
+    → Decides (agrees segment at end) (Agrees segment segment at end)
+agrees_decides segment at end =
+    below _ _ (λ k. if_then _ _ (Decides-ltb (at + k) end) (Decides-eqb _ _)) (length segment)
 
 abbrev is_longest : List ℕ → ℕ → ℕ → Bool
-is_longest piece len border =
-    nat_lt border len && (agrees piece (len - border) len
-    && all_below (λ longer. not (nat_lt border longer) || not (agrees piece (len - longer) len)) len)
+is_longest segment len border =
+    nat_lt border len && (agrees segment (len - border) len
+    && all_below (λ longer. not (nat_lt border longer) || not (agrees segment (len - longer) len)) len)
 
-longest_decides : (piece : List ℕ) (len border : ℕ)
-    → Decides (is_longest piece len border) (IsLongestBorder piece len border)
-longest_decides piece len border =
+longest_decides : (segment : List ℕ) (len border : ℕ)
+    → Decides (is_longest segment len border) (IsLongestBorder segment len border)
+longest_decides segment len border =
     Decides-like _
     (λ (proper, (self, none)). record {
       proper = proper;
@@ -57,20 +57,20 @@ longest_decides piece len border =
     })
     (λ longest. (longest.proper, (longest.agrees, λ longer less more. longest.longest longer more less)))
     (Decides-and _ _ (Decides-ltb border len)
-    (Decides-and _ _ (agrees_decides piece (len - border) len)
+    (Decides-and _ _ (agrees_decides segment (len - border) len)
     (below _ _ (λ longer. if_then _ _ (Decides-ltb border longer)
-    (Decides-not _ (agrees_decides piece (len - longer) len))) len)))
+    (Decides-not _ (agrees_decides segment (len - longer) len))) len)))
 
 -- the test of a whole table
 abbrev holds_borders : List ℕ → List ℕ → Bool
-holds_borders piece table =
-    all_below (λ len. not (nat_lt 0 len) || is_longest piece len (slice_index table (len - 1)))
+holds_borders segment table =
+    all_below (λ len. not (nat_lt 0 len) || is_longest segment len (slice_index table (len - 1)))
     (length table + 1)
 
-borders_by : (piece table : List ℕ) → holds_borders piece table ≡ true → AreBorders piece table
-borders_by piece table passes len some upto =
+borders_by : (segment table : List ℕ) → holds_borders segment table ≡ true → AreBorders segment table
+borders_by segment table passes len some upto =
     let each = (below _ _ (λ len. if_then _ _ (Decides-ltb 0 len)
-    (longest_decides piece len (slice_index table (len - 1)))) (length table + 1)).0 passes in
+    (longest_decides segment len (slice_index table (len - 1)))) (length table + 1)).0 passes in
     each len (omega arith) some
 
 aaaab : AreBorders (codes "aaaab") (0 ∷ 1 ∷ 2 ∷ 3 ∷ 0 ∷ [])

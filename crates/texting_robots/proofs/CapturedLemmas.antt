@@ -10,12 +10,12 @@ use Rattle.std.proofs.lemmas.Bool.{Decides.Decides-below_or, Decides.Decides-and
 use Rattle.std.proofs.lemmas.Bool.{Decides.Decides-not, Decides.Decides-ltb, Decides.Decides-like, cases_Bool}
 use Rattle.std.proofs.lemmas.Bool.{and_left, and_right, le-ltb, lt-ltb}
 use Rattle.std.proofs.lemmas.List.{take_all}
-use Rattle.texting_robots.specs.{declared.groups.Walk.Walk, Rules.PlacedRule, Rules.Rule, Rules.unplaced}
+use Rattle.texting_robots.specs.{declared.groups.GroupTracker.GroupTracker, Rules.PlacedRule, Rules.Rule, Rules.unplaced}
 use Rattle.texting_robots.specs.Line.{LineValue, UserAgent, delay_in}
 use Rattle.texting_robots.specs.Group.{IsCaptured, group_name, is_agent, is_agent_named, is_group, passes_at}
-use Rattle.texting_robots.specs.Steps.Captured.{is_captured, some_below}
-use Rattle.texting_robots.specs.Computed.{captured_delays, captured_lines, placed_in, rule_in, rules_for}
-use Rattle.texting_robots.specs.Steps.Group.{from_captured, if_captured, placed, start_of, step}
+use Rattle.texting_robots.specs.Internal.Captured.{is_captured, some_below}
+use Rattle.texting_robots.specs.Executable.{captured_delays, captured_lines, placed_in, rule_in, rules_for}
+use Rattle.texting_robots.specs.Internal.Group.{from_captured, if_captured, placed, start_of, step}
 
 -- ---- tests of places: of agent lines, group lines and agent lines of the name
 
@@ -194,12 +194,12 @@ named_in name lines i =
     named_at (passes_at is_agent lines) (passes_at is_group lines) (passes_at (is_agent_named name) lines) i
 
 -- the walk's state says what the definition says of this place
-pub record IsWalkAt (name : List ℕ) (lines : List LineValue) (i : ℕ) (walk : Walk) : Type 0 where
-  pub captured : is_captured name lines i ≡ walk.captured
-  pub named : open_in name lines i ≡ walk.named
+pub record IsWalkAt (name : List ℕ) (lines : List LineValue) (i : ℕ) (tracker : GroupTracker) : Type 0 where
+  pub captured : is_captured name lines i ≡ tracker.captured
+  pub named : open_in name lines i ≡ tracker.named
 
-pub stands_first : (name : List ℕ) (lines : List LineValue) → IsWalkAt name lines 0 (start_of lines)
-stands_first name lines = record { captured = or-false _; named = refl }
+pub occurs_first : (name : List ℕ) (lines : List LineValue) → IsWalkAt name lines 0 (start_of lines)
+occurs_first name lines = record { captured = or-false _; named = refl }
 
 -- the tests at the place are those of its line
 named_on : (name : List ℕ) (lines : List LineValue) (i : ℕ) (line : LineValue)
@@ -227,21 +227,21 @@ pub only_agents : (name : List ℕ) (line : LineValue) → is_agent line ≡ fal
 only_agents name (UserAgent value) isnt = cc
 only_agents name _ isnt = refl
 
-pub stands_next : (name : List ℕ) (lines : List LineValue) (i : ℕ) (walk : Walk) (line : LineValue)
-    → slice_get lines i ≡ Some line → IsWalkAt name lines i walk
-    → IsWalkAt name lines (i + 1) (step name walk line)
-stands_next name lines i walk line at stands = record {
+pub occurs_next : (name : List ℕ) (lines : List LineValue) (i : ℕ) (tracker : GroupTracker) (line : LineValue)
+    → slice_get lines i ≡ Some line → IsWalkAt name lines i tracker
+    → IsWalkAt name lines (i + 1) (step name tracker line)
+occurs_next name lines i tracker line at splits = record {
   captured = named_on name lines i line at ∙ elim (cases_Bool (is_agent line)) [
-    | inl is ↦ rw (is, (some_passes is_agent lines).1 (i, rw (at, is) refl), stands.named) refl
-    | inr isnt ↦ rw (isnt, only_agents name line isnt) stands.captured
+    | inl is ↦ rw (is, (some_passes is_agent lines).1 (i, rw (at, is) refl), splits.named) refl
+    | inr isnt ↦ rw (isnt, only_agents name line isnt) splits.captured
   ];
   named = open_on name lines i line at ∙ ap (λ b. is_agent_named name line || (not (is_group line) && b))
-      stands.named;
+      splits.named;
 }
 
-pub at_front : (lines : List LineValue) (place : ℕ) (line : LineValue) (rest : List LineValue)
-    → drop place lines ≡ line ∷ rest → (slice_get lines place ≡ Some line)
-    × (drop (place + 1) lines ≡ rest)
+pub at_front : (lines : List LineValue) (position : ℕ) (line : LineValue) (rest : List LineValue)
+    → drop position lines ≡ line ∷ rest → (slice_get lines position ≡ Some line)
+    × (drop (position + 1) lines ≡ rest)
 at_front [] zero line rest h = cc
 at_front [] (suc n) line rest h = cc
 at_front (x ∷ lines) zero line rest h = (cc, cc)
@@ -267,57 +267,57 @@ kept_next false given y ys = refl
 
 -- the walk finds what the definition's captured lines give
 captured_left : {X : Type 0} (given : ℕ × LineValue → Option X) (name : List ℕ) (all : List LineValue)
-    (walk : Walk) (place : ℕ) (lines : List LineValue)
-    → IsWalkAt name all place walk → drop place all ≡ lines
-    → filter_map given (filter (λ p. is_captured name all p.0) (enumerate_from place lines))
-    ≡ from_captured given name walk place lines
-captured_left given name all walk place [] stands left = refl
-captured_left given name all walk place (line ∷ lines) stands left =
-    let (at, next) = at_front all place line lines left in
-    rw stands.captured (kept_next walk.captured given (place, line) _
-    ∙ ap (cons_option (if_captured walk (given (place, line))))
-    (captured_left given name all (step name walk line) (place + 1) lines
-    (stands_next name all place walk line at stands) next))
+    (tracker : GroupTracker) (position : ℕ) (lines : List LineValue)
+    → IsWalkAt name all position tracker → drop position all ≡ lines
+    → filter_map given (filter (λ p. is_captured name all p.0) (enumerate_from position lines))
+    ≡ from_captured given name tracker position lines
+captured_left given name all tracker position [] splits left = refl
+captured_left given name all tracker position (line ∷ lines) splits left =
+    let (at, next) = at_front all position line lines left in
+    rw splits.captured (kept_next tracker.captured given (position, line) _
+    ∙ ap (cons_option (if_captured tracker (given (position, line))))
+    (captured_left given name all (step name tracker line) (position + 1) lines
+    (occurs_next name all position tracker line at splits) next))
 
 pub captured_walked : {X : Type 0} (given : ℕ × LineValue → Option X) (name : List ℕ)
     (lines : List LineValue)
     → filter_map given (captured_lines name lines) ≡ from_captured given name (start_of lines) 0 lines
 captured_walked given name lines =
-    captured_left given name lines (start_of lines) 0 lines (stands_first name lines) refl
+    captured_left given name lines (start_of lines) 0 lines (occurs_first name lines) refl
 
 -- the same, where the places don't matter
-abbrev pub given_captured : {X : Type 0} → (LineValue → Option X) → List ℕ → Walk → List LineValue
+abbrev pub given_captured : {X : Type 0} → (LineValue → Option X) → List ℕ → GroupTracker → List LineValue
     → List X
-given_captured given name walk [] = []
-given_captured given name walk (line ∷ lines) =
-    cons_option (if_captured walk (given line)) (given_captured given name (step name walk line) lines)
+given_captured given name tracker [] = []
+given_captured given name tracker (line ∷ lines) =
+    cons_option (if_captured tracker (given line)) (given_captured given name (step name tracker line) lines)
 
-without_places : {X : Type 0} (given : LineValue → Option X) (name : List ℕ) (walk : Walk) (place : ℕ)
+without_positions : {X : Type 0} (given : LineValue → Option X) (name : List ℕ) (tracker : GroupTracker) (position : ℕ)
     (lines : List LineValue)
-    → from_captured (λ p. given p.1) name walk place lines ≡ given_captured given name walk lines
-without_places given name walk place [] = refl
-without_places given name walk place (line ∷ lines) = ap (cons_option (if_captured walk (given line)))
-    (without_places given name (step name walk line) (place + 1) lines)
+    → from_captured (λ p. given p.1) name tracker position lines ≡ given_captured given name tracker lines
+without_positions given name tracker position [] = refl
+without_positions given name tracker position (line ∷ lines) = ap (cons_option (if_captured tracker (given line)))
+    (without_positions given name (step name tracker line) (position + 1) lines)
 
 pub delays_are : (agent : List ℕ) (lines : List LineValue) → captured_delays agent lines
     ≡ given_captured delay_in (group_name agent lines) (start_of lines) lines
 delays_are agent lines =
     let name = group_name agent lines in
-    captured_walked (λ p. delay_in p.1) name lines ∙ without_places delay_in name (start_of lines) 0 lines
+    captured_walked (λ p. delay_in p.1) name lines ∙ without_positions delay_in name (start_of lines) 0 lines
 
-unplaced_next : (place : ℕ) (captured : Bool) (found : Option Rule) (rest : List PlacedRule)
-    → unplaced (cons_option (cond captured (placed (place + 1) found) None) rest)
+unplaced_next : (position : ℕ) (captured : Bool) (found : Option Rule) (rest : List PlacedRule)
+    → unplaced (cons_option (cond captured (placed (position + 1) found) None) rest)
     ≡ cons_option (cond captured found None) (unplaced rest)
-unplaced_next place false found rest = refl
-unplaced_next place true None rest = refl
-unplaced_next place true (Some rule) rest = refl
+unplaced_next position false found rest = refl
+unplaced_next position true None rest = refl
+unplaced_next position true (Some rule) rest = refl
 
-unplaced_left : (name : List ℕ) (walk : Walk) (place : ℕ) (lines : List LineValue)
-    → unplaced (from_captured placed_in name walk place lines) ≡ given_captured rule_in name walk lines
-unplaced_left name walk place [] = refl
-unplaced_left name walk place (line ∷ lines) = unplaced_next place walk.captured (rule_in line) _
-    ∙ ap (cons_option (if_captured walk (rule_in line)))
-    (unplaced_left name (step name walk line) (place + 1) lines)
+unplaced_left : (name : List ℕ) (tracker : GroupTracker) (position : ℕ) (lines : List LineValue)
+    → unplaced (from_captured placed_in name tracker position lines) ≡ given_captured rule_in name tracker lines
+unplaced_left name tracker position [] = refl
+unplaced_left name tracker position (line ∷ lines) = unplaced_next position tracker.captured (rule_in line) _
+    ∙ ap (cons_option (if_captured tracker (rule_in line)))
+    (unplaced_left name (step name tracker line) (position + 1) lines)
 
 pub rules_are : (agent : List ℕ) (lines : List LineValue)
     → rules_for agent lines ≡ given_captured rule_in (group_name agent lines) (start_of lines) lines

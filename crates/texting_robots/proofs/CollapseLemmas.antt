@@ -5,7 +5,7 @@ use Rattle.std.proofs.Common.{get_or, arith, refl, sym, ap, ◌∙◌, append_as
 use Rattle.std.{specs.List.starts_with, proofs.Math.Bool.and-true, proofs.lemmas.Cmp.nat_eq_equiv}
 use Rattle.std.proofs.lemmas.Bool.{and_parts, cases_Bool, eq-eqb, eqb-true, ne_eqb}
 use Rattle.texting_robots.specs.Pattern.{MatchesWith, collapsed, star}
-use Rattle.texting_robots.proofs.PatternLemmas.{behind_byte, star_star}
+use Rattle.texting_robots.proofs.PatternLemmas.{after_byte, star_star}
 
 -- bytes that are no star stay
 collapse_plain : (w q : List ℕ) → ((i : ℕ) → i < length w → get_or w i 0 ≢ star)
@@ -55,7 +55,7 @@ collapse_keeps_meaning anchors (b ∷ q) t = elim (cases_Bool ((b == star) && (g
       let rest = collapse_keeps_meaning anchors q t in
       let one = star_star anchors q t second in
       rw (two, eqb-true b star first) (λ m. one.1 (rest.0 m), λ m. rest.1 (one.0 m))
-  | inr other ↦ rw other (behind_byte anchors b (collapsed q) q (collapse_keeps_meaning anchors q) t)
+  | inr other ↦ rw other (after_byte anchors b (collapsed q) q (collapse_keeps_meaning anchors q) t)
 ]
 
 -- ---- how long a collapsed pattern is

@@ -3,10 +3,10 @@ use Rattle.std.proofs.Common.{◌≡◌, ℕ, false, ◌==◌, ◌&&◌, inl, in
 use Rattle.std.proofs.Common.{if◌then◌else◌, map, slice_index, arith, sym, refl, ap, ◌∙◌}
 use Rattle.std.proofs.Common.{◌↔◌}
 use Rattle.std.proofs.lemmas.Bool.{cases_Bool, cond-false, and_parts, eqb-true, ne_eqb}
-use Rattle.texting_robots.specs.{Cut.Pair, Cut.cr, Cut.lf, Computed.parsed, Laws.feeds_alone}
-use Rattle.texting_robots.specs.Steps.Cut.{before_body, before_byte, before_end, bodies_of, cut}
+use Rattle.texting_robots.specs.{Cut.Pair, Cut.cr, Cut.lf, Executable.parsed, Laws.crlf_to_lf}
+use Rattle.texting_robots.specs.Internal.Cut.{before_body, before_byte, before_end, bodies_of, cut}
 use Rattle.texting_robots.specs.Line.{without, without_front, AreLinesOf, LineValue}
-use Rattle.texting_robots.specs.Steps.Line.{line_of, lines_of}
+use Rattle.texting_robots.specs.Internal.Line.{line_of, lines_of}
 use Rattle.texting_robots.proofs.CutLemmas.{byte_cases, cut_cons, pair_of}
 use Rattle.texting_robots.proofs.LineLemmas.{each_text_has_its_lines}
 
@@ -61,14 +61,14 @@ return_before_feed b [] return feed = absurd (omega (arith, feed))
 return_before_feed b (c ∷ text) return feed =
     rw (return, feed, cut_cons cr (lf ∷ text), cut_cons lf text) refl
 
-same_bodies : (text : List ℕ) → bodies_of (feeds_alone text) ≡ bodies_of text
+same_bodies : (text : List ℕ) → bodies_of (crlf_to_lf text) ≡ bodies_of text
 same_bodies [] = refl
 same_bodies (b ∷ text) = elim (cases_Bool (b == cr && slice_index text 0 == lf)) [
   | inl pair ↦
       let (return, feed) = and_parts (b == cr) (slice_index text 0 == lf) pair in
       rw pair (same_bodies text
       ∙ sym (return_before_feed b text (eqb-true b cr return) (eqb-true (slice_index text 0) lf feed)))
-  | inr single ↦ rw (single, step b (feeds_alone text), step b text) (ap (body_step b) (same_bodies text))
+  | inr single ↦ rw (single, step b (crlf_to_lf text), step b text) (ap (body_step b) (same_bodies text))
 ]
 
 feed_stays : (byte : ℕ) (text : List ℕ) → (lf == byte) ≡ false → slice_index text 0 ≡ lf
@@ -78,33 +78,33 @@ feed_stays byte (c ∷ text) no_lf feed = cond-false _ _ _ (ap (λ x. x == byte)
 
 -- a byte that ends no line, taken off the front before or after
 without_alone : (byte : ℕ) (text : List ℕ) → (lf == byte) ≡ false → (cr == byte) ≡ false
-    → without byte (feeds_alone text) ≡ feeds_alone (without byte text)
+    → without byte (crlf_to_lf text) ≡ crlf_to_lf (without byte text)
 without_alone byte [] no_lf no_cr = refl
 without_alone byte (b ∷ text) no_lf no_cr = elim (cases_Bool (b == cr && slice_index text 0 == lf)) [
   | inl pair ↦
       let (return, feed) = and_parts (b == cr) (slice_index text 0 == lf) pair in
       let b_is : (b == byte) ≡ false = ap (λ x. x == byte) (eqb-true b cr return) ∙ no_cr in
       rw (b_is, pair) (without_alone byte text no_lf no_cr
-      ∙ ap feeds_alone (feed_stays byte text no_lf (eqb-true (slice_index text 0) lf feed)))
+      ∙ ap crlf_to_lf (feed_stays byte text no_lf (eqb-true (slice_index text 0) lf feed)))
   | inr single ↦ elim (cases_Bool (b == byte)) [
     | inl is ↦ rw (single, is) refl
     | inr isnt ↦ rw (single, isnt, single) refl
   ]
 ]
 
-front_alone : (text : List ℕ) → without_front (feeds_alone text) ≡ feeds_alone (without_front text)
+front_alone : (text : List ℕ) → without_front (crlf_to_lf text) ≡ crlf_to_lf (without_front text)
 front_alone text =
     ap (λ t. without 0xBF (without 0xBB t)) (without_alone 0xEF text refl refl)
     ∙ ap (without 0xBF) (without_alone 0xBB (without 0xEF text) refl refl)
     ∙ without_alone 0xBF (without 0xBB (without 0xEF text)) refl refl
 
-same_parsed : (text : List ℕ) → parsed (feeds_alone text) ≡ parsed text
+same_parsed : (text : List ℕ) → parsed (crlf_to_lf text) ≡ parsed text
 same_parsed text = ap lines_of (front_alone text) ∙ ap (map line_of) (same_bodies (without_front text))
 
 pub cr_lf_is_lf : (text : List ℕ) (lines : List LineValue)
-    → AreLinesOf lines (feeds_alone text) ↔ AreLinesOf lines text
+    → AreLinesOf lines (crlf_to_lf text) ↔ AreLinesOf lines text
 cr_lf_is_lf text lines =
-    let alone = each_text_has_its_lines (feeds_alone text) lines in
+    let alone = each_text_has_its_lines (crlf_to_lf text) lines in
     let whole = each_text_has_its_lines text lines in (
       λ are. whole.1 (alone.0 are ∙ same_parsed text),
       λ are. alone.1

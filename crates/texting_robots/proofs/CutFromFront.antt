@@ -12,26 +12,26 @@ use Rattle.std.proofs.lemmas.List.Sums.{fails_before_first}
 use lib.Lanes.{mask_l, top}
 use Rattle.std.proofs.Math.Bool.{or_assoc, or_comm, or_self, or-false}
 use Rattle.memchr.specs.Find.{is_byte2, is_byte3, IsFirstByte}
-use Rattle.texting_robots.proofs.{LaneLemmas.first_marked, LaneLemmas.first_seen}
-use Rattle.texting_robots.proofs.RegionLemmas.{place_is, end_is}
+use Rattle.texting_robots.proofs.{LaneLemmas.first_labeled, LaneLemmas.first_seen}
+use Rattle.texting_robots.proofs.RegionLemmas.{position_is, end_is}
 use Rattle.texting_robots.specs.Cut.{Pair, cr, lf}
-use Rattle.texting_robots.specs.Steps.Cut.{bodies_of, cut, body_len, end_len, read_byte, read_as}
+use Rattle.texting_robots.specs.Internal.Cut.{bodies_of, cut, body_len, end_len, read_byte, read_as}
 use Rattle.texting_robots.proofs.CutLemmas.{byte_cases, cut_cons, cut_nil, pair_of}
 
 -- ---- the first pair
 
-abbrev pub behind_body : List ℕ → List ℕ
-behind_body text = drop (body_len text) text
+abbrev pub after_body : List ℕ → List ℕ
+after_body text = drop (body_len text) text
 
-abbrev pub behind_end : List ℕ → List ℕ
-behind_end text = drop (end_len text) text
+abbrev pub after_end : List ℕ → List ℕ
+after_end text = drop (end_len text) text
 
 -- what follows the first body and its end
 abbrev pub rest_of : List ℕ → List ℕ
-rest_of text = behind_end (behind_body text)
+rest_of text = after_end (after_body text)
 
 abbrev pub first_of : List ℕ → Pair
-first_of text = pair_of (take (body_len text) text) (take (end_len (behind_body text)) (behind_body text))
+first_of text = pair_of (take (body_len text) text) (take (end_len (after_body text)) (after_body text))
 
 abbrev pub FirstLine : List ℕ → Type 0
 FirstLine text = cut text ≡ first_of text ∷ cut (rest_of text)
@@ -139,7 +139,7 @@ pub body_found : (n : Bool) (test : ℕ → Bool) (text : List ℕ) (found : Opt
     MatchOption found (len ≡ length text) (λ end. (len ≡ end) × (end < length text)))
 body_found n test text None ends none = sym (body_by n test ends text) ∙ end_is test text none
 body_found n test text (Some k) ends first =
-    (sym (body_by n test ends text) ∙ place_is test text k first.0 first.1, first.0.high)
+    (sym (body_by n test ends text) ∙ position_is test text k first.0 first.1, first.0.high)
 
 -- the front of a text, looked at for an end: there is one, or all of it is passed over
 pub front_seen : (n : Bool) (text : List ℕ) (k len : ℕ) → k ≤ length text
@@ -158,24 +158,24 @@ front_seen n text k len within len_is =
 -- ---- the lanes of a vector that end a line
 
 -- a lane is marked where one of three comparisons holds
-abbrev mark : ℕ → ℕ → ℕ
-mark third b =
+abbrev flag : ℕ → ℕ → ℕ
+flag third b =
     bit_or (bit_or (cond (b == cr) 255 0) (cond (b == lf) 255 0)) (cond (b == third) 255 0)
 
-pub ends_marked : (n : Bool) (third : ℕ) → third ≡ (if n then 0 else lf)
-    → Ends n (λ b. top 7 (mark third b))
-ends_marked n third is b = marked_by (b == cr) (b == lf) (b == third) ∙ rw is (by n)
+pub ends_delimited : (n : Bool) (third : ℕ) → third ≡ (if n then 0 else lf)
+    → Ends n (λ b. top 7 (flag third b))
+ends_delimited n third is b = labeled_by (b == cr) (b == lf) (b == third) ∙ rw is (by n)
   where
-    marked_by : (x y z : Bool) → top 7 (bit_or (bit_or (cond x 255 0) (cond y 255 0)) (cond z 255 0))
+    labeled_by : (x y z : Bool) → top 7 (bit_or (bit_or (cond x 255 0) (cond y 255 0)) (cond z 255 0))
         ≡ (x || y || z)
-    marked_by true true true = refl
-    marked_by true true false = refl
-    marked_by true false true = refl
-    marked_by true false false = refl
-    marked_by false true true = refl
-    marked_by false true false = refl
-    marked_by false false true = refl
-    marked_by false false false = refl
+    labeled_by true true true = refl
+    labeled_by true true false = refl
+    labeled_by true false true = refl
+    labeled_by true false false = refl
+    labeled_by false true true = refl
+    labeled_by false true false = refl
+    labeled_by false false true = refl
+    labeled_by false false false = refl
 
     by : (n : Bool) → is_byte3 cr lf (if n then 0 else lf) b
         ≡ (read_byte n b == lf || read_byte n b == cr)
@@ -183,13 +183,13 @@ ends_marked n third is b = marked_by (b == cr) (b == lf) (b == third) ∙ rw is 
     by false = rw (or_assoc, or_self) (ends_as_is b)
 
 -- the first lane that is marked is the first end
-pub marked_first : (n : Bool) (f : ℕ → ℕ) (width : ℕ) (v lanes : List ℕ) → width ≤ 64
+pub labeled_first : (n : Bool) (f : ℕ → ℕ) (width : ℕ) (v lanes : List ℕ) → width ≤ 64
     → length v ≡ width → lanes ≡ map f v
     → Ends n (λ b. top 7 (f b))
     → (let mask = mask_l (map (top 7) lanes) % 2 ^ 64 in
     (if mask == 0 then width else trailing_zeros w64 mask) ≡ body_len (read_as n v))
-marked_first n f width v lanes fits long lanes_are ends =
-    first_marked f width v lanes fits long lanes_are ∙ body_by n (λ b. top 7 (f b)) ends v
+labeled_first n f width v lanes fits long lanes_are ends =
+    first_labeled f width v lanes fits long lanes_are ∙ body_by n (λ b. top 7 (f b)) ends v
 
 -- a body holds no NUL that is read as LF
 body_plain : (n : Bool) (text : List ℕ)

@@ -8,7 +8,7 @@ use Rattle.std.proofs.lemmas.List.{append-nil, drop_more, get_or_at, length-appe
 use Rattle.std.proofs.lemmas.List.{take-append-drop, Elements.All-from_recursion, Elements.All-head}
 use Rattle.std.proofs.lemmas.List.{Elements.All-replicate, Elements.All-tail, Elements.recursion_from_All}
 use Rattle.texting_robots.specs.Cut.{IsBodyByte, IsCut, IsLineEnd, Pair, cr, joined, lf}
-use Rattle.texting_robots.specs.Steps.Cut.{before_body, before_byte, before_end, cut}
+use Rattle.texting_robots.specs.Internal.Cut.{before_body, before_byte, before_end, cut}
 
 abbrev pub pair_of : List ℕ → List ℕ → Pair
 pair_of body ending = record { body = body; ending = ending }
@@ -85,8 +85,8 @@ goes_on (returns k begin) none = begin
 goes_on (feed k) none = absurd (none k 0 (simp (length-append, length-replicate) (omega arith))
     (get_or_at (replicate k cr) lf [] 0 k (length-replicate k cr)))
 
-standing_cut : (pairs : List Pair) → ArePairs pairs → IsCut pairs (joined pairs)
-standing_cut pairs are =
+borrowed_cut : (pairs : List Pair) → ArePairs pairs → IsCut pairs (joined pairs)
+borrowed_cut pairs are =
     let at = λ (k : ℕ) (d : Pair) (below : k < length pairs).
     pair_at pairs are (take k pairs) (drop (k + 1) pairs) (get_or pairs k d)
     (sym (take-append-drop k pairs) ∙ ap (λ t. take k pairs ++ t) (drop_more pairs k d below)) in
@@ -113,9 +113,9 @@ ends_by body ending (next ∷ more) (suc k, inl e) last begin = rw e (returns k 
     (rw e (All-replicate (λ byte. byte ≢ lf) (suc k) cr (λ is. omega arith)))))
 ends_by body ending later (k, inr e) last begin = rw e (feed k)
 
-cut_stands : (pairs : List Pair) (text : List ℕ) → IsCut pairs text → ArePairs pairs
-cut_stands [] text is = tt
-cut_stands (pair ∷ later) text is = (
+cut_occurs : (pairs : List Pair) (text : List ℕ) → IsCut pairs text → ArePairs pairs
+cut_occurs [] text is = tt
+cut_occurs (pair ∷ later) text is = (
   record {
     body = recursion_from_All IsBodyByte pair.body
         (All-head (λ p. All IsBodyByte p.body) pair later is.bodies);
@@ -123,7 +123,7 @@ cut_stands (pair ∷ later) text is = (
         (is.empty_ending [] later pair refl)
         (λ next more e. is.open_ending [] more pair next (ap (λ l. pair ∷ l) e));
   },
-  cut_stands later (joined later) (record {
+  cut_occurs later (joined later) (record {
     whole = refl;
     bodies = All-tail (λ p. All IsBodyByte p.body) pair later is.bodies;
     endings = All-tail (λ p. IsLineEnd p.ending) pair later is.endings;
@@ -179,7 +179,7 @@ walked (b ∷ text) =
     rw cut_cons (more, adds ∙ ap (λ t. b ∷ t) whole)
 
 pub is_cut : (text : List ℕ) → IsCut (cut text) text
-is_cut text = let (are, whole) = walked text in subst (IsCut (cut text)) whole (standing_cut (cut text) are)
+is_cut text = let (are, whole) = walked text in subst (IsCut (cut text)) whole (borrowed_cut (cut text) are)
 
 -- ---- each cut is what the walk gives
 
@@ -232,7 +232,7 @@ joined_cut (pair ∷ later) are = ap cut (append_assoc pair.body pair.ending (jo
     ∙ pair_cut (joined later) are.0.body are.0.ends refl (joined_cut later are.1)
 
 pub only_cut : (text : List ℕ) (pairs : List Pair) → IsCut pairs text → pairs ≡ cut text
-only_cut text pairs is = sym (joined_cut pairs (cut_stands pairs text is)) ∙ ap cut is.whole
+only_cut text pairs is = sym (joined_cut pairs (cut_occurs pairs text is)) ∙ ap cut is.whole
 
 pub each_text_has_one_cut : (text : List ℕ)
     → IsCut (cut text) text × ((pairs : List Pair) → IsCut pairs text → pairs ≡ cut text)

@@ -20,12 +20,12 @@ use Rattle.std.proofs.lemmas.{List.Sums.prefix_len_passes, Option.cond_some}
 use Rattle.std.proofs.lemmas.List.Elements.{All-head, All-nil, All-tail}
 use Rattle.std.proofs.lemmas.Str.Ascii.{lowercase_is}
 use Rattle.texting_robots.specs.Delay.{AtMost, Decimal, IsDelay, IsInfinite, IsNumeral, IsPoint, IsTail}
-use Rattle.texting_robots.specs.Delay.{NamesZero, NamesSeconds, Rounds, Spells, greatest_delay}
+use Rattle.texting_robots.specs.Delay.{NamesZero, NamesSeconds, Rounds, Writes, greatest_delay}
 use Rattle.texting_robots.specs.Delay.{negative_exponent, positive_exponent}
-use Rattle.texting_robots.specs.Steps.Delay.{HasDigits, behind_digits, behind_fraction, delay_behind}
-use Rattle.texting_robots.specs.Steps.Delay.{delay_of, digits_in_front, exponent_of, fraction_in_front}
-use Rattle.texting_robots.specs.Steps.Delay.{is_infinite, is_numeral, is_zero, zero_of, number_of}
-use Rattle.texting_robots.specs.Steps.Delay.{number_with, rounded}
+use Rattle.texting_robots.specs.Internal.Delay.{HasDigits, after_digits, after_fraction, delay_after}
+use Rattle.texting_robots.specs.Internal.Delay.{delay_of, digits_in_front, exponent_of, fraction_in_front}
+use Rattle.texting_robots.specs.Internal.Delay.{is_infinite, is_numeral, is_zero, zero_of, number_of}
+use Rattle.texting_robots.specs.Internal.Delay.{number_with, rounded}
 use Rattle.texting_robots.proofs.CapturedLemmas.{cond_given}
 
 -- ---- what the tests say
@@ -67,7 +67,7 @@ digits_front (d ∷ ds) rest digits stop =
     rw ((digit_decides d).1 (All-head IsAsciiDigit d ds digits)) (omega arith)
 
 digits_read : (ds rest : List ℕ) → All IsAsciiDigit ds → Stops rest
-    → (digits_in_front (ds ++ rest) ≡ ds) × (behind_digits (ds ++ rest) ≡ rest)
+    → (digits_in_front (ds ++ rest) ≡ ds) × (after_digits (ds ++ rest) ≡ rest)
 digits_read ds rest digits stop =
     let count = prefix_len is_ascii_digit (ds ++ rest) in
     let size : length ds ≡ count = sym (digits_front ds rest digits stop) in
@@ -77,33 +77,33 @@ digits_read ds rest digits stop =
 record IsRead (rest fraction tail : List ℕ) : Type 0 where
   stop : Stops rest
   digits : fraction_in_front rest ≡ fraction
-  behind : behind_fraction rest ≡ tail
+  following : after_fraction rest ≡ tail
 
 tail_read : (tail exponent : List ℕ) → IsTail tail exponent → IsRead tail [] tail
     × (exponent_of tail ≡ Some exponent)
 tail_read tail exponent (inl (none, empty)) =
-    rw (none, empty) (record { stop = refl; digits = refl; behind = refl }, refl)
+    rw (none, empty) (record { stop = refl; digits = refl; following = refl }, refl)
 tail_read tail exponent (inr (is, numeral)) =
     let test = (numeral_decides (without_leading_sign exponent)).1 numeral in
     elim is [
-      | inl e ↦ rw e (record { stop = refl; digits = refl; behind = refl }, cond-true _ _ _ test)
-      | inr e ↦ rw e (record { stop = refl; digits = refl; behind = refl }, cond-true _ _ _ test)
+      | inl e ↦ rw e (record { stop = refl; digits = refl; following = refl }, cond-true _ _ _ test)
+      | inr e ↦ rw e (record { stop = refl; digits = refl; following = refl }, cond-true _ _ _ test)
     ]
 
 fraction_read : (point fraction tail : List ℕ) → IsPoint point fraction → All IsAsciiDigit fraction
     → IsRead tail [] tail → IsRead (point ++ (fraction ++ tail)) fraction tail
 fraction_read point fraction tail (inl dot) digits is =
     let found = digits_read fraction tail digits is.stop in
-    rw dot (record { stop = refl; digits = found.0; behind = found.1 })
+    rw dot (record { stop = refl; digits = found.0; following = found.1 })
 fraction_read point fraction tail (inr (none, empty)) digits is = rw (none, empty) is
 
-number_read : (text : List ℕ) (n : Decimal) → Spells text n → number_of text ≡ Some n
+number_read : (text : List ℕ) (n : Decimal) → Writes text n → number_of text ≡ Some n
 number_read text n h =
     let last = tail_read h.tail n.exponent h.is_tail in
     let is = fraction_read h.point n.fraction h.tail h.is_point h.fraction last.0 in
     let found = digits_read n.whole (h.point ++ (n.fraction ++ h.tail)) h.whole is.stop in
     let some = lt-ltb 0 (length (n.whole ++ n.fraction)) h.some in
-    rw (h.is_text, found.0, found.1, is.digits, is.behind, last.1, some) refl
+    rw (h.is_text, found.0, found.1, is.digits, is.following, last.1, some) refl
 
 -- ---- what is read is what the text spells
 
@@ -114,7 +114,7 @@ digits_are text k d below =
     rw (get_or-take count text k d (omega arith))
     ((digit_decides (get_or text k d)).0 (prefix_len_passes is_ascii_digit text k d (omega arith)))
 
-digits_whole : (text : List ℕ) → text ≡ digits_in_front text ++ behind_digits text
+digits_whole : (text : List ℕ) → text ≡ digits_in_front text ++ after_digits text
 digits_whole text = sym (take-append-drop (prefix_len is_ascii_digit text) text)
 
 record IsFound (rest fraction tail : List ℕ) : Type 0 where
@@ -127,7 +127,7 @@ no_fraction : (rest : List ℕ) → IsFound rest [] rest
 no_fraction rest =
     record { point = []; is_point = inr (refl, refl); is_rest = refl; digits = All-nil IsAsciiDigit }
 
-fraction_found : (rest : List ℕ) → IsFound rest (fraction_in_front rest) (behind_fraction rest)
+fraction_found : (rest : List ℕ) → IsFound rest (fraction_in_front rest) (after_fraction rest)
 fraction_found [] = no_fraction []
 fraction_found (b ∷ rest) = elim (cases_Bool (b == byte ".")) [
   | inl dot ↦ rw (dot, eqb-true b (byte ".") dot) (record {
@@ -168,14 +168,14 @@ with_found whole fraction o n is =
     made None is = cc
     made (Some e) is = (e, refl, cc)
 
-number_found : (text : List ℕ) (n : Decimal) → number_of text ≡ Some n → Spells text n
+number_found : (text : List ℕ) (n : Decimal) → number_of text ≡ Some n → Writes text n
 number_found text n e =
     let whole = digits_in_front text in
-    let fraction = fraction_in_front (behind_digits text) in
-    let tail = behind_fraction (behind_digits text) in
-    let is = fraction_found (behind_digits text) in
+    let fraction = fraction_in_front (after_digits text) in
+    let tail = after_fraction (after_digits text) in
+    let is = fraction_found (after_digits text) in
     let parts = with_found whole fraction (exponent_of tail) n e in
-    subst (Spells text) (sym parts.1.2) (record {
+    subst (Writes text) (sym parts.1.2) (record {
       point = is.point;
       tail = tail;
       is_text = digits_whole text ∙ ap (λ t. whole ++ t) is.is_rest;
@@ -241,21 +241,21 @@ infinite_number (b ∷ text) word e =
 
 named : (minus : Bool) (text : List ℕ) (delay : ℕ)
     → MatchBool minus (NamesZero text delay) (NamesSeconds text delay)
-    → delay_behind minus text ≡ Some delay
-named true text delay (n, spells, zeros, none) =
-    ap (λ o. option_and_then zero_of o) (number_read text n spells)
+    → delay_after minus text ≡ Some delay
+named true text delay (n, writes, zeros, none) =
+    ap (λ o. option_and_then zero_of o) (number_read text n writes)
     ∙ cond-true _ _ _ ((zero_decides n).1 zeros)
     ∙ ap Some (sym none)
 named false text delay (inl (infinite, greatest)) =
     cond-true _ _ _ ((infinite_decides text).1 infinite) ∙ ap Some (sym greatest)
-named false text delay (inr (n, spells, rounds)) =
+named false text delay (inr (n, writes, rounds)) =
     cond-false _ _ _ (false_from_ne_true (is_infinite text) (λ is. finite ((infinite_decides text).0 is)))
-    ∙ ap (λ o. option_map rounded o) (number_read text n spells)
+    ∙ ap (λ o. option_map rounded o) (number_read text n writes)
     ∙ ap Some (rounds_same n (rounded n) delay (rounded_rounds n) rounds)
   where
     finite : IsInfinite text → ⊥
-    finite (inl e) = cc (number_read text n spells, infinite_number text (codes "nf") e)
-    finite (inr e) = cc (number_read text n spells, infinite_number text (codes "nfinity") e)
+    finite (inl e) = cc (number_read text n writes, infinite_number text (codes "nf") e)
+    finite (inr e) = cc (number_read text n writes, infinite_number text (codes "nfinity") e)
 
 zero_found : (text : List ℕ) (delay : ℕ) (o : Option Decimal) → number_of text ≡ o
     → option_and_then zero_of o ≡ Some delay → NamesZero text delay
@@ -265,13 +265,13 @@ zero_found text delay (Some n) is e =
     (n, number_found text n is, (zero_decides n).0 zero, sym none)
 
 seconds_found : (text : List ℕ) (delay : ℕ) (o : Option Decimal) → number_of text ≡ o
-    → option_map rounded o ≡ Some delay → (n : Decimal) × Spells text n × Rounds n delay
+    → option_map rounded o ≡ Some delay → (n : Decimal) × Writes text n × Rounds n delay
 seconds_found text delay None is e = cc
 seconds_found text delay (Some n) is e =
     let same : rounded n ≡ delay = cc in
     (n, number_found text n is, subst (Rounds n) same (rounded_rounds n))
 
-found : (minus : Bool) (text : List ℕ) (delay : ℕ) → delay_behind minus text ≡ Some delay
+found : (minus : Bool) (text : List ℕ) (delay : ℕ) → delay_after minus text ≡ Some delay
     → MatchBool minus (NamesZero text delay) (NamesSeconds text delay)
 found true text delay e = zero_found text delay (number_of text) refl e
 found false text delay e = elim (cases_Bool (is_infinite text)) [
@@ -287,7 +287,7 @@ module _ (text : List ℕ) where
   abbrev unsigned : List ℕ
   unsigned = without_leading_sign text
 
-  pub is_delay : (delay : Option ℕ) → delay ≡ delay_behind minus unsigned → IsDelay text delay
+  pub is_delay : (delay : Option ℕ) → delay ≡ delay_after minus unsigned → IsDelay text delay
   is_delay None e = λ delay h. let same : None ≡ Some delay = e ∙ named minus unsigned delay h in cc
   is_delay (Some delay) e = found minus unsigned delay (sym e)
 
@@ -300,7 +300,7 @@ module _ (text : List ℕ) where
   is_delay_of (Some delay) h = sym (named minus unsigned delay h)
   is_delay_of None h = none (delay_of text) refl
     where
-      none : (o : Option ℕ) → delay_behind minus unsigned ≡ o → None ≡ o
+      none : (o : Option ℕ) → delay_after minus unsigned ≡ o → None ≡ o
       none None e = refl
       none (Some delay) e = absurd (h delay (found minus unsigned delay e))
 

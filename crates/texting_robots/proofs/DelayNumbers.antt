@@ -14,7 +14,7 @@ use Rattle.std.proofs.lemmas.{Nat.div-mul-add, Nat.pow-add, Str.digit_value_digi
 use Rattle.std.proofs.lemmas.List.{drop_all, length-append, places as listed, same_lists, take-replicate}
 use Rattle.std.proofs.lemmas.List.{take_all}
 use Rattle.texting_robots.specs.Delay.{Decimal, greatest_delay, negative_exponent, positive_exponent}
-use Rattle.texting_robots.specs.Steps.Delay.{HasDigits, bounded, places, rounded}
+use Rattle.texting_robots.specs.Internal.Delay.{HasDigits, bounded, places, rounded}
 
 abbrev after : ℕ → List ℕ → ℕ
 after n ds = digits_value_after 10 n ds
@@ -98,10 +98,10 @@ cut_off ds digits (suc k) =
     ]
 
 -- the digits up to a place, and zeros for those that are missing, are the number rounded down
-at_place : (n : Decimal) → All IsAsciiDigit (n.whole ++ n.fraction) → let ds = n.whole ++ n.fraction in
+at_position : (n : Decimal) → All IsAsciiDigit (n.whole ++ n.fraction) → let ds = n.whole ++ n.fraction in
     value ds * 10 ^ 6 * 10 ^ positive_exponent n / (10 ^ length n.fraction * 10 ^ negative_exponent n)
     ≡ value (take (places n) ds) * 10 ^ (places n - length ds)
-at_place n digits = at (n.whole ++ n.fraction) digits (length n.whole) (length n.fraction)
+at_position n digits = at (n.whole ++ n.fraction) digits (length n.whole) (length n.fraction)
     (positive_exponent n) (negative_exponent n) (length-append n.whole n.fraction)
   where
     at : (ds : List ℕ) → All IsAsciiDigit ds → (w f up down : ℕ) → length ds ≡ w + f → let p =
@@ -117,12 +117,12 @@ at_place n digits = at (n.whole ++ n.fraction) digits (length n.whole) (length n
         ∙ ap (λ x. m * 10 ^ a / x) (sym (pow-add 10 f down))
         ∙ elim (cases_lt a b) [
           | inl less ↦ (let missing : p - length ds ≡ 0 = omega arith in
-              let place : length ds - (b - a) ≡ p = omega arith in
+              let position : length ds - (b - a) ≡ p = omega arith in
               let parts : b ≡ (b - a) + a = omega arith in
               let cut : value (take p ds) ≡ value (take p ds) * 10 ^ 0 = rw (pow-zero 10) (omega arith) in
               ap (λ i. m * 10 ^ a / 10 ^ i) parts ∙ ap (λ x. m * 10 ^ a / x) (pow-add 10 (b - a) a)
               ∙ mul-div-mul_right m (10 ^ (b - a)) (one-le-pow a 10 (omega arith))
-              ∙ cut_off ds digits (b - a) ∙ ap (λ i. value (take i ds)) place
+              ∙ cut_off ds digits (b - a) ∙ ap (λ i. value (take i ds)) position
               ∙ cut ∙ ap (λ i. value (take p ds) * 10 ^ i) (sym missing))
           | inr more ↦ (let missing : a - b ≡ p - length ds = omega arith in
               let all : ds ≡ take p ds = sym (take_all p ds (omega arith)) in
@@ -179,7 +179,7 @@ pub micros_rounded : (n : Decimal) (p : ℕ) → HasDigits n → p ≡ bounded (
     let whole = bounded (after 0 (take p n.whole)) in
     bounded (after (bounded (after whole (take left n.fraction)))
     (take (left - length n.fraction) (zeros 20))) ≡ rounded n
-micros_rounded n p has place =
+micros_rounded n p has position =
     let ds = n.whole ++ n.fraction in
     let left = p - length n.whole in
     let missing = take (left - length n.fraction) (zeros 20) in
@@ -191,6 +191,6 @@ micros_rounded n p has place =
     ∙ ap (take p) (sym (append_assoc n.whole n.fraction (zeros 20))) in
     joined (take p n.whole) (take left n.fraction) missing
     ∙ ap (λ xs. bounded (value xs)) parts
-    ∙ ap (λ q. bounded (value (take q (ds ++ zeros 20)))) place
+    ∙ ap (λ q. bounded (value (take q (ds ++ zeros 20)))) position
     ∙ twenty ds (places n) room
-    ∙ ap bounded (sym (at_place n (All-append IsAsciiDigit n.whole n.fraction has.whole has.fraction)))
+    ∙ ap bounded (sym (at_position n (All-append IsAsciiDigit n.whole n.fraction has.whole has.fraction)))

@@ -6,17 +6,17 @@ use Rattle.std.proofs.{Math.Nat.mul-le-mul_left, lemmas.List.Elements.All-map, l
 use Rattle.std.proofs.lemmas.Bool.{cases_lt, cases_order, le-leb}
 use Rattle.std.proofs.lemmas.List.{get_or-map, get_or_default, length-drop}
 use Rattle.std.proofs.lemmas.List.{length-map, length-take}
-use Rattle.texting_robots.specs.declared.{pieces.Span.Span, rules.Entry.Entry, rules.Gathered.Gathered}
-use Rattle.texting_robots.specs.Steps.Entries.{AreEntries, AreSigned, GoesBefore, IsEntryOf, IsFirstMatch}
-use Rattle.texting_robots.specs.Steps.Entries.{MatchesAt, NoneMatches, no_entry, pattern_of, placed_at}
-use Rattle.texting_robots.specs.Steps.Entries.{rules_in, sign_in}
-use Rattle.texting_robots.specs.Steps.Needs.{AreApart, AreWithin, pair_set}
-use Rattle.texting_robots.specs.Steps.Pieces.{IsSpan, part_of}
+use Rattle.texting_robots.specs.declared.{pieces.Span.Span, rules.Entry.Entry, rules.Unsorted.Unsorted}
+use Rattle.texting_robots.specs.Internal.Entries.{AreEntries, HaveMasks, GoesBefore, IsEntryOf, IsFirstMatch}
+use Rattle.texting_robots.specs.Internal.Entries.{MatchesAt, NoneMatches, no_entry, pattern_of, placed_at}
+use Rattle.texting_robots.specs.Internal.Entries.{rules_in, mask_in}
+use Rattle.texting_robots.specs.Internal.Prefilter.{AreApart, AreWithin, pair_set}
+use Rattle.texting_robots.specs.Internal.Segments.{IsSpan, part_of}
 use Rattle.texting_robots.specs.Decision.{IsDecidingRule, IsLongestMatch, LooksForRules, as_long_as}
 use Rattle.texting_robots.specs.{Rules.PlacedRule, Rules.unplaced, View.LooksAtMost, View.ViewValue}
 use Rattle.texting_robots.specs.Verdict.{IsVerdict, robots_file}
 use Rattle.texting_robots.specs.Pattern.{Matches}
-use Rattle.texting_robots.proofs.NeedLemmas.{beginning_within, within_both}
+use Rattle.texting_robots.proofs.PrefilterLemmas.{beginning_within, within_both}
 use Rattle.texting_robots.proofs.BestLemmas.{IsAbove, IsBest, IsPreferred, NoMatch, best_decides}
 use Rattle.texting_robots.proofs.BestLemmas.{deciding_longest, longer, rank_of, verdict_by}
 
@@ -38,28 +38,28 @@ at_most_more old new few many more is =
     record { text = is.text; looks = is.looks; cost = omega arith }
 
 -- the rules before this place were tried: none matches, and none took more looks than it may
-pub record AreTried (all : Gathered) (old new : ViewValue) (at : ℕ) : Type 0 where
+pub record AreTried (all : Unsorted) (old new : ViewValue) (at : ℕ) : Type 0 where
   pub text : new.text ≡ old.text
   pub before : (k : ℕ) → k < at → MatchesAt all k old.text → ⊥
   pub grows : old.looks ≤ new.looks
   pub cost : new.looks ≤ old.looks + 2 * length old.text * at
 
 -- what an entry's pattern matches has the entry's sign among its pairs
-sign_within : (all : Gathered) (entry : Entry) → IsEntryOf all entry → (text : List ℕ)
+mask_within : (all : Unsorted) (entry : Entry) → IsEntryOf all entry → (text : List ℕ)
     → Matches (pattern_of all entry) text
-    → AreWithin (sign_in (string_bytes all.text) entry) (pair_set text)
-sign_within all entry is text matches =
+    → AreWithin (mask_in (string_bytes all.text) entry) (pair_set text)
+mask_within all entry is text matches =
     let pattern = pattern_of all entry in
     let (rest, split, _) = (is.is_cut.decides text).0 matches in
     within_both _ _ _ (is.needed text matches).pairs
     (beginning_within pattern rest text (min entry.ends.first_len 9) entry.ends.first_len (omega arith) split)
 
 -- rules whose signs are apart from the text's needn't be tried
-pub apart_tried : (all : Gathered) (old new : ViewValue) (from to : ℕ) → AreEntries all
-    → AreSigned (string_bytes all.text) all.entries.items all.signs.items → from ≤ to
-    → to ≤ length all.entries.items → AreApart all.signs.items (pair_set new.text) from to
+pub apart_tried : (all : Unsorted) (old new : ViewValue) (from to : ℕ) → AreEntries all
+    → HaveMasks (string_bytes all.text) all.entries.items all.masks.items → from ≤ to
+    → to ≤ length all.entries.items → AreApart all.masks.items (pair_set new.text) from to
     → AreTried all old new from → AreTried all old new to
-apart_tried all old new from to are signed up within apart tried =
+apart_tried all old new from to are masked up within apart tried =
     let more = mul-le-mul_left (2 * length old.text) up in
     record {
       text = tried.text;
@@ -68,7 +68,7 @@ apart_tried all old new from to are signed up within apart tried =
         | inr late ↦
             let (here, differs) = apart k late below in
             let is = are.known k no_entry (omega arith) in
-            let within = rw (← signed k here) at (sign_within all _ is old.text matches) in
+            let within = rw (← masked k here) at (mask_within all _ is old.text matches) in
             differs (rw tried.text within)
       ];
       grows = tried.grows;
@@ -82,7 +82,7 @@ part_length : {X : Type 0} (xs : List X) (span : Span) → IsSpan xs span
 part_length xs span h =
     simp (length-take, length-drop) (omega arith)
 
-module _ (all : Gathered) (known : All (IsEntryOf all) all.entries.items) where
+module _ (all : Unsorted) (known : All (IsEntryOf all) all.entries.items) where
   abbrev entry_at : ℕ → Entry
   entry_at k = get_or all.entries.items k no_entry
 
@@ -98,8 +98,8 @@ module _ (all : Gathered) (known : All (IsEntryOf all) all.entries.items) where
       let is : IsEntryOf all (entry_at k) = known k no_entry below in
       rw (part_length (string_bytes all.text) (entry_at k).pattern is.pattern) (sym is.ranked)
 
-  pub none_stands : (text : List ℕ) → NoneMatches all text → NoMatch (rules_in all) text
-  none_stands text none rule (k, below, here) fits =
+  pub none_occurs : (text : List ℕ) → NoneMatches all text → NoMatch (rules_in all) text
+  none_occurs text none rule (k, below, here) fits =
       let within : k < length all.entries.items = rw length-map at below in
       none k within (rw (sym here, rule_is k rule within) at fits)
 

@@ -5,14 +5,14 @@ use Rattle.std.proofs.Common.{refl, sym, ap, ◌∙◌, arith, add-zero, zero-ad
 use Rattle.std.specs.{Prelude.IsTrue, Prelude.filter, Option.option_or, Str.is_utf8}
 use Rattle.std.specs.List.{cons_option, enumerate_from, filter_map, last_or, list_any}
 use Rattle.std.proofs.lemmas.{Bool.cases_Bool, Option.slice_get_within}
-use Rattle.texting_robots.specs.Computed.{captured_delays, delay_before_agents, delay_for, sitemap_in}
-use Rattle.texting_robots.specs.Computed.{sitemaps_in}
+use Rattle.texting_robots.specs.Executable.{captured_delays, delay_before_agents, delay_for, sitemap_in}
+use Rattle.texting_robots.specs.Executable.{sitemaps_in}
 use Rattle.texting_robots.specs.Group.{group_name, is_agent, passes_at}
 use Rattle.texting_robots.specs.Line.{LineValue, CrawlDelay, Sitemap}
 use Rattle.texting_robots.specs.Line.{delay_in}
 use Rattle.texting_robots.specs.Rules.{AreSitemapsOf, IsCapturedDelay, IsDelayFor, IsEarlyDelay, IsFirst}
 use Rattle.texting_robots.specs.Rules.{IsLast, ListsSitemap, Nowhere}
-use Rattle.texting_robots.specs.Steps.Captured.{is_captured}
+use Rattle.texting_robots.specs.Internal.Captured.{is_captured}
 use Rattle.texting_robots.proofs.CapturedLemmas.{cond_given, is_captured_decides, kept_next, some_passes}
 use Rattle.texting_robots.proofs.RulesLemmas.{before_agent, before_agents, last_more, option_or_none}
 
@@ -41,18 +41,18 @@ first_next : (P Q : ℕ → ℕ → Type 0) (here found : Option ℕ) → Step P
     → FirstAt P (option_or here found)
 first_next P Q (Some n) found step is = (0, (step.at n).1 refl, λ other m has. omega arith)
 first_next P Q None None step is = nowhere_next P Q step is
-first_next P Q None (Some n) step (place, is, least) =
-    (suc place, (step.later place n).1 is, sooner)
+first_next P Q None (Some n) step (position, is, least) =
+    (suc position, (step.later position n).1 is, sooner)
   where
-    sooner : (other m : ℕ) → P other m → suc place ≤ other
+    sooner : (other m : ℕ) → P other m → suc position ≤ other
     sooner zero m has = let k = (step.at m).0 has in cc
     sooner (suc other) m has = let k = least other m ((step.later other m).0 has) in omega arith
 
 last_next : (P Q : ℕ → ℕ → Type 0) (here found : Option ℕ) → Step P Q here → LastOf Q found
     → LastOf P (option_or found here)
-last_next P Q here (Some n) step (place, is, greatest) = (suc place, (step.later place n).1 is, before)
+last_next P Q here (Some n) step (position, is, greatest) = (suc position, (step.later position n).1 is, before)
   where
-    before : (other m : ℕ) → P other m → other ≤ suc place
+    before : (other m : ℕ) → P other m → other ≤ suc position
     before zero m has = omega arith
     before (suc other) m has = let k = greatest other m ((step.later other m).0 has) in omega arith
 last_next P Q None None step none = nowhere_next P Q step none
@@ -66,8 +66,8 @@ first_same : (P Q : ℕ → ℕ → Type 0) (found : Option ℕ) → ((k n : ℕ
     → FirstAt P found
     → FirstAt Q found
 first_same P Q None same none = λ k n is. none k n ((same k n).1 is)
-first_same P Q (Some n) same (place, is, least) =
-    (place, (same place n).0 is, λ other m has. least other m ((same other m).1 has))
+first_same P Q (Some n) same (position, is, least) =
+    (position, (same position n).0 is, λ other m has. least other m ((same other m).1 has))
 
 -- ---- captured delays
 
@@ -138,14 +138,14 @@ before_step line lines isnt = record {
   );
   later = λ k delay. (
     λ (is, none). (is, λ j less. none (suc j) (omega arith)),
-    λ (is, none). (is, behind none),
+    λ (is, none). (is, following none),
   );
 }
   where
-    behind : {k : ℕ} → ((j : ℕ) → j < k → ¬ IsTrue (passes_at is_agent lines j))
+    following : {k : ℕ} → ((j : ℕ) → j < k → ¬ IsTrue (passes_at is_agent lines j))
         → (j : ℕ) → j < suc k → ¬ IsTrue (passes_at is_agent (line ∷ lines) j)
-    behind none zero less is = cc
-    behind none (suc j) less is = none j (omega arith) is
+    following none zero less is = cc
+    following none (suc j) less is = none j (omega arith) is
 
 -- what is last of all, or else before them
 last_some : (x : ℕ) (xs : List ℕ) → (n : ℕ) × (last_or (Some x) xs ≡ Some n)
@@ -176,7 +176,7 @@ early : (lines : List LineValue) (at : ℕ) → passes_at is_agent lines at ≡ 
     → BeforeAgents lines k delay → IsEarlyDelay lines k delay
 early lines at agent k delay (is, none) =
     let not_here : k ≡ at → ⊥ = λ here. let wrong = rw (rw here at is) at agent in cc in
-    let not_behind : at < k → ⊥ = λ less. none at less agent in
+    let not_after : at < k → ⊥ = λ less. none at less agent in
     (is, none, at, omega arith, agent)
 
 last_early : (lines : List LineValue) → LastOf (IsEarlyDelay lines) (delay_before_agents lines)
@@ -189,9 +189,9 @@ last_early lines = elim (cases_Bool (list_any is_agent lines)) [
     given : (at : ℕ) × (passes_at is_agent lines at ≡ true) → (o : Option ℕ)
         → LastOf (BeforeAgents lines) o → LastOf (IsEarlyDelay lines) o
     given agent None none = λ k delay has. none k delay (has.0, has.1)
-    given agent (Some n) (place, is, greatest) = (
-      place,
-      early lines agent.0 agent.1 place n is,
+    given agent (Some n) (position, is, greatest) = (
+      position,
+      early lines agent.0 agent.1 position n is,
       λ other m has. greatest other m (has.0, has.1),
     )
 

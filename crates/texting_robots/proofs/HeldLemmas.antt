@@ -10,14 +10,14 @@ use Rattle.std.proofs.lemmas.List.Elements.{Contains-get_or}
 use Rattle.std.proofs.lemmas.List.Sorted.{IsPermutation-cons, IsPermutation-keeps}
 use Rattle.std.proofs.lemmas.List.Sorted.{IsPermutation-refl, IsPermutation-remove, IsPermutation-sym}
 use Rattle.std.proofs.lemmas.List.Sorted.{IsPermutation-trans}
-use Rattle.texting_robots.specs.Computed.{placed_in, placed_rules, rule_in, rules_for}
-use Rattle.texting_robots.specs.Rules.{PlacedRule, Rule, AreRulesFor, IsRefused}
+use Rattle.texting_robots.specs.Executable.{placed_in, placed_rules, rule_in, rules_for}
+use Rattle.texting_robots.specs.Rules.{PlacedRule, Rule, AreRulesFor, IsRejected}
 use Rattle.texting_robots.specs.{Line.LineValue, Group.group_name}
-use Rattle.texting_robots.specs.{Steps.Captured.is_captured, Steps.Group.placed, Pattern.IsOverlong}
+use Rattle.texting_robots.specs.{Internal.Captured.is_captured, Internal.Group.placed, Pattern.IsOverlong}
 use Rattle.texting_robots.proofs.CapturedLemmas.{cond_given, kept_next}
 use Rattle.texting_robots.proofs.{PlacedLemmas.placed_held, PlacedLemmas.rules_come, PlacedLemmas.rules_from}
 use Rattle.texting_robots.proofs.{RulesLemmas.any_unplaced, BestLemmas.placed_of}
-use Rattle.texting_robots.proofs.VerdictLemmas.{behind_first, same_elements}
+use Rattle.texting_robots.proofs.VerdictLemmas.{after_first, same_elements}
 
 -- ---- lists in which no line stands twice
 
@@ -25,9 +25,9 @@ abbrev pub AreApart : List PlacedRule → Type 0
 AreApart rules = AllPairs (λ (one other : PlacedRule). one.line ≢ other.line) rules
 
 -- rules on one line stand at one place
-one_place : (rules : List PlacedRule) → AreApart rules → (i j : ℕ) (d : PlacedRule) → i < length rules
+one_position : (rules : List PlacedRule) → AreApart rules → (i j : ℕ) (d : PlacedRule) → i < length rules
     → j < length rules → (get_or rules i d).line ≡ (get_or rules j d).line → i ≡ j
-one_place rules apart i j d p q same =
+one_position rules apart i j d p q same =
     let not_below : i < j → ⊥ = λ less. apart i j d less q same in
     let not_above : j < i → ⊥ = λ less. apart j i d less p (sym same) in
     omega arith
@@ -52,7 +52,7 @@ apart_swapped rules a b p q apart i j d less within same =
     let x = origin _ _ a b i s (cases_eq i a) (cases_eq i b) in
     let y = origin _ _ a b j s (cases_eq j a) (cases_eq j b) in
     let line = λ (placed : PlacedRule). placed.line in
-    let one = one_place rules apart x.0 y.0 d (omega (arith, x.1)) (omega (arith, y.1))
+    let one = one_position rules apart x.0 y.0 d (omega (arith, x.1)) (omega (arith, y.1))
     (sym (ap line x.2) ∙ same ∙ ap line y.2) in
     omega (arith, x.1, y.1)
 
@@ -74,14 +74,14 @@ apart_first first rules apart (k, below, at) =
 abbrev IsOther : PlacedRule → List PlacedRule → PlacedRule → Type 0
 IsOther first rules placed = Contains rules placed × ¬ ◌≡◌ {A = PlacedRule} first placed
 
-behind : (first : PlacedRule) (rules : List PlacedRule) → AreApart (first ∷ rules)
+following : (first : PlacedRule) (rules : List PlacedRule) → AreApart (first ∷ rules)
     → (placed : PlacedRule) → Contains rules placed ↔ IsOther first (first ∷ rules) placed
-behind first rules apart placed = (
+following first rules apart placed = (
   λ (k, below, at). (
     (suc k, omega arith, at),
     λ same. apart_first first rules apart (k, omega arith, rw same at),
   ),
-  λ (has, other). behind_first first rules placed other has,
+  λ (has, other). after_first first rules placed other has,
 )
 
 -- lists with the same members, each once, are one list in two orders
@@ -97,8 +97,8 @@ same_members (first ∷ rules) others one two same =
     let apart = apart_permuted others _ moved two in
     let alike = same_elements others _ moved in
     let rest = same_members rules _ (apart_tail first rules one) (apart_tail first _ apart) (λ placed.
-    let (mine, back) = behind first rules one placed in
-    let (theirs, left) = behind first _ apart placed in (
+    let (mine, back) = following first rules one placed in
+    let (theirs, left) = following first _ apart placed in (
       λ has.
           let (listed, other) = mine has in
           left ((alike placed).0 ((same placed).0 listed), other),
@@ -111,11 +111,11 @@ same_members (first ∷ rules) others one two same =
 -- ---- each list of lines has its rules
 
 -- the number of the line that gives a rule
-given_number : (passes : Bool) (place : ℕ) (line : LineValue) (found : PlacedRule)
-    → cond passes (placed_in (place, line)) None ≡ Some found → found.line ≡ place + 1
-given_number passes place line found is = at (rule_in line) ((cond_given passes _ found).0 is).1
+given_number : (passes : Bool) (position : ℕ) (line : LineValue) (found : PlacedRule)
+    → cond passes (placed_in (position, line)) None ≡ Some found → found.line ≡ position + 1
+given_number passes position line found is = at (rule_in line) ((cond_given passes _ found).0 is).1
   where
-    at : (rule : Option Rule) → placed (place + 1) rule ≡ Some found → found.line ≡ place + 1
+    at : (rule : Option Rule) → placed (position + 1) rule ≡ Some found → found.line ≡ position + 1
     at None is = cc
     at (Some rule) is = cc
 
@@ -136,10 +136,10 @@ rules_apart test n (line ∷ lines) =
     let rules = rules_from test (n + 1) lines in
     rw (kept_next (test n) placed_in (n, line)) (apart_with _ rules (λ found is k d below same.
     let other = get_or rules k d in
-    let (far, place, behind, ahead, at, gives) =
+    let (far, position, following, ahead, at, gives) =
     (rules_come test (n + 1) lines other).0 (Contains-get_or rules k d below) in
     let here = given_number _ n line found is in
-    let there = given_number _ place behind other gives in
+    let there = given_number _ position following other gives in
     omega arith)
     (rules_apart test (n + 1) lines))
 
@@ -174,16 +174,16 @@ rules_are_computed agent lines rules = (
 )
 
 -- a file is refused where one of these is overlong
-pub refusal_is_computed : (agent : List ℕ) (lines : List LineValue)
-    → IsRefused agent lines ↔ Any (λ (rule : Rule). IsOverlong rule.0) (rules_for agent lines)
-refusal_is_computed agent lines = (
-  λ (place, rule, holds, overlong).
-      let found : PlacedRule = record { rule = rule; line = place + 1 } in
-      let (k, below, at) = (placed_held agent lines found).1 (place, refl, holds) in
+pub rejection_is_computed : (agent : List ℕ) (lines : List LineValue)
+    → IsRejected agent lines ↔ Any (λ (rule : Rule). IsOverlong rule.0) (rules_for agent lines)
+rejection_is_computed agent lines = (
+  λ (position, rule, holds, overlong).
+      let found : PlacedRule = record { rule = rule; line = position + 1 } in
+      let (k, below, at) = (placed_held agent lines found).1 (position, refl, holds) in
       any_unplaced (λ (rule : Rule). IsOverlong rule.0) (placed_rules agent lines)
       (k, found, below, at, overlong),
   λ (k, rule, below, at, overlong).
       let (found, has, same) = placed_of (placed_rules agent lines) rule (k, below, at) in
-      let (place, number, holds) = (placed_held agent lines found).0 has in
-      (place, found.rule, holds, subst (λ (r : Rule). IsOverlong r.0) (sym same) overlong),
+      let (position, number, holds) = (placed_held agent lines found).0 has in
+      (position, found.rule, holds, subst (λ (r : Rule). IsOverlong r.0) (sym same) overlong),
 )

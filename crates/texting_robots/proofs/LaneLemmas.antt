@@ -16,15 +16,15 @@ use Rattle.std.specs.Option.{unwrap_or}
 use Rattle.memchr.specs.Find.{IsFirstByte}
 use Rattle.texting_robots.specs.Escape.{is_escaped}
 use Rattle.texting_robots.specs.Pattern.{dollar, star}
-use Rattle.texting_robots.specs.Steps.Pieces.{is_mark}
-use Rattle.texting_robots.proofs.RegionLemmas.{place_is, end_is}
+use Rattle.texting_robots.specs.Internal.Segments.{is_wildcard}
+use Rattle.texting_robots.proofs.RegionLemmas.{position_is, end_is}
 
 -- the first lane that is marked is the first byte that passes
-pub first_marked : (f : ℕ → ℕ) (width : ℕ) (v lanes : List ℕ) → width ≤ 64
+pub first_labeled : (f : ℕ → ℕ) (width : ℕ) (v lanes : List ℕ) → width ≤ 64
     → length v ≡ width → lanes ≡ map f v
     → (let mask = mask_l (map (top 7) lanes) % 2 ^ 64 in
     (if mask == 0 then width else trailing_zeros w64 mask) ≡ position_or_len (λ b. top 7 (f b)) v)
-first_marked f width v lanes fits long lanes_are =
+first_labeled f width v lanes fits long lanes_are =
     let test = λ (b : ℕ). top 7 (f b) in
     let mask : mask_l (map (top 7) lanes) % 2 ^ 64 ≡ mask_l (map test v)
     = ap (λ l. mask_l l % 2 ^ 64) (ap (map (top 7)) lanes_are ∙ map-map (top 7) f v)
@@ -62,11 +62,11 @@ module _ (test : ℕ → Bool) (text : List ℕ) where
       let whole = (first_seen k within).1 none in
       let parts = first_seen n (omega arith) in
       let short = length-drop n text in
-      let behind : take k (take (length text - n) (drop n text)) ≡ drop n text
+      let following : take k (take (length text - n) (drop n text)) ≡ drop n text
       = ap (take k) (take_rest text n) ∙ take_all k (drop n text) (omega arith) in
       elim (cases_lt (position_or_len test (take n text)) n) [
         | inl less ↦ absurd (omega (arith, parts.0 less, whole))
-        | inr more ↦ parts.1 more ∙ ap (λ l. n + position_or_len test l) (sym behind)
+        | inr more ↦ parts.1 more ∙ ap (λ l. n + position_or_len test l) (sym following)
       ]
 
   pub within_front : (k : ℕ) → position_or_len test (take k text) ≤ k
@@ -78,7 +78,7 @@ module _ (test : ℕ → Bool) (text : List ℕ) where
   pub found_or_end : (found : Option ℕ) → IsFirstByte test text found
       → unwrap_or found (length text) ≡ position_or_len test text
   found_or_end None none = sym (end_is test text none)
-  found_or_end (Some k) first = sym (place_is test text k first.0 first.1)
+  found_or_end (Some k) first = sym (position_is test text k first.0 first.1)
 
 -- the first k bytes pass, so the rest tells how many pass in front
 pub all_seen : (test : ℕ → Bool) (k : ℕ) (text : List ℕ) → k ≤ length text
@@ -92,31 +92,31 @@ all_seen test (suc k) (b ∷ text) within all = elim (cases_Bool (test b)) [
 
 -- ---- the lanes that hold a star or a dollar
 
-abbrev mark : ℕ → ℕ
-mark b = bit_or (cond (b == star) 255 0) (cond (b == dollar) 255 0)
+abbrev flag : ℕ → ℕ
+flag b = bit_or (cond (b == star) 255 0) (cond (b == dollar) 255 0)
 
-mark_is : (b : ℕ) → top 7 (mark b) ≡ is_mark b
-mark_is b = marked_by (b == star) (b == dollar)
+label_is : (b : ℕ) → top 7 (flag b) ≡ is_wildcard b
+label_is b = labeled_by (b == star) (b == dollar)
   where
-    marked_by : (x y : Bool) → top 7 (bit_or (cond x 255 0) (cond y 255 0)) ≡ (x || y)
-    marked_by true true = refl
-    marked_by true false = refl
-    marked_by false true = refl
-    marked_by false false = refl
+    labeled_by : (x y : Bool) → top 7 (bit_or (cond x 255 0) (cond y 255 0)) ≡ (x || y)
+    labeled_by true true = refl
+    labeled_by true false = refl
+    labeled_by false true = refl
+    labeled_by false false = refl
 
-pub first_mark_lane : (width : ℕ) (v lanes : List ℕ) → width ≤ 64 → length v ≡ width
-    → lanes ≡ map mark v
+pub first_wildcard_lane : (width : ℕ) (v lanes : List ℕ) → width ≤ 64 → length v ≡ width
+    → lanes ≡ map flag v
     → (let mask = mask_l (map (top 7) lanes) % 2 ^ 64 in
-    (if mask == 0 then width else trailing_zeros w64 mask) ≡ position_or_len is_mark v)
-first_mark_lane width v lanes fits long lanes_are = first_marked mark width v lanes fits long lanes_are
-    ∙ ap (λ test. position_or_len test v) (fun_ext mark_is)
+    (if mask == 0 then width else trailing_zeros w64 mask) ≡ position_or_len is_wildcard v)
+first_wildcard_lane width v lanes fits long lanes_are = first_labeled flag width v lanes fits long lanes_are
+    ∙ ap (λ test. position_or_len test v) (fun_ext label_is)
 
 -- ---- the lanes that hold an escaped byte
 
 -- some lane is marked just if some byte passes
-pub any_marked : (f : ℕ → ℕ) (v lanes : List ℕ) → length v ≤ 64 → lanes ≡ map f v
+pub any_flagged : (f : ℕ → ℕ) (v lanes : List ℕ) → length v ≤ 64 → lanes ≡ map f v
     → not (mask_l (map (top 7) lanes) % 2 ^ 64 == 0) ≡ list_any (λ b. top 7 (f b)) v
-any_marked f v lanes fits lanes_are =
+any_flagged f v lanes fits lanes_are =
     let test = λ (b : ℕ). top 7 (f b) in
     ap (λ m. not (m == 0)) (ap (λ l. mask_l l % 2 ^ 64) (ap (map (top 7)) lanes_are ∙ map-map (top 7) f v)
     ∙ mask_l-mod (map test v) 64 (omega (arith, length-map v test)))
@@ -172,5 +172,5 @@ escape_lane_is b =
 
 pub escaped_lane : (v lanes : List ℕ) → length v ≤ 64 → lanes ≡ map escape_lane v
     → not (mask_l (map (top 7) lanes) % 2 ^ 64 == 0) ≡ list_any is_escaped v
-escaped_lane v lanes fits lanes_are = any_marked escape_lane v lanes fits lanes_are
+escaped_lane v lanes fits lanes_are = any_flagged escape_lane v lanes fits lanes_are
     ∙ ap (λ test. list_any test v) (fun_ext escape_lane_is)

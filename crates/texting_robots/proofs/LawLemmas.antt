@@ -5,18 +5,18 @@ use Rattle.std.proofs.Common.{cond, codes, zero-add, add-zero, arith, sym, refl,
 use Rattle.std.specs.{List.Any, List.cons_option, List.filter_map, List.list_any, Str.str_to_ascii_lowercase}
 use Rattle.std.proofs.lemmas.Bool.{cases_Bool, false≢true, false_from_ne_true}
 use Rattle.std.proofs.lemmas.List.{Elements.filter_map-append, Folds.list_any-append}
-use Rattle.texting_robots.specs.{declared.groups.Walk.Walk, Rules.Rule, Pattern.IsOverlong, Verdict.IsVerdict}
+use Rattle.texting_robots.specs.{declared.groups.GroupTracker.GroupTracker, Rules.Rule, Pattern.IsOverlong, Verdict.IsVerdict}
 use Rattle.texting_robots.specs.Line.{LineValue, Allow, Disallow, Sitemap, CrawlDelay, Raw, delay_in, is_raw}
 use Rattle.texting_robots.specs.Line.{is_sitemap}
 use Rattle.texting_robots.specs.Group.{group_name, is_agent, is_agent_named, is_group, IsCaptured}
-use Rattle.texting_robots.specs.Computed.{delay_for, rule_in, rules_for, sitemap_in, sitemaps_in}
-use Rattle.texting_robots.specs.Steps.Group.{start_of, step}
+use Rattle.texting_robots.specs.Executable.{delay_for, rule_in, rules_for, sitemap_in, sitemaps_in}
+use Rattle.texting_robots.specs.Internal.Group.{start_of, step}
 use Rattle.texting_robots.specs.Laws.{IsSameKind, Same, SameButSitemaps}
 use Rattle.texting_robots.proofs.CapturedLemmas.{IsWalkAt, at_front, cond_same, delays_are, given_captured}
-use Rattle.texting_robots.proofs.CapturedLemmas.{is_captured_decides, only_agents, rules_are, stands_first}
-use Rattle.texting_robots.proofs.CapturedLemmas.{stands_next}
+use Rattle.texting_robots.proofs.CapturedLemmas.{is_captured_decides, only_agents, rules_are, occurs_first}
+use Rattle.texting_robots.proofs.CapturedLemmas.{occurs_next}
 use Rattle.texting_robots.proofs.RulesLemmas.{before_agent, before_agents}
-use Rattle.texting_robots.proofs.HeldLemmas.{refusal_is_computed}
+use Rattle.texting_robots.proofs.HeldLemmas.{rejection_is_computed}
 
 -- ---- lists that give the same
 
@@ -30,9 +30,9 @@ same_from agent lines other others rules delay = record {
   rules = rules;
   verdict = λ text answer. along (λ (r : List Rule). IsVerdict r text answer) _ _ rules;
   delay = delay;
-  refusal =
-      let one = refusal_is_computed agent lines in
-      let two = refusal_is_computed other others in
+  rejection =
+      let one = rejection_is_computed agent lines in
+      let two = rejection_is_computed other others in
       let same = along (λ (r : List Rule). Any (λ (rule : Rule). IsOverlong rule.0) r) _ _ rules in
       (λ is. two.1 (same.0 (one.0 is)), λ is. one.1 (same.1 (two.0 is)));
 }
@@ -71,7 +71,7 @@ same_alike agent lines others are = same_from agent lines agent others
         let name : group_name agent lines ≡ group_name agent others =
         ap (λ b. cond b low (codes "*")) (are.named low) in
         let start : start_of lines ≡ start_of others =
-        ap (λ b. let walk : Walk = record { captured = not b; named = false } in walk) are.agents in
+        ap (λ b. let tracker : GroupTracker = record { captured = not b; named = false } in tracker) are.agents in
         same ∙ rw (name, start) refl
 
 -- ---- lines that are left out
@@ -111,22 +111,22 @@ module _ (keep : LineValue → Bool)
 
   captured_kept : {X : Type 0} (given : LineValue → Option X)
       → ((line : LineValue) → is_group line ≡ false → given line ≡ None)
-      → (name : List ℕ) (walk : Walk) (lines : List LineValue)
-      → given_captured given name walk lines ≡ given_captured given name walk (filter keep lines)
-  captured_kept given drops name walk [] = refl
-  captured_kept {X} given drops name walk (line ∷ lines) = elim (cases_Bool (keep line)) [
-    | inl keeps ↦ rw keeps (ap (cons_option (cond walk.captured (given line) None))
-        (captured_kept given drops name (step name walk line) lines))
+      → (name : List ℕ) (tracker : GroupTracker) (lines : List LineValue)
+      → given_captured given name tracker lines ≡ given_captured given name tracker (filter keep lines)
+  captured_kept given drops name tracker [] = refl
+  captured_kept {X} given drops name tracker (line ∷ lines) = elim (cases_Bool (keep line)) [
+    | inl keeps ↦ rw keeps (ap (cons_option (cond tracker.captured (given line) None))
+        (captured_kept given drops name (step name tracker line) lines))
     | inr dropped ↦
         let is = neutral line dropped in
         rw (
           dropped,
           drops line is.group,
-          cond_same {X = Option X} walk.captured None,
+          cond_same {X = Option X} tracker.captured None,
           is.agent,
           is.group,
           only_agents name line is.agent,
-        ) (captured_kept given drops name walk lines)
+        ) (captured_kept given drops name tracker lines)
   ]
 
   before_kept : (lines : List LineValue)
@@ -210,40 +210,40 @@ same_kind (Disallow value) (Disallow other) same =
 same_kind line other differ = absurd differ
 
 -- the walk after these lines
-abbrev walked : List ℕ → Walk → List LineValue → Walk
-walked name walk [] = walk
-walked name walk (line ∷ lines) = walked name (step name walk line) lines
+abbrev walked : List ℕ → GroupTracker → List LineValue → GroupTracker
+walked name tracker [] = tracker
+walked name tracker (line ∷ lines) = walked name (step name tracker line) lines
 
-stands_walked : (name : List ℕ) (all : List LineValue) (walk : Walk) (place : ℕ)
+occurs_walked : (name : List ℕ) (all : List LineValue) (tracker : GroupTracker) (position : ℕ)
     (front back : List LineValue)
-    → IsWalkAt name all place walk → drop place all ≡ front ++ back
-    → IsWalkAt name all (place + length front) (walked name walk front)
-stands_walked name all walk place [] back stands left = rw (add-zero place) stands
-stands_walked name all walk place (line ∷ front) back stands left =
-    let (at, next) = at_front all place line (front ++ back) left in
-    let here = stands_next name all place walk line at stands in
-    let sum : place + suc (length front) ≡ (place + 1) + length front = omega arith in
-    rw sum (stands_walked name all (step name walk line) (place + 1) front back here next)
+    → IsWalkAt name all position tracker → drop position all ≡ front ++ back
+    → IsWalkAt name all (position + length front) (walked name tracker front)
+occurs_walked name all tracker position [] back splits left = rw (add-zero position) splits
+occurs_walked name all tracker position (line ∷ front) back splits left =
+    let (at, next) = at_front all position line (front ++ back) left in
+    let here = occurs_next name all position tracker line at splits in
+    let sum : position + suc (length front) ≡ (position + 1) + length front = omega arith in
+    rw sum (occurs_walked name all (step name tracker line) (position + 1) front back here next)
 
 -- what is the same behind these lines is the same with them
-captured_behind : {X : Type 0} (given : LineValue → Option X) (name : List ℕ) (walk : Walk)
+captured_after : {X : Type 0} (given : LineValue → Option X) (name : List ℕ) (tracker : GroupTracker)
     (front back others : List LineValue)
-    → given_captured given name (walked name walk front) back
-    ≡ given_captured given name (walked name walk front) others
-    → given_captured given name walk (front ++ back) ≡ given_captured given name walk (front ++ others)
-captured_behind given name walk [] back others same = same
-captured_behind given name walk (line ∷ front) back others same =
-    ap (cons_option (cond walk.captured (given line) None))
-    (captured_behind given name (step name walk line) front back others same)
+    → given_captured given name (walked name tracker front) back
+    ≡ given_captured given name (walked name tracker front) others
+    → given_captured given name tracker (front ++ back) ≡ given_captured given name tracker (front ++ others)
+captured_after given name tracker [] back others same = same
+captured_after given name tracker (line ∷ front) back others same =
+    ap (cons_option (cond tracker.captured (given line) None))
+    (captured_after given name (step name tracker line) front back others same)
 
-before_behind : (front back others : List LineValue)
+before_after : (front back others : List LineValue)
     → filter_map delay_in (before_agent back) ≡ filter_map delay_in (before_agent others)
     → filter_map delay_in (before_agent (front ++ back))
     ≡ filter_map delay_in (before_agent (front ++ others))
-before_behind [] back others same = same
-before_behind (line ∷ front) back others same = elim (cases_Bool (is_agent line)) [
+before_after [] back others same = same
+before_after (line ∷ front) back others same = elim (cases_Bool (is_agent line)) [
   | inl agent ↦ rw agent refl
-  | inr other ↦ rw other (ap (cons_option (delay_in line)) (before_behind front back others same))
+  | inr other ↦ rw other (ap (cons_option (delay_in line)) (before_after front back others same))
 ]
 
 pub uncaptured_reaches_nothing : (agent : List ℕ) (front back : List LineValue) (line other : LineValue)
@@ -254,18 +254,18 @@ uncaptured_reaches_nothing agent front back line other kind uncaptured =
     let lines : List LineValue = front ++ line ∷ back in
     let name = group_name agent lines in
     let alike = same_kind line other kind in
-    let stands = stands_walked name lines (start_of lines) 0 front (line ∷ back)
-    (stands_first name lines) refl in
+    let splits = occurs_walked name lines (start_of lines) 0 front (line ∷ back)
+    (occurs_first name lines) refl in
     let here : IsWalkAt name lines (length front) (walked name (start_of lines) front) =
-    rw (zero-add (length front)) at stands in
+    rw (zero-add (length front)) at splits in
     let free =
     false_from_ne_true _ (λ h. uncaptured ((is_captured_decides _ _ _).0 (here.captured ∙ h))) in (
       same_alike agent lines (front ++ other ∷ back) (record {
         agents = any is_agent alike.agent;
         named = λ n. any (is_agent_named n) (alike.named n);
-        rules = captured_behind rule_in _ _ front _ _ (apart rule_in _ _ alike free);
-        delays = captured_behind delay_in _ _ front _ _ (apart delay_in _ _ alike free);
-        before = before_behind front _ _ (elim (cases_Bool (is_agent other)) [
+        rules = captured_after rule_in _ _ front _ _ (apart rule_in _ _ alike free);
+        delays = captured_after delay_in _ _ front _ _ (apart delay_in _ _ alike free);
+        before = before_after front _ _ (elim (cases_Bool (is_agent other)) [
           | inl is ↦ rw (alike.agent, is) refl
           | inr isnt ↦ rw (alike.agent, isnt, alike.delay) refl
         ]);
@@ -281,8 +281,8 @@ uncaptured_reaches_nothing agent front back line other kind uncaptured =
         ∙ ap (λ b. list_any test front || (b || list_any test back)) same
         ∙ sym (list_any-append test front (other ∷ back))
 
-    apart : {X : Type 0} (given : LineValue → Option X) (name : List ℕ) (walk : Walk)
+    apart : {X : Type 0} (given : LineValue → Option X) (name : List ℕ) (tracker : GroupTracker)
         → IsAlike line other
-        → walk.captured ≡ false
-        → given_captured given name walk (line ∷ back) ≡ given_captured given name walk (other ∷ back)
-    apart given name walk alike free = rw (free, alike.agent, alike.named name, alike.group) refl
+        → tracker.captured ≡ false
+        → given_captured given name tracker (line ∷ back) ≡ given_captured given name tracker (other ∷ back)
+    apart given name tracker alike free = rw (free, alike.agent, alike.named name, alike.group) refl

@@ -12,8 +12,8 @@ pub mod AgentLemmas
 pub mod CountLemmas
 pub mod NameLemmas
 pub mod CapturedLemmas
-pub mod StandingLemmas
-pub mod MarkLemmas
+pub mod MembershipLemmas
+pub mod LabelLemmas
 pub mod RulesLemmas
 pub mod LaneLemmas
 pub mod SiteLemmas
@@ -24,12 +24,12 @@ pub mod SiteOwnLemmas
 pub mod LawLemmas
 pub mod EscapeLemmas
 pub mod SlashLemmas
-pub mod WholeLemmas
-pub mod PlainLemmas
+pub mod NormalizedLemmas
+pub mod AllocationFreeLemmas
 pub mod PatternLemmas
 pub mod StarLemmas
 pub mod PieceLemmas
-pub mod NeedLemmas
+pub mod PrefilterLemmas
 pub mod PlacingLemmas
 pub mod BorderLemmas
 mod BorderSamples
@@ -42,6 +42,6 @@ pub mod VerdictLemmas
 pub mod PlacedLemmas
 pub mod HeldLemmas
 pub mod GivenLemmas
-pub mod HeadlineLemmas
+pub mod MainTheoremLemmas
 pub mod BestLemmas
 pub mod ExampleLemmas

@@ -5,15 +5,15 @@ use Rattle.std.proofs.Common.{◌==◌, ◌≢◌, arith, subst, ◌↔◌}
 use Rattle.std.specs.List.{AllZip}
 use Rattle.std.proofs.lemmas.Bool.{cases_Bool, cond-true, cond-false, ne_eqb, Decides.eqb_tells}
 use Rattle.texting_robots.specs.{declared.parser.statement.Kind.Kind, Cut.Pair, Cut.lf, Group.is_agent, Delay.IsDelay}
-use Rattle.texting_robots.specs.Computed.{file_bodies, file_lines, parsed}
-use Rattle.texting_robots.specs.Steps.{Cut.bodies_of, Cut.cut, Delay.delay_of}
-use Rattle.texting_robots.specs.Statement.{IsBehindBlanks, IsBehindColon, IsStatement}
-use Rattle.texting_robots.specs.Steps.Statement.{colon, kind_by, skip_blanks, statement_of, tail_as, value_of}
+use Rattle.texting_robots.specs.Executable.{file_bodies, file_lines, parsed}
+use Rattle.texting_robots.specs.Internal.{Cut.bodies_of, Cut.cut, Delay.delay_of}
+use Rattle.texting_robots.specs.Statement.{IsAfterBlanks, IsAfterColon, IsStatement}
+use Rattle.texting_robots.specs.Internal.Statement.{colon, kind_by, skip_blanks, statement_of, tail_as, value_of}
 use Rattle.texting_robots.specs.Line.{AreFileBodiesOf, AreLinesOf, HoldRangesOf, HoldsRangeOf, IsLineOf}
 use Rattle.texting_robots.specs.Line.{IsLineWith, IsRangeOf}
 use Rattle.texting_robots.specs.Line.{LineValue, Raw, CrawlDelay, Sitemap, UserAgent, delay_in, is_sitemap}
 use Rattle.texting_robots.specs.Line.{nul_as_lf, without, without_front}
-use Rattle.texting_robots.specs.Steps.Line.{delay_or_raw, line_by, line_of, line_with}
+use Rattle.texting_robots.specs.Internal.Line.{delay_or_raw, line_by, line_of, line_with}
 use Rattle.texting_robots.proofs.DelayLemmas.{delay_of_is, is_delay_of}
 use Rattle.texting_robots.proofs.CutLemmas.{is_cut, only_cut}
 use Rattle.texting_robots.proofs.StatementLemmas.{statement_found, found_statement, unstated}
@@ -190,7 +190,7 @@ range_of_range : (part middle whole : List ℕ) → IsRangeOf part middle → Is
 range_of_range part middle whole (before, after, is) (first, last, all) =
     (first ++ before, after ++ last, rw (all, is) (simp append_assoc))
 
-tail_range : (tail rest : List ℕ) → IsBehindColon tail rest ⊎ IsBehindBlanks tail rest
+tail_range : (tail rest : List ℕ) → IsAfterColon tail rest ⊎ IsAfterBlanks tail rest
     → IsRangeOf tail rest
 tail_range tail rest (inl (blanks, all, whole)) =
     (blanks ++ colon ∷ [], [], rw whole (simp (append_assoc, append-nil)))

@@ -6,19 +6,19 @@ use Rattle.std.specs.List.{list_all, prefix_len}
 use Rattle.std.proofs.lemmas.Bool.{cases_Bool, eqb-true, ne_eqb, or_cases, or_parts}
 use Rattle.std.proofs.lemmas.List.Elements.{All-head, All-tail, All-weaker}
 use Rattle.texting_robots.specs.Pattern.{dollar, IsSuffix, Matches, MatchesWith, star}
-use Rattle.texting_robots.specs.Steps.Pieces.{behind_stars, is_mark, IsAtMark, Closes, Grows}
+use Rattle.texting_robots.specs.Internal.Segments.{after_stars, is_wildcard, IsAtWildcard, Closes, Grows}
 
 -- a byte that stands for itself
 abbrev pub IsPlain : Bool → ℕ → Type 0
 IsPlain anchors b = ((b == star) ≡ false) × ((anchors && (b == dollar)) ≡ false)
 
 -- with stars alone, and with dollars too
-pub plain_stars : (piece : List ℕ) → All (λ b. b ≢ star) piece → All (IsPlain false) piece
+pub plain_stars : (segment : List ℕ) → All (λ b. b ≢ star) segment → All (IsPlain false) segment
 plain_stars = All-weaker (λ b. b ≢ star) (IsPlain false) (λ b other. (ne_eqb b star other, refl))
 
-pub plain_marks : (piece : List ℕ) → All (λ b. is_mark b ≡ false) piece → All (IsPlain true) piece
-plain_marks =
-    All-weaker (λ b. is_mark b ≡ false) (IsPlain true)
+pub plain_wildcards : (segment : List ℕ) → All (λ b. is_wildcard b ≡ false) segment → All (IsPlain true) segment
+plain_wildcards =
+    All-weaker (λ b. is_wildcard b ≡ false) (IsPlain true)
     (λ b other. or_parts (b == star) (b == dollar) other)
 
 -- what holds of the same texts holds of the same texts that something else holds of
@@ -32,26 +32,26 @@ suffix_trans {a} (f, e) (g, h) = (g ++ f, h ∙ ap (λ x. g ++ x) e ∙ sym (app
 
 module _ (anchors : Bool) where
   -- a plain piece stands in front of the text
-  pub in_front : (piece q t : List ℕ) → All (IsPlain anchors) piece → MatchesWith anchors (piece ++ q) t
-      ↔ ((after : List ℕ) × (t ≡ piece ++ after) × MatchesWith anchors q after)
+  pub in_front : (segment q t : List ℕ) → All (IsPlain anchors) segment → MatchesWith anchors (segment ++ q) t
+      ↔ ((after : List ℕ) × (t ≡ segment ++ after) × MatchesWith anchors q after)
   unfolding MatchesWith
   in_front [] q t all = (λ m. (t, refl, m), λ (after, e, m). rw e m)
-  in_front (b ∷ piece) q t all =
-      let later = λ (s : List ℕ). in_front piece q s (All-tail (IsPlain anchors) b piece all) in
-      let (not_star, not_end) = All-head (IsPlain anchors) b piece all in
+  in_front (b ∷ segment) q t all =
+      let later = λ (s : List ℕ). in_front segment q s (All-tail (IsPlain anchors) b segment all) in
+      let (not_star, not_end) = All-head (IsPlain anchors) b segment all in
       rw (not_star, not_end) (
         λ (s, e, m). let (after, f, n) = (later s).0 m in (after, e ∙ ap (λ x. b ∷ x) f, n),
-        λ (after, e, n). (piece ++ after, e, (later (piece ++ after)).1 (after, refl, n)),
+        λ (after, e, n). (segment ++ after, e, (later (segment ++ after)).1 (after, refl, n)),
       )
 
   -- behind a star it stands somewhere in the text
-  pub somewhere : (piece q t : List ℕ) → All (IsPlain anchors) piece
-      → MatchesWith anchors (star ∷ (piece ++ q)) t
-      ↔ ((after : List ℕ) × IsSuffix (piece ++ after) t × MatchesWith anchors q after)
+  pub somewhere : (segment q t : List ℕ) → All (IsPlain anchors) segment
+      → MatchesWith anchors (star ∷ (segment ++ q)) t
+      ↔ ((after : List ℕ) × IsSuffix (segment ++ after) t × MatchesWith anchors q after)
   unfolding MatchesWith
-  somewhere piece q t all = (
-    λ (s, i, m). let (after, e, n) = (in_front piece q s all).0 m in (after, rw (← e) i, n),
-    λ (after, i, n). (piece ++ after, i, (in_front piece q (piece ++ after) all).1 (after, refl, n)),
+  somewhere segment q t all = (
+    λ (s, i, m). let (after, e, n) = (in_front segment q s all).0 m in (after, rw (← e) i, n),
+    λ (after, i, n). (segment ++ after, i, (in_front segment q (segment ++ after) all).1 (after, refl, n)),
   )
 
   -- behind an earlier place a star matches at least as much
@@ -70,7 +70,7 @@ module _ (anchors : Bool) where
 
   -- nor do more stars behind the first
   pub star_stars : (q t : List ℕ)
-      → MatchesWith anchors (star ∷ behind_stars q) t ↔ MatchesWith anchors (star ∷ q) t
+      → MatchesWith anchors (star ∷ after_stars q) t ↔ MatchesWith anchors (star ∷ q) t
   star_stars [] t = (λ m. m, λ m. m)
   star_stars (b ∷ q) t = elim (cases_Bool (b == star)) [
     | inl first ↦
@@ -84,11 +84,11 @@ module _ (anchors : Bool) where
   ]
 
   -- patterns that match the same match the same behind a byte
-  pub behind_byte : (b : ℕ) (p q : List ℕ)
+  pub after_byte : (b : ℕ) (p q : List ℕ)
       → ((t : List ℕ) → MatchesWith anchors p t ↔ MatchesWith anchors q t)
       → (t : List ℕ) → MatchesWith anchors (b ∷ p) t ↔ MatchesWith anchors (b ∷ q) t
   unfolding MatchesWith
-  behind_byte b p q same t = elim (cases_Bool (b == star)) [
+  after_byte b p q same t = elim (cases_Bool (b == star)) [
     | inl star ↦ rw star (under (MatchesWith anchors p) (MatchesWith anchors q) same)
     | inr other ↦ elim (cases_Bool (anchors && (b == dollar))) [
       | inl end ↦ rw (other, end) (under (MatchesWith anchors p) (MatchesWith anchors q) same)
@@ -106,19 +106,19 @@ pub none_left : (front s : List ℕ) → [] ≡ front ++ s → s ≡ []
 none_left [] s e = sym e
 none_left (b ∷ front) s e = cc
 
-pub only_marks_match : (q : List ℕ) → (list_all is_mark q ≡ true) ↔ Matches q []
+pub only_wildcards_match : (q : List ℕ) → (list_all is_wildcard q ≡ true) ↔ Matches q []
 unfolding MatchesWith
-only_marks_match [] = (λ _. tt, λ _. refl)
-only_marks_match (b ∷ q) =
-    let (marks, match) = only_marks_match q in
+only_wildcards_match [] = (λ _. tt, λ _. refl)
+only_wildcards_match (b ∷ q) =
+    let (labels, match) = only_wildcards_match q in
     elim (cases_Bool (b == star)) [
       | inl first ↦ rw first (
-        λ m. ([], ([], refl), marks m),
+        λ m. ([], ([], refl), labels m),
         λ (s, (front, e), m). match (rw (none_left front s e) at m),
       )
       | inr other ↦ elim (cases_Bool (b == dollar)) [
         | inl end ↦ rw (other, end)
-            (λ m. ([], (refl, refl), marks m), λ (s, (e, gone), m). match (rw gone at m))
+            (λ m. ([], (refl, refl), labels m), λ (s, (e, gone), m). match (rw gone at m))
         | inr plain ↦ rw (other, plain) (λ e. cc, λ (s, e, m). cc)
       ]
     ]
@@ -131,13 +131,13 @@ closes_decides q t c = rw c.dollar (λ (s, (e, gone), m). e, λ e. ([], (e, refl
 pub dollar_matches_none : (q t : List ℕ) → ¬ Closes (dollar ∷ q) → ¬ Matches (dollar ∷ q) t
 unfolding MatchesWith
 dollar_matches_none q t other (s, (e, gone), m) =
-    other (record { behind = q; dollar = refl; empty = rw gone at m })
+    other (record { following = q; dollar = refl; empty = rw gone at m })
 
 -- what begins with a mark and doesn't close matches more of a text where it matches less
-pub grows_at_mark : (q : List ℕ) → IsAtMark q → ¬ Closes q → Grows q
+pub grows_at_wildcard : (q : List ℕ) → IsAtWildcard q → ¬ Closes q → Grows q
 unfolding MatchesWith
-grows_at_mark [] at_mark other = λ s t i m. tt
-grows_at_mark (b ∷ q) at_mark other = elim (or_cases (b == star) (b == dollar) at_mark) [
+grows_at_wildcard [] at_wildcard other = λ s t i m. tt
+grows_at_wildcard (b ∷ q) at_wildcard other = elim (or_cases (b == star) (b == dollar) at_wildcard) [
   | inl first ↦ let e = eqb-true b star first in rw e (star_grows true q)
   | inr first ↦
       let e = eqb-true b dollar first in
@@ -145,11 +145,11 @@ grows_at_mark (b ∷ q) at_mark other = elim (or_cases (b == star) (b == dollar)
 ]
 
 -- any other pattern that begins with a mark matches nothing
-pub mark_matches_none : (q t : List ℕ) → IsAtMark q → q ≢ []
+pub wildcard_matches_none : (q t : List ℕ) → IsAtWildcard q → q ≢ []
     → ((rest : List ℕ) → q ≢ star ∷ rest)
     → ¬ Closes q → ¬ Matches q t
-mark_matches_none [] t at_mark some no_star other = absurd (some refl)
-mark_matches_none (b ∷ q) t at_mark some no_star other = elim (or_cases (b == star) (b == dollar) at_mark) [
+wildcard_matches_none [] t at_wildcard some no_star other = absurd (some refl)
+wildcard_matches_none (b ∷ q) t at_wildcard some no_star other = elim (or_cases (b == star) (b == dollar) at_wildcard) [
   | inl first ↦ absurd (no_star q (ap (λ x. x ∷ q) (eqb-true b star first)))
   | inr first ↦ let e = eqb-true b dollar first in rw e (dollar_matches_none q t (rw e at other))
 ]

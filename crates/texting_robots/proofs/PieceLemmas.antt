@@ -7,58 +7,58 @@ use Rattle.std.specs.List.{position_or_len, prefix_len}
 use Rattle.std.proofs.lemmas.List.{drop_at, take_at, Prefix.end_rest, Prefix.front_rest}
 use Rattle.std.proofs.lemmas.List.Elements.{All-cons, All-nil, All-weaker}
 use Rattle.url.proofs.InputLemmas.{All-take-prefix_len, Passes, StopsAt, StopsAt-drop-prefix_len}
-use Rattle.texting_robots.specs.declared.pieces.{Ends.Ends, Ending.Ending, Piece.Piece, Span.Span}
+use Rattle.texting_robots.specs.declared.pieces.{Ends.Ends, Ending.Ending, Segment.Segment, Span.Span}
 use Rattle.texting_robots.specs.declared.pieces.Ending.TheVariants.{Open, Closed, Last, Never}
-use Rattle.texting_robots.specs.Steps.Border.{IsTable}
-use Rattle.texting_robots.specs.Steps.Pieces.{AddsPieces, AreLeft, ArePieces, behind_stars, part_of, Closes}
-use Rattle.texting_robots.specs.Steps.Pieces.{EndsAs, IsAtMark, IsCutAtMark, IsEnding, IsLeft, IsPiece}
-use Rattle.texting_robots.specs.Steps.Pieces.{is_mark}
-use Rattle.texting_robots.specs.Steps.Pieces.{IsSpan, Somewhere}
+use Rattle.texting_robots.specs.Internal.Border.{IsTable}
+use Rattle.texting_robots.specs.Internal.Segments.{AddsSegments, AreLeft, AreSegments, after_stars, part_of, Closes}
+use Rattle.texting_robots.specs.Internal.Segments.{EndsAs, IsAtWildcard, IsCutAtWildcard, IsEnding, IsLeft, IsSegment}
+use Rattle.texting_robots.specs.Internal.Segments.{is_wildcard}
+use Rattle.texting_robots.specs.Internal.Segments.{IsSpan, Somewhere}
 use Rattle.texting_robots.specs.Pattern.{IsSuffix, Matches, star}
-use Rattle.texting_robots.proofs.PatternLemmas.{closes_decides, end_matches, grows_at_mark, in_front}
-use Rattle.texting_robots.proofs.PatternLemmas.{mark_matches_none, plain_marks, somewhere, star_stars}
+use Rattle.texting_robots.proofs.PatternLemmas.{closes_decides, end_matches, grows_at_wildcard, in_front}
+use Rattle.texting_robots.proofs.PatternLemmas.{wildcard_matches_none, plain_wildcards, somewhere, star_stars}
 use Rattle.texting_robots.proofs.PatternLemmas.{suffix_trans}
 
 -- ---- what pieces decide
 
-module _ {p : List ℕ} {ends : Ends} {pieces : List Piece} {borders : List ℕ}
-    (are : ArePieces p ends pieces borders) (t : List ℕ) where
+module _ {p : List ℕ} {ends : Ends} {pieces : List Segment} {borders : List ℕ}
+    (are : AreSegments p ends pieces borders) (t : List ℕ) where
   abbrev first : List ℕ
   first = take ends.first_len p
 
   -- where the text begins with the first piece, what is left decides
-  pub first_in_front : (behind : List ℕ) → t ≡ first ++ behind
-      → Matches p t ↔ Matches are.rest behind
-  first_in_front behind split =
+  pub first_in_front : (following : List ℕ) → t ≡ first ++ following
+      → Matches p t ↔ Matches are.rest following
+  first_in_front following split =
       let (to, from) = are.decides t in (
         λ m. let (after, e, n) = to m in
-            rw (sym (front_rest t first behind split) ∙ front_rest t first after e) n,
-        λ n. from (behind, split, n),
+            rw (sym (front_rest t first following split) ∙ front_rest t first after e) n,
+        λ n. from (following, split, n),
       )
 
 -- ---- the first mark
 
 -- what stands before the first mark, and the rest from there on
-pub cut_at_first : (pattern : List ℕ) (k : ℕ) → k ≡ position_or_len is_mark pattern
-    → IsCutAtMark pattern (take k pattern) (drop k pattern)
+pub cut_at_first : (pattern : List ℕ) (k : ℕ) → k ≡ position_or_len is_wildcard pattern
+    → IsCutAtWildcard pattern (take k pattern) (drop k pattern)
 cut_at_first pattern k first = record {
   plain = rw first
-      (All-weaker (Passes other) (λ b. is_mark b ≡ false) (λ b plain. not_true (is_mark b) plain) _
+      (All-weaker (Passes other) (λ b. is_wildcard b ≡ false) (λ b plain. not_true (is_wildcard b) plain) _
       (All-take-prefix_len other pattern));
   parts = sym (take-append-drop k pattern);
-  at_mark = rw first (stops _ (StopsAt-drop-prefix_len other pattern));
+  at_wildcard = rw first (stops _ (StopsAt-drop-prefix_len other pattern));
 }
   where
     other : ℕ → Bool
-    other b = not (is_mark b)
+    other b = not (is_wildcard b)
 
     not_true : (x : Bool) → not x ≡ true → x ≡ false
     not_true true is = cc
     not_true false is = refl
 
-    stops : (rest : List ℕ) → StopsAt other rest → IsAtMark rest
+    stops : (rest : List ℕ) → StopsAt other rest → IsAtWildcard rest
     stops [] at = tt
-    stops (b ∷ rest) at = by (is_mark b) at
+    stops (b ∷ rest) at = by (is_wildcard b) at
       where
         by : (x : Bool) → not x ≡ false → x ≡ true
         by true is = refl
@@ -67,40 +67,40 @@ cut_at_first pattern k first = record {
 -- ---- from a star on
 
 -- what is left is a star, more stars and `next`, which is a piece and the rest
-pub record IsFromStar (left next piece rest : List ℕ) : Type 0 where
-  pub behind : List ℕ
-  pub star_first : left ≡ star ∷ behind
-  pub skips : next ≡ behind_stars behind
-  pub cut : IsCutAtMark next piece rest
+pub record IsFromStar (left next segment rest : List ℕ) : Type 0 where
+  pub following : List ℕ
+  pub star_first : left ≡ star ∷ following
+  pub skips : next ≡ after_stars following
+  pub cut : IsCutAtWildcard next segment rest
 
-module _ {left next piece rest : List ℕ} (is : IsFromStar left next piece rest) where
+module _ {left next segment rest : List ℕ} (is : IsFromStar left next segment rest) where
   -- `next` is an end of what is left
   next_in : IsSuffix next left
   next_in =
-      let n = prefix_len (λ b. b == star) is.behind in
-      let split = sym (take-append-drop n is.behind) ∙ ap (λ x. take n is.behind ++ x) (sym is.skips) in
-      (star ∷ take n is.behind, is.star_first ∙ ap (λ x. star ∷ x) split)
+      let n = prefix_len (λ b. b == star) is.following in
+      let split = sym (take-append-drop n is.following) ∙ ap (λ x. take n is.following ++ x) (sym is.skips) in
+      (star ∷ take n is.following, is.star_first ∙ ap (λ x. star ∷ x) split)
 
   -- the piece may stand anywhere, and then the rest decides
-  star_decides : (t : List ℕ) → Matches left t ↔ Somewhere piece rest t
+  star_decides : (t : List ℕ) → Matches left t ↔ Somewhere segment rest t
   star_decides t =
-      let (to, from) = star_stars true is.behind t in
-      let (parts, whole) = somewhere true piece rest t (plain_marks piece is.cut.plain) in
+      let (to, from) = star_stars true is.following t in
+      let (parts, whole) = somewhere true segment rest t (plain_wildcards segment is.cut.plain) in
       let e = sym is.skips ∙ is.cut.parts in
       rw is.star_first (λ m. parts (rw e at (from m)), λ h. to (rw e (whole h)))
 
   -- where the rest doesn't close, it matches more of a text where it matches less
-  star_is_left : ¬ Closes rest → IsLeft left piece rest
-  star_is_left other = record { decides = star_decides; grows = grows_at_mark rest is.cut.at_mark other }
+  star_is_left : ¬ Closes rest → IsLeft left segment rest
+  star_is_left other = record { decides = star_decides; grows = grows_at_wildcard rest is.cut.at_wildcard other }
 
   -- where the rest closes, the piece is at the end
-  star_is_last : Closes rest → (t : List ℕ) → Matches left t ↔ IsSuffix piece t
+  star_is_last : Closes rest → (t : List ℕ) → Matches left t ↔ IsSuffix segment t
   star_is_last closes t =
       let (to, from) = star_decides t in
       let at_end = λ (after : List ℕ). closes_decides rest after closes in (
         λ m.
             let (after, i, n) = to m in
-            subst (λ x. IsSuffix x t) (ap (λ x. piece ++ x) ((at_end after).0 n) ∙ append-nil piece) i,
+            subst (λ x. IsSuffix x t) (ap (λ x. segment ++ x) ((at_end after).0 n) ∙ append-nil segment) i,
         λ i. from ([], rw append-nil i, (at_end []).1 refl),
       )
 
@@ -111,20 +111,20 @@ abbrev pub between : List ℕ → List ℕ → List ℕ → Span
 between p next rest = record { start = length p - length next; end = length p - length rest }
 
 -- what stands between two ends of the pattern
-spanned : (p next piece rest : List ℕ) → IsSuffix next p → next ≡ piece ++ rest
-    → IsSpan p (between p next rest) × (part_of p (between p next rest) ≡ piece)
-spanned p next piece rest (front, e) f =
+spanned : (p next segment rest : List ℕ) → IsSuffix next p → next ≡ segment ++ rest
+    → IsSpan p (between p next rest) × (part_of p (between p next rest) ≡ segment)
+spanned p next segment rest (front, e) f =
     let all = ap length e ∙ length-append front next in
-    let more = ap length f ∙ length-append piece rest in
+    let more = ap length f ∙ length-append segment rest in
     let size = length p - length rest - (length p - length next) in
-    let bytes = ap (take size) (end_rest p next front e ∙ f) ∙ take_at piece rest size (omega arith) in
+    let bytes = ap (take size) (end_rest p next front e ∙ f) ∙ take_at segment rest size (omega arith) in
     (record { ordered = omega arith; within = omega arith }, bytes)
 
 -- a table stands in the tables where it was put
-piece_put : (p tables table more : List ℕ) (span : Span) → IsSpan p span
+segment_put : (p tables table more : List ℕ) (span : Span) → IsSpan p span
     → IsTable (part_of p span) table
-    → IsPiece p (tables ++ (table ++ more)) (record { span = span; table = length tables })
-piece_put p tables table more span is_span is_table =
+    → IsSegment p (tables ++ (table ++ more)) (record { span = span; table = length tables })
+segment_put p tables table more span is_span is_table =
     let size = length tables + (length (part_of p span) - 1) - length tables in
     let all = length-append tables (table ++ more) in
     let from_table = length-append table more in
@@ -135,60 +135,60 @@ piece_put p tables table more span is_span is_table =
 -- ---- the steps of cutting
 
 -- these pieces and this ending are what is left of the pattern
-pub record IsRest (pattern borders left : List ℕ) (pieces : List Piece) (ending : Ending) : Type 0 where
-  pub known : All (IsPiece pattern borders) pieces
+pub record IsRest (pattern borders left : List ℕ) (pieces : List Segment) (ending : Ending) : Type 0 where
+  pub known : All (IsSegment pattern borders) pieces
   pub is_ending : IsEnding pattern ending
   pub in_order : AreLeft pattern ending pieces left
 
 -- The pattern is cut up to here: any cut of what is left completes to a cut of the whole.
-pub record IsCutUpto (pattern : List ℕ) (first_len : ℕ) (old_pieces pieces : List Piece)
+pub record IsCutUpto (pattern : List ℕ) (first_len : ℕ) (old_segments pieces : List Segment)
     (old_borders borders left : List ℕ) : Type 0 where
   pub left_in : IsSuffix left pattern
-  pub at_mark : IsAtMark left
-  pub completes : (more : List Piece) (table : List ℕ) (ending : Ending)
+  pub at_wildcard : IsAtWildcard left
+  pub completes : (more : List Segment) (table : List ℕ) (ending : Ending)
       → IsRest pattern (borders ++ table) left more ending
-      → AddsPieces pattern (record { first_len = first_len; ending = ending }) old_pieces (pieces ++ more)
+      → AddsSegments pattern (record { first_len = first_len; ending = ending }) old_segments (pieces ++ more)
       old_borders (borders ++ table)
 
 -- before the first star or dollar stands the first piece
-pub cut_first : (p piece left : List ℕ) (pieces : List Piece) (borders : List ℕ)
-    → IsCutAtMark p piece left
-    → IsCutUpto p (length piece) pieces pieces borders borders left
-cut_first p piece left pieces borders cut =
+pub cut_first : (p segment left : List ℕ) (pieces : List Segment) (borders : List ℕ)
+    → IsCutAtWildcard p segment left
+    → IsCutUpto p (length segment) pieces pieces borders borders left
+cut_first p segment left pieces borders cut =
     let e = cut.parts in
-    let sizes = ap length e ∙ length-append piece left in
-    let first : take (length piece) p ≡ piece = ap (take (length piece)) e ∙ take_at piece left _ refl in
+    let sizes = ap length e ∙ length-append segment left in
+    let first : take (length segment) p ≡ segment = ap (take (length segment)) e ∙ take_at segment left _ refl in
     record {
-      left_in = (piece, e);
-      at_mark = cut.at_mark;
+      left_in = (segment, e);
+      at_wildcard = cut.at_wildcard;
       completes = λ more table ending rest. record {
         pieces = more;
         tables = table;
-        put_pieces = refl;
+        put_segments = refl;
         put_tables = refl;
-        are_pieces = record {
+        are_segments = record {
           first = omega arith;
           known = rest.known;
           ending = rest.is_ending;
           rest = left;
-          decides = λ t. rw (first, e) (in_front true piece left t (plain_marks piece cut.plain));
+          decides = λ t. rw (first, e) (in_front true segment left t (plain_wildcards segment cut.plain));
           left = rest.in_order;
         };
       };
     }
 
-module _ {p : List ℕ} {first_len : ℕ} {old_pieces pieces : List Piece}
+module _ {p : List ℕ} {first_len : ℕ} {old_segments pieces : List Segment}
     {old_borders borders left : List ℕ}
-    (upto : IsCutUpto p first_len old_pieces pieces old_borders borders left) where
+    (upto : IsCutUpto p first_len old_segments pieces old_borders borders left) where
   abbrev AddsWith : Ending → Type 0
   AddsWith ending =
-      AddsPieces p (record { first_len = first_len; ending = ending }) old_pieces pieces old_borders borders
+      AddsSegments p (record { first_len = first_len; ending = ending }) old_segments pieces old_borders borders
 
   -- what is left is this ending
   done : (ending : Ending) → IsEnding p ending → ((t : List ℕ) → Matches left t ↔ EndsAs p ending t)
       → AddsWith ending
   done ending is_ending decides =
-      let none = All-nil (IsPiece p (borders ++ [])) in
+      let none = All-nil (IsSegment p (borders ++ [])) in
       let rest : IsRest p (borders ++ []) left [] ending =
       record { known = none; is_ending = is_ending; in_order = decides } in
       rw (← append-nil pieces, ← append-nil borders) (upto.completes [] [] ending rest)
@@ -205,17 +205,17 @@ module _ {p : List ℕ} {first_len : ℕ} {old_pieces pieces : List Piece}
   pub cut_never : left ≢ [] → ((q : List ℕ) → left ≢ star ∷ q)
       → ¬ Closes left → AddsWith Never
   cut_never some no_star other =
-      done Never tt (λ t. (mark_matches_none left t upto.at_mark some no_star other, λ none. absurd none))
+      done Never tt (λ t. (wildcard_matches_none left t upto.at_wildcard some no_star other, λ none. absurd none))
 
-  module _ {next piece rest : List ℕ} (is : IsFromStar left next piece rest) where
+  module _ {next segment rest : List ℕ} (is : IsFromStar left next segment rest) where
     next_in_p : IsSuffix next p
     next_in_p = suffix_trans (next_in is) upto.left_in
 
     abbrev span : Span
     span = between p next rest
 
-    is_span : IsSpan p span × (part_of p span ≡ piece)
-    is_span = spanned p next piece rest next_in_p is.cut.parts
+    is_span : IsSpan p span × (part_of p span ≡ segment)
+    is_span = spanned p next segment rest next_in_p is.cut.parts
 
     -- the piece stands before a dollar that closes
     pub cut_last : Closes rest → AddsWith (Last span)
@@ -223,23 +223,23 @@ module _ {p : List ℕ} {first_len : ℕ} {old_pieces pieces : List Piece}
 
     -- the piece and its table were added
     pub cut_more : (at : ℕ) (table : List ℕ) → at ≡ length borders → ¬ Closes rest
-        → IsTable piece table
-        → IsCutUpto p first_len old_pieces (pieces ++ record { span = span; table = at } ∷ [])
+        → IsTable segment table
+        → IsCutUpto p first_len old_segments (pieces ++ record { span = span; table = at } ∷ [])
         old_borders (borders ++ table) rest
     cut_more at table there other is_table =
-        let added : Piece = record { span = span; table = at } in
+        let added : Segment = record { span = span; table = at } in
         let (within, bytes) = is_span in
         record {
-          left_in = suffix_trans (piece, is.cut.parts) next_in_p;
-          at_mark = is.cut.at_mark;
+          left_in = suffix_trans (segment, is.cut.parts) next_in_p;
+          at_wildcard = is.cut.at_wildcard;
           completes = λ more tables ending h.
               let all = borders ++ (table ++ tables) in
-              let put : IsPiece p all added =
-              rw there (piece_put p borders table tables span within (rw bytes is_table)) in
-              let known : All (IsPiece p all) more = rw append_assoc at h.known in
+              let put : IsSegment p all added =
+              rw there (segment_put p borders table tables span within (rw bytes is_table)) in
+              let known : All (IsSegment p all) more = rw append_assoc at h.known in
               let is_left : IsLeft left (part_of p span) rest = rw bytes (star_is_left is other) in
               let whole : IsRest p all left (added ∷ more) ending = record {
-                known = All-cons (IsPiece p all) added more put known;
+                known = All-cons (IsSegment p all) added more put known;
                 is_ending = h.is_ending;
                 in_order = (rest, is_left, h.in_order);
               } in

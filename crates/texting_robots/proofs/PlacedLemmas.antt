@@ -7,9 +7,9 @@ use Rattle.std.specs.{Prelude.filter}
 use Rattle.std.proofs.lemmas.Bool.{cases_Bool}
 use Rattle.texting_robots.specs.{Escape.escaped, Group.group_name}
 use Rattle.texting_robots.specs.Rules.{HoldsRule, IsCapturedAt, PlacedRule}
-use Rattle.texting_robots.specs.Steps.{Captured.is_captured, Group.placed}
+use Rattle.texting_robots.specs.Internal.{Captured.is_captured, Group.placed}
 use Rattle.texting_robots.specs.Line.{LineValue, Allow, Disallow}
-use Rattle.texting_robots.specs.Computed.{placed_in, placed_rules, rule_in, rule_with}
+use Rattle.texting_robots.specs.Executable.{placed_in, placed_rules, rule_in, rule_with}
 use Rattle.texting_robots.proofs.CapturedLemmas.{cond_given, is_captured_decides, kept_next}
 
 -- ---- what is computed of lines comes from one of them
@@ -21,8 +21,8 @@ rules_from test n lines = filter_map placed_in (filter (λ p. test p.0) (enumera
 -- such a line gives the rule
 abbrev pub GivesRule : (ℕ → Bool) → ℕ → List LineValue → PlacedRule → Type 0
 GivesRule test n lines found =
-    (k : ℕ) × (place : ℕ) × (line : LineValue) × (place ≡ n + k) × (slice_get lines k ≡ Some line)
-    × (cond (test place) (placed_in (place, line)) None ≡ Some found)
+    (k : ℕ) × (position : ℕ) × (line : LineValue) × (position ≡ n + k) × (slice_get lines k ≡ Some line)
+    × (cond (test position) (placed_in (position, line)) None ≡ Some found)
 
 -- what may stand first in a list, or in the rest
 cons_has : {X : Type 0} (o : Option X) (xs : List X) (x : X)
@@ -48,18 +48,18 @@ module _ (test : ℕ → Bool) (n : ℕ) (line : LineValue) (lines : List LineVa
   there : ComesNext → GivesRule test n (line ∷ lines) found
   there (inl is) = (0, n, line, omega arith, refl, is)
   there (inr has) =
-      let (k, place, other, far, at, is) = later.0 has in (suc k, place, other, omega arith, at, is)
+      let (k, position, other, far, at, is) = later.0 has in (suc k, position, other, omega arith, at, is)
 
   back : GivesRule test n (line ∷ lines) found → ComesNext
-  back (zero, place, other, far, at, is) =
-      let here : place ≡ n = omega arith in
+  back (zero, position, other, far, at, is) =
+      let here : position ≡ n = omega arith in
       let same : other ≡ line = cc in
       inl (rw (here, same) at is)
-  back (suc k, place, other, far, at, is) = inr (later.1 (k, place, other, omega arith, at, is))
+  back (suc k, position, other, far, at, is) = inr (later.1 (k, position, other, omega arith, at, is))
 
 pub rules_come : (test : ℕ → Bool) (n : ℕ) (lines : List LineValue) (found : PlacedRule)
     → Contains (rules_from test n lines) found ↔ GivesRule test n lines found
-rules_come test n [] found = (λ (k, below, at). absurd (omega arith), λ (k, place, line, far, at, is). cc)
+rules_come test n [] found = (λ (k, below, at). absurd (omega arith), λ (k, position, line, far, at, is). cc)
 rules_come test n (line ∷ lines) found =
     let later = rules_come test (n + 1) lines found in
     let here = cond (test n) (placed_in (n, line)) None in
@@ -71,24 +71,24 @@ rules_come test n (line ∷ lines) found =
 
 -- ---- and such a line holds it
 
-module _ (agent : List ℕ) (lines : List LineValue) (place : ℕ) (found : PlacedRule) where
+module _ (agent : List ℕ) (lines : List LineValue) (position : ℕ) (found : PlacedRule) where
   -- the rule has the number of this line, which holds it
   abbrev IsHeld : Type 0
-  IsHeld = (found.line ≡ place + 1) × HoldsRule agent lines place found.rule
+  IsHeld = (found.line ≡ position + 1) × HoldsRule agent lines position found.rule
 
   value_holds : (value : List ℕ) (is_allow : Bool)
-      → IsCapturedAt agent lines place (cond is_allow (Allow value) (Disallow value))
-      → placed (place + 1) (rule_with value is_allow) ≡ Some found → IsHeld
+      → IsCapturedAt agent lines position (cond is_allow (Allow value) (Disallow value))
+      → placed (position + 1) (rule_with value is_allow) ≡ Some found → IsHeld
   value_holds value is_allow at is = elim (cases_Bool (is_utf8 value)) [
     | inl text ↦
-        let made : PlacedRule = record { rule = (escaped value, is_allow); line = place + 1 } in
+        let made : PlacedRule = record { rule = (escaped value, is_allow); line = position + 1 } in
         let same : made ≡ found = let given = rw text at is in cc in
         rw (← same) (refl, record { value = value; line = at; utf8 = text; pattern = refl })
     | inr other ↦ let none = rw other at is in cc
   ]
 
-  line_holds : (line : LineValue) → IsCapturedAt agent lines place line
-      → placed (place + 1) (rule_in line) ≡ Some found → IsHeld
+  line_holds : (line : LineValue) → IsCapturedAt agent lines position line
+      → placed (position + 1) (rule_in line) ≡ Some found → IsHeld
   line_holds (Allow value) at is = value_holds value true at is
   line_holds (Disallow value) at is = value_holds value false at is
   line_holds _ at is = cc
@@ -98,28 +98,28 @@ module _ (agent : List ℕ) (lines : List LineValue) (place : ℕ) (found : Plac
   rule_given value true text = rw text refl
   rule_given value false text = rw text refl
 
-  held_given : (holds : HoldsRule agent lines place found.rule) → found.line ≡ place + 1
-      → placed_in (place, cond found.rule.1 (Allow holds.value) (Disallow holds.value)) ≡ Some found
+  held_given : (holds : HoldsRule agent lines position found.rule) → found.line ≡ position + 1
+      → placed_in (position, cond found.rule.1 (Allow holds.value) (Disallow holds.value)) ≡ Some found
   held_given holds number =
       rw (rule_given holds.value found.rule.1 holds.utf8, ← holds.pattern, ← number) refl
 
 pub placed_held : (agent : List ℕ) (lines : List LineValue) (found : PlacedRule)
     → Contains (placed_rules agent lines) found
-    ↔ ((place : ℕ) × (found.line ≡ place + 1) × HoldsRule agent lines place found.rule)
+    ↔ ((position : ℕ) × (found.line ≡ position + 1) × HoldsRule agent lines position found.rule)
 placed_held agent lines found =
     let test = is_captured (group_name agent lines) lines in
     let decides = is_captured_decides (group_name agent lines) lines in
     let (to, from) = rules_come test 0 lines found in (
       λ has.
-          let (k, place, line, far, at, is) = to has in
-          let same : k ≡ place = omega arith in
-          let given = (cond_given (test place) (placed_in (place, line)) found).0 is in
+          let (k, position, line, far, at, is) = to has in
+          let same : k ≡ position = omega arith in
+          let given = (cond_given (test position) (placed_in (position, line)) found).0 is in
           let (number, holds) =
-          line_holds agent lines place found line (rw same at at, (decides place).0 given.0) given.1 in
-          (place, number, holds),
-      λ (place, number, holds).
-          let given = held_given agent lines place found holds number in
-          let passes = (decides place).1 holds.line.1 in
-          let is = (cond_given (test place) _ found).1 (passes, given) in
-          from (place, place, _, omega arith, holds.line.0, is),
+          line_holds agent lines position found line (rw same at at, (decides position).0 given.0) given.1 in
+          (position, number, holds),
+      λ (position, number, holds).
+          let given = held_given agent lines position found holds number in
+          let passes = (decides position).1 holds.line.1 in
+          let is = (cond_given (test position) _ found).1 (passes, given) in
+          from (position, position, _, omega arith, holds.line.0, is),
     )

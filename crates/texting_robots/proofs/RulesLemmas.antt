@@ -11,9 +11,9 @@ use Rattle.std.proofs.lemmas.List.Elements.{All-push}
 use Rattle.std.proofs.lemmas.Str.{IsUtf8-from_is_utf8, is_utf8-from_IsUtf8}
 use Rattle.texting_robots.specs.declared.error.Error.{Error}
 use Rattle.texting_robots.specs.Line.{LineValue, Sitemap, delay_in, is_sitemap}
-use Rattle.texting_robots.specs.{Computed.sitemap_in, Pattern.IsOverlong, Error.IsMemoryOr, Group.is_agent}
+use Rattle.texting_robots.specs.{Executable.sitemap_in, Pattern.IsOverlong, Error.IsMemoryErrorOr, Group.is_agent}
 use Rattle.texting_robots.specs.Rules.{IsFirstOverlong, PlacedRule, Rule, unplaced}
-use Rattle.texting_robots.specs.Steps.{Group.placed, Robot.IsRefusalOf, Robot.refusal_at}
+use Rattle.texting_robots.specs.Internal.{Group.placed, Robot.IsRejectionOf, Robot.rejection_at}
 use Rattle.texting_robots.proofs.BestLemmas.{placed_of}
 use Rattle.texting_robots.specs.declared.error.Error.TheVariants as mine
 
@@ -41,10 +41,10 @@ no_text {X = X} value x none is =
     let wrong : ◌≡◌ {A = Option X} (Some x) None = sym (if_text value x is) ∙ none in cc
 
 -- a refusal for one cause is one for a wider cause
-pub refused_wider : (P Q : Type 0) (e : Error) → (P → Q) → IsMemoryOr P e → IsMemoryOr Q e
-refused_wider P Q mine.InvalidRobots wider is = is
-refused_wider P Q mine.InvalidRule wider is = wider is
-refused_wider P Q mine.Memory wider is = is
+pub rejected_wider : (P Q : Type 0) (e : Error) → (P → Q) → IsMemoryErrorOr P e → IsMemoryErrorOr Q e
+rejected_wider P Q mine.InvalidRobots wider is = is
+rejected_wider P Q mine.InvalidRule wider is = wider is
+rejected_wider P Q mine.Memory wider is = is
 
 -- ---- the first pass
 
@@ -158,13 +158,13 @@ some_overlong rules number is =
     )
 
 -- what an error at a line comes to
-pub refused_at : (number : ℕ) (captured : Bool) (rule : Option Rule) (taken left all : List PlacedRule)
+pub rejected_at : (number : ℕ) (captured : Bool) (rule : Option Rule) (taken left all : List PlacedRule)
     → (e : Error) → taken ++ cons_option (cond captured (placed number rule) None) left ≡ all
     → All (λ (other : PlacedRule). ¬ IsOverlong other.rule.0) taken
-    → IsMemoryOr (IsSomeAnd (cond captured (placed number rule) None)
+    → IsMemoryErrorOr (IsSomeAnd (cond captured (placed number rule) None)
     (λ (here : PlacedRule). IsOverlong here.rule.0)) e
-    → IsRefusalOf all (refusal_at number e)
-refused_at number captured rule taken left all mine.InvalidRobots whole accepted is = tt
-refused_at number captured rule taken left all mine.InvalidRule whole accepted is =
+    → IsRejectionOf all (rejection_at number e)
+rejected_at number captured rule taken left all mine.InvalidRobots whole accepted is = tt
+rejected_at number captured rule taken left all mine.InvalidRule whole accepted is =
     first_overlong number captured rule taken left all whole accepted is
-refused_at number captured rule taken left all mine.Memory whole accepted is = tt
+rejected_at number captured rule taken left all mine.Memory whole accepted is = tt

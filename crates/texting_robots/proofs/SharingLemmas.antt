@@ -4,10 +4,10 @@ use Rattle.std.proofs.Common.{drop, map, slice_range, take, refl, sym, ap, ◌�
 use Rattle.std.proofs.lemmas.List.{drop-append-le, drop_at, length-append, length-drop, map_push}
 use Rattle.std.proofs.lemmas.List.{take-append-le, take_all}
 use Rattle.std.proofs.lemmas.List.Elements.{All-head, All-push, All-tail, All-weaker}
-use Rattle.texting_robots.specs.declared.pieces.{Ends.Ends, Piece.Piece, Span.Span}
+use Rattle.texting_robots.specs.declared.pieces.{Ends.Ends, Segment.Segment, Span.Span}
 use Rattle.texting_robots.specs.declared.rules.Entry.{Entry}
-use Rattle.texting_robots.specs.Steps.{Entries.IsEntry, Entries.placed_at, Entries.rank, Needs.AreNeeds}
-use Rattle.texting_robots.specs.Steps.Pieces.{ArePieces, IsPiece, IsSpan, part_of}
+use Rattle.texting_robots.specs.Internal.{Entries.IsEntry, Entries.placed_at, Entries.rank, Prefilter.ArePrefilter}
+use Rattle.texting_robots.specs.Internal.Segments.{AreSegments, IsSegment, IsSpan, part_of}
 
 -- the range of what was added
 pub record IsNew {X : Type 0} (old new : List X) (span : Span) : Type 0 where
@@ -39,45 +39,45 @@ module _ {X : Type 0} (xs more : List X) (span : Span) where
       record { ordered = omega arith; within = omega arith }
 
 -- what stands behind the old elements is what was added
-pub behind_old : {X : Type 0} (xs more : List X) (start : ℕ) → start ≡ length xs
+pub after_old : {X : Type 0} (xs more : List X) (start : ℕ) → start ≡ length xs
     → slice_range (xs ++ more) start (length (xs ++ more)) ≡ more
-behind_old xs more start is =
+after_old xs more start is =
     part_new xs more (record { start = start; end = length (xs ++ more) }) (record { start = is; end = refl })
 
-module _ (p : List ℕ) (ends : Ends) (pieces : List Piece) (borders more : List ℕ) where
-  piece_kept : (piece : Piece) → IsPiece p borders piece → IsPiece p (borders ++ more) piece
-  piece_kept piece is =
-      let len = length (part_of p piece.span) - 1 in
-      let table : Span = record { start = piece.table; end = piece.table + len } in
+module _ (p : List ℕ) (ends : Ends) (pieces : List Segment) (borders more : List ℕ) where
+  segment_kept : (segment : Segment) → IsSegment p borders segment → IsSegment p (borders ++ more) segment
+  segment_kept segment is =
+      let len = length (part_of p segment.span) - 1 in
+      let table : Span = record { start = segment.table; end = segment.table + len } in
       let fits = is.fits in
       let stays = part_kept borders more table (record { ordered = omega arith; within = fits }) in
       let sizes = length-append borders more in
       record { span = is.span; fits = omega arith; table = rw stays is.table }
 
-  tables_kept : ArePieces p ends pieces borders → ArePieces p ends pieces (borders ++ more)
+  tables_kept : AreSegments p ends pieces borders → AreSegments p ends pieces (borders ++ more)
   tables_kept are = record {
     first = are.first;
-    known = All-weaker (IsPiece p borders) (IsPiece p (borders ++ more)) piece_kept pieces are.known;
+    known = All-weaker (IsSegment p borders) (IsSegment p (borders ++ more)) segment_kept pieces are.known;
     ending = are.ending;
     rest = are.rest;
     decides = are.decides;
     left = are.left;
   }
 
-module _ (text more_text : List ℕ) (pieces more_pieces : List Piece) (borders more_borders : List ℕ) where
+module _ (text more_text : List ℕ) (pieces more_segments : List Segment) (borders more_borders : List ℕ) where
   abbrev IsOld : Entry → Type 0
   IsOld = IsEntry text pieces borders
 
   abbrev IsNow : Entry → Type 0
-  IsNow = IsEntry (text ++ more_text) (pieces ++ more_pieces) (borders ++ more_borders)
+  IsNow = IsEntry (text ++ more_text) (pieces ++ more_segments) (borders ++ more_borders)
 
   entry_kept : (entry : Entry) → IsOld entry → IsNow entry
   entry_kept entry h =
       let one = part_kept text more_text entry.pattern h.pattern in
-      let two = part_kept pieces more_pieces entry.pieces h.searched in
+      let two = part_kept pieces more_segments entry.pieces h.searched in
       record {
         pattern = span_kept text more_text entry.pattern h.pattern;
-        searched = span_kept pieces more_pieces entry.pieces h.searched;
+        searched = span_kept pieces more_segments entry.pieces h.searched;
         is_cut = rw (one, two) (tables_kept _ _ _ borders more_borders h.is_cut);
         needed = rw one h.needed;
         ranked = h.ranked;
@@ -89,12 +89,12 @@ module _ (text more_text : List ℕ) (pieces more_pieces : List Piece) (borders 
       All-push IsNow entries entry (All-weaker IsOld IsNow entry_kept entries known) is
 
 -- what was pushed: the pattern, its searched pieces and the tables
-module _ (text pattern : List ℕ) (pieces searched : List Piece) (borders : List ℕ) (entry : Entry) where
+module _ (text pattern : List ℕ) (pieces searched : List Segment) (borders : List ℕ) (entry : Entry) where
   pub record IsPushed : Type 0 where
     pub pattern_span : IsNew text (text ++ pattern) entry.pattern
     pub searched_span : IsNew pieces (pieces ++ searched) entry.pieces
-    pub is_cut : ArePieces pattern entry.ends searched borders
-    pub needed : AreNeeds pattern entry.needs
+    pub is_cut : AreSegments pattern entry.ends searched borders
+    pub needed : ArePrefilter pattern entry.prefilter
     pub ranked : entry.rank ≡ rank (length pattern) entry.is_allow
 
   pub entry_new : IsPushed → IsEntry (text ++ pattern) (pieces ++ searched) borders entry
@@ -111,7 +111,7 @@ module _ (text pattern : List ℕ) (pieces searched : List Piece) (borders : Lis
         ranked = rw len is.ranked;
       }
 
-module _ (text more : List ℕ) (pieces : List Piece) (borders : List ℕ) where
+module _ (text more : List ℕ) (pieces : List Segment) (borders : List ℕ) where
   rules_kept : (entries : List Entry) → All (IsEntry text pieces borders) entries
       → map (placed_at (text ++ more)) entries ≡ map (placed_at text) entries
   rules_kept [] known = refl

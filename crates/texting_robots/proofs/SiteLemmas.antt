@@ -7,16 +7,16 @@ use Rattle.std.specs.{List.cons_option, List.filter_map, List.list_any, Option.o
 use Rattle.std.proofs.lemmas.List.Elements.{filter_map-append}
 use Rattle.std.proofs.Math.Bool.{and-false, and-true, or-false}
 use Rattle.std.proofs.lemmas.{Bool.eq-eqb, Bool.ne_eqb, List.Folds.list_any-append}
-use Rattle.texting_robots.specs.declared.groups.Walk.{Walk}
+use Rattle.texting_robots.specs.declared.groups.GroupTracker.{GroupTracker}
 use Rattle.texting_robots.specs.Line.{LineValue, UserAgent, Allow, Disallow, Sitemap, CrawlDelay, Raw}
 use Rattle.texting_robots.specs.Line.{delay_in}
 use Rattle.texting_robots.specs.Group.{group_name, is_agent, is_group}
-use Rattle.texting_robots.specs.Computed.{captured_delays, captured_lines, placed_in, placed_rules}
-use Rattle.texting_robots.specs.Steps.Group.{from_captured, start_of, step}
-use Rattle.texting_robots.specs.Steps.Site.{Named, Tagged, delay_of, has_name, is_of, is_run_of, named}
-use Rattle.texting_robots.specs.Steps.Site.{named_from}
-use Rattle.texting_robots.specs.Steps.Site.{own_tagged, rule_of, tagged_from}
-use Rattle.texting_robots.specs.Steps.Site.{early_after}
+use Rattle.texting_robots.specs.Executable.{captured_delays, captured_lines, placed_in, placed_rules}
+use Rattle.texting_robots.specs.Internal.Group.{from_captured, start_of, step}
+use Rattle.texting_robots.specs.Internal.Site.{Named, Tagged, delay_of, has_name, is_of, is_run_of, named}
+use Rattle.texting_robots.specs.Internal.Site.{named_from}
+use Rattle.texting_robots.specs.Internal.Site.{own_tagged, rule_of, tagged_from}
+use Rattle.texting_robots.specs.Internal.Site.{early_after}
 use Rattle.texting_robots.proofs.RulesLemmas.{delay_from, last_more}
 use Rattle.texting_robots.proofs.CapturedLemmas.{captured_walked, kept_next}
 
@@ -35,51 +35,51 @@ one_more name names n r =
     list_any-append (is_of name r) names (n ∷ []) ∙ ap (λ b. is_run_of name names r || b) (or-false _)
 
 -- a run that is closed, or an earlier one, gets no name any more
-pub none_later : (name : List ℕ) (r run : ℕ) (joins : Bool) (place count : ℕ) (lines : List LineValue)
-    → run ≤ place
-    → r ≤ run → (joins ≡ true → r < run) → is_run_of name (named_from run joins place count lines) r ≡ false
-none_later name r run joins place count [] within earlier closed = refl
-none_later name r run true place count (UserAgent value ∷ lines) within earlier closed =
+pub none_later : (name : List ℕ) (r run : ℕ) (joins : Bool) (position count : ℕ) (lines : List LineValue)
+    → run ≤ position
+    → r ≤ run → (joins ≡ true → r < run) → is_run_of name (named_from run joins position count lines) r ≡ false
+none_later name r run joins position count [] within earlier closed = refl
+none_later name r run true position count (UserAgent value ∷ lines) within earlier closed =
     let below : r < run = closed refl in
     rw (not_of name r (record { name = value; run = run; start = count }) (λ same. omega arith))
-    (none_later name r run true (place + 1) count lines (omega arith) earlier closed)
-none_later name r run false place count (UserAgent value ∷ lines) within earlier closed =
-    rw (not_of name r (record { name = value; run = place + 1; start = count }) (λ same. omega arith))
-    (none_later name r (place + 1) true (place + 1) count lines (omega arith) (omega arith)
+    (none_later name r run true (position + 1) count lines (omega arith) earlier closed)
+none_later name r run false position count (UserAgent value ∷ lines) within earlier closed =
+    rw (not_of name r (record { name = value; run = position + 1; start = count }) (λ same. omega arith))
+    (none_later name r (position + 1) true (position + 1) count lines (omega arith) (omega arith)
     (λ _. omega arith))
-none_later name r run joins place count (Allow value ∷ lines) within earlier closed =
-    none_later name r run false (place + 1) (count + 1) lines (omega arith) earlier (λ wrong. cc)
-none_later name r run joins place count (Disallow value ∷ lines) within earlier closed =
-    none_later name r run false (place + 1) (count + 1) lines (omega arith) earlier (λ wrong. cc)
-none_later name r run joins place count (CrawlDelay delay ∷ lines) within earlier closed =
-    none_later name r run false (place + 1) (count + 1) lines (omega arith) earlier (λ wrong. cc)
-none_later name r run joins place count (Sitemap value ∷ lines) within earlier closed =
-    none_later name r run joins (place + 1) count lines (omega arith) earlier closed
-none_later name r run joins place count (Raw body ∷ lines) within earlier closed =
-    none_later name r run joins (place + 1) count lines (omega arith) earlier closed
+none_later name r run joins position count (Allow value ∷ lines) within earlier closed =
+    none_later name r run false (position + 1) (count + 1) lines (omega arith) earlier (λ wrong. cc)
+none_later name r run joins position count (Disallow value ∷ lines) within earlier closed =
+    none_later name r run false (position + 1) (count + 1) lines (omega arith) earlier (λ wrong. cc)
+none_later name r run joins position count (CrawlDelay delay ∷ lines) within earlier closed =
+    none_later name r run false (position + 1) (count + 1) lines (omega arith) earlier (λ wrong. cc)
+none_later name r run joins position count (Sitemap value ∷ lines) within earlier closed =
+    none_later name r run joins (position + 1) count lines (omega arith) earlier closed
+none_later name r run joins position count (Raw body ∷ lines) within earlier closed =
+    none_later name r run joins (position + 1) count lines (omega arith) earlier closed
 
 -- ---- the walk of a name, and the runs
 
 -- the walk is captured where the run has the name, and no later run has a name yet
-record StandsIn (name : List ℕ) (walk : Walk) (run : ℕ) (joins : Bool) (before : List Named) : Type 0 where
+record BelongsTo (name : List ℕ) (walk : GroupTracker) (run : ℕ) (joins : Bool) (before : List Named) : Type 0 where
   captured : walk.captured ≡ is_run_of name before run
   named : walk.named ≡ (joins && walk.captured)
   first : (r : ℕ) → run < r → is_run_of name before r ≡ false
 
 -- behind a user-agent line of an joins run
-in_run : (name value : List ℕ) (walk : Walk) (run count : ℕ) (before : List Named)
-    → StandsIn name walk run true before
-    → StandsIn name (step name walk (UserAgent value)) run true
+in_run : (name value : List ℕ) (walk : GroupTracker) (run count : ℕ) (before : List Named)
+    → BelongsTo name walk run true before
+    → BelongsTo name (step name walk (UserAgent value)) run true
     (before ++ record { name = value; run = run; start = count } ∷ [])
-in_run name value walk run count before stands =
+in_run name value walk run count before splits =
     let n : Named = record { name = value; run = run; start = count } in
     record {
-      captured = rw (one_more name before n run, here_of name n, stands.named, stands.captured)
+      captured = rw (one_more name before n run, here_of name n, splits.named, splits.captured)
           (swapped (has_name name n) (is_run_of name before run));
       named = refl;
       first = λ r above. rw (
         one_more name before n r,
-        stands.first r above,
+        splits.first r above,
         not_of name r n
             (λ same. omega arith),
       )
@@ -93,33 +93,33 @@ in_run name value walk run count before stands =
     swapped false false = refl
 
 -- behind one that begins a run
-in_new_run : (name value : List ℕ) (walk : Walk) (run place count : ℕ) (before : List Named) → run ≤ place
-    → StandsIn name walk run false before
-    → StandsIn name (step name walk (UserAgent value)) (place + 1) true
-    (before ++ record { name = value; run = place + 1; start = count } ∷ [])
-in_new_run name value walk run place count before within stands =
-    let n : Named = record { name = value; run = place + 1; start = count } in
+in_new_run : (name value : List ℕ) (walk : GroupTracker) (run position count : ℕ) (before : List Named) → run ≤ position
+    → BelongsTo name walk run false before
+    → BelongsTo name (step name walk (UserAgent value)) (position + 1) true
+    (before ++ record { name = value; run = position + 1; start = count } ∷ [])
+in_new_run name value walk run position count before within splits =
+    let n : Named = record { name = value; run = position + 1; start = count } in
     record {
       captured = rw (
-        one_more name before n (place + 1),
+        one_more name before n (position + 1),
         here_of name n,
-        stands.named,
-        stands.first (place + 1) (omega arith),
+        splits.named,
+        splits.first (position + 1) (omega arith),
       ) (or-false _);
       named = refl;
       first = λ r above. rw (
         one_more name before n r,
-        stands.first r (omega arith),
+        splits.first r (omega arith),
         not_of name r n (λ same. omega arith),
       ) refl;
     }
 
 -- behind a group line
-behind_group : (name : List ℕ) (walk : Walk) (run : ℕ) (joins : Bool) (before : List Named)
-    → StandsIn name walk run joins before
-    → StandsIn name (record { captured = walk.captured; named = false }) run false before
-behind_group name walk run joins before stands =
-    record { captured = stands.captured; named = refl; first = stands.first }
+after_group : (name : List ℕ) (walk : GroupTracker) (run : ℕ) (joins : Bool) (before : List Named)
+    → BelongsTo name walk run joins before
+    → BelongsTo name (record { captured = walk.captured; named = false }) run false before
+after_group name walk run joins before splits =
+    record { captured = splits.captured; named = refl; first = splits.first }
 
 -- what a group line gives, by its run
 group_next : {X : Type 0} (given : Tagged → Option X) (name : List ℕ) (captured : Bool) (tag : Tagged)
@@ -133,17 +133,17 @@ group_next given name captured tag names tags rest here fits same later =
     ∙ rw (same, later) (sym (kept_next (is_run_of name names tag.run) given tag _))
 
 -- the run of a group line gets no further name
-named_here : (name : List ℕ) (walk : Walk) (run : ℕ) (joins : Bool) (place count : ℕ)
+named_here : (name : List ℕ) (walk : GroupTracker) (run : ℕ) (joins : Bool) (position count : ℕ)
     (before all : List Named)
-    (lines : List LineValue) → run ≤ place → StandsIn name walk run joins before
-    → all ≡ before ++ named_from run false place count lines → walk.captured ≡ is_run_of name all run
-named_here name walk run joins place count before all lines within stands are =
+    (lines : List LineValue) → run ≤ position → BelongsTo name walk run joins before
+    → all ≡ before ++ named_from run false position count lines → walk.captured ≡ is_run_of name all run
+named_here name walk run joins position count before all lines within splits are =
     rw (
       are,
-      list_any-append (is_of name run) before (named_from run false place count lines),
-      none_later name run run false place count lines within (omega arith) (λ wrong. cc),
+      list_any-append (is_of name run) before (named_from run false position count lines),
+      none_later name run run false position count lines within (omega arith) (λ wrong. cc),
     )
-    (stands.captured ∙ sym (or-false _))
+    (splits.captured ∙ sym (or-false _))
 
 -- another line gives nothing
 nothing_here : {X : Type 0} (captured : Bool) (o : Option X) (rest : List X) → o ≡ None
@@ -153,81 +153,81 @@ nothing_here false o rest none = refl
 
 -- what is found in the captured lines is found in the lines of the runs that have the name
 found_in_runs : {X : Type 0} (given : ℕ × LineValue → Option X) (of_tag : Tagged → Option X)
-    → ((place run : ℕ) (line : LineValue)
-    → of_tag (record { number = place + 1; line = line; run = run }) ≡ given (place, line))
-    → ((place : ℕ) (line : LineValue) → is_group line ≡ false → given (place, line) ≡ None)
-    → (name : List ℕ) (walk : Walk) (run : ℕ) (joins : Bool) (place count : ℕ) (before all : List Named)
-    (lines : List LineValue) → run ≤ place → StandsIn name walk run joins before
-    → all ≡ before ++ named_from run joins place count lines
-    → from_captured given name walk place lines
-    ≡ filter_map of_tag (filter (λ t. is_run_of name all t.run) (tagged_from run joins place lines))
-found_in_runs given of_tag fits none name walk run joins place count before all [] within stands are = refl
-found_in_runs given of_tag fits none name walk run true place count before all
+    → ((position run : ℕ) (line : LineValue)
+    → of_tag (record { number = position + 1; line = line; run = run }) ≡ given (position, line))
+    → ((position : ℕ) (line : LineValue) → is_group line ≡ false → given (position, line) ≡ None)
+    → (name : List ℕ) (walk : GroupTracker) (run : ℕ) (joins : Bool) (position count : ℕ) (before all : List Named)
+    (lines : List LineValue) → run ≤ position → BelongsTo name walk run joins before
+    → all ≡ before ++ named_from run joins position count lines
+    → from_captured given name walk position lines
+    ≡ filter_map of_tag (filter (λ t. is_run_of name all t.run) (tagged_from run joins position lines))
+found_in_runs given of_tag fits none name walk run joins position count before all [] within splits are = refl
+found_in_runs given of_tag fits none name walk run true position count before all
     (UserAgent value ∷ lines) within
-    stands are =
-    nothing_here walk.captured _ _ (none place (UserAgent value) refl)
-    ∙ found_in_runs given of_tag fits none name (step name walk (UserAgent value)) run true (place + 1) count
+    splits are =
+    nothing_here walk.captured _ _ (none position (UserAgent value) refl)
+    ∙ found_in_runs given of_tag fits none name (step name walk (UserAgent value)) run true (position + 1) count
     (before ++ record { name = value; run = run; start = count } ∷ []) all lines
-    (omega arith) (in_run name value walk run count before stands)
+    (omega arith) (in_run name value walk run count before splits)
     (are ∙ sym (append_assoc before
     (record { name = value; run = run; start = count } ∷ []) _))
-found_in_runs given of_tag fits none name walk run false place count before all
+found_in_runs given of_tag fits none name walk run false position count before all
     (UserAgent value ∷ lines) within
-    stands are =
-    nothing_here walk.captured _ _ (none place (UserAgent value) refl)
-    ∙ found_in_runs given of_tag fits none name (step name walk (UserAgent value)) (place + 1) true
-    (place + 1)
-    count (before ++ record { name = value; run = place + 1; start = count } ∷ []) all
-    lines (omega arith) (in_new_run name value walk run place count before within stands)
+    splits are =
+    nothing_here walk.captured _ _ (none position (UserAgent value) refl)
+    ∙ found_in_runs given of_tag fits none name (step name walk (UserAgent value)) (position + 1) true
+    (position + 1)
+    count (before ++ record { name = value; run = position + 1; start = count } ∷ []) all
+    lines (omega arith) (in_new_run name value walk run position count before within splits)
     (are ∙ sym (append_assoc before
-    (record { name = value; run = place + 1; start = count } ∷ []) _))
-found_in_runs given of_tag fits none name walk run joins place count before all (Allow value ∷ lines) within
-    stands are =
-    group_next of_tag name walk.captured (record { number = place + 1; line = Allow value; run = run }) all _
+    (record { name = value; run = position + 1; start = count } ∷ []) _))
+found_in_runs given of_tag fits none name walk run joins position count before all (Allow value ∷ lines) within
+    splits are =
+    group_next of_tag name walk.captured (record { number = position + 1; line = Allow value; run = run }) all _
     _ _
-    (fits place run (Allow value))
-    (named_here name walk run joins (place + 1) (count + 1) before all lines (omega arith) stands are)
+    (fits position run (Allow value))
+    (named_here name walk run joins (position + 1) (count + 1) before all lines (omega arith) splits are)
     (found_in_runs given of_tag fits none name (record { captured = walk.captured; named = false }) run false
-    (place + 1) (count + 1) before all lines (omega arith)
-    (behind_group name walk run joins before stands) are)
-found_in_runs given of_tag fits none name walk run joins place count before all
+    (position + 1) (count + 1) before all lines (omega arith)
+    (after_group name walk run joins before splits) are)
+found_in_runs given of_tag fits none name walk run joins position count before all
     (Disallow value ∷ lines) within
-    stands are =
-    group_next of_tag name walk.captured (record { number = place + 1; line = Disallow value; run = run })
+    splits are =
+    group_next of_tag name walk.captured (record { number = position + 1; line = Disallow value; run = run })
     all _ _ _
-    (fits place run (Disallow value))
-    (named_here name walk run joins (place + 1) (count + 1) before all lines (omega arith) stands are)
+    (fits position run (Disallow value))
+    (named_here name walk run joins (position + 1) (count + 1) before all lines (omega arith) splits are)
     (found_in_runs given of_tag fits none name (record { captured = walk.captured; named = false }) run false
-    (place + 1) (count + 1) before all lines (omega arith)
-    (behind_group name walk run joins before stands) are)
-found_in_runs given of_tag fits none name walk run joins place count before all
+    (position + 1) (count + 1) before all lines (omega arith)
+    (after_group name walk run joins before splits) are)
+found_in_runs given of_tag fits none name walk run joins position count before all
     (CrawlDelay delay ∷ lines) within
-    stands are =
-    group_next of_tag name walk.captured (record { number = place + 1; line = CrawlDelay delay; run = run })
+    splits are =
+    group_next of_tag name walk.captured (record { number = position + 1; line = CrawlDelay delay; run = run })
     all _ _ _
-    (fits place run (CrawlDelay delay))
-    (named_here name walk run joins (place + 1) (count + 1) before all lines (omega arith) stands are)
+    (fits position run (CrawlDelay delay))
+    (named_here name walk run joins (position + 1) (count + 1) before all lines (omega arith) splits are)
     (found_in_runs given of_tag fits none name (record { captured = walk.captured; named = false }) run false
-    (place + 1) (count + 1) before all lines (omega arith)
-    (behind_group name walk run joins before stands) are)
-found_in_runs given of_tag fits none name walk run joins place count before all (Sitemap value ∷ lines) within
-    stands are =
-    nothing_here walk.captured _ _ (none place (Sitemap value) refl)
-    ∙ found_in_runs given of_tag fits none name walk run joins (place + 1) count before all lines
+    (position + 1) (count + 1) before all lines (omega arith)
+    (after_group name walk run joins before splits) are)
+found_in_runs given of_tag fits none name walk run joins position count before all (Sitemap value ∷ lines) within
+    splits are =
+    nothing_here walk.captured _ _ (none position (Sitemap value) refl)
+    ∙ found_in_runs given of_tag fits none name walk run joins (position + 1) count before all lines
     (omega arith)
-    stands are
-found_in_runs given of_tag fits none name walk run joins place count before all (Raw body ∷ lines) within
-    stands are =
-    nothing_here walk.captured _ _ (none place (Raw body) refl)
-    ∙ found_in_runs given of_tag fits none name walk run joins (place + 1) count before all lines
+    splits are
+found_in_runs given of_tag fits none name walk run joins position count before all (Raw body ∷ lines) within
+    splits are =
+    nothing_here walk.captured _ _ (none position (Raw body) refl)
+    ∙ found_in_runs given of_tag fits none name walk run joins (position + 1) count before all lines
     (omega arith)
-    stands are
+    splits are
 
 -- of a whole file with user-agent lines
 pub found_in_own : {X : Type 0} (given : ℕ × LineValue → Option X) (of_tag : Tagged → Option X)
-    → ((place run : ℕ) (line : LineValue)
-    → of_tag (record { number = place + 1; line = line; run = run }) ≡ given (place, line))
-    → ((place : ℕ) (line : LineValue) → is_group line ≡ false → given (place, line) ≡ None)
+    → ((position run : ℕ) (line : LineValue)
+    → of_tag (record { number = position + 1; line = line; run = run }) ≡ given (position, line))
+    → ((position : ℕ) (line : LineValue) → is_group line ≡ false → given (position, line) ≡ None)
     → (name : List ℕ) (lines : List LineValue) → list_any is_agent lines ≡ true
     → filter_map given (captured_lines name lines) ≡ filter_map of_tag (own_tagged name lines)
 found_in_own given of_tag fits none name lines some =
@@ -238,25 +238,25 @@ found_in_own given of_tag fits none name lines some =
 
 -- ---- rules and delays
 
-pub rule_of_group : (place : ℕ) (line : LineValue) → is_group line ≡ false → placed_in (place, line) ≡ None
-rule_of_group place (Allow value) isnt = cc
-rule_of_group place (Disallow value) isnt = cc
-rule_of_group place _ isnt = refl
+pub rule_of_group : (position : ℕ) (line : LineValue) → is_group line ≡ false → placed_in (position, line) ≡ None
+rule_of_group position (Allow value) isnt = cc
+rule_of_group position (Disallow value) isnt = cc
+rule_of_group position _ isnt = refl
 
-pub delay_of_group : (place : ℕ) (line : LineValue) → is_group line ≡ false → delay_in line ≡ None
-delay_of_group place (CrawlDelay delay) isnt = cc
-delay_of_group place _ isnt = refl
+pub delay_of_group : (position : ℕ) (line : LineValue) → is_group line ≡ false → delay_in line ≡ None
+delay_of_group position (CrawlDelay delay) isnt = cc
+delay_of_group position _ isnt = refl
 
 pub rules_of_runs : (agent : List ℕ) (lines : List LineValue) → list_any is_agent lines ≡ true
     → placed_rules agent lines ≡ filter_map rule_of (own_tagged (group_name agent lines) lines)
 rules_of_runs agent lines some =
-    found_in_own placed_in rule_of (λ place run line. refl) rule_of_group (group_name agent lines) lines some
+    found_in_own placed_in rule_of (λ position run line. refl) rule_of_group (group_name agent lines) lines some
 
 pub delays_of_runs : (agent : List ℕ) (lines : List LineValue) → list_any is_agent lines ≡ true
     → captured_delays agent lines
     ≡ filter_map delay_of (own_tagged (group_name agent lines) lines)
 delays_of_runs agent lines some =
-    found_in_own (λ p. delay_in p.1) delay_of (λ place run line. refl) delay_of_group
+    found_in_own (λ p. delay_in p.1) delay_of (λ position run line. refl) delay_of_group
     (group_name agent lines) lines some
 
 -- ---- what is kept of a file

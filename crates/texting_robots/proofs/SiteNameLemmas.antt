@@ -13,8 +13,8 @@ use Rattle.std.proofs.lemmas.Grind.{get_or-set_at}
 use Rattle.std.proofs.lemmas.Option.{get_or_from_slice_get, slice_get-get_or, slice_get-map, slice_get_read}
 use Rattle.std.proofs.lemmas.Option.{slice_get_within}
 use Rattle.std.proofs.lemmas.Slice.Eq.{bytes_eq-Decides}
-use Rattle.texting_robots.specs.Steps.Names.{AreLinked, bucket_of, first_named, is_in}
-use Rattle.texting_robots.specs.Steps.Site.{Named, has_name, in_front, is_of, is_run_of, named_of, tag_at}
+use Rattle.texting_robots.specs.Internal.Names.{AreLinked, bucket_of, first_named, is_in}
+use Rattle.texting_robots.specs.Internal.Site.{Named, has_name, in_front, is_of, is_run_of, named_of, tag_at}
 use Rattle.texting_robots.specs.declared.site.lines.KeptLine.{KeptLine}
 use Rattle.texting_robots.specs.declared.site.lines.AgentLine.{AgentLine}
 
@@ -76,32 +76,32 @@ linked_none count names heads nexts counted are followed = record {
     all_dropped [] = refl
     all_dropped (x ∷ xs) = all_dropped xs
 
-pub linked_more : (names : List Named) (place bucket : ℕ) (n : Named) (heads nexts : List ℕ)
-    → slice_get names place ≡ Some n → bucket ≡ bucket_of (length names) (str_to_ascii_lowercase n.name)
-    → bucket < length names → AreLinked (place + 1) names heads nexts
-    → AreLinked place names (set heads bucket place) (set nexts place (get_or heads bucket 0))
-linked_more names place bucket n heads nexts at its within linked =
+pub linked_more : (names : List Named) (position bucket : ℕ) (n : Named) (heads nexts : List ℕ)
+    → slice_get names position ≡ Some n → bucket ≡ bucket_of (length names) (str_to_ascii_lowercase n.name)
+    → bucket < length names → AreLinked (position + 1) names heads nexts
+    → AreLinked position names (set heads bucket position) (set nexts position (get_or heads bucket 0))
+linked_more names position bucket n heads nexts at its within linked =
     let N = length names in
-    let inside : place < N = slice_get_within names place n at in
+    let inside : position < N = slice_get_within names position n at in
     let bucket_is : is_in N bucket n ≡ true = eq-eqb _ bucket (sym its) in record {
-      buckets = length-set heads bucket place ∙ linked.buckets;
-      followed = length-set nexts place (get_or heads bucket 0) ∙ linked.followed;
+      buckets = length-set heads bucket position ∙ linked.buckets;
+      followed = length-set nexts position (get_or heads bucket 0) ∙ linked.followed;
       heads_are = λ b below. elim (eqb_tells b bucket) [
-        | inl (is, same) ↦ get_or-set_at heads bucket b place 0 same (omega (arith, linked.buckets))
-            ∙ rw (drop_is names place n at, same, bucket_is) (omega arith)
+        | inl (is, same) ↦ get_or-set_at heads bucket b position 0 same (omega (arith, linked.buckets))
+            ∙ rw (drop_is names position n at, same, bucket_is) (omega arith)
         | inr (isnt, other) ↦
             let isnt_in : is_in N b n ≡ false = ne_eqb _ b (λ wrong. other (sym (its ∙ wrong))) in
-            get_or-set_other heads bucket b place 0 other ∙ linked.heads_are b below
-            ∙ rw (drop_is names place n at, isnt_in) (omega arith)
+            get_or-set_other heads bucket b position 0 other ∙ linked.heads_are b below
+            ∙ rw (drop_is names position n at, isnt_in) (omega arith)
       ];
-      nexts_are = λ i m from there. elim (eqb_tells i place) [
+      nexts_are = λ i m from there. elim (eqb_tells i position) [
         | inl (is, same) ↦
             let one : Some n ≡ Some m = sym at ∙ ap (slice_get names) (sym same) ∙ there in
             let alike : n ≡ m = cc in
-            get_or-set_at nexts place i (get_or heads bucket 0) 0 same (omega (arith, linked.followed))
+            get_or-set_at nexts position i (get_or heads bucket 0) 0 same (omega (arith, linked.followed))
             ∙ linked.heads_are bucket within
             ∙ rw (its, alike, same) refl
-        | inr (isnt, other) ↦ get_or-set_other nexts place i (get_or heads bucket 0) 0 other
+        | inr (isnt, other) ↦ get_or-set_other nexts position i (get_or heads bucket 0) 0 other
             ∙ linked.nexts_are i m (omega arith) there
       ];
     }
@@ -125,34 +125,34 @@ pub from_bucket : (name : List ℕ) (count : ℕ) (names : List Named)
 from_bucket name count names =
     skip (has_name name) (is_in count (bucket_of count name)) (other_bucket name count) names
 
-pub record IsNext (name : List ℕ) (count place next : ℕ) (names : List Named) : Type 0 where
+pub record IsNext (name : List ℕ) (count position next : ℕ) (names : List Named) : Type 0 where
   pub here : position_or_len (is_in count (bucket_of count name)) (drop next names) ≡ 0
-  pub rest : next + first_named name (drop next names) ≡ place + 1 + first_named name (drop (place + 1) names)
+  pub rest : next + first_named name (drop next names) ≡ position + 1 + first_named name (drop (position + 1) names)
 
 -- the next line of a bucket that is the name's
-pub next_in_bucket : (name : List ℕ) (place next bucket : ℕ) (names : List Named)
+pub next_in_bucket : (name : List ℕ) (position next bucket : ℕ) (names : List Named)
     → bucket ≡ bucket_of (length names) name
-    → next ≡ place + 1 + position_or_len (is_in (length names) bucket) (drop (place + 1) names)
-    → IsNext name (length names) place next names
-next_in_bucket name place next bucket names its are =
+    → next ≡ position + 1 + position_or_len (is_in (length names) bucket) (drop (position + 1) names)
+    → IsNext name (length names) position next names
+next_in_bucket name position next bucket names its are =
     let N = length names in
-    let after = drop (place + 1) names in
+    let after = drop (position + 1) names in
     let p = is_in N (bucket_of N name) in
-    let is : next ≡ place + 1 + position_or_len p after = are
-    ∙ ap (λ b. place + 1 + position_or_len (is_in N b) after) its in
+    let is : next ≡ position + 1 + position_or_len p after = are
+    ∙ ap (λ b. position + 1 + position_or_len (is_in N b) after) its in
     let rest : drop next names ≡ drop (position_or_len p after) after =
-    ap (λ k. drop k names) is ∙ sym (drop-drop (position_or_len p after) (place + 1) names) in record {
+    ap (λ k. drop k names) is ∙ sym (drop-drop (position_or_len p after) (position + 1) names) in record {
       here = ap (position_or_len p) rest ∙ first_here p after;
       rest = let same = from_bucket name N after in rw rest (omega arith);
     }
 
 -- the lines that the code reads
-pub agent_at : (lines : List AgentLine) (names : List Named) (place : ℕ) (line : AgentLine)
-    → map named_of lines ≡ names → place < length lines → line ≡ get_or lines place line
-    → slice_get names place ≡ Some (named_of line)
-agent_at lines names place line are within is =
-    ap (λ (ns : List Named). slice_get ns place) (sym are) ∙ slice_get-map named_of lines place
-    ∙ ap (option_map named_of) (slice_get_read lines (length lines) place line refl within is)
+pub agent_at : (lines : List AgentLine) (names : List Named) (position : ℕ) (line : AgentLine)
+    → map named_of lines ≡ names → position < length lines → line ≡ get_or lines position line
+    → slice_get names position ≡ Some (named_of line)
+agent_at lines names position line are within is =
+    ap (λ (ns : List Named). slice_get ns position) (sym are) ∙ slice_get-map named_of lines position
+    ∙ ap (option_map named_of) (slice_get_read lines (length lines) position line refl within is)
 
 pub head_is : (name : List ℕ) (names : List Named) (heads nexts : List ℕ) (count bucket : ℕ)
     → AreLinked 0 names heads nexts → count ≡ length heads → bucket ≡ bucket_of count name → bucket < count
@@ -163,72 +163,72 @@ head_is name names heads nexts count bucket linked counted its below =
     ∙ ap (λ b. 0 + position_or_len (is_in (length names) b) names) (its ∙ ap (λ n. bucket_of n name) same)
     ∙ omega arith
 
-next_is : (names : List Named) (heads nexts : List ℕ) (place next : ℕ) (n : Named)
+next_is : (names : List Named) (heads nexts : List ℕ) (position next : ℕ) (n : Named)
     → AreLinked 0 names heads nexts
-    → slice_get names place ≡ Some n → next ≡ get_or nexts place next
-    → next ≡ place + 1
+    → slice_get names position ≡ Some n → next ≡ get_or nexts position next
+    → next ≡ position + 1
     + position_or_len (is_in (length names) (bucket_of (length names) (str_to_ascii_lowercase n.name)))
-    (drop (place + 1) names)
-next_is names heads nexts place next n linked at is =
-    let within = slice_get_within names place n at in
-    sym (get_or_from_slice_get nexts place next 0
-    (slice_get_read nexts (length nexts) place next refl (omega (arith, linked.followed)) is))
-    ∙ linked.nexts_are place n (omega arith) at
+    (drop (position + 1) names)
+next_is names heads nexts position next n linked at is =
+    let within = slice_get_within names position n at in
+    sym (get_or_from_slice_get nexts position next 0
+    (slice_get_read nexts (length nexts) position next refl (omega (arith, linked.followed)) is))
+    ∙ linked.nexts_are position n (omega arith) at
 
-pub further : (names : List Named) (heads nexts : List ℕ) (place next : ℕ) (n : Named)
-    → AreLinked 0 names heads nexts → slice_get names place ≡ Some n → next ≡ get_or nexts place next
-    → place < next
-further names heads nexts place next n linked at is =
-    omega (arith, next_is names heads nexts place next n linked at is)
+pub further : (names : List Named) (heads nexts : List ℕ) (position next : ℕ) (n : Named)
+    → AreLinked 0 names heads nexts → slice_get names position ≡ Some n → next ≡ get_or nexts position next
+    → position < next
+further names heads nexts position next n linked at is =
+    omega (arith, next_is names heads nexts position next n linked at is)
 
-pub walk_on : (name : List ℕ) (names : List Named) (heads nexts : List ℕ) (place next : ℕ) (n : Named)
-    → AreLinked 0 names heads nexts → slice_get names place ≡ Some n → next ≡ get_or nexts place next
-    → position_or_len (is_in (length names) (bucket_of (length names) name)) (drop place names) ≡ 0
-    → IsNext name (length names) place next names
-walk_on name names heads nexts place next n linked at is first =
+pub walk_on : (name : List ℕ) (names : List Named) (heads nexts : List ℕ) (position next : ℕ) (n : Named)
+    → AreLinked 0 names heads nexts → slice_get names position ≡ Some n → next ≡ get_or nexts position next
+    → position_or_len (is_in (length names) (bucket_of (length names) name)) (drop position names) ≡ 0
+    → IsNext name (length names) position next names
+walk_on name names heads nexts position next n linked at is first =
     let N = length names in
     let p = is_in N (bucket_of N name) in
-    let inside : p n ≡ true = here p n (drop (place + 1) names) (ap (position_or_len p) (sym
-    (drop_is names place n at)) ∙ first) in
-    next_in_bucket name place next (bucket_of N (str_to_ascii_lowercase n.name)) names
-    (eqb-true _ _ inside) (next_is names heads nexts place next n linked at is)
+    let inside : p n ≡ true = here p n (drop (position + 1) names) (ap (position_or_len p) (sym
+    (drop_is names position n at)) ∙ first) in
+    next_in_bucket name position next (bucket_of N (str_to_ascii_lowercase n.name)) names
+    (eqb-true _ _ inside) (next_is names heads nexts position next n linked at is)
 
-pub found : (name : List ℕ) (names : List Named) (place : ℕ) (n : Named) → slice_get names place ≡ Some n
-    → has_name name n ≡ true → first_named name (drop place names) ≡ 0
-found name names place n at is =
-    ap (first_named name) (drop_is names place n at) ∙ first_now (has_name name) n (drop (place + 1) names) is
+pub found : (name : List ℕ) (names : List Named) (position : ℕ) (n : Named) → slice_get names position ≡ Some n
+    → has_name name n ≡ true → first_named name (drop position names) ≡ 0
+found name names position n at is =
+    ap (first_named name) (drop_is names position n at) ∙ first_now (has_name name) n (drop (position + 1) names) is
 
-pub passed : (name : List ℕ) (names : List Named) (place : ℕ) (n : Named) → slice_get names place ≡ Some n
+pub passed : (name : List ℕ) (names : List Named) (position : ℕ) (n : Named) → slice_get names position ≡ Some n
     → has_name name n ≡ false
-    → place + 1 + first_named name (drop (place + 1) names) ≡ place + first_named name (drop place names)
-passed name names place n at isnt =
+    → position + 1 + first_named name (drop (position + 1) names) ≡ position + first_named name (drop position names)
+passed name names position n at isnt =
     omega (
       arith,
-      ap (first_named name) (drop_is names place n at),
-      first_later (has_name name) n (drop (place + 1) names) isnt,
+      ap (first_named name) (drop_is names position n at),
+      first_later (has_name name) n (drop (position + 1) names) isnt,
     )
 
 -- a line with the name is in the name's bucket
-pub named_bucket : (name : List ℕ) (names : List Named) (place : ℕ) (n : Named) → slice_get names place
+pub named_bucket : (name : List ℕ) (names : List Named) (position : ℕ) (n : Named) → slice_get names position
     ≡ Some n
-    → first_named name (drop place names) ≡ 0
-    → position_or_len (is_in (length names) (bucket_of (length names) name)) (drop place names) ≡ 0
-named_bucket name names place n at first =
+    → first_named name (drop position names) ≡ 0
+    → position_or_len (is_in (length names) (bucket_of (length names) name)) (drop position names) ≡ 0
+named_bucket name names position n at first =
     let N = length names in
     let p = is_in N (bucket_of N name) in
-    let after = drop (place + 1) names in
+    let after = drop (position + 1) names in
     let is : has_name name n ≡ true =
-    here (has_name name) n after (ap (first_named name) (sym (drop_is names place n at)) ∙ first) in
+    here (has_name name) n after (ap (first_named name) (sym (drop_is names position n at)) ∙ first) in
     let same : str_to_ascii_lowercase n.name ≡ name = (bytes_eq-Decides _ name).0 is in
-    ap (position_or_len p) (drop_is names place n at)
+    ap (position_or_len p) (drop_is names position n at)
     ∙ first_now p n after (eq-eqb _ _ (ap (bucket_of N) same))
 
 no_name : Named
 no_name = record { name = []; run = 0; start = 0 }
 
-pub some_at : (names : List Named) (place : ℕ) → place < length names
-    → (n : Named) × (slice_get names place ≡ Some n)
-some_at names place within = (get_or names place no_name, slice_get-get_or names place no_name within)
+pub some_at : (names : List Named) (position : ℕ) → position < length names
+    → (n : Named) × (slice_get names position ≡ Some n)
+some_at names position within = (get_or names position no_name, slice_get-get_or names position no_name within)
 
 -- ---- runs of a name
 

@@ -7,25 +7,25 @@ use Rattle.std.specs.Option.{IsSomeAnd, option_or, option_to_list}
 use Rattle.std.proofs.lemmas.{Bool.eq-eqb, Bool.ne_eqb, Bool.Decides.eqb_tells}
 use Rattle.std.proofs.lemmas.List.{Elements.filter_agree}
 use Rattle.std.proofs.lemmas.List.{take_more}
-use Rattle.texting_robots.specs.Rules.{IsRefused, PlacedRule, Rule}
+use Rattle.texting_robots.specs.Rules.{IsRejected, PlacedRule, Rule}
 use Rattle.texting_robots.specs.Group.{group_name, is_agent, is_group}
-use Rattle.texting_robots.specs.{Pattern.IsOverlong, Robot.IsFileRefused, Steps.Group.from_captured}
-use Rattle.texting_robots.specs.Computed.{captured_delays, captured_lines, file_lines, placed_in}
-use Rattle.texting_robots.specs.Computed.{placed_rules}
+use Rattle.texting_robots.specs.{Pattern.IsOverlong, Robot.IsFileRejected, Internal.Group.from_captured}
+use Rattle.texting_robots.specs.Executable.{captured_delays, captured_lines, file_lines, placed_in}
+use Rattle.texting_robots.specs.Executable.{placed_rules}
 use Rattle.texting_robots.specs.declared.site.lines.Span.{Span}
-use Rattle.texting_robots.proofs.{CapturedLemmas.captured_walked, HeadlineLemmas.has_lines}
-use Rattle.texting_robots.specs.Computed.{delay_before_agents, delay_for}
+use Rattle.texting_robots.proofs.{CapturedLemmas.captured_walked, MainTheoremLemmas.has_lines}
+use Rattle.texting_robots.specs.Executable.{delay_before_agents, delay_for}
 use Rattle.texting_robots.specs.{Robot.IsRobotOf, Robot.RobotValue, Rules.unplaced}
 use Rattle.std.proofs.Common.{IsPermutation, subst}
-use Rattle.texting_robots.proofs.{HeldLemmas.refusal_is_computed, HeldLemmas.rules_are_computed}
+use Rattle.texting_robots.proofs.{HeldLemmas.rejection_is_computed, HeldLemmas.rules_are_computed}
 use Rattle.texting_robots.proofs.{GivenLemmas.delay_is_computed, RulesLemmas.any_unplaced}
 use Rattle.texting_robots.proofs.SiteLemmas.{delay_of_group, given_push, rule_of_group}
 use Rattle.texting_robots.specs.Line.{LineValue, UserAgent, Allow, Disallow, Sitemap, CrawlDelay, Raw}
 use Rattle.texting_robots.specs.Line.{delay_in}
-use Rattle.texting_robots.specs.Steps.Site.{Named, Tagged, delay_of, in_front, is_run_of, named}
-use Rattle.texting_robots.specs.Steps.Site.{listed, own_tagged, rule_of, tagged, tagged_from}
-use Rattle.texting_robots.specs.Steps.{Names.first_named, Own.AreOfFile, Own.IsWholeWalk, Own.is_later}
-use Rattle.texting_robots.specs.Steps.{Own.own_at, Own.own_from, Site.has_name}
+use Rattle.texting_robots.specs.Internal.Site.{Named, Tagged, delay_of, in_front, is_run_of, named}
+use Rattle.texting_robots.specs.Internal.Site.{listed, own_tagged, rule_of, tagged, tagged_from}
+use Rattle.texting_robots.specs.Internal.{Names.first_named, Own.AreOfFile, Own.IsWholeWalk, Own.is_later}
+use Rattle.texting_robots.specs.Internal.{Own.own_at, Own.own_from, Site.has_name}
 use Rattle.texting_robots.specs.declared.site.own.Position.{Position}
 use Rattle.texting_robots.proofs.SiteLemmas.{none_later}
 use Rattle.texting_robots.proofs.SiteNameLemmas.{drop_is, first_here, here, later_at, past_end}
@@ -99,44 +99,44 @@ none_below name (n ∷ names) least q above below =
 -- ---- the walk
 
 -- the runs of the lines from the next one with the name on
-runs_after : (name : List ℕ) (names : List Named) (place next r : ℕ)
-    → next ≡ place + 1 + first_named name (drop (place + 1) names)
-    → is_run_of name (drop next names) r ≡ is_run_of name (drop (place + 1) names) r
-runs_after name names place next r are =
+runs_after : (name : List ℕ) (names : List Named) (name_index next r : ℕ)
+    → next ≡ name_index + 1 + first_named name (drop (name_index + 1) names)
+    → is_run_of name (drop next names) r ≡ is_run_of name (drop (name_index + 1) names) r
+runs_after name names name_index next r are =
     ap (λ (ns : List Named). is_run_of name ns r)
-    (ap (λ k. drop k names) are ∙ sym (drop-drop (first_named name (drop (place + 1) names))
-    (place + 1) names))
-    ∙ runs_from_first name (drop (place + 1) names) r
+    (ap (λ k. drop k names) are ∙ sym (drop-drop (first_named name (drop (name_index + 1) names))
+    (name_index + 1) names))
+    ∙ runs_from_first name (drop (name_index + 1) names) r
 
-pub first_kept : (name : List ℕ) (place next : ℕ) (names : List Named)
-    → next ≡ place + 1 + first_named name (drop (place + 1) names) → first_named name (drop next names) ≡ 0
-first_kept name place next names are =
+pub first_kept : (name : List ℕ) (name_index next : ℕ) (names : List Named)
+    → next ≡ name_index + 1 + first_named name (drop (name_index + 1) names) → first_named name (drop next names) ≡ 0
+first_kept name name_index next names are =
     ap (λ (ns : List Named). first_named name ns)
-    (ap (λ k. drop k names) are ∙ sym (drop-drop (first_named name (drop (place + 1) names))
-    (place + 1) names))
-    ∙ first_here (has_name name) (drop (place + 1) names)
+    (ap (λ k. drop k names) are ∙ sym (drop-drop (first_named name (drop (name_index + 1) names))
+    (name_index + 1) names))
+    ∙ first_here (has_name name) (drop (name_index + 1) names)
 
 -- it goes on to a later run
-pub next_run : (name : List ℕ) (run place next : ℕ) (names : List Named) (tags rest : List Tagged) (n : Named)
-    → slice_get names place ≡ Some n → first_named name (drop place names) ≡ 0 → AreOfFile names tags
+pub next_run : (name : List ℕ) (run name_index next : ℕ) (names : List Named) (tags rest : List Tagged) (n : Named)
+    → slice_get names name_index ≡ Some n → first_named name (drop name_index names) ≡ 0 → AreOfFile names tags
     → run < n.run → in_front run rest ≡ []
-    → next ≡ place + 1 + first_named name (drop (place + 1) names)
+    → next ≡ name_index + 1 + first_named name (drop (name_index + 1) names)
     → own_from name n.run (drop n.start tags) (drop next names) tags
-    ≡ own_from name run rest (drop place names) tags
-next_run name run place next names tags rest n at first (lines, named_is, tagged_is) above gone are =
-    let after = drop (place + 1) names in
-    let left = drop_is names place n at in
+    ≡ own_from name run rest (drop name_index names) tags
+next_run name run name_index next names tags rest n at first (lines, named_is, tagged_is) above gone are =
+    let after = drop (name_index + 1) names in
+    let left = drop_is names name_index n at in
     let has : has_name name n ≡ true = here (has_name name) n after (rw left at first) in
-    let there : slice_get (named lines) place ≡ Some n = ap (λ (ns : List Named). slice_get ns place)
+    let there : slice_get (named lines) name_index ≡ Some n = ap (λ (ns : List Named). slice_get ns name_index)
     (sym named_is) ∙ at in
     let none = λ (q : ℕ) (below : q < n.run). none_below name after n.run q
-    (λ j m later. names_ascend lines place (place + 1 + j) n m (omega arith) there
-    (ap (λ (ns : List Named). slice_get ns (place + 1 + j)) (sym named_is)
-    ∙ later_at names (place + 1) j m later))
+    (λ j m later. names_ascend lines name_index (name_index + 1 + j) n m (omega arith) there
+    (ap (λ (ns : List Named). slice_get ns (name_index + 1 + j)) (sym named_is)
+    ∙ later_at names (name_index + 1) j m later))
     below in
     let front : in_front n.run (drop n.start tags) ≡ of_run n.run tags =
     subst (λ (ts : List Tagged). in_front n.run (drop n.start ts) ≡ of_run n.run ts) (sym tagged_is)
-    (starts lines place n there).lines in
+    (starts lines name_index n there).lines in
     let ascends : Ascends tags = subst (λ (ts : List Tagged). Ascends ts) (sym tagged_is)
     (tagged_ascends lines) in
     let later = λ (t : Tagged). later_next name run n after t.run has above none in
@@ -144,34 +144,34 @@ next_run name run place next names tags rest n at first (lines, named_is, tagged
     λ q least. rw (le-ltb n.run q least) refl in
     ap (λ ts. ts ++ filter (λ t. is_later name n.run (drop next names) t.run) tags) front
     ∙ ap (λ ts. of_run n.run tags ++ ts) (filter_agree _ _
-    (λ (t : Tagged). ap (λ b. ltb n.run t.run && b) (runs_after name names place next t.run are)) tags)
+    (λ (t : Tagged). ap (λ b. ltb n.run t.run && b) (runs_after name names name_index next t.run are)) tags)
     ∙ sym (run_first (is_later name n.run after) n.run tags passed ascends)
     ∙ sym (filter_agree _ _ later tags)
     ∙ ap (λ (ns : List Named). filter (λ t. is_later name run ns t.run) tags) (sym left)
-    ∙ ap (λ ts. ts ++ filter (λ t. is_later name run (drop place names) t.run) tags) (sym gone)
+    ∙ ap (λ ts. ts ++ filter (λ t. is_later name run (drop name_index names) t.run) tags) (sym gone)
 
 -- it passes a line of the same run
-pub same_run : (name : List ℕ) (run place next : ℕ) (names : List Named) (tags rest : List Tagged) (n : Named)
-    → slice_get names place ≡ Some n → n.run ≤ run
-    → next ≡ place + 1 + first_named name (drop (place + 1) names)
-    → own_from name run rest (drop next names) tags ≡ own_from name run rest (drop place names) tags
-same_run name run place next names tags rest n at least are =
+pub same_run : (name : List ℕ) (run name_index next : ℕ) (names : List Named) (tags rest : List Tagged) (n : Named)
+    → slice_get names name_index ≡ Some n → n.run ≤ run
+    → next ≡ name_index + 1 + first_named name (drop (name_index + 1) names)
+    → own_from name run rest (drop next names) tags ≡ own_from name run rest (drop name_index names) tags
+same_run name run name_index next names tags rest n at least are =
     ap (λ ts. in_front run rest ++ ts) (filter_agree _ _
-    (λ (t : Tagged). ap (λ b. ltb run t.run && b) (runs_after name names place next t.run are)
-    ∙ sym (later_same name run n (drop (place + 1) names) t.run least)) tags
+    (λ (t : Tagged). ap (λ b. ltb run t.run && b) (runs_after name names name_index next t.run are)
+    ∙ sym (later_same name run n (drop (name_index + 1) names) t.run least)) tags
     ∙ ap (λ (ns : List Named). filter (λ t. is_later name run ns t.run) tags) (sym
-    (drop_is names place n at)))
+    (drop_is names name_index n at)))
 
 none_pass : (p : ℕ → Bool) (tags : List Tagged) → ((q : ℕ) → p q ≡ false) → filter (λ t. p t.run) tags ≡ []
 none_pass p [] none = refl
 none_pass p (t ∷ tags) none = rw (none t.run) (none_pass p tags none)
 
 -- it ends
-pub at_end : (name : List ℕ) (run place : ℕ) (names : List Named) (tags rest : List Tagged)
-    → slice_get names place ≡ None → in_front run rest ≡ [] → own_from name run rest
-    (drop place names) tags ≡ []
-at_end name run place names tags rest out gone =
-    rw (gone, past names place out) (none_pass (is_later name run []) tags (λ q. and-false (ltb run q)))
+pub at_end : (name : List ℕ) (run name_index : ℕ) (names : List Named) (tags rest : List Tagged)
+    → slice_get names name_index ≡ None → in_front run rest ≡ [] → own_from name run rest
+    (drop name_index names) tags ≡ []
+at_end name run name_index names tags rest out gone =
+    rw (gone, past names name_index out) (none_pass (is_later name run []) tags (λ q. and-false (ltb run q)))
   where
     past : {X : Type 0} (xs : List X) (i : ℕ) → slice_get xs i ≡ None → drop i xs ≡ []
     past [] zero out = refl
@@ -198,10 +198,10 @@ own_named name lines = filter_agree _ _
     ∙ later_than_none name lines t.run) (tagged lines)
 
 -- in a file without
-pub own_unnamed : (name : List ℕ) (names : List Named) (tags : List Tagged) (place : ℕ) → names ≡ []
-    → own_from name 0 tags (drop place names) tags ≡ in_front 0 tags
-own_unnamed name names tags place none =
-    rw (nothing names place none, none_pass (is_later name 0 []) tags (λ q. and-false (ltb 0 q)))
+pub own_unnamed : (name : List ℕ) (names : List Named) (tags : List Tagged) (name_index : ℕ) → names ≡ []
+    → own_from name 0 tags (drop name_index names) tags ≡ in_front 0 tags
+own_unnamed name names tags name_index none =
+    rw (nothing names name_index none, none_pass (is_later name 0 []) tags (λ q. and-false (ltb 0 q)))
     (append-nil (in_front 0 tags))
   where
     nothing : {X : Type 0} (xs : List X) (i : ℕ) → xs ≡ [] → drop i xs ≡ []
@@ -210,20 +210,20 @@ own_unnamed name names tags place none =
     nothing (x ∷ xs) i none = cc
 
 pub whole_walk : (name : List ℕ) (position : Position) (names : List Named) (tags : List Tagged)
-    → position.place ≡ first_named name names → position.run ≡ 0 → (length names ≡ 0 → position.at ≡ 0)
+    → position.name_index ≡ first_named name names → position.run ≡ 0 → (length names ≡ 0 → position.at ≡ 0)
     → (0 < length names → length tags ≤ position.at)
     → IsWholeWalk name names tags (own_at name position names tags)
 whole_walk name position [] tags first at_zero unnamed some = λ lines named_is tagged_is. (
-  λ none. ap (λ (r : ℕ). own_from name r (drop position.at tags) (drop position.place []) tags) at_zero
-      ∙ ap (λ (k : ℕ). own_from name 0 (drop k tags) (drop position.place []) tags) (unnamed refl)
-      ∙ own_unnamed name [] tags position.place refl,
+  λ none. ap (λ (r : ℕ). own_from name r (drop position.at tags) (drop position.name_index []) tags) at_zero
+      ∙ ap (λ (k : ℕ). own_from name 0 (drop k tags) (drop position.name_index []) tags) (unnamed refl)
+      ∙ own_unnamed name [] tags position.name_index refl,
   λ wrong. absurd (wrong refl),
 )
 whole_walk name position (n ∷ names) tags first at_zero unnamed some = λ lines named_is tagged_is. (
   λ wrong. cc,
   λ filled.
-      ap (λ (r : ℕ). own_from name r (drop position.at tags) (drop position.place (n ∷ names)) tags) at_zero
-      ∙ ap (λ (ts : List Tagged). own_from name 0 ts (drop position.place (n ∷ names)) tags)
+      ap (λ (r : ℕ). own_from name r (drop position.at tags) (drop position.name_index (n ∷ names)) tags) at_zero
+      ∙ ap (λ (ts : List Tagged). own_from name 0 ts (drop position.name_index (n ∷ names)) tags)
       (past_end tags position.at (some (omega arith)))
       ∙ ap (λ (k : ℕ). own_from name 0 [] (drop k (n ∷ names)) tags) first
       ∙ ap (λ (ns : List Named). own_from name 0 [] (drop (first_named name ns) ns) tags) named_is
@@ -239,50 +239,50 @@ cons_same : {X : Type 0} (o p : Option X) (xs ys : List X) → o ≡ p → xs �
 cons_same o p xs ys here later = rw (here, later) refl
 
 all_from : {X : Type 0} (given : ℕ × LineValue → Option X) (of_tag : Tagged → Option X)
-    → ((place run : ℕ) (line : LineValue)
-    → of_tag (record { number = place + 1; line = line; run = run }) ≡ given (place, line))
-    → ((place : ℕ) (line : LineValue) → is_group line ≡ false → given (place, line) ≡ None)
-    → (name : List ℕ) (place : ℕ) (lines : List LineValue) → list_any is_agent lines ≡ false
-    → from_captured given name (record { captured = true; named = false }) place lines
-    ≡ filter_map of_tag (tagged_from 0 false place lines)
-all_from given of_tag fits none name place [] without = refl
-all_from given of_tag fits none name place (UserAgent value ∷ lines) without = cc
-all_from given of_tag fits none name place (Allow value ∷ lines) without =
-    cons_same _ _ _ _ (sym (fits place 0 (Allow value))) (all_from given of_tag fits none name
-    (place + 1) lines without)
-all_from given of_tag fits none name place (Disallow value ∷ lines) without =
-    cons_same _ _ _ _ (sym (fits place 0 (Disallow value)))
-    (all_from given of_tag fits none name (place + 1) lines without)
-all_from given of_tag fits none name place (CrawlDelay delay ∷ lines) without =
-    cons_same _ _ _ _ (sym (fits place 0 (CrawlDelay delay)))
-    (all_from given of_tag fits none name (place + 1) lines without)
-all_from given of_tag fits none name place (Sitemap value ∷ lines) without =
-    cons_same _ None _ _ (none place (Sitemap value) refl)
-    (all_from given of_tag fits none name (place + 1) lines without)
-all_from given of_tag fits none name place (Raw body ∷ lines) without =
-    cons_same _ None _ _ (none place (Raw body) refl) (all_from given of_tag fits none name
-    (place + 1) lines without)
+    → ((name_index run : ℕ) (line : LineValue)
+    → of_tag (record { number = name_index + 1; line = line; run = run }) ≡ given (name_index, line))
+    → ((name_index : ℕ) (line : LineValue) → is_group line ≡ false → given (name_index, line) ≡ None)
+    → (name : List ℕ) (name_index : ℕ) (lines : List LineValue) → list_any is_agent lines ≡ false
+    → from_captured given name (record { captured = true; named = false }) name_index lines
+    ≡ filter_map of_tag (tagged_from 0 false name_index lines)
+all_from given of_tag fits none name name_index [] without = refl
+all_from given of_tag fits none name name_index (UserAgent value ∷ lines) without = cc
+all_from given of_tag fits none name name_index (Allow value ∷ lines) without =
+    cons_same _ _ _ _ (sym (fits name_index 0 (Allow value))) (all_from given of_tag fits none name
+    (name_index + 1) lines without)
+all_from given of_tag fits none name name_index (Disallow value ∷ lines) without =
+    cons_same _ _ _ _ (sym (fits name_index 0 (Disallow value)))
+    (all_from given of_tag fits none name (name_index + 1) lines without)
+all_from given of_tag fits none name name_index (CrawlDelay delay ∷ lines) without =
+    cons_same _ _ _ _ (sym (fits name_index 0 (CrawlDelay delay)))
+    (all_from given of_tag fits none name (name_index + 1) lines without)
+all_from given of_tag fits none name name_index (Sitemap value ∷ lines) without =
+    cons_same _ None _ _ (none name_index (Sitemap value) refl)
+    (all_from given of_tag fits none name (name_index + 1) lines without)
+all_from given of_tag fits none name name_index (Raw body ∷ lines) without =
+    cons_same _ None _ _ (none name_index (Raw body) refl) (all_from given of_tag fits none name
+    (name_index + 1) lines without)
 
-front_all : (place : ℕ) (lines : List LineValue) → list_any is_agent lines ≡ false
-    → in_front 0 (tagged_from 0 false place lines) ≡ tagged_from 0 false place lines
-front_all place [] without = refl
-front_all place (UserAgent value ∷ lines) without = cc
-front_all place (Allow value ∷ lines) without =
-    let t : Tagged = record { number = place + 1; line = Allow value; run = 0 } in
-    ap (λ ts. t ∷ ts) (front_all (place + 1) lines without)
-front_all place (Disallow value ∷ lines) without =
-    let t : Tagged = record { number = place + 1; line = Disallow value; run = 0 } in
-    ap (λ ts. t ∷ ts) (front_all (place + 1) lines without)
-front_all place (CrawlDelay delay ∷ lines) without =
-    let t : Tagged = record { number = place + 1; line = CrawlDelay delay; run = 0 } in
-    ap (λ ts. t ∷ ts) (front_all (place + 1) lines without)
-front_all place (Sitemap value ∷ lines) without = front_all (place + 1) lines without
-front_all place (Raw body ∷ lines) without = front_all (place + 1) lines without
+front_all : (name_index : ℕ) (lines : List LineValue) → list_any is_agent lines ≡ false
+    → in_front 0 (tagged_from 0 false name_index lines) ≡ tagged_from 0 false name_index lines
+front_all name_index [] without = refl
+front_all name_index (UserAgent value ∷ lines) without = cc
+front_all name_index (Allow value ∷ lines) without =
+    let t : Tagged = record { number = name_index + 1; line = Allow value; run = 0 } in
+    ap (λ ts. t ∷ ts) (front_all (name_index + 1) lines without)
+front_all name_index (Disallow value ∷ lines) without =
+    let t : Tagged = record { number = name_index + 1; line = Disallow value; run = 0 } in
+    ap (λ ts. t ∷ ts) (front_all (name_index + 1) lines without)
+front_all name_index (CrawlDelay delay ∷ lines) without =
+    let t : Tagged = record { number = name_index + 1; line = CrawlDelay delay; run = 0 } in
+    ap (λ ts. t ∷ ts) (front_all (name_index + 1) lines without)
+front_all name_index (Sitemap value ∷ lines) without = front_all (name_index + 1) lines without
+front_all name_index (Raw body ∷ lines) without = front_all (name_index + 1) lines without
 
 found_in_all : {X : Type 0} (given : ℕ × LineValue → Option X) (of_tag : Tagged → Option X)
-    → ((place run : ℕ) (line : LineValue)
-    → of_tag (record { number = place + 1; line = line; run = run }) ≡ given (place, line))
-    → ((place : ℕ) (line : LineValue) → is_group line ≡ false → given (place, line) ≡ None)
+    → ((name_index run : ℕ) (line : LineValue)
+    → of_tag (record { number = name_index + 1; line = line; run = run }) ≡ given (name_index, line))
+    → ((name_index : ℕ) (line : LineValue) → is_group line ≡ false → given (name_index, line) ≡ None)
     → (name : List ℕ) (lines : List LineValue) → list_any is_agent lines ≡ false
     → filter_map given (captured_lines name lines) ≡ filter_map of_tag (in_front 0 (tagged lines))
 found_in_all given of_tag fits none name lines without =
@@ -294,13 +294,13 @@ found_in_all given of_tag fits none name lines without =
 pub rules_of_all : (agent : List ℕ) (lines : List LineValue) → list_any is_agent lines ≡ false
     → placed_rules agent lines ≡ filter_map rule_of (in_front 0 (tagged lines))
 rules_of_all agent lines without =
-    found_in_all placed_in rule_of (λ place run line. refl) rule_of_group
+    found_in_all placed_in rule_of (λ name_index run line. refl) rule_of_group
     (group_name agent lines) lines without
 
 pub delays_of_all : (agent : List ℕ) (lines : List LineValue) → list_any is_agent lines ≡ false
     → captured_delays agent lines ≡ filter_map delay_of (in_front 0 (tagged lines))
 delays_of_all agent lines without =
-    found_in_all (λ p. delay_in p.1) delay_of (λ place run line. refl) delay_of_group
+    found_in_all (λ p. delay_in p.1) delay_of (λ name_index run line. refl) delay_of_group
     (group_name agent lines) lines
     without
 
@@ -345,11 +345,11 @@ listed_more text sitemaps i d within =
 
 -- ---- why there is no robot
 
-pub file_refused : (agent file : List ℕ)
+pub file_rejected : (agent file : List ℕ)
     → Any (λ (placed : PlacedRule). IsOverlong placed.rule.0) (placed_rules agent (file_lines file))
-    → IsFileRefused agent file
-file_refused agent file some =
-    has_lines file (IsRefused agent) ((refusal_is_computed agent (file_lines file)).1
+    → IsFileRejected agent file
+file_rejected agent file some =
+    has_lines file (IsRejected agent) ((rejection_is_computed agent (file_lines file)).1
     (any_unplaced (λ (rule : Rule). IsOverlong rule.0) (placed_rules agent (file_lines file)) some))
 
 -- ---- where nothing is given, nothing is taken
@@ -386,8 +386,8 @@ same_robot agent other lines robot same is =
       rules = (rules_are_computed other lines robot.rules).1
           (subst (λ (all : List PlacedRule). IsPermutation all robot.rules) rules
           ((rules_are_computed agent lines robot.rules).0 is.rules));
-      accepted = λ refused. is.accepted ((refusal_is_computed agent lines).1
+      accepted = λ rejected. is.accepted ((rejection_is_computed agent lines).1
           (subst (λ (all : List PlacedRule). Any (λ (rule : Rule). IsOverlong rule.0) (unplaced all))
           (sym rules)
-          ((refusal_is_computed other lines).0 refused)));
+          ((rejection_is_computed other lines).0 rejected)));
     }

@@ -9,8 +9,8 @@ use Rattle.std.proofs.lemmas.{Bool.ne_eqb, Bool.Decides.eqb_tells}
 use Rattle.std.proofs.lemmas.List.{Elements.filter-append}
 use Rattle.texting_robots.specs.Line.{LineValue, UserAgent, Allow, Disallow, Sitemap, CrawlDelay, Raw}
 use Rattle.texting_robots.specs.Group.{is_agent, is_agent_named}
-use Rattle.texting_robots.specs.Steps.Site.{Named, Tagged, has_name, in_front, named, named_from, run_after}
-use Rattle.texting_robots.specs.Steps.Site.{tagged, tagged_from}
+use Rattle.texting_robots.specs.Internal.Site.{Named, Tagged, has_name, in_front, named, named_from, run_after}
+use Rattle.texting_robots.specs.Internal.Site.{tagged, tagged_from}
 
 -- the lines of a run
 abbrev pub of_run : ℕ → List Tagged → List Tagged
@@ -25,49 +25,49 @@ abbrev pub Ascends : List Tagged → Type 0
 Ascends [] = Unit {0}
 Ascends (t ∷ tags) = IsAbove t.run tags × Ascends tags
 
-above_from : (r run : ℕ) (joins : Bool) (place : ℕ) (lines : List LineValue) → r ≤ run → run ≤ place
-    → IsAbove r (tagged_from run joins place lines)
-above_from r run joins place [] below within = tt
-above_from r run true place (UserAgent value ∷ lines) below within =
-    above_from r run true (place + 1) lines below (omega arith)
-above_from r run false place (UserAgent value ∷ lines) below within =
-    above_from r (place + 1) true (place + 1) lines (omega arith) (omega arith)
-above_from r run joins place (Allow value ∷ lines) below within =
-    (below, above_from r run false (place + 1) lines below (omega arith))
-above_from r run joins place (Disallow value ∷ lines) below within =
-    (below, above_from r run false (place + 1) lines below (omega arith))
-above_from r run joins place (CrawlDelay delay ∷ lines) below within =
-    (below, above_from r run false (place + 1) lines below (omega arith))
-above_from r run joins place (Sitemap value ∷ lines) below within =
-    above_from r run joins (place + 1) lines below (omega arith)
-above_from r run joins place (Raw body ∷ lines) below within =
-    above_from r run joins (place + 1) lines below (omega arith)
+above_from : (r run : ℕ) (joins : Bool) (position : ℕ) (lines : List LineValue) → r ≤ run → run ≤ position
+    → IsAbove r (tagged_from run joins position lines)
+above_from r run joins position [] below within = tt
+above_from r run true position (UserAgent value ∷ lines) below within =
+    above_from r run true (position + 1) lines below (omega arith)
+above_from r run false position (UserAgent value ∷ lines) below within =
+    above_from r (position + 1) true (position + 1) lines (omega arith) (omega arith)
+above_from r run joins position (Allow value ∷ lines) below within =
+    (below, above_from r run false (position + 1) lines below (omega arith))
+above_from r run joins position (Disallow value ∷ lines) below within =
+    (below, above_from r run false (position + 1) lines below (omega arith))
+above_from r run joins position (CrawlDelay delay ∷ lines) below within =
+    (below, above_from r run false (position + 1) lines below (omega arith))
+above_from r run joins position (Sitemap value ∷ lines) below within =
+    above_from r run joins (position + 1) lines below (omega arith)
+above_from r run joins position (Raw body ∷ lines) below within =
+    above_from r run joins (position + 1) lines below (omega arith)
 
 le_self : (n : ℕ) → n ≤ n
 le_self n = omega arith
 
-ascends_from : (run : ℕ) (joins : Bool) (place : ℕ) (lines : List LineValue) → run ≤ place
-    → Ascends (tagged_from run joins place lines)
-ascends_from run joins place [] within = tt
-ascends_from run true place (UserAgent value ∷ lines) within =
-    ascends_from run true (place + 1) lines (omega arith)
-ascends_from run false place (UserAgent value ∷ lines) within =
-    ascends_from (place + 1) true (place + 1) lines (omega arith)
-ascends_from run joins place (Allow value ∷ lines) within = (
-  above_from run run false (place + 1) lines (le_self run) (omega arith),
-  ascends_from run false (place + 1) lines (omega arith),
+ascends_from : (run : ℕ) (joins : Bool) (position : ℕ) (lines : List LineValue) → run ≤ position
+    → Ascends (tagged_from run joins position lines)
+ascends_from run joins position [] within = tt
+ascends_from run true position (UserAgent value ∷ lines) within =
+    ascends_from run true (position + 1) lines (omega arith)
+ascends_from run false position (UserAgent value ∷ lines) within =
+    ascends_from (position + 1) true (position + 1) lines (omega arith)
+ascends_from run joins position (Allow value ∷ lines) within = (
+  above_from run run false (position + 1) lines (le_self run) (omega arith),
+  ascends_from run false (position + 1) lines (omega arith),
 )
-ascends_from run joins place (Disallow value ∷ lines) within = (
-  above_from run run false (place + 1) lines (le_self run) (omega arith),
-  ascends_from run false (place + 1) lines (omega arith),
+ascends_from run joins position (Disallow value ∷ lines) within = (
+  above_from run run false (position + 1) lines (le_self run) (omega arith),
+  ascends_from run false (position + 1) lines (omega arith),
 )
-ascends_from run joins place (CrawlDelay delay ∷ lines) within = (
-  above_from run run false (place + 1) lines (le_self run) (omega arith),
-  ascends_from run false (place + 1) lines (omega arith),
+ascends_from run joins position (CrawlDelay delay ∷ lines) within = (
+  above_from run run false (position + 1) lines (le_self run) (omega arith),
+  ascends_from run false (position + 1) lines (omega arith),
 )
-ascends_from run joins place (Sitemap value ∷ lines) within =
-    ascends_from run joins (place + 1) lines (omega arith)
-ascends_from run joins place (Raw body ∷ lines) within = ascends_from run joins (place + 1) lines
+ascends_from run joins position (Sitemap value ∷ lines) within =
+    ascends_from run joins (position + 1) lines (omega arith)
+ascends_from run joins position (Raw body ∷ lines) within = ascends_from run joins (position + 1) lines
     (omega arith)
 
 pub tagged_ascends : (lines : List LineValue) → Ascends (tagged lines)
@@ -90,35 +90,35 @@ front_is_run run (t ∷ tags) (here, later) (first, rest) = elim (eqb_tells t.ru
 
 -- ---- names, whatever their runs
 
-names_from : (name : List ℕ) (run : ℕ) (joins : Bool) (place count : ℕ) (lines : List LineValue)
-    → list_any (has_name name) (named_from run joins place count lines) ≡ list_any (is_agent_named name) lines
-names_from name run joins place count [] = refl
-names_from name run joins place count (UserAgent value ∷ lines) =
+names_from : (name : List ℕ) (run : ℕ) (joins : Bool) (position count : ℕ) (lines : List LineValue)
+    → list_any (has_name name) (named_from run joins position count lines) ≡ list_any (is_agent_named name) lines
+names_from name run joins position count [] = refl
+names_from name run joins position count (UserAgent value ∷ lines) =
     ap (λ b. bytes_eq (str_to_ascii_lowercase value) name || b) (names_from name (run_after run joins
-    (place + 1) (UserAgent value)) true (place + 1) count lines)
-names_from name run joins place count (Allow value ∷ lines) =
-    names_from name run false (place + 1) (count + 1) lines
-names_from name run joins place count (Disallow value ∷ lines) =
-    names_from name run false (place + 1) (count + 1) lines
-names_from name run joins place count (CrawlDelay delay ∷ lines) =
-    names_from name run false (place + 1) (count + 1) lines
-names_from name run joins place count (Sitemap value ∷ lines) =
-    names_from name run joins (place + 1) count lines
-names_from name run joins place count (Raw body ∷ lines) = names_from name run joins (place + 1) count lines
+    (position + 1) (UserAgent value)) true (position + 1) count lines)
+names_from name run joins position count (Allow value ∷ lines) =
+    names_from name run false (position + 1) (count + 1) lines
+names_from name run joins position count (Disallow value ∷ lines) =
+    names_from name run false (position + 1) (count + 1) lines
+names_from name run joins position count (CrawlDelay delay ∷ lines) =
+    names_from name run false (position + 1) (count + 1) lines
+names_from name run joins position count (Sitemap value ∷ lines) =
+    names_from name run joins (position + 1) count lines
+names_from name run joins position count (Raw body ∷ lines) = names_from name run joins (position + 1) count lines
 
 pub names_any : (name : List ℕ) (lines : List LineValue)
     → list_any (has_name name) (named lines) ≡ list_any (is_agent_named name) lines
 names_any name lines = names_from name 0 false 0 0 lines
 
-some_from : (run : ℕ) (joins : Bool) (place count : ℕ) (lines : List LineValue)
-    → list_any (λ (n : Named). true) (named_from run joins place count lines) ≡ list_any is_agent lines
-some_from run joins place count [] = refl
-some_from run joins place count (UserAgent value ∷ lines) = refl
-some_from run joins place count (Allow value ∷ lines) = some_from run false (place + 1) (count + 1) lines
-some_from run joins place count (Disallow value ∷ lines) = some_from run false (place + 1) (count + 1) lines
-some_from run joins place count (CrawlDelay delay ∷ lines) = some_from run false (place + 1) (count + 1) lines
-some_from run joins place count (Sitemap value ∷ lines) = some_from run joins (place + 1) count lines
-some_from run joins place count (Raw body ∷ lines) = some_from run joins (place + 1) count lines
+some_from : (run : ℕ) (joins : Bool) (position count : ℕ) (lines : List LineValue)
+    → list_any (λ (n : Named). true) (named_from run joins position count lines) ≡ list_any is_agent lines
+some_from run joins position count [] = refl
+some_from run joins position count (UserAgent value ∷ lines) = refl
+some_from run joins position count (Allow value ∷ lines) = some_from run false (position + 1) (count + 1) lines
+some_from run joins position count (Disallow value ∷ lines) = some_from run false (position + 1) (count + 1) lines
+some_from run joins position count (CrawlDelay delay ∷ lines) = some_from run false (position + 1) (count + 1) lines
+some_from run joins position count (Sitemap value ∷ lines) = some_from run joins (position + 1) count lines
+some_from run joins position count (Raw body ∷ lines) = some_from run joins (position + 1) count lines
 
 pub no_names : (lines : List LineValue) → named lines ≡ [] → list_any is_agent lines ≡ false
 no_names lines none = sym (some_from 0 false 0 0 lines) ∙ ap (list_any (λ (n : Named). true)) none
@@ -164,51 +164,51 @@ one_tag r run front t is above none =
           (λ same. omega arith),
     ) refl
 
-pub starts_from : (run : ℕ) (joins : Bool) (place count : ℕ) (front : List Tagged) (lines : List LineValue)
-    → run ≤ place → length front ≡ count
+pub starts_from : (run : ℕ) (joins : Bool) (position count : ℕ) (front : List Tagged) (lines : List LineValue)
+    → run ≤ position → length front ≡ count
     → ((r : ℕ) → run ≤ r → (joins ≡ false → run < r) → of_run r front ≡ [])
-    → (i : ℕ) (n : Named) → slice_get (named_from run joins place count lines) i ≡ Some n
-    → IsStart (front ++ tagged_from run joins place lines) n
-starts_from run joins place count front [] within counted none i n at = cc
-starts_from run true place count front (UserAgent value ∷ lines) within counted none zero n at =
+    → (i : ℕ) (n : Named) → slice_get (named_from run joins position count lines) i ≡ Some n
+    → IsStart (front ++ tagged_from run joins position lines) n
+starts_from run joins position count front [] within counted none i n at = cc
+starts_from run true position count front (UserAgent value ∷ lines) within counted none zero n at =
     let same : record { name = value; run = run; start = count } ≡ n = cc in
-    subst (IsStart (front ++ tagged_from run true (place + 1) lines)) same
+    subst (IsStart (front ++ tagged_from run true (position + 1) lines)) same
     (start_here _ run count front _ counted (none run (le_self run) (λ wrong. cc))
-    (above_from run run true (place + 1) lines (le_self run) (omega arith))
-    (ascends_from run true (place + 1) lines (omega arith)))
-starts_from run true place count front (UserAgent value ∷ lines) within counted none (suc i) n at =
-    starts_from run true (place + 1) count front lines (omega arith) counted none i n at
-starts_from run false place count front (UserAgent value ∷ lines) within counted none zero n at =
-    let same : record { name = value; run = place + 1; start = count } ≡ n = cc in
-    subst (IsStart (front ++ tagged_from (place + 1) true (place + 1) lines)) same
-    (start_here _ (place + 1) count front _ counted (none (place + 1) (omega arith) (λ _. omega arith))
-    (above_from (place + 1) (place + 1) true (place + 1) lines (le_self (place + 1)) (omega arith))
-    (ascends_from (place + 1) true (place + 1) lines (omega arith)))
-starts_from run false place count front (UserAgent value ∷ lines) within counted none (suc i) n at =
-    starts_from (place + 1) true (place + 1) count front lines (omega arith) counted
+    (above_from run run true (position + 1) lines (le_self run) (omega arith))
+    (ascends_from run true (position + 1) lines (omega arith)))
+starts_from run true position count front (UserAgent value ∷ lines) within counted none (suc i) n at =
+    starts_from run true (position + 1) count front lines (omega arith) counted none i n at
+starts_from run false position count front (UserAgent value ∷ lines) within counted none zero n at =
+    let same : record { name = value; run = position + 1; start = count } ≡ n = cc in
+    subst (IsStart (front ++ tagged_from (position + 1) true (position + 1) lines)) same
+    (start_here _ (position + 1) count front _ counted (none (position + 1) (omega arith) (λ _. omega arith))
+    (above_from (position + 1) (position + 1) true (position + 1) lines (le_self (position + 1)) (omega arith))
+    (ascends_from (position + 1) true (position + 1) lines (omega arith)))
+starts_from run false position count front (UserAgent value ∷ lines) within counted none (suc i) n at =
+    starts_from (position + 1) true (position + 1) count front lines (omega arith) counted
     (λ r above _. none r (omega arith) (λ _. omega arith)) i n at
-starts_from run joins place count front (Allow value ∷ lines) within counted none i n at =
-    let t : Tagged = record { number = place + 1; line = Allow value; run = run } in
-    subst (λ tags. IsStart tags n) (append_assoc front (t ∷ []) (tagged_from run false (place + 1) lines))
-    (starts_from run false (place + 1) (count + 1) (front ++ t ∷ []) lines (omega arith)
+starts_from run joins position count front (Allow value ∷ lines) within counted none i n at =
+    let t : Tagged = record { number = position + 1; line = Allow value; run = run } in
+    subst (λ tags. IsStart tags n) (append_assoc front (t ∷ []) (tagged_from run false (position + 1) lines))
+    (starts_from run false (position + 1) (count + 1) (front ++ t ∷ []) lines (omega arith)
     (simp length-append (omega arith))
     (λ r above closed. one_tag r run front t refl (closed refl) (none r above (λ _. closed refl))) i n at)
-starts_from run joins place count front (Disallow value ∷ lines) within counted none i n at =
-    let t : Tagged = record { number = place + 1; line = Disallow value; run = run } in
-    subst (λ tags. IsStart tags n) (append_assoc front (t ∷ []) (tagged_from run false (place + 1) lines))
-    (starts_from run false (place + 1) (count + 1) (front ++ t ∷ []) lines (omega arith)
+starts_from run joins position count front (Disallow value ∷ lines) within counted none i n at =
+    let t : Tagged = record { number = position + 1; line = Disallow value; run = run } in
+    subst (λ tags. IsStart tags n) (append_assoc front (t ∷ []) (tagged_from run false (position + 1) lines))
+    (starts_from run false (position + 1) (count + 1) (front ++ t ∷ []) lines (omega arith)
     (simp length-append (omega arith))
     (λ r above closed. one_tag r run front t refl (closed refl) (none r above (λ _. closed refl))) i n at)
-starts_from run joins place count front (CrawlDelay delay ∷ lines) within counted none i n at =
-    let t : Tagged = record { number = place + 1; line = CrawlDelay delay; run = run } in
-    subst (λ tags. IsStart tags n) (append_assoc front (t ∷ []) (tagged_from run false (place + 1) lines))
-    (starts_from run false (place + 1) (count + 1) (front ++ t ∷ []) lines (omega arith)
+starts_from run joins position count front (CrawlDelay delay ∷ lines) within counted none i n at =
+    let t : Tagged = record { number = position + 1; line = CrawlDelay delay; run = run } in
+    subst (λ tags. IsStart tags n) (append_assoc front (t ∷ []) (tagged_from run false (position + 1) lines))
+    (starts_from run false (position + 1) (count + 1) (front ++ t ∷ []) lines (omega arith)
     (simp length-append (omega arith))
     (λ r above closed. one_tag r run front t refl (closed refl) (none r above (λ _. closed refl))) i n at)
-starts_from run joins place count front (Sitemap value ∷ lines) within counted none i n at =
-    starts_from run joins (place + 1) count front lines (omega arith) counted none i n at
-starts_from run joins place count front (Raw body ∷ lines) within counted none i n at =
-    starts_from run joins (place + 1) count front lines (omega arith) counted none i n at
+starts_from run joins position count front (Sitemap value ∷ lines) within counted none i n at =
+    starts_from run joins (position + 1) count front lines (omega arith) counted none i n at
+starts_from run joins position count front (Raw body ∷ lines) within counted none i n at =
+    starts_from run joins (position + 1) count front lines (omega arith) counted none i n at
 
 pub starts : (lines : List LineValue) (i : ℕ) (n : Named) → slice_get (named lines) i ≡ Some n
     → IsStart (tagged lines) n
@@ -217,72 +217,72 @@ starts lines i n at = starts_from 0 false 0 0 [] lines (omega arith) refl (λ r 
 -- ---- the runs of names ascend
 
 pub record IsName (least : ℕ) (n : Named) : Type 0 where
-  pub behind : least ≤ n.run
+  pub following : least ≤ n.run
   pub some : 0 < n.run
 
-named_above : (least run : ℕ) (joins : Bool) (place count : ℕ) (lines : List LineValue) → least ≤ run
-    → run ≤ place → (joins ≡ true → 0 < run) → (i : ℕ) (n : Named)
-    → slice_get (named_from run joins place count lines) i ≡ Some n → IsName least n
-named_above least run joins place count [] below within begun i n at = cc
-named_above least run true place count (UserAgent value ∷ lines) below within begun zero n at =
+named_above : (least run : ℕ) (joins : Bool) (position count : ℕ) (lines : List LineValue) → least ≤ run
+    → run ≤ position → (joins ≡ true → 0 < run) → (i : ℕ) (n : Named)
+    → slice_get (named_from run joins position count lines) i ≡ Some n → IsName least n
+named_above least run joins position count [] below within begun i n at = cc
+named_above least run true position count (UserAgent value ∷ lines) below within begun zero n at =
     let same : record { name = value; run = run; start = count } ≡ n = cc in
-    subst (IsName least) same (record { behind = below; some = begun refl })
-named_above least run true place count (UserAgent value ∷ lines) below within begun (suc i) n at =
-    named_above least run true (place + 1) count lines below (omega arith) begun i n at
-named_above least run false place count (UserAgent value ∷ lines) below within begun zero n at =
-    let same : record { name = value; run = place + 1; start = count } ≡ n = cc in
-    subst (IsName least) same (record { behind = omega arith; some = omega arith })
-named_above least run false place count (UserAgent value ∷ lines) below within begun (suc i) n at =
-    named_above least (place + 1) true (place + 1) count lines (omega arith) (omega arith)
+    subst (IsName least) same (record { following = below; some = begun refl })
+named_above least run true position count (UserAgent value ∷ lines) below within begun (suc i) n at =
+    named_above least run true (position + 1) count lines below (omega arith) begun i n at
+named_above least run false position count (UserAgent value ∷ lines) below within begun zero n at =
+    let same : record { name = value; run = position + 1; start = count } ≡ n = cc in
+    subst (IsName least) same (record { following = omega arith; some = omega arith })
+named_above least run false position count (UserAgent value ∷ lines) below within begun (suc i) n at =
+    named_above least (position + 1) true (position + 1) count lines (omega arith) (omega arith)
     (λ _. omega arith) i n at
-named_above least run joins place count (Allow value ∷ lines) below within begun i n at =
-    named_above least run false (place + 1) (count + 1) lines below (omega arith) (λ wrong. cc) i n at
-named_above least run joins place count (Disallow value ∷ lines) below within begun i n at =
-    named_above least run false (place + 1) (count + 1) lines below (omega arith) (λ wrong. cc) i n at
-named_above least run joins place count (CrawlDelay delay ∷ lines) below within begun i n at =
-    named_above least run false (place + 1) (count + 1) lines below (omega arith) (λ wrong. cc) i n at
-named_above least run joins place count (Sitemap value ∷ lines) below within begun i n at =
-    named_above least run joins (place + 1) count lines below (omega arith) begun i n at
-named_above least run joins place count (Raw body ∷ lines) below within begun i n at =
-    named_above least run joins (place + 1) count lines below (omega arith) begun i n at
+named_above least run joins position count (Allow value ∷ lines) below within begun i n at =
+    named_above least run false (position + 1) (count + 1) lines below (omega arith) (λ wrong. cc) i n at
+named_above least run joins position count (Disallow value ∷ lines) below within begun i n at =
+    named_above least run false (position + 1) (count + 1) lines below (omega arith) (λ wrong. cc) i n at
+named_above least run joins position count (CrawlDelay delay ∷ lines) below within begun i n at =
+    named_above least run false (position + 1) (count + 1) lines below (omega arith) (λ wrong. cc) i n at
+named_above least run joins position count (Sitemap value ∷ lines) below within begun i n at =
+    named_above least run joins (position + 1) count lines below (omega arith) begun i n at
+named_above least run joins position count (Raw body ∷ lines) below within begun i n at =
+    named_above least run joins (position + 1) count lines below (omega arith) begun i n at
 
 pub names_positive : (lines : List LineValue) (i : ℕ) (n : Named) → slice_get (named lines) i ≡ Some n
     → 0 < n.run
 names_positive lines i n at =
     (named_above 0 0 false 0 0 lines (omega arith) (omega arith) (λ wrong. cc) i n at).some
 
-ascend_from : (run : ℕ) (joins : Bool) (place count : ℕ) (lines : List LineValue) → run ≤ place
+ascend_from : (run : ℕ) (joins : Bool) (position count : ℕ) (lines : List LineValue) → run ≤ position
     → (joins ≡ true → 0 < run) → (i j : ℕ) (m n : Named) → i < j
-    → slice_get (named_from run joins place count lines) i ≡ Some m
-    → slice_get (named_from run joins place count lines) j ≡ Some n → m.run ≤ n.run
-ascend_from run joins place count [] within begun i j m n less here there = cc
-ascend_from run joins place count (UserAgent value ∷ lines) within begun i zero m n less here there =
+    → slice_get (named_from run joins position count lines) i ≡ Some m
+    → slice_get (named_from run joins position count lines) j ≡ Some n → m.run ≤ n.run
+ascend_from run joins position count [] within begun i j m n less here there = cc
+ascend_from run joins position count (UserAgent value ∷ lines) within begun i zero m n less here there =
     absurd (omega arith)
-ascend_from run true place count (UserAgent value ∷ lines) within begun zero (suc j) m n less here there =
+ascend_from run true position count (UserAgent value ∷ lines) within begun zero (suc j) m n less here there =
     let same : record { name = value; run = run; start = count } ≡ m = cc in
     subst (λ (m : Named). m.run ≤ n.run) same
-    ((named_above run run true (place + 1) count lines (le_self run) (omega arith) begun j n there).behind)
-ascend_from run true place count (UserAgent value ∷ lines) within begun (suc i) (suc j) m n less here there =
-    ascend_from run true (place + 1) count lines (omega arith) begun i j m n (omega arith) here there
-ascend_from run false place count (UserAgent value ∷ lines) within begun zero (suc j) m n less here there =
-    let same : record { name = value; run = place + 1; start = count } ≡ m = cc in
+    ((named_above run run true (position + 1) count lines (le_self run) (omega arith) begun j n there).following)
+ascend_from run true position count (UserAgent value ∷ lines) within begun (suc i) (suc j) m n less here there =
+    ascend_from run true (position + 1) count lines (omega arith) begun i j m n (omega arith) here there
+ascend_from run false position count (UserAgent value ∷ lines) within begun zero (suc j) m n less here there =
+    let same : record { name = value; run = position + 1; start = count } ≡ m = cc in
     subst (λ (m : Named). m.run ≤ n.run) same
-    ((named_above (place + 1) (place + 1) true (place + 1) count lines (le_self (place + 1)) (omega arith)
-    (λ _. omega arith) j n there).behind)
-ascend_from run false place count (UserAgent value ∷ lines) within begun (suc i) (suc j) m n less here there =
-    ascend_from (place + 1) true (place + 1) count lines (omega arith) (λ _. omega arith) i j m n
+    ((named_above (position + 1) (position + 1) true (position + 1) count lines (le_self (position + 1)) (omega arith)
+    (λ _. omega arith) j n there).following)
+ascend_from run false position count (UserAgent value ∷ lines) within begun (suc i) (suc j) m n less here there =
+    ascend_from (position + 1) true (position + 1) count lines (omega arith) (λ _. omega arith) i j m n
     (omega arith) here
     there
-ascend_from run joins place count (Allow value ∷ lines) within begun i j m n less here there =
-    ascend_from run false (place + 1) (count + 1) lines (omega arith) (λ wrong. cc) i j m n less here there
-ascend_from run joins place count (Disallow value ∷ lines) within begun i j m n less here there =
-    ascend_from run false (place + 1) (count + 1) lines (omega arith) (λ wrong. cc) i j m n less here there
-ascend_from run joins place count (CrawlDelay delay ∷ lines) within begun i j m n less here there =
-    ascend_from run false (place + 1) (count + 1) lines (omega arith) (λ wrong. cc) i j m n less here there
-ascend_from run joins place count (Sitemap value ∷ lines) within begun i j m n less here there =
-    ascend_from run joins (place + 1) count lines (omega arith) begun i j m n less here there
-ascend_from run joins place count (Raw body ∷ lines) within begun i j m n less here there =
-    ascend_from run joins (place + 1) count lines (omega arith) begun i j m n less here there
+ascend_from run joins position count (Allow value ∷ lines) within begun i j m n less here there =
+    ascend_from run false (position + 1) (count + 1) lines (omega arith) (λ wrong. cc) i j m n less here there
+ascend_from run joins position count (Disallow value ∷ lines) within begun i j m n less here there =
+    ascend_from run false (position + 1) (count + 1) lines (omega arith) (λ wrong. cc) i j m n less here there
+ascend_from run joins position count (CrawlDelay delay ∷ lines) within begun i j m n less here there =
+    ascend_from run false (position + 1) (count + 1) lines (omega arith) (λ wrong. cc) i j m n less here there
+ascend_from run joins position count (Sitemap value ∷ lines) within begun i j m n less here there =
+    ascend_from run joins (position + 1) count lines (omega arith) begun i j m n less here there
+ascend_from run joins position count (Raw body ∷ lines) within begun i j m n less here there =
+    ascend_from run joins (position + 1) count lines (omega arith) begun i j m n less here there
 
 pub names_ascend : (lines : List LineValue) (i j : ℕ) (m n : Named) → i < j
     → slice_get (named lines) i ≡ Some m → slice_get (named lines) j ≡ Some n → m.run ≤ n.run

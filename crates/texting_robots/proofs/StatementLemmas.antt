@@ -15,12 +15,12 @@ use Rattle.std.proofs.lemmas.Str.Ascii.{lowercase-lowercase}
 use Rattle.std.proofs.lemmas.List.Elements.{All-contains, All-from_recursion, Contains-append_right}
 use Rattle.texting_robots.specs.{declared.parser.statement.Kind.Kind, Trim.IsTrimOf}
 use Rattle.texting_robots.specs.declared.parser.statement.Kind.TheVariants.{UserAgent}
-use Rattle.texting_robots.specs.Statement.{spellings, IsBlank, BeginsPlain, IsBehindBlanks, IsBehindColon}
+use Rattle.texting_robots.specs.Statement.{field_names, IsBlank, StartsValue, IsAfterBlanks, IsAfterColon}
 use Rattle.texting_robots.specs.Statement.{IsStatement}
-use Rattle.texting_robots.specs.Steps.Statement.{space, tab, colon, hash, IsOptionalComment, skip_blanks}
-use Rattle.texting_robots.specs.Steps.Statement.{kind_with, kind_by, begins, after_any, after_blanks}
-use Rattle.texting_robots.specs.Steps.Statement.{after_separator, tail_of, tail_as, region_of, trimmed}
-use Rattle.texting_robots.specs.Steps.Statement.{value_of, statement_of}
+use Rattle.texting_robots.specs.Internal.Statement.{space, tab, colon, hash, IsOptionalComment, skip_blanks}
+use Rattle.texting_robots.specs.Internal.Statement.{kind_with, kind_by, begins, after_any, after_blanks}
+use Rattle.texting_robots.specs.Internal.Statement.{after_separator, tail_of, tail_as, region_of, trimmed}
+use Rattle.texting_robots.specs.Internal.Statement.{value_of, statement_of}
 use Rattle.texting_robots.proofs.TrimLemmas.{trimmed_is_trim, is_trimmed, blanks_skipped}
 
 -- ---- blanks
@@ -84,9 +84,9 @@ any_small (s ∷ list) text = rw (take-map, any_small list text) refl
 -- the spelling is read as the kind's, whatever follows it
 abbrev IsRead : Kind → List ℕ → Type 0
 IsRead kind s = (more text : List ℕ) → (kind_by (s ++ more) ≡ Some kind)
-    × (after_small (spellings kind) (s ++ more) text ≡ Some (drop (length s) text))
+    × (after_small (field_names kind) (s ++ more) text ≡ Some (drop (length s) text))
 
-each_read : (kind : Kind) → Each (IsRead kind) (spellings kind)
+each_read : (kind : Kind) → Each (IsRead kind) (field_names kind)
 each_read UserAgent = search rules
 each_read _ = search rules
 
@@ -95,16 +95,16 @@ kind_small : (text : List ℕ) → kind_by text ≡ kind_by (map to_ascii_lowerc
 kind_small [] = refl
 kind_small (b ∷ text) = ap kind_with (sym (lowercase-lowercase b))
 
-key_found : (kind : Kind) (key rest : List ℕ) → Contains (spellings kind) (map to_ascii_lowercase key)
-    → (kind_by (key ++ rest) ≡ Some kind) × (after_any (spellings kind) (key ++ rest) ≡ Some rest)
+key_found : (kind : Kind) (key rest : List ℕ) → Contains (field_names kind) (map to_ascii_lowercase key)
+    → (kind_by (key ++ rest) ≡ Some kind) × (after_any (field_names kind) (key ++ rest) ≡ Some rest)
 key_found kind key rest is =
     let small = map to_ascii_lowercase key in
-    let reads = All-contains (IsRead kind) (spellings kind) small
-    (All-from_recursion (IsRead kind) (spellings kind) (each_read kind)) is
+    let reads = All-contains (IsRead kind) (field_names kind) small
+    (All-from_recursion (IsRead kind) (field_names kind) (each_read kind)) is
     (map to_ascii_lowercase rest) (key ++ rest) in
     rw (
       kind_small (key ++ rest),
-      any_small (spellings kind) (key ++ rest),
+      any_small (field_names kind) (key ++ rest),
       map-append,
       reads.0,
       reads.1,
@@ -131,12 +131,12 @@ found_key (s ∷ list) text rest is = elim (cases_Bool (begins s text)) [
 -- ---- separators
 
 -- where no blank and no colon is first, nothing is skipped, and blanks alone separate
-spaced : (rest tail : List ℕ) → BeginsPlain tail
+spaced : (rest tail : List ℕ) → StartsValue tail
     → (skip_blanks tail ≡ tail) × (after_separator rest tail ≡ after_blanks rest tail)
 spaced rest [] plain = (refl, refl)
 spaced rest (b ∷ tail) plain = (kept (b ∷ tail) plain.0, cond-false _ _ _ (ne_eqb b colon plain.1))
 
-tail_found : (tail rest : List ℕ) → IsBehindColon tail rest ⊎ IsBehindBlanks tail rest
+tail_found : (tail rest : List ℕ) → IsAfterColon tail rest ⊎ IsAfterBlanks tail rest
     → tail_of rest ≡ Some (skip_blanks tail)
 tail_found tail rest (inl (blanks, all, whole)) =
     ap (after_separator rest) (ap skip_blanks whole ∙ skip_front blanks (colon ∷ tail) all)
@@ -152,11 +152,11 @@ tail_found tail rest (inr (b ∷ blanks, all, some, whole, plain)) =
 -- the rest has a tail, and the walk found it, without the blanks at its front
 abbrev Tailed : List ℕ → List ℕ → Type 0
 Tailed rest found =
-    (tail : List ℕ) × (IsBehindColon tail rest ⊎ IsBehindBlanks tail rest)
+    (tail : List ℕ) × (IsAfterColon tail rest ⊎ IsAfterBlanks tail rest)
     × (found ≡ skip_blanks tail)
 
 -- blanks alone separate what is left from the rest, if there are any
-blanks_found : (rest left found : List ℕ) → Skipped left rest → BeginsPlain left
+blanks_found : (rest left found : List ℕ) → Skipped left rest → StartsValue left
     → after_blanks rest left ≡ Some found → Tailed rest found
 blanks_found rest left found (blanks, all, whole, _) plain is =
     elim (cases_Bool (nat_lt (length left) (length rest))) [
@@ -245,11 +245,11 @@ statement_found kind value body s =
 
 -- a key of the kind, a separator and a tail
 stated : (kind : Kind) (body rest found : List ℕ)
-    → after_any (spellings kind) (skip_blanks body) ≡ Some rest → tail_of rest ≡ Some found
+    → after_any (field_names kind) (skip_blanks body) ≡ Some rest → tail_of rest ≡ Some found
     → IsStatement kind (value_of found) body
 stated kind body rest found keyed is =
     let (margin, blank, before, _) = skipped body in
-    let (key, is_key, whole) = found_key (spellings kind) (skip_blanks body) rest keyed in
+    let (key, is_key, whole) = found_key (field_names kind) (skip_blanks body) rest keyed in
     let (tail, separated, same) = found_tail rest (skip_blanks rest) found (skipped rest) is in
     let (comment, parts, no_hash, is_comment) = parted tail in
     record {
@@ -277,7 +277,7 @@ found_statement kind value body found =
     let text = skip_blanks body in
     option_and_then_some _ (kind_by text) (kind, value) found (λ k by is.
     option_and_then_some _ (tail_as k text) (kind, value) is (λ tail is same.
-    option_and_then_some tail_of (after_any (spellings k) text) tail is (λ rest keyed tailed.
+    option_and_then_some tail_of (after_any (field_names k) text) tail is (λ rest keyed tailed.
     subst (λ (p : Kind × List ℕ). IsStatement p.0 p.1 body) (same_Some _ _ same)
     (stated k body rest tail keyed tailed))))
 

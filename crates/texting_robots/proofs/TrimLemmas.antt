@@ -19,7 +19,7 @@ use Rattle.bstr.proofs.lemmas.PieceLemmas.{pieces-step, pieces-nil, StartsClean}
 use Rattle.bstr.proofs.lemmas.EncodeLemmas.{decoded-encode}
 use Rattle.bstr.proofs.lemmas.{SoundLemmas.SpellsChar-decoded, TrimLemmas.kept_end-snoc}
 use lib.Utf8.{low_scalar, scalar}
-use Rattle.texting_robots.specs.{Trim.IsSpaces, Trim.IsTrimOf, Statement.IsBlank, Steps.Statement.trimmed}
+use Rattle.texting_robots.specs.{Trim.IsSpaces, Trim.IsTrimOf, Statement.IsBlank, Internal.Statement.trimmed}
 
 -- ---- pieces
 
@@ -27,14 +27,14 @@ use Rattle.texting_robots.specs.{Trim.IsSpaces, Trim.IsTrimOf, Statement.IsBlank
 abbrev first_char : List ℕ → ℕ
 first_char bytes = or_replacement (decoded bytes).char
 
-abbrev behind : List ℕ → List ℕ
-behind bytes = drop (decoded bytes).size bytes
+abbrev following : List ℕ → List ℕ
+following bytes = drop (decoded bytes).size bytes
 
 -- what holds of no bytes, and of bytes if it holds of those behind their first piece
-by_pieces : (P : List ℕ → Type 0) → P []
-    → ((bytes : List ℕ) → 0 < length bytes → P (behind bytes) → P bytes)
+by_segments : (P : List ℕ → Type 0) → P []
+    → ((bytes : List ℕ) → 0 < length bytes → P (following bytes) → P bytes)
     → (bytes : List ℕ) → P bytes
-by_pieces P none more bytes = at (length bytes) bytes (omega arith)
+by_segments P none more bytes = at (length bytes) bytes (omega arith)
   where
     at : (n : ℕ) (bytes : List ℕ) → length bytes ≤ n → P bytes
     at n [] le = none
@@ -48,13 +48,13 @@ pub white_scalar : (c : ℕ) → is_whitespace c ≡ true → scalar c ≡ true
 white_scalar c white = low_scalar c (grind (arith, nat_tests))
 
 -- and what is read as a space is one
-spelled : (bytes : List ℕ) → is_whitespace (first_char bytes) ≡ true
-    → bytes ≡ encode_utf8 (first_char bytes) ++ behind bytes
-spelled bytes = at (decoded bytes).char refl
+written : (bytes : List ℕ) → is_whitespace (first_char bytes) ≡ true
+    → bytes ≡ encode_utf8 (first_char bytes) ++ following bytes
+written bytes = at (decoded bytes).char refl
   where
     at : (char : Option ℕ) → (decoded bytes).char ≡ char
         → is_whitespace (or_replacement char) ≡ true
-        → bytes ≡ encode_utf8 (first_char bytes) ++ behind bytes
+        → bytes ≡ encode_utf8 (first_char bytes) ++ following bytes
     at None is white = absurd (grind (arith, nat_tests))
     at (Some c) is white = rw is (SpellsChar-decoded bytes c is).bytes
 
@@ -77,16 +77,16 @@ from_start bytes = trim_start_by is_whitespace bytes
 
 -- a space at the front goes, and what is none stays
 start_step : (bytes : List ℕ) → 0 < length bytes
-    → from_start bytes ≡ cond (is_whitespace (first_char bytes)) (from_start (behind bytes)) bytes
+    → from_start bytes ≡ cond (is_whitespace (first_char bytes)) (from_start (following bytes)) bytes
 unfolding kept_start
 start_step bytes some =
     let bounds = piece-bounds bytes some in
     rw (spans-first bytes 0 some) (at (is_whitespace (first_char bytes)) _ _
-    (shifted (decoded bytes).size (length (behind bytes)) 0 _ _ (pieces (behind bytes))
+    (shifted (decoded bytes).size (length (following bytes)) 0 _ _ (pieces (following bytes))
     (simp length-drop (omega arith)) (omega arith)))
   where
     at : (white : Bool) (k j : ℕ) → k ≡ (decoded bytes).size + j
-        → drop (cond white k 0) bytes ≡ cond white (drop j (behind bytes)) bytes
+        → drop (cond white k 0) bytes ≡ cond white (drop j (following bytes)) bytes
     at true k j e = ap (λ k. drop k bytes) e ∙ sym (drop-drop j (decoded bytes).size bytes)
     at false k j e = refl
 
@@ -126,7 +126,7 @@ abbrev Started : List ℕ → Type 0
 Started bytes = (chars : List ℕ) × AllWhite chars × (bytes ≡ encode_utf8_all chars ++ from_start bytes)
 
 started : (bytes : List ℕ) → Started bytes
-started = by_pieces Started ([], tt, sym (drop-nil _)) (λ bytes some (chars, all, whole).
+started = by_segments Started ([], tt, sym (drop-nil _)) (λ bytes some (chars, all, whole).
     let c = first_char bytes in
     let step = start_step bytes some in
     elim (cases_Bool (is_whitespace c)) [
@@ -134,7 +134,7 @@ started = by_pieces Started ([], tt, sym (drop-nil _)) (λ bytes some (chars, al
       | inl white ↦ (
         c ∷ chars,
         (white, all),
-        spelled bytes white ∙ ap (λ t. encode_utf8 c ++ t) whole ∙ (rw (step, white, append_assoc) refl),
+        written bytes white ∙ ap (λ t. encode_utf8 c ++ t) whole ∙ (rw (step, white, append_assoc) refl),
       )
     ])
 
@@ -186,21 +186,21 @@ ended_next : (bytes text : List ℕ) (end : ℕ) → 0 < length bytes → Ended 
 ended_next bytes text end some (within, (chars, all, spaces)) =
     let c = first_char bytes in
     let n = (decoded bytes).size in
-    let piece = take n bytes in
+    let segment = take n bytes in
     let bounds = piece-bounds bytes some in
-    let long : length (text ++ piece) ≡ length text + n = simp (length-append, length-take) (omega arith) in
+    let long : length (text ++ segment) ≡ length text + n = simp (length-append, length-take) (omega arith) in
     elim (cases_Bool (is_whitespace c)) [
       | inr other ↦
-          rw other (omega arith, ([], tt, drop_all (length text + n) (text ++ piece) (omega arith)))
+          rw other (omega arith, ([], tt, drop_all (length text + n) (text ++ segment) (omega arith)))
       | inl white ↦
-          let same : piece ≡ encode_utf8 c
-          = append_cancel_right _ _ (behind bytes) (take-append-drop n bytes ∙ spelled bytes white) in
+          let same : segment ≡ encode_utf8 c
+          = append_cancel_right _ _ (following bytes) (take-append-drop n bytes ∙ written bytes white) in
           rw white (
             omega arith,
             (
               chars ++ c ∷ [],
               each_append (λ char. IsTrue (is_whitespace char)) chars (c ∷ []) all (white, tt),
-              rw (drop-append-le end text piece within, spaces, encodes-append, append-nil, same) refl,
+              rw (drop-append-le end text segment within, spaces, encodes-append, append-nil, same) refl,
             ),
           )
     ]
@@ -208,7 +208,7 @@ ended_next bytes text end some (within, (chars, all, spaces)) =
 ended : (bytes text : List ℕ) (end : ℕ) → Ended text end
     → Ended (text ++ bytes) (kept_end is_whitespace end (spans_from (length text) (pieces bytes)))
 unfolding kept_end
-ended = by_pieces (λ bytes. (text : List ℕ) (end : ℕ) → Ended text end
+ended = by_segments (λ bytes. (text : List ℕ) (end : ℕ) → Ended text end
     → Ended (text ++ bytes) (kept_end is_whitespace end (spans_from (length text) (pieces bytes))))
     (λ text end e. rw (append-nil, spans-nil [] (length text) refl) e)
     (λ bytes some later text end e.
@@ -310,23 +310,23 @@ end_blanks left blanks all =
     ap (λ k. take k (left ++ blanks)) end
     ∙ take-append-le (end_of left) left blanks (ended left [] 0 (omega arith, ([], tt, refl))).0
 
-blanks_behind_chars : (chars blanks : List ℕ) → scalars chars ≡ true → Each IsBlank blanks
+blanks_after_chars : (chars blanks : List ℕ) → scalars chars ≡ true → Each IsBlank blanks
     → trimmed (encode_utf8_all chars ++ blanks) ≡ trimmed (encode_utf8_all chars)
-blanks_behind_chars [] blanks is all =
+blanks_after_chars [] blanks is all =
     ap trimmed (sym (append-nil blanks)) ∙ blanks_skipped blanks [] all
-blanks_behind_chars (c ∷ cs) blanks is all =
+blanks_after_chars (c ∷ cs) blanks is all =
     let both = and_parts (scalar c) (scalars cs) is in
     let text = encode_utf8_all cs in
     let bare = start_char c text both.0 in
     let more = rw (← append_assoc) at (start_char c (text ++ blanks) both.0) in
     elim (cases_Bool (is_whitespace c)) [
-      | inl white ↦ rw (bare, more, white) (blanks_behind_chars cs blanks both.1 all)
+      | inl white ↦ rw (bare, more, white) (blanks_after_chars cs blanks both.1 all)
       | inr dark ↦ rw (bare, more, dark) (end_blanks (encode_utf8 c ++ text) blanks all)
     ]
 
-pub blanks_behind : (text blanks : List ℕ) → IsUtf8 text → Each IsBlank blanks
+pub trailing_blanks : (text blanks : List ℕ) → IsUtf8 text → Each IsBlank blanks
     → trimmed (text ++ blanks) ≡ trimmed text
-blanks_behind text blanks (chars, (is, whole)) all = rw (← whole) (blanks_behind_chars chars blanks is all)
+trailing_blanks text blanks (chars, (is, whole)) all = rw (← whole) (blanks_after_chars chars blanks is all)
 
 -- ---- visible ends
 

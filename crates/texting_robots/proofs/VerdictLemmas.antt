@@ -17,7 +17,7 @@ denied_by : (rules others : List Rule) (text : List ℕ)
     → ((q : List ℕ) → Contains others (q, true) → Contains rules (q, true))
     → IsDenied rules text → IsDenied others text
 denied_by rules others text denies allows (other, p, has, matches, longest) =
-    (other, p, denies p has, matches, λ q stands. longest q (allows q stands))
+    (other, p, denies p has, matches, λ q splits. longest q (allows q splits))
 
 -- a list in another order has the same elements
 pub same_elements : {X : Type 0} (xs ys : List X) → IsPermutation xs ys → (x : X)
@@ -26,10 +26,10 @@ same_elements xs ys same x =
     (Contains-permutation xs ys x same, Contains-permutation ys xs x (IsPermutation-sym xs ys same))
 
 -- what isn't the first stands behind it
-pub behind_first : {X : Type 0} (first : X) (rest : List X) (x : X) → ¬ ◌≡◌ {A = X} first x
+pub after_first : {X : Type 0} (first : X) (rest : List X) (x : X) → ¬ ◌≡◌ {A = X} first x
     → Contains (first ∷ rest) x → Contains rest x
-behind_first first rest x other (zero, below, at) = absurd (other at)
-behind_first first rest x other (suc k, below, at) = (k, omega arith, at)
+after_first first rest x other (zero, below, at) = absurd (other at)
+after_first first rest x other (suc k, below, at) = (k, omega arith, at)
 
 pub order_changes_nothing : (rules others : List Rule) (text : List ℕ) (answer : Bool)
     → IsPermutation rules others → IsVerdict rules text answer → IsVerdict others text answer
@@ -53,7 +53,7 @@ module _ (front back : List Rule) (added rule : Rule) where
   contains_more (k, below, at) = moved.1 (suc k, omega arith, at)
 
   contains_less : added ≢ rule → Contains (front ++ added ∷ back) rule → Contains (front ++ back) rule
-  contains_less differs has = behind_first added (front ++ back) rule differs (moved.0 has)
+  contains_less differs has = after_first added (front ++ back) rule differs (moved.0 has)
 
 kinds_differ : (p q : List ℕ) → ◌≢◌ {A = Rule} (p, false) (q, true)
 kinds_differ p q same = false≢true (ap (λ (r : Rule). r.1) same)

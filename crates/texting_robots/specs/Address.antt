@@ -4,7 +4,7 @@ use Rattle.std.specs.Prelude.{bytes_eq, decimal, option_map, if◌then◌else◌
 use Rattle.url.specs.declared.error.ParseError.TheVariants.{EmptyHost, SetHostOnCannotBeABaseUrl}
 use Rattle.url.specs.{Parts.Parts, Parts.cannot_be_a_base, Parts.nonempty_host, Host.host_text, Parser.Parsed}
 use Rattle.url.specs.{Parser.parse_url, Parser.and_then, declared.host.Host.Host}
-use Rattle.texting_robots.specs.Prepared.{marked}
+use Rattle.texting_robots.specs.Prepared.{with_delimiter}
 
 -- the scheme is `http` or `https`
 abbrev pub is_web : List ℕ → Bool
@@ -14,7 +14,7 @@ is_web scheme = bytes_eq scheme (codes "http") || bytes_eq scheme (codes "https"
 abbrev pub address_at : Parts → Option (Host (List ℕ)) → Parsed (List ℕ)
 address_at url None = Err EmptyHost
 address_at url (Some host) =
-    Ok (url.scheme ++ codes "://" ++ host_text host ++ marked (codes ":") (option_map decimal url.port)
+    Ok (url.scheme ++ codes "://" ++ host_text host ++ with_delimiter (codes ":") (option_map decimal url.port)
     ++ codes "/robots.txt")
 
 -- the address for the parts of a URL

@@ -7,27 +7,27 @@ pub use Rattle.texting_robots.specs.Line.{AreFileBodiesOf, IsLineOf, nul_as_lf}
 pub use Rattle.texting_robots.specs.{Line.value_in, Delay.IsDelay}
 -- what an agent gets of them
 pub use Rattle.texting_robots.specs.Group.{IsCaptured, group_name, is_agent_named}
-pub use Rattle.texting_robots.specs.Rules.{PlacedRule, Rule, unplaced, AreRulesFor, HoldsRule, IsRefused}
-pub use Rattle.texting_robots.specs.Rules.{AreSitemapsOf, GivesNothing, IsDelayFor, IsFirstOverlong}
-pub use Rattle.texting_robots.specs.Robot.{RobotValue, AnswerAlike, IsFileRefused, IsRobotOf, IsRobotOfFile}
+pub use Rattle.texting_robots.specs.Rules.{PlacedRule, Rule, unplaced, AreRulesFor, HoldsRule, IsRejected}
+pub use Rattle.texting_robots.specs.Rules.{AreSitemapsOf, HasNoRulesOrSitemaps, IsDelayFor, IsFirstOverlong}
+pub use Rattle.texting_robots.specs.Robot.{RobotValue, AnswerAlike, IsFileRejected, IsRobotOf, IsRobotOfFile}
 pub use Rattle.texting_robots.specs.Robot.{file_limit}
-pub use Rattle.texting_robots.specs.Marks.{AreMarksOf, Mark, StandsAs, is_named, is_own, mark_by_value}
-pub use Rattle.texting_robots.specs.Marks.{marks_of}
+pub use Rattle.texting_robots.specs.Labels.{AreLabelsOf, Label, HasMembership, is_named, is_own, label_by_value}
+pub use Rattle.texting_robots.specs.Labels.{labels_of}
 pub use Rattle.texting_robots.specs.Agents.{agents_in, each_once, is_among}
 -- the same, computed
-pub use Rattle.texting_robots.specs.Computed.{parsed, file_lines, lines_read, file_bodies, bodies_read}
-pub use Rattle.texting_robots.specs.Computed.{placed_rules, rules_for, delay_for, sitemaps_in}
+pub use Rattle.texting_robots.specs.Executable.{parsed, file_lines, lines_read, file_bodies, bodies_read}
+pub use Rattle.texting_robots.specs.Executable.{placed_rules, rules_for, delay_for, sitemaps_in}
 -- URLs, texts and patterns
 pub use Rattle.texting_robots.specs.Pattern.{Matches, MatchesStars, IsOverlong, collapsed}
 pub use Rattle.texting_robots.specs.{Address.robots_address, Address.robots_address_of, Escape.escaped}
 pub use Rattle.texting_robots.specs.{Prepared.prepared, Prepared.target_of, Order.IsBefore, Order.pattern_cmp}
-pub use Rattle.texting_robots.specs.Plain.{TakesNoMemory}
+pub use Rattle.texting_robots.specs.AllocationFree.{IsAllocationFree}
 -- verdicts
 pub use Rattle.texting_robots.specs.Verdict.{IsDenied, IsVerdict, robots_file}
 pub use Rattle.texting_robots.specs.Decision.{IsBetter, IsDecidingRule, IsDecidingLine, IsLongestMatch}
 pub use Rattle.texting_robots.specs.Decision.{LooksForRules, as_long_as}
 pub use Rattle.texting_robots.specs.View.{LooksAtMost, ViewValue, seen_of}
-pub use Rattle.texting_robots.specs.Headline.{IsAnswerOf}
+pub use Rattle.texting_robots.specs.MainTheorem.{IsAnswerOf}
 -- errors
 pub use Rattle.url.specs.Parser.{GivesBy}
-pub use Rattle.texting_robots.specs.Error.{IsMemoryOr}
+pub use Rattle.texting_robots.specs.Error.{IsMemoryErrorOr}

@@ -55,8 +55,8 @@ byte_order_mark =
     (0xEF ∷ 0x11 ∷ 0xBF ∷ codes "Allow: /")
 
 -- these misspelled keys are read
-abbrev pub misspelled_keys : Type 0
-misspelled_keys =
+abbrev pub nonstandard_keys : Type 0
+nonstandard_keys =
     AreLinesOf
     (Disallow (codes "/a") ∷ Disallow (codes "/b") ∷ Disallow (codes "/c") ∷ Disallow (codes "/d")
     ∷ Disallow (codes "/e") ∷ [])
@@ -219,12 +219,12 @@ values =
 abbrev pub GivesDelay : List ℕ → List ℕ → ℕ → Type 0
 GivesDelay agent file delay = HasLines file (λ lines. IsDelayFor agent lines (Some delay))
 
-abbrev pub refused_delay : List ℕ
-refused_delay = codes "User-Agent: D\nCrawl-Delay: -1.25\nUser-Agent: E\nCrawl-Delay: 8"
+abbrev pub rejected_delay : List ℕ
+rejected_delay = codes "User-Agent: D\nCrawl-Delay: -1.25\nUser-Agent: E\nCrawl-Delay: 8"
 
 -- a line that is no statement ends no run of user-agent lines, so this delay is that of both
 abbrev pub raw_in_a_run : Type 0
-raw_in_a_run = GivesDelay (codes "D") refused_delay 8000000
+raw_in_a_run = GivesDelay (codes "D") rejected_delay 8000000
 
 abbrev pub two_delays : List ℕ
 two_delays = codes "Crawl-Delay: 5\nCrawl-Delay: 6"
@@ -258,8 +258,8 @@ ends =
     × Matches (codes "$") [] × ¬ Matches (codes "$") (codes "/")
 
 -- also before a star
-abbrev pub star_behind : Type 0
-star_behind = Matches (codes "/a$*") (codes "/a") × ¬ Matches (codes "/a$*") (codes "/ab")
+abbrev pub star_after : Type 0
+star_after = Matches (codes "/a$*") (codes "/a") × ¬ Matches (codes "/a$*") (codes "/ab")
 
 -- and before any other byte, so that such a pattern matches nothing
 abbrev pub dollar_inside : Type 0

@@ -2,16 +2,16 @@
 use Rattle.std.specs.Prelude.{◌≡◌, ◌↔◌, ℕ, Bool, ◌==◌, ◌&&◌, List}
 use Rattle.std.specs.Prelude.{[]}
 use Rattle.std.specs.Prelude.{◌∷◌, slice_index, if◌then◌else◌}
-use Rattle.texting_robots.specs.Computed.{delay_for, rules_for, sitemaps_in}
-use Rattle.texting_robots.specs.Rules.{IsRefused}
+use Rattle.texting_robots.specs.Executable.{delay_for, rules_for, sitemaps_in}
+use Rattle.texting_robots.specs.Rules.{IsRejected}
 use Rattle.texting_robots.specs.{Cut.cr, Cut.lf}
 use Rattle.texting_robots.specs.{Line.Allow, Line.Disallow, Line.LineValue, Verdict.IsVerdict}
 
 -- LF in place of each CR LF: the text without each CR that LF follows (`slice_index` is 0 past the end)
-abbrev pub feeds_alone : List ℕ → List ℕ
-feeds_alone [] = []
-feeds_alone (b ∷ text) =
-    if b == cr && slice_index text 0 == lf then feeds_alone text else b ∷ feeds_alone text
+abbrev pub crlf_to_lf : List ℕ → List ℕ
+crlf_to_lf [] = []
+crlf_to_lf (b ∷ text) =
+    if b == cr && slice_index text 0 == lf then crlf_to_lf text else b ∷ crlf_to_lf text
 
 -- one agent's lines and another's give the same rules, verdicts, delay and refusal
 pub record SameButSitemaps (agent : List ℕ) (lines : List LineValue)
@@ -20,7 +20,7 @@ pub record SameButSitemaps (agent : List ℕ) (lines : List LineValue)
   pub verdict : (text : List ℕ) (answer : Bool)
       → IsVerdict (rules_for agent lines) text answer ↔ IsVerdict (rules_for other others) text answer
   pub delay : delay_for agent lines ≡ delay_for other others
-  pub refusal : IsRefused agent lines ↔ IsRefused other others
+  pub rejection : IsRejected agent lines ↔ IsRejected other others
 
 -- and the same sitemaps
 abbrev pub Same : List ℕ → List LineValue → List ℕ → List LineValue → Type 0

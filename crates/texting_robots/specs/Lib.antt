@@ -5,7 +5,7 @@ pub mod Statement
 pub mod Delay
 pub mod Line
 pub mod Group
-pub mod Marks
+pub mod Labels
 pub mod Agents
 pub mod Escape
 pub mod Pattern
@@ -16,11 +16,11 @@ pub mod Order
 pub mod View
 pub mod Robot
 pub mod Prepared
-pub mod Plain
+pub mod AllocationFree
 pub mod Address
 pub mod Laws
-pub mod Headline
-pub mod Computed
+pub mod MainTheorem
+pub mod Executable
 pub mod Examples
 pub mod Callers
-pub mod Steps
+pub mod Internal

@@ -19,8 +19,8 @@ IsSuffix s t = (front : List ℕ) × (t ≡ front ++ s)
 
 -- The pattern's byte b takes a beginning off t and leaves s: a star takes any beginning; a dollar, where
 -- `anchors` is true, takes nothing and stands only where t is empty; any other byte takes itself.
-abbrev pub Takes : Bool → ℕ → List ℕ → List ℕ → Type 0
-Takes anchors b t s =
+abbrev pub Consumes : Bool → ℕ → List ℕ → List ℕ → Type 0
+Consumes anchors b t s =
     MatchBool (b == star) (IsSuffix s t)
     (MatchBool (anchors && (b == dollar)) ((t ≡ []) × (s ≡ []))
     (t ≡ b ∷ s))
@@ -28,7 +28,7 @@ Takes anchors b t s =
 -- the pattern matches the text, or a beginning of it: its bytes take what they stand for, one after the other
 unfoldable pub MatchesWith : Bool → List ℕ → List ℕ → Type 0
 MatchesWith anchors [] t = Unit {0}
-MatchesWith anchors (b ∷ q) t = (s : List ℕ) × Takes anchors b t s × MatchesWith anchors q s
+MatchesWith anchors (b ∷ q) t = (s : List ℕ) × Consumes anchors b t s × MatchesWith anchors q s
 
 -- what a rule's pattern matches
 abbrev pub Matches : List ℕ → List ℕ → Type 0

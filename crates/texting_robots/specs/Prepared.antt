@@ -4,13 +4,13 @@ use Rattle.url.specs.{Parts.Parts, Parser.parse_url}
 use Rattle.texting_robots.specs.Escape.{escaped}
 
 -- a mark and the text behind it, where there is one
-abbrev pub marked : List ℕ → Option (List ℕ) → List ℕ
-marked mark None = []
-marked mark (Some text) = mark ++ text
+abbrev pub with_delimiter : List ℕ → Option (List ℕ) → List ℕ
+with_delimiter delimiter None = []
+with_delimiter delimiter (Some text) = delimiter ++ text
 
 -- the path, `?` and the query, `#` and the fragment
 abbrev pub target_of : Parts → List ℕ
-target_of url = url.path ++ marked (codes "?") url.query ++ marked (codes "#") url.fragment
+target_of url = url.path ++ with_delimiter (codes "?") url.query ++ with_delimiter (codes "#") url.fragment
 
 -- the text that rules are matched with; what is a URL is said by the definition that `url` publishes
 abbrev pub prepared : List ℕ → List ℕ

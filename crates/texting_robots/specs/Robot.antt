@@ -1,6 +1,6 @@
 -- What contracts see of a robot.
 use Rattle.std.specs.Prelude.{◌↔◌, ℕ, Bool, List, Option}
-use Rattle.texting_robots.specs.Rules.{AreRulesFor, AreSitemapsOf, IsDelayFor, IsRefused, PlacedRule}
+use Rattle.texting_robots.specs.Rules.{AreRulesFor, AreSitemapsOf, IsDelayFor, IsRejected, PlacedRule}
 use Rattle.texting_robots.specs.Rules.{unplaced}
 use Rattle.texting_robots.specs.{Decision.IsDecidingLine, Decision.LooksForRules, Line.HasLines}
 use Rattle.texting_robots.specs.{Line.LineValue, Verdict.IsVerdict, View.ViewValue}
@@ -20,15 +20,15 @@ pub record IsRobotOf (agent : List ℕ) (lines : List LineValue) (robot : RobotV
   pub delay : IsDelayFor agent lines robot.delay
   pub sitemaps : AreSitemapsOf lines robot.sitemaps
   pub rules : AreRulesFor agent lines robot.rules
-  pub accepted : ¬ IsRefused agent lines
+  pub accepted : ¬ IsRejected agent lines
 
 -- the robot is what the agent gets of this file
 abbrev pub IsRobotOfFile : List ℕ → List ℕ → RobotValue → Type 0
 IsRobotOfFile agent file robot = HasLines file (λ lines. IsRobotOf agent lines robot)
 
 -- some line of this file holds an overlong rule for the agent
-abbrev pub IsFileRefused : List ℕ → List ℕ → Type 0
-IsFileRefused agent file = HasLines file (IsRefused agent)
+abbrev pub IsFileRejected : List ℕ → List ℕ → Type 0
+IsFileRejected agent file = HasLines file (IsRejected agent)
 
 -- the two lists give the same verdicts, by the same lines, and may take as many looks
 pub record AnswerAlike (rules others : List PlacedRule) : Type 0 where

@@ -11,8 +11,8 @@ use Rattle.texting_robots.specs.Line.{Allow, CrawlDelay, Disallow, LineValue, Si
 
 -- the line stands at the place, and is captured for the agent
 abbrev pub IsCapturedAt : List ℕ → List LineValue → ℕ → LineValue → Type 0
-IsCapturedAt agent lines place line =
-    (slice_get lines place ≡ Some line) × IsCaptured (group_name agent lines) lines place
+IsCapturedAt agent lines position line =
+    (slice_get lines position ≡ Some line) × IsCaptured (group_name agent lines) lines position
 
 -- ---- rules
 
@@ -31,16 +31,16 @@ unplaced rules = map (λ (placed : PlacedRule). placed.rule) rules
 
 -- the line at the place is captured, and is an Allow or a Disallow, as the rule says, whose value is UTF-8;
 -- escaped, it is the pattern
-pub record HoldsRule (agent : List ℕ) (lines : List LineValue) (place : ℕ) (rule : Rule) : Type 0 where
+pub record HoldsRule (agent : List ℕ) (lines : List LineValue) (position : ℕ) (rule : Rule) : Type 0 where
   pub value : List ℕ
-  pub line : IsCapturedAt agent lines place (if rule.1 then Allow value else Disallow value)
+  pub line : IsCapturedAt agent lines position (if rule.1 then Allow value else Disallow value)
   pub utf8 : IsTrue (is_utf8 value)
   pub pattern : rule.0 ≡ escaped value
 
 -- these are the rules that the lines hold for the agent, each with its line, and no line twice
 pub record AreRulesFor (agent : List ℕ) (lines : List LineValue) (rules : List PlacedRule) : Type 0 where
   pub held : (placed : PlacedRule) → Contains rules placed
-      ↔ ((place : ℕ) × (placed.line ≡ place + 1) × HoldsRule agent lines place placed.rule)
+      ↔ ((position : ℕ) × (placed.line ≡ position + 1) × HoldsRule agent lines position placed.rule)
   pub once : AllPairs (λ (one other : PlacedRule). one.line ≢ other.line) rules
 
 -- the first of the rules that is overlong stands in the line with this number
@@ -54,34 +54,34 @@ pub record IsFirstOverlong (rules : List PlacedRule) (number : ℕ) : Type 0 whe
   pub line : placed.line ≡ number
 
 -- some line holds an overlong rule for the agent
-abbrev pub IsRefused : List ℕ → List LineValue → Type 0
-IsRefused agent lines =
-    (place : ℕ) × (rule : Rule) × HoldsRule agent lines place rule × IsOverlong rule.0
+abbrev pub IsRejected : List ℕ → List LineValue → Type 0
+IsRejected agent lines =
+    (position : ℕ) × (rule : Rule) × HoldsRule agent lines position rule × IsOverlong rule.0
 
 -- ---- delays
 
 -- P holds of the number at a place, and at no place before it of any
 abbrev pub IsFirst : (ℕ → ℕ → Type 0) → ℕ → Type 0
-IsFirst P number = (place : ℕ) × P place number × ((other n : ℕ) → P other n → place ≤ other)
+IsFirst P number = (position : ℕ) × P position number × ((other n : ℕ) → P other n → position ≤ other)
 
 -- P holds of the number at a place, and at no place behind it of any
 abbrev pub IsLast : (ℕ → ℕ → Type 0) → ℕ → Type 0
-IsLast P number = (place : ℕ) × P place number × ((other n : ℕ) → P other n → other ≤ place)
+IsLast P number = (position : ℕ) × P position number × ((other n : ℕ) → P other n → other ≤ position)
 
 -- P holds nowhere of any number
 abbrev pub Nowhere : (ℕ → ℕ → Type 0) → Type 0
-Nowhere P = (place n : ℕ) → ¬ P place n
+Nowhere P = (position n : ℕ) → ¬ P position n
 
 -- the line at the place is a captured delay, of so many microseconds
 abbrev pub IsCapturedDelay : List ℕ → List LineValue → ℕ → ℕ → Type 0
-IsCapturedDelay agent lines place delay = IsCapturedAt agent lines place (CrawlDelay (Some delay))
+IsCapturedDelay agent lines position delay = IsCapturedAt agent lines position (CrawlDelay (Some delay))
 
 -- the line at the place is a delay, and the first user-agent line stands behind it
 abbrev pub IsEarlyDelay : List LineValue → ℕ → ℕ → Type 0
-IsEarlyDelay lines place delay =
-    (slice_get lines place ≡ Some (CrawlDelay (Some delay)))
-    × ((k : ℕ) → k < place → ¬ IsTrue (passes_at is_agent lines k))
-    × (k : ℕ) × (place < k) × IsTrue (passes_at is_agent lines k)
+IsEarlyDelay lines position delay =
+    (slice_get lines position ≡ Some (CrawlDelay (Some delay)))
+    × ((k : ℕ) → k < position → ¬ IsTrue (passes_at is_agent lines k))
+    × (k : ℕ) × (position < k) × IsTrue (passes_at is_agent lines k)
 
 -- the agent's delay: the first that is captured; where none is, the last before the first user-agent line
 abbrev pub IsDelayFor : List ℕ → List LineValue → Option ℕ → Type 0
@@ -105,5 +105,5 @@ AreSitemapsOf (line ∷ lines) sitemaps =
     ⊎ (((sitemap : List ℕ) → ¬ ListsSitemap line sitemap) × AreSitemapsOf lines sitemaps)
 
 -- the lines hold no rule for the agent, and list no sitemap
-abbrev pub GivesNothing : List ℕ → List LineValue → Type 0
-GivesNothing agent lines = AreRulesFor agent lines [] × AreSitemapsOf lines []
+abbrev pub HasNoRulesOrSitemaps : List ℕ → List LineValue → Type 0
+HasNoRulesOrSitemaps agent lines = AreRulesFor agent lines [] × AreSitemapsOf lines []

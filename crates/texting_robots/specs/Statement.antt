@@ -6,33 +6,33 @@ use Rattle.texting_robots.specs.declared.parser.statement.Kind.TheVariants.{Site
 use Rattle.texting_robots.specs.{Trim.IsTrimOf, declared.parser.statement.Kind.Kind}
 
 -- how the key of each kind is spelled, in small letters
-abbrev pub spellings : Kind → List (List ℕ)
-spellings UserAgent = codes "user-agent" ∷ codes "user agent" ∷ codes "useragent" ∷ []
-spellings Allow = codes "allow" ∷ []
-spellings Disallow =
+abbrev pub field_names : Kind → List (List ℕ)
+field_names UserAgent = codes "user-agent" ∷ codes "user agent" ∷ codes "useragent" ∷ []
+field_names Allow = codes "allow" ∷ []
+field_names Disallow =
     codes "disallow" ∷ codes "dissallow" ∷ codes "dissalow" ∷ codes "disalow" ∷ codes "diasllow"
     ∷ codes "disallaw" ∷ []
-spellings Sitemap = codes "sitemap" ∷ codes "site-map" ∷ codes "site map" ∷ []
-spellings CrawlDelay = codes "crawl-delay" ∷ codes "crawl delay" ∷ codes "crawldelay" ∷ []
+field_names Sitemap = codes "sitemap" ∷ codes "site-map" ∷ codes "site map" ∷ []
+field_names CrawlDelay = codes "crawl-delay" ∷ codes "crawl delay" ∷ codes "crawldelay" ∷ []
 
 abbrev pub IsBlank : ℕ → Type 0
 IsBlank b = (b ≡ byte " ") ⊎ (b ≡ byte "\t")
 
 -- neither a blank nor a colon stands first
-abbrev pub BeginsPlain : List ℕ → Type 0
-BeginsPlain [] = Unit {0}
-BeginsPlain (b ∷ text) = (¬ IsBlank b) × (b ≢ byte ":")
+abbrev pub StartsValue : List ℕ → Type 0
+StartsValue [] = Unit {0}
+StartsValue (b ∷ text) = (¬ IsBlank b) × (b ≢ byte ":")
 
 -- the rest is any number of blanks, a colon and the tail
-abbrev pub IsBehindColon : List ℕ → List ℕ → Type 0
-IsBehindColon tail rest =
+abbrev pub IsAfterColon : List ℕ → List ℕ → Type 0
+IsAfterColon tail rest =
     (blanks : List ℕ) × Each IsBlank blanks × (rest ≡ blanks ++ byte ":" ∷ tail)
 
 -- the rest is one or more blanks and the tail, which begins with no blank and no colon
-abbrev pub IsBehindBlanks : List ℕ → List ℕ → Type 0
-IsBehindBlanks tail rest =
+abbrev pub IsAfterBlanks : List ℕ → List ℕ → Type 0
+IsAfterBlanks tail rest =
     (blanks : List ℕ) × Each IsBlank blanks × (blanks ≢ []) × (rest ≡ blanks ++ tail)
-    × BeginsPlain tail
+    × StartsValue tail
 
 -- the body is a statement of this kind with this value: blanks, a spelling of the kind's key, ASCII letters
 -- in any case, a separator, a region without a hash, and then nothing or a comment; the value is the region,
@@ -46,8 +46,8 @@ pub record IsStatement (kind : Kind) (value body : List ℕ) : Type 0 where
   pub comment : List ℕ
   pub whole : body ≡ margin ++ (key ++ rest)
   pub margin_blank : Each IsBlank margin
-  pub is_key : Contains (spellings kind) (str_to_ascii_lowercase key)
-  pub separated : IsBehindColon tail rest ⊎ IsBehindBlanks tail rest
+  pub is_key : Contains (field_names kind) (str_to_ascii_lowercase key)
+  pub separated : IsAfterColon tail rest ⊎ IsAfterBlanks tail rest
   pub parted : tail ≡ region ++ comment
   pub no_hash : Each (λ b. b ≢ byte "#") region
   pub is_comment : (comment ≡ []) ⊎ ((text : List ℕ) × (comment ≡ byte "#" ∷ text))

@@ -1,7 +1,7 @@
 //! The address of a site's robots.txt file.
 ghost use Rattle.std.specs.Prelude.{◌≡◌, ◌++◌, codes, decimal, IfOk, OnOk, option_map, string_bytes};
 ghost use Rattle.url.specs.Parser.{GivesBy};
-ghost use Rattle.texting_robots.specs.Prepared.{marked};
+ghost use Rattle.texting_robots.specs.Prepared.{with_delimiter};
 ghost use Rattle.texting_robots.specs.Address.{robots_address, robots_address_of};
 
 use std::alloc::{AllocError, Global};
@@ -10,7 +10,7 @@ use url::{ParseError, Url};
 /// Adds `:` and the port, if there is one.
 fn push_port(alloc: Global, text: &mut String, port: Option<u16>) -> Result<(), AllocError>
     ensures { OnOk result (string_bytes text.new
-        ≡ string_bytes text.old ++ marked (codes ":") (option_map decimal port)) }
+        ≡ string_bytes text.old ++ with_delimiter (codes ":") (option_map decimal port)) }
 {
     if let Some(port) = port {
         text.push(':')?;
@@ -22,7 +22,7 @@ fn push_port(alloc: Global, text: &mut String, port: Option<u16>) -> Result<(), 
 /// The address with these parts.
 fn text_of(alloc: Global, scheme: &str, host: &str, port: Option<u16>) -> Result<String, AllocError>
     ensures { IfOk result (λ s. string_bytes s
-        ≡ scheme.now ++ codes "://" ++ host.now ++ marked (codes ":") (option_map decimal port)
+        ≡ scheme.now ++ codes "://" ++ host.now ++ with_delimiter (codes ":") (option_map decimal port)
         ++ codes "/robots.txt") }
 {
     let mut text = String::from_str(alloc, scheme)?;

@@ -43,7 +43,7 @@ impl<T: Drop> From<AllocFailed<T>> for Error {
 }
 
 /// Whether an error of `url` is want of memory: memory was refused, or a URL came to more bytes than `url` can count.
-pub(crate) fn is_want_of_memory(error: &ParseError) -> bool
+pub(crate) fn is_memory_or_overflow(error: &ParseError) -> bool
     ensures { IsTrue result ↔ IsOutOfRoom error.now }
 {
     matches!(error, ParseError::OutOfMemory | ParseError::Overflow)

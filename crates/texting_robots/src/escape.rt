@@ -104,7 +104,7 @@ pub(crate) fn push_escaped(out: &mut String, text: &str) -> Result<(), AllocErro
 /// ASCII comes out as `%` and two digits, so what was added is printable ASCII. Where memory is refused, nothing is added.
 pub fn push_escaped_bytes(out: &mut String, bytes: &[u8]) -> Result<(), AllocError>
     ensures ok { OnOk result (string_bytes out.new ≡ string_bytes out.old ++ escaped bytes.now) }
-    ensures refused { OnErr result (string_bytes out.new ≡ string_bytes out.old) }
+    ensures rejected { OnErr result (string_bytes out.new ≡ string_bytes out.old) }
 {
     percent_encode(bytes, ESCAPED).append_to(out)
 }

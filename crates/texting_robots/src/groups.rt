@@ -2,12 +2,12 @@
 ghost use Rattle.std.specs.Prelude.{◌≡◌, not, false};
 ghost use Rattle.std.specs.Str.{str_to_ascii_lowercase};
 ghost use Rattle.texting_robots.specs.Group.{group_name};
-ghost use Rattle.texting_robots.specs.Marks.{is_named};
+ghost use Rattle.texting_robots.specs.Labels.{is_named};
 ghost use Rattle.texting_robots.specs.Line.{by_value};
-ghost use Rattle.texting_robots.specs.Computed.{delay_before_agents};
-ghost use Rattle.texting_robots.specs.Steps.Group.{captured_ahead, start_of, step};
+ghost use Rattle.texting_robots.specs.Executable.{delay_before_agents};
+ghost use Rattle.texting_robots.specs.Internal.Group.{captured_ahead, start_of, step};
 
-use crate::parser::{Kind, Line, UnreadLines};
+use crate::parser::{Kind, LazyLines, Line};
 
 /// What the first pass over a file finds out for an agent.
 #[derive(Drop)]
@@ -17,7 +17,7 @@ pub(crate) struct Group<'a> {
     /// Whether a line names the agent.
     pub(crate) is_named: bool,
     /// The walk before the first line.
-    pub(crate) start: Walk,
+    pub(crate) start: GroupTracker,
     /// The last delay before the first agent line, where there is one.
     pub(crate) delay_before_agents: Option<u64>,
 }
@@ -26,7 +26,7 @@ pub(crate) struct Group<'a> {
 /// names the agent.
 #[tactic(auto, using(crate::proofs::RulesLemmas::last_more, crate::proofs::NameLemmas::tested_names))]
 #[inline(never)]
-pub(crate) fn group_for<'a>(agent: &'a [u8], lines: UnreadLines<'_>) -> Group<'a>
+pub(crate) fn group_for<'a>(agent: &'a [u8], lines: LazyLines<'_>) -> Group<'a>
     ensures name { str_to_ascii_lowercase result.name.now ≡ group_name agent.now lines.entry }
     ensures named { result.is_named ≡ is_named agent.now lines.entry }
     ensures start { result.start ≡ start_of lines.entry }
@@ -42,7 +42,7 @@ pub(crate) fn group_for<'a>(agent: &'a [u8], lines: UnreadLines<'_>) -> Group<'a
                     return Group {
                         name: if is_named { agent } else { b"*" },
                         is_named,
-                        start: Walk::start(true),
+                        start: GroupTracker::start(true),
                         delay_before_agents: last,
                     };
                 }
@@ -58,27 +58,27 @@ pub(crate) fn group_for<'a>(agent: &'a [u8], lines: UnreadLines<'_>) -> Group<'a
     Group {
         name: b"*",
         is_named: false,
-        start: Walk::start(false),
+        start: GroupTracker::start(false),
         delay_before_agents: None,
     }
 }
 
 /// Where a walk along the lines stands.
 #[derive(Clone, Copy)]
-pub(crate) struct Walk {
+pub(crate) struct GroupTracker {
     /// A group line here is captured.
     pub(crate) captured: bool,
     /// The name stood in an agent line since the last group line.
     pub(crate) named: bool,
 }
 
-impl Walk {
+impl GroupTracker {
     /// Before the first line of a file that has agent lines, or none.
     fn start(has_agents: bool) -> Self
         ensures captured { result.captured ≡ not has_agents }
         ensures named { result.named ≡ false }
     {
-        Walk {
+        GroupTracker {
             captured: !has_agents,
             named: false,
         }
@@ -101,17 +101,17 @@ impl Walk {
 
     /// Whether the first group line of those that are left is captured; where none is left, whether one behind the last line
     /// would be.
-    pub(crate) fn ahead(self, name: &[u8], left: UnreadLines<'_>) -> bool
+    pub(crate) fn ahead(self, name: &[u8], left: LazyLines<'_>) -> bool
         ensures { result ≡ captured_ahead (str_to_ascii_lowercase name.now) self left.entry }
     {
-        let mut walk = self;
+        let mut tracker = self;
         for line in left {
             let line = line.read();
             if line.is_group() {
-                return walk.captured;
+                return tracker.captured;
             }
-            walk.step(name, line);
+            tracker.step(name, line);
         }
-        walk.captured
+        tracker.captured
     }
 }

@@ -10,19 +10,19 @@ ghost use Rattle.texting_robots.specs.Decision.{IsDecidingRule, IsDecidingLine};
 ghost use Rattle.texting_robots.specs.Delay.{IsDelay};
 ghost use Rattle.texting_robots.specs.Examples as example;
 ghost use Rattle.texting_robots.specs.Group.{IsCaptured, group_name, is_agent};
-ghost use Rattle.texting_robots.specs.Laws.{IsSameKind, Same, SameButSitemaps, feeds_alone};
+ghost use Rattle.texting_robots.specs.Laws.{IsSameKind, Same, SameButSitemaps, crlf_to_lf};
 ghost use Rattle.texting_robots.specs.Line.{AreFileLinesOf, AreLinesOf, HoldRangesOf, LineValue, is_raw, is_sitemap};
-ghost use Rattle.texting_robots.specs.Marks.{AreMarksOf, Mark, marks_of};
+ghost use Rattle.texting_robots.specs.Labels.{AreLabelsOf, Label, labels_of};
 ghost use Rattle.texting_robots.specs.Order.{IsBefore, pattern_cmp};
-ghost use Rattle.texting_robots.specs.Computed.{captured_delays, delay_for, file_lines, parsed, placed_rules, rules_for, sitemaps_in};
+ghost use Rattle.texting_robots.specs.Executable.{captured_delays, delay_for, file_lines, parsed, placed_rules, rules_for, sitemaps_in};
 ghost use Rattle.texting_robots.specs.Pattern.{IsOverlong, Matches, MatchesWith, collapsed};
 ghost use Rattle.texting_robots.specs.Robot.{AnswerAlike, IsRobotOf, RobotValue};
-ghost use Rattle.texting_robots.specs.Rules.{AreRulesFor, AreSitemapsOf, HoldsRule, IsDelayFor, IsRefused, PlacedRule, Rule, unplaced};
+ghost use Rattle.texting_robots.specs.Rules.{AreRulesFor, AreSitemapsOf, HoldsRule, IsDelayFor, IsRejected, PlacedRule, Rule, unplaced};
 ghost use Rattle.texting_robots.specs.Statement.{IsStatement};
-ghost use Rattle.texting_robots.specs.Steps.Captured.{is_captured};
-ghost use Rattle.texting_robots.specs.Steps.Cut.{cut};
-ghost use Rattle.texting_robots.specs.Steps.Delay.{delay_of};
-ghost use Rattle.texting_robots.specs.Steps.Site.{delay_of as tagged_delay, own_tagged, rule_of};
+ghost use Rattle.texting_robots.specs.Internal.Captured.{is_captured};
+ghost use Rattle.texting_robots.specs.Internal.Cut.{cut};
+ghost use Rattle.texting_robots.specs.Internal.Delay.{delay_of};
+ghost use Rattle.texting_robots.specs.Internal.Site.{delay_of as tagged_delay, own_tagged, rule_of};
 ghost use Rattle.texting_robots.specs.Trim.{IsTrimOf};
 ghost use Rattle.texting_robots.specs.Verdict.{IsVerdict, robots_file};
 
@@ -108,7 +108,7 @@ pub fn order_agrees()
 /// LF in place of each CR LF leaves the lines as they are.
 /// Whoever shows lines with their place in the file relies on it.
 pub fn cr_lf_is_lf()
-    ensures { (text : List ℕ) (lines : List LineValue) → AreLinesOf lines (feeds_alone text) ↔ AreLinesOf lines text }
+    ensures { (text : List ℕ) (lines : List LineValue) → AreLinesOf lines (crlf_to_lf text) ↔ AreLinesOf lines text }
 {}
 
 /// Each text has one cut into bodies and line ends. Whoever reads the definition of lines relies on it.
@@ -133,7 +133,7 @@ pub fn each_text_has_its_lines()
     ensures { (text : List ℕ) (lines : List LineValue) → AreLinesOf lines text ↔ lines ≡ parsed text }
 {}
 
-/// Each file has one list of lines, the one that `file_lines` computes. Whoever reads the contract of `one_agent_allowed` or
+/// Each file has one list of lines, the one that `file_lines` computes. Whoever reads the contract of `allowed_in_file` or
 /// `Robot::new` relies on it.
 pub fn each_file_has_its_lines()
     ensures some { (text : List ℕ) → (lines : List LineValue) × AreFileLinesOf lines text }
@@ -150,10 +150,10 @@ pub fn captured_agrees()
         → IsTrue (is_captured name lines i) ↔ IsCaptured name lines i }
 {}
 
-/// Each line has its mark, the one that `marks_of` computes. Whoever reads the contract of `marks::marked_lines` relies on it.
-pub fn each_line_has_its_mark()
-    ensures { (name : List ℕ) (lines : List LineValue) (marks : List Mark)
-        → AreMarksOf name lines marks ↔ marks ≡ marks_of name lines }
+/// Each line has its mark, the one that `labels_of` computes. Whoever reads the contract of `labels::labeled_lines` relies on it.
+pub fn each_line_has_its_label()
+    ensures { (name : List ℕ) (lines : List LineValue) (labels : List Label)
+        → AreLabelsOf name lines labels ↔ labels ≡ labels_of name lines }
 {}
 
 /// The comparison of patterns that `cmp` and `partial_cmp` make says what the order says. Ordered maps and sets of patterns
@@ -175,21 +175,21 @@ pub fn deciding_line_holds_its_rule()
     ensures { (agent : List ℕ) (lines : List LineValue) (rules : List PlacedRule) (text : List ℕ) (number : ℕ)
         → AreRulesFor agent lines rules → IsDecidingLine rules text (Some number)
         → (placed : PlacedRule) × IsDecidingRule rules text placed × (placed.line ≡ number)
-        × (place : ℕ) × (number ≡ place + 1) × HoldsRule agent lines place placed.rule }
+        × (position : ℕ) × (number ≡ position + 1) × HoldsRule agent lines position placed.rule }
 {}
 
 /// The line that decides gives the verdict: an Allow a yes, a Disallow a no; and where none decides, it is yes.
 /// Whoever shows a site owner why a URL is allowed or not relies on it.
 pub fn deciding_line_gives_the_verdict()
-    ensures line { (agent : List ℕ) (lines : List LineValue) (rules : List PlacedRule) (text : List ℕ) (place : ℕ)
-        (rule : Rule) → AreRulesFor agent lines rules → IsDecidingLine rules text (Some (place + 1))
-        → HoldsRule agent lines place rule → IsVerdict (unplaced rules) text rule.1 }
+    ensures line { (agent : List ℕ) (lines : List LineValue) (rules : List PlacedRule) (text : List ℕ) (position : ℕ)
+        (rule : Rule) → AreRulesFor agent lines rules → IsDecidingLine rules text (Some (position + 1))
+        → HoldsRule agent lines position rule → IsVerdict (unplaced rules) text rule.1 }
     ensures none { (rules : List PlacedRule) (text : List ℕ) → IsDecidingLine rules text None
         → IsVerdict (unplaced rules) text true }
 {}
 
 /// Lines hold one list of rules for an agent, in any order, and each order gives the same answers. `placed_rules` computes it, and
-/// from it whether the lines are refused. Whoever reads the contract of `one_agent_allowed` or `Robot::new` relies on it.
+/// from it whether the lines are refused. Whoever reads the contract of `allowed_in_file` or `Robot::new` relies on it.
 pub fn each_agent_has_its_rules()
     ensures some { (agent : List ℕ) (lines : List LineValue) → (rules : List PlacedRule) × AreRulesFor agent lines rules }
     ensures one { (agent : List ℕ) (lines : List LineValue) (rules others : List PlacedRule)
@@ -198,8 +198,8 @@ pub fn each_agent_has_its_rules()
         → AreRulesFor agent lines rules → AreRulesFor agent lines others → AnswerAlike rules others }
     ensures computed { (agent : List ℕ) (lines : List LineValue) (rules : List PlacedRule)
         → AreRulesFor agent lines rules ↔ IsPermutation (placed_rules agent lines) rules }
-    ensures refused { (agent : List ℕ) (lines : List LineValue)
-        → IsRefused agent lines ↔ Any (λ (rule : Rule). IsOverlong rule.0) (rules_for agent lines) }
+    ensures rejected { (agent : List ℕ) (lines : List LineValue)
+        → IsRejected agent lines ↔ Any (λ (rule : Rule). IsOverlong rule.0) (rules_for agent lines) }
 {}
 
 /// Lines give an agent one delay or none, the one that `delay_for` computes. Whoever reads the contract of `Robot::new` relies on
@@ -223,7 +223,7 @@ pub fn examples_of_lines()
     ensures nul { example.nul }
     ensures cut_short { example.cut_short }
     ensures byte_order_mark { example.byte_order_mark }
-    ensures misspelled_keys { example.misspelled_keys }
+    ensures nonstandard_keys { example.nonstandard_keys }
     ensures separators { example.separators }
     ensures no_separator { example.no_separator }
     ensures two_colons { example.two_colons }
@@ -260,7 +260,7 @@ pub fn examples_of_patterns()
     ensures beginning { example.beginning }
     ensures stars { example.stars }
     ensures ends { example.ends }
-    ensures star_behind { example.star_behind }
+    ensures star_after { example.star_after }
     ensures dollar_inside { example.dollar_inside }
     ensures plain_dollar { example.plain_dollar }
     ensures one_star { example.one_star }

@@ -3,7 +3,7 @@
 //! follows Google's reading of the Robots Exclusion Protocol (RFC 9309); `docs/COMPATIBILITY.md` lists where it departs.
 //!
 //! [`Robot`] is the way in: `Robot::new` reads a file for an agent, and `allowed` answers for a URL. [`Site`] reads a file once
-//! for many agents, and `Site::robot` gives the same robots. [`one_agent_allowed`] reads a file and asks about one text, and its
+//! for many agents, and `Site::robot` gives the same robots. [`allowed_in_file`] reads a file and asks about one text, and its
 //! contract is the theorem that the library exists for. [`get_robots_url`] says where the file of a site stands. [`parser`],
 //! [`minregex`] and [`view`] are the layers below.
 //!
@@ -29,31 +29,31 @@
 #![tactic(auto)]
 
 pub mod address;
-mod asked;
 mod decision;
 mod error;
 mod escape;
 mod groups;
+mod haystack;
+pub mod labels;
 mod lanes;
 pub mod laws;
-pub mod marks;
 mod matching;
 pub mod minregex;
-mod needs;
+mod normalized;
 mod one_agent;
 pub mod parser;
 mod pieces;
+mod prefilter;
 mod prepared;
 mod reading;
 pub mod robot;
 mod rules;
 pub mod site;
 pub mod view;
-mod whole;
 
 pub use address::{get_robots_url, robots_url_of};
 pub use error::Error;
 pub use escape::push_escaped_bytes;
-pub use one_agent::one_agent_allowed;
+pub use one_agent::allowed_in_file;
 pub use robot::{Decision, Robot};
 pub use site::Site;

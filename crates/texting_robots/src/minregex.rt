@@ -5,15 +5,15 @@ ghost use Rattle.std.specs.Cmp.Lexicographic.{pointwise};
 ghost use Rattle.std.specs.Cmp.Rules.{comparing};
 ghost use Rattle.std.specs.Ordering.{as_partial_cmp, on};
 ghost use Rattle.std.proofs.Common.{rules};
-ghost use Rattle.texting_robots.specs.Steps.Stars.{IsCutAtStar};
-ghost use Rattle.texting_robots.specs.Error.{IsMemoryOr};
+ghost use Rattle.texting_robots.specs.Internal.Stars.{IsCutAtStar};
+ghost use Rattle.texting_robots.specs.Error.{IsMemoryErrorOr};
 ghost use Rattle.texting_robots.specs.Order.{IsBefore, pattern_cmp};
 ghost use Rattle.texting_robots.specs.Pattern.{IsOverlong, Matches, MatchesStars, collapsed};
 ghost use Rattle.texting_robots.specs.View.{LooksAtMost};
 
-use crate::asked::{Uncounted, behind_first};
 use crate::error::Error;
-use crate::pieces::{Ends, Pattern, Piece, STAR, is_overlong, push_pieces};
+use crate::haystack::{Uncounted, after_first};
+use crate::pieces::{Ends, Pattern, STAR, Segment, is_overlong, push_segments};
 use crate::view::View;
 use memchr::memchr;
 use std::alloc::{AllocError, Global};
@@ -27,13 +27,13 @@ pub struct MinRegex {
     pattern: String,
     collapsed_text: String,
     ends: Ends,
-    pieces: Vec<Piece>,
+    pieces: Vec<Segment>,
     borders: Vec<usize>,
 }
 
 impl Model for MinRegex {
     ghost use Rattle.std.specs.Prelude.{◌≡◌, ℕ, List, string_bytes};
-    ghost use Rattle.texting_robots.specs.Steps.Pieces.{ArePieces};
+    ghost use Rattle.texting_robots.specs.Internal.Segments.{AreSegments};
     ghost use Rattle.texting_robots.specs.Pattern.{collapsed};
 
     ghost Value = { List ℕ };
@@ -41,7 +41,7 @@ impl Model for MinRegex {
     ghost view = { λ r. string_bytes r.pattern };
 
     ghost invariant = { λ r. (string_bytes r.collapsed_text ≡ collapsed (string_bytes r.pattern))
-        × ArePieces (string_bytes r.pattern) r.ends r.pieces.items r.borders.items };
+        × AreSegments (string_bytes r.pattern) r.ends r.pieces.items r.borders.items };
 }
 
 impl MinRegex {
@@ -54,7 +54,7 @@ impl MinRegex {
     pub fn new(alloc: Global, pattern: &str) -> Result<Self, Error>
         ensures ok { IfOk result (λ regex. regex ≡ pattern.now) }
         ensures accepted { OnOk result (¬ IsOverlong pattern.now) }
-        ensures refused { IfErr result (IsMemoryOr (IsOverlong pattern.now)) }
+        ensures rejected { IfErr result (IsMemoryErrorOr (IsOverlong pattern.now)) }
     {
         if is_overlong(pattern.as_bytes()) {
             return Err(Error::InvalidRule);
@@ -62,7 +62,7 @@ impl MinRegex {
         let collapsed_text = collapse_stars(alloc, pattern)?;
         let mut pieces = Vec::new(alloc);
         let mut borders = Vec::new(alloc);
-        let ends = push_pieces(pattern.as_bytes(), &mut pieces, &mut borders)?;
+        let ends = push_segments(pattern.as_bytes(), &mut pieces, &mut borders)?;
         let pattern = String::from_str(alloc, pattern)?;
         Ok(MinRegex {
             pattern,
@@ -130,11 +130,11 @@ impl MinRegex {
             return false;
         };
         while let Some(pattern) = left {
-            let (piece, next) = cut_at_star(pattern);
-            let Some(behind) = behind_first(rest, piece) else {
+            let (segment, next) = cut_at_star(pattern);
+            let Some(following) = after_first(rest, segment) else {
                 return false;
             };
-            rest = behind;
+            rest = following;
             left = next;
         }
         true

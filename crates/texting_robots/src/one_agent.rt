@@ -1,10 +1,10 @@
 //! One question about one file, for one crawler.
 ghost use Rattle.std.specs.Prelude.{◌≡◌, ℕ, IfErr, IsOk, List, take};
-ghost use Rattle.texting_robots.specs.Headline.{IsAnswerOf};
+ghost use Rattle.texting_robots.specs.MainTheorem.{IsAnswerOf};
 ghost use Rattle.texting_robots.specs.Rules.{AreRulesFor};
 ghost use Rattle.texting_robots.specs.Line.{AreFileLinesOf, HasLines, LineValue};
 ghost use Rattle.texting_robots.specs.Robot.{file_limit};
-ghost use Rattle.texting_robots.specs.Rules.{GivesNothing, PlacedRule};
+ghost use Rattle.texting_robots.specs.Rules.{HasNoRulesOrSitemaps, PlacedRule};
 
 use crate::error::Error;
 use crate::robot::Robot;
@@ -19,7 +19,7 @@ use std::alloc::Global;
 /// # Errors
 ///
 /// As [`Robot::new`].
-pub fn one_agent_allowed(
+pub fn allowed_in_file(
     alloc: Global,
     agent: &str,
     txt: &[u8],
@@ -28,7 +28,7 @@ pub fn one_agent_allowed(
     ensures answer { (lines : List LineValue) (rules : List PlacedRule) → AreFileLinesOf lines (take file_limit txt.now)
         → AreRulesFor agent.now lines rules → IsAnswerOf agent.now lines rules view.old view.new result }
     ensures untouched { IfErr result (λ _. view.new ≡ view.old) }
-    ensures without_memory { HasLines (take file_limit txt.now) (GivesNothing agent.now) → IsOk result }
+    ensures without_memory { HasLines (take file_limit txt.now) (HasNoRulesOrSitemaps agent.now) → IsOk result }
 {
     let robot = Robot::new(alloc, agent, txt)?;
     Ok(robot.allowed_view(view))

@@ -3,11 +3,11 @@ ghost use Rattle.std.specs.Prelude.{◌≡◌, ◌⊎◌, ◌<◌, ◌≤◌, �
 ghost use Rattle.std.specs.Prelude.{ℕ, List};
 ghost use Rattle.std.specs.Iterator.{YieldsFirst, YieldsFirstBy, item_count};
 ghost use Rattle.std.specs.List.{AllZip};
-ghost use Rattle.texting_robots.specs.Computed.{file_bodies, file_lines, parsed};
-ghost use Rattle.texting_robots.specs.Steps.Cut.{bodies_of, read_as};
-ghost use Rattle.texting_robots.specs.Steps.Line.{line_of, line_with};
+ghost use Rattle.texting_robots.specs.Executable.{file_bodies, file_lines, parsed};
+ghost use Rattle.texting_robots.specs.Internal.Cut.{bodies_of, read_as};
+ghost use Rattle.texting_robots.specs.Internal.Line.{line_of, line_with};
 ghost use Rattle.texting_robots.specs.Group.{is_agent, is_agent_named, is_group};
-ghost use Rattle.texting_robots.specs.Marks.{is_named};
+ghost use Rattle.texting_robots.specs.Labels.{is_named};
 ghost use Rattle.std.specs.Str.{str_to_ascii_lowercase};
 ghost use Rattle.texting_robots.specs.Line.{AreFileBodiesOf, AreFileLinesOf, AreLinesOf, HoldRangesOf};
 ghost use Rattle.texting_robots.specs.Line.{IsLineOf, by_value, delay_in, is_sitemap, nul_as_lf, value_in};
@@ -22,7 +22,7 @@ use crate::error::Error;
 use agents::after_others;
 use cut::{after_end, body_len};
 pub use delay::read_delay;
-pub use statement::{Kind, spellings};
+pub use statement::{Kind, field_names};
 use statement::{kind_by, skip_blanks, tail_as, value_of};
 use std::alloc::{AllocError, Global};
 use std::marker::Model;
@@ -72,7 +72,7 @@ impl<'a> Line<'a> {
 
 /// A line that is cut out and not read yet. The first letter of its key tells of which kind alone it may be.
 #[derive(Drop)]
-pub(crate) struct Unread<'a> {
+pub(crate) struct LazyLine<'a> {
     body: &'a [u8],
     /// The body without the blanks at its front.
     text: &'a [u8],
@@ -80,11 +80,11 @@ pub(crate) struct Unread<'a> {
     kind: Option<Kind>,
 }
 
-impl<'a> Model for Unread<'a> {
+impl<'a> Model for LazyLine<'a> {
     ghost use Rattle.std.specs.Prelude.{◌≡◌};
     ghost use Rattle.texting_robots.specs.Line.{LineValue};
-    ghost use Rattle.texting_robots.specs.Steps.Line.{line_of};
-    ghost use Rattle.texting_robots.specs.Steps.Statement.{kind_by, skip_blanks};
+    ghost use Rattle.texting_robots.specs.Internal.Line.{line_of};
+    ghost use Rattle.texting_robots.specs.Internal.Statement.{kind_by, skip_blanks};
 
     ghost Value = { LineValue };
 
@@ -93,14 +93,14 @@ impl<'a> Model for Unread<'a> {
     ghost invariant = { λ s. (s.text.now ≡ skip_blanks s.body.now) × (s.kind ≡ kind_by s.text.now) };
 }
 
-impl<'a> Unread<'a> {
+impl<'a> LazyLine<'a> {
     /// The line of a body.
     #[inline(always)]
     pub(crate) fn new(body: &'a [u8]) -> Self
         ensures { result ≡ line_of body.now }
     {
         let text = skip_blanks(body);
-        Unread {
+        LazyLine {
             body,
             text,
             kind: kind_by(text),
@@ -168,7 +168,7 @@ pub struct BodyIter<'a> {
 
 impl<'a> Model for BodyIter<'a> {
     ghost use Rattle.std.specs.Prelude.{ℕ, List};
-    ghost use Rattle.texting_robots.specs.Steps.Cut.{bodies_of, read_as};
+    ghost use Rattle.texting_robots.specs.Internal.Cut.{bodies_of, read_as};
 
     ghost Value = { List (List ℕ) };
 
@@ -195,21 +195,21 @@ impl<'a> Iterator for BodyIter<'a> {
 
 /// An iterator over the lines of a text, none of them read to its value.
 #[derive(Drop)]
-pub(crate) struct UnreadLines<'a> {
+pub(crate) struct LazyLines<'a> {
     bodies: BodyIter<'a>,
 }
 
-impl<'a> Model for UnreadLines<'a> {
+impl<'a> Model for LazyLines<'a> {
     ghost use Rattle.std.specs.Prelude.{List, map};
     ghost use Rattle.texting_robots.specs.Line.{LineValue};
-    ghost use Rattle.texting_robots.specs.Steps.Line.{line_of};
+    ghost use Rattle.texting_robots.specs.Internal.Line.{line_of};
 
     ghost Value = { List LineValue };
 
     ghost view = { λ s. map line_of s.bodies };
 }
 
-impl<'a> UnreadLines<'a> {
+impl<'a> LazyLines<'a> {
     /// Whether one of the lines names the agent. Lines of other kinds are passed over together.
     pub(crate) fn name_agent(&self, agent: &[u8]) -> bool
         ensures { result ≡ is_named agent.now self.now }
@@ -218,7 +218,7 @@ impl<'a> UnreadLines<'a> {
         let mut rest = self.bodies.rest;
         while !rest.is_empty() {
             let (body, _) = rest.split_at(body_len(rest, nul_ends));
-            if Unread::new(body).names(agent) {
+            if LazyLine::new(body).names(agent) {
                 return true;
             }
             rest = after_others(rest, nul_ends);
@@ -231,7 +231,7 @@ impl<'a> UnreadLines<'a> {
         ensures { result ≡ self.now }
     {
         let bodies = &self.bodies;
-        UnreadLines {
+        LazyLines {
             bodies: BodyIter {
                 rest: bodies.rest,
                 nul_ends: bodies.nul_ends,
@@ -240,23 +240,23 @@ impl<'a> UnreadLines<'a> {
     }
 }
 
-impl<'a> Iterator for UnreadLines<'a> {
-    type Item = Unread<'a>;
+impl<'a> Iterator for LazyLines<'a> {
+    type Item = LazyLine<'a>;
 
     ghost next_gives = { YieldsFirst (λ s. s) };
 
     ghost remaining = { item_count (λ s. s) };
 
     #[inline(always)]
-    fn next(&mut self) -> Option<Unread<'a>> {
-        Some(Unread::new(self.bodies.next()?))
+    fn next(&mut self) -> Option<LazyLine<'a>> {
+        Some(LazyLine::new(self.bodies.next()?))
     }
 }
 
 /// An iterator over the lines of a text, which takes no memory.
 #[derive(Drop)]
 pub struct LineIter<'a> {
-    unread: UnreadLines<'a>,
+    lazy: LazyLines<'a>,
 }
 
 impl<'a> Model for LineIter<'a> {
@@ -265,7 +265,7 @@ impl<'a> Model for LineIter<'a> {
 
     ghost Value = { List LineValue };
 
-    ghost view = { λ s. s.unread };
+    ghost view = { λ s. s.lazy };
 }
 
 impl<'a> Iterator for LineIter<'a> {
@@ -276,7 +276,7 @@ impl<'a> Iterator for LineIter<'a> {
     ghost remaining = { item_count (λ s. s) };
 
     fn next(&mut self) -> Option<Line<'a>> {
-        Some(self.unread.next()?.read())
+        Some(self.lazy.next()?.read())
     }
 }
 
@@ -299,7 +299,7 @@ pub fn lines<'a>(input: &'a [u8]) -> LineIter<'a>
     ensures ranges { HoldRangesOf result input.now }
 {
     LineIter {
-        unread: UnreadLines {
+        lazy: LazyLines {
             bodies: BodyIter {
                 rest: without_front(input),
                 nul_ends: false,
@@ -324,11 +324,11 @@ pub fn file_bodies<'a>(input: &'a [u8]) -> BodyIter<'a>
 }
 
 /// The lines of a file, those of its text with each NUL read as LF, not read to their values.
-pub(crate) fn unread_file_lines<'a>(input: &'a [u8]) -> UnreadLines<'a>
+pub(crate) fn lazy_file_lines<'a>(input: &'a [u8]) -> LazyLines<'a>
     ensures value { result ≡ file_lines input.now }
     ensures count { length result ≤ length input.now }
 {
-    UnreadLines {
+    LazyLines {
         bodies: file_bodies(input),
     }
 }
@@ -342,7 +342,7 @@ pub fn file_lines<'a>(input: &'a [u8]) -> LineIter<'a>
     ensures count { length result ≤ length input.now }
 {
     LineIter {
-        unread: unread_file_lines(input),
+        lazy: lazy_file_lines(input),
     }
 }
 

@@ -1,8 +1,8 @@
 //! The pieces of a pattern, and where they stand in a text.
 ghost use Rattle.std.specs.Prelude.{◌≡◌, ℕ, ◌+◌, ◌-◌, ◌≤◌, ◌↔◌, ◌++◌, ◌==◌, IsTrue, IfOk, length, take};
 ghost use Rattle.std.specs.List.{list_all, position_or_len, prefix_len};
-ghost use Rattle.texting_robots.specs.Steps.Border.{IsTable};
-ghost use Rattle.texting_robots.specs.Steps.Pieces.{AddsPieces, ArePieces, Closes, IsCutAtMark, is_mark};
+ghost use Rattle.texting_robots.specs.Internal.Border.{IsTable};
+ghost use Rattle.texting_robots.specs.Internal.Segments.{AddsSegments, AreSegments, Closes, IsCutAtWildcard, is_wildcard};
 ghost use Rattle.texting_robots.specs.Pattern.{IsOverlong, collapsed, star};
 
 use crate::lanes::{LANES, all_are, first_lane};
@@ -38,7 +38,7 @@ impl Span {
 
 /// A piece that may stand anywhere behind the one before, and where its table begins among the tables.
 #[derive(Clone, Copy)]
-pub(crate) struct Piece {
+pub(crate) struct Segment {
     pub(crate) span: Span,
     pub(crate) table: usize,
 }
@@ -68,19 +68,19 @@ pub(crate) struct Ends {
 pub(crate) struct Pattern<'a> {
     pub(crate) bytes: &'a [u8],
     pub(crate) ends: Ends,
-    pub(crate) pieces: &'a [Piece],
+    pub(crate) pieces: &'a [Segment],
     pub(crate) borders: &'a [usize],
 }
 
 impl<'a> Model for Pattern<'a> {
     ghost use Rattle.std.specs.Prelude.{ℕ, List};
-    ghost use Rattle.texting_robots.specs.Steps.Pieces.{ArePieces};
+    ghost use Rattle.texting_robots.specs.Internal.Segments.{AreSegments};
 
     ghost Value = { List ℕ };
 
     ghost view = { λ p. p.bytes.now };
 
-    ghost invariant = { λ p. ArePieces p.bytes.now p.ends p.pieces.now p.borders.now };
+    ghost invariant = { λ p. AreSegments p.bytes.now p.ends p.pieces.now p.borders.now };
 }
 
 impl<'a> Pattern<'a> {
@@ -88,10 +88,10 @@ impl<'a> Pattern<'a> {
     pub(crate) fn new(
         bytes: &'a [u8],
         ends: Ends,
-        pieces: &'a [Piece],
+        pieces: &'a [Segment],
         borders: &'a [usize],
     ) -> Self
-        requires { ArePieces bytes.now ends pieces.now borders.now }
+        requires { AreSegments bytes.now ends pieces.now borders.now }
         ensures { result ≡ bytes.now }
     {
         Pattern {
@@ -105,55 +105,55 @@ impl<'a> Pattern<'a> {
 
 /// Where a star or a dollar stands first among the first eight bytes, or eight where none does.
 #[inline(always)]
-fn mark_in_eight(pattern: &[u8]) -> usize
+fn wildcard_in_eight(pattern: &[u8]) -> usize
     requires { 8 ≤ length pattern.now }
-    ensures { result ≡ position_or_len is_mark (take 8 pattern.now) }
+    ensures { result ≡ position_or_len is_wildcard (take 8 pattern.now) }
 {
     let bytes = u8x8::from_slice(pattern);
-    let marks = bytes.simd_eq(u8x8::splat(STAR)) | bytes.simd_eq(u8x8::splat(DOLLAR));
-    first_lane(marks.to_bitmask(), 8)
+    let labels = bytes.simd_eq(u8x8::splat(STAR)) | bytes.simd_eq(u8x8::splat(DOLLAR));
+    first_lane(labels.to_bitmask(), 8)
 }
 
 /// Where a star or a dollar stands first among the first sixteen bytes, or sixteen where none does.
 #[inline(always)]
-fn mark_in_sixteen(pattern: &[u8]) -> usize
+fn wildcard_in_sixteen(pattern: &[u8]) -> usize
     requires { 16 ≤ length pattern.now }
-    ensures { result ≡ position_or_len is_mark (take 16 pattern.now) }
+    ensures { result ≡ position_or_len is_wildcard (take 16 pattern.now) }
 {
     let bytes = u8x16::from_slice(pattern);
-    let marks = bytes.simd_eq(u8x16::splat(STAR)) | bytes.simd_eq(u8x16::splat(DOLLAR));
-    first_lane(marks.to_bitmask(), 16)
+    let labels = bytes.simd_eq(u8x16::splat(STAR)) | bytes.simd_eq(u8x16::splat(DOLLAR));
+    first_lane(labels.to_bitmask(), 16)
 }
 
 /// Where a star or a dollar stands first, or how many bytes there are where none does. Most patterns are short, and are
 /// compared in two parts of one length, which may overlap.
-fn first_mark(pattern: &[u8]) -> usize
-    ensures { result ≡ position_or_len is_mark pattern.now }
+fn first_wildcard(pattern: &[u8]) -> usize
+    ensures { result ≡ position_or_len is_wildcard pattern.now }
 {
     let len = pattern.len();
     if len < 8 || len > 32 {
         return memchr2(STAR, DOLLAR, pattern).unwrap_or(len);
     }
     if len < 16 {
-        let first = mark_in_eight(pattern);
+        let first = wildcard_in_eight(pattern);
         if first < 8 {
             return first;
         }
-        return len - 8 + mark_in_eight(&pattern[len - 8..]);
+        return len - 8 + wildcard_in_eight(&pattern[len - 8..]);
     }
-    let first = mark_in_sixteen(pattern);
+    let first = wildcard_in_sixteen(pattern);
     if first < 16 {
         return first;
     }
-    len - 16 + mark_in_sixteen(&pattern[len - 16..])
+    len - 16 + wildcard_in_sixteen(&pattern[len - 16..])
 }
 
 /// What stands before the first star or dollar, and the rest from there on.
 #[tactic(auto, using(crate::proofs::PieceLemmas::cut_at_first))]
-fn cut_at_mark(pattern: &[u8]) -> (&[u8], &[u8])
-    ensures { IsCutAtMark pattern.now result.0.now result.1.now }
+fn cut_at_wildcard(pattern: &[u8]) -> (&[u8], &[u8])
+    ensures { IsCutAtWildcard pattern.now result.0.now result.1.now }
 {
-    pattern.split_at(first_mark(pattern))
+    pattern.split_at(first_wildcard(pattern))
 }
 
 /// How many stars stand at the front, counted one by one.
@@ -177,8 +177,8 @@ fn stars_len(pattern: &[u8]) -> usize
 }
 
 /// Whether there are only stars and dollars.
-fn only_marks(pattern: &[u8]) -> bool
-    ensures { result ≡ list_all is_mark pattern.now }
+fn only_wildcards(pattern: &[u8]) -> bool
+    ensures { result ≡ list_all is_wildcard pattern.now }
 {
     pattern.iter().all(|b| *b == STAR || *b == DOLLAR)
 }
@@ -188,7 +188,7 @@ fn closes(pattern: &[u8]) -> bool
     ensures { IsTrue result ↔ Closes pattern.now }
 {
     match pattern.strip_prefix(b"$") {
-        Some(behind) => only_marks(behind),
+        Some(following) => only_wildcards(following),
         None => false,
     }
 }
@@ -220,46 +220,46 @@ pub(crate) fn is_overlong(pattern: &[u8]) -> bool
 }
 
 /// Adds the table of a piece: for each beginning of it, but the piece itself, the length of its longest proper border.
-fn push_borders(borders: &mut Vec<usize>, piece: &[u8]) -> Result<(), AllocError>
+fn push_borders(borders: &mut Vec<usize>, segment: &[u8]) -> Result<(), AllocError>
     ensures { IfOk result (λ _. (table : _) × (borders.new.items ≡ borders.old.items ++ table)
-        × IsTable piece.now table) }
+        × IsTable segment.now table) }
 {
-    if piece.len() < 2 {
+    if segment.len() < 2 {
         return Ok(());
     }
     let table = borders.len();
     borders.push(0)?;
-    let mut place = 1;
+    let mut position = 1;
     let mut matched = 0;
-    while place < piece.len() - 1 {
-        if piece[place] == piece[matched] {
+    while position < segment.len() - 1 {
+        if segment[position] == segment[matched] {
             matched += 1;
         } else if matched > 0 {
             matched = borders[table + matched - 1];
             continue;
         }
-        place += 1;
+        position += 1;
         borders.push(matched)?;
     }
     Ok(())
 }
 
 /// Cuts a pattern, and adds its searched pieces and their tables at the end.
-pub(crate) fn push_pieces(
+pub(crate) fn push_segments(
     pattern: &[u8],
-    pieces: &mut Vec<Piece>,
+    pieces: &mut Vec<Segment>,
     borders: &mut Vec<usize>,
 ) -> Result<Ends, AllocError>
-    ensures { IfOk result (λ ends. AddsPieces pattern.now ends pieces.old.items pieces.new.items
+    ensures { IfOk result (λ ends. AddsSegments pattern.now ends pieces.old.items pieces.new.items
         borders.old.items borders.new.items) }
 {
-    let (piece, mut left) = cut_at_mark(pattern);
-    let first_len = piece.len();
-    while let Some(behind) = left.strip_prefix(b"*") {
-        let (_, behind) = behind.split_at(stars_len(behind));
-        let (piece, rest) = cut_at_mark(behind);
+    let (segment, mut left) = cut_at_wildcard(pattern);
+    let first_len = segment.len();
+    while let Some(following) = left.strip_prefix(b"*") {
+        let (_, following) = following.split_at(stars_len(following));
+        let (segment, rest) = cut_at_wildcard(following);
         let span = Span {
-            start: pattern.len() - behind.len(),
+            start: pattern.len() - following.len(),
             end: pattern.len() - rest.len(),
         };
         if closes(rest) {
@@ -267,8 +267,8 @@ pub(crate) fn push_pieces(
             return Ok(Ends { first_len, ending });
         }
         let table = borders.len();
-        push_borders(borders, piece)?;
-        pieces.push(Piece { span, table })?;
+        push_borders(borders, segment)?;
+        pieces.push(Segment { span, table })?;
         left = rest;
     }
     let ending = if left.is_empty() {

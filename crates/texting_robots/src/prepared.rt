@@ -1,12 +1,12 @@
 //! The text that rules are matched with.
 ghost use Rattle.std.specs.Prelude.{◌≡◌, IfErr, IfOk, IsOk, string_bytes};
 ghost use Rattle.std.specs.Cow.{cow_str_bytes};
-ghost use Rattle.texting_robots.specs.Plain.{TakesNoMemory};
+ghost use Rattle.texting_robots.specs.AllocationFree.{IsAllocationFree};
 ghost use Rattle.texting_robots.specs.Prepared.{prepared, target_of};
 
-use crate::error::{Error, is_want_of_memory};
+use crate::error::{Error, is_memory_or_overflow};
 use crate::escape::escaped;
-use crate::whole::standing_target;
+use crate::normalized::borrowed_target;
 use std::alloc::{AllocError, Global};
 use std::borrow::CowStr;
 use url::{Position, Url};
@@ -16,7 +16,7 @@ use url::{Position, Url};
 pub(crate) fn prepare<'a>(alloc: Global, url: &'a str) -> Result<CowStr<'a, Global>, Error>
     ensures ok { IfOk result (λ text. cow_str_bytes text ≡ prepared url.now) }
     ensures memory { IfErr result (λ e. e ≡ Error.Memory) }
-    ensures without_memory { TakesNoMemory url.now → IsOk result }
+    ensures without_memory { IsAllocationFree url.now → IsOk result }
 {
     if url.is_empty() {
         return Ok(CowStr::Borrowed("/"));
@@ -24,12 +24,12 @@ pub(crate) fn prepare<'a>(alloc: Global, url: &'a str) -> Result<CowStr<'a, Glob
     if url.starts_with('/') {
         return Ok(escaped(alloc, url)?);
     }
-    if let Some(target) = standing_target(url) {
+    if let Some(target) = borrowed_target(url) {
         return Ok(CowStr::Borrowed(target));
     }
     match Url::parse(alloc, url) {
         Ok(parsed) => Ok(CowStr::Owned(into_target(parsed)?)),
-        Err(error) if is_want_of_memory(&error) => Err(Error::Memory),
+        Err(error) if is_memory_or_overflow(&error) => Err(Error::Memory),
         Err(_) => Ok(escaped(alloc, url)?),
     }
 }

@@ -2,18 +2,18 @@
 ghost use Rattle.std.specs.Prelude.{◌≡◌, ◌++◌, [], IfErr, IfOk, IsOk, None, OnOk, map, string_bytes};
 ghost use Rattle.std.specs.Option.{IfSome, IsSomeAnd, option_or, option_to_list};
 ghost use Rattle.std.specs.Str.{str_to_ascii_lowercase};
-ghost use Rattle.texting_robots.specs.Steps.Entries.{AreEntries, rules_in};
-ghost use Rattle.texting_robots.specs.Error.{IsMemoryOr};
+ghost use Rattle.texting_robots.specs.Internal.Entries.{AreEntries, rules_in};
+ghost use Rattle.texting_robots.specs.Error.{IsMemoryErrorOr};
 ghost use Rattle.texting_robots.specs.Pattern.{IsOverlong};
-ghost use Rattle.texting_robots.specs.Computed.{file_lines, placed_rules, rule_in, rule_with, sitemap_in, sitemaps_in};
+ghost use Rattle.texting_robots.specs.Executable.{file_lines, placed_rules, rule_in, rule_with, sitemap_in, sitemaps_in};
 ghost use Rattle.texting_robots.specs.Line.{delay_in};
-ghost use Rattle.texting_robots.specs.Steps.Group.{if_captured, placed, step, text_from};
-ghost use Rattle.texting_robots.specs.Steps.Robot.{IsComputedRobot, IsRefusalOf, refusal_at};
+ghost use Rattle.texting_robots.specs.Internal.Group.{if_captured, placed, step, text_from};
+ghost use Rattle.texting_robots.specs.Internal.Robot.{IsComputedRobot, IsRejectionOf, rejection_at};
 
 use crate::error::Error;
-use crate::groups::{Walk, group_for};
-use crate::parser::{Kind, Line, Unread, unread_file_lines};
-use crate::rules::{Gathered, Rules};
+use crate::groups::{GroupTracker, group_for};
+use crate::parser::{Kind, LazyLine, Line, lazy_file_lines};
+use crate::rules::{Rules, Unsorted};
 use std::alloc::{AllocError, Global};
 use std::marker::Model;
 
@@ -36,7 +36,7 @@ impl Model for Parts {
 
 /// Why a file gives no robot.
 #[derive(Drop)]
-pub(crate) enum Refusal {
+pub(crate) enum Rejection {
     /// The agent's rule in the line with this number is overlong, and none before it is.
     Overlong(usize),
     /// Memory was refused.
@@ -44,32 +44,32 @@ pub(crate) enum Refusal {
 }
 
 /// What an error at the line with this number comes to.
-fn refusal_at(number: usize, error: Error) -> Refusal
-    ensures { result ≡ refusal_at number error }
+fn rejection_at(number: usize, error: Error) -> Rejection
+    ensures { result ≡ rejection_at number error }
 {
     match error {
-        Error::InvalidRule => Refusal::Overlong(number),
-        Error::InvalidRobots | Error::Memory => Refusal::Memory,
+        Error::InvalidRule => Rejection::Overlong(number),
+        Error::InvalidRobots | Error::Memory => Rejection::Memory,
     }
 }
 
 /// What the lines gave so far.
 #[derive(Drop)]
-pub(crate) struct Reading {
+pub(crate) struct RobotBuilder {
     /// Where the walk along the lines stands.
-    pub(crate) walk: Walk,
+    pub(crate) tracker: GroupTracker,
     /// The first captured delay.
     pub(crate) delay: Option<u64>,
     /// The sitemaps, in the order of the file.
     pub(crate) sitemaps: Vec<String>,
     /// The captured rules.
-    pub(crate) rules: Gathered,
+    pub(crate) rules: Unsorted,
 }
 
 /// Adds the rule that a value gives, if it is UTF-8.
 #[tactic(auto, using(crate::proofs::RulesLemmas::no_text))]
 pub(crate) fn push_rule(
-    rules: &mut Gathered,
+    rules: &mut Unsorted,
     value: &[u8],
     is_allow: bool,
     line: usize,
@@ -79,7 +79,7 @@ pub(crate) fn push_rule(
     ensures added { OnOk result (rules_in rules.new
         ≡ rules_in rules.old ++ option_to_list (placed line (rule_with value.now is_allow))) }
     ensures accepted { OnOk result (IfSome (rule_with value.now is_allow) (λ rule. ¬ IsOverlong rule.0)) }
-    ensures refused { IfErr result (IsMemoryOr
+    ensures rejected { IfErr result (IsMemoryErrorOr
         (IsSomeAnd (rule_with value.now is_allow) (λ rule. IsOverlong rule.0))) }
     ensures unasked { rule_with value.now is_allow ≡ None → IsOk result }
 {
@@ -107,20 +107,20 @@ pub(crate) fn push_text(
     Ok(())
 }
 
-impl Reading {
+impl RobotBuilder {
     /// Nothing yet.
-    pub(crate) fn new(alloc: Global, start: Walk) -> Self
+    pub(crate) fn new(alloc: Global, start: GroupTracker) -> Self
         ensures known { AreEntries result.rules }
-        ensures walk { result.walk ≡ start }
+        ensures tracker { result.tracker ≡ start }
         ensures delay { result.delay ≡ None }
         ensures sitemaps { map string_bytes result.sitemaps.items ≡ [] }
         ensures rules { rules_in result.rules ≡ [] }
     {
-        Reading {
-            walk: start,
+        RobotBuilder {
+            tracker: start,
             delay: None,
             sitemaps: Vec::new(alloc),
-            rules: Gathered::new(alloc),
+            rules: Unsorted::new(alloc),
         }
     }
 
@@ -132,30 +132,30 @@ impl Reading {
         alloc: Global,
         name: &[u8],
         number: usize,
-        line: &Unread<'_>,
+        line: &LazyLine<'_>,
     ) -> Result<(), Error>
         requires { AreEntries self.old.rules }
         ensures known { OnOk result (AreEntries self.new.rules) }
-        ensures walk { OnOk result (self.new.walk ≡ step (str_to_ascii_lowercase name.now) self.old.walk line.now) }
+        ensures tracker { OnOk result (self.new.tracker ≡ step (str_to_ascii_lowercase name.now) self.old.tracker line.now) }
         ensures rules { OnOk result (rules_in self.new.rules ≡ rules_in self.old.rules
-            ++ option_to_list (if_captured self.old.walk (placed number (rule_in line.now)))) }
+            ++ option_to_list (if_captured self.old.tracker (placed number (rule_in line.now)))) }
         ensures sitemaps { OnOk result (map string_bytes self.new.sitemaps.items
             ≡ map string_bytes self.old.sitemaps.items ++ option_to_list (sitemap_in line.now)) }
-        ensures delay { OnOk result (self.new.delay ≡ option_or self.old.delay (if_captured self.old.walk (delay_in line.now))) }
-        ensures accepted { OnOk result (IfSome (if_captured self.old.walk (placed number (rule_in line.now)))
+        ensures delay { OnOk result (self.new.delay ≡ option_or self.old.delay (if_captured self.old.tracker (delay_in line.now))) }
+        ensures accepted { OnOk result (IfSome (if_captured self.old.tracker (placed number (rule_in line.now)))
             (λ placed. ¬ IsOverlong placed.rule.0)) }
-        ensures refused { IfErr result (IsMemoryOr
-            (IsSomeAnd (if_captured self.old.walk (placed number (rule_in line.now))) (λ placed. IsOverlong placed.rule.0))) }
-        ensures unasked { if_captured self.old.walk (placed number (rule_in line.now)) ≡ None
+        ensures rejected { IfErr result (IsMemoryErrorOr
+            (IsSomeAnd (if_captured self.old.tracker (placed number (rule_in line.now))) (λ placed. IsOverlong placed.rule.0))) }
+        ensures unasked { if_captured self.old.tracker (placed number (rule_in line.now)) ≡ None
             → sitemap_in line.now ≡ None → IsOk result }
     {
-        let of_group = self.walk.captured || self.walk.named;
+        let of_group = self.tracker.captured || self.tracker.named;
         if !of_group && !matches!(line.kind(), Some(Kind::UserAgent | Kind::Sitemap)) {
             return Ok(());
         }
         let line = line.read();
-        let captured = self.walk.captured;
-        self.walk.step(name, line);
+        let captured = self.tracker.captured;
+        self.tracker.step(name, line);
         match line {
             Line::Sitemap(value) => Ok(push_text(alloc, &mut self.sitemaps, value)?),
             _ if !captured => Ok(()),
@@ -171,18 +171,18 @@ impl Reading {
 }
 
 /// Reads a whole file, in two passes: for the agent's group, and for what the group's lines give.
-pub(crate) fn read_file(alloc: Global, agent: &str, txt: &[u8]) -> Result<Parts, Refusal>
+pub(crate) fn read_file(alloc: Global, agent: &str, txt: &[u8]) -> Result<Parts, Rejection>
     ensures robot { IfOk result (IsComputedRobot agent.now (file_lines txt.now)) }
-    ensures refused { IfErr result (IsRefusalOf (placed_rules agent.now (file_lines txt.now))) }
+    ensures rejected { IfErr result (IsRejectionOf (placed_rules agent.now (file_lines txt.now))) }
     ensures without_memory { placed_rules agent.now (file_lines txt.now) ≡ []
         → sitemaps_in (file_lines txt.now) ≡ [] → IsOk result }
 {
-    let group = group_for(agent.as_bytes(), unread_file_lines(txt));
-    let mut reading = Reading::new(alloc, group.start);
-    for (place, line) in unread_file_lines(txt).enumerate() {
-        let number = place + 1;
+    let group = group_for(agent.as_bytes(), lazy_file_lines(txt));
+    let mut reading = RobotBuilder::new(alloc, group.start);
+    for (position, line) in lazy_file_lines(txt).enumerate() {
+        let number = position + 1;
         if let Err(error) = reading.take(alloc, group.name, number, &line) {
-            return Err(refusal_at(number, error));
+            return Err(rejection_at(number, error));
         }
     }
     Ok(Parts {

@@ -1,18 +1,18 @@
 //! What one crawler gets of a robots.txt file.
 ghost use Rattle.std.specs.Prelude.{◌≡◌, IfErr, IfOk, IsOk, string_bytes, take};
 ghost use Rattle.texting_robots.specs.Decision.{IsDecidingLine, LooksForRules};
-ghost use Rattle.texting_robots.specs.Error.{IsMemoryOr};
+ghost use Rattle.texting_robots.specs.Error.{IsMemoryErrorOr};
 ghost use Rattle.texting_robots.specs.Line.{HasLines};
-ghost use Rattle.texting_robots.specs.Plain.{TakesNoMemory};
+ghost use Rattle.texting_robots.specs.AllocationFree.{IsAllocationFree};
 ghost use Rattle.texting_robots.specs.Prepared.{prepared, target_of};
-ghost use Rattle.texting_robots.specs.Robot.{IsFileRefused, IsRobotOfFile, file_limit};
-ghost use Rattle.texting_robots.specs.Rules.{GivesNothing, unplaced};
+ghost use Rattle.texting_robots.specs.Robot.{IsFileRejected, IsRobotOfFile, file_limit};
+ghost use Rattle.texting_robots.specs.Rules.{HasNoRulesOrSitemaps, unplaced};
 ghost use Rattle.texting_robots.specs.Verdict.{IsVerdict};
 
 pub use crate::decision::Decision;
 use crate::error::Error;
 use crate::prepared::{prepare, target};
-use crate::reading::{Refusal, read_file};
+use crate::reading::{Rejection, read_file};
 use crate::rules::Rules;
 use crate::view::View;
 use std::alloc::Global;
@@ -56,8 +56,8 @@ impl Robot {
     /// `Error::Memory` where memory is refused.
     pub fn new(alloc: Global, agent: &str, txt: &[u8]) -> Result<Self, Error>
         ensures robot { IfOk result (IsRobotOfFile agent.now (take file_limit txt.now)) }
-        ensures refused { IfErr result (IsMemoryOr (IsFileRefused agent.now (take file_limit txt.now))) }
-        ensures without_memory { HasLines (take file_limit txt.now) (GivesNothing agent.now) → IsOk result }
+        ensures rejected { IfErr result (IsMemoryErrorOr (IsFileRejected agent.now (take file_limit txt.now))) }
+        ensures without_memory { HasLines (take file_limit txt.now) (HasNoRulesOrSitemaps agent.now) → IsOk result }
     {
         Robot::with_limit(alloc, agent, txt, FILE_LIMIT)
     }
@@ -72,8 +72,8 @@ impl Robot {
     /// As [`Robot::new`].
     pub fn with_limit(alloc: Global, agent: &str, txt: &[u8], limit: usize) -> Result<Self, Error>
         ensures robot { IfOk result (IsRobotOfFile agent.now (take limit txt.now)) }
-        ensures refused { IfErr result (IsMemoryOr (IsFileRefused agent.now (take limit txt.now))) }
-        ensures without_memory { HasLines (take limit txt.now) (GivesNothing agent.now) → IsOk result }
+        ensures rejected { IfErr result (IsMemoryErrorOr (IsFileRejected agent.now (take limit txt.now))) }
+        ensures without_memory { HasLines (take limit txt.now) (HasNoRulesOrSitemaps agent.now) → IsOk result }
     {
         match read_file(alloc, agent, &txt[..limit.min(txt.len())]) {
             Ok(parts) => Ok(Robot {
@@ -81,8 +81,8 @@ impl Robot {
                 sitemaps: parts.sitemaps,
                 rules: parts.rules,
             }),
-            Err(Refusal::Overlong(_)) => Err(Error::InvalidRule),
-            Err(Refusal::Memory) => Err(Error::Memory),
+            Err(Rejection::Overlong(_)) => Err(Error::InvalidRule),
+            Err(Rejection::Memory) => Err(Error::Memory),
         }
     }
 
@@ -112,7 +112,7 @@ impl Robot {
     pub fn allowed(&self, alloc: Global, url: &str) -> Result<bool, Error>
         ensures ok { IfOk result (λ answer. IsVerdict (unplaced self.now.rules) (prepared url.now) answer) }
         ensures memory { IfErr result (λ e. e ≡ Error.Memory) }
-        ensures without_memory { TakesNoMemory url.now → IsOk result }
+        ensures without_memory { IsAllocationFree url.now → IsOk result }
     {
         let text = prepare(alloc, url)?;
         Ok(self.allowed_prepared(text.as_str()))
@@ -143,7 +143,7 @@ impl Robot {
         ensures verdict { IfOk result (λ decision. IsVerdict (unplaced self.now.rules) (prepared url.now) decision.allowed) }
         ensures line { IfOk result (λ decision. IsDecidingLine self.now.rules (prepared url.now) decision.line) }
         ensures memory { IfErr result (λ e. e ≡ Error.Memory) }
-        ensures without_memory { TakesNoMemory url.now → IsOk result }
+        ensures without_memory { IsAllocationFree url.now → IsOk result }
     {
         let text = prepare(alloc, url)?;
         Ok(self.decision_prepared(text.as_str()))

@@ -4,17 +4,17 @@ ghost use Rattle.std.specs.List.{filter_map};
 ghost use Rattle.std.specs.Option.{option_to_list};
 ghost use Rattle.std.specs.Str.{str_to_ascii_lowercase};
 ghost use Rattle.texting_robots.specs.Agents.{agents_in};
-ghost use Rattle.texting_robots.specs.Computed.{captured_delays, file_lines, placed_rules, sitemap_in, sitemaps_in};
-ghost use Rattle.texting_robots.specs.Error.{IsMemoryOr};
+ghost use Rattle.texting_robots.specs.Executable.{captured_delays, file_lines, placed_rules, sitemap_in, sitemaps_in};
+ghost use Rattle.texting_robots.specs.Error.{IsMemoryErrorOr};
 ghost use Rattle.texting_robots.specs.Group.{group_name};
 ghost use Rattle.texting_robots.specs.Line.{HasLines, by_value};
-ghost use Rattle.texting_robots.specs.Marks.{is_named};
+ghost use Rattle.texting_robots.specs.Labels.{is_named};
 ghost use Rattle.texting_robots.specs.Pattern.{IsOverlong};
-ghost use Rattle.texting_robots.specs.Robot.{IsFileRefused, IsRobotOfFile, file_limit};
-ghost use Rattle.texting_robots.specs.Rules.{AreSitemapsOf, GivesNothing, IsDelayFor};
-ghost use Rattle.texting_robots.specs.Steps.Entries.{AreEntries, rules_in};
-ghost use Rattle.texting_robots.specs.Steps.Group.{text_from};
-ghost use Rattle.texting_robots.specs.Steps.Site.{delay_of, rule_of};
+ghost use Rattle.texting_robots.specs.Robot.{IsFileRejected, IsRobotOfFile, file_limit};
+ghost use Rattle.texting_robots.specs.Rules.{AreSitemapsOf, HasNoRulesOrSitemaps, IsDelayFor};
+ghost use Rattle.texting_robots.specs.Internal.Entries.{AreEntries, rules_in};
+ghost use Rattle.texting_robots.specs.Internal.Group.{text_from};
+ghost use Rattle.texting_robots.specs.Internal.Site.{delay_of, rule_of};
 
 mod lines;
 mod names;
@@ -47,7 +47,7 @@ pub struct Site {
 
 impl Model for Site {
     ghost use Rattle.std.specs.Prelude.{ℕ, List};
-    ghost use Rattle.texting_robots.specs.Steps.Site.{IsIndexOf};
+    ghost use Rattle.texting_robots.specs.Internal.Site.{IsIndexOf};
 
     ghost Value = { List ℕ };
 
@@ -150,8 +150,8 @@ impl Site {
         ensures { IfOk result (λ agents. map (λ agent. agent.now) agents.items ≡ agents_in (file_lines self.now)) }
     {
         let mut agents = Vec::new(alloc);
-        for (place, line) in self.names.lines().iter().enumerate() {
-            if self.names.first(&line.name) != place {
+        for (position, line) in self.names.lines().iter().enumerate() {
+            if self.names.first(&line.name) != position {
                 continue;
             }
             push_name(&mut agents, &line.name)?;
@@ -173,7 +173,7 @@ impl Site {
         ensures rules { IfOk result (λ own. rules_in own.rules ≡ placed_rules agent.now (file_lines self.now)) }
         ensures delay { IfOk result (λ own. own.delay ≡ slice_get (captured_delays agent.now (file_lines self.now)) 0) }
         ensures accepted { IfOk result (λ own. All (λ placed. ¬ IsOverlong placed.rule.0) (rules_in own.rules)) }
-        ensures refused { IfErr result (IsMemoryOr (Any (λ placed. IsOverlong placed.rule.0)
+        ensures rejected { IfErr result (IsMemoryErrorOr (Any (λ placed. IsOverlong placed.rule.0)
             (placed_rules agent.now (file_lines self.now)))) }
         ensures unasked { placed_rules agent.now (file_lines self.now) ≡ [] → IsOk result }
     {
@@ -194,8 +194,8 @@ impl Site {
     /// As [`Robot::new`].
     pub fn robot(&self, alloc: Global, agent: &str) -> Result<Robot, Error>
         ensures robot { IfOk result (IsRobotOfFile agent.now self.now) }
-        ensures refused { IfErr result (IsMemoryOr (IsFileRefused agent.now self.now)) }
-        ensures without_memory { HasLines self.now (GivesNothing agent.now) → IsOk result }
+        ensures rejected { IfErr result (IsMemoryErrorOr (IsFileRejected agent.now self.now)) }
+        ensures without_memory { HasLines self.now (HasNoRulesOrSitemaps agent.now) → IsOk result }
     {
         let own = match self.own_rules(alloc, agent) {
             Ok(own) => own,

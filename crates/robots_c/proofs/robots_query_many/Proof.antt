@@ -46,7 +46,7 @@ abbrev Written : RobotValue → List ℕ → ℤ → List ℤ → List ℤ → T
 Written robot urls status old new = status ≡ pos 0 → ArePutIn robot.rules urls old new
 
 abbrev Why : List ℕ → ℕ → ℤ → Type 0
-Why urls room status = HasFault (IsWhyNoResults urls room) status
+Why urls capacity status = HasFault (IsWhyNoResults urls capacity) status
 
 pub robots_query_many_spec : {M : Type 1} → statement M
 robots_query_many_spec 𝓤 𝓛 𝓜 𝓡 wired =

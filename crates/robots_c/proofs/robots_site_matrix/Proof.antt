@@ -45,7 +45,7 @@ abbrev Written : List ℕ → List ℕ → List ℕ → ℤ → List ℤ → Lis
 Written site agents urls status old new = status ≡ pos 0 → IsMatrixPutIn site agents urls old new
 
 abbrev Why : List ℕ → List ℕ → ℕ → ℤ → Type 0
-Why agents urls room status = HasFault (IsWhyNoMatrix agents urls room) status
+Why agents urls capacity status = HasFault (IsWhyNoMatrix agents urls capacity) status
 
 pub robots_site_matrix_spec : {M : Type 1} → statement M
 robots_site_matrix_spec 𝓤 𝓛 𝓜 𝓡 wired =

@@ -1,7 +1,7 @@
 //! Where a line ends.
 ghost use Rattle.std.specs.Prelude.{◌≡◌, ◌<◌, ◌≤◌, ◌==◌, MatchOption, drop, if◌then◌else◌, length, take};
 ghost use Rattle.texting_robots.specs.Cut.{cr, lf};
-ghost use Rattle.texting_robots.specs.Steps.Cut.{body_len, end_len, read_as, read_byte};
+ghost use Rattle.texting_robots.specs.Internal.Cut.{body_len, end_len, read_as, read_byte};
 
 use crate::lanes::{LANES, all_are, first_lane};
 use memchr::{memchr2, memchr3};

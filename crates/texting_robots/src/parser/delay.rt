@@ -6,7 +6,7 @@ ghost use Rattle.std.specs.Option.{option_copied};
 ghost use Rattle.std.specs.Str.{byte};
 ghost use Rattle.std.specs.Str.Parse.{digits_value_after, starts_with_minus, without_leading_sign};
 ghost use Rattle.texting_robots.specs.Delay.{IsDelay};
-ghost use Rattle.texting_robots.specs.Steps.Delay as steps;
+ghost use Rattle.texting_robots.specs.Internal.Delay as steps;
 
 use std::marker::Model;
 
@@ -19,7 +19,7 @@ struct Number<'a> {
 }
 
 impl<'a> Model for Number<'a> {
-    ghost use Rattle.texting_robots.specs.Steps.Delay.{HasDigits};
+    ghost use Rattle.texting_robots.specs.Internal.Delay.{HasDigits};
     ghost use Rattle.texting_robots.specs.Delay.{Decimal};
 
     ghost Value = { Decimal };
@@ -58,7 +58,7 @@ fn digits_len(text: &[u8]) -> usize
 /// The digits in front, and what follows them.
 fn split_digits(text: &[u8]) -> (&[u8], &[u8])
     ensures digits { result.0.now ≡ steps.digits_in_front text.now }
-    ensures rest { result.1.now ≡ steps.behind_digits text.now }
+    ensures rest { result.1.now ≡ steps.after_digits text.now }
 {
     text.split_at(digits_len(text))
 }
@@ -66,7 +66,7 @@ fn split_digits(text: &[u8]) -> (&[u8], &[u8])
 /// The digits behind a point in front, and what follows them.
 fn split_fraction(text: &[u8]) -> (&[u8], &[u8])
     ensures digits { result.0.now ≡ steps.fraction_in_front text.now }
-    ensures rest { result.1.now ≡ steps.behind_fraction text.now }
+    ensures rest { result.1.now ≡ steps.after_fraction text.now }
 {
     match text {
         [b'.', rest @ ..] => split_digits(rest),

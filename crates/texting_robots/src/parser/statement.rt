@@ -2,9 +2,9 @@
 ghost use Rattle.std.specs.Prelude.{◌≡◌, ◌↔◌, ◌==◌, IfSome, IsTrue, MatchOption, Some, None, map, true, false, drop, length};
 ghost use Rattle.std.specs.List.{list_any};
 ghost use Rattle.std.specs.Str.{str_to_ascii_lowercase};
-ghost use Rattle.texting_robots.specs.Statement.{spellings};
-ghost use Rattle.texting_robots.specs.Steps.Statement.{hash};
-ghost use Rattle.texting_robots.specs.Steps.Statement.{skip_blanks, kind_by, begins, after_any, tail_of, tail_as, region_of, trimmed, value_of};
+ghost use Rattle.texting_robots.specs.Statement.{field_names};
+ghost use Rattle.texting_robots.specs.Internal.Statement.{hash};
+ghost use Rattle.texting_robots.specs.Internal.Statement.{skip_blanks, kind_by, begins, after_any, tail_of, tail_as, region_of, trimmed, value_of};
 
 use bstr::ByteSlice;
 use memchr::memchr;
@@ -26,8 +26,8 @@ pub enum Kind {
 
 /// How a key of this kind is spelled, ASCII letters in any case. The first is the usual one, as it is mostly written. It allocates
 /// nothing.
-pub fn spellings(kind: Kind) -> &'static [&'static str]
-    ensures { map (λ spelling. str_to_ascii_lowercase spelling.now) result.now ≡ spellings kind }
+pub fn field_names(kind: Kind) -> &'static [&'static str]
+    ensures { map (λ name. str_to_ascii_lowercase name.now) result.now ≡ field_names kind }
 {
     match kind {
         Kind::UserAgent => &["User-agent", "user agent", "useragent"],
@@ -72,20 +72,20 @@ pub(crate) fn kind_by(text: &[u8]) -> Option<Kind>
 }
 
 /// Whether the key is the spelling, ASCII letters in any case. One that is written alike is told sooner.
-fn is_spelled(key: &[u8], spelling: &[u8]) -> bool
-    ensures { IsTrue result ↔ (str_to_ascii_lowercase key.now ≡ str_to_ascii_lowercase spelling.now) }
+fn is_written(key: &[u8], name: &[u8]) -> bool
+    ensures { IsTrue result ↔ (str_to_ascii_lowercase key.now ≡ str_to_ascii_lowercase name.now) }
 {
-    key == spelling || key.eq_ignore_ascii_case(spelling)
+    key == name || key.eq_ignore_ascii_case(name)
 }
 
 /// What follows the spelling, if the text begins with it, ASCII letters in any case.
-fn after_spelling<'a>(spelling: &str, text: &'a [u8]) -> Option<&'a [u8]>
-    ensures { let small = str_to_ascii_lowercase spelling.now in MatchOption result
+fn after_name<'a>(name: &str, text: &'a [u8]) -> Option<&'a [u8]>
+    ensures { let small = str_to_ascii_lowercase name.now in MatchOption result
         (begins small text.now ≡ false)
         (λ rest. (begins small text.now ≡ true) × (rest.now ≡ drop (length small) text.now)) }
 {
-    let (key, rest) = text.split_at_checked(spelling.len())?;
-    if is_spelled(key, spelling.as_bytes()) {
+    let (key, rest) = text.split_at_checked(name.len())?;
+    if is_written(key, name.as_bytes()) {
         Some(rest)
     } else {
         None
@@ -93,13 +93,13 @@ fn after_spelling<'a>(spelling: &str, text: &'a [u8]) -> Option<&'a [u8]>
 }
 
 /// What follows the first of the spellings that the text begins with.
-fn after_any<'a>(spellings: &[&str], text: &'a [u8]) -> Option<&'a [u8]>
-    ensures { let small = map (λ spelling. str_to_ascii_lowercase spelling.now) spellings.now
+fn after_any<'a>(field_names: &[&str], text: &'a [u8]) -> Option<&'a [u8]>
+    ensures { let small = map (λ name. str_to_ascii_lowercase name.now) field_names.now
         in MatchOption result (after_any small text.now ≡ None)
         (λ rest. after_any small text.now ≡ Some rest.now) }
 {
-    for spelling in spellings {
-        if let Some(rest) = after_spelling(spelling, text) {
+    for name in field_names {
+        if let Some(rest) = after_name(name, text) {
             return Some(rest);
         }
     }
@@ -122,7 +122,7 @@ fn tail_of<'a>(rest: &'a [u8]) -> Option<&'a [u8]>
 /// What follows the key, if it has the usual spelling and the usual case. Other keys are left to [`after_any`].
 #[inline(always)]
 fn after_usual<'a>(kind: Kind, text: &'a [u8]) -> Option<&'a [u8]>
-    ensures { IfSome result (λ rest. after_any (spellings kind) text.now ≡ Some rest.now) }
+    ensures { IfSome result (λ rest. after_any (field_names kind) text.now ≡ Some rest.now) }
 {
     match kind {
         Kind::UserAgent => text.strip_prefix(b"User-agent"),
@@ -135,10 +135,10 @@ fn after_usual<'a>(kind: Kind, text: &'a [u8]) -> Option<&'a [u8]>
 
 /// What follows the separator, if the text begins with a key of this kind, in any of its spellings.
 #[inline(never)]
-fn tail_by_spellings<'a>(kind: Kind, text: &'a [u8]) -> Option<&'a [u8]>
+fn tail_by_field_names<'a>(kind: Kind, text: &'a [u8]) -> Option<&'a [u8]>
     ensures { MatchOption result (tail_as kind text.now ≡ None) (λ tail. tail_as kind text.now ≡ Some tail.now) }
 {
-    tail_of(after_any(spellings(kind), text)?)
+    tail_of(after_any(field_names(kind), text)?)
 }
 
 /// What follows the separator, if the text begins with a key of this kind.
@@ -148,7 +148,7 @@ pub(crate) fn tail_as<'a>(kind: Kind, text: &'a [u8]) -> Option<&'a [u8]>
 {
     match after_usual(kind, text) {
         Some(rest) => tail_of(rest),
-        None => tail_by_spellings(kind, text),
+        None => tail_by_field_names(kind, text),
     }
 }
 

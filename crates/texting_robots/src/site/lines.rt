@@ -2,13 +2,13 @@
 ghost use Rattle.std.specs.Prelude.{◌≡◌, ◌++◌, ◌||◌, IfOk, None, OnOk, [], false, if◌then◌else◌, length, map, true};
 ghost use Rattle.std.specs.List.{filter_map};
 ghost use Rattle.std.specs.Option.{option_to_list};
-ghost use Rattle.texting_robots.specs.Computed.{delay_before_agents, file_lines, sitemap_in, sitemaps_in};
+ghost use Rattle.texting_robots.specs.Executable.{delay_before_agents, file_lines, sitemap_in, sitemaps_in};
 ghost use Rattle.texting_robots.specs.Group.{is_agent};
 ghost use Rattle.texting_robots.specs.Line.{UserAgent, by_value};
-ghost use Rattle.texting_robots.specs.Steps.Site.{bytes_at, count_after, early_after, joins_after, line_at, listed, named};
-ghost use Rattle.texting_robots.specs.Steps.Site.{named_in, named_of, run_after, tag_at, tag_in, tag_of, tagged};
+ghost use Rattle.texting_robots.specs.Internal.Site.{bytes_at, count_after, early_after, joins_after, line_at, listed, named};
+ghost use Rattle.texting_robots.specs.Internal.Site.{named_in, named_of, run_after, tag_at, tag_in, tag_of, tagged};
 
-use crate::parser::{Line, Unread, split_line, without_front};
+use crate::parser::{LazyLine, Line, split_line, without_front};
 use std::alloc::{AllocError, Global};
 
 /// Where a line, without its end, is in the bytes of a file.
@@ -31,7 +31,7 @@ impl Span {
     pub(crate) fn line_in<'t>(self, text: &'t [u8]) -> Line<'t>
         ensures { by_value result ≡ line_at text.now self }
     {
-        Unread::new(self.bytes_in(text)).read()
+        LazyLine::new(self.bytes_in(text)).read()
     }
 }
 

@@ -2,8 +2,8 @@
 ghost use Rattle.std.specs.Prelude.{◌≡◌, ◌+◌, ◌<◌, ◌==◌, ◌%◌, IfOk, drop, length, map, replicate};
 ghost use Rattle.std.specs.List.{position_or_len};
 ghost use Rattle.std.specs.Str.{str_to_ascii_lowercase};
-ghost use Rattle.texting_robots.specs.Steps.Names.{AreLinked, first_named, hash_from, bucket_of, is_in};
-ghost use Rattle.texting_robots.specs.Steps.Site.{named_of};
+ghost use Rattle.texting_robots.specs.Internal.Names.{AreLinked, first_named, hash_from, bucket_of, is_in};
+ghost use Rattle.texting_robots.specs.Internal.Site.{named_of};
 
 use crate::site::lines::AgentLine;
 use std::alloc::{AllocError, Global};
@@ -24,8 +24,8 @@ pub(crate) struct Names {
 
 impl Model for Names {
     ghost use Rattle.std.specs.Prelude.{List, map};
-    ghost use Rattle.texting_robots.specs.Steps.Names.{AreLinked};
-    ghost use Rattle.texting_robots.specs.Steps.Site.{Named, named_of};
+    ghost use Rattle.texting_robots.specs.Internal.Names.{AreLinked};
+    ghost use Rattle.texting_robots.specs.Internal.Site.{Named, named_of};
 
     ghost Value = { List Named };
 
@@ -60,12 +60,12 @@ fn link(lines: &[AgentLine], heads: &mut [usize], nexts: &mut [usize])
     requires nexts { length nexts.old ≡ length lines.now }
     ensures { AreLinked 0 (map named_of lines.now) heads.new nexts.new }
 {
-    let mut place = lines.len();
-    while place > 0 {
-        place -= 1;
-        let bucket = bucket_of(&lines[place].name, heads.len());
-        nexts[place] = heads[bucket];
-        heads[bucket] = place;
+    let mut position = lines.len();
+    while position > 0 {
+        position -= 1;
+        let bucket = bucket_of(&lines[position].name, heads.len());
+        nexts[position] = heads[bucket];
+        heads[bucket] = position;
     }
 }
 
@@ -99,14 +99,14 @@ impl Names {
             (drop start self.now) ≡ 0 }
         ensures { result ≡ start + first_named (str_to_ascii_lowercase name.now) (drop start self.now) }
     {
-        let mut place = start;
-        while place < self.lines.len() {
-            if self.lines[place].name.eq_ignore_ascii_case(name) {
-                return place;
+        let mut position = start;
+        while position < self.lines.len() {
+            if self.lines[position].name.eq_ignore_ascii_case(name) {
+                return position;
             }
-            place = self.nexts[place];
+            position = self.nexts[position];
         }
-        place
+        position
     }
 
     /// The place of the first line with the name, ASCII letters in any case, or the number of lines.
@@ -121,11 +121,11 @@ impl Names {
     }
 
     /// The place of the next line with the name of the line at a place, or the number of lines.
-    pub(crate) fn after(&self, place: usize, name: &[u8]) -> usize
-        requires within { place < length self.now }
-        requires here { first_named (str_to_ascii_lowercase name.now) (drop place self.now) ≡ 0 }
-        ensures { result ≡ place + 1 + first_named (str_to_ascii_lowercase name.now) (drop (place + 1) self.now) }
+    pub(crate) fn after(&self, position: usize, name: &[u8]) -> usize
+        requires within { position < length self.now }
+        requires here { first_named (str_to_ascii_lowercase name.now) (drop position self.now) ≡ 0 }
+        ensures { result ≡ position + 1 + first_named (str_to_ascii_lowercase name.now) (drop (position + 1) self.now) }
     {
-        self.find_from(self.nexts[place], name)
+        self.find_from(self.nexts[position], name)
     }
 }

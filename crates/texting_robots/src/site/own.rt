@@ -3,16 +3,16 @@ ghost use Rattle.std.specs.Prelude.{◌≡◌, ◌+◌, ◌<◌, ◌≤◌, ◌+
 ghost use Rattle.std.specs.Iterator.{YieldsFirstBy, item_count};
 ghost use Rattle.std.specs.Option.{IfSome, IsSomeAnd, option_or, option_to_list};
 ghost use Rattle.std.specs.Str.{str_to_ascii_lowercase};
-ghost use Rattle.texting_robots.specs.Error.{IsMemoryOr};
+ghost use Rattle.texting_robots.specs.Error.{IsMemoryErrorOr};
 ghost use Rattle.texting_robots.specs.Pattern.{IsOverlong};
-ghost use Rattle.texting_robots.specs.Steps.Entries.{AreEntries, rules_in};
-ghost use Rattle.texting_robots.specs.Steps.Own.{AreOfFile, IsWalk, IsWholeWalk, own_at};
-ghost use Rattle.texting_robots.specs.Steps.Site.{delay_of, in_front, rule_of, tag_at, tag_of};
+ghost use Rattle.texting_robots.specs.Internal.Entries.{AreEntries, rules_in};
+ghost use Rattle.texting_robots.specs.Internal.Own.{AreOfFile, IsWalk, IsWholeWalk, own_at};
+ghost use Rattle.texting_robots.specs.Internal.Site.{delay_of, in_front, rule_of, tag_at, tag_of};
 
 use crate::error::Error;
 use crate::parser::Line;
 use crate::reading::push_rule;
-use crate::rules::Gathered;
+use crate::rules::Unsorted;
 use crate::site::lines::{GroupLine, KeptLine};
 use crate::site::names::Names;
 use std::alloc::Global;
@@ -22,7 +22,7 @@ use std::marker::Model;
 #[derive(Clone, Copy)]
 pub(crate) struct Position {
     /// The place of the next user-agent line with the crawler's name, or the number of user-agent lines.
-    pub(crate) place: usize,
+    pub(crate) name_index: usize,
     /// The run whose group lines come next.
     pub(crate) run: usize,
     /// The index of the next of them, if one is left.
@@ -45,8 +45,8 @@ pub(crate) struct OwnLines<'s, 'n> {
 impl<'s, 'n> Model for OwnLines<'s, 'n> {
     ghost use Rattle.std.specs.Prelude.{List, map};
     ghost use Rattle.std.specs.Str.{str_to_ascii_lowercase};
-    ghost use Rattle.texting_robots.specs.Steps.Own.{IsWalk, own_at};
-    ghost use Rattle.texting_robots.specs.Steps.Site.{Tagged, tag_at};
+    ghost use Rattle.texting_robots.specs.Internal.Own.{IsWalk, own_at};
+    ghost use Rattle.texting_robots.specs.Internal.Site.{Tagged, tag_at};
 
     ghost Value = { List Tagged };
 
@@ -88,16 +88,23 @@ fn next_line<'t>(
         × (own_at (str_to_ascii_lowercase name.now) start names.now (map (tag_at text.now) lines.now)
         ≡ tag_of next.0 ∷ own_at (str_to_ascii_lowercase name.now) next.1 names.now (map (tag_at text.now) lines.now))) }
 {
-    let mut place = start.place;
+    let mut name_index = start.name_index;
     let mut run = start.run;
     let mut at = start.at;
     loop {
         if let Some(line) = line_of_run(text, lines, at, run) {
             let at = at + 1;
-            return Some((line, Position { place, run, at }));
+            return Some((
+                line,
+                Position {
+                    name_index,
+                    run,
+                    at,
+                },
+            ));
         }
-        let named = names.lines().get(place)?;
-        place = names.after(place, name);
+        let named = names.lines().get(name_index)?;
+        name_index = names.after(name_index, name);
         if named.run > run {
             run = named.run;
             at = named.start;
@@ -130,7 +137,7 @@ impl<'s, 'n> OwnLines<'s, 'n> {
         ensures { IsWholeWalk (str_to_ascii_lowercase name.now) names.now (map (tag_at text.now) lines.now) result }
     {
         let position = Position {
-            place: names.first(name),
+            name_index: names.first(name),
             run: 0,
             at: first_line(lines, names),
         };
@@ -169,7 +176,7 @@ impl<'s, 'n> Iterator for OwnLines<'s, 'n> {
 pub(crate) struct OwnRules {
     /// The first delay.
     pub(super) delay: Option<u64>,
-    pub(super) rules: Gathered,
+    pub(super) rules: Unsorted,
 }
 
 impl OwnRules {
@@ -180,7 +187,7 @@ impl OwnRules {
     {
         OwnRules {
             delay: None,
-            rules: Gathered::new(alloc),
+            rules: Unsorted::new(alloc),
         }
     }
 
@@ -192,7 +199,7 @@ impl OwnRules {
             ++ option_to_list (rule_of (tag_of line.now))) }
         ensures delay { OnOk result (self.new.delay ≡ option_or self.old.delay (delay_of (tag_of line.now))) }
         ensures accepted { OnOk result (IfSome (rule_of (tag_of line.now)) (λ placed. ¬ IsOverlong placed.rule.0)) }
-        ensures refused { IfErr result (IsMemoryOr
+        ensures rejected { IfErr result (IsMemoryErrorOr
             (IsSomeAnd (rule_of (tag_of line.now)) (λ placed. IsOverlong placed.rule.0))) }
         ensures unasked { rule_of (tag_of line.now) ≡ None → IsOk result }
     {

@@ -3,7 +3,7 @@ use Rattle.std.specs.List.{list_any}
 use Rattle.texting_robots.specs.Callers.{LineValue, RobotValue, file_lines}
 use Rattle.texting_robots.specs.Group.{is_agent}
 use Rattle.robots_audit.specs.Audit.{group_of}
-use Rattle.robots_audit.specs.Steps.{agent_value}
+use Rattle.robots_audit.specs.Internal.{agent_value}
 use Rattle.robots_audit.proofs.AuditLemmas.{agent_made}
 use Rattle.robots_audit.proofs.audit.agent_audit.Goals as goal
 

@@ -1,7 +1,7 @@
 use Rattle.std.proofs.Common.{map, rules, string_bytes}
 use Rattle.texting_robots.specs.Callers.{lines_read}
 use Rattle.robots_audit.specs.Audit.{IsAgentAudit}
-use Rattle.robots_audit.specs.Steps.{agent_value}
+use Rattle.robots_audit.specs.Internal.{agent_value}
 use Rattle.robots_audit.proofs.AuditLemmas.{among_mapped, passed_on, zip_next}
 use Rattle.robots_audit.proofs.audit.agent_audits.Goals as goal
 

@@ -2,7 +2,7 @@ use Rattle.std.proofs.Common.{map, string_bytes, take}
 use Rattle.std.specs.List.{AllZip}
 use Rattle.texting_robots.specs.Callers.{lines_read}
 use Rattle.robots_audit.specs.Audit.{IsAgentAudit}
-use Rattle.robots_audit.specs.Steps.{agent_value}
+use Rattle.robots_audit.specs.Internal.{agent_value}
 use Rattle.robots_audit.proofs.audit.agent_audits.Given as goal
 
 abbrev pub invariant-loop-agent : goal.invariant-loop-agent

@@ -1,12 +1,12 @@
 use Rattle.std.proofs.Common.{lit<, refl}
-use Rattle.texting_robots.proofs.HeadlineLemmas.{read_refused}
+use Rattle.texting_robots.proofs.MainTheoremLemmas.{read_rejected}
 use Rattle.robots_audit.proofs.audit.robot_for.Goals as goal
 
 pub unreachable-requires : goal.unreachable-requires
 unreachable-requires c =
     let error = c.in-Err-InvalidRule in
     (rw (c.in-None.is, c.counted.ensures) at c.in_ok-line-in-Err-InvalidRule.ensures)
-    (read_refused _ _ (rw (error.field-0-is, c.requires) at error.ensures.refused))
+    (read_rejected _ _ (rw (error.field-0-is, c.requires) at error.ensures.rejected))
 
 pub returns-in-Some-clause-fault : goal.returns-in-Some-clause-fault
 returns-in-Some-clause-fault c = (

@@ -1,6 +1,6 @@
 use Rattle.std.proofs.Common.{refl}
 use Rattle.robots_audit.specs.Audit.{IsVerdictOn}
-use Rattle.robots_audit.specs.Steps.{verdict_value}
+use Rattle.robots_audit.specs.Internal.{verdict_value}
 use Rattle.robots_audit.proofs.AuditLemmas.{zip_next}
 use Rattle.robots_audit.proofs.audit.verdicts_on.Goals as goal
 

@@ -1,7 +1,7 @@
 use Rattle.std.proofs.Common.{map, take}
 use Rattle.std.specs.List.{AllZip}
 use Rattle.robots_audit.specs.Audit.{IsVerdictOn}
-use Rattle.robots_audit.specs.Steps.{verdict_value}
+use Rattle.robots_audit.specs.Internal.{verdict_value}
 use Rattle.robots_audit.proofs.audit.verdicts_on.Given as goal
 
 abbrev pub invariant-loop-url : goal.invariant-loop-url

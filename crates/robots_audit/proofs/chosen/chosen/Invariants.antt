@@ -1,6 +1,6 @@
 use Rattle.std.proofs.Common.{◌≡◌, ◌++◌, drop, map}
 use Rattle.robots_audit.specs.Chosen.{chosen}
-use Rattle.robots_warnings.specs.Steps.{warning_value}
+use Rattle.robots_warnings.specs.Internal.{warning_value}
 use Rattle.robots_audit.proofs.chosen.chosen.Given as goal
 
 -- the warnings that were taken, and those among the warnings that are left, are all

@@ -1,5 +1,5 @@
 use Rattle.robots_audit.specs.Json.{agent_json}
-use Rattle.robots_audit.specs.Steps.{agent_value}
+use Rattle.robots_audit.specs.Internal.{agent_value}
 use Rattle.robots_audit.proofs.JsonLemmas.{listed}
 use Rattle.robots_audit.proofs.json.agents_json.Goals as goal
 

@@ -2,7 +2,7 @@ use Rattle.std.proofs.Common.{◌∷◌, ◌++◌, List, [], ap, ℕ, ◌∙◌}
 use Rattle.std.specs.Char.{encode_utf8}
 use Rattle.serde_json.specs.Written.{compact_text, has_float}
 use Rattle.robots_io.specs.Lines.{lf}
-use Rattle.robots_audit.specs.Steps.{audit_value}
+use Rattle.robots_audit.specs.Internal.{audit_value}
 use Rattle.robots_audit.proofs.JsonLemmas.{no_float}
 use Rattle.robots_audit.proofs.json.json_text.Goals as goal
 

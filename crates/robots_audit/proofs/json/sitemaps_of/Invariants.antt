@@ -1,10 +1,10 @@
 use Rattle.std.proofs.Common.{◌≡◌, ◌++◌, drop, map}
-use Rattle.texting_robots.specs.Callers.{mark_by_value, sitemaps_in}
+use Rattle.texting_robots.specs.Callers.{label_by_value, sitemaps_in}
 use Rattle.robots_warnings.specs.File.{lines_of}
 use Rattle.robots_audit.proofs.json.sitemaps_of.Given as goal
 
-abbrev pub invariant-loop-marked : goal.invariant-loop-marked
-invariant-loop-marked l =
+abbrev pub invariant-loop-labeled : goal.invariant-loop-labeled
+invariant-loop-labeled l =
     map (λ sitemap. sitemap.now) l.sitemaps.items
-    ++ sitemaps_in (lines_of (map mark_by_value (drop l.marked-index l.marks)))
-    ≡ sitemaps_in (lines_of (map mark_by_value l.marks))
+    ++ sitemaps_in (lines_of (map label_by_value (drop l.labeled-index l.labels)))
+    ≡ sitemaps_in (lines_of (map label_by_value l.labels))

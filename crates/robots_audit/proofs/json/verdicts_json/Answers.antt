@@ -1,5 +1,5 @@
 use Rattle.robots_audit.specs.Json.{verdict_json}
-use Rattle.robots_audit.specs.Steps.{verdict_value}
+use Rattle.robots_audit.specs.Internal.{verdict_value}
 use Rattle.robots_audit.proofs.JsonLemmas.{listed}
 use Rattle.robots_audit.proofs.json.verdicts_json.Goals as goal
 

@@ -1,5 +1,5 @@
 use Rattle.robots_audit.specs.Json.{warning_json}
-use Rattle.robots_warnings.specs.Steps.{warning_value}
+use Rattle.robots_warnings.specs.Internal.{warning_value}
 use Rattle.robots_audit.proofs.JsonLemmas.{listed}
 use Rattle.robots_audit.proofs.json.warnings_json.Goals as goal
 

@@ -1,5 +1,5 @@
-use Rattle.robots_audit.proofs.PlainLemmas.{output_plain, said_plain}
+use Rattle.robots_audit.proofs.PrintableLemmas.{output_printable, message_printable}
 use Rattle.robots_audit.proofs.laws.no_terminal_is_steered.Goals as goal
 
 pub returns : goal.returns
-returns c = record { written = output_plain; said = said_plain }
+returns c = record { written = output_printable; message = message_printable }

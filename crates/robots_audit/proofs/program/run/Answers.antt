@@ -1,7 +1,7 @@
 use Rattle.std.proofs.Common.{refl, rules}
 use Rattle.std.proofs.lemmas.List.{length-map}
 use Rattle.robots_audit.specs.Answer.{AuditsFile}
-use Rattle.robots_audit.specs.Steps.{audit_value}
+use Rattle.robots_audit.specs.Internal.{audit_value}
 use Rattle.robots_audit.proofs.AnswerLemmas.{broken_off, failed, for_left}
 use Rattle.robots_audit.proofs.program.run.Goals as goal
 
@@ -20,7 +20,7 @@ returns-in_err-audit g c =
 
 pub returns : goal.returns
 returns g c = record {
-  told = for_left _ _ (AuditsFile _ _ _) c.in_ok-input.ensures (record {
+  reported = for_left _ _ (AuditsFile _ _ _) c.in_ok-input.ensures (record {
     ok = (
       audit_value c.in_ok-audit.audit,
       rw c.as_slice.ensures.value at c.in_ok-audit.ensures.ok,

@@ -1,7 +1,7 @@
 use Rattle.std.proofs.Common.{◌≡◌, ◌++◌, flat_map, map, string_bytes, take}
 use Rattle.robots_io.specs.Lines.{ended}
 use Rattle.robots_audit.specs.Report.{agent_lines}
-use Rattle.robots_audit.specs.Steps.{agent_value}
+use Rattle.robots_audit.specs.Internal.{agent_value}
 use Rattle.robots_audit.proofs.report.push_agents.Given as goal
 
 abbrev pub invariant-loop-agent : goal.invariant-loop-agent

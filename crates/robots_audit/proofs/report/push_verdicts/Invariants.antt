@@ -1,7 +1,7 @@
 use Rattle.std.proofs.Common.{◌≡◌, ◌++◌, map, string_bytes, take}
 use Rattle.robots_io.specs.Lines.{ended}
 use Rattle.robots_audit.specs.Report.{verdict_line}
-use Rattle.robots_audit.specs.Steps.{verdict_value}
+use Rattle.robots_audit.specs.Internal.{verdict_value}
 use Rattle.robots_audit.proofs.report.push_verdicts.Given as goal
 
 abbrev pub invariant-loop-verdict : goal.invariant-loop-verdict

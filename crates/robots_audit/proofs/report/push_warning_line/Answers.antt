@@ -1,6 +1,6 @@
 use Rattle.std.proofs.Common.{ℕ, List, ◌++◌, ◌∷◌, [], ap, append_assoc, append-nil, ◌∙◌}
 use Rattle.robots_io.specs.Lines.{lf}
-use Rattle.robots_warnings.specs.Steps.{warning_value}
+use Rattle.robots_warnings.specs.Internal.{warning_value}
 use Rattle.robots_warnings.specs.Warnings.{warning_line}
 use Rattle.robots_audit.proofs.report.push_warning_line.Goals as goal
 

@@ -1,6 +1,6 @@
 use Rattle.std.proofs.Common.{◌≡◌, map, string_bytes, take}
 use Rattle.robots_io.specs.Lines.{ended}
-use Rattle.robots_warnings.specs.Steps.{warning_value}
+use Rattle.robots_warnings.specs.Internal.{warning_value}
 use Rattle.robots_audit.specs.Report.{warning_lines}
 use Rattle.robots_audit.proofs.report.warning_lines.Given as goal
 

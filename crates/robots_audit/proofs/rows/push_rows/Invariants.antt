@@ -1,10 +1,10 @@
 use Rattle.std.proofs.Common.{◌≡◌, ◌++◌, map, string_bytes, take}
-use Rattle.texting_robots.specs.Callers.{mark_by_value}
+use Rattle.texting_robots.specs.Callers.{label_by_value}
 use Rattle.robots_io.specs.Lines.{ended}
 use Rattle.robots_audit.specs.Rows.{row}
 use Rattle.robots_audit.proofs.rows.push_rows.Given as goal
 
-abbrev pub invariant-loop-marked : goal.invariant-loop-marked
-invariant-loop-marked l =
+abbrev pub invariant-loop-labeled : goal.invariant-loop-labeled
+invariant-loop-labeled l =
     string_bytes l.text
-    ≡ string_bytes l.fn.text ++ ended (map (row l.width) (map mark_by_value (take l.marked-index l.marks)))
+    ≡ string_bytes l.fn.text ++ ended (map (row l.width) (map label_by_value (take l.labeled-index l.labels)))

@@ -1,7 +1,7 @@
 use Rattle.std.proofs.Common.{◌≡◌, ◌++◌, ◌∷◌, [], ℕ, List, ap, map, string_bytes, take}
 use Rattle.std.proofs.Common.{◌∙◌}
 use Rattle.texting_robots.specs.Robot.{RobotValue, file_limit}
-use Rattle.texting_robots.proofs.HeadlineLemmas.{not_refused, read_robot}
+use Rattle.texting_robots.proofs.MainTheoremLemmas.{not_rejected, read_robot}
 use Rattle.robots_io.specs.Lines.{ended}
 use Rattle.robots_verdict.specs.Report.{delay_line, sitemap_line}
 use Rattle.robots_verdict.proofs.ReportLemmas.{text_made}
@@ -27,7 +27,7 @@ returns-clause-ok c =
       header.file.now,
       c.in_ok-header.ensures.input,
       c.in_ok-header.ensures.texts,
-      not_refused header.agent.now (take file_limit header.file.now) robot c.in_ok-robot.ensures.robot,
+      not_rejected header.agent.now (take file_limit header.file.now) robot c.in_ok-robot.ensures.robot,
       text_made header.agent.now (map (λ url. url.now) header.urls.items) header.file.now _ _ _ robot is
           delayed listed judged,
     )

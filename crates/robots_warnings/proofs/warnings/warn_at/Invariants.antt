@@ -1,5 +1,5 @@
 use Rattle.std.proofs.Common.{◌≡◌, ◌++◌, map, take}
-use Rattle.robots_warnings.specs.Steps.{warning_value}
+use Rattle.robots_warnings.specs.Internal.{warning_value}
 use Rattle.robots_warnings.specs.Warnings.{warned_at}
 use Rattle.robots_warnings.proofs.warnings.warn_at.Given as goal
 

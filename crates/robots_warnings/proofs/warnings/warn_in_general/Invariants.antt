@@ -1,5 +1,5 @@
 use Rattle.std.proofs.Common.{◌≡◌, ◌++◌, flat_map, map, take}
-use Rattle.robots_warnings.specs.Steps.{warning_value}
+use Rattle.robots_warnings.specs.Internal.{warning_value}
 use Rattle.robots_warnings.specs.Warnings.{url_warnings}
 use Rattle.robots_warnings.proofs.warnings.warn_in_general.Given as goal
 

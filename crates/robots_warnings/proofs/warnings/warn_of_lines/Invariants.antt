@@ -1,6 +1,6 @@
 use Rattle.std.proofs.Common.{◌≡◌, ◌++◌, map}
-use Rattle.texting_robots.specs.Callers.{bodies_read, mark_by_value}
-use Rattle.robots_warnings.specs.Steps.{warning_value}
+use Rattle.texting_robots.specs.Callers.{bodies_read, label_by_value}
+use Rattle.robots_warnings.specs.Internal.{warning_value}
 use Rattle.robots_warnings.specs.Warnings.{lines_warnings}
 use Rattle.robots_warnings.proofs.warnings.warn_of_lines.Given as goal
 
@@ -8,6 +8,6 @@ use Rattle.robots_warnings.proofs.warnings.warn_of_lines.Given as goal
 abbrev pub invariant-loop-body : goal.invariant-loop-body
 invariant-loop-body l =
     map warning_value l.found.items
-    ++ lines_warnings l.everywhere l.body-iterator (map mark_by_value l.rest)
+    ++ lines_warnings l.everywhere l.body-iterator (map label_by_value l.rest)
     ≡ map warning_value l.fn.found.items
-    ++ lines_warnings l.everywhere (bodies_read l.file) (map mark_by_value l.marks)
+    ++ lines_warnings l.everywhere (bodies_read l.file) (map label_by_value l.labels)

@@ -1,6 +1,6 @@
 use Rattle.std.proofs.Common.{◌≡◌, length}
 use Rattle.std.specs.{List.list_any, Str.str_to_ascii_lowercase}
-use Rattle.texting_robots.specs.{Group.is_agent, Group.is_agent_named, Computed.delay_before_agents}
+use Rattle.texting_robots.specs.{Group.is_agent, Group.is_agent_named, Executable.delay_before_agents}
 use Rattle.texting_robots.proofs.RulesLemmas.{delay_from}
 use Rattle.texting_robots.proofs.groups.group_for.Given as goal
 

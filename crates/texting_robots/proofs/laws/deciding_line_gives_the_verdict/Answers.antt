@@ -1,4 +1,4 @@
-use Rattle.texting_robots.proofs.HeadlineLemmas.{line_gives_verdict, no_line_allows}
+use Rattle.texting_robots.proofs.MainTheoremLemmas.{line_gives_verdict, no_line_allows}
 use Rattle.texting_robots.proofs.laws.deciding_line_gives_the_verdict.Goals as goal
 
 pub returns-clause-line : goal.returns-clause-line

@@ -1,5 +1,5 @@
-use Rattle.texting_robots.{specs.Computed.placed_rules, proofs.HeadlineLemmas.answer_alike}
-use Rattle.texting_robots.proofs.HeldLemmas.{computed_are, one_list, refusal_is_computed, rules_are_computed}
+use Rattle.texting_robots.{specs.Executable.placed_rules, proofs.MainTheoremLemmas.answer_alike}
+use Rattle.texting_robots.proofs.HeldLemmas.{computed_are, one_list, rejection_is_computed, rules_are_computed}
 use Rattle.texting_robots.proofs.laws.each_agent_has_its_rules.Goals as goal
 
 pub returns-clause-some : goal.returns-clause-some
@@ -14,5 +14,5 @@ returns-clause-alike c = answer_alike
 pub returns-clause-computed : goal.returns-clause-computed
 returns-clause-computed c = rules_are_computed
 
-pub returns-clause-refused : goal.returns-clause-refused
-returns-clause-refused c = refusal_is_computed
+pub returns-clause-rejected : goal.returns-clause-rejected
+returns-clause-rejected c = rejection_is_computed

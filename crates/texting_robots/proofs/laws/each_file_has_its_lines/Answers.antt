@@ -1,5 +1,5 @@
 use Rattle.std.proofs.Common.{map, refl, sym, ◌∙◌}
-use Rattle.texting_robots.specs.{Computed.file_lines, Line.nul_as_lf}
+use Rattle.texting_robots.specs.{Executable.file_lines, Line.nul_as_lf}
 use Rattle.texting_robots.proofs.LineLemmas.{each_text_has_its_lines}
 use Rattle.texting_robots.proofs.laws.each_file_has_its_lines.Goals as goal
 

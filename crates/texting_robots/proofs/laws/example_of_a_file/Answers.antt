@@ -3,10 +3,10 @@ use Rattle.std.specs.Str.{chars, is_utf8}
 use Rattle.bstr.specs.{Trim.kept_end, Trim.kept_start, Utf8.pieces_from, Utf8.spans_from}
 use Rattle.texting_robots.specs.Examples.{ferris_lines, ferris_robot, ferris_rules}
 use Rattle.texting_robots.specs.{Pattern.collapsed, Rules.unplaced}
-use Rattle.texting_robots.specs.Steps.{Cut.cut, Delay.delay_of, Line.line_of, Statement.statement_of}
+use Rattle.texting_robots.specs.Internal.{Cut.cut, Delay.delay_of, Line.line_of, Statement.statement_of}
 use Rattle.texting_robots.proofs.ExampleLemmas.{answers, any_overlong_decides}
 use Rattle.texting_robots.proofs.GivenLemmas.{delay_is_computed, sitemaps_are_computed}
-use Rattle.texting_robots.proofs.HeldLemmas.{computed_are, refusal_is_computed}
+use Rattle.texting_robots.proofs.HeldLemmas.{computed_are, rejection_is_computed}
 use Rattle.texting_robots.proofs.LineLemmas.{lines_are}
 use lib.Utf8.{encode}
 use Rattle.texting_robots.proofs.laws.example_of_a_file.Goals as goal
@@ -20,8 +20,8 @@ returns c = record {
     delay = (delay_is_computed (codes "FerrisCrawler") ferris_lines (Some 10000000)).1 refl;
     sitemaps = (sitemaps_are_computed ferris_lines ferris_robot.sitemaps).1 refl;
     rules = computed_are _ _;
-    accepted = λ refused. not_from_Decides _ (any_overlong_decides (unplaced ferris_rules)) refl
-        ((refusal_is_computed (codes "FerrisCrawler") ferris_lines).0 refused);
+    accepted = λ rejected. not_from_Decides _ (any_overlong_decides (unplaced ferris_rules)) refl
+        ((rejection_is_computed (codes "FerrisCrawler") ferris_lines).0 rejected);
   };
   answers = (answers _ _, answers _ _, answers _ _);
 }

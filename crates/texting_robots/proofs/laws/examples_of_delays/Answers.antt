@@ -1,5 +1,5 @@
 use Rattle.std.proofs.Common.{codes, []}
-use Rattle.texting_robots.{specs.Steps.Delay.delay_of, proofs.DelayLemmas.delay_of_is as computed}
+use Rattle.texting_robots.{specs.Internal.Delay.delay_of, proofs.DelayLemmas.delay_of_is as computed}
 use Rattle.texting_robots.proofs.laws.examples_of_delays.Goals as goal
 
 pub returns : goal.returns

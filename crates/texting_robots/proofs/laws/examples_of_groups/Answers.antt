@@ -1,11 +1,11 @@
 use Rattle.std.proofs.{Common.refl, lemmas.Bool.Decides.not_from_Decides}
 use Rattle.std.specs.{Prelude.codes, Str.chars, Str.is_utf8}
 use Rattle.bstr.specs.{Trim.kept_end, Trim.kept_start, Utf8.pieces_from, Utf8.spans_from}
-use Rattle.texting_robots.specs.Examples.{early_delays, groups, one_rule, refused_delay, simple, three_values}
+use Rattle.texting_robots.specs.Examples.{early_delays, groups, one_rule, rejected_delay, simple, three_values}
 use Rattle.texting_robots.specs.Examples.{two_delays}
-use Rattle.texting_robots.specs.Steps.{Cut.cut, Delay.delay_of, Line.line_of, Statement.statement_of}
-use Rattle.texting_robots.specs.Computed.{file_lines}
-use Rattle.texting_robots.proofs.{CapturedLemmas.is_captured_decides, HeadlineLemmas.has_lines}
+use Rattle.texting_robots.specs.Internal.{Cut.cut, Delay.delay_of, Line.line_of, Statement.statement_of}
+use Rattle.texting_robots.specs.Executable.{file_lines}
+use Rattle.texting_robots.proofs.{CapturedLemmas.is_captured_decides, MainTheoremLemmas.has_lines}
 use Rattle.texting_robots.proofs.ExampleLemmas.{gives_delay, gives_rules}
 use lib.Utf8.{encode}
 use Rattle.texting_robots.proofs.laws.examples_of_groups.Goals as goal
@@ -25,7 +25,7 @@ returns c = record {
   merged_groups = (gives_rules _ groups, gives_rules _ groups, gives_rules _ groups);
   no_agents = gives_rules _ one_rule;
   values = gives_rules _ three_values;
-  raw_in_a_run = gives_delay (codes "D") refused_delay 8000000 refl;
+  raw_in_a_run = gives_delay (codes "D") rejected_delay 8000000 refl;
   which_delay = (
     gives_delay (codes "BobBot") two_delays 5000000 refl,
     gives_delay (codes "BobBot") early_delays 2000000 refl,

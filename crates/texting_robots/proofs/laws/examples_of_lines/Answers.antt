@@ -1,6 +1,6 @@
 use Rattle.std.proofs.Common.{refl}
 use Rattle.bstr.specs.{Trim.kept_end, Trim.kept_start, Utf8.pieces_from, Utf8.spans_from}
-use Rattle.texting_robots.specs.Steps.{Cut.cut, Delay.delay_of, Line.line_of, Statement.statement_of}
+use Rattle.texting_robots.specs.Internal.{Cut.cut, Delay.delay_of, Line.line_of, Statement.statement_of}
 use Rattle.texting_robots.proofs.{LineLemmas.lines_are, StatementLemmas.found_statement}
 use Rattle.texting_robots.proofs.laws.examples_of_lines.Goals as goal
 
@@ -13,7 +13,7 @@ returns c = record {
   nul = (lines_are _ _ refl, lines_are _ _ refl);
   cut_short = (lines_are _ _ refl, lines_are _ _ refl);
   byte_order_mark = (lines_are _ _ refl, lines_are _ _ refl, lines_are _ _ refl);
-  misspelled_keys = lines_are _ _ refl;
+  nonstandard_keys = lines_are _ _ refl;
   separators = lines_are _ _ refl;
   no_separator = lines_are _ _ refl;
   two_colons = found_statement _ _ _ refl;

@@ -1,6 +1,6 @@
 use Rattle.std.proofs.Common.{◌++◌, ap, arith, drop, length-drop, sym, take, ◌∙◌}
 use Rattle.std.proofs.lemmas.List.{take-append-drop}
-use Rattle.texting_robots.specs.Steps.Cut.{body_len, end_len, read_as}
+use Rattle.texting_robots.specs.Internal.Cut.{body_len, end_len, read_as}
 use Rattle.texting_robots.proofs.{AgentLemmas.advances, CutFromFront.next_body}
 use Rattle.texting_robots.proofs.parser.split_line.Goals as goal
 

@@ -2,15 +2,15 @@ use Rattle.std.proofs.Common.{◌≡◌, ◌+◌, ◌-◌, ◌*◌, ◌≤◌, l
 use Rattle.texting_robots.proofs.BorderLemmas.{AddsBorders, IsFirstOpen}
 use Rattle.texting_robots.proofs.pieces.push_borders.Given as goal
 
--- the piece is looked for in itself, and the borders of its first `place` bytes were added
-abbrev pub invariant-loop-place : goal.invariant-loop-place
-invariant-loop-place l =
+-- the piece is looked for in itself, and the borders of its first `position` bytes were added
+abbrev pub invariant-loop-position : goal.invariant-loop-position
+invariant-loop-position l =
     record {
       table : l.table ≡ length l.fn.borders.items;
-      within : l.place + 1 ≤ length l.piece;
-      first : IsFirstOpen l.piece l.piece 1 (l.place + 1) l.place l.matched;
-      adds : AddsBorders l.piece l.fn.borders.items l.borders.items l.place;
+      within : l.position + 1 ≤ length l.segment;
+      first : IsFirstOpen l.segment l.segment 1 (l.position + 1) l.position l.matched;
+      adds : AddsBorders l.segment l.fn.borders.items l.borders.items l.position;
     }
 
-abbrev pub decreases-loop-place : goal.decreases-loop-place
-decreases-loop-place l = 2 * (length l.piece - l.place) + l.matched
+abbrev pub decreases-loop-position : goal.decreases-loop-position
+decreases-loop-position l = 2 * (length l.segment - l.position) + l.matched

@@ -1,20 +1,20 @@
 use Rattle.std.proofs.Common.{ℕ, List, IsPermutation, ap, arith, refl, slice_get, subst, sym, ◌∙◌}
 use Rattle.std.{specs.Option.option_or, proofs.lemmas.List.append-nil, proofs.lemmas.Bool.false≢true}
-use Rattle.texting_robots.specs.Computed.{delay_before_agents, file_lines, placed_in, rule_in}
+use Rattle.texting_robots.specs.Executable.{delay_before_agents, file_lines, placed_in, rule_in}
 use Rattle.texting_robots.specs.{Group.group_name, Line.delay_in, Pattern.IsOverlong}
 use Rattle.texting_robots.{specs.Rules.PlacedRule, specs.Rules.Rule, proofs.CapturedLemmas.captured_walked}
 use Rattle.texting_robots.proofs.RulesLemmas.{all_added, first_more, given_more, given_none, none_unplaced}
-use Rattle.texting_robots.proofs.RulesLemmas.{option_or_none, refused_at}
+use Rattle.texting_robots.proofs.RulesLemmas.{option_or_none, rejected_at}
 use Rattle.texting_robots.proofs.reading.read_file.Goals as goal
 
-pub loop-place-preserved : goal.loop-place-preserved
-loop-place-preserved c =
+pub loop-position-preserved : goal.loop-position-preserved
+loop-position-preserved c =
     let (next, here, further, _) = c.in-Some.ensures.steps in
     let name =
-    rw (c.unread_file_lines.ensures.value, c.as_bytes.ensures.value) at c.group_for-group.ensures.name in
+    rw (c.lazy_file_lines.ensures.value, c.as_bytes.ensures.value) at c.group_for-group.ensures.name in
     let added = rw (name, here) at c.in_default.ensures in
-    let so_far = c.loop-place.invariant in
-    rw (added.walk, further) (record {
+    let so_far = c.loop-position.invariant in
+    rw (added.tracker, further) (record {
       known = added.known;
       rules = given_more _ _ _ _ added.rules ∙ rw next at so_far.rules;
       sitemaps = given_more _ _ _ _ added.sitemaps ∙ rw next at so_far.sitemaps;
@@ -23,19 +23,19 @@ loop-place-preserved c =
           added.rules added.accepted so_far.accepted;
     })
 
-pub loop-place-init : goal.loop-place-init
-loop-place-init c =
+pub loop-position-init : goal.loop-position-init
+loop-position-init c =
     let lines = file_lines c.args.txt.now in
     let name = group_name c.args.agent.now lines in
-    let start = rw c.unread_file_lines.ensures.value at c.group_for-group.ensures.start in
-    let items = c.enumerate-place-items.ensures in
+    let start = rw c.lazy_file_lines.ensures.value at c.group_for-group.ensures.start in
+    let items = c.enumerate-position-items.ensures in
     let source = items.source ∙ c.unread_file_lines-2.ensures.value in
     let empty = c.new-reading.ensures in
     rw (
-      c.into_iter-place-iterator.ensures.into_iter_gives,
+      c.into_iter-position-iterator.ensures.into_iter_gives,
       items.count,
       source,
-      empty.walk ∙ start,
+      empty.tracker ∙ start,
       empty.rules,
       empty.sitemaps,
       empty.delay,
@@ -48,19 +48,19 @@ loop-place-init c =
       accepted = λ k d below. absurd (omega arith);
     })
 
-pub returns-in-Err-clause-refused : goal.returns-in-Err-clause-refused
-returns-in-Err-clause-refused c =
+pub returns-in-Err-clause-rejected : goal.returns-in-Err-clause-rejected
+returns-in-Err-clause-rejected c =
     let (next, here, _, _) = c.in-Some.ensures.steps in
-    let so_far = c.loop-place.invariant in
-    rw (c.refusal_at.ensures, here)
-    (refused_at _ c.loop-place.reading.walk.captured (rule_in c.in-Some.line) _ _ _ c.in-Err.error
-    (rw next at so_far.rules) so_far.accepted (rw here at c.in-Err.ensures.refused))
+    let so_far = c.loop-position.invariant in
+    rw (c.rejection_at.ensures, here)
+    (rejected_at _ c.loop-position.reading.tracker.captured (rule_in c.in-Some.line) _ _ _ c.in-Err.error
+    (rw next at so_far.rules) so_far.accepted (rw here at c.in-Err.ensures.rejected))
 
 -- a line that takes memory gives a rule or a sitemap
 pub returns-in-Err-clause-without_memory : goal.returns-in-Err-clause-without_memory
 returns-in-Err-clause-without_memory c = λ rules sitemaps.
     let (next, here, _, _) = c.in-Some.ensures.steps in
-    let so_far = c.loop-place.invariant in
+    let so_far = c.loop-position.invariant in
     absurd (false≢true (rw here at c.in-Err.ensures.unasked
     (given_none _ _ _ (rw next at so_far.rules ∙ rules))
     (given_none _ _ _ (rw next at so_far.sitemaps ∙ sitemaps))))
@@ -69,15 +69,15 @@ pub returns-clause-robot : goal.returns-clause-robot
 returns-clause-robot c =
     let lines = file_lines c.args.txt.now in
     let ((end, gone), _) = c.in-None.ensures.steps in
-    let so_far = c.loop-place.invariant in
+    let so_far = c.loop-position.invariant in
     let rules = rw (end, append-nil) at so_far.rules in
     let sorted =
     subst (λ (all : List PlacedRule). IsPermutation all c.sorted.result) rules c.sorted.ensures in
     let first = rw end at so_far.delay in
-    let early = rw c.unread_file_lines.ensures.value at c.group_for-group.ensures.delay in
+    let early = rw c.lazy_file_lines.ensures.value at c.group_for-group.ensures.delay in
     let none = none_unplaced (λ (rule : Rule). IsOverlong rule.0) _ so_far.accepted in
     record {
-      delay = c.or.ensures ∙ ap (λ last. option_or c.loop-place.reading.delay last) early
+      delay = c.or.ensures ∙ ap (λ last. option_or c.loop-position.reading.delay last) early
           ∙ ap (λ delay. option_or delay (delay_before_agents lines)) (sym (option_or_none _) ∙ first);
       sitemaps = rw (end, append-nil) at so_far.sitemaps;
       rules = sorted;

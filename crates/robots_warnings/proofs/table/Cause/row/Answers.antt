@@ -1,5 +1,5 @@
 use Rattle.std.proofs.Common.{[], refl, sym}
-use Rattle.robots_warnings.specs.Steps.{Row}
+use Rattle.robots_warnings.specs.Internal.{Row}
 use Rattle.robots_warnings.specs.Table.{name_of, text_of}
 use Rattle.robots_warnings.proofs.TableLemmas.{own_row, part_at}
 use Rattle.robots_warnings.proofs.table.Cause.row.Goals as goal

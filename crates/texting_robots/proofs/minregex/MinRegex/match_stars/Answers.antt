@@ -28,12 +28,12 @@ pub loop-left-preserved : goal.loop-left-preserved
 loop-left-preserved c =
     let i = c.loop-left.invariant in
     let is = c.in-Some-left.is in
-    let (to, from) = stars_here _ c.cut_at_star-in-Some-left.ensures _ c.in-Some-behind_first.ensures in
+    let (to, from) = stars_here _ c.cut_at_star-in-Some-left.ensures _ c.in-Some-after_first.ensures in
     (λ m. to (rw is at (i.0 m)), λ more. i.1 (rw is (from more)))
 
-pub returns-in_default-behind_first : goal.returns-in_default-behind_first
-returns-in_default-behind_first c =
-    let none = stars_nowhere _ c.cut_at_star-in-Some-left.ensures c.in_default-behind_first.ensures in
+pub returns-in_default-after_first : goal.returns-in_default-after_first
+returns-in_default-after_first c =
+    let none = stars_nowhere _ c.cut_at_star-in-Some-left.ensures c.in_default-after_first.ensures in
     (λ e. cc, λ m. absurd (none (rw c.in-Some-left.is at (c.loop-left.invariant.0 m))))
 
 pub returns : goal.returns

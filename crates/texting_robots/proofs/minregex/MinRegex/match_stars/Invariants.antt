@@ -1,5 +1,5 @@
 use Rattle.std.proofs.Common.{◌↔◌, length}
-use Rattle.texting_robots.specs.{Steps.Stars.from_star, Pattern.MatchesStars}
+use Rattle.texting_robots.specs.{Internal.Stars.from_star, Pattern.MatchesStars}
 use Rattle.texting_robots.proofs.minregex.MinRegex.match_stars.Given as goal
 
 -- what is left of the pattern decides on what is left of the text

@@ -1,5 +1,5 @@
 use Rattle.std.proofs.Common.{◌≡◌, ℕ, ◌<◌, ◌≤◌, List, length}
-use Rattle.texting_robots.specs.Steps.Agents.{is_named_later}
+use Rattle.texting_robots.specs.Internal.Agents.{is_named_later}
 use Rattle.texting_robots.proofs.parser.agents.after_others.Given as goal
 
 -- the lines that were passed over name no agent

@@ -1,5 +1,5 @@
 use Rattle.std.proofs.Common.{◌≡◌, true}
-use Rattle.texting_robots.specs.Steps.Agents.{NoneBegins}
+use Rattle.texting_robots.specs.Internal.Agents.{NoneBegins}
 use Rattle.texting_robots.proofs.parser.agents.none_begins.Given as goal
 
 abbrev pub invariant-loop-at : goal.invariant-loop-at

@@ -1,5 +1,5 @@
 use Rattle.std.proofs.Common.{◌≡◌, ◌+◌, ◌≤◌, length}
-use Rattle.texting_robots.specs.Steps.Cut.{body_len, read_as}
+use Rattle.texting_robots.specs.Internal.Cut.{body_len, read_as}
 use Rattle.texting_robots.proofs.parser.cut.body_len.Given as goal
 
 -- no line ends in what was passed over

@@ -2,7 +2,7 @@ use Rattle.std.proofs.Common.{◌∙◌, arith}
 use Rattle.std.proofs.lemmas.Simd.{length-chunk, zip2_of_maps, zip2_splat}
 use lib.Lanes.{chunk}
 use Rattle.texting_robots.specs.Cut.{cr, lf}
-use Rattle.texting_robots.proofs.CutFromFront.{ends_marked, marked_first}
+use Rattle.texting_robots.proofs.CutFromFront.{ends_delimited, labeled_first}
 use Rattle.texting_robots.proofs.parser.cut.body_len_in_half.Goals as goal
 
 pub returns : goal.returns
@@ -10,7 +10,7 @@ returns c =
     let v = chunk 0 16 c.args.text.now in
     let third = c.third_end-third.result in
     let long = length-chunk 0 16 c.args.text.now (omega arith) in
-    c.first_lane.ensures ∙ marked_first c.args.nul_ends _ 16 v _ (omega arith) long
+    c.first_lane.ensures ∙ labeled_first c.args.nul_ends _ 16 v _ (omega arith) long
     (zip2_of_maps _ _ _ v (zip2_of_maps _ _ _ v (zip2_splat _ v 16 cr long) (zip2_splat _ v 16 lf long))
     (zip2_splat _ v 16 third long))
-    (ends_marked c.args.nul_ends third c.third_end-third.ensures)
+    (ends_delimited c.args.nul_ends third c.third_end-third.ensures)

@@ -1,5 +1,5 @@
 use Rattle.std.proofs.Common.{◌≡◌, length, drop}
-use Rattle.texting_robots.specs.Steps.Cut.{end_len, read_as}
+use Rattle.texting_robots.specs.Internal.Cut.{end_len, read_as}
 use Rattle.texting_robots.proofs.parser.cut.skip_returns.Given as goal
 
 abbrev pub invariant-loop-rest : goal.invariant-loop-rest

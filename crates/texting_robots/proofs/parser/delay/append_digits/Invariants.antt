@@ -1,6 +1,6 @@
 use Rattle.std.proofs.Common.{◌≡◌, ◌≤◌, drop}
 use Rattle.std.specs.Str.Parse.{digits_value_after}
-use Rattle.texting_robots.specs.{Delay.greatest_delay, Steps.Delay.bounded}
+use Rattle.texting_robots.specs.{Delay.greatest_delay, Internal.Delay.bounded}
 use Rattle.texting_robots.proofs.parser.delay.append_digits.Given as goal
 
 -- the digits that are left, behind the number so far, write the result

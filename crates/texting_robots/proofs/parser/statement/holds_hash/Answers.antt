@@ -1,5 +1,5 @@
 use Rattle.std.proofs.Common.{◌∙◌, ◌==◌, sym, arith}
-use Rattle.texting_robots.specs.Steps.Statement.{hash}
+use Rattle.texting_robots.specs.Internal.Statement.{hash}
 use Rattle.texting_robots.proofs.RegionLemmas.{either_end, some_found}
 use Rattle.texting_robots.proofs.parser.statement.holds_hash.Goals as goal
 

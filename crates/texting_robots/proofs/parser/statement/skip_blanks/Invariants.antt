@@ -1,5 +1,5 @@
 use Rattle.std.proofs.Common.{◌≡◌, length}
-use Rattle.texting_robots.specs.Steps.Statement.{skip_blanks}
+use Rattle.texting_robots.specs.Internal.Statement.{skip_blanks}
 use Rattle.texting_robots.proofs.parser.statement.skip_blanks.Given as goal
 
 abbrev pub invariant-loop-rest : goal.invariant-loop-rest

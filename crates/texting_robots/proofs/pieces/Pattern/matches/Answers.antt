@@ -1,8 +1,8 @@
 use Rattle.texting_robots.proofs.PieceLemmas.{first_in_front}
 use Rattle.texting_robots.proofs.pieces.Pattern.matches.Goals as goal
 
-pub loop-piece-init : goal.loop-piece-init
-loop-piece-init g c =
+pub loop-segment-init : goal.loop-segment-init
+loop-segment-init g c =
     let (is_rest, split) = c.in-Some.ensures.some in
     record {
       is_rest = is_rest;

@@ -1,17 +1,17 @@
 use Rattle.std.proofs.Common.{◌↔◌, List, ℕ, drop}
-use Rattle.texting_robots.specs.{Steps.Asked.PassesTo, Steps.Pieces.AreLeft, Pattern.Matches}
+use Rattle.texting_robots.specs.{Internal.Haystack.PassesTo, Internal.Segments.AreLeft, Pattern.Matches}
 use Rattle.texting_robots.proofs.pieces.Pattern.matches.Given as goal
 
 -- what is left of the pattern decides on what is left of the text
-abbrev pub invariant-loop-piece : goal.invariant-loop-piece
-invariant-loop-piece g l =
+abbrev pub invariant-loop-segment : goal.invariant-loop-segment
+invariant-loop-segment g l =
     let inside = l.self-inside in
-    let old = g.A.Asked.seen l.fn.asked in
-    let rest = g.A.Asked.left l.rest old.text in
+    let old = g.A.Haystack.seen l.fn.haystack in
+    let rest = g.A.Haystack.left l.rest old.text in
     record {
-      is_rest : g.A.Asked.is_rest l.rest old.text;
+      is_rest : g.A.Haystack.is_rest l.rest old.text;
       left : List ℕ;
-      pieces : AreLeft inside.bytes.now inside.ends.ending (drop l.piece-index inside.pieces.now) left;
+      pieces : AreLeft inside.bytes.now inside.ends.ending (drop l.segment-index inside.pieces.now) left;
       decides : Matches l.self old.text ↔ Matches left rest;
-      cost : PassesTo old (g.A.Asked.seen l.asked) old.text rest;
+      cost : PassesTo old (g.A.Haystack.seen l.haystack) old.text rest;
     }

@@ -1,6 +1,6 @@
 use Rattle.std.proofs.Common.{◌≡◌, ℕ, List, ap, length, min, take, ◌∙◌}
 use Rattle.std.proofs.lemmas.List.{take_min}
-use Rattle.texting_robots.proofs.HeadlineLemmas.{nothing_of, refused_of, robot_of}
+use Rattle.texting_robots.proofs.MainTheoremLemmas.{nothing_of, rejected_of, robot_of}
 use Rattle.texting_robots.proofs.robot.Robot.with_limit.Goals as goal
 
 -- the bytes that are read are those within the limit
@@ -11,10 +11,10 @@ pub returns-in-Ok-clause-robot : goal.returns-in-Ok-clause-robot
 returns-in-Ok-clause-robot c =
     robot_of _ _ _ (rw (read _ _ _ c.min.ensures, ← c.parts.view_is) at c.in-Ok.ensures.robot)
 
-pub returns-in-Err-Overlong-clause-refused : goal.returns-in-Err-Overlong-clause-refused
-returns-in-Err-Overlong-clause-refused c =
-    refused_of _ _ c.in-Err-Overlong.field-0-0
-    (rw (read _ _ _ c.min.ensures, c.in-Err-Overlong.field-0-is) at c.in-Err-Overlong.ensures.refused)
+pub returns-in-Err-Overlong-clause-rejected : goal.returns-in-Err-Overlong-clause-rejected
+returns-in-Err-Overlong-clause-rejected c =
+    rejected_of _ _ c.in-Err-Overlong.field-0-0
+    (rw (read _ _ _ c.min.ensures, c.in-Err-Overlong.field-0-is) at c.in-Err-Overlong.ensures.rejected)
 
 pub returns-in-Err-Overlong-clause-without_memory : goal.returns-in-Err-Overlong-clause-without_memory
 returns-in-Err-Overlong-clause-without_memory c = λ nothing.

@@ -1,14 +1,14 @@
 use Rattle.std.proofs.Common.{inr, sym, ap}
 use Rattle.std.proofs.lemmas.{Bool.iff_false, List.get_or_read, List.length-map}
-use Rattle.texting_robots.specs.{declared.rules.Entry.Entry, Steps.Entries.no_entry}
-use Rattle.texting_robots.proofs.FirstLemmas.{first_decides, first_line, first_looks, none_stands}
+use Rattle.texting_robots.specs.{declared.rules.Entry.Entry, Internal.Entries.no_entry}
+use Rattle.texting_robots.proofs.FirstLemmas.{first_decides, first_line, first_looks, none_occurs}
 use Rattle.texting_robots.proofs.BestLemmas.{none_denies}
 use Rattle.texting_robots.proofs.rules.Rules.decide_by.Goals as goal
 
 pub returns-in-Some-clause-verdict : goal.returns-in-Some-clause-verdict
 returns-in-Some-clause-verdict g c =
-    let all = c.self.inside.gathered in
-    let text = (g.A.Asked.seen c.args.asked.now).text in
+    let all = c.self.inside.unsorted in
+    let text = (g.A.Haystack.seen c.args.haystack.now).text in
     let found = c.in-Some.ensures.some in
     let is = get_or_read all.entries.items c.in-Some.at _ found.0 c.index-entry.ensures no_entry in
     rw (is, ← c.self.view_is)
@@ -17,8 +17,8 @@ returns-in-Some-clause-verdict g c =
 
 pub returns-in-Some-clause-line : goal.returns-in-Some-clause-line
 returns-in-Some-clause-line g c =
-    let all = c.self.inside.gathered in
-    let text = (g.A.Asked.seen c.args.asked.now).text in
+    let all = c.self.inside.unsorted in
+    let text = (g.A.Haystack.seen c.args.haystack.now).text in
     let found = c.in-Some.ensures.some in
     let is = get_or_read all.entries.items c.in-Some.at _ found.0 c.index-entry.ensures no_entry in
     rw (← c.self.view_is) (
@@ -30,23 +30,23 @@ returns-in-Some-clause-line g c =
 
 pub returns-in-Some-clause-looks : goal.returns-in-Some-clause-looks
 returns-in-Some-clause-looks g c =
-    rw (← c.self.view_is) (first_looks c.self.inside.gathered c.self.invariant.0.known c.self.invariant.1 _
+    rw (← c.self.view_is) (first_looks c.self.inside.unsorted c.self.invariant.0.known c.self.invariant.1 _
     _ c.in-Some.at c.in-Some.ensures.some c.in-Some.ensures.looks)
 
 pub returns-in-None-clause-verdict : goal.returns-in-None-clause-verdict
 returns-in-None-clause-verdict g c =
-    let all = c.self.inside.gathered in
+    let all = c.self.inside.unsorted in
     rw (← c.self.view_is)
-    (none_denies _ _ (none_stands all c.self.invariant.0.known _ c.in-None.ensures.none))
+    (none_denies _ _ (none_occurs all c.self.invariant.0.known _ c.in-None.ensures.none))
 
 pub returns-in-None-clause-line : goal.returns-in-None-clause-line
 returns-in-None-clause-line g c =
-    let all = c.self.inside.gathered in
-    rw (← c.self.view_is) (inr (none_stands all c.self.invariant.0.known _ c.in-None.ensures.none))
+    let all = c.self.inside.unsorted in
+    rw (← c.self.view_is) (inr (none_occurs all c.self.invariant.0.known _ c.in-None.ensures.none))
 
 pub returns-in-None-clause-looks : goal.returns-in-None-clause-looks
 returns-in-None-clause-looks g c =
-    let none = none_stands c.self.inside.gathered c.self.invariant.0.known _ c.in-None.ensures.none in
+    let none = none_occurs c.self.inside.unsorted c.self.invariant.0.known _ c.in-None.ensures.none in
     rw (← c.self.view_is) (record {
       all = rw length-map c.in-None.ensures.looks;
       tried = λ placed is. absurd (none placed is.listed is.matches);

@@ -1,11 +1,11 @@
 use Rattle.std.proofs.Common.{string_bytes, arith}
 use Rattle.std.proofs.lemmas.List.Sorted.{All-permutation, IsPermutation-map, length_permutation}
-use Rattle.texting_robots.specs.Steps.Entries.{IsEntry, placed_at}
+use Rattle.texting_robots.specs.Internal.Entries.{IsEntry, placed_at}
 use Rattle.texting_robots.proofs.rules.Rules.sorted.Goals as goal
 
-pub put_signs-requires : goal.put_signs-requires
-put_signs-requires c =
-    let all = c.args.gathered in
+pub put_masks-requires : goal.put_masks-requires
+put_masks-requires c =
+    let all = c.args.unsorted in
     let order = c.sort_entries.ensures.permutation in
     let is = IsEntry (string_bytes all.text) all.pieces.items all.borders.items in
     let known = All-permutation is _ _ order c.requires.known in
@@ -18,14 +18,14 @@ put_signs-requires c =
 
 pub invariant_of-result : goal.invariant_of-result
 invariant_of-result c =
-    let all = c.args.gathered in
+    let all = c.args.unsorted in
     let order = c.sort_entries.ensures in
     let is = IsEntry (string_bytes all.text) all.pieces.items all.borders.items in
     let known = All-permutation is _ _ order.permutation c.requires.known in
-    let put = rw (c.deref.ensures.value, c.as_bytes.ensures.value) at c.put_signs.ensures in
-    (record { known = known; signs = put.as_many }, order.sorted, put.signed)
+    let put = rw (c.deref.ensures.value, c.as_bytes.ensures.value) at c.put_masks.ensures in
+    (record { known = known; masks = put.as_many }, order.sorted, put.masked)
 
 pub returns : goal.returns
 returns c =
-    let rule = placed_at (string_bytes c.args.gathered.text) in
+    let rule = placed_at (string_bytes c.args.unsorted.text) in
     IsPermutation-map rule _ _ c.sort_entries.ensures.permutation

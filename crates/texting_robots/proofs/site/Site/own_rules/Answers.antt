@@ -1,6 +1,6 @@
 use Rattle.std.proofs.Common.{◌∙◌}
 use Rattle.texting_robots.specs.{Pattern.IsOverlong, Rules.PlacedRule}
-use Rattle.texting_robots.proofs.RulesLemmas.{all_added, first_more, given_more, given_none, refused_wider}
+use Rattle.texting_robots.proofs.RulesLemmas.{all_added, first_more, given_more, given_none, rejected_wider}
 use Rattle.texting_robots.proofs.SiteOwnLemmas.{any_given}
 use Rattle.texting_robots.proofs.site.Site.own_rules.Goals as goal
 
@@ -18,13 +18,13 @@ loop-line-preserved c =
           added.accepted so_far.accepted;
     }
 
-pub returns-in-Err-clause-refused : goal.returns-in-Err-clause-refused
-returns-in-Err-clause-refused c =
+pub returns-in-Err-clause-rejected : goal.returns-in-Err-clause-rejected
+returns-in-Err-clause-rejected c =
     let next = c.in-Some.ensures.steps in
-    refused_wider _ _ c.in-Err.error
+    rejected_wider _ _ c.in-Err.error
     (any_given (λ (placed : PlacedRule). IsOverlong placed.rule.0) _ _ _ _
     (rw next at c.loop-line.invariant.rules))
-    c.in-Err.ensures.refused
+    c.in-Err.ensures.rejected
 
 pub returns-in-Err-clause-unasked : goal.returns-in-Err-clause-unasked
 returns-in-Err-clause-unasked c = λ none.

@@ -1,8 +1,8 @@
 use Rattle.std.proofs.Common.{◌≡◌, ◌++◌, slice_get}
 use Rattle.std.specs.{List.All, List.filter_map, Option.option_or}
 use Rattle.texting_robots.specs.{Pattern.IsOverlong, Rules.PlacedRule}
-use Rattle.texting_robots.specs.Computed.{captured_delays, file_lines, placed_rules}
-use Rattle.texting_robots.specs.Steps.{Entries.AreEntries, Entries.rules_in, Site.delay_of, Site.rule_of}
+use Rattle.texting_robots.specs.Executable.{captured_delays, file_lines, placed_rules}
+use Rattle.texting_robots.specs.Internal.{Entries.AreEntries, Entries.rules_in, Site.delay_of, Site.rule_of}
 use Rattle.texting_robots.proofs.site.Site.own_rules.Given as goal
 
 abbrev pub invariant-loop-line : goal.invariant-loop-line

@@ -1,15 +1,15 @@
 use Rattle.std.proofs.Common.{List, IsPermutation, ap, subst, ◌∙◌}
 use Rattle.std.specs.Option.{option_or}
-use Rattle.texting_robots.specs.Computed.{delay_before_agents, file_lines}
+use Rattle.texting_robots.specs.Executable.{delay_before_agents, file_lines}
 use Rattle.texting_robots.specs.{Pattern.IsOverlong, Rules.PlacedRule, Rules.Rule}
-use Rattle.texting_robots.proofs.{HeadlineLemmas.nothing_of, HeadlineLemmas.robot_of}
-use Rattle.texting_robots.proofs.{RulesLemmas.none_unplaced, RulesLemmas.refused_wider}
-use Rattle.texting_robots.proofs.SiteOwnLemmas.{file_refused}
+use Rattle.texting_robots.proofs.{MainTheoremLemmas.nothing_of, MainTheoremLemmas.robot_of}
+use Rattle.texting_robots.proofs.{RulesLemmas.none_unplaced, RulesLemmas.rejected_wider}
+use Rattle.texting_robots.proofs.SiteOwnLemmas.{file_rejected}
 use Rattle.texting_robots.proofs.site.Site.robot.Goals as goal
 
-pub returns-in-Err-clause-refused : goal.returns-in-Err-clause-refused
-returns-in-Err-clause-refused c =
-    refused_wider _ _ c.in-Err.error (file_refused c.args.agent.now c.args.self.now) c.in-Err.ensures.refused
+pub returns-in-Err-clause-rejected : goal.returns-in-Err-clause-rejected
+returns-in-Err-clause-rejected c =
+    rejected_wider _ _ c.in-Err.error (file_rejected c.args.agent.now c.args.self.now) c.in-Err.ensures.rejected
 
 pub returns-clause-robot : goal.returns-clause-robot
 returns-clause-robot c =

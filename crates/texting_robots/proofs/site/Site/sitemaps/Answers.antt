@@ -1,6 +1,6 @@
 use Rattle.std.proofs.Common.{map, string_bytes}
-use Rattle.texting_robots.specs.{Computed.file_lines, Rules.AreSitemapsOf}
-use Rattle.texting_robots.proofs.{GivenLemmas.sitemaps_are_computed, HeadlineLemmas.has_lines}
+use Rattle.texting_robots.specs.{Executable.file_lines, Rules.AreSitemapsOf}
+use Rattle.texting_robots.proofs.{GivenLemmas.sitemaps_are_computed, MainTheoremLemmas.has_lines}
 use Rattle.texting_robots.proofs.site.Site.sitemaps.Goals as goal
 
 pub returns : goal.returns

@@ -1,12 +1,12 @@
 use Rattle.std.proofs.Common.{◌≤◌, length, map}
-use Rattle.texting_robots.specs.Steps.{Names.AreLinked, Site.named_of}
+use Rattle.texting_robots.specs.Internal.{Names.AreLinked, Site.named_of}
 use Rattle.texting_robots.proofs.site.names.link.Given as goal
 
-abbrev pub invariant-loop-place : goal.invariant-loop-place
-invariant-loop-place l = record {
-  within : l.place ≤ length l.lines;
-  linked : AreLinked l.place (map named_of l.lines) l.heads l.nexts;
+abbrev pub invariant-loop-position : goal.invariant-loop-position
+invariant-loop-position l = record {
+  within : l.position ≤ length l.lines;
+  linked : AreLinked l.position (map named_of l.lines) l.heads l.nexts;
 }
 
-abbrev pub decreases-loop-place : goal.decreases-loop-place
-decreases-loop-place l = l.place
+abbrev pub decreases-loop-position : goal.decreases-loop-position
+decreases-loop-position l = l.position

@@ -1,7 +1,7 @@
 use Rattle.std.proofs.Common.{◌++◌, ap, arith, drop, length, map, refl, sym, ◌∙◌}
 use Rattle.std.proofs.lemmas.{List.length-map, Option.slice_get_past}
 use Rattle.std.specs.{Prelude.filter, Str.str_to_ascii_lowercase}
-use Rattle.texting_robots.specs.Steps.{Own.is_later, Site.Tagged, Site.named_of, Site.tag_at}
+use Rattle.texting_robots.specs.Internal.{Own.is_later, Site.Tagged, Site.named_of, Site.tag_at}
 use Rattle.texting_robots.proofs.SiteNameLemmas.{agent_at}
 use Rattle.texting_robots.proofs.SiteOwnLemmas.{at_end, first_kept, next_run, same_run}
 use Rattle.texting_robots.proofs.site.own.next_line.Goals as goal
@@ -13,7 +13,7 @@ pub returns-in-Some : goal.returns-in-Some
 returns-in-Some c =
     let name = str_to_ascii_lowercase c.args.name.now in
     let tags = map (tag_at c.args.text.now) c.args.lines.now in
-    let left = drop c.loop-line.place c.args.names.now in
+    let left = drop c.loop-line.name_index c.args.names.now in
     let (_, front) = c.in-Some.ensures in (
       (c.loop-line.invariant.first, c.requires.1),
       sym c.loop-line.invariant.left
@@ -25,26 +25,26 @@ returns-in_err-named c =
     let name = str_to_ascii_lowercase c.args.name.now in
     let tags = map (tag_at c.args.text.now) c.args.lines.now in
     let (_, _, _, past, _) = c.in_err-named.ensures.lookup in
-    let none = slice_get_past c.args.names.now c.loop-line.place
+    let none = slice_get_past c.args.names.now c.loop-line.name_index
     (omega (arith, past, length-map c.lines.result.now named_of, ap length c.lines.ensures)) in
     rw c.from_residual.ensures (sym c.loop-line.invariant.left
-    ∙ at_end name c.loop-line.run c.loop-line.place c.args.names.now tags (drop c.loop-line.at tags) none
+    ∙ at_end name c.loop-line.run c.loop-line.name_index c.args.names.now tags (drop c.loop-line.at tags) none
     c.in_default.ensures)
 
-pub after-place-requires-clause-here : goal.after-place-requires-clause-here
-after-place-requires-clause-here c = c.loop-line.invariant.first
+pub after-position-requires-clause-here : goal.after-position-requires-clause-here
+after-position-requires-clause-here c = c.loop-line.invariant.first
 
 pub loop-line-preserved-then-named-run : goal.loop-line-preserved-then-named-run
 loop-line-preserved-then-named-run c =
     let name = str_to_ascii_lowercase c.args.name.now in
     let tags = map (tag_at c.args.text.now) c.args.lines.now in
     let (_, is, _, (within, _), _) = c.in_ok-named.ensures.lookup in
-    let at = agent_at c.lines.result.now c.args.names.now c.loop-line.place _ c.lines.ensures within is in
+    let at = agent_at c.lines.result.now c.args.names.now c.loop-line.name_index _ c.lines.ensures within is in
     record {
-      left = next_run name c.loop-line.run c.loop-line.place c.after-place.result c.args.names.now tags
+      left = next_run name c.loop-line.run c.loop-line.name_index c.after-position.result c.args.names.now tags
           (drop c.loop-line.at tags) _ at c.loop-line.invariant.first c.requires.1 c.if-named-run.true
-          c.in_default.ensures c.after-place.ensures ∙ c.loop-line.invariant.left;
-      first = first_kept name c.loop-line.place c.after-place.result c.args.names.now c.after-place.ensures;
+          c.in_default.ensures c.after-position.ensures ∙ c.loop-line.invariant.left;
+      first = first_kept name c.loop-line.name_index c.after-position.result c.args.names.now c.after-position.ensures;
     }
 
 pub loop-line-preserved : goal.loop-line-preserved
@@ -52,10 +52,10 @@ loop-line-preserved c =
     let name = str_to_ascii_lowercase c.args.name.now in
     let tags = map (tag_at c.args.text.now) c.args.lines.now in
     let (_, is, _, (within, _), _) = c.in_ok-named.ensures.lookup in
-    let at = agent_at c.lines.result.now c.args.names.now c.loop-line.place _ c.lines.ensures within is in
+    let at = agent_at c.lines.result.now c.args.names.now c.loop-line.name_index _ c.lines.ensures within is in
     record {
-      left = same_run name c.loop-line.run c.loop-line.place c.after-place.result c.args.names.now tags
-          (drop c.loop-line.at tags) _ at c.if-named-run.false c.after-place.ensures
+      left = same_run name c.loop-line.run c.loop-line.name_index c.after-position.result c.args.names.now tags
+          (drop c.loop-line.at tags) _ at c.if-named-run.false c.after-position.ensures
           ∙ c.loop-line.invariant.left;
-      first = first_kept name c.loop-line.place c.after-place.result c.args.names.now c.after-place.ensures;
+      first = first_kept name c.loop-line.name_index c.after-position.result c.args.names.now c.after-position.ensures;
     }

@@ -1,6 +1,6 @@
 use Rattle.std.proofs.Common.{◌≡◌, ◌-◌, drop, length, map}
 use Rattle.std.specs.Str.{str_to_ascii_lowercase}
-use Rattle.texting_robots.specs.Steps.{Names.first_named, Own.own_at, Own.own_from, Site.tag_at}
+use Rattle.texting_robots.specs.Internal.{Names.first_named, Own.own_at, Own.own_from, Site.tag_at}
 use Rattle.texting_robots.proofs.site.own.next_line.Given as goal
 
 abbrev pub invariant-loop-line : goal.invariant-loop-line
@@ -8,10 +8,10 @@ invariant-loop-line l =
     let name = str_to_ascii_lowercase l.name in
     let tags = map (tag_at l.text) l.lines in
     record {
-      left : own_from name l.run (drop l.at tags) (drop l.place l.names) tags
+      left : own_from name l.run (drop l.at tags) (drop l.name_index l.names) tags
           ≡ own_at name l.fn.start l.names tags;
-      first : first_named name (drop l.place l.names) ≡ 0;
+      first : first_named name (drop l.name_index l.names) ≡ 0;
     }
 
 abbrev pub decreases-loop-line : goal.decreases-loop-line
-decreases-loop-line l = length l.names - l.place
+decreases-loop-line l = length l.names - l.name_index

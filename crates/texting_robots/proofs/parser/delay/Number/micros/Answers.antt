@@ -3,6 +3,6 @@ use Rattle.texting_robots.proofs.parser.delay.Number.micros.Goals as goal
 
 pub returns : goal.returns
 returns c =
-    let place = rw (← c.self.view_is) at c.micros_digits-whole.ensures in
-    let rounded = micros_rounded _ c.micros_digits-whole.result c.self.invariant place in
+    let position = rw (← c.self.view_is) at c.micros_digits-whole.ensures in
+    let rounded = micros_rounded _ c.micros_digits-whole.result c.self.invariant position in
     rw (← c.self.view_is) cc

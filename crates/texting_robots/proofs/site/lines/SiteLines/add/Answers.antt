@@ -1,4 +1,4 @@
-use Rattle.texting_robots.specs.Steps.Site.{listed}
+use Rattle.texting_robots.specs.Internal.Site.{listed}
 use Rattle.texting_robots.proofs.SiteLemmas.{given_push}
 use Rattle.texting_robots.proofs.site.lines.SiteLines.add.Goals as goal
 

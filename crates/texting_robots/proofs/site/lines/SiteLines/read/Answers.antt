@@ -3,8 +3,8 @@ use Rattle.std.proofs.Common.{drop, length, map, None, refl, sym, take, true, â—
 use Rattle.std.proofs.lemmas.{Bool.Decides.nat_tests, List.length-append, List.nil_from_length}
 use Rattle.std.proofs.Math.Seq.{drop-append_seam, take-append_seam}
 use Rattle.std.specs.List.{filter_map, last_or, list_any}
-use Rattle.texting_robots.specs.{Computed.file_lines, Group.is_agent, Line.LineValue, Line.delay_in}
-use Rattle.texting_robots.specs.Steps.{Cut.read_as, Line.line_of, Line.lines_of, Site.line_at}
+use Rattle.texting_robots.specs.{Executable.file_lines, Group.is_agent, Line.LineValue, Line.delay_in}
+use Rattle.texting_robots.specs.Internal.{Cut.read_as, Line.line_of, Line.lines_of, Site.line_at}
 use Rattle.texting_robots.proofs.{CutFromFront.bodies_nil, LineLemmas.front_read}
 use Rattle.texting_robots.proofs.RulesLemmas.{before_agents, given_more}
 use Rattle.texting_robots.proofs.SiteLemmas.{agents_more, early_more}

@@ -5,43 +5,43 @@ use Rattle.texting_robots.proofs.NameLemmas.{tested_names}
 use Rattle.texting_robots.proofs.SiteNameLemmas.{agent_at, found, further, passed, walk_on}
 use Rattle.texting_robots.proofs.site.names.Names.find_from.Goals as goal
 
-pub loop-place-preserved : goal.loop-place-preserved
-loop-place-preserved c =
+pub loop-position-preserved : goal.loop-position-preserved
+loop-position-preserved c =
     let linked = rw c.self.view_is at c.self.invariant in
     let name = str_to_ascii_lowercase c.args.name.now in
-    let at = agent_at c.self.inside.lines.items c.args.self.now c.loop-place.place c.index.result.now
+    let at = agent_at c.self.inside.lines.items c.args.self.now c.loop-position.position c.index.result.now
     c.self.view_is
     (omega arith) c.index.ensures in
     let test = rw c.deref.ensures.value at c.eq_ignore_ascii_case.ensures.test in
     let isnt = sym (tested_names c.eq_ignore_ascii_case.result _ name test)
     ∙ c.if-eq_ignore_ascii_case.false in
-    let next = walk_on name c.args.self.now _ _ c.loop-place.place c.index-place.result.now _ linked at
-    c.index-place.ensures c.loop-place.invariant.here in record {
+    let next = walk_on name c.args.self.now _ _ c.loop-position.position c.index-position.result.now _ linked at
+    c.index-position.ensures c.loop-position.invariant.here in record {
       here = next.here;
-      rest = next.rest ∙ passed name c.args.self.now c.loop-place.place _ at isnt
-          ∙ c.loop-place.invariant.rest;
+      rest = next.rest ∙ passed name c.args.self.now c.loop-position.position _ at isnt
+          ∙ c.loop-position.invariant.rest;
     }
 
 pub returns-then-eq_ignore_ascii_case : goal.returns-then-eq_ignore_ascii_case
 returns-then-eq_ignore_ascii_case c =
     let name = str_to_ascii_lowercase c.args.name.now in
-    let at = agent_at c.self.inside.lines.items c.args.self.now c.loop-place.place c.index.result.now
+    let at = agent_at c.self.inside.lines.items c.args.self.now c.loop-position.position c.index.result.now
     c.self.view_is
     (omega arith) c.index.ensures in
     let test = rw c.deref.ensures.value at c.eq_ignore_ascii_case.ensures.test in
     let is = sym (tested_names c.eq_ignore_ascii_case.result _ name test)
     ∙ c.if-eq_ignore_ascii_case.true in
-    let here = found name c.args.self.now c.loop-place.place _ at is in
-    omega (arith, here, c.loop-place.invariant.rest)
+    let here = found name c.args.self.now c.loop-position.position _ at is in
+    omega (arith, here, c.loop-position.invariant.rest)
 
-pub loop-place-smaller : goal.loop-place-smaller
-loop-place-smaller c =
+pub loop-position-smaller : goal.loop-position-smaller
+loop-position-smaller c =
     let linked = rw c.self.view_is at c.self.invariant in
-    let at = agent_at c.self.inside.lines.items c.args.self.now c.loop-place.place c.index.result.now
+    let at = agent_at c.self.inside.lines.items c.args.self.now c.loop-position.position c.index.result.now
     c.self.view_is
     (omega arith) c.index.ensures in
-    let more = further c.args.self.now _ _ c.loop-place.place c.index-place.result.now _ linked at
-    c.index-place.ensures in
-    let less : length c.args.self.now - c.index-place.result.now < length c.args.self.now -
-    c.loop-place.place =
-    omega (arith, more, slice_get_within c.args.self.now c.loop-place.place _ at) in less
+    let more = further c.args.self.now _ _ c.loop-position.position c.index-position.result.now _ linked at
+    c.index-position.ensures in
+    let less : length c.args.self.now - c.index-position.result.now < length c.args.self.now -
+    c.loop-position.position =
+    omega (arith, more, slice_get_within c.args.self.now c.loop-position.position _ at) in less

@@ -1,7 +1,7 @@
 use Rattle.std.proofs.Common.{ap, drop, map, refl, ◌∙◌, arith}
 use Rattle.std.specs.Str.{str_to_ascii_lowercase}
 use Rattle.std.proofs.lemmas.List.{length-map}
-use Rattle.texting_robots.specs.Steps.{Names.first_named, Site.has_name, Site.tag_at}
+use Rattle.texting_robots.specs.Internal.{Names.first_named, Site.has_name, Site.tag_at}
 use Rattle.texting_robots.proofs.{SiteNameLemmas.first_here, SiteOwnLemmas.whole_walk}
 use Rattle.texting_robots.proofs.site.own.OwnLines.new.Goals as goal
 
@@ -16,6 +16,6 @@ invariant_of-result c =
 pub returns : goal.returns
 returns c =
     whole_walk (str_to_ascii_lowercase c.args.name.now)
-    (record { place = c.first.result; run = 0; at = c.first_line.result }) c.args.names.now
+    (record { name_index = c.first.result; run = 0; at = c.first_line.result }) c.args.names.now
     (map (tag_at c.args.text.now) c.args.lines.now) c.first.ensures refl c.first_line.ensures.unnamed
     (λ some. omega (arith, c.first_line.ensures.named some, length-map c.args.lines.now (tag_at c.args.text.now)))

@@ -1,0 +1,27 @@
+-- What the program keeps, by value.
+pub mod Agents
+use Rattle.std.specs.Prelude.{map, string_bytes}
+use Rattle.texting_robots.specs.Callers.{label_by_value}
+use Rattle.robots_audit.specs.declared.audit.AgentAudit.{AgentAudit}
+use Rattle.robots_audit.specs.declared.audit.Audit.{Audit}
+use Rattle.robots_audit.specs.declared.audit.Verdict.{Verdict}
+use Rattle.robots_audit.specs.Audit.{AgentValue, AuditValue, VerdictValue}
+use Rattle.robots_warnings.specs.Internal.{warning_value}
+
+abbrev pub verdict_value : Verdict → VerdictValue
+verdict_value verdict = record { url = verdict.url.now; decision = verdict.decision }
+
+abbrev pub agent_value : AgentAudit → AgentValue
+agent_value audit = record {
+  agent = string_bytes audit.agent;
+  group = audit.group;
+  delay = audit.delay;
+  verdicts = map verdict_value audit.verdicts.items;
+}
+
+abbrev pub audit_value : Audit → AuditValue
+audit_value audit = record {
+  labels = map label_by_value audit.labels.items;
+  agents = map agent_value audit.agents.items;
+  warnings = map warning_value audit.warnings.items;
+}

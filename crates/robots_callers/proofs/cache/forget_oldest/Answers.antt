@@ -1,5 +1,0 @@
-use Rattle.std.proofs.Common.{rules}
-use Rattle.robots_callers.proofs.cache.forget_oldest.Goals as goal
-
-pub returns : goal.returns
-returns c = search rules

@@ -1,0 +1,31 @@
+-- The rows of an audit.
+use Rattle.std.specs.Prelude.{ℕ, ◌+◌, List, [], ◌∷◌}
+use Rattle.texting_robots.specs.Callers.{LineValue, UserAgent, Allow, Disallow, CrawlDelay, Raw, by_value}
+use Rattle.texting_robots.specs.Callers.{Sitemap as SitemapLine}
+use Rattle.robots_examples.specs.declared.audit.Kind.{Kind}
+use Rattle.robots_examples.specs.declared.audit.Kind.TheVariants.{Agent, Rule, Sitemap, Delay, Other}
+use Rattle.robots_examples.specs.declared.audit.Row.{Row}
+
+-- what a line is
+abbrev pub kind_of : LineValue → Kind
+kind_of (UserAgent value) = Agent
+kind_of (Allow value) = Rule
+kind_of (Disallow value) = Rule
+kind_of (SitemapLine value) = Sitemap
+kind_of (CrawlDelay delay) = Delay
+kind_of (Raw body) = Other
+
+-- a row by value, wherever the bytes of its line lie
+pub record RowValue : Type 0 where
+  pub number : ℕ
+  pub kind : Kind
+  pub line : LineValue
+
+abbrev pub row_value : Row → RowValue
+row_value row = record { number = row.number; kind = row.kind; line = by_value row.line }
+
+-- the rows of these lines, numbered from n on
+abbrev pub rows_from : ℕ → List LineValue → List RowValue
+rows_from n [] = []
+rows_from n (line ∷ lines) =
+    record { number = n; kind = kind_of line; line = line } ∷ rows_from (n + 1) lines

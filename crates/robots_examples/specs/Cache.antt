@@ -1,0 +1,35 @@
+-- What a cache keeps, and why it refuses.
+use Rattle.std.specs.Prelude.{◌≡◌, ◌⊎◌, ◌||◌, Bool, false, Err, IsOk, List, ℕ}
+use Rattle.std.specs.Prelude.{if◌then◌else◌, length, nat_lt, remove, take}
+use Rattle.url.specs.Parser.{IsOutOfRoom}
+use Rattle.url.specs.declared.error.ParseError.{ParseError}
+use Rattle.texting_robots.specs.Callers.{IsFileRejected, IsMemoryErrorOr, file_limit, robots_address}
+use Rattle.robots_examples.specs.declared.cache.CacheError.{CacheError}
+use Rattle.robots_examples.specs.declared.cache.CacheError.TheVariants.{Url, File, Memory}
+
+-- how many robots a cache keeps at most
+abbrev pub most_robots : ℕ
+most_robots = 64
+
+-- the error for which the URL has no address, or want of memory
+abbrev pub IsNoAddressOrMemory : List ℕ → ParseError → Type 0
+IsNoAddressOrMemory url error = (robots_address url ≡ Err error) ⊎ IsOutOfRoom error
+
+-- the error says why: the URL has no address, the file is refused for the agent, or want of memory
+abbrev pub IsCacheError : List ℕ → List ℕ → List ℕ → CacheError → Type 0
+IsCacheError agent url file (Url error) = IsNoAddressOrMemory url error
+IsCacheError agent url file (File error) =
+    IsOk (robots_address url) × IsMemoryErrorOr (IsFileRejected agent (take file_limit file)) error
+IsCacheError agent url file Memory = IsOk (robots_address url)
+    × (¬ IsFileRejected agent (take file_limit file))
+
+-- the entries; where there are `most_robots` and none has the address, without the first
+abbrev pub with_room : {E : Type 0} → Bool → List E → List E
+with_room is_known entries =
+    if nat_lt (length entries) most_robots || is_known then entries else remove entries 0
+
+-- the entries that are left after this error: all, but room was made where memory for one more was refused
+abbrev pub left_after : {E : Type 0} → CacheError → List E → List E
+left_after (Url error) entries = entries
+left_after (File error) entries = entries
+left_after Memory entries = with_room false entries

@@ -1,0 +1,61 @@
+//! A site's audit: a row for each line of a robots.txt file.
+ghost use Rattle.std.specs.Prelude.{◌≡◌, IfOk, map};
+ghost use Rattle.robots_examples.specs.Audit.{kind_of, row_value, rows_from};
+ghost use Rattle.texting_robots.specs.Callers.{by_value, file_lines};
+
+use std::alloc::{AllocError, Global};
+use texting_robots::parser::{Line, file_lines};
+
+/// What a line is.
+#[derive(Clone, Copy, PartialEq, Eq, Debug)]
+pub enum Kind {
+    /// It names a crawler.
+    Agent,
+    /// It is a rule.
+    Rule,
+    /// It holds for every crawler.
+    Sitemap,
+    /// It says how long a crawler waits.
+    Delay,
+    /// It is no statement: an empty line, a comment, or a line that crawlers pass over.
+    Other,
+}
+
+/// A row of the audit.
+#[derive(Clone, Copy, PartialEq, Eq, Debug)]
+pub struct Row<'a> {
+    /// The line's number, counted from 1, as in `texting_robots::Decision`.
+    pub number: usize,
+    /// What the line is.
+    pub kind: Kind,
+    /// The line.
+    pub line: Line<'a>,
+}
+
+/// What a line is.
+fn kind_of(line: Line<'_>) -> Kind
+    ensures { result ≡ kind_of (by_value line.entry) }
+{
+    match line {
+        Line::UserAgent(_) => Kind::Agent,
+        Line::Allow(_) | Line::Disallow(_) => Kind::Rule,
+        Line::Sitemap(_) => Kind::Sitemap,
+        Line::CrawlDelay(_) => Kind::Delay,
+        Line::Raw(_) => Kind::Other,
+    }
+}
+
+/// A row for each line of a file, in the file's order.
+pub fn audit<'a>(alloc: Global, file: &'a [u8]) -> Result<Vec<Row<'a>>, AllocError>
+    ensures { IfOk result (λ rows. map row_value rows.items ≡ rows_from 1 (file_lines file.now)) }
+{
+    let mut rows = Vec::new(alloc);
+    for line in file_lines(file) {
+        rows.push(Row {
+            number: rows.len() + 1,
+            kind: kind_of(line),
+            line,
+        })?;
+    }
+    Ok(rows)
+}

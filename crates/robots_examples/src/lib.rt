@@ -1,0 +1,9 @@
+//! Callers of the library `texting_robots`: a polite crawler, a link checker, a site audit, a cache of robots, and one question
+//! about one file. Each has a contract that follows from the library's contracts alone.
+#![tactic(auto)]
+
+pub mod audit;
+pub mod cache;
+pub mod crawler;
+pub mod link_check;
+pub mod single_query;

@@ -1,0 +1,33 @@
+//! A link checker: how many of a page's links a crawler may not fetch.
+ghost use Rattle.std.specs.Prelude.{◌≡◌, map, sum_by};
+ghost use Rattle.std.specs.List.{AllZip};
+ghost use Rattle.robots_examples.specs.LinkCheck.{AreDenied};
+ghost use Rattle.texting_robots.specs.Callers.{LooksForRules, seen_of, unplaced};
+
+use texting_robots::Robot;
+use texting_robots::view::View;
+
+/// How many links are denied, and how many looks their views have taken in all, those before the call too: `u64::MAX` where
+/// there were more.
+#[derive(Clone, Copy, PartialEq, Eq, Debug)]
+pub struct Denied {
+    pub count: usize,
+    pub looks: u64,
+}
+
+/// Counts the links that a robot denies, by views of their prepared texts, and the looks of these views. It takes no memory.
+pub fn count_denied(robot: &Robot, links: &mut [View<'_>]) -> Denied
+    ensures count { AreDenied (unplaced robot.now.rules) (map (λ link. link.text) links.old) result.count }
+    ensures views { AllZip (LooksForRules robot.now.rules) links.old links.new }
+    ensures looks { result.looks ≡ seen_of (sum_by (λ link. link.looks) links.new) }
+{
+    let mut count = 0;
+    let mut looks: u64 = 0;
+    for link in links.iter_mut() {
+        if !robot.allowed_view(link) {
+            count += 1;
+        }
+        looks = looks.saturating_add(link.seen());
+    }
+    Denied { count, looks }
+}

@@ -1,0 +1,188 @@
+//! Calls on large inputs of what stands over the library: the ends and lines of programs, and the callers.
+use crate::large::{LONG, MANY, long, many_lines};
+use robots_examples::audit::audit;
+use robots_examples::cache::Cache;
+use robots_examples::crawler::{DelayPolicy, plan_for};
+use robots_examples::link_check::{Denied, count_denied};
+use robots_examples::single_query::may_fetch;
+use robots_io::fakes::{Sink, Source};
+use robots_io::lines::push_line;
+use robots_io::streams::{read_all, write_out};
+use robots_io::verdicts::push_decision;
+use std::alloc::Global;
+use texting_robots::view::View;
+use texting_robots::{Decision, Error, Robot};
+
+/// A call on large inputs.
+pub(crate) enum Call {
+    ReadAll,
+    WriteOut,
+    PushLine,
+    Plan,
+    CountDenied,
+    Audit,
+    Cache,
+    MayFetch,
+}
+
+/// The calls by their names, in the order in which they are made.
+pub(crate) const CALLS: &[(&str, Call)] = &[
+    ("robots_io: read_all on large inputs", Call::ReadAll),
+    ("robots_io: write_out on large inputs", Call::WriteOut),
+    ("robots_io: lines on large inputs", Call::PushLine),
+    ("robots_callers: plan_for on large inputs", Call::Plan),
+    (
+        "robots_callers: count_denied on large inputs",
+        Call::CountDenied,
+    ),
+    ("robots_callers: audit on large inputs", Call::Audit),
+    ("robots_callers: a full cache on large inputs", Call::Cache),
+    ("robots_callers: may_fetch on large inputs", Call::MayFetch),
+];
+
+/// Makes a call.
+pub(crate) fn answer(alloc: Global, call: &Call) -> Result<bool, Error> {
+    match call {
+        Call::ReadAll => reads(alloc),
+        Call::WriteOut => writes(alloc),
+        Call::PushLine => pushes_lines(alloc),
+        Call::Plan => plans(alloc),
+        Call::CountDenied => counts_denied(alloc),
+        Call::Audit => audits(alloc),
+        Call::Cache => fills_cache(alloc),
+        Call::MayFetch => may_fetch_long(alloc),
+    }
+}
+
+/// An input of one byte more than 64 MiB.
+fn reads(alloc: Global) -> Result<bool, Error> {
+    let input = long(alloc, &[("a", 67_108_865)])?;
+    match read_all(alloc, &mut Source::new(input.as_bytes(), usize::MAX)) {
+        Ok(all) => Ok(all.as_slice() == input.as_bytes()),
+        Err(_) => Ok(false),
+    }
+}
+
+/// How long reports are: a byte, 64 KiB, 8 MiB, and one more.
+const REPORTS: &[usize] = &[1, 65_536, 65_537, 8_388_608, 8_388_609];
+
+/// Each report goes to a writer that takes all that it is asked to.
+fn writes(alloc: Global) -> Result<bool, Error> {
+    for length in REPORTS {
+        let report = long(alloc, &[("a", *length)])?;
+        let mut sink = Sink::new(alloc, usize::MAX);
+        let answer = write_out(&mut sink, report.as_bytes());
+        if answer.is_err() || sink.held.as_slice() != report.as_bytes() {
+            return Ok(false);
+        }
+    }
+    Ok(true)
+}
+
+fn pushes_lines(alloc: Global) -> Result<bool, Error> {
+    let url = long(alloc, &[("/", 1), ("a", LONG)])?;
+    let want = long(
+        alloc,
+        &[
+            ("/", 1),
+            ("a", LONG),
+            ("\n", 1),
+            ("allow 7 /", 1),
+            ("a", LONG),
+            ("\n", 1),
+        ],
+    )?;
+    let mut text = String::new(alloc);
+    push_line(&mut text, &url, "")?;
+    let decision = Decision {
+        allowed: true,
+        line: Some(7),
+    };
+    push_decision(&mut text, &decision)?;
+    push_line(&mut text, "", &url)?;
+    Ok(text == want)
+}
+
+/// A file of more bytes than are read, and many long URLs.
+fn plans(alloc: Global) -> Result<bool, Error> {
+    let file = many_lines(alloc)?;
+    let url = long(alloc, &[("https://example.com/", 1), ("b", 10_000)])?;
+    let delay_policy = DelayPolicy {
+        usual: 1,
+        longest: 2,
+    };
+    let plan = plan_for(
+        alloc,
+        "Bot",
+        file.as_bytes(),
+        &[url.as_str(); 1_001],
+        delay_policy,
+    )?;
+    Ok(plan.urls.len() == 1_001)
+}
+
+/// Links that the first rule denies, for four looks each.
+fn counts_denied(alloc: Global) -> Result<bool, Error> {
+    let robot = Robot::new(alloc, "Bot", b"Disallow: /abc\n")?;
+    let mut links = Vec::new(alloc);
+    for _ in 0..MANY {
+        links.push(View::new("/abc/d"))?;
+    }
+    let want = Denied {
+        count: 200_001,
+        looks: 800_004,
+    };
+    Ok(count_denied(&robot, &mut links) == want)
+}
+
+fn audits(alloc: Global) -> Result<bool, Error> {
+    let file = many_lines(alloc)?;
+    Ok(audit(alloc, file.as_bytes())?.len() == MANY)
+}
+
+/// Keeps the robots of so many sites.
+fn put_sites(alloc: Global, cache: &mut Cache, count: usize) -> Result<(), Error> {
+    for site in 1..=count {
+        let url = format!(in alloc; "https://s{site}.example.com/")?;
+        cache
+            .put(alloc, "Bot", &url, b"")
+            .map_err(|_| Error::Memory)?;
+    }
+    Ok(())
+}
+
+/// Whether a cache has a robot for the site of a page.
+fn has_site(alloc: Global, cache: &Cache, page: &str) -> Result<bool, Error> {
+    match cache.find(alloc, page) {
+        Ok(found) => Ok(found.is_some()),
+        Err(_) => Err(Error::Memory),
+    }
+}
+
+/// Robots of 65 sites, of which the last has a large file and a long URL. The first site's robot makes room for it, and an unknown
+/// site has none.
+fn fills_cache(alloc: Global) -> Result<bool, Error> {
+    let file = many_lines(alloc)?;
+    let page = long(alloc, &[("https://example.com/", 1), ("b", LONG)])?;
+    let mut cache = Cache::new(alloc);
+    put_sites(alloc, &mut cache, 64)?;
+    match cache.put(alloc, "Bot", &page, file.as_bytes()) {
+        Ok(()) => is_full(alloc, &cache, &page),
+        Err(_) => Ok(false),
+    }
+}
+
+fn is_full(alloc: Global, cache: &Cache, page: &str) -> Result<bool, Error> {
+    Ok(
+        has_site(alloc, cache, page)?
+            && has_site(alloc, cache, "https://s2.example.com/")?
+            && !has_site(alloc, cache, "https://s1.example.com/")?
+            && !has_site(alloc, cache, "https://unknown.example.com/")?,
+    )
+}
+
+fn may_fetch_long(alloc: Global) -> Result<bool, Error> {
+    let file = many_lines(alloc)?;
+    let url = long(alloc, &[("https://example.com/", 1), ("b", LONG)])?;
+    may_fetch(alloc, "Bot", file.as_bytes(), &url)
+}

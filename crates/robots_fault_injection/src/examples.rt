@@ -1,0 +1,277 @@
+//! Worked examples of the callers: an audit, a cache of robots, a crawler's plans, a link checker, and one
+//! question about one file.
+use robots_examples::audit::{Kind, Row, audit};
+use robots_examples::cache::{Cache, CacheError, MOST};
+use robots_examples::crawler::{DelayPolicy, plan_for};
+use robots_examples::link_check::{Denied, count_denied};
+use robots_examples::single_query::may_fetch;
+use std::alloc::Global;
+use texting_robots::parser::Line;
+use texting_robots::view::View;
+use texting_robots::{Error, Robot};
+use url::ParseError;
+
+/// A call of a caller.
+pub(crate) enum Call {
+    Audit,
+    OneSite,
+    FullCache,
+    Plan,
+    CountDenied,
+    Looks,
+    MayFetch,
+}
+
+/// The calls by their names, in the order in which they are made.
+pub(crate) const CALLS: &[(&str, Call)] = &[
+    ("robots_callers: audit", Call::Audit),
+    ("robots_callers: a cache of one site", Call::OneSite),
+    (
+        "robots_callers: a cache of one site too many",
+        Call::FullCache,
+    ),
+    ("robots_callers: plan_for", Call::Plan),
+    ("robots_callers: count_denied", Call::CountDenied),
+    ("robots_callers: count_denied by its looks", Call::Looks),
+    ("robots_callers: may_fetch", Call::MayFetch),
+];
+
+/// Makes a call.
+pub(crate) fn answer(alloc: Global, call: &Call) -> Result<bool, Error> {
+    match call {
+        Call::Audit => Ok(are_rows(&audit(alloc, AUDITED)?)),
+        Call::OneSite => keeps_one_site(alloc),
+        Call::FullCache => forgets_oldest(alloc),
+        Call::Plan => Ok(plans(alloc)? && caps_delay(alloc)?),
+        Call::CountDenied => counts_denied(alloc),
+        Call::Looks => counts_looks(alloc),
+        Call::MayFetch => may_fetch_by_group(alloc),
+    }
+}
+
+/// The file that is audited.
+const AUDITED: &[u8] =
+    b"# hello\nUser-agent: *\nDisallow: /a # no\n\nNoindex: /x\nCrawl-delay: 1\nSitemap: s";
+
+/// What its lines are.
+const KINDS: &[Kind] = &[
+    Kind::Other,
+    Kind::Agent,
+    Kind::Rule,
+    Kind::Other,
+    Kind::Other,
+    Kind::Delay,
+    Kind::Sitemap,
+];
+
+/// Whether each line of the audited file has its row, and the third is the rule without its comment.
+fn are_rows(rows: &[Row<'_>]) -> bool {
+    for (position, row) in rows.iter().enumerate() {
+        if position.checked_add(1) != Some(row.number) || KINDS.get(position) != Some(&row.kind) {
+            return false;
+        }
+    }
+    rows.len() == KINDS.len() && rows.get(2).map(|row| row.line) == Some(Line::Disallow(b"/a"))
+}
+
+/// The file of example.com, whose robot is cached.
+const CACHED: &[u8] = b"User-agent: *\nDisallow: /a\n";
+
+/// Whether it is for want of memory that a robot isn't kept.
+fn is_memory(error: &CacheError) -> bool {
+    matches!(
+        error,
+        CacheError::Memory
+            | CacheError::File(Error::Memory)
+            | CacheError::Url(ParseError::OutOfMemory | ParseError::Overflow)
+    )
+}
+
+/// Whether a cache keeps the robot of a file, for the site of a URL.
+fn keeps(alloc: Global, cache: &mut Cache, url: &str, file: &[u8]) -> Result<bool, Error> {
+    match cache.put(alloc, "Bot", url, file) {
+        Ok(()) => Ok(true),
+        Err(error) if is_memory(&error) => Err(Error::Memory),
+        Err(_) => Ok(false),
+    }
+}
+
+/// Whether a cache refuses a URL that is on no site.
+fn rejects_mail(alloc: Global, cache: &mut Cache) -> Result<bool, Error> {
+    match cache.put(alloc, "Bot", "mailto:a@example.com", b"") {
+        Err(error) if is_memory(&error) => Err(Error::Memory),
+        Err(CacheError::Url(_)) => Ok(true),
+        _ => Ok(false),
+    }
+}
+
+/// Whether the robot that is kept for the site of a page says this of a URL: nothing where none is kept.
+fn says(
+    alloc: Global,
+    cache: &Cache,
+    page: &str,
+    url: &str,
+    want: Option<bool>,
+) -> Result<bool, Error> {
+    match cache.find(alloc, page) {
+        Ok(Some(robot)) => Ok(Some(robot.allowed(alloc, url)?) == want),
+        Ok(None) => Ok(want.is_none()),
+        Err(ParseError::OutOfMemory | ParseError::Overflow) => Err(Error::Memory),
+        Err(_) => Ok(false),
+    }
+}
+
+/// Pages, URLs, and what a cache with the robot of example.com alone says of them.
+const SAID: &[(&str, &str, Option<bool>)] = &[
+    (
+        "https://example.com/c?d",
+        "https://example.com/a",
+        Some(false),
+    ),
+    (
+        "https://example.com/c?d",
+        "https://example.com/b",
+        Some(true),
+    ),
+    ("https://example.org/", "/b", None),
+];
+
+fn keeps_one_site(alloc: Global) -> Result<bool, Error> {
+    let mut cache = Cache::new(alloc);
+    if !keeps(alloc, &mut cache, "https://example.com/a/b", CACHED)? {
+        return Ok(false);
+    }
+    for (page, url, want) in SAID {
+        if !says(alloc, &cache, page, url, *want)? {
+            return Ok(false);
+        }
+    }
+    rejects_mail(alloc, &mut cache)
+}
+
+/// Whether a cache keeps the robots of as many sites as it can.
+fn keeps_most(alloc: Global, cache: &mut Cache) -> Result<bool, Error> {
+    for site in 0..MOST {
+        let url = format!(in alloc; "https://s{site}.example.com/")?;
+        if !keeps(alloc, cache, &url, b"")? {
+            return Ok(false);
+        }
+    }
+    Ok(cache.robots.len() == MOST)
+}
+
+/// The robot of example.com came first, and goes.
+fn forgets_oldest(alloc: Global) -> Result<bool, Error> {
+    let mut cache = Cache::new(alloc);
+    Ok(
+        keeps(alloc, &mut cache, "https://example.com/a/b", CACHED)?
+            && keeps_most(alloc, &mut cache)?
+            && says(alloc, &cache, "https://example.com/", "/", None)?,
+    )
+}
+
+/// The file of the site that is crawled.
+const CRAWLED: &[u8] =
+    b"User-agent: Ferris\nDisallow: /private\nAllow: /private/open\nCrawl-delay: 2.5\n\n\
+    User-agent: *\nDisallow: /\n";
+
+const WAITS: DelayPolicy = DelayPolicy {
+    usual: 1_000_000,
+    longest: 60_000_000,
+};
+
+/// The URLs that a crawler has found there.
+const URLS: &[&str] = &[
+    "https://example.com/",
+    "https://example.com/private/a",
+    "/private/open?x=1",
+    "/b",
+];
+
+/// Crawlers, how long each waits, and which of the URLs it fetches.
+const PLANS: &[(&str, u64, &[&str])] = &[
+    (
+        "FERRIS",
+        2_500_000,
+        &["https://example.com/", "/private/open?x=1", "/b"],
+    ),
+    ("Other", 1_000_000, &[]),
+];
+
+fn plans(alloc: Global) -> Result<bool, Error> {
+    for (agent, wait, urls) in PLANS {
+        let plan = plan_for(alloc, agent, CRAWLED, URLS, WAITS)?;
+        if plan.wait != *wait || plan.urls.as_slice() != *urls {
+            return Ok(false);
+        }
+    }
+    Ok(true)
+}
+
+/// A delay without an end is cut to the longest wait.
+fn caps_delay(alloc: Global) -> Result<bool, Error> {
+    let plan = plan_for(alloc, "Ferris", b"Crawl-delay: inf", &[], WAITS)?;
+    Ok(plan.wait == 60_000_000)
+}
+
+fn counts_denied(alloc: Global) -> Result<bool, Error> {
+    let file = b"User-agent: *\nDisallow: /a\nDisallow: /*.pdf$\n";
+    Ok(denies_two(&Robot::new(alloc, "LinkBot", file)?))
+}
+
+/// Whether a robot denies two links, of two rules and 31 bytes in all, and none where there is no link.
+fn denies_two(robot: &Robot) -> bool {
+    let links = &mut [
+        View::new("/a/b"),
+        View::new("/b"),
+        View::new("/c.pdf"),
+        View::new("/c.pdf?x"),
+        View::new("/robots.txt"),
+    ];
+    let found = count_denied(robot, links);
+    let none = Denied { count: 0, looks: 0 };
+    found.count == 2 && found.looks <= 2 * 31 * 2 && count_denied(robot, &mut []) == none
+}
+
+fn counts_looks(alloc: Global) -> Result<bool, Error> {
+    let robot = Robot::new(alloc, "LinkBot", b"User-agent: *\nDisallow: /abc\n")?;
+    Ok(looks_twice(&robot) && looks_little(&robot))
+}
+
+/// That `/abc` stands there takes a look at each of its four bytes; that it doesn't, one look at the first.
+/// The same links take as many looks again.
+fn looks_twice(robot: &Robot) -> bool {
+    let links = &mut [View::new("/abc"), View::new("?abc"), View::new("/abc/d")];
+    let once = Denied {
+        count: 2,
+        looks: 4 + 1 + 4,
+    };
+    let twice = Denied {
+        count: 2,
+        looks: 18,
+    };
+    count_denied(robot, links) == once && count_denied(robot, links) == twice
+}
+
+/// The first two bytes are the same, and the third is not; `/robots.txt` is always allowed, and no look.
+fn looks_little(robot: &Robot) -> bool {
+    let links = &mut [View::new("/axc"), View::new("/robots.txt")];
+    count_denied(robot, links) == Denied { count: 0, looks: 3 }
+}
+
+/// Agents, URLs, and whether each may fetch its own where `FerrisBot` may not fetch `/a`.
+const FIXTURE: &[(&str, &str, bool)] = &[
+    ("ferrisbot", "https://example.com/a?b", false),
+    ("FerrisBot", "https://example.com/b", true),
+    ("OtherBot", "/a", true),
+];
+
+fn may_fetch_by_group(alloc: Global) -> Result<bool, Error> {
+    let file = b"User-agent: FerrisBot\nDisallow: /a\n";
+    for (agent, url, want) in FIXTURE {
+        if may_fetch(alloc, agent, file, url)? != *want {
+            return Ok(false);
+        }
+    }
+    Ok(true)
+}

@@ -1,0 +1,76 @@
+//! Printed texts. Printing takes memory.
+use robots_examples::cache::CacheError;
+use std::alloc::Global;
+use texting_robots::minregex::MinRegex;
+use texting_robots::{Error, Robot};
+use url::ParseError;
+
+/// What is printed.
+pub(crate) enum Call {
+    Pattern,
+    Robot,
+    CacheErrors,
+}
+
+/// The calls by their names, in the order in which they are made.
+pub(crate) const CALLS: &[(&str, Call)] = &[
+    ("a pattern as printed", Call::Pattern),
+    ("a robot as printed", Call::Robot),
+    ("errors of a cache as printed", Call::CacheErrors),
+];
+
+/// Makes a call.
+pub(crate) fn answer(alloc: Global, call: &Call) -> Result<bool, Error> {
+    match call {
+        Call::Pattern => prints_pattern(alloc),
+        Call::Robot => prints_robot(alloc),
+        Call::CacheErrors => prints_errors(alloc),
+    }
+}
+
+/// A pattern is printed as it was given.
+fn prints_pattern(alloc: Global) -> Result<bool, Error> {
+    let pattern = MinRegex::new(alloc, "/a**b")?;
+    let text = format!(in alloc; "{pattern:?}")?;
+    Ok(text.as_str() == "MinRegex(\"/a**b\")")
+}
+
+/// A robot is printed with all of its rules, 101 that are as long and stand in the order of their lines: each with fifteen bytes and
+/// its number, with a comma and a blank behind each but the last.
+fn prints_robot(alloc: Global) -> Result<bool, Error> {
+    let file = "Disallow: /a\n".repeat(alloc, 101)?;
+    let robot = Robot::new(alloc, "Bot", file.as_bytes())?;
+    let text = format!(in alloc; "{robot:?}")?;
+    Ok(is_robot_of_101(&text))
+}
+
+fn is_robot_of_101(text: &str) -> bool {
+    let numbers = 9 + 2 * 90 + 3 * 2;
+    text.starts_with(
+        "Robot { delay: None, sitemaps: [], rules: [(\"/a\", false, 1), (\"/a\", false, 2), ",
+    ) && text.ends_with(", (\"/a\", false, 101)] }")
+        && text.len() == 43 + (101 * 15 + numbers + 100 * 2) + 3
+}
+
+/// The errors of a cache, and what each says.
+const ERRORS: &[(CacheError, &str)] = &[
+    (
+        CacheError::Url(ParseError::EmptyHost),
+        "No address of a robots.txt file: empty host",
+    ),
+    (
+        CacheError::File(Error::InvalidRule),
+        "No robot: Rule with $ is too long",
+    ),
+    (CacheError::Memory, "Out of memory"),
+];
+
+fn prints_errors(alloc: Global) -> Result<bool, Error> {
+    for (error, want) in ERRORS {
+        let text = error.to_string(alloc)?;
+        if text.as_str() != *want {
+            return Ok(false);
+        }
+    }
+    Ok(true)
+}

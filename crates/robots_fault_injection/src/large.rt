@@ -1,0 +1,285 @@
+//! The library's calls on large inputs. Where there is memory each is right: no length and no number is want of it.
+use std::alloc::Global;
+use texting_robots::labels::{is_named, labeled_lines};
+use texting_robots::minregex::MinRegex;
+use texting_robots::parser::{Line, file_lines, lines, read_delay, robots_txt_parse};
+use texting_robots::view::View;
+use texting_robots::{
+    Decision, Error, Robot, allowed_in_file, get_robots_url, push_escaped_bytes, robots_url_of,
+};
+
+/// A call on large inputs.
+pub(crate) enum Call {
+    Addresses,
+    ParseLines,
+    Lines,
+    LabeledLines,
+    ReadDelay,
+    Patterns,
+    ManyRules,
+    ManySitemaps,
+    WithLimit,
+    Allowed,
+    PrepareUrl,
+    Decision,
+    OneAgent,
+    PushEscapedBytes,
+}
+
+/// The calls by their names, in the order in which they are made.
+pub(crate) const CALLS: &[(&str, Call)] = &[
+    ("get_robots_url on large inputs", Call::Addresses),
+    ("robots_txt_parse on large inputs", Call::ParseLines),
+    ("parser::lines and file_lines on large inputs", Call::Lines),
+    ("marks on large inputs", Call::LabeledLines),
+    ("read_delay on large inputs", Call::ReadDelay),
+    ("MinRegex on large inputs", Call::Patterns),
+    ("Robot::new of many rules on large inputs", Call::ManyRules),
+    (
+        "Robot::new of many sitemaps on large inputs",
+        Call::ManySitemaps,
+    ),
+    ("Robot::with_limit on large inputs", Call::WithLimit),
+    ("Robot::allowed on large inputs", Call::Allowed),
+    ("Robot::prepare_url on large inputs", Call::PrepareUrl),
+    ("Robot::decision on large inputs", Call::Decision),
+    ("one_agent_allowed on large inputs", Call::OneAgent),
+    ("push_escaped_bytes on large inputs", Call::PushEscapedBytes),
+];
+
+/// How many lines a file has, or rules, or links a page.
+pub(crate) const MANY: usize = 200_001;
+
+/// How often a part stands in a long text.
+pub(crate) const LONG: usize = 1_000_001;
+
+/// The parts of a text, each with how often it stands.
+pub(crate) type Parts<'a> = &'a [(&'a str, usize)];
+
+/// A text by its parts.
+pub(crate) fn long(alloc: Global, parts: Parts<'_>) -> Result<String, Error> {
+    let mut text = String::new(alloc);
+    for (part, count) in parts {
+        text.push_str(&part.repeat(alloc, *count)?)?;
+    }
+    Ok(text)
+}
+
+/// Makes a call.
+pub(crate) fn answer(alloc: Global, call: &Call) -> Result<bool, Error> {
+    match call {
+        Call::Addresses => addresses(alloc),
+        Call::ParseLines => parse(alloc),
+        Call::Lines => counts_lines(alloc),
+        Call::LabeledLines => labels_lines(alloc),
+        Call::ReadDelay => reads_delays(alloc),
+        Call::Patterns => patterns(alloc),
+        Call::ManyRules => many_rules(alloc),
+        Call::ManySitemaps => many_sitemaps(alloc),
+        Call::WithLimit => with_limit(alloc),
+        Call::Allowed => allows(alloc),
+        Call::PrepareUrl => prepares(alloc),
+        Call::Decision => decides(alloc),
+        Call::OneAgent => one_agent(alloc),
+        Call::PushEscapedBytes => pushes_escaped(alloc),
+    }
+}
+
+/// Pages, the first on a site with a host of 254 bytes, and the addresses of their sites' files.
+const ADDRESSES: &[(Parts<'static>, Parts<'static>)] = &[
+    (
+        &[("http://", 1), ("ab.", 84), ("de/a?b", 1)],
+        &[("http://", 1), ("ab.", 84), ("de/robots.txt", 1)],
+    ),
+    (
+        &[("http://", 1), ("ab.", 6_666), ("host", 1)],
+        &[("http://", 1), ("ab.", 6_666), ("host/robots.txt", 1)],
+    ),
+    (
+        &[("https://example.com:8080/", 1), ("ab", LONG)],
+        &[("https://example.com:8080/robots.txt", 1)],
+    ),
+];
+
+fn addresses(alloc: Global) -> Result<bool, Error> {
+    for (page, want) in ADDRESSES {
+        let address = get_robots_url(alloc, &long(alloc, page)?).map_err(|_| Error::Memory)?;
+        if address != long(alloc, want)? {
+            return Ok(false);
+        }
+    }
+    Ok(true)
+}
+
+/// A file of many lines, which are the same.
+pub(crate) fn many_lines(alloc: Global) -> Result<String, Error> {
+    long(alloc, &[("Disallow: /a\n", MANY)])
+}
+
+fn parse(alloc: Global) -> Result<bool, Error> {
+    let file = many_lines(alloc)?;
+    let all = robots_txt_parse(alloc, file.as_bytes())?;
+    Ok(all.len() == MANY && all.last() == Some(&Line::Disallow(b"/a")))
+}
+
+fn counts_lines(alloc: Global) -> Result<bool, Error> {
+    let file = many_lines(alloc)?;
+    Ok(lines(file.as_bytes()).count() == MANY && file_lines(file.as_bytes()).count() == MANY)
+}
+
+fn labels_lines(alloc: Global) -> Result<bool, Error> {
+    let file = long(alloc, &[("User-agent: a\n", MANY), ("User-agent: b\n", 1)])?;
+    Ok(labels_all(file.as_bytes()))
+}
+
+fn labels_all(file: &[u8]) -> bool {
+    labeled_lines("b", file).count() == MANY + 1 && is_named("b", file) && !is_named("c", file)
+}
+
+/// Texts, and the delays that they name.
+const DELAYS: &[(Parts<'static>, u64)] = &[
+    (&[("9", 1_000_000)], u64::MAX),
+    (&[("0", 1_000_000), ("1", 1)], 1_000_000),
+    (&[("0.", 1), ("0", 1_000_000), ("1", 1)], 0),
+    (&[("1", 1), ("0", 1_000_000), ("e-1000000", 1)], 1_000_000),
+    (&[("0.", 1), ("0", 999_999), ("1e1000000", 1)], 1_000_000),
+    (&[("1e", 1), ("9", 1_000_000)], u64::MAX),
+    (&[("1e-", 1), ("9", 1_000_000)], 0),
+    (&[("0e", 1), ("9", 1_000_000)], 0),
+];
+
+fn reads_delays(alloc: Global) -> Result<bool, Error> {
+    for (parts, want) in DELAYS {
+        let text = long(alloc, parts)?;
+        if read_delay(text.as_bytes()) != Some(*want) {
+            return Ok(false);
+        }
+    }
+    Ok(true)
+}
+
+fn patterns(alloc: Global) -> Result<bool, Error> {
+    let pattern = long(alloc, &[("/", 1), ("a*", LONG)])?;
+    let text = long(alloc, &[("/", 1), ("a", LONG)])?;
+    let made = MinRegex::new(alloc, &pattern)?;
+    let copy = made.clone(alloc)?;
+    Ok(copy == made && copy.as_str() == pattern.as_str() && matches_all(&copy, &text))
+}
+
+/// Whether a pattern of many stars matches what stands between them. Each of its pieces stands right where it is looked for, so each
+/// byte of the text is looked at once.
+fn matches_all(pattern: &MinRegex, text: &str) -> bool {
+    let mut view = View::new(text);
+    pattern.is_match(text)
+        && pattern.match_stars(pattern.as_str().as_bytes(), text.as_bytes())
+        && pattern.matches_view(&mut view)
+        && view.seen() == 1 + 1_000_001
+}
+
+/// Whether the deciding line is this one, after exactly so many looks.
+fn decides_after(robot: &Robot, text: &str, line: Option<usize>, looks: u64) -> bool {
+    let mut view = View::new(text);
+    robot.decision(&mut view).line == line && view.seen() == looks
+}
+
+/// A file of 511,996 bytes. The last rule is the longest, so it is asked first, and then the first.
+fn many_rules(alloc: Global) -> Result<bool, Error> {
+    let file = long(alloc, &[("Allow:/\n", 63_998), ("Disallow:/a\n", 1)])?;
+    let robot = Robot::new(alloc, "Bot", file.as_bytes())?;
+    Ok(decides_after(&robot, "/ab", Some(63_999), 2) && decides_after(&robot, "/b", Some(1), 2 + 1))
+}
+
+/// A file of 512,000 bytes.
+fn many_sitemaps(alloc: Global) -> Result<bool, Error> {
+    let file = long(alloc, &[("Sitemap:a\n", 51_200)])?;
+    let robot = Robot::new(alloc, "Bot", file.as_bytes())?;
+    Ok(robot.sitemaps.len() == 51_200)
+}
+
+/// The first text is denied by the first rule, and with the second each rule is compared for two looks.
+fn with_limit(alloc: Global) -> Result<bool, Error> {
+    let file = many_lines(alloc)?;
+    let robot = Robot::with_limit(alloc, "Bot", file.as_bytes(), usize::MAX)?;
+    Ok(decides_after(&robot, "/ab", Some(1), 2) && decides_after(&robot, "/b", None, 400_002))
+}
+
+/// Paths and URLs, and whether a crawler may fetch them where a `z` at the end and `/a%00` are denied.
+const VERDICTS: &[(Parts<'static>, bool)] = &[
+    (&[("/", 1), ("ab", LONG)], true),
+    (&[("/", 1), ("ab", LONG), ("z", 1)], false),
+    (&[("/", 1), ("é", LONG)], true),
+    (&[("/", 1), ("é", LONG), ("z", 1)], false),
+    (&[("é", LONG), ("z", 1)], true),
+    (&[("https://example.com/", 1), ("ab", LONG)], true),
+    (
+        &[("https://example.com/", 1), ("ab", LONG), ("z", 1)],
+        false,
+    ),
+    (&[("https://example.com/?", 1), ("é", LONG)], true),
+    (
+        &[("https://example.com/?", 1), ("é", LONG), ("z", 1)],
+        false,
+    ),
+    (&[("/%00", 1)], true),
+    (&[("/a%00", 1)], false),
+    (&[("/a\0", 1)], false),
+    (&[("https://example.com/a%00", 1)], false),
+];
+
+fn allows(alloc: Global) -> Result<bool, Error> {
+    let robot = Robot::new(alloc, "Bot", b"Disallow: /*z$\nDisallow: /a%00\n")?;
+    for (parts, want) in VERDICTS {
+        if robot.allowed(alloc, &long(alloc, parts)?)? != *want {
+            return Ok(false);
+        }
+    }
+    Ok(true)
+}
+
+/// Paths and URLs, and their texts.
+const PREPARED: &[(Parts<'static>, Parts<'static>)] = &[
+    (&[("/", 1), ("é", LONG)], &[("/", 1), ("%C3%A9", LONG)]),
+    (&[("/", 1), ("a", LONG)], &[("/", 1), ("a", LONG)]),
+    (
+        &[("https://example.com/", 1), ("é", LONG)],
+        &[("/", 1), ("%C3%A9", LONG)],
+    ),
+];
+
+fn prepares(alloc: Global) -> Result<bool, Error> {
+    for (parts, want) in PREPARED {
+        if Robot::prepare_url(alloc, &long(alloc, parts)?)? != long(alloc, want)? {
+            return Ok(false);
+        }
+    }
+    Ok(true)
+}
+
+fn decides(alloc: Global) -> Result<bool, Error> {
+    let robot = Robot::new(alloc, "Bot", b"Disallow: /*z")?;
+    let text = long(alloc, &[("/", 1), ("a", LONG), ("z", 1)])?;
+    Ok(denies_by_star(&robot, &text))
+}
+
+/// Whether a text is denied by a rule with a star, for which each byte up to the `z` is looked at once.
+fn denies_by_star(robot: &Robot, text: &str) -> bool {
+    let mut view = View::new(text);
+    decides_after(robot, text, Some(1), 1 + 1_000_001 + 1)
+        && !robot.allowed_view(&mut view)
+        && !robot.allowed_prepared(text)
+}
+
+/// Each rule is compared with the text's first two bytes.
+fn one_agent(alloc: Global) -> Result<bool, Error> {
+    let file = long(alloc, &[("Disallow:/b\n", 40_000)])?;
+    let text = long(alloc, &[("/", 1), ("a", LONG)])?;
+    let mut view = View::new(&text);
+    Ok(allowed_in_file(alloc, "Bot", file.as_bytes(), &mut view)? && view.seen() == 80_000)
+}
+
+fn pushes_escaped(alloc: Global) -> Result<bool, Error> {
+    let bytes = long(alloc, &[("é", LONG)])?;
+    let mut text = String::new(alloc);
+    push_escaped_bytes(&mut text, bytes.as_bytes())?;
+    Ok(text == long(alloc, &[("%C3%A9", LONG)])?)
+}

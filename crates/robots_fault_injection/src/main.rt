@@ -1,0 +1,69 @@
+//! Makes the calls of the libraries one after the other, on small inputs and on large ones, and prints for each whether its answer
+//! is right.
+//!
+//! With memory for all, each line says `right`, whatever the length of an input and the number of its parts. The tests
+//! `tests/test_allocation_failures.py` run this program while allocations fail; then a call that allocates may also say
+//! `out of memory`. A name on standard input chooses one call.
+#![tactic(auto)]
+
+mod callers;
+mod calls;
+mod examples;
+mod format;
+mod large;
+mod no_alloc;
+mod sites;
+mod streams;
+
+use std::io::Read;
+use std::process::ExitCode;
+use texting_robots::Error;
+
+/// Prints what came of a call, and tells whether that may be.
+fn print_verdict(rt: &HostRuntime, name: &str, answer: Result<bool, Error>) -> bool {
+    let (word, may_be) = match answer {
+        Ok(true) => ("right", true),
+        Ok(false) => ("WRONG", false),
+        Err(Error::Memory) => ("out of memory", true),
+        Err(Error::InvalidRobots | Error::InvalidRule) => ("WRONG ERROR", false),
+    };
+    println!(rt; "{name}: {word}").is_ok() && may_be
+}
+
+/// Whether the line on standard input chooses the call of this name. Where there is none, all are chosen.
+fn is_chosen(line: &[u8], name: &str) -> bool {
+    line.is_empty() || line.strip_suffix(b"\n") == Some(name.as_bytes())
+}
+
+/// Makes those calls of a module that the line on standard input chooses, and clears `well` where what came of one may not be.
+macro_rules! make_calls {
+    ($rt:expr, $line:expr, $well:ident, $module:ident) => {
+        for (name, call) in $module::CALLS {
+            if is_chosen($line, name) {
+                $well &= print_verdict($rt, name, $module::answer($rt.alloc(), call));
+            }
+        }
+    };
+}
+
+/// Makes the calls that the line on standard input chooses, and tells whether what came of each may be.
+fn makes_calls(rt: &HostRuntime, line: &[u8]) -> bool {
+    let mut well = true;
+    make_calls!(rt, line, well, calls);
+    make_calls!(rt, line, well, printed);
+    make_calls!(rt, line, well, quiet);
+    make_calls!(rt, line, well, large);
+    make_calls!(rt, line, well, sites);
+    make_calls!(rt, line, well, callers);
+    make_calls!(rt, line, well, ends);
+    make_calls!(rt, line, well, worked);
+    well
+}
+
+fn main(rt: HostRuntime) -> ExitCode {
+    let mut buffer = [0; 80];
+    match rt.stdin().read(&mut buffer) {
+        Ok(count) if makes_calls(&rt, &buffer[..count]) => ExitCode::SUCCESS,
+        _ => ExitCode::FAILURE,
+    }
+}

@@ -1,0 +1,355 @@
+//! Calls that take no memory. Each is asked of a robot, two patterns and a URL that were made before it.
+use crate::calls::{PAGE, PAGE_LINES, PATTERN, ferris, is_right_robot, parsed};
+use std::alloc::Global;
+use std::cmp::Ordering;
+use texting_robots::labels::{LabeledLine, Membership, is_named, labeled_lines};
+use texting_robots::minregex::MinRegex;
+use texting_robots::parser::{Line, LineIter, file_lines, lines, read_delay};
+use texting_robots::view::View;
+use texting_robots::{Decision, Error, Robot, Site};
+use url::Url;
+
+/// A call that takes no memory.
+pub(crate) enum Call {
+    /// None but those that make what is asked, which take memory.
+    MakeFixture,
+    AllowedPrepared,
+    AllowedUrl,
+    AllowedPath,
+    AllowedWholeUrl,
+    AllowedView,
+    Decision,
+    DecisionPrepared,
+    DecidePath,
+    SiteDelay,
+    SiteNames,
+    SiteRobot,
+    IsMatch,
+    MatchesView,
+    MatchStars,
+    AsStr,
+    Comparisons,
+    View,
+    Looks,
+    Lines,
+    FileLines,
+    ReadDelay,
+    LabeledLines,
+    IsNamed,
+    /// It makes a robot of a file of line ends alone.
+    NewRobot,
+}
+
+/// The calls by their names, in the order in which they are made.
+pub(crate) const CALLS: &[(&str, Call)] = &[
+    ("a robot, two patterns and a URL", Call::MakeFixture),
+    (
+        "Robot::allowed_prepared without memory",
+        Call::AllowedPrepared,
+    ),
+    ("Robot::allowed_url without memory", Call::AllowedUrl),
+    (
+        "Robot::allowed of a plain path without memory",
+        Call::AllowedPath,
+    ),
+    (
+        "Robot::allowed of a plain URL without memory",
+        Call::AllowedWholeUrl,
+    ),
+    ("Robot::allowed_view without memory", Call::AllowedView),
+    ("Robot::decision without memory", Call::Decision),
+    (
+        "Robot::decision_prepared without memory",
+        Call::DecisionPrepared,
+    ),
+    (
+        "Robot::decide of a plain path without memory",
+        Call::DecidePath,
+    ),
+    ("Site::delay without memory", Call::SiteDelay),
+    ("names of a site without memory", Call::SiteNames),
+    (
+        "Site::robot of a crawler without rules without memory",
+        Call::SiteRobot,
+    ),
+    ("MinRegex::is_match without memory", Call::IsMatch),
+    ("MinRegex::matches_view without memory", Call::MatchesView),
+    ("MinRegex::match_stars without memory", Call::MatchStars),
+    ("MinRegex::as_str without memory", Call::AsStr),
+    ("comparisons without memory", Call::Comparisons),
+    ("View without memory", Call::View),
+    ("small questions by their looks without memory", Call::Looks),
+    ("parser::lines without memory", Call::Lines),
+    ("parser::file_lines without memory", Call::FileLines),
+    ("parser::read_delay without memory", Call::ReadDelay),
+    ("marks::marked_lines without memory", Call::LabeledLines),
+    ("marks::is_named without memory", Call::IsNamed),
+    ("Robot::new on line ends without memory", Call::NewRobot),
+];
+
+/// What the calls are asked of.
+#[derive(Drop)]
+struct Fixture<'a> {
+    robot: &'a Robot,
+    patterns: &'a Patterns,
+    url: &'a Url,
+    /// A site, which the call of the others' name makes too.
+    site: &'a Site,
+}
+
+/// Two patterns, of which the longer comes first in their order.
+#[derive(Drop)]
+struct Patterns {
+    longer: MinRegex,
+    shorter: MinRegex,
+}
+
+fn make_patterns(alloc: Global) -> Result<Patterns, Error> {
+    Ok(Patterns {
+        longer: MinRegex::new(alloc, PATTERN)?,
+        shorter: MinRegex::new(alloc, "/*")?,
+    })
+}
+
+/// Makes the robot, the patterns and the URL that are asked, and then a call.
+pub(crate) fn answer(alloc: Global, call: &Call) -> Result<bool, Error> {
+    answer_of(alloc, &ferris(alloc)?, call)
+}
+
+/// Makes the patterns and the URL, and then a call.
+fn answer_of(alloc: Global, robot: &Robot, call: &Call) -> Result<bool, Error> {
+    answer_with(alloc, robot, &make_patterns(alloc)?, call)
+}
+
+/// Makes the site and the URL, and then a call.
+fn answer_with(
+    alloc: Global,
+    robot: &Robot,
+    patterns: &Patterns,
+    call: &Call,
+) -> Result<bool, Error> {
+    answer_at(alloc, robot, patterns, &Site::new(alloc, NAMES)?, call)
+}
+
+/// Makes the URL, and then a call.
+fn answer_at(
+    alloc: Global,
+    robot: &Robot,
+    patterns: &Patterns,
+    site: &Site,
+    call: &Call,
+) -> Result<bool, Error> {
+    let url = &parsed(alloc, "https://www.rust-lang.org/rust")?;
+    let fixture = Fixture {
+        robot,
+        patterns,
+        url,
+        site,
+    };
+    asks(alloc, &fixture, call)
+}
+
+/// Makes a call. Only five are passed the allocator.
+fn asks(alloc: Global, fixture: &Fixture, call: &Call) -> Result<bool, Error> {
+    match call {
+        Call::AllowedPath => asks_paths(alloc, fixture.robot),
+        Call::AllowedWholeUrl => asks_whole_urls(alloc, fixture.robot),
+        Call::NewRobot => reads_line_ends(alloc),
+        Call::DecidePath => decides_path(alloc, fixture.robot),
+        Call::SiteRobot => Ok(fixture.site.robot(alloc, "BobBot")?.delay == Some(2_000_000)),
+        _ => Ok(is_right(fixture, call)),
+    }
+}
+
+/// Whether the answer to a call is right that isn't passed the allocator.
+fn is_right(fixture: &Fixture, call: &Call) -> bool {
+    match call {
+        Call::MakeFixture => is_right_robot(fixture.robot),
+        Call::AllowedPrepared => asks_prepared(fixture.robot),
+        Call::AllowedUrl => !fixture.robot.allowed_url(fixture.url),
+        Call::AllowedView => asks_view(fixture.robot),
+        Call::Decision => asks_decision(fixture.robot),
+        Call::DecisionPrepared => asks_decision_prepared(fixture.robot),
+        Call::SiteDelay => gives_delays(fixture.site),
+        Call::SiteNames => gives_names(fixture.site),
+        Call::IsMatch => asks_match(&fixture.patterns.longer),
+        Call::MatchesView => asks_match_of_view(&fixture.patterns.longer),
+        Call::MatchStars => asks_match_of_stars(&fixture.patterns.longer),
+        Call::AsStr => fixture.patterns.longer.as_str() == "/*ab*ba$",
+        Call::Comparisons => compares(fixture.patterns),
+        Call::View => looks(),
+        Call::Looks => takes_looks(fixture),
+        Call::Lines => gives_page(lines(PAGE)),
+        Call::FileLines => gives_page(file_lines(PAGE)),
+        Call::ReadDelay => reads_delays(),
+        Call::LabeledLines => labels_page(),
+        Call::IsNamed => is_named("smerbot", PAGE) && !is_named("BobBot", PAGE),
+        Call::AllowedPath
+        | Call::AllowedWholeUrl
+        | Call::NewRobot
+        | Call::DecidePath
+        | Call::SiteRobot => false,
+    }
+}
+
+fn asks_prepared(robot: &Robot) -> bool {
+    robot.allowed_prepared("/ocean")
+        && robot.allowed_prepared("/robots.txt")
+        && !robot.allowed_prepared("/rust")
+        && !robot.allowed_prepared("/forest/tree/snake.py")
+}
+
+/// Asks for paths of which nothing is escaped.
+fn asks_paths(alloc: Global, robot: &Robot) -> Result<bool, Error> {
+    Ok(robot.allowed(alloc, "/ocean/reef.html")? && !robot.allowed(alloc, "/rust")?)
+}
+
+/// Asks for URLs that stand as they are.
+fn asks_whole_urls(alloc: Global, robot: &Robot) -> Result<bool, Error> {
+    Ok(
+        robot.allowed(alloc, "https://www.rust-lang.org/ocean/reef.html?a#b")?
+            && robot.allowed(alloc, "http://www.rust-lang.org:8080")?
+            && !robot.allowed(alloc, "https://www.rust-lang.org/rust")?,
+    )
+}
+
+fn asks_view(robot: &Robot) -> bool {
+    let mut view = View::new("/forest/tree/snake.py");
+    !robot.allowed_view(&mut view) && robot.allowed_view(&mut View::new("/ocean"))
+}
+
+fn asks_decision(robot: &Robot) -> bool {
+    let rejected = Decision {
+        allowed: false,
+        line: Some(4),
+    };
+    let of_another_line = Decision {
+        allowed: false,
+        line: Some(3),
+    };
+    let decision = robot.decision(&mut View::new("/forest/tree/snake.py"));
+    decision == rejected
+        && decision != of_another_line
+        && robot.decision(&mut View::new("/robots.txt")).line.is_none()
+}
+
+/// The deciding line, with no comparison counted.
+fn asks_decision_prepared(robot: &Robot) -> bool {
+    robot.decision_prepared("/forest/tree/snake.py").line == Some(4)
+        && robot.decision_prepared("/robots.txt").line.is_none()
+}
+
+/// Decides on a path of which nothing is escaped.
+fn decides_path(alloc: Global, robot: &Robot) -> Result<bool, Error> {
+    Ok(robot.decide(alloc, "/ocean/reef.html")?.line == Some(2))
+}
+
+/// A site's file: one crawler's rule, and a delay for all others.
+const NAMES: &[u8] = b"Crawl-delay: 2\nUser-agent: SmerBot\nCrawl-delay: 3\nDisallow: /a";
+
+fn gives_delays(site: &Site) -> bool {
+    site.delay("smerbot") == Some(3_000_000) && site.delay("BobBot") == Some(2_000_000)
+}
+
+fn gives_names(site: &Site) -> bool {
+    site.is_named("SMERBOT") && !site.is_named("*") && site.group_name("BobBot") == b"*".as_slice()
+}
+
+fn asks_match(pattern: &MinRegex) -> bool {
+    pattern.is_match("/abba") && !pattern.is_match("/aba")
+}
+
+fn asks_match_of_view(pattern: &MinRegex) -> bool {
+    pattern.matches_view(&mut View::new("/abba")) && !pattern.matches_view(&mut View::new("/aba"))
+}
+
+fn asks_match_of_stars(pattern: &MinRegex) -> bool {
+    pattern.match_stars(b"/a$", b"/a$b")
+        && !pattern.match_stars(b"/a$", b"/a")
+        && !pattern.match_stars(b"b*c", b"*abc")
+}
+
+fn compares(patterns: &Patterns) -> bool {
+    compares_patterns(&patterns.longer, &patterns.shorter)
+        && PAGE_LINES.first() == Some(&Line::UserAgent(b"SmerBot"))
+}
+
+fn compares_patterns(longer: &MinRegex, shorter: &MinRegex) -> bool {
+    longer != shorter
+        && longer == longer
+        && longer.cmp(shorter) == Ordering::Less
+        && shorter.cmp(longer) == Ordering::Greater
+        && longer.partial_cmp(longer) == Some(Ordering::Equal)
+}
+
+fn looks() -> bool {
+    let mut view = View::new("/a");
+    view.len() == 2
+        && view.same(1, b'a')
+        && !view.same(0, b'a')
+        && view.seen() == 2
+        && !view.is_empty()
+        && !view.is_robots_file()
+}
+
+/// Whether a pattern gives this answer about a text, after exactly so many looks.
+fn matches_after(pattern: &MinRegex, text: &str, want: bool, looks: u64) -> bool {
+    let mut view = View::new(text);
+    pattern.matches_view(&mut view) == want && view.seen() == looks
+}
+
+/// Whether a robot gives this answer about a text, after exactly so many looks.
+fn allows_after(robot: &Robot, text: &str, want: bool, looks: u64) -> bool {
+    let mut view = View::new(text);
+    robot.allowed_view(&mut view) == want && view.seen() == looks
+}
+
+/// A byte that a pattern names takes a look, also the one that differs; what a last star stands for takes none. A robot's rules are
+/// asked in the order of their lengths: `/forest*.py`, `/ocean` and `/rust`.
+fn takes_looks(fixture: &Fixture) -> bool {
+    let Patterns { longer, shorter } = fixture.patterns;
+    matches_after(shorter, "/abc", true, 1)
+        && matches_after(longer, "?abba", false, 1)
+        && matches_after(longer, "/abba", true, 1 + 2 + 2)
+        && allows_after(fixture.robot, "/forest.py", false, 7 + 3)
+        && allows_after(fixture.robot, "/oceanic", true, 2 + 6)
+        && allows_after(fixture.robot, "/rustacean", false, 2 + 2 + 5)
+        && allows_after(fixture.robot, "?rustacean", true, 1 + 1 + 1)
+        && allows_after(fixture.robot, "/robots.txt", true, 0)
+}
+
+/// Whether these are the lines of the page.
+fn gives_page(mut given: LineIter<'_>) -> bool {
+    for line in PAGE_LINES {
+        if given.next() != Some(*line) {
+            return false;
+        }
+    }
+    given.next().is_none() && given.next().is_none()
+}
+
+/// Whether the page's lines are marked for the agent that it names.
+fn labels_page() -> bool {
+    let mut labeled = labeled_lines("SmerBot", PAGE);
+    let _ = labeled.next();
+    let rule = LabeledLine {
+        number: 2,
+        membership: Membership::Own,
+        line: Line::Disallow(b"/path"),
+    };
+    labeled.next() == Some(rule) && labeled.count() == 4
+}
+
+fn reads_delays() -> bool {
+    read_delay(b"3.14") == Some(3_140_000)
+        && read_delay(b"1e999999999999999999999") == Some(18_446_744_073_709_551_615)
+        && read_delay(b"nan").is_none()
+}
+
+fn reads_line_ends(alloc: Global) -> Result<bool, Error> {
+    Ok(is_without_rules(&Robot::new(alloc, "BobBot", &[b'\n'; 65_536])?))
+}
+
+fn is_without_rules(robot: &Robot) -> bool {
+    robot.delay.is_none() && robot.sitemaps.is_empty() && robot.allowed_prepared("/x")
+}

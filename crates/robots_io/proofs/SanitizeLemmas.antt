@@ -1,0 +1,215 @@
+-- What is shown steers no terminal, and what steers none is shown as it is.
+use Rattle.std.proofs.Common.{◌≡◌, ℕ, zero, suc, ◌<◌, ◌/◌, ◌%◌, ◌==◌, nat_lt, Bool}
+use Rattle.std.proofs.Common.{true, false, List, [], ◌∷◌, ◌++◌, Option, Some, None, ap}
+use Rattle.std.proofs.Common.{append_assoc, arith, decimal, drop, flat_map, inl, inr, length, length-append}
+use Rattle.std.proofs.Common.{refl, replicate, subst, take, ◌∙◌}
+use Rattle.std.specs.Bool.{IsTrue}
+use Rattle.std.specs.Char.{IsScalar, encode_utf8}
+use Rattle.std.specs.Fmt.{digit_glyph, digits, digits_onto}
+use Rattle.std.specs.List.{AllByRecursion as Each, list_all}
+use Rattle.std.specs.Str.{IsAscii, all_scalars, chars, encode_utf8_all}
+use Rattle.std.proofs.lemmas.Bool.{and_parts, cases_Bool}
+use Rattle.std.proofs.lemmas.Bool.Decides.{nat_tests}
+use Rattle.std.proofs.lemmas.List.{append-nil}
+use Rattle.std.proofs.lemmas.List.Folds.{list_all-append}
+use Rattle.std.proofs.lemmas.Str.{IsUtf8-append, IsUtf8-from_ascii, IsUtf8-nil, chars-IsAscii}
+use Rattle.std.proofs.lemmas.Str.{chars-append, chars-encodes, chars-nil, encodes-chars, len_utf8_bounds}
+use Rattle.std.proofs.lemmas.Str.{length-encode, scalars-chars}
+use Rattle.std.proofs.lemmas.Str.Ascii.{IsAscii-cons, IsAscii-nil}
+use Rattle.bstr.specs.Utf8.{Decoded, decoded, good, pieces_from}
+use Rattle.bstr.proofs.lemmas.EncodeLemmas.{decoded-encode}
+use Rattle.bstr.proofs.lemmas.PieceLemmas.{pieces-nil, pieces-step}
+use Rattle.bstr.proofs.lemmas.SoundLemmas.{SpellsChar-decoded}
+use Rattle.texting_robots.specs.Escape.{escape_byte, is_escaped}
+use Rattle.robots_io.specs.Lines.{ended, lf}
+use Rattle.robots_io.specs.Sanitize.{IsPrintable, IsPrintableIn, is_printable, is_printable_byte, sanitized, sanitized_in}
+use Rattle.robots_io.specs.Sanitize.{sanitized_lines, sanitized_chunk, sanitized_chunks}
+use lib.Utf8.{scalar}
+
+module _ (has_lines : Bool) where
+  -- ---- plain texts
+
+  pub nil_printable : IsPrintableIn has_lines []
+  nil_printable = record { utf8 = IsUtf8-nil; all = rw chars-nil refl }
+
+  pub append_printable : (one two : List ℕ) → IsPrintableIn has_lines one → IsPrintableIn has_lines two
+      → IsPrintableIn has_lines (one ++ two)
+  append_printable one two is too = record {
+    utf8 = IsUtf8-append one two is.utf8 too.utf8;
+    all = rw (chars-append one two is.utf8, list_all-append, is.all) too.all;
+  }
+
+  -- a text by its characters
+  pub chars_printable : (cs : List ℕ) → all_scalars cs ≡ true → IsTrue (list_all (is_printable has_lines) cs)
+      → IsPrintableIn has_lines (encode_utf8_all cs)
+  chars_printable cs scalars are =
+      record { utf8 = (cs, (scalars, refl)); all = rw (chars-encodes cs scalars) are }
+
+  as_ascii : (text : List ℕ) → IsTrue (list_all (is_printable_byte has_lines) text)
+      → IsAscii text × IsTrue (list_all (is_printable has_lines) text)
+  as_ascii [] are = (IsAscii-nil, refl)
+  as_ascii (byte ∷ text) are =
+      let both = and_parts (is_printable_byte has_lines byte) (list_all (is_printable_byte has_lines) text) are in
+      let first = and_parts (nat_lt byte 128) (is_printable has_lines byte) both.0 in
+      let later = as_ascii text both.1 in
+      let low : byte < 128 = grind (arith, nat_tests) in
+      (IsAscii-cons byte text low later.0, rw first.1 later.1)
+
+  -- ASCII; of a literal `refl` shows the test
+  pub ascii_printable : (text : List ℕ) → IsTrue (list_all (is_printable_byte has_lines) text)
+      → IsPrintableIn has_lines text
+  ascii_printable text are =
+      let is = as_ascii text are in
+      record { utf8 = IsUtf8-from_ascii text is.0; all = rw (chars-IsAscii text is.0) is.1 }
+
+  pub flat_printable : {X : Type 0} (f : X → List ℕ) → ((x : X) → IsPrintableIn has_lines (f x))
+      → (xs : List X) → IsPrintableIn has_lines (flat_map f xs)
+  flat_printable f are [] = nil_printable
+  flat_printable f are (x ∷ xs) = append_printable (f x) (flat_map f xs) (are x) (flat_printable f are xs)
+
+  pub blanks_printable : (n : ℕ) → IsPrintableIn has_lines (replicate n 32)
+  blanks_printable n = ascii_printable (replicate n 32) (blanks n)
+    where
+      blanks : (n : ℕ) → IsTrue (list_all (is_printable_byte has_lines) (replicate n 32))
+      blanks zero = refl
+      blanks (suc n) = blanks n
+
+  -- a digit of base 16 or less
+  glyph : (upper : Bool) (digit : ℕ) → digit < 16
+      → is_printable_byte has_lines (digit_glyph upper digit) ≡ true
+  glyph upper digit below = grind (arith, nat_tests)
+
+  pub decimal_printable : (n : ℕ) → IsPrintableIn has_lines (decimal n)
+  unfolding digits
+  decimal_printable n = ascii_printable (decimal n) (onto 64 n [] refl)
+    where
+      onto : (k n : ℕ) (text : List ℕ) → IsTrue (list_all (is_printable_byte has_lines) text)
+          → IsTrue (list_all (is_printable_byte has_lines) (digits_onto k 10 false n text))
+      onto zero n text are = are
+      onto (suc k) n text are =
+          let more : IsTrue (list_all (is_printable_byte has_lines) (digit_glyph false (n % 10) ∷ text)) =
+          rw (glyph false (n % 10) (omega arith)) are in
+          elim (cases_Bool (n / 10 == 0)) [
+            | inl last ↦ rw last more
+            | inr other ↦ rw other (onto k (n / 10) (digit_glyph false (n % 10) ∷ text) more)
+          ]
+
+  -- ---- what is shown, piece by piece
+
+  sanitized_nil : sanitized_in has_lines [] ≡ []
+  sanitized_nil = rw pieces-nil refl
+
+  sanitized_step : (bytes : List ℕ) → 0 < length bytes → sanitized_in has_lines bytes
+      ≡ sanitized_chunk has_lines (decoded bytes).char (take (decoded bytes).size bytes)
+      ++ sanitized_in has_lines (drop (decoded bytes).size bytes)
+  sanitized_step bytes some = ap (λ ps. sanitized_chunks has_lines ps bytes) (pieces-step bytes some)
+
+  -- in a loop: one piece more was added, and at the end there is none left
+  pub chunk_added : (rest old mid new : List ℕ) → 0 < length rest
+      → new ≡ mid ++ sanitized_chunk has_lines (decoded rest).char (take (decoded rest).size rest)
+      → mid ++ sanitized_in has_lines rest ≡ old
+      → new ++ sanitized_in has_lines (drop (decoded rest).size rest) ≡ old
+  chunk_added rest old mid new some added before =
+      rw (added, append_assoc, ← sanitized_step rest some) before
+
+  pub all_added : (rest old mid : List ℕ) → length rest ≡ 0 → mid ++ sanitized_in has_lines rest ≡ old
+      → mid ≡ old
+  all_added [] old mid none before = rw (sanitized_nil, append-nil) at before
+  all_added (byte ∷ rest) old mid none before = absurd (omega arith)
+
+  -- ---- what is plain is shown as it is
+
+  after : (front rest : List ℕ) → drop (length front) (front ++ rest) ≡ rest
+  after [] rest = refl
+  after (byte ∷ front) rest = after front rest
+
+  all_kept : (cs : List ℕ) → all_scalars cs ≡ true → IsTrue (list_all (is_printable has_lines) cs)
+      → sanitized_in has_lines (encode_utf8_all cs) ≡ encode_utf8_all cs
+  all_kept [] scalars are = sanitized_nil
+  all_kept (char ∷ cs) scalars are =
+      let scalars_too = and_parts (scalar char) (all_scalars cs) scalars in
+      let plain = and_parts (is_printable has_lines char) (list_all (is_printable has_lines) cs) are in
+      let front = encode_utf8 char in
+      let rest = encode_utf8_all cs in
+      let bytes = front ++ rest in
+      let some : 0 < length bytes =
+      omega (arith, length-append front rest, length-encode char, len_utf8_bounds char) in
+      let read : decoded bytes ≡ good char (length front) = decoded-encode char rest scalars_too.0 in
+      let with_chunk = λ (chunk : Decoded). sanitized_chunk has_lines chunk.char (take chunk.size bytes)
+      ++ sanitized_in has_lines (drop chunk.size bytes) in
+      sanitized_step bytes some ∙ ap with_chunk read
+      ∙ rw (plain.0, after front rest, all_kept cs scalars_too.1 plain.1) refl
+
+  pub printable_kept : (text : List ℕ) → IsPrintableIn has_lines text → sanitized_in has_lines text ≡ text
+  printable_kept text is =
+      subst (λ t. sanitized_in has_lines t ≡ t) (encodes-chars text is.utf8)
+      (all_kept (chars text) (scalars-chars text is.utf8) is.all)
+
+  -- ---- what is shown is plain
+
+  escaped_printable : (byte : ℕ) → IsPrintableIn has_lines (escape_byte byte)
+  escaped_printable byte = ascii_printable (escape_byte byte) (elim (cases_Bool (is_escaped byte)) [
+    | inl is ↦
+        let high = glyph true (byte / 16 % 16) (omega arith) in
+        let low = glyph true (byte % 16) (omega arith) in
+        rw (is, high, low) refl
+    | inr isnt ↦
+        let plain : is_printable_byte has_lines byte ≡ true = grind (arith, nat_tests) in
+        rw (isnt, plain) refl
+  ])
+
+  pub char_printable : (char : ℕ) → IsScalar char → is_printable has_lines char ≡ true
+      → IsPrintableIn has_lines (encode_utf8 char)
+  char_printable char is plain =
+      subst (IsPrintableIn has_lines) (append-nil (encode_utf8 char))
+      (chars_printable (char ∷ []) (rw is refl) (rw plain refl))
+
+  chunk_printable : (char : Option ℕ) (bytes : List ℕ) → ((c : ℕ) → char ≡ Some c → IsScalar c)
+      → IsPrintableIn has_lines (sanitized_chunk has_lines char bytes)
+  chunk_printable None bytes are = flat_printable escape_byte escaped_printable bytes
+  chunk_printable (Some char) bytes are = elim (cases_Bool (is_printable has_lines char)) [
+    | inl is ↦ rw is (char_printable char (are char refl) is)
+    | inr isnt ↦ rw isnt (flat_printable escape_byte escaped_printable bytes)
+  ]
+
+  pub sanitized_in_printable : (bytes : List ℕ) → IsPrintableIn has_lines (sanitized_in has_lines bytes)
+  unfolding pieces_from
+  sanitized_in_printable bytes = from (length bytes) bytes
+    where
+      from : (n : ℕ) (bytes : List ℕ)
+          → IsPrintableIn has_lines (sanitized_chunks has_lines (pieces_from n bytes) bytes)
+      from zero bytes = nil_printable
+      from (suc n) [] = nil_printable
+      from (suc n) (byte ∷ later) =
+          let bytes = byte ∷ later in
+          let char = (decoded bytes).char in
+          let size = (decoded bytes).size in
+          append_printable (sanitized_chunk has_lines char (take size bytes)) _
+          (chunk_printable char (take size bytes) (λ c is. (SpellsChar-decoded bytes c is).scalar))
+          (from n (drop size bytes))
+
+-- ---- what steers no terminal
+
+pub ended_printable : (lines : List (List ℕ)) → Each IsPrintable lines → IsPrintable (ended lines)
+ended_printable [] are = nil_printable true
+ended_printable (line ∷ lines) (first, later) =
+    append_printable true (line ++ lf ∷ []) (ended lines)
+    (append_printable true line (lf ∷ []) first (ascii_printable true (lf ∷ []) refl)) (ended_printable lines later)
+
+-- a plain line is a plain text
+pub line_printable : (text : List ℕ) → IsPrintableIn false text → IsPrintable text
+line_printable text is = record { utf8 = is.utf8; all = with_lines (chars text) is.all }
+  where
+    with_lines : (cs : List ℕ) → IsTrue (list_all (is_printable false) cs)
+        → IsTrue (list_all (is_printable true) cs)
+    with_lines [] are = refl
+    with_lines (char ∷ cs) are =
+        let both = and_parts (is_printable false char) (list_all (is_printable false) cs) are in
+        let plain : is_printable true char ≡ true = grind (arith, nat_tests) in
+        rw plain (with_lines cs both.1)
+
+pub sanitized_printable : (bytes : List ℕ) → IsPrintable (sanitized bytes)
+sanitized_printable bytes = line_printable (sanitized bytes) (sanitized_in_printable false bytes)
+
+pub sanitized_lines_printable : (bytes : List ℕ) → IsPrintable (sanitized_lines bytes)
+sanitized_lines_printable = sanitized_in_printable true

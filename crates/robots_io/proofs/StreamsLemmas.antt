@@ -1,0 +1,36 @@
+-- What reads and writes in a row do to known bytes.
+use Rattle.std.proofs.Common.{ℕ, ◌+◌, ◌-◌, List, ◌++◌, length, take, drop}
+use Rattle.std.proofs.Common.{Option, Some, None, sym, ap, ◌∙◌, append_assoc}
+use Rattle.std.specs.Io.KnownBytes.{Appends, Keeps}
+use Rattle.std.proofs.Math.Seq.{take-add}
+use Rattle.std.proofs.lemmas.List.{take-append-drop, take_rest}
+use Rattle.robots_io.specs.Streams.{AppendsBeginning}
+
+-- ---- writes
+
+appends_more : (old mid new : Option (List ℕ)) (xs ys : List ℕ) → Appends old mid xs
+    → Appends mid new ys → Appends old new (xs ++ ys)
+appends_more None mid new xs ys one two = tt
+appends_more (Some a) None new xs ys one two = absurd one
+appends_more (Some a) (Some b) None xs ys one two = absurd two
+appends_more (Some a) (Some b) (Some d) xs ys one two =
+    two ∙ ap (λ t. t ++ ys) one ∙ append_assoc a xs ys
+
+pub appends_kept : (old mid new : Option (List ℕ)) (xs : List ℕ) → Appends old mid xs
+    → Keeps mid new → Appends old new xs
+appends_kept None mid new xs one two = tt
+appends_kept (Some a) None new xs one two = absurd one
+appends_kept (Some a) (Some b) None xs one two = absurd two
+appends_kept (Some a) (Some b) (Some d) xs one two = two ∙ one
+
+-- the first n bytes of a text were written, and then m bytes of the rest
+pub appends_next : (old mid new : Option (List ℕ)) (n m : ℕ) (text : List ℕ)
+    → Appends old mid (take n text) → Appends mid new (take m (take (length text - n) (drop n text)))
+    → Appends old new (take (n + m) text)
+appends_next old mid new n m text one two =
+    rw (take-add n m text)
+    (appends_more old mid new (take n text) (take m (drop n text)) one (rw (take_rest text n) at two))
+
+pub is_beginning : (old new : Option (List ℕ)) (n : ℕ) (text : List ℕ) → Appends old new (take n text)
+    → AppendsBeginning old new text
+is_beginning old new n text written = (take n text, drop n text, sym (take-append-drop n text), written)

@@ -1,8 +1,0 @@
-use Rattle.std.proofs.Common.{◌≡◌, take}
-use Rattle.std.specs.List.{list_all}
-use Rattle.robots_io.specs.Shown.{is_plain_byte}
-use Rattle.robots_io.proofs.shown.are_plain_bytes.Given as goal
-
--- whether each byte so far is shown as it is
-abbrev pub invariant-loop-byte : goal.invariant-loop-byte
-invariant-loop-byte l = l.all ≡ list_all (is_plain_byte l.has_lines) (take l.byte-index l.bytes)

@@ -1,0 +1,60 @@
+-- A file of the standard's syntax is one of the wider syntax.
+use Rattle.std.proofs.Common.{inl, inr, ℕ, List, [], refl, sym, subst, append-nil}
+use Rattle.robots_rfc9309.proofs.EachLemmas.{each_weaker}
+use Rattle.robots_rfc9309.specs.Rfc9309 as rfc
+
+-- each P is a Q
+abbrev pub IsWeaker : {X : Type 0} → (X → List ℕ → Type 0) → (X → List ℕ → Type 0) → Type 0
+IsWeaker {X} P Q = (x : X) (text : List ℕ) → P x text → Q x text
+
+pub repeats_weaker : {X : Type 0} (P Q : X → List ℕ → Type 0) → IsWeaker P Q
+    → IsWeaker (rfc.Repeats (rfc.IsOneOr P rfc.IsEmptyLine)) (rfc.Repeats (rfc.IsOneOr Q rfc.IsSkipped))
+repeats_weaker P Q weaker items text is = record {
+  pieces = is.pieces;
+  each =
+      each_weaker (λ segment. rfc.IsOneOr P rfc.IsEmptyLine segment.items segment.bytes)
+      (λ segment. rfc.IsOneOr Q rfc.IsSkipped segment.items segment.bytes)
+      (λ segment. one_or segment.items segment.bytes) is.pieces is.each;
+  written = is.written;
+  whole = is.whole;
+}
+  where
+    one_or : IsWeaker (rfc.IsOneOr P rfc.IsEmptyLine) (rfc.IsOneOr Q rfc.IsSkipped)
+    one_or items text (inl (item, is, same)) = inl (item, weaker item text is, same)
+    one_or items text (inr (is, none)) = inr (inl is, none)
+
+pub group_is_wide : IsWeaker rfc.IsGroup rfc.IsWideGroup
+group_is_wide group text is = record {
+  token = is.token;
+  tokens = is.tokens;
+  start = is.start;
+  agents = is.agents;
+  lines = is.lines;
+  whole = is.whole;
+  is_start = is.is_start;
+  are_agents =
+      repeats_weaker rfc.IsStartGroupLine rfc.IsStartGroupLine (λ token text is. is) is.tokens is.agents
+      is.are_agents;
+  written = is.written;
+  are_members =
+      repeats_weaker rfc.IsRule rfc.IsMemberLine (λ member text is. inl is) group.members is.lines
+      is.are_members;
+}
+
+pub robotstxt_is_file : (text : List ℕ) (groups : List rfc.Group) → rfc.IsRobotstxt groups text
+    → rfc.IsFile groups text
+robotstxt_is_file text groups is = record {
+  bom = [];
+  rest = text;
+  nl = [];
+  whole = refl;
+  is_bom = inl refl;
+  is_nl = inl refl;
+  is_content = subst (rfc.IsWideFile groups) (sym (append-nil text)) (record {
+    front = [];
+    rest = text;
+    whole = refl;
+    is_front = record { pieces = []; each = tt; whole = refl };
+    are_groups = repeats_weaker rfc.IsGroup rfc.IsWideGroup group_is_wide groups text is;
+  });
+}

@@ -1,0 +1,44 @@
+-- Texts that repeat a production, put together.
+use Rattle.std.proofs.Common.{ℕ, List, [], ◌∷◌, ◌++◌, flat_map, sym, refl, append-nil}
+use Rattle.std.specs.List.{AllByRecursion as Each}
+use Rattle.std.proofs.lemmas.Grind.{flat_map-append}
+use Rattle.robots_rfc9309.specs.Rfc9309.{IsMany, Utf8Unit, Repeats}
+use Rattle.texting_robots.proofs.TrimLemmas.{each_append}
+
+module _ {X : Type 0} (P : List X → List ℕ → Type 0) where
+  pub repeats_none : Repeats P [] []
+  repeats_none = record { pieces = []; each = tt; written = refl; whole = refl }
+
+  pub repeats_one : (items : List X) (text : List ℕ) → P items text → Repeats P items text
+  repeats_one items text is = record {
+    pieces = record { items = items; bytes = text } ∷ [];
+    each = (is, tt);
+    written = sym (append-nil items);
+    whole = sym (append-nil text);
+  }
+
+pub repeats_both : {X : Type 0} {P : List X → List ℕ → Type 0} {items more : List X}
+    {text later : List ℕ}
+    → Repeats P items text → Repeats P more later
+    → Repeats P (items ++ more) (text ++ later)
+repeats_both {X} is also =
+    let written = flat_map-append (λ (segment : Utf8Unit X). segment.items) is.pieces also.pieces in
+    let whole = flat_map-append (λ (segment : Utf8Unit X). segment.bytes) is.pieces also.pieces in
+    record {
+      pieces = is.pieces ++ also.pieces;
+      each = each_append _ is.pieces also.pieces is.each also.each;
+      written = cc;
+      whole = cc;
+    }
+
+-- what holds of the pieces of a text, and of texts put together, holds of the text
+pub many : {P Q : List ℕ → Type 0} → Q []
+    → ((text later : List ℕ) → Q text → Q later → Q (text ++ later))
+    → ((segment : List ℕ) → P segment → Q segment) → (text : List ℕ) → IsMany P text
+    → Q text
+many {P} {Q} none both one text is = rw is.whole (joined is.pieces is.each)
+  where
+    joined : (pieces : List (List ℕ)) → Each P pieces
+        → Q (flat_map (λ (segment : List ℕ). segment) pieces)
+    joined [] all = none
+    joined (segment ∷ pieces) all = both segment _ (one segment all.0) (joined pieces all.1)

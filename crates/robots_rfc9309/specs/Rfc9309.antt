@@ -1,0 +1,388 @@
+-- The formal syntax of a robots.txt file, as RFC 9309 has it in section 2.2, and what a file of that syntax
+-- spells. The names are those of its productions; what a production spells stands before the bytes. Nothing
+-- here is a word of the definitions by which this library reads.
+--
+-- `IsRobotstxt` is the standard's syntax and nothing more. `IsFile` goes further in four things, which stand
+-- behind the standard's own productions: a byte order mark in front, a last line without its end, a pattern
+-- that begins with a star, and the lines that the standard leaves to implementers.
+use Rattle.std.specs.Prelude.{◌≡◌, ◌⊎◌, ℕ, ◌≤◌, Bool, true, false, List, [], ◌∷◌}
+use Rattle.std.specs.Prelude.{◌++◌, map, codes, bytes_eq, filter, Contains, if◌then◌else◌}
+use Rattle.std.specs.List.{flat_map, list_any, AllByRecursion as Each}
+use Rattle.std.specs.Char.{to_ascii_lowercase}
+
+-- ---- what is spelled
+
+-- what stands behind a group's product tokens: a rule with its pattern, or a delay with its number, as
+-- written
+pub data Member : Type 0 where
+  Allow : List ℕ → Member
+  Disallow : List ℕ → Member
+  Delay : List ℕ → Member
+
+-- a group's product tokens, and the lines behind them
+pub record Group : Type 0 where
+  pub tokens : List (List ℕ)
+  pub members : List Member
+
+-- ---- the forms of productions
+
+-- `low-high`
+abbrev pub IsBetween : ℕ → ℕ → ℕ → Type 0
+IsBetween low high byte = (low ≤ byte) × (byte ≤ high)
+
+-- `*P`, where P spells nothing
+pub record IsMany (P : List ℕ → Type 0) (text : List ℕ) : Type 0 where
+  pub pieces : List (List ℕ)
+  pub each : Each P pieces
+  pub whole : text ≡ flat_map (λ segment. segment) pieces
+
+-- a piece of a text, and the items that it spells
+pub record Utf8Unit (X : Type 0) : Type 0 where
+  pub items : List X
+  pub bytes : List ℕ
+
+-- `*P`, where each piece of the text spells some items: all spell theirs, in order
+pub record Repeats {X : Type 0} (P : List X → List ℕ → Type 0) (items : List X)
+    (text : List ℕ) : Type 0 where
+  pub pieces : List (Utf8Unit X)
+  pub each : Each (λ segment. P segment.items segment.bytes) pieces
+  pub written : items ≡ flat_map (λ segment. segment.items) pieces
+  pub whole : text ≡ flat_map (λ segment. segment.bytes) pieces
+
+-- P / Q, where P spells one item and Q none
+abbrev pub IsOneOr : {X : Type 0} → (X → List ℕ → Type 0) → (List ℕ → Type 0)
+    → List X → List ℕ → Type 0
+IsOneOr {X} P Q items text =
+    ((item : X) × P item text × (items ≡ item ∷ [])) ⊎ (Q text × (items ≡ []))
+
+-- a literal string, which stands for itself whatever the case of its ASCII letters; it is given in small ones
+abbrev pub IsLiteral : List ℕ → List ℕ → Type 0
+IsLiteral letters bytes = map to_ascii_lowercase bytes ≡ letters
+
+-- ---- UTF8-char-noctl
+
+-- UTF8-tail = %x80-BF
+abbrev pub IsUtf8Tail : ℕ → Type 0
+IsUtf8Tail byte = IsBetween 0x80 0xBF byte
+
+-- UTF8-1-noctl = %x21 / %x22 / %x24-7F
+abbrev pub IsUtf8OneNoctl : List ℕ → Type 0
+IsUtf8OneNoctl (a ∷ []) = (a ≡ 0x21) ⊎ ((a ≡ 0x22) ⊎ IsBetween 0x24 0x7F a)
+IsUtf8OneNoctl _ = ⊥
+
+-- UTF8-2 = %xC2-DF UTF8-tail
+abbrev pub IsUtf8Two : List ℕ → Type 0
+IsUtf8Two (a ∷ b ∷ []) = IsBetween 0xC2 0xDF a × IsUtf8Tail b
+IsUtf8Two _ = ⊥
+
+-- UTF8-3 = %xE0 %xA0-BF UTF8-tail / %xE1-EC 2UTF8-tail / %xED %x80-9F UTF8-tail / %xEE-EF 2UTF8-tail
+abbrev pub IsUtf8Three : List ℕ → Type 0
+IsUtf8Three (a ∷ b ∷ c ∷ []) =
+    ((a ≡ 0xE0) × IsBetween 0xA0 0xBF b × IsUtf8Tail c)
+    ⊎ ((IsBetween 0xE1 0xEC a × IsUtf8Tail b × IsUtf8Tail c)
+    ⊎ (((a ≡ 0xED) × IsBetween 0x80 0x9F b × IsUtf8Tail c)
+    ⊎ (IsBetween 0xEE 0xEF a × IsUtf8Tail b × IsUtf8Tail c)))
+IsUtf8Three _ = ⊥
+
+-- UTF8-4 = %xF0 %x90-BF 2UTF8-tail / %xF1-F3 3UTF8-tail / %xF4 %x80-8F 2UTF8-tail
+abbrev pub IsUtf8Four : List ℕ → Type 0
+IsUtf8Four (a ∷ b ∷ c ∷ d ∷ []) =
+    ((a ≡ 0xF0) × IsBetween 0x90 0xBF b × IsUtf8Tail c × IsUtf8Tail d)
+    ⊎ ((IsBetween 0xF1 0xF3 a × IsUtf8Tail b × IsUtf8Tail c × IsUtf8Tail d)
+    ⊎ ((a ≡ 0xF4) × IsBetween 0x80 0x8F b × IsUtf8Tail c × IsUtf8Tail d))
+IsUtf8Four _ = ⊥
+
+-- UTF8-char-noctl = UTF8-1-noctl / UTF8-2 / UTF8-3 / UTF8-4
+abbrev pub IsUtf8CharNoctl : List ℕ → Type 0
+IsUtf8CharNoctl bytes =
+    IsUtf8OneNoctl bytes ⊎ (IsUtf8Two bytes ⊎ (IsUtf8Three bytes ⊎ IsUtf8Four bytes))
+
+-- ---- line ends
+
+-- WS = %x20 / %x09
+abbrev pub IsWs : ℕ → Type 0
+IsWs byte = (byte ≡ 0x20) ⊎ (byte ≡ 0x09)
+
+-- NL = %x0D / %x0A / %x0D.0A
+abbrev pub IsNl : List ℕ → Type 0
+IsNl bytes = (bytes ≡ 0x0D ∷ []) ⊎ ((bytes ≡ 0x0A ∷ []) ⊎ (bytes ≡ 0x0D ∷ 0x0A ∷ []))
+
+-- a piece of a comment: UTF8-char-noctl / WS / "#"
+abbrev pub IsCommentSegment : List ℕ → Type 0
+IsCommentSegment bytes =
+    IsUtf8CharNoctl bytes
+    ⊎ (((byte : ℕ) × IsWs byte × (bytes ≡ byte ∷ [])) ⊎ (bytes ≡ codes "#"))
+
+-- comment = "#" *( UTF8-char-noctl / WS / "#" )
+pub record IsComment (bytes : List ℕ) : Type 0 where
+  pub text : List ℕ
+  pub is_text : IsMany IsCommentSegment text
+  pub whole : bytes ≡ codes "#" ++ text
+
+-- EOL = *WS [ comment ] NL
+pub record IsEol (bytes : List ℕ) : Type 0 where
+  pub blanks : List ℕ
+  pub comment : List ℕ
+  pub nl : List ℕ
+  pub whole : bytes ≡ blanks ++ (comment ++ nl)
+  pub are_blanks : Each IsWs blanks
+  pub is_comment : (comment ≡ []) ⊎ IsComment comment
+  pub is_nl : IsNl nl
+
+-- emptyline = EOL
+abbrev pub IsEmptyLine : List ℕ → Type 0
+IsEmptyLine bytes = IsEol bytes
+
+-- ---- what lines hold
+
+-- a byte of an identifier: %x2D / %x41-5A / %x5F / %x61-7A
+abbrev pub IsIdentifierByte : ℕ → Type 0
+IsIdentifierByte byte =
+    (byte ≡ 0x2D) ⊎ (IsBetween 0x41 0x5A byte ⊎ ((byte ≡ 0x5F) ⊎ IsBetween 0x61 0x7A byte))
+
+-- identifier = 1*( %x2D / %x41-5A / %x5F / %x61-7A )
+abbrev pub IsIdentifier : List ℕ → Type 0
+IsIdentifier [] = ⊥
+IsIdentifier (byte ∷ bytes) = Each IsIdentifierByte (byte ∷ bytes)
+
+-- product-token = identifier / "*"
+abbrev pub IsProductToken : List ℕ → Type 0
+IsProductToken bytes = IsIdentifier bytes ⊎ (bytes ≡ codes "*")
+
+-- literal *UTF8-char-noctl, where the literal has no letter
+pub record IsPatternWith (literal bytes : List ℕ) : Type 0 where
+  pub text : List ℕ
+  pub is_text : IsMany IsUtf8CharNoctl text
+  pub whole : bytes ≡ literal ++ text
+
+-- path-pattern = "/" *UTF8-char-noctl
+abbrev pub IsPathPattern : List ℕ → Type 0
+IsPathPattern bytes = IsPatternWith (codes "/") bytes
+
+-- empty-pattern = *WS
+abbrev pub IsEmptyPattern : List ℕ → Type 0
+IsEmptyPattern bytes = Each IsWs bytes
+
+-- path-pattern / empty-pattern: it spells the path pattern, or no byte
+abbrev pub IsPattern : List ℕ → List ℕ → Type 0
+IsPattern pattern bytes =
+    (IsPathPattern bytes × (pattern ≡ bytes)) ⊎ (IsEmptyPattern bytes × (pattern ≡ []))
+
+-- ---- lines
+
+-- *WS word *WS ":" *WS value EOL
+pub record IsKeyed (word value text : List ℕ) : Type 0 where
+  pub margin : List ℕ
+  pub key : List ℕ
+  pub blanks : List ℕ
+  pub gap : List ℕ
+  pub eol : List ℕ
+  pub whole : text ≡ margin ++ (key ++ (blanks ++ (codes ":" ++ (gap ++ (value ++ eol)))))
+  pub margin_blank : Each IsWs margin
+  pub is_key : IsLiteral word key
+  pub blanks_blank : Each IsWs blanks
+  pub gap_blank : Each IsWs gap
+  pub is_eol : IsEol eol
+
+-- startgroupline = *WS "user-agent" *WS ":" *WS product-token EOL
+abbrev pub IsStartGroupLine : List ℕ → List ℕ → Type 0
+IsStartGroupLine token text = IsProductToken token × IsKeyed (codes "user-agent") token text
+
+-- *WS word *WS ":" *WS ( path-pattern / empty-pattern ) EOL
+pub record IsRuleWith (word pattern text : List ℕ) : Type 0 where
+  pub value : List ℕ
+  pub is_pattern : IsPattern pattern value
+  pub is_line : IsKeyed word value text
+
+-- rule = *WS ( "allow" / "disallow" ) *WS ":" *WS ( path-pattern / empty-pattern ) EOL
+abbrev pub IsRule : Member → List ℕ → Type 0
+IsRule (Allow pattern) text = IsRuleWith (codes "allow") pattern text
+IsRule (Disallow pattern) text = IsRuleWith (codes "disallow") pattern text
+IsRule (Delay number) text = ⊥
+
+-- ---- groups and files
+
+-- startgroupline *( startgroupline / Gap ) *( Line / Gap ), where Line spells a member and Gap nothing
+pub record IsGroupOf (Line : Member → List ℕ → Type 0) (Gap : List ℕ → Type 0)
+    (group : Group) (text : List ℕ) : Type 0 where
+  pub token : List ℕ
+  pub tokens : List (List ℕ)
+  pub start : List ℕ
+  pub agents : List ℕ
+  pub lines : List ℕ
+  pub whole : text ≡ start ++ (agents ++ lines)
+  pub is_start : IsStartGroupLine token start
+  pub are_agents : Repeats (IsOneOr IsStartGroupLine Gap) tokens agents
+  pub written : group.tokens ≡ token ∷ tokens
+  pub are_members : Repeats (IsOneOr Line Gap) group.members lines
+
+-- group = startgroupline *( startgroupline / emptyline ) *( rule / emptyline )
+abbrev pub IsGroup : Group → List ℕ → Type 0
+IsGroup group text = IsGroupOf IsRule IsEmptyLine group text
+
+-- robotstxt = *( group / emptyline )
+abbrev pub IsRobotstxt : List Group → List ℕ → Type 0
+IsRobotstxt groups text = Repeats (IsOneOr IsGroup IsEmptyLine) groups text
+
+-- ---- further lines, which the standard leaves to implementers
+
+-- %x30-39
+abbrev pub IsDigitByte : ℕ → Type 0
+IsDigitByte byte = IsBetween 0x30 0x39 byte
+
+-- 1*DIGIT
+abbrev pub IsDigits : List ℕ → Type 0
+IsDigits [] = ⊥
+IsDigits (byte ∷ bytes) = Each IsDigitByte (byte ∷ bytes)
+
+-- 1*DIGIT "." 1*DIGIT
+pub record IsFraction (bytes : List ℕ) : Type 0 where
+  pub units : List ℕ
+  pub fraction : List ℕ
+  pub are_units : IsDigits units
+  pub is_fraction : IsDigits fraction
+  pub whole : bytes ≡ units ++ (codes "." ++ fraction)
+
+-- delay = 1*DIGIT [ "." 1*DIGIT ]
+abbrev pub IsNumber : List ℕ → Type 0
+IsNumber bytes = IsDigits bytes ⊎ IsFraction bytes
+
+-- delayline = *WS "crawl-delay" *WS ":" *WS delay EOL
+abbrev pub IsDelayLine : Member → List ℕ → Type 0
+IsDelayLine (Allow pattern) text = ⊥
+IsDelayLine (Disallow pattern) text = ⊥
+IsDelayLine (Delay number) text = IsNumber number × IsKeyed (codes "crawl-delay") number text
+
+-- sitemapline = *WS "sitemap" *WS ":" *WS address EOL, where address = *UTF8-char-noctl
+abbrev pub IsSitemapLine : List ℕ → List ℕ → Type 0
+IsSitemapLine address text = IsMany IsUtf8CharNoctl address × IsKeyed (codes "sitemap") address text
+
+-- the names of records that this library reads, in small letters; keys with a blank aren't among them, since
+-- no identifier has one
+abbrev pub names_read : List (List ℕ)
+names_read =
+    codes "user-agent" ∷ codes "useragent" ∷ codes "allow" ∷ codes "disallow" ∷ codes "dissallow"
+    ∷ codes "dissalow" ∷ codes "disalow" ∷ codes "diasllow" ∷ codes "disallaw" ∷ codes "sitemap"
+    ∷ codes "site-map" ∷ codes "crawl-delay" ∷ codes "crawldelay" ∷ []
+
+-- otherline = *WS identifier *WS ":" *( UTF8-char-noctl / WS / "#" ) NL, where the identifier isn't read
+pub record IsOtherLine (text : List ℕ) : Type 0 where
+  pub margin : List ℕ
+  pub name : List ℕ
+  pub blanks : List ℕ
+  pub value : List ℕ
+  pub nl : List ℕ
+  pub whole : text ≡ margin ++ (name ++ (blanks ++ (codes ":" ++ (value ++ nl))))
+  pub margin_blank : Each IsWs margin
+  pub is_name : IsIdentifier name
+  pub is_other : ¬ Contains names_read (map to_ascii_lowercase name)
+  pub blanks_blank : Each IsWs blanks
+  pub is_value : IsMany IsCommentSegment value
+  pub is_nl : IsNl nl
+
+-- starpattern = "*" *UTF8-char-noctl, which the syntax lacks and the standard's own first example has
+abbrev pub IsStarPattern : List ℕ → Type 0
+IsStarPattern bytes = IsPatternWith (codes "*") bytes
+
+-- starrule = *WS ( "allow" / "disallow" ) *WS ":" *WS starpattern EOL
+abbrev pub IsStarRule : Member → List ℕ → Type 0
+IsStarRule (Allow pattern) text = IsStarPattern pattern × IsKeyed (codes "allow") pattern text
+IsStarRule (Disallow pattern) text = IsStarPattern pattern × IsKeyed (codes "disallow") pattern text
+IsStarRule (Delay number) text = ⊥
+
+-- ---- groups and files with these
+
+-- skipped = emptyline / sitemapline / otherline; the standard has an emptyline alone here
+abbrev pub IsSkipped : List ℕ → Type 0
+IsSkipped text =
+    IsEmptyLine text ⊎ (((address : List ℕ) × IsSitemapLine address text) ⊎ IsOtherLine text)
+
+-- memberline = rule / starrule / delayline; the standard has a rule alone here
+abbrev pub IsMemberLine : Member → List ℕ → Type 0
+IsMemberLine member text = IsRule member text ⊎ (IsStarRule member text ⊎ IsDelayLine member text)
+
+-- widegroup = startgroupline *( startgroupline / skipped ) *( memberline / skipped )
+abbrev pub IsWideGroup : Group → List ℕ → Type 0
+IsWideGroup group text = IsGroupOf IsMemberLine IsSkipped group text
+
+-- delayline / skipped
+abbrev pub IsFrontSegment : List ℕ → Type 0
+IsFrontSegment text = ((member : Member) × IsDelayLine member text) ⊎ IsSkipped text
+
+-- widefile = *( delayline / skipped ) *( widegroup / skipped )
+pub record IsWideFile (groups : List Group) (text : List ℕ) : Type 0 where
+  pub front : List ℕ
+  pub rest : List ℕ
+  pub whole : text ≡ front ++ rest
+  pub is_front : IsMany IsFrontSegment front
+  pub are_groups : Repeats (IsOneOr IsWideGroup IsSkipped) groups rest
+
+-- a byte order mark in UTF-8, which the syntax lacks, or nothing
+abbrev pub IsBom : List ℕ → Type 0
+IsBom bytes = (bytes ≡ []) ⊎ (bytes ≡ 0xEF ∷ 0xBB ∷ 0xBF ∷ [])
+
+-- NL, or nothing, which the syntax lacks
+abbrev pub IsLastNl : List ℕ → Type 0
+IsLastNl bytes = (bytes ≡ []) ⊎ IsNl bytes
+
+-- such a content, behind a byte order mark or not, whose last NL may be missing
+pub record IsFileOf (Content : List ℕ → Type 0) (text : List ℕ) : Type 0 where
+  pub bom : List ℕ
+  pub rest : List ℕ
+  pub nl : List ℕ
+  pub whole : text ≡ bom ++ rest
+  pub is_bom : IsBom bom
+  pub is_nl : IsLastNl nl
+  pub is_content : Content (rest ++ nl)
+
+abbrev pub IsFile : List Group → List ℕ → Type 0
+IsFile groups text = IsFileOf (IsWideFile groups) text
+
+-- ---- the sitemaps of a file
+
+-- any line but a sitemapline: startgroupline / memberline / emptyline / otherline
+abbrev pub IsUnlisted : List ℕ → Type 0
+IsUnlisted text =
+    ((token : List ℕ) × IsStartGroupLine token text)
+    ⊎ (((member : Member) × IsMemberLine member text) ⊎ (IsEmptyLine text ⊎ IsOtherLine text))
+
+-- a file as nothing but lines, whatever groups they make: the addresses of its sitemaplines, in order
+abbrev pub ListsSitemaps : List (List ℕ) → List ℕ → Type 0
+ListsSitemaps addresses text = IsFileOf (Repeats (IsOneOr IsSitemapLine IsUnlisted) addresses) text
+
+-- ---- what an agent gets of groups
+
+-- A group without members and the next one are one group. A file can be taken apart in several ways where
+-- lines of tokens follow one another: as one group, or as groups without members and a group. Merged, these
+-- are the same.
+abbrev pub put_before : List (List ℕ) → List Member → List Group → List Group
+put_before tokens [] (next ∷ later) =
+    record { tokens = tokens ++ next.tokens; members = next.members } ∷ later
+put_before tokens members later = record { tokens = tokens; members = members } ∷ later
+
+abbrev pub merged : List Group → List Group
+merged [] = []
+merged (group ∷ later) = put_before group.tokens group.members (merged later)
+
+-- the product token is the agent, whatever the case of their ASCII letters
+abbrev pub is_token : List ℕ → List ℕ → Bool
+is_token agent token = bytes_eq (map to_ascii_lowercase token) (map to_ascii_lowercase agent)
+
+-- one of the group's product tokens is the agent
+abbrev pub has_token : List ℕ → Group → Bool
+has_token agent group = list_any (is_token agent) group.tokens
+
+-- the groups of the agent, or those of `*` where it has none
+abbrev pub groups_for : List ℕ → List Group → List Group
+groups_for agent groups =
+    if list_any (has_token agent) groups then filter (has_token agent) groups
+    else filter (has_token (codes "*")) groups
+
+abbrev pub is_rule : Member → Bool
+is_rule (Allow pattern) = true
+is_rule (Disallow pattern) = true
+is_rule (Delay number) = false
+
+-- the rules of these groups, in order
+abbrev pub rules_for : List ℕ → List Group → List Member
+rules_for agent groups = filter is_rule (flat_map (λ group. group.members) (groups_for agent groups))

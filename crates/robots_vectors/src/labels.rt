@@ -1,0 +1,193 @@
+//! The marked lines of a file, whether it names an agent, and any bytes escaped as rules are.
+use crate::helpers::{check, check_equal, check_text};
+use std::process::Abort;
+use texting_robots::labels::{
+    LabeledLine, Membership, first_overlong_line, is_named, labeled_lines,
+};
+use texting_robots::parser::Line;
+use texting_robots::push_escaped_bytes;
+
+/// A rule before any agent, a group of two agents, and one of another.
+const FILE: &[u8] =
+    b"Disallow: /x\nUser-agent: a\nUser-agent: B\nDisallow: /y\nUser-agent: c\nAllow: /z";
+
+/// Its lines as the agent `b` gets them.
+const LABELED: &[LabeledLine<'static>] = &[
+    LabeledLine {
+        number: 1,
+        membership: Membership::Ungrouped,
+        line: Line::Disallow(b"/x"),
+    },
+    LabeledLine {
+        number: 2,
+        membership: Membership::Own,
+        line: Line::UserAgent(b"a"),
+    },
+    LabeledLine {
+        number: 3,
+        membership: Membership::Own,
+        line: Line::UserAgent(b"B"),
+    },
+    LabeledLine {
+        number: 4,
+        membership: Membership::Own,
+        line: Line::Disallow(b"/y"),
+    },
+    LabeledLine {
+        number: 5,
+        membership: Membership::Other,
+        line: Line::UserAgent(b"c"),
+    },
+    LabeledLine {
+        number: 6,
+        membership: Membership::Other,
+        line: Line::Allow(b"/z"),
+    },
+];
+
+#[test]
+fn lines_are_labeled_for_an_agent(rt: HostRuntime) {
+    let mut lines = labeled_lines("b", FILE);
+    for want in LABELED {
+        check_equal(&rt, "line", &lines.next(), &Some(*want));
+    }
+    check_equal(&rt, "end", &lines.next(), &None);
+}
+
+/// An agent, a file, and a sign for each line: `+` in the agent's group, `-` in another, a blank in none.
+const GROUPS: &[(&str, &[u8], &[u8])] = &[
+    // a group of several agents, seen from each of its names and from others
+    ("a", FILE, b" +++--"),
+    ("c", FILE, b" ---++"),
+    ("d", FILE, b" -----"),
+    // the star's group is that of every agent that no line names
+    ("d", b"User-agent: a\nUser-agent: *\nDisallow: /x", b"+++"),
+    (
+        "a",
+        b"User-agent: a\nAllow: /\nUser-agent: *\nAllow: /",
+        b"++--",
+    ),
+    // lines of other kinds stand in no group, and part none
+    (
+        "a",
+        b"Sitemap: s\nUser-agent: b\n\nSitemap: s\nUser-agent: a\nx\nDisallow: /x\n# y\nAllow: /y",
+        b" +  + + +",
+    ),
+];
+
+const DELAYS: &[(&str, &[u8], &[u8])] = &[
+    // a delay parts two groups as a rule does
+    (
+        "a",
+        b"User-agent: a\nCrawl-delay: 1\nUser-agent: b\nAllow: /",
+        b"++--",
+    ),
+    (
+        "b",
+        b"User-agent: a\nCrawl-delay: 1\nUser-agent: b\nAllow: /",
+        b"--++",
+    ),
+    // an agent's groups may be several
+    (
+        "a",
+        b"User-agent: a\nAllow: /x\nUser-agent: b\nAllow: /y\nUser-agent: b\nUser-agent: a\nAllow: /z",
+        b"++--+++",
+    ),
+];
+
+const ENDS: &[(&str, &[u8], &[u8])] = &[
+    // agents at the end, with no rule behind them
+    (
+        "a",
+        b"User-agent: b\nAllow: /\nUser-agent: c\nUser-agent: a\n",
+        b"--++",
+    ),
+    (
+        "c",
+        b"User-agent: a\nAllow: /\nUser-agent: c\n\nUser-agent: d\n#",
+        b"--+ + ",
+    ),
+    ("d", b"User-agent: a\nAllow: /\nUser-agent: b\n", b"---"),
+    // a delay or a rule before the first agent
+    (
+        "a",
+        b"Crawl-delay: 1\nAllow: /\nUser-agent: a\nAllow: /",
+        b"  ++",
+    ),
+    // a file that names no agent is for all
+    (
+        "a",
+        b"Allow: /\nSitemap: s\nCrawl-delay: 1\n\nDisallow: /x",
+        b"+ + +",
+    ),
+    ("a", b"", b""),
+];
+
+/// The sign that tells where a line stands.
+fn mask(membership: Membership) -> u8 {
+    match membership {
+        Membership::Own => b'+',
+        Membership::Other => b'-',
+        Membership::Ungrouped => b' ',
+    }
+}
+
+/// The lines of the file stand where the signs tell.
+fn check_masks(rt: &impl Abort, agent: &str, file: &[u8], masks: &[u8]) {
+    let mut lines = labeled_lines(agent, file);
+    for told in masks {
+        let line = lines.next().expect(rt, agent);
+        check_equal(rt, agent, &mask(line.membership), told);
+    }
+    check(rt, agent, lines.next().is_none());
+}
+
+/// The same of several files.
+fn check_files(rt: &impl Abort, cases: &[(&str, &[u8], &[u8])]) {
+    for (agent, file, masks) in cases {
+        check_masks(rt, agent, file, masks);
+    }
+}
+
+#[test]
+fn each_line_has_its_group(rt: HostRuntime) {
+    check_files(&rt, GROUPS);
+    check_files(&rt, DELAYS);
+    check_files(&rt, ENDS);
+}
+
+#[test]
+fn a_file_names_its_agents(rt: HostRuntime) {
+    check(&rt, "A", is_named("A", FILE));
+    check(&rt, "b", is_named("b", FILE));
+    check(&rt, "d", !is_named("d", FILE));
+    check(&rt, "*", !is_named("*", FILE));
+}
+
+/// The file's first overlong rule for the agent stands in this line.
+fn check_overlong(rt: &(impl Abort + AllocGlobal), agent: &str, file: &[u8], line: Option<usize>) {
+    let answer = first_overlong_line(rt.alloc(), agent, file).expect(rt, agent);
+    check_equal(rt, agent, &answer, &line);
+}
+
+#[test]
+fn the_first_overlong_rule_is_reported(rt: HostRuntime) {
+    let mut file = String::from_str(rt.alloc(), "User-agent: a\nAllow: /$\nDisallow: /").expect(
+        &rt, "",
+    );
+    for _ in 0..4095 {
+        file.push('x').expect(&rt, "a byte");
+    }
+    // with the slash 4,096 bytes, and then `$`
+    file.push_str("$\nDisallow: /$\nUser-agent: b\nAllow: /$")
+        .expect(&rt, "lines");
+    check_overlong(&rt, "a", file.as_bytes(), Some(3));
+    check_overlong(&rt, "b", file.as_bytes(), None);
+}
+
+#[test]
+fn any_bytes_are_escaped(rt: HostRuntime) {
+    let mut text = String::new(rt.alloc());
+    push_escaped_bytes(&mut text, b"/a b\xFF\x1B[0m").expect(&rt, "bytes");
+    check_text(&rt, "bytes", text.as_str(), "/a%20b%FF%1B[0m");
+}

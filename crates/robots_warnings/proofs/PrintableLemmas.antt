@@ -1,0 +1,61 @@
+-- Warnings hold nothing that could control a terminal.
+use Rattle.std.proofs.Common.{◌≡◌, ℕ, zero, suc, true, List, [], ◌∷◌, ◌++◌, Option, Some, None, Bool, map, refl}
+use Rattle.std.{specs.List.list_all, specs.Prelude.slice_index_or, proofs.lemmas.Bool.and_parts}
+use Rattle.robots_warnings.specs.declared.table.Cause.{Cause}
+use Rattle.robots_warnings.specs.declared.table.TheConstants.{WARNINGS}
+use Rattle.robots_warnings.specs.Table.{name_of, number_of, text_of}
+use Rattle.robots_io.specs.Sanitize.{IsPrintable, is_printable_byte}
+use Rattle.robots_warnings.specs.Warnings.{WarningValue, about_text, name_text, place_text, warning_line}
+use Rattle.robots_warnings.specs.Warnings.{warning_text}
+use Rattle.robots_io.proofs.SanitizeLemmas.{append_printable, ascii_printable, decimal_printable, nil_printable}
+use Rattle.robots_io.proofs.SanitizeLemmas.{sanitized_printable}
+
+-- ---- the table
+
+-- printable ASCII
+abbrev is_ascii : List ℕ → Bool
+is_ascii text = list_all (is_printable_byte true) text
+
+-- each of these texts, and no text in place of one that is missing
+each_ascii : (texts : List (List ℕ)) (at : ℕ) → list_all is_ascii texts ≡ true
+    → is_ascii (slice_index_or texts at []) ≡ true
+each_ascii [] at all = refl
+each_ascii (text ∷ texts) zero all = (and_parts (is_ascii text) (list_all is_ascii texts) all).0
+each_ascii (text ∷ texts) (suc at) all =
+    each_ascii texts at (and_parts (is_ascii text) (list_all is_ascii texts) all).1
+
+pub names_printable : (cause : Cause) → IsPrintable (name_of cause)
+unfolding name_of
+names_printable cause =
+    ascii_printable true (name_of cause) (each_ascii (map (λ row. row.1.now) WARNINGS) (number_of cause) refl)
+
+texts_printable : (cause : Cause) → IsPrintable (text_of cause)
+unfolding text_of
+texts_printable cause =
+    ascii_printable true (text_of cause) (each_ascii (map (λ row. row.2.now) WARNINGS) (number_of cause) refl)
+
+-- ---- a warning
+
+about_printable : (about : Option (List ℕ)) → IsPrintable (about_text about)
+about_printable None = nil_printable true
+about_printable (Some url) = search (append_printable true, ascii_printable true, sanitized_printable)
+
+pub text_printable : (warning : WarningValue) → IsPrintable (warning_text warning)
+text_printable warning =
+    append_printable true (about_text warning.about) (text_of warning.cause) (about_printable warning.about)
+    (texts_printable warning.cause)
+
+place_printable : (line : Option ℕ) → IsPrintable (place_text line)
+place_printable None = nil_printable true
+place_printable (Some number) = search (append_printable true, ascii_printable true, decimal_printable true)
+
+name_printable : (cause : Cause) → IsPrintable (name_text cause)
+name_printable cause = search (append_printable true, ascii_printable true, names_printable)
+
+pub line_printable : (warning : WarningValue) → IsPrintable (warning_line warning)
+unfolding warning_line
+line_printable warning =
+    let text = warning_text warning in
+    let name = name_text warning.cause in
+    append_printable true (place_text warning.line) (text ++ name) (place_printable warning.line)
+    (append_printable true text name (text_printable warning) (name_printable warning.cause))

@@ -1,0 +1,41 @@
+-- What is kept, by value, and how it grows.
+pub mod Conflicts
+pub mod Names
+use Rattle.std.specs.Prelude.{◌≡◌, ℕ, ◌||◌, ◌++◌, List, Some, map, option_map, slice_get}
+use Rattle.std.specs.Borrow.{Bor}
+use Rattle.texting_robots.specs.Callers.{LineValue}
+use Rattle.texting_robots.specs.Group.{is_agent}
+use Rattle.robots_warnings.specs.declared.facts.LineKinds.{LineKinds}
+use Rattle.robots_warnings.specs.declared.table.Cause.{Cause}
+use Rattle.robots_warnings.specs.declared.warning.Warning.{Warning}
+use Rattle.robots_warnings.specs.Facts.{has_text, is_extra, is_rule}
+use Rattle.robots_warnings.specs.Warnings.{WarningValue}
+
+abbrev pub warning_value : Warning → WarningValue
+warning_value warning =
+    record { line = warning.line; cause = warning.cause; about = option_map (λ url. url.now) warning.about }
+
+-- the found warnings are the old ones and these
+abbrev pub Adds : List Warning → List Warning → List WarningValue → Type 0
+Adds old found more = map warning_value found ≡ map warning_value old ++ more
+
+-- the kinds of some lines and of one more
+abbrev pub kinds_with : LineKinds → LineValue → LineKinds
+kinds_with kinds line = record {
+  text = kinds.text || has_text line;
+  user_agent = kinds.user_agent || is_agent line;
+  rule = kinds.rule || is_rule line;
+  extra = kinds.extra || is_extra line;
+}
+
+-- a name with its warning
+abbrev pub name_value : Bor (List ℕ) × Cause → List ℕ × Cause
+name_value row = (row.0.now, row.1)
+
+-- a row of the table of warnings
+abbrev pub Row : Type 0
+Row = Cause × Bor (List ℕ) × Bor (List ℕ)
+
+-- the row has this number among these
+pub record IsRowAt (rows : List Row) (number : ℕ) (row : Row) : Type 0 where
+  pub found : slice_get rows number ≡ Some row

@@ -1,0 +1,54 @@
+-- Sets of names, in which each is lowered.
+use Rattle.std.specs.Prelude.{◌≡◌, ℕ, ◌+◌, Bool, bytes_eq, filter, length, map, not, ◌||◌}
+use Rattle.std.specs.Prelude.{List, ◌++◌, ◌∷◌, []}
+use Rattle.std.specs.BTreeSet.{BTreeSet, contains}
+use Rattle.std.specs.Cmp.Lexicographic.{slice_cmp}
+use Rattle.std.specs.Global.{Vec}
+use Rattle.std.specs.List.{enumerate_from, list_any}
+use Rattle.std.specs.Ordering.{nat_cmp}
+use Rattle.std.specs.Str.{str_to_ascii_lowercase}
+use Rattle.std.specs.declared.cmp.Ordering.{Ordering}
+use Rattle.texting_robots.specs.Callers.{LineValue, file_lines, is_agent_named}
+use Rattle.robots_warnings.specs.NamesPastLimit.{has_new_name, is_past_limit, names_past_limit}
+
+-- a name, lowered
+abbrev pub Key : Type 0
+Key = Vec ℕ
+
+-- the order of these
+abbrev pub key_cmp : Key → Key → Ordering
+key_cmp one two = slice_cmp nat_cmp one.items two.items
+
+-- the name was added to the old set, where it may have been before
+pub record AddsName (old new : BTreeSet Key) (name : List ℕ) (is_new : Bool) : Type 0 where
+  pub lowered : Key
+  pub spells : lowered.items ≡ str_to_ascii_lowercase name
+  pub new_if : is_new ≡ not (contains key_cmp old lowered)
+  pub each : (key : Key) → contains key_cmp new key
+      ≡ (contains key_cmp old key || bytes_eq (str_to_ascii_lowercase name) key.items)
+
+-- ---- names of lines
+
+-- the set has the names of these lines
+pub record HasNames (met : BTreeSet Key) (lines : List LineValue) : Type 0 where
+  pub each : (key : Key) → contains key_cmp met key ≡ list_any (is_agent_named key.items) lines
+
+-- the set has the name of one line more, which was new or not
+pub record MeetsLine (old new : BTreeSet Key) (line : LineValue) (is_new : Bool) : Type 0 where
+  pub was : (lines : List LineValue) → HasNames old lines → is_new ≡ has_new_name lines line
+  pub has : (lines : List LineValue) → HasNames old lines → HasNames new (lines ++ line ∷ [])
+
+-- the numbers of the lines with new names among those of a file that are left from an index on
+abbrev pub past_limit_from : List LineValue → List ℕ → ℕ → List LineValue → List ℕ
+past_limit_from read file index left =
+    map (λ p. p.0 + 1) (filter (is_past_limit read file) (enumerate_from index left))
+
+-- the set has the names of the lines that were read and of those before an index of a file, from which on
+-- these are left; and the numbers that were found, and those among the lines that are left, are all
+pub record IsFoundUpto (read : List LineValue) (file : List ℕ) (met : BTreeSet Key) (found : List ℕ) (index : ℕ)
+    (left : List LineValue) : Type 0 where
+  pub before : List LineValue
+  pub count : length before ≡ index
+  pub parts : before ++ left ≡ file_lines file
+  pub has : HasNames met (read ++ before)
+  pub all : found ++ past_limit_from read file index left ≡ names_past_limit read file

@@ -1,0 +1,51 @@
+//! Names that are in a file only past the size limit.
+ghost use Rattle.std.specs.Prelude.{◌≡◌, IfOk, map};
+ghost use Rattle.texting_robots.specs.Callers.{by_value, label_by_value};
+ghost use Rattle.robots_warnings.specs.File.{lines_of};
+ghost use Rattle.robots_warnings.specs.NamesPastLimit.{names_past_limit};
+ghost use Rattle.robots_warnings.specs.Internal.Names.{HasNames, MeetsLine};
+
+use crate::conflicts::add;
+use crate::names::{Names, add_name};
+use std::alloc::{AllocError, Global};
+use std::collections::BTreeSet;
+use texting_robots::labels::LabeledLine;
+use texting_robots::parser::{Line, file_lines};
+
+/// Adds the name of a line to those that were met, if it has one; whether it is a new one.
+fn insert_name(alloc: Global, met: &mut Names, line: Line<'_>) -> Result<bool, AllocError>
+    ensures { IfOk result (λ is_new. MeetsLine met.old met.new (by_value line.entry) is_new) }
+{
+    match line {
+        Line::UserAgent(value) => add_name(alloc, met, value),
+        _ => Ok(false),
+    }
+}
+
+/// The names of the lines that were read.
+#[tactic(auto, using(crate::proofs::NamesPastLimitLemmas::read_more))]
+fn names_read(alloc: Global, labels: &[LabeledLine<'_>]) -> Result<Names, AllocError>
+    ensures { IfOk result (λ met. HasNames met (lines_of (map label_by_value labels.now))) }
+{
+    let mut met = BTreeSet::new(alloc);
+    for labeled in labels {
+        insert_name(alloc, &mut met, labeled.line)?;
+    }
+    Ok(met)
+}
+
+/// The numbers of the lines that are the first to have a name which none of the lines that were read has.
+pub(crate) fn names_past_limit(
+    alloc: Global,
+    file: &[u8],
+    labels: &[LabeledLine<'_>],
+) -> Result<Vec<usize>, AllocError>
+    ensures { IfOk result (λ found. found.items ≡ names_past_limit (lines_of (map label_by_value labels.now)) file.now) }
+{
+    let mut met = names_read(alloc, labels)?;
+    let mut found = Vec::new(alloc);
+    for (index, line) in file_lines(file).enumerate() {
+        add(&mut found, insert_name(alloc, &mut met, line)?, index + 1)?;
+    }
+    Ok(found)
+}

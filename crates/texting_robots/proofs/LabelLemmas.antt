@@ -1,0 +1,265 @@
+-- Each line stands where the definition by places has it.
+use Rattle.std.proofs.Common.{◌≡◌, ◌⊎◌, inl, inr, ℕ, zero, suc, ◌+◌, ◌<◌, ◌≤◌}
+use Rattle.std.proofs.Common.{◌↔◌, Bool, true, false, not, ◌&&◌, ◌||◌, List, [], ◌∷◌}
+use Rattle.std.proofs.Common.{Some, slice_get, ◌-◌, length, length-drop, cond}
+use Rattle.std.proofs.Common.{slice_index_or, drop, take, map, ap, sym, subst, refl, ◌∙◌, add-one}
+use Rattle.std.proofs.Common.{arith}
+use Rattle.std.specs.{Bool.Decides, List.enumerate_from, List.list_any}
+use Rattle.std.proofs.lemmas.Bool.{cases_lt, cases_order, false_from_ne_true}
+use Rattle.std.proofs.lemmas.Bool.Decides.{Decides-and, Decides-at, Decides-like, Decides-or}
+use Rattle.std.proofs.lemmas.Bool.Decides.{not_from_Decides}
+use Rattle.std.proofs.lemmas.{List.get_or-drop, Option.slice_get-get_or}
+use Rattle.std.proofs.Math.Bool.{and-or_distrib_right, or_comm, or-and_distrib_left}
+use Rattle.std.proofs.lemmas.List.Sums.{fails_before_first, passes_at_first}
+use Rattle.std.proofs.Math.Nat.{add-zero, zero-add}
+use Rattle.texting_robots.specs.declared.labels.Membership.{Membership}
+use Rattle.texting_robots.specs.declared.labels.Membership.TheVariants.{Own, Other, Ungrouped}
+use Rattle.texting_robots.specs.Group.{IsCaptured, is_agent, is_agent_named, is_group, passes_at}
+use Rattle.texting_robots.specs.{Line.LineValue, Line.Raw, Line.UserAgent, Internal.Captured.is_captured}
+use Rattle.texting_robots.specs.Labels.{AreLabelsOf, AreOneRun, IsInGroup, IsInOwnGroup, Label, HasMembership}
+use Rattle.texting_robots.specs.Labels.{label_at, labels_of, next_group, membership_of}
+use Rattle.texting_robots.proofs.CapturedLemmas.{any_next, at_front, is_captured_decides, itself}
+use Rattle.texting_robots.proofs.CapturedLemmas.{taken_decides, within}
+
+-- ---- tests of places
+
+not_both : (lines : List LineValue) (k : ℕ) → passes_at is_agent lines k ≡ true
+    → ¬ (passes_at is_group lines k ≡ true)
+not_both [] k agent group = cc
+not_both (UserAgent value ∷ lines) zero agent group = cc
+not_both (line ∷ lines) zero agent group = cc
+not_both (line ∷ lines) (suc k) agent group = not_both lines k agent group
+
+named_agent : (name : List ℕ) (lines : List LineValue) (k : ℕ)
+    → passes_at (is_agent_named name) lines k ≡ true → passes_at is_agent lines k ≡ true
+named_agent name [] k h = h
+named_agent name (UserAgent value ∷ lines) zero h = refl
+named_agent name (line ∷ lines) zero h = h
+named_agent name (line ∷ lines) (suc k) h = named_agent name lines k h
+
+-- a test decides with another one, which decides where the first passes
+and_given : {P Q : Type 0} (x y : Bool) → Decides x P → (P → Decides y Q) → Decides (x && y) (P × Q)
+and_given true y first second = (λ h. (first.0 refl, (second (first.0 refl)).0 h), λ (p, q). (second p).1 q)
+and_given false y first second = (λ h. cc, λ (p, q). first.1 p)
+
+-- ---- the next rule or delay
+
+pub record IsNext (lines : List LineValue) (position next : ℕ) : Type 0 where
+  pub from : position ≤ next
+  pub none : (k : ℕ) → position ≤ k → k < next → ¬ (passes_at is_group lines k ≡ true)
+  pub stop : (passes_at is_group lines next ≡ true) ⊎ (length lines ≤ next)
+
+is_next : (lines : List LineValue) (position : ℕ) → IsNext lines position (next_group lines position)
+is_next lines position = record {
+  from = omega arith;
+  none = λ k least less group.
+      let there : position + (k - position) ≡ k = omega arith in
+      let read = rw there at (get_or-drop position lines (k - position) (Raw [])) in
+      let fails = rw read at (fails_before_first is_group left (k - position) (Raw []) (omega arith)) in
+      cc (at k (within is_group lines k group));
+  stop = elim (cases_lt (next_group lines position) (length lines)) [
+    | inl less ↦ inl (at _ less ∙ sym (ap is_group (get_or-drop position lines _ (Raw [])))
+        ∙ passes_at_first is_group left (Raw []) (omega (arith, length-drop position lines)))
+    | inr past ↦ inr past
+  ];
+}
+  where
+    left : List LineValue
+    left = drop position lines
+
+    at : (k : ℕ) → k < length lines
+        → passes_at is_group lines k ≡ is_group (slice_index_or lines k (Raw []))
+    at k less = rw (slice_get-get_or lines k (Raw []) less) refl
+
+-- ---- user-agent lines
+
+module _ (name : List ℕ) (lines : List LineValue) (position next : ℕ) (is : IsNext lines position next) where
+  abbrev NamedInRun : Type 0
+  NamedInRun = (j : ℕ) × (passes_at (is_agent_named name) lines j ≡ true) × AreOneRun lines position j
+
+  module _ (agent : passes_at is_agent lines position ≡ true) where
+    agent_before : position < next
+    agent_before = elim (cases_lt position next) [
+      | inl less ↦ less
+      | inr more ↦
+          let from = is.from in
+          let same : next ≡ position = omega arith in
+          elim is.stop [
+            | inl group ↦ absurd (not_both lines position agent (rw same at group))
+            | inr past ↦ absurd (omega (arith, within is_agent lines position agent))
+          ]
+    ]
+
+    run_named : IsCaptured name lines next → NamedInRun
+    run_named (inl none) = absurd (none position agent)
+    run_named (inr (j, below, named, apart)) = (j, named, run)
+      where
+        apart_from : (k : ℕ) → k < position → passes_at is_group lines k ≡ true → k < j
+        apart_from k before group = elim (cases_order k j) [
+          | inl same ↦ absurd (not_both lines j (named_agent name lines j named) (rw same at group))
+          | inr (inl less) ↦ less
+          | inr (inr more) ↦ absurd (apart (k, position, more, before, agent_before, group, agent))
+        ]
+
+        run : AreOneRun lines position j
+        run k group = elim (cases_lt k position) [
+          | inl before ↦ inl (before, apart_from k before group)
+          | inr least ↦
+              let first = agent_before in
+              elim (cases_lt k next) [
+                | inl less ↦ absurd (is.none k least less group)
+                | inr following ↦ inr (omega arith, omega arith)
+              ]
+        ]
+
+    named_before : (j : ℕ) → passes_at (is_agent_named name) lines j ≡ true → AreOneRun lines position j
+        → j < next
+    named_before j named run = elim is.stop [
+      | inl group ↦
+          let first = agent_before in
+          elim (run next group) [ inl before ↦ absurd (omega (arith, before.0)) | inr following ↦ following.1 ]
+      | inr past ↦ let less = within _ lines j named in omega arith
+    ]
+
+    named_captures : NamedInRun → IsCaptured name lines next
+    named_captures (j, named, run) = inr (
+      j,
+      named_before j named run,
+      named,
+      λ (k, l, jk, kl, ln, group, other). elim (run k group) [
+        | inl before ↦ omega (arith, before.1)
+        | inr following ↦ is.none k (let less = following.0 in omega arith) (omega arith) group
+      ],
+    )
+
+  group_stops : passes_at is_group lines position ≡ true → next ≡ position
+  group_stops group = elim (cases_lt position next) [
+    | inl less ↦ absurd (is.none position (omega arith) less group)
+    | inr more ↦ let from = is.from in omega arith
+  ]
+
+-- ---- where a line stands
+
+module _ (name : List ℕ) (lines : List LineValue) (position : ℕ) (line : LineValue)
+    (at : slice_get lines position ≡ Some line) where
+  abbrev next : ℕ
+  next = next_group lines position
+
+  -- a rule or delay is in its own group where it is captured, a user-agent line where the next of these is
+  own_decides : Decides ((is_agent line || is_group line) && is_captured name lines next)
+      (IsInOwnGroup name lines position)
+  own_decides =
+      let is = is_next lines position in
+      let test = is_captured name lines next in
+      let captured = is_captured_decides name lines next in
+      let same : ((is_agent line || is_group line) && test)
+      ≡ ((passes_at is_group lines position && test) || (passes_at is_agent lines position && test))
+      = rw at (ap (λ b. b && test) (or_comm (is_agent line) (is_group line))
+      ∙ and-or_distrib_right (is_group line) (is_agent line) test) in
+      Decides-at _ _ same (Decides-or _ _
+      (and_given _ _ (itself (passes_at is_group lines position)) (λ group.
+      subst (λ k. Decides test (IsCaptured name lines k)) (group_stops name lines position next is group)
+      captured))
+      (Decides-like _ (λ (agent, (j, named, run)). (agent, j, named, run))
+      (λ (agent, j, named, run). (agent, (j, named, run)))
+      (and_given _ _ (itself (passes_at is_agent lines position)) (λ agent.
+      Decides-like _ (run_named name lines position next is agent)
+      (named_captures name lines position next is agent) captured))))
+
+  -- a group line is in a group where a user-agent line stands before it
+  in_group_decides : Decides ((is_agent line || is_group line) && list_any is_agent (take (position + 1) lines))
+      (IsInGroup lines position)
+  in_group_decides = Decides-at _ _
+      (rw (add-one, any_next is_agent lines position, at)
+      (sym (or-and_distrib_left (is_agent line) (is_group line) (list_any is_agent (take position lines)))))
+      (Decides-or _ _ (itself (passes_at is_agent lines position))
+      (Decides-like _ (λ (group, (j, less, agent)). (group, j, less, agent))
+      (λ (group, j, less, agent). (group, (j, less, agent)))
+      (Decides-and _ _ (itself (passes_at is_group lines position)) (taken_decides is_agent lines position))))
+
+  -- by tests of its own group and of all groups a line stands in one way
+  occurs_by : (own some : Bool) → Decides own (IsInOwnGroup name lines position)
+      → Decides some (IsInGroup lines position)
+      → HasMembership name lines position (cond own Own (cond some Other Ungrouped))
+  occurs_by true some is begun = is.0 refl
+  occurs_by false true is begun = (not_from_Decides _ is refl, begun.0 refl)
+  occurs_by false false is begun = (not_from_Decides _ is refl, not_from_Decides _ begun refl)
+
+  only_by : (own some : Bool) (membership : Membership) → Decides own (IsInOwnGroup name lines position)
+      → Decides some (IsInGroup lines position) → HasMembership name lines position membership
+      → membership ≡ cond own Own (cond some Other Ungrouped)
+  only_by own some Own is begun splits = rw (is.1 splits) refl
+  only_by own some Other is begun (isnt, among) =
+      rw (false_from_ne_true own (λ h. isnt (is.0 h)), begun.1 among) refl
+  only_by own some Ungrouped is begun (isnt, none) =
+      rw (false_from_ne_true own (λ h. isnt (is.0 h)), false_from_ne_true some (λ h. none (begun.0 h))) refl
+
+  -- and these tests are the definition's
+  by_tests : (kind captured begun : Bool)
+      → cond (not kind) Ungrouped (cond captured Own (cond begun Other Ungrouped))
+      ≡ cond (kind && captured) Own (cond (kind && begun) Other Ungrouped)
+  by_tests true captured begun = refl
+  by_tests false captured begun = refl
+
+  occurs_so : HasMembership name lines position (membership_of name lines (position, line))
+  occurs_so = rw by_tests (occurs_by _ _ own_decides in_group_decides)
+
+  occurs_only : (membership : Membership) → HasMembership name lines position membership
+      → membership ≡ membership_of name lines (position, line)
+  occurs_only membership splits =
+      only_by _ _ membership own_decides in_group_decides splits ∙ sym (by_tests _ _ _)
+
+-- ---- the marks of all lines
+
+abbrev IsWildcardAt : List ℕ → List LineValue → ℕ → Label → Type 0
+IsWildcardAt name lines position label = (label.number ≡ position + 1) × HasMembership name lines position label.membership
+
+module _ (name : List ℕ) (all : List LineValue) where
+  abbrev left_from : ℕ → List LineValue → List Label
+  left_from position lines = map (label_at name all) (enumerate_from position lines)
+
+  left_lines : (position : ℕ) (lines : List LineValue)
+      → map (λ (label : Label). label.line) (left_from position lines) ≡ lines
+  left_lines position [] = refl
+  left_lines position (line ∷ lines) =
+      ap (λ (rest : List LineValue). line ∷ rest) (left_lines (position + 1) lines)
+
+  left_each : (position : ℕ) (lines : List LineValue) → drop position all ≡ lines → (k : ℕ) (label : Label)
+      → slice_get (left_from position lines) k ≡ Some label → IsWildcardAt name all (position + k) label
+  left_each position [] left k label at = cc
+  left_each position (line ∷ lines) left zero label at =
+      let same : label_at name all (position, line) ≡ label = cc in
+      let (splits, next) = at_front all position line lines left in
+      rw (add-zero, sym same) (refl, occurs_so name all position line splits)
+  left_each position (line ∷ lines) left (suc k) label at =
+      let (splits, next) = at_front all position line lines left in
+      let further : position + suc k ≡ (position + 1) + k = omega arith in
+      rw further (left_each (position + 1) lines next k label at)
+
+  left_only : (position : ℕ) (lines : List LineValue) (labels : List Label) → drop position all ≡ lines
+      → map (λ (label : Label). label.line) labels ≡ lines
+      → ((k : ℕ) (label : Label) → slice_get labels k ≡ Some label → IsWildcardAt name all (position + k) label)
+      → labels ≡ left_from position lines
+  left_only position [] [] left are each = refl
+  left_only position [] (label ∷ labels) left are each = cc
+  left_only position (line ∷ lines) [] left are each = cc
+  left_only position (line ∷ lines) (label ∷ labels) left are each =
+      let (splits, next) = at_front all position line lines left in
+      let here = rw add-zero at (each 0 label refl) in
+      let same = occurs_only name all position line splits label.membership here.1 in
+      let later = left_only (position + 1) lines labels next (cc) (λ k other at.
+      let further : (position + 1) + k ≡ position + suc k = omega arith in rw further (each (suc k) other at)) in
+      let line_is : line ≡ label.line = cc in
+      let first : label ≡ label_at name all (position, line) = rw (sym same, sym here.0, line_is) refl in
+      rw (first, later) refl
+
+pub each_line_has_its_label : (name : List ℕ) (lines : List LineValue) (labels : List Label)
+    → AreLabelsOf name lines labels ↔ (labels ≡ labels_of name lines)
+each_line_has_its_label name lines labels = (
+  λ are. left_only name lines 0 lines labels refl are.lines_are
+      (λ k label at. rw zero-add (are.each k label at)),
+  λ same. rw same (record {
+    lines_are = left_lines name lines 0 lines;
+    each = λ position label at. rw zero-add at (left_each name lines 0 lines refl position label at);
+  }),
+)

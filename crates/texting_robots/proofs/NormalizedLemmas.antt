@@ -1,0 +1,384 @@
+-- A whole URL that `url` would leave as it is: its parts, from the front.
+use Rattle.std.proofs.Common.{◌≡◌, ℕ, ◌<◌, ◌≤◌, Bool, true, false, ◌||◌, ◌==◌, not}
+use Rattle.std.proofs.Common.{List, [], ◌∷◌, ◌++◌, length, get_or, drop, drop_at, take_at, All, sym}
+use Rattle.std.proofs.Common.{refl, ap, ◌∙◌, ◌≢◌, subst, ⊎_elim, inl, inr, arith, append_assoc}
+use Rattle.std.proofs.Common.{take-append-drop, None, Some, decimal, cond, take, ◌+◌, Option, codes}
+use Rattle.std.proofs.Common.{◌^◌, ◌/◌, ◌&&◌, nat_lt, one-add, option_map, slice_index, suc, zero}
+use Rattle.std.specs.{Int.Bits.and_zero_r, Int.IsInRange, List.prefix_len}
+use Rattle.std.specs.Char.{is_ascii_lowercase, is_ascii_uppercase}
+use Rattle.std.specs.Str.Parse.{IsNumeral, digits_value, without_leading_plus}
+use Rattle.std.proofs.lemmas.{Option.none-some, Option.same_Some}
+use Rattle.std.proofs.lemmas.List.Sums.{prefix_len-le-length, prefix_len_passes}
+use Rattle.std.proofs.lemmas.Fmt.{decimal-digits_value, decimal_digit, first_decimal}
+use Rattle.std.proofs.lemmas.Str.Parse.{numerals_by_value, tells_digits, without_leading_plus_none}
+use Rattle.std.proofs.lemmas.Bool.{and_parts, agree_below, agree_below_at, cases_Bool, cases_eq, cases_lt}
+use Rattle.std.proofs.lemmas.Bool.{cond-true, cond-false, le-ltb, ne_eqb, not-true, eq-eqb, Decides.nat_tests}
+use Rattle.std.proofs.lemmas.List.{get_or_past, length-drop, length-take-le, drop-drop}
+use Rattle.std.proofs.lemmas.List.{Folds.length-prefix_len, Folds.prefix_len-append}
+use Rattle.std.proofs.lemmas.List.Elements.{All-head, All-tail, All-weaker}
+use Rattle.percent_encoding.specs.declared.ascii_set.AsciiSet.{AsciiSet}
+use Rattle.percent_encoding.specs.{AsciiSet.should_percent_encode, Percent.IsKept}
+use Rattle.url.specs.declared.sets.TheConstants.{FORBIDDEN_DOMAIN, PATH}
+use Rattle.url.specs.declared.scheme.SchemeType.TheVariants.{SpecialNotFile}
+use Rattle.url.specs.{Scheme.is_slash, Input.rsplit_once, Path.IsSegment, Path.dot_count, Path.join_segments}
+use Rattle.url.proofs.{HostRoundTrip.All-decimal, PathLemmas.push_valid, InputLemmas.prefix_len_at}
+use Rattle.url.proofs.InputLemmas.{Passes, StopsAt, All-take-prefix_len, StopsAt-drop-prefix_len}
+use Rattle.texting_robots.specs.declared.normalized.TheConstants.{NAME, NUMBER, OPEN, SEGMENT, UPPER}
+use Rattle.texting_robots.specs.{AllocationFree.EndsSite, AllocationFree.IsAuthority, AllocationFree.IsName, AllocationFree.IsPath, AllocationFree.IsPort}
+use Rattle.texting_robots.specs.{Prepared.with_delimiter, Internal.Normalized.IsOther, Internal.Normalized.Leaves}
+use Rattle.texting_robots.specs.Internal.Normalized.{EndsPath, after, begins_dotted, begins_plainly, kept_prefix}
+use Rattle.texting_robots.specs.Internal.Normalized.{past_path, past_segment, is_kept}
+
+-- ---- bytes that stand
+
+none_past : (part : List ℕ) (b : ℕ) → 256 ≤ b → is_kept part b ≡ false
+unfolding is_kept
+none_past part b high = rw (get_or_past UPPER.now (b / 16) 0 (omega arith), and_zero_r) refl
+
+-- what a set keeps, without some others
+abbrev pub kept_but : AsciiSet → (ℕ → Bool) → ℕ → Bool
+kept_but set other b = not (should_percent_encode set b) && not (other b)
+
+-- a part has such bytes
+module _ (part : List ℕ) (set : AsciiSet) (other : ℕ → Bool)
+    (same : agree_below (is_kept part) (kept_but set other) 256 ≡ true) where
+  same_at : (b : ℕ) → is_kept part b ≡ kept_but set other b
+  unfolding is_kept should_percent_encode
+  same_at b = elim (cases_lt b 256) [
+    | inl low ↦ agree_below_at (is_kept part) (kept_but set other) 256 b same low
+    | inr high ↦ rw (none_past part b high, le-ltb b 128 (omega arith)) refl
+  ]
+
+  pub kept_all : (xs : List ℕ) → All (Passes (is_kept part)) xs
+      → All (IsKept set) xs × All (λ b. other b ≡ false) xs
+  kept_all xs passes =
+      let each = λ (k d : ℕ) (inside : k < length xs).
+      and_parts _ _ (sym (same_at (get_or xs k d)) ∙ passes k d inside) in
+      (λ k d inside. not-true _ (each k d inside).0, λ k d inside. not-true _ (each k d inside).1)
+
+  pub occurs_all : (xs : List ℕ) → All (IsKept set) xs → All (λ b. other b ≡ false) xs
+      → All (Passes (is_kept part)) xs
+  occurs_all xs kept none k d inside = rw (same_at (get_or xs k d), kept k d inside, none k d inside) refl
+
+-- ---- the bytes at the front
+
+-- the bytes at the front by the first `n`: if all these stand, the next ones count too
+module _ (part : List ℕ) (n len : ℕ) (text : List ℕ) (inside : n ≤ length text)
+    (front : len ≡ prefix_len (is_kept part) (take n text)) where
+  by_front : prefix_len (is_kept part) text
+      ≡ cond (len == n) (n + prefix_len (is_kept part) (drop n text)) len
+  by_front =
+      let whole = prefix_len-append (is_kept part) (take n text) (drop n text) in
+      rw (take-append-drop, length-take-le n text inside, ← front) at whole
+
+  pub after_few : len < n → drop len text ≡ after part text
+  after_few less =
+      ap (λ k. drop k text) (sym (by_front ∙ cond-false _ _ _ (ne_eqb len n (λ e. omega arith))))
+
+  pub after_all : n ≤ len → after part (drop n text) ≡ after part text
+  after_all all =
+      let same : len ≡ n = omega (
+        arith,
+        prefix_len-le-length (is_kept part) (take n text),
+        length-take-le n text inside,
+      ) in
+      drop-drop _ n text ∙ ap (λ k. drop k text) (sym (by_front ∙ cond-true _ _ _ (eq-eqb len n same)))
+
+module _ (part xs ys : List ℕ) (passes : All (Passes (is_kept part)) xs)
+    (stops : StopsAt (is_kept part) ys) where
+  pub front_at : kept_prefix part (xs ++ ys) ≡ xs
+  front_at = take_at xs ys _ (sym (prefix_len_at (is_kept part) xs ys passes stops))
+
+  pub after_at : after part (xs ++ ys) ≡ ys
+  after_at = drop_at xs ys _ (sym (prefix_len_at (is_kept part) xs ys passes stops))
+
+-- ---- the path
+
+-- from within a segment on, past its end
+past_rest : (text : List ℕ) → past_segment text ≡ past_path (after SEGMENT.now text)
+unfolding past_segment is_kept
+past_rest [] = refl
+past_rest (b ∷ text) = elim (cases_eq b 47) [
+  | inl slash ↦ rw slash refl
+  | inr other ↦ elim (cases_Bool (is_kept SEGMENT.now b)) [
+    | inl inside ↦ rw (inside, one-add, ne_eqb b 47 other) (past_rest text)
+    | inr outside ↦ rw (outside, ne_eqb b 47 other) refl
+  ]
+]
+
+-- a first segment that is no dot segment is passed
+pub past_more : (text : List ℕ) → get_or text 0 0 ≡ 47
+    → dot_count (kept_prefix SEGMENT.now (drop 1 text)) ≡ 0
+    → past_path text ≡ past_path (after SEGMENT.now (drop 1 text))
+unfolding past_segment
+past_more [] slash resolved = absurd (omega arith)
+past_more (b ∷ text) slash resolved = rw (slash, resolved) (past_rest text)
+
+pub past_dots : (text : List ℕ) → get_or text 0 0 ≡ 47
+    → dot_count (kept_prefix SEGMENT.now (drop 1 text)) ≢ 0 → past_path text ≡ None
+unfolding past_segment
+past_dots [] slash dots = absurd (omega arith)
+past_dots (b ∷ text) slash dots = rw (slash, ne_eqb _ 0 dots) refl
+
+-- a slash ends a segment
+pub after_slash : (text : List ℕ) → get_or text 0 0 ≡ 47 → after SEGMENT.now text ≡ text
+unfolding is_kept
+after_slash [] slash = refl
+after_slash (b ∷ text) slash = rw slash refl
+
+pub two_dots : (text : List ℕ) → get_or text 0 0 ≡ 46 → get_or text 1 0 ≡ 46
+    → get_or text 2 0 ≡ 47
+    → dot_count (kept_prefix SEGMENT.now text) ≡ 2
+unfolding is_kept dot_count
+two_dots (a ∷ b ∷ c ∷ text) one two slash = rw (one, two, slash) refl
+two_dots [] one two slash = absurd (omega arith)
+two_dots (a ∷ []) one two slash = absurd (omega arith)
+two_dots (a ∷ b ∷ []) one two slash = absurd (omega arith)
+
+-- what is passed is more of a path
+pub path_read : (n : ℕ) (path text rest : List ℕ) → IsPath path → length text ≤ n
+    → past_path text ≡ Some rest → Leaves IsPath (path ++ text) rest
+unfolding is_kept should_percent_encode
+path_read n path [] rest is_path within past = (path, ap (λ t. path ++ t) (same_Some _ _ past), is_path)
+path_read zero path (b ∷ text) rest is_path within past = absurd (omega arith)
+path_read (suc n) path (b ∷ text) rest is_path within past = elim (cases_eq b 47) [
+  | inl slash ↦
+      let len = prefix_len (is_kept SEGMENT.now) text in
+      let segment = take len text in
+      let following = drop len text in
+      let split = sym (take-append-drop len text) in
+      let whole = (λ i. path ++ slash i ∷ split i) ∙ sym (append_assoc path (47 ∷ segment) following) in
+      let (escaped, solid) = kept_all SEGMENT.now PATH (is_slash SpecialNotFile) refl segment
+      (All-take-prefix_len (is_kept SEGMENT.now) text) in
+      elim (cases_eq (dot_count segment) 0) [
+        | inl resolved ↦
+            let is_segment : IsSegment SpecialNotFile segment =
+            record { escaped = escaped; whole = solid; resolved = resolved } in
+            rw whole (path_read n (path ++ 47 ∷ segment) following rest
+            (push_valid SpecialNotFile path segment is_path is_segment) (omega (arith, length-drop len text))
+            (sym (past_more (b ∷ text) slash resolved) ∙ past))
+        | inr dots ↦ absurd (none-some rest (sym (past_dots (b ∷ text) slash dots) ∙ past))
+      ]
+  | inr other ↦
+      let same = same_Some _ _ (sym (cond-false _ _ _ (ne_eqb b 47 other)) ∙ past) in
+      (path, ap (λ t. path ++ t) same, is_path)
+]
+
+joined_stops : (segments : List (List ℕ)) (rest : List ℕ) → EndsPath rest
+    → StopsAt (is_kept SEGMENT.now) (join_segments segments ++ rest)
+unfolding is_kept
+joined_stops [] [] ends = tt
+joined_stops [] (b ∷ rest) ends = ⊎_elim (λ e. rw e refl) (λ e. rw e refl) ends
+joined_stops (s ∷ segments) rest ends = refl
+
+pub not_ended : (text : List ℕ) → get_or text 0 0 ≡ 47 → ¬ (EndsPath text)
+not_ended [] e ends = omega arith
+not_ended (b ∷ text) e ends = ⊎_elim (λ delimiter. omega arith) (λ delimiter. omega arith) ends
+
+-- a path is passed
+pub path_left : (text rest : List ℕ) → EndsPath rest → Leaves IsPath text rest
+    → past_path text ≡ Some rest
+unfolding is_kept should_percent_encode
+path_left text rest ends (path, assembled, is_path) =
+    ap past_path (assembled ∙ ap (λ p. p ++ rest) is_path.joined) ∙ by is_path.segments is_path.each
+  where
+    by : (segments : List (List ℕ)) → All (IsSegment SpecialNotFile) segments
+        → past_path (join_segments segments ++ rest) ≡ Some rest
+    by [] each = cond-false _ _ _ (ne_eqb _ 47 (λ slash. not_ended rest slash ends))
+    by (s ∷ segments) each =
+        let later = join_segments segments ++ rest in
+        let valid = All-head (IsSegment SpecialNotFile) s segments each in
+        let passes = occurs_all SEGMENT.now PATH (is_slash SpecialNotFile) refl s valid.escaped valid.whole in
+        let stops = joined_stops segments rest ends in
+        ap (λ t. past_path (47 ∷ t)) (append_assoc s (join_segments segments) rest)
+        ∙ past_more (47 ∷ s ++ later) refl
+        (ap dot_count (front_at SEGMENT.now s later passes stops) ∙ valid.resolved)
+        ∙ ap past_path (after_at SEGMENT.now s later passes stops)
+        ∙ by segments (All-tail (IsSegment SpecialNotFile) s segments each)
+
+-- ---- segments that begin with no dot and no escape
+
+abbrev is_open : ℕ → Bool
+is_open b = not (b == 46 || b == 37) && (b == 47 || is_kept SEGMENT.now b)
+
+open_is : (b : ℕ) → is_kept OPEN.now b ≡ is_open b
+unfolding is_kept
+open_is b = elim (cases_lt b 256) [
+  | inl low ↦ agree_below_at (is_kept OPEN.now) is_open 256 b refl low
+  | inr high ↦ rw (none_past OPEN.now b high, none_past SEGMENT.now b high) (grind (arith, nat_tests))
+]
+
+pub undotted : (text : List ℕ) → begins_dotted text ≡ false
+    → dot_count (kept_prefix SEGMENT.now text) ≡ 0
+unfolding dot_count
+undotted [] plain = refl
+undotted (b ∷ text) plain = elim (cases_Bool (is_kept SEGMENT.now b)) [
+  | inl inside ↦ rw inside (grind (arith, nat_tests))
+  | inr outside ↦ rw outside refl
+]
+
+-- past a slash or a byte of a segment, where what follows begins with no dot and no escape
+past_one : (b : ℕ) (text : List ℕ) → (b == 47 || is_kept SEGMENT.now b) ≡ true
+    → begins_dotted text ≡ false → past_segment (b ∷ text) ≡ past_segment text
+unfolding past_segment
+past_one b text within plain = elim (cases_eq b 47) [
+  | inl slash ↦ rw (slash, undotted text plain) refl
+  | inr other ↦
+      let inside : is_kept SEGMENT.now b ≡ true = rw (ne_eqb b 47 other) at within in
+      rw (ne_eqb b 47 other, inside) refl
+]
+
+-- past open bytes: to the last one, and over it
+past_open : (n b : ℕ) (text : List ℕ) → n ≤ prefix_len (is_kept OPEN.now) text
+    → (b == 47 || is_kept SEGMENT.now b) ≡ true
+    → (past_segment (b ∷ text) ≡ past_segment (drop n (b ∷ text)))
+    × (begins_dotted (drop n text) ≡ false → past_segment (b ∷ text) ≡ past_segment (drop n text))
+past_open zero b text few within = (refl, past_one b text within)
+past_open (suc n) b [] few within = absurd (omega arith)
+past_open (suc n) b (c ∷ text) few within =
+    let stand = prefix_len_passes (is_kept OPEN.now) (c ∷ text) 0 0 (omega arith) in
+    let (plain, next) = and_parts _ _ (sym (open_is c) ∙ stand) in
+    let step = past_one b (c ∷ text) within (not-true _ plain) in
+    let more = past_open n c text (omega (arith, rw stand at few)) next in
+    (step ∙ more.0, λ last. step ∙ more.1 last)
+
+-- what neither is open nor begins like a dot is no part of a path
+closed : (text : List ℕ) → StopsAt (is_kept OPEN.now) text → begins_dotted text ≡ false
+    → after SEGMENT.now text ≡ text
+closed [] stops plain = refl
+closed (b ∷ text) stops plain =
+    let is = sym (open_is b) ∙ stops in
+    let none : is_kept SEGMENT.now b ≡ false = grind (arith, nat_tests) in
+    rw none refl
+
+-- where the open bytes end, their segment ends, or it goes on
+pub plain_end : (here plain rest : List ℕ) → get_or here 0 0 ≡ 47
+    → plain ≡ kept_prefix OPEN.now (drop 1 here) → rest ≡ after OPEN.now (drop 1 here)
+    → (past_path here ≡ past_path (after SEGMENT.now (drop (length plain) here)))
+    × (begins_dotted rest ≡ false → past_path here ≡ past_path rest)
+plain_end [] plain rest slash front back = absurd (omega arith)
+plain_end (b ∷ text) plain rest slash front back =
+    let here = b ∷ text in
+    let first = eq-eqb b 47 slash in
+    let len = ap length front ∙ length-prefix_len (is_kept OPEN.now) text in
+    let following : drop (length plain) text ≡ rest = ap (λ k. drop k text) len ∙ sym back in
+    let (upto, over) = past_open (length plain) b text (omega (arith, len)) (rw first refl) in
+    let start = cond-true (b == 47) (past_segment here) (Some here) first in
+    let stops = subst (StopsAt (is_kept OPEN.now)) (sym back)
+    (StopsAt-drop-prefix_len (is_kept OPEN.now) text) in (
+      start ∙ upto ∙ past_rest (drop (length plain) here),
+      λ plain. start ∙ over (ap begins_dotted following ∙ plain) ∙ ap past_segment following
+          ∙ past_rest rest ∙ ap past_path (closed rest stops plain),
+    )
+
+-- ---- the port
+
+-- a site's end is no byte of a name and none of a number
+ends_stops : (rest : List ℕ) → EndsSite rest
+    → StopsAt (is_kept NAME.now) rest × StopsAt (is_kept NUMBER.now) rest
+unfolding is_kept
+ends_stops [] ends = (tt, tt)
+ends_stops (b ∷ rest) ends = (rw ends refl, rw ends refl)
+
+number_occurs : (b : ℕ) → IsInRange 48 57 b → Passes (is_kept NUMBER.now) b
+unfolding is_kept
+number_occurs b digit =
+    let test = agree_below_at (λ x. nat_lt x 48 || is_kept NUMBER.now x) (λ x. true) 58 b refl
+    (omega arith) in
+    rw (le-ltb b 48 (omega arith)) at test
+
+-- digits that begin plainly are what their number is written as
+pub decimal_read : (digits : List ℕ) (port : ℕ) → begins_plainly digits ≡ true
+    → (IsNumeral 10 (without_leading_plus digits)
+    × (digits_value 10 (without_leading_plus digits) < 2 ^ 16))
+    × (port ≡ digits_value 10 (without_leading_plus digits)) → digits ≡ decimal port
+decimal_read digits port plain parses =
+    let no_plus : get_or digits 0 0 ≢ 43 = λ e. absurd (grind (arith, nat_tests)) in
+    let read = rw (without_leading_plus_none digits no_plus) at parses in
+    let some = read.0.0.1 in
+    let first : get_or digits 0 0 ≡ 48 → length digits ≡ 1 = λ e. grind (arith, nat_tests) in
+    sym (decimal-digits_value (numerals_by_value _ tells_digits) digits read.0.0.1 read.0.0.0 first
+    (omega (arith, read.0.1))) ∙ ap decimal (sym read.1)
+
+pub decimal_plain : (port : ℕ) → port < 2 ^ 16 → begins_plainly (decimal port) ≡ true
+decimal_plain zero small = rw (decimal_digit 0 (omega arith)) refl
+decimal_plain (suc n) small =
+    let first = first_decimal (suc n) (omega arith) (omega arith) in grind (arith, nat_tests)
+
+-- what is written as a port is read as one
+pub port_left : (own : ℕ) (text rest : List ℕ) → get_or text 0 0 ≡ 58 → EndsSite rest
+    → Leaves (IsPort own) text rest
+    → IsOther own (kept_prefix NUMBER.now (drop 1 text)) × (after NUMBER.now (drop 1 text) ≡ rest)
+port_left own [] rest colon ends left = absurd (omega arith)
+port_left own (b ∷ text) rest colon ends (part, assembled, (None, written, other)) =
+    absurd (let slash = subst EndsSite (sym (assembled ∙ ap (λ p. p ++ rest) written)) ends in omega arith)
+port_left own (b ∷ text) rest colon ends (part, assembled, (Some port, written, other)) =
+    let whole = ap (drop 1) (assembled ∙ ap (λ p. p ++ rest) written) in
+    let digits = All-weaker (IsInRange 48 57) (Passes (is_kept NUMBER.now)) number_occurs (decimal port)
+    (All-decimal port (omega (arith, other.0))) in
+    let stops = (ends_stops rest ends).1 in (
+      (
+        port,
+        ap (kept_prefix NUMBER.now) whole ∙ front_at NUMBER.now (decimal port) rest digits stops,
+        other.0,
+        other.1,
+      ),
+      ap (after NUMBER.now) whole ∙ after_at NUMBER.now (decimal port) rest digits stops,
+    )
+
+pub port_read : (own : ℕ) (text : List ℕ) → get_or text 0 0 ≡ 58
+    → IsOther own (kept_prefix NUMBER.now (drop 1 text))
+    → Leaves (IsPort own) text (after NUMBER.now (drop 1 text))
+port_read own [] colon other = absurd (omega arith)
+port_read own (b ∷ following) colon (port, digits, small, other) = (
+  58 ∷ decimal port,
+  ap (λ c. c ∷ following) colon ∙ ap (λ t. 58 ∷ t) (sym (take-append-drop _ following)
+      ∙ ap (λ t. t ++ after NUMBER.now following) digits),
+  (Some port, refl, (small, other)),
+)
+
+-- ---- the host and the port
+
+pub authority_read : (own : ℕ) (text rest : List ℕ)
+    → is_ascii_lowercase (slice_index (rsplit_once 46 (kept_prefix NAME.now text)).1 0) ≡ true
+    → Leaves (IsPort own) (after NAME.now text) rest → Leaves (IsAuthority own) text rest
+unfolding is_kept should_percent_encode
+authority_read own text rest letter (port, assembled, is_port) =
+    let host = kept_prefix NAME.now text in
+    let (allowed, small) = kept_all NAME.now FORBIDDEN_DOMAIN is_ascii_uppercase refl host
+    (All-take-prefix_len (is_kept NAME.now) text) in
+    let name : IsName host = record { allowed = allowed; small = small; letter = letter } in (
+      host ++ port,
+      sym (take-append-drop _ text) ∙ ap (λ t. host ++ t) assembled ∙ sym (append_assoc host port rest),
+      record { host = host; port = port; assembled = refl; is_name = name; is_port = is_port },
+    )
+
+pub authority_left : (own : ℕ) (text rest : List ℕ) → EndsSite rest
+    → Leaves (IsAuthority own) text rest
+    → (is_ascii_lowercase (slice_index (rsplit_once 46 (kept_prefix NAME.now text)).1 0) ≡ true)
+    × Leaves (IsPort own) (after NAME.now text) rest
+unfolding is_kept should_percent_encode
+authority_left own text rest ends (part, assembled, authority) =
+    let host = authority.host in
+    let whole =
+    assembled ∙ ap (λ p. p ++ rest) authority.assembled ∙ append_assoc host authority.port rest in
+    let name = authority.is_name in
+    let each = occurs_all NAME.now FORBIDDEN_DOMAIN is_ascii_uppercase refl host name.allowed name.small in
+    let front =
+    ap (kept_prefix NAME.now) whole ∙ front_at NAME.now host (authority.port ++ rest) each stops in (
+      rw front name.letter,
+      (
+        authority.port,
+        ap (after NAME.now) whole ∙ after_at NAME.now host (authority.port ++ rest) each stops,
+        authority.is_port,
+      ),
+    )
+  where
+    port_stops : (port : Option ℕ)
+        → StopsAt (is_kept NAME.now) (with_delimiter (codes ":") (option_map decimal port) ++ rest)
+    port_stops None = (ends_stops rest ends).0
+    port_stops (Some n) = refl
+
+    stops : StopsAt (is_kept NAME.now) (authority.port ++ rest)
+    stops = subst (λ p. StopsAt (is_kept NAME.now) (p ++ rest)) (sym authority.is_port.1)
+        (port_stops authority.is_port.0)

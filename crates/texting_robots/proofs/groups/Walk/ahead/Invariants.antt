@@ -1,8 +1,0 @@
-use Rattle.std.{proofs.Common.◌≡◌, specs.Str.str_to_ascii_lowercase}
-use Rattle.texting_robots.specs.Steps.Group.{captured_ahead}
-use Rattle.texting_robots.proofs.groups.Walk.ahead.Given as goal
-
-abbrev pub invariant-loop-line : goal.invariant-loop-line
-invariant-loop-line l =
-    let name = str_to_ascii_lowercase l.name in
-    captured_ahead name l.walk l.line-iterator ≡ captured_ahead name l.fn.self l.fn.left

@@ -1,0 +1,25 @@
+use Rattle.std.proofs.Common.{◌≡◌, ◌≢◌, ℕ, ◌++◌, List, Option, Some, None, MatchOption}
+use Rattle.std.specs.{Borrow.Bor, Option.IfNone, Option.IfSome}
+use Rattle.std.proofs.lemmas.{Bool.Decides.Decides-eqb, Slice.Eq.strip_prefix_is}
+use Rattle.texting_robots.proofs.haystack.UncountedHaystack.begins_with.Goals as goal
+
+-- one fact on both ends as two facts
+parted : (text segment : List ℕ) (result : Option (Bor (List ℕ)))
+    → MatchOption result ((rest : List ℕ) → text ≢ segment ++ rest)
+    (λ rest. text ≡ segment ++ rest.now)
+    → IfNone result ((rest : List ℕ) → text ≢ segment ++ rest)
+    × IfSome result (λ rest. Unit {0} × (text ≡ segment ++ rest.now))
+parted text segment None none = (none, tt)
+parted text segment (Some rest) split = (tt, (tt, split))
+
+pub returns-clause-none : goal.returns-clause-none
+returns-clause-none c =
+    let split = strip_prefix_is Decides-eqb c.self.inside.text.now c.args.segment.now c.strip_prefix.result
+    c.strip_prefix.ensures.cases in
+    rw (← c.self.view_is) (parted _ _ _ split).0
+
+pub returns-clause-some : goal.returns-clause-some
+returns-clause-some c =
+    let split = strip_prefix_is Decides-eqb c.self.inside.text.now c.args.segment.now c.strip_prefix.result
+    c.strip_prefix.ensures.cases in
+    rw (← c.self.view_is) (parted _ _ _ split).1

@@ -1,0 +1,10 @@
+use Rattle.std.proofs.Common.{length, take, ◌-◌}
+use Rattle.std.proofs.lemmas.{Bool.Decides.Decides-eqb, Slice.Eq.ends_is}
+use Rattle.texting_robots.proofs.haystack.UncountedHaystack.ends_with.Goals as goal
+
+pub returns-clause-answer : goal.returns-clause-answer
+returns-clause-answer c =
+    let rest = c.args.rest.now in
+    let segment = c.args.segment.now in
+    let h = ends_is Decides-eqb rest segment c.ends_with.result c.ends_with.ensures.value in
+    (λ yes. (take (length rest - length segment) rest, h.0 yes), λ (front, e). h.1 front e)

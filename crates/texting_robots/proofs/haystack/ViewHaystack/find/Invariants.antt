@@ -1,0 +1,18 @@
+use Rattle.std.proofs.Common.{◌≡◌, ◌+◌, ◌-◌, ◌*◌, ◌≤◌, length}
+use Rattle.texting_robots.proofs.BorderLemmas.{IsFirstOpen}
+use Rattle.texting_robots.proofs.haystack.ViewHaystack.find.Given as goal
+
+-- the looks are at most twice the places passed, less the bytes matched
+abbrev pub invariant-loop-matched : goal.invariant-loop-matched
+invariant-loop-matched l =
+    record {
+      text : l.self.text ≡ l.fn.self.text;
+      within : l.position ≤ l.len;
+      matched : l.matched ≤ length l.segment;
+      first : IsFirstOpen l.fn.self.text l.segment l.rest (length l.fn.self.text) l.position l.matched;
+      grows : l.fn.self.looks ≤ l.self.looks;
+      looks : l.self.looks + l.matched + 2 * l.rest ≤ l.fn.self.looks + 2 * l.position;
+    }
+
+abbrev pub decreases-loop-matched : goal.decreases-loop-matched
+decreases-loop-matched l = 2 * (l.len - l.position) + l.matched

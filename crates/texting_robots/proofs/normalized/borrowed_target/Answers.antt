@@ -1,0 +1,29 @@
+use Rattle.std.proofs.Common.{◌≡◌, ◌-◌, ◌++◌, ◌∙◌, ap, append-nil, arith, drop, drop_at}
+use Rattle.std.proofs.Common.{length, length-append, refl, sym}
+use Rattle.std.proofs.lemmas.List.{nil_from_length}
+use Rattle.texting_robots.specs.Prepared.{prepared}
+use Rattle.texting_robots.proofs.AllocationFreeLemmas.{path_some, prepared_alone, prepared_plain}
+use Rattle.texting_robots.proofs.normalized.borrowed_target.Goals as goal
+
+pub returns-in_err-target-clause-plain : goal.returns-in_err-target-clause-plain
+returns-in_err-target-clause-plain c plain =
+    absurd (c.in_err-target.ensures.whole plain.target plain.rooted
+    (rw c.as_bytes.ensures.value (plain.site, plain.assembled, plain.is_site)))
+
+pub returns-in-empty-clause-text : goal.returns-in-empty-clause-text
+returns-in-empty-clause-text c =
+    let (site, assembled, is_site) = rw c.as_bytes.ensures.value at c.in_ok-target.ensures.some in
+    let none = nil_from_length c.in_ok-target.target.now (omega arith) in
+    sym
+    (ap prepared (assembled ∙ ap (λ t. site ++ t) none ∙ append-nil site) ∙ prepared_alone site is_site)
+
+pub returns-in-47-clause-text : goal.returns-in-47-clause-text
+returns-in-47-clause-text c =
+    let url = c.args.url.now in
+    let target = c.in_ok-target.target.now in
+    let (site, assembled, is_site) = rw c.as_bytes.ensures.value at c.in_ok-target.ensures.some in
+    let is = c.if-is_target.ensures.0 refl in
+    let front : length site ≡ length url - length target =
+    omega (arith, ap length assembled, length-append site target) in
+    c.range_from.ensures.value ∙ ap (drop _) assembled ∙ drop_at site target _ front
+    ∙ sym (prepared_plain url target (site, assembled, is_site) is (path_some target is (omega arith)))

@@ -1,0 +1,58 @@
+use Rattle.std.proofs.Common.{◌≡◌, ◌==◌, ◌∙◌, Ok, ap, arith, not, sym}
+use Rattle.std.proofs.lemmas.Bool.{and_parts, false≢true, ne_eqb, Decides.nat_tests}
+use Rattle.std.proofs.lemmas.Fmt.{IsAscii-decimal, decimal_injective, parse-decimal}
+use Rattle.std.proofs.lemmas.Str.{IsUtf8-from_ascii}
+use Rattle.texting_robots.specs.Internal.Normalized.{IsOther, begins_plainly}
+use Rattle.texting_robots.proofs.normalized.is_port.Goals.{After-from_str_radix}
+use Rattle.texting_robots.proofs.NormalizedLemmas.{decimal_plain, decimal_read}
+use Rattle.texting_robots.proofs.normalized.is_port.Goals as goal
+
+pub returns-then-is_own : goal.returns-then-is_own
+returns-then-is_own c = (
+  λ no. absurd (false≢true no),
+  λ other. let (port, digits, small, differs) = other in
+      let same = c.is_own.ensures c.if-is_own.true in
+      absurd (differs (decimal_injective port c.args.own (omega arith) (omega arith) (sym digits ∙ same))),
+)
+
+pub returns-in_default : goal.returns-in_default
+returns-in_default c = (
+  λ no. absurd (false≢true no),
+  λ other. let (port, digits, small, differs) = other in
+      absurd (c.in_default.ensures.cases.0
+      (rw digits (IsUtf8-from_ascii _ (IsAscii-decimal port (omega arith))))),
+)
+
+parses : (c : After-from_str_radix) (other : IsOther c.args.own c.args.digits.now)
+    → c.from_str_radix.result ≡ Ok other.0
+parses c (port, digits, small, other) =
+    parse-decimal 16 port c.in-Ok.text.now c.from_str_radix.result small (omega arith)
+    (c.in-Ok.ensures.cases.0 ∙ digits) c.from_str_radix.ensures.value
+
+pub returns-in-Ok-from_str_radix : goal.returns-in-Ok-from_str_radix
+returns-in-Ok-from_str_radix c =
+    let port = c.in-Ok-from_str_radix.port in (
+      λ both.
+          let (own, plain) = and_parts (not (port == c.args.own)) c.begins_plainly.result both in
+          let text = c.in-Ok.ensures.cases.0 in
+          let read = c.in-Ok-from_str_radix.ensures.value in
+          let begins = ap begins_plainly text ∙ sym c.begins_plainly.ensures ∙ plain in (
+            port,
+            sym text ∙ decimal_read c.in-Ok.text.now port begins read,
+            omega (arith, read),
+            λ same. absurd (grind (arith, nat_tests)),
+          ),
+      λ other.
+          let read = parses (goal.at.returns-in-Ok-from_str_radix c).After-from_str_radix other in
+          let same : port ≡ other.0 = cc (read, c.in-Ok-from_str_radix.is) in
+          rw (ne_eqb port c.args.own (λ own. other.3 (sym same ∙ own)))
+          (c.begins_plainly.ensures ∙ ap begins_plainly other.1 ∙ decimal_plain other.0 other.2),
+    )
+
+pub returns-in-Err : goal.returns-in-Err
+returns-in-Err c = (
+  λ no. absurd (false≢true no),
+  λ other.
+      let read = parses (goal.at.returns-in-Err c).After-from_str_radix other in
+      absurd (cc (read, c.in-Err.is)),
+)

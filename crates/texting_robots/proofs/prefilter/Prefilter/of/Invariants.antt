@@ -1,0 +1,11 @@
+use Rattle.std.{proofs.Common.◌≡◌, proofs.Common.drop, specs.Int.RustNames.bit_or}
+use Rattle.texting_robots.proofs.PrefilterLemmas.{segment_pairs}
+use Rattle.texting_robots.proofs.prefilter.Prefilter.of.Given as goal
+
+-- the pairs so far, and those of the pieces that are left
+abbrev pub invariant-loop-segment : goal.invariant-loop-segment
+invariant-loop-segment l =
+    let inside = l.pattern-inside in
+    let bytes = inside.bytes.now in
+    bit_or l.pairs.bits (segment_pairs bytes inside.ends.ending (drop l.segment-index inside.pieces.now))
+    ≡ segment_pairs bytes inside.ends.ending inside.pieces.now

@@ -1,0 +1,82 @@
+-- The texts on which a verdict takes no memory, since what rules are matched with stands in them.
+use Rattle.std.specs.Prelude.{◌≡◌, ◌≢◌, ◌⊎◌, ◌<◌, ◌^◌, ℕ, true, false}
+use Rattle.std.specs.Prelude.{List, [], ◌∷◌, ◌++◌, All, codes, decimal}
+use Rattle.std.specs.Prelude.{slice_index, Option, IfSome, option_map}
+use Rattle.std.specs.Char.{is_ascii_lowercase, is_ascii_uppercase}
+use Rattle.std.specs.Str.{byte}
+use Rattle.percent_encoding.specs.declared.ascii_set.AsciiSet.{AsciiSet}
+use Rattle.percent_encoding.specs.Percent.{IsKept}
+use Rattle.url.specs.declared.scheme.SchemeType.TheVariants.{SpecialNotFile}
+use Rattle.url.specs.declared.sets.TheConstants.{FORBIDDEN_DOMAIN, FRAGMENT, SPECIAL_QUERY}
+use Rattle.url.specs.{Input.rsplit_once, Path.IsSegmentList}
+use Rattle.texting_robots.specs.Escape.{is_escaped}
+use Rattle.texting_robots.specs.Prepared.{with_delimiter}
+
+-- a host that `url` keeps, and whose last label begins with a letter, so that it is no number
+pub record IsName (host : List ℕ) : Type 0 where
+  pub allowed : All (IsKept FORBIDDEN_DOMAIN) host
+  pub small : All (λ b. is_ascii_uppercase b ≡ false) host
+  pub letter : is_ascii_lowercase (slice_index (rsplit_once (byte ".") host).1 0) ≡ true
+
+-- `:` and a port that isn't the scheme's own, or nothing
+abbrev pub IsPort : ℕ → List ℕ → Type 0
+IsPort own text =
+    (port : Option ℕ) × (text ≡ with_delimiter (codes ":") (option_map decimal port))
+    × IfSome port (λ n. (n < 2 ^ 16) × (n ≢ own))
+
+-- a name and a port
+pub record IsAuthority (own : ℕ) (text : List ℕ) : Type 0 where
+  pub host : List ℕ
+  pub port : List ℕ
+  pub assembled : text ≡ host ++ port
+  pub is_name : IsName host
+  pub is_port : IsPort own port
+
+-- the scheme, a name and a port
+abbrev pub IsSite : List ℕ → Type 0
+IsSite text =
+    ((authority : List ℕ) × (text ≡ codes "https://" ++ authority) × IsAuthority 443 authority)
+    ⊎ ((authority : List ℕ) × (text ≡ codes "http://" ++ authority) × IsAuthority 80 authority)
+
+-- segments behind their slashes, of which none is a dot segment and nothing is to be escaped
+abbrev pub IsPath : List ℕ → Type 0
+IsPath path = IsSegmentList SpecialNotFile path
+
+-- the mark and a part of which nothing is to be escaped, or nothing
+abbrev pub IsDelimited : List ℕ → AsciiSet → List ℕ → Type 0
+IsDelimited delimiter set text =
+    (part : Option (List ℕ)) × (text ≡ with_delimiter delimiter part) × IfSome part (All (IsKept set))
+
+-- a path, a query and a fragment of which nothing is to be changed
+pub record IsTarget (text : List ℕ) : Type 0 where
+  pub path : List ℕ
+  pub query : List ℕ
+  pub fragment : List ℕ
+  pub assembled : text ≡ path ++ (query ++ fragment)
+  pub is_path : IsPath path
+  pub is_query : IsDelimited (codes "?") SPECIAL_QUERY query
+  pub is_fragment : IsDelimited (codes "#") FRAGMENT fragment
+
+-- nothing more, or the slash of a path
+abbrev pub EndsSite : List ℕ → Type 0
+EndsSite [] = Unit {0}
+EndsSite (b ∷ rest) = b ≡ byte "/"
+
+-- a whole URL with a name for a host and with no user, of which nothing is to be changed; where the path is
+-- missing, so that `url` puts a slash there, there is nothing behind it either
+pub record IsNormalizedUrl (url : List ℕ) : Type 0 where
+  pub site : List ℕ
+  pub target : List ℕ
+  pub assembled : url ≡ site ++ target
+  pub is_site : IsSite site
+  pub is_target : IsTarget target
+  pub rooted : EndsSite target
+
+-- a path by itself, or the empty text, of which no byte is escaped
+abbrev pub IsPlainPath : List ℕ → Type 0
+IsPlainPath text = ((text ≡ []) ⊎ (slice_index text 0 ≡ byte "/"))
+    × All (λ b. is_escaped b ≡ false) text
+
+-- a verdict on the text takes no memory
+abbrev pub IsAllocationFree : List ℕ → Type 0
+IsAllocationFree text = IsPlainPath text ⊎ IsNormalizedUrl text

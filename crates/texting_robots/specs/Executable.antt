@@ -1,0 +1,85 @@
+-- What the relations say, as functions that compute it: for contracts that are equations, as a report's.
+-- Laws say that they agree: `each_text_has_one_cut`, `each_text_has_its_lines`, `each_file_has_its_lines`,
+-- `each_agent_has_its_rules`, `each_agent_has_its_delay`, `each_file_has_its_sitemaps`. No contract of a
+-- robot rests on them.
+use Rattle.std.specs.Prelude.{ℕ, ◌+◌, Bool, true, false, List, Option, Some, None, filter, map}
+use Rattle.std.specs.Prelude.{option_map, slice_get, take, if◌then◌else◌}
+use Rattle.std.specs.List.{before_first, enumerate_from, filter_map, last_or, list_any}
+use Rattle.std.specs.{Option.option_or, Str.is_utf8}
+use Rattle.texting_robots.specs.Group.{group_name, is_agent}
+use Rattle.texting_robots.specs.Line.{LineValue, Allow, Disallow, Sitemap, delay_in, nul_as_lf, without_front}
+use Rattle.texting_robots.specs.Rules.{PlacedRule, Rule, unplaced}
+use Rattle.texting_robots.specs.{Escape.escaped, Robot.file_limit}
+use Rattle.texting_robots.specs.Internal.{Captured.is_captured, Cut.bodies_of, Line.lines_of}
+
+-- ---- lines
+
+-- the lines of a text
+abbrev pub parsed : List ℕ → List LineValue
+parsed text = lines_of (without_front text)
+
+-- the lines of a file: those of its text with each NUL read as LF
+abbrev pub file_lines : List ℕ → List LineValue
+file_lines text = parsed (map nul_as_lf text)
+
+-- the bodies of these lines, one for each: a body is a line as it stands, without its end
+abbrev pub file_bodies : List ℕ → List (List ℕ)
+file_bodies text = bodies_of (without_front (map nul_as_lf text))
+
+-- the lines of the bytes that count
+abbrev pub lines_read : List ℕ → List LineValue
+lines_read file = file_lines (take file_limit file)
+
+-- and their bodies
+abbrev pub bodies_read : List ℕ → List (List ℕ)
+bodies_read file = file_bodies (take file_limit file)
+
+-- ---- rules
+
+-- the rule that a value gives
+abbrev pub rule_with : List ℕ → Bool → Option Rule
+rule_with value is_allow = if is_utf8 value then Some (escaped value, is_allow) else None
+
+abbrev pub rule_in : LineValue → Option Rule
+rule_in (Allow value) = rule_with value true
+rule_in (Disallow value) = rule_with value false
+rule_in _ = None
+
+-- the lines at captured places, in order, each with its place, counted from 0; of these only an Allow, a
+-- Disallow or a delay gives something
+abbrev pub captured_lines : List ℕ → List LineValue → List (ℕ × LineValue)
+captured_lines name lines = filter (λ p. is_captured name lines p.0) (enumerate_from 0 lines)
+
+-- the rule of the line at a place, if it gives one, with the line's number
+abbrev pub placed_in : ℕ × LineValue → Option PlacedRule
+placed_in p = option_map (λ (r : Rule). record { rule = r; line = p.0 + 1 }) (rule_in p.1)
+
+-- the captured rules with their lines, in order
+abbrev pub placed_rules : List ℕ → List LineValue → List PlacedRule
+placed_rules agent lines = filter_map placed_in (captured_lines (group_name agent lines) lines)
+
+-- the captured rules, in order
+abbrev pub rules_for : List ℕ → List LineValue → List Rule
+rules_for agent lines = unplaced (placed_rules agent lines)
+
+-- ---- delays and sitemaps
+
+-- the captured delays, in order
+abbrev pub captured_delays : List ℕ → List LineValue → List ℕ
+captured_delays agent lines = filter_map (λ p. delay_in p.1) (captured_lines (group_name agent lines) lines)
+
+-- where there is an agent line, the last delay before the first one
+abbrev pub delay_before_agents : List LineValue → Option ℕ
+delay_before_agents lines =
+    if list_any is_agent lines then last_or None (filter_map delay_in (before_first is_agent lines)) else None
+
+-- the first captured delay, else that before the agents
+abbrev pub delay_for : List ℕ → List LineValue → Option ℕ
+delay_for agent lines = option_or (slice_get (captured_delays agent lines) 0) (delay_before_agents lines)
+
+abbrev pub sitemap_in : LineValue → Option (List ℕ)
+sitemap_in (Sitemap value) = if is_utf8 value then Some value else None
+sitemap_in _ = None
+
+abbrev pub sitemaps_in : List LineValue → List (List ℕ)
+sitemaps_in lines = filter_map sitemap_in lines

@@ -1,0 +1,71 @@
+-- The code's walk along the lines, and what it finds in them.
+use Rattle.std.specs.Prelude.{ℕ, ◌+◌, Bool, false, not, ◌&&◌, ◌||◌, List, []}
+use Rattle.std.specs.Prelude.{◌∷◌, Option, Some, None, option_map, if◌then◌else◌}
+use Rattle.std.specs.{List.cons_option, List.list_any, Str.is_utf8}
+use Rattle.texting_robots.specs.declared.groups.GroupTracker.{GroupTracker}
+use Rattle.texting_robots.specs.{Group.is_agent, Group.is_agent_named, Group.is_group, Line.LineValue}
+use Rattle.texting_robots.specs.declared.labels.Membership.{Membership}
+use Rattle.texting_robots.specs.declared.labels.Membership.TheVariants.{Own, Other, Ungrouped}
+use Rattle.texting_robots.specs.Labels.{Label, is_own}
+use Rattle.texting_robots.specs.Executable.{rule_in}
+use Rattle.texting_robots.specs.Rules.{PlacedRule, Rule}
+
+-- before the first line
+abbrev pub start_of : List LineValue → GroupTracker
+start_of lines = record { captured = not (list_any is_agent lines); named = false }
+
+-- one line further
+abbrev pub step : List ℕ → GroupTracker → LineValue → GroupTracker
+step name tracker line = record {
+  captured = if is_agent line then is_agent_named name line || tracker.named else tracker.captured;
+  named = is_agent_named name line || (not (is_group line) && tracker.named);
+}
+
+-- ---- what captured lines give
+
+-- what is found in the next line, if it is captured
+abbrev pub if_captured : {X : Type 0} → GroupTracker → Option X → Option X
+if_captured tracker found = if tracker.captured then found else None
+
+-- what `given` finds in the captured lines of those that are left, each with its place
+abbrev pub from_captured : {X : Type 0} → (ℕ × LineValue → Option X) → List ℕ → GroupTracker → ℕ
+    → List LineValue → List X
+from_captured given name tracker position [] = []
+from_captured given name tracker position (line ∷ lines) =
+    cons_option (if_captured tracker (given (position, line)))
+    (from_captured given name (step name tracker line) (position + 1) lines)
+
+-- the rule, if there is one, with this line
+abbrev pub placed : ℕ → Option Rule → Option PlacedRule
+placed line rule = option_map (λ (r : Rule). record { rule = r; line = line }) rule
+
+-- the value, if it is UTF-8
+abbrev pub text_from : List ℕ → Option (List ℕ)
+text_from value = if is_utf8 value then Some value else None
+
+-- ---- where a line stands
+
+-- whether the first group line of these, or one at the end, is captured
+abbrev pub captured_ahead : List ℕ → GroupTracker → List LineValue → Bool
+captured_ahead name tracker [] = tracker.captured
+captured_ahead name tracker (line ∷ lines) =
+    if is_group line then tracker.captured else captured_ahead name (step name tracker line) lines
+
+-- by whether the next group line is captured, and whether a user-agent line stood there or before
+abbrev pub membership_by : Bool → Bool → LineValue → Membership
+membership_by captured begun line =
+    if not (is_agent line || is_group line) then Ungrouped
+    else if captured then Own else if begun then Other else Ungrouped
+
+-- the marks of the lines that are left, by whether a user-agent line stood before them
+abbrev pub labels_from : List ℕ → GroupTracker → Bool → ℕ → List LineValue → List Label
+labels_from name tracker before position [] = []
+labels_from name tracker before position (line ∷ lines) =
+    let begun = before || is_agent line in
+    let membership = membership_by (captured_ahead name tracker (line ∷ lines)) begun line in
+    record { number = position + 1; membership = membership; line = line }
+    ∷ labels_from name (step name tracker line) begun (position + 1) lines
+
+-- the rule of a mark, if it is the agent's own, with its line
+abbrev pub own_rule_at : Label → Option PlacedRule
+own_rule_at label = placed label.number (if is_own label.membership then rule_in label.line else None)

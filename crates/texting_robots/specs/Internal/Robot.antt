@@ -1,0 +1,30 @@
+-- A robot by what is computed of its lines, and why there is none.
+use Rattle.std.specs.Prelude.{◌≡◌, ⊤, ℕ, List, Any, IsPermutation}
+use Rattle.texting_robots.specs.{Line.LineValue, Pattern.IsOverlong, Robot.RobotValue, Rules.Rule}
+use Rattle.texting_robots.specs.Executable.{delay_for, placed_rules, rules_for, sitemaps_in}
+use Rattle.texting_robots.specs.Rules.{IsFirstOverlong, PlacedRule}
+use Rattle.texting_robots.specs.declared.error.Error.{Error}
+use Rattle.texting_robots.specs.declared.error.Error.TheVariants as error
+use Rattle.texting_robots.specs.declared.reading.Rejection.{Rejection}
+use Rattle.texting_robots.specs.declared.reading.Rejection.TheVariants.{Memory, Overlong}
+
+-- some rule of the lines is overlong
+abbrev pub SomeOverlong : List ℕ → List LineValue → Type 0
+SomeOverlong agent lines = Any (λ (rule : Rule). IsOverlong rule.0) (rules_for agent lines)
+
+pub record IsComputedRobot (agent : List ℕ) (lines : List LineValue) (robot : RobotValue) : Type 0 where
+  pub delay : robot.delay ≡ delay_for agent lines
+  pub sitemaps : robot.sitemaps ≡ sitemaps_in lines
+  pub rules : IsPermutation (placed_rules agent lines) robot.rules
+  pub accepted : ¬ SomeOverlong agent lines
+
+-- what an error at the line with this number comes to
+abbrev pub rejection_at : ℕ → Error → Rejection
+rejection_at number error.InvalidRobots = Memory
+rejection_at number error.InvalidRule = Overlong number
+rejection_at number error.Memory = Memory
+
+-- the rules may be refused so: nothing is claimed of when a request for memory fails
+abbrev pub IsRejectionOf : List PlacedRule → Rejection → Type 0
+IsRejectionOf rules (Overlong number) = IsFirstOverlong rules number
+IsRejectionOf rules Memory = ⊤

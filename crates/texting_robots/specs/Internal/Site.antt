@@ -1,0 +1,135 @@
+-- The group lines of a file, each with the run of user-agent lines that is above it, and the names of these
+-- runs. A run is a sequence of user-agent lines with no group line between them.
+use Rattle.std.specs.Prelude.{◌≡◌, ℕ, ◌+◌, ◌==◌, Bool, not, ◌&&◌, ◌||◌, false, List, []}
+use Rattle.std.specs.Prelude.{◌∷◌, Option, Some, None, drop, filter, map, take}
+use Rattle.std.specs.Prelude.{if◌then◌else◌, bytes_eq}
+use Rattle.std.specs.{List.cons_option, List.filter_map, List.list_any, Option.option_or}
+use Rattle.std.specs.{Str.str_to_ascii_lowercase}
+use Rattle.texting_robots.specs.{Group.is_agent, Group.is_group, Line.LineValue, Line.UserAgent}
+use Rattle.texting_robots.specs.Executable.{delay_before_agents, file_lines, rule_in, sitemap_in, sitemaps_in}
+use Rattle.texting_robots.specs.declared.site.lines.AgentLine.{AgentLine}
+use Rattle.texting_robots.specs.declared.site.lines.GroupLine.{GroupLine}
+use Rattle.texting_robots.specs.declared.site.lines.KeptLine.{KeptLine}
+use Rattle.texting_robots.specs.declared.site.lines.Span.{Span}
+use Rattle.texting_robots.specs.{Line.by_value, Line.delay_in, Rules.PlacedRule, Internal.Group.placed}
+use Rattle.texting_robots.specs.{Internal.Line.line_of}
+
+-- a group line, its number, counted from 1, and its run: the number of the run's first line, or 0 if no
+-- user-agent line is above the group line
+pub record Tagged : Type 0 where
+  pub number : ℕ
+  pub line : LineValue
+  pub run : ℕ
+
+-- the name of a user-agent line, its run, and how many group lines are above it
+pub record Named : Type 0 where
+  pub name : List ℕ
+  pub run : ℕ
+  pub start : ℕ
+
+-- the run after the line with this number, and whether the next user-agent line belongs to it
+abbrev pub run_after : ℕ → Bool → ℕ → LineValue → ℕ
+run_after run joins number line = if is_agent line && not joins then number else run
+
+abbrev pub joins_after : Bool → LineValue → Bool
+joins_after joins line = is_agent line || (not (is_group line) && joins)
+
+-- the line, if it is a group line
+abbrev pub tag_in : ℕ → ℕ → LineValue → Option Tagged
+tag_in run number line =
+    if is_group line then Some (record { number = number; line = line; run = run }) else None
+
+-- the group lines of those that are left, by the run before them
+abbrev pub tagged_from : ℕ → Bool → ℕ → List LineValue → List Tagged
+tagged_from run joins position [] = []
+tagged_from run joins position (line ∷ lines) =
+    cons_option (tag_in run (position + 1) line)
+    (tagged_from (run_after run joins (position + 1) line) (joins_after joins line) (position + 1) lines)
+
+-- how many group lines are above the next line
+abbrev pub count_after : ℕ → LineValue → ℕ
+count_after count line = if is_group line then count + 1 else count
+
+-- the name of a line, with its run
+abbrev pub named_in : ℕ → ℕ → LineValue → Option Named
+named_in run count (UserAgent value) =
+    Some (record { name = value; run = run; start = count })
+named_in run count _ = None
+
+-- the names of the lines that are left
+abbrev pub named_from : ℕ → Bool → ℕ → ℕ → List LineValue → List Named
+named_from run joins position count [] = []
+named_from run joins position count (line ∷ lines) =
+    cons_option (named_in (run_after run joins (position + 1) line) count line)
+    (named_from (run_after run joins (position + 1) line) (joins_after joins line) (position + 1)
+    (count_after count line) lines)
+
+-- those of a whole file
+abbrev pub tagged : List LineValue → List Tagged
+tagged lines = tagged_from 0 false 0 lines
+
+abbrev pub named : List LineValue → List Named
+named lines = named_from 0 false 0 0 lines
+
+-- the line has this name, which is given in lower case
+abbrev pub has_name : List ℕ → Named → Bool
+has_name name named = bytes_eq (str_to_ascii_lowercase named.name) name
+
+-- and is of this run
+abbrev pub is_of : List ℕ → ℕ → Named → Bool
+is_of name run named = has_name name named && (named.run == run)
+
+abbrev pub is_run_of : List ℕ → List Named → ℕ → Bool
+is_run_of name names run = list_any (is_of name run) names
+
+-- the group lines of the runs that have the name, in order
+abbrev pub own_tagged : List ℕ → List LineValue → List Tagged
+own_tagged name lines = filter (λ t. is_run_of name (named lines) t.run) (tagged lines)
+
+-- the rule that a group line gives
+abbrev pub rule_of : Tagged → Option PlacedRule
+rule_of t = placed t.number (rule_in t.line)
+
+-- the delay
+abbrev pub delay_of : Tagged → Option ℕ
+delay_of t = delay_in t.line
+
+-- the leading group lines that are of this run
+abbrev pub in_front : ℕ → List Tagged → List Tagged
+in_front run [] = []
+in_front run (t ∷ tags) = if t.run == run then t ∷ in_front run tags else []
+
+-- ---- what is kept of a file
+
+-- the bytes of a text at a span, and the line that they are
+abbrev pub bytes_at : List ℕ → Span → List ℕ
+bytes_at text span = take span.len (drop span.start text)
+
+abbrev pub line_at : List ℕ → Span → LineValue
+line_at text span = line_of (bytes_at text span)
+
+abbrev pub tag_of : GroupLine → Tagged
+tag_of group = record { number = group.number; line = by_value group.line; run = group.run }
+
+abbrev pub tag_at : List ℕ → KeptLine → Tagged
+tag_at text kept = record { number = kept.number; line = line_at text kept.span; run = kept.run }
+
+abbrev pub named_of : AgentLine → Named
+named_of agent = record { name = agent.name.items; run = agent.run; start = agent.start }
+
+abbrev pub listed : List ℕ → Span → Option (List ℕ)
+listed text span = sitemap_in (line_at text span)
+
+-- the last delay before the first user-agent line, after one line more; `begun` is whether there was a
+-- user-agent line before
+abbrev pub early_after : Bool → Option ℕ → LineValue → Option ℕ
+early_after begun early line = if begun then early else option_or (delay_in line) early
+
+-- the group lines, names and sitemaps are those of a file's lines, and the delay is the last one before all
+-- names
+pub record IsIndexOf (text : List ℕ) (groups : List KeptLine) (names : List Named) (sitemaps : List Span)
+    (early : Option ℕ) : Type 0 where
+  pub groups_are : map (tag_at text) groups ≡ tagged (file_lines text)
+  pub names_are : names ≡ named (file_lines text)
+  pub sitemaps_are : filter_map (listed text) sitemaps ≡ sitemaps_in (file_lines text)
+  pub early_is : early ≡ delay_before_agents (file_lines text)

@@ -1,0 +1,314 @@
+//! Whole URLs that the URL parser would leave as they are: the text that rules are matched with stands at their end.
+ghost use Rattle.std.specs.Prelude.{◌≡◌, ◌<◌, ◌≤◌, ◌≢◌, ◌↔◌, ℕ, List, drop, false, true, length, map, slice_index};
+ghost use Rattle.std.specs.Prelude.{IfSome, IsSome, IsSomeAnd, IsTrue, decimal, option_map};
+ghost use Rattle.std.specs.Char.{is_ascii_lowercase};
+ghost use Rattle.std.specs.List.{prefix_len};
+ghost use Rattle.std.specs.Simd.Lanes.{Each1};
+ghost use Rattle.url.specs.{Input.rsplit_once, Path.dot_count, Path.dot_len};
+ghost use Rattle.texting_robots.specs.AllocationFree.{EndsSite, IsAuthority, IsPath, IsNormalizedUrl, IsPort, IsSite, IsTarget};
+ghost use Rattle.texting_robots.specs.Prepared.{prepared};
+ghost use Rattle.texting_robots.specs.Internal.Normalized.{after, after_delimited, begins_dotted, begins_plainly, kept_prefix};
+ghost use Rattle.texting_robots.specs.Internal.Normalized.{EndsPath, IsOther, Leaves, past_path, is_kept};
+
+use std::simd::prelude::*;
+
+/// The upper halves of the bytes of ASCII, each a bit. A part is a table: at the lower half of a byte it has the bits of the upper
+/// halves with which the byte stands as it is.
+const UPPER: &[u8; 16] = &[1, 2, 4, 8, 16, 32, 64, 128, 0, 0, 0, 0, 0, 0, 0, 0];
+
+const NAME: &[u8; 16] = &[
+    200, 204, 204, 200, 204, 200, 204, 204, 204, 204, 196, 204, 68, 204, 196, 96,
+];
+
+const SEGMENT: &[u8; 16] = &[
+    184, 252, 248, 248, 252, 252, 252, 252, 252, 252, 252, 124, 212, 124, 212, 112,
+];
+
+/// What stands in a segment but dots and escapes, and slashes.
+const OPEN: &[u8; 16] = &[
+    184, 252, 248, 248, 252, 248, 252, 252, 252, 252, 252, 124, 212, 124, 208, 116,
+];
+
+const QUERY: &[u8; 16] = &[
+    248, 252, 248, 248, 252, 252, 252, 248, 252, 252, 252, 252, 244, 252, 244, 124,
+];
+
+const FRAGMENT: &[u8; 16] = &[
+    184, 252, 248, 252, 252, 252, 252, 252, 252, 252, 252, 252, 244, 252, 244, 124,
+];
+
+const NUMBER: &[u8; 16] = &[8, 8, 8, 8, 8, 8, 8, 8, 8, 8, 0, 0, 0, 0, 0, 0];
+
+/// What a table has at each of the places.
+fn looked_up(table: &[u8; 16], places: u8x16) -> u8x16
+    requires { Each1 (λ k. k < 16) places }
+    ensures { result ≡ map (slice_index table.now) places }
+{
+    u8x16::from_array(*table).swizzle_dyn_within::<16>(places)
+}
+
+/// How many of sixteen bytes stand in such a part before one that doesn't.
+fn prefix_len_in_sixteen(part: &[u8; 16], bytes: u8x16) -> usize
+    ensures { result ≡ prefix_len (is_kept part.now) bytes }
+{
+    let lower = looked_up(part, bytes & u8x16::splat(15));
+    let upper = looked_up(UPPER, bytes >> u8x16::splat(4));
+    let others = (lower & upper).simd_eq(u8x16::splat(0)).to_bitmask();
+    if others == 0 {
+        16
+    } else {
+        others.trailing_zeros() as usize
+    }
+}
+
+/// The same of a text of fewer bytes. It is a call of its own, so that where it isn't needed there is no room made for the bytes.
+#[inline(never)]
+fn front_len(part: &[u8; 16], text: &[u8]) -> usize
+    requires { length text.now < 16 }
+    ensures value { result ≡ prefix_len (is_kept part.now) text.now }
+    ensures within { result ≤ length text.now }
+{
+    let mut bytes = [0; 16];
+    bytes[..text.len()].copy_from_slice(text);
+    prefix_len_in_sixteen(part, u8x16::from_array(bytes)).min(text.len())
+}
+
+/// What follows the bytes at the front that stand in such a part.
+#[tactic(auto, using(crate::proofs::WholeLemmas::after_few, crate::proofs::WholeLemmas::after_all))]
+fn after<'a>(part: &[u8; 16], text: &'a [u8]) -> &'a [u8]
+    ensures { result.now ≡ after part.now text.now }
+{
+    let mut rest = text;
+    while let Some((sixteen, more)) = rest.split_first_chunk::<16>() {
+        let len = prefix_len_in_sixteen(part, u8x16::from_array(*sixteen));
+        if len != 16 {
+            return &rest[len..];
+        }
+        rest = more;
+    }
+    &rest[front_len(part, rest)..]
+}
+
+/// The bytes at the front that stand in such a part, and what follows them.
+fn split<'a>(part: &[u8; 16], text: &'a [u8]) -> (&'a [u8], &'a [u8])
+    ensures front { result.0.now ≡ kept_prefix part.now text.now }
+    ensures rest { result.1.now ≡ after part.now text.now }
+{
+    let rest = after(part, text);
+    (&text[..text.len() - rest.len()], rest)
+}
+
+/// The label behind the last dot.
+fn last_label(host: &[u8]) -> &[u8]
+    ensures { result.now ≡ (rsplit_once 46 host.now).1 }
+{
+    match host.iter().rposition(|byte| *byte == b'.') {
+        Some(dot) => &host[dot + 1..],
+        None => host,
+    }
+}
+
+/// Whether the text begins with a small letter.
+fn begins_with_letter(text: &[u8]) -> bool
+    ensures { result ≡ is_ascii_lowercase (slice_index text.now 0) }
+{
+    match text {
+        [b'a'..=b'z', ..] => true,
+        _ => false,
+    }
+}
+
+/// Whether the digits have no sign, and a zero in front only where it stands alone.
+fn begins_plainly(digits: &[u8]) -> bool
+    ensures { result ≡ begins_plainly digits.now }
+{
+    match digits {
+        [b'+', ..] | [b'0', _, ..] => false,
+        _ => true,
+    }
+}
+
+/// Whether these are the digits of such an own port of a scheme, which is told without reading a number.
+fn is_own(own: u16, digits: &[u8]) -> bool
+    ensures { IsTrue result → digits.now ≡ decimal own }
+{
+    match own {
+        443 => digits == b"443".as_slice(),
+        80 => digits == b"80".as_slice(),
+        _ => false,
+    }
+}
+
+/// Whether these are the digits of a port that isn't the scheme's own, as a port is written: with no zero in front. Few URLs have
+/// one, so it is a call of its own too.
+#[inline(never)]
+fn is_port(own: u16, digits: &[u8]) -> bool
+    ensures { IsTrue result ↔ IsOther own digits.now }
+{
+    if is_own(own, digits) {
+        return false;
+    }
+    let Ok(text) = str::from_utf8(digits) else {
+        return false;
+    };
+    match u16::from_str_radix(text, 10) {
+        Ok(port) => (port != own) & begins_plainly(digits),
+        Err(_) => false,
+    }
+}
+
+/// What follows a port that isn't the scheme's own, or no port.
+fn after_port(own: u16, text: &[u8]) -> Option<&[u8]>
+    ensures some { IfSome result (λ rest. Leaves (IsPort own) text.now rest.now) }
+    ensures whole { (rest : List ℕ) → EndsSite rest → Leaves (IsPort own) text.now rest
+        → IsSomeAnd result (λ found. found.now ≡ rest) }
+{
+    let [b':', following @ ..] = text else {
+        return Some(text);
+    };
+    let (digits, rest) = split(NUMBER, following);
+    if is_port(own, digits) {
+        Some(rest)
+    } else {
+        None
+    }
+}
+
+/// What follows a host and its port.
+#[inline(always)]
+fn after_authority(own: u16, text: &[u8]) -> Option<&[u8]>
+    ensures some { IfSome result (λ rest. Leaves (IsAuthority own) text.now rest.now) }
+    ensures whole { (rest : List ℕ) → EndsSite rest → Leaves (IsAuthority own) text.now rest
+        → IsSomeAnd result (λ found. found.now ≡ rest) }
+{
+    let (host, rest) = split(NAME, text);
+    if begins_with_letter(last_label(host)) {
+        after_port(own, rest)
+    } else {
+        None
+    }
+}
+
+/// What follows the scheme, the host and the port.
+fn after_site(url: &[u8]) -> Option<&[u8]>
+    ensures some { IfSome result (λ rest. Leaves IsSite url.now rest.now) }
+    ensures whole { (rest : List ℕ) → EndsSite rest → Leaves IsSite url.now rest
+        → IsSomeAnd result (λ found. found.now ≡ rest) }
+{
+    match url.strip_prefix(b"https://") {
+        Some(authority) => after_authority(443, authority),
+        None => after_authority(80, url.strip_prefix(b"http://")?),
+    }
+}
+
+/// How long the dot at the front or its escape is.
+fn dot_len(text: &[u8]) -> usize
+    ensures value { result ≡ dot_len text.now }
+    ensures within { result ≤ length text.now }
+{
+    match text {
+        [b'.', ..] => 1,
+        [b'%', b'2', b'e' | b'E', ..] => 3,
+        _ => 0,
+    }
+}
+
+/// Whether the segment is one dot or two, each written as it is or escaped.
+#[tactic(auto, unfolding(url::specs::Path::dot_count))]
+fn is_dots(segment: &[u8]) -> bool
+    ensures { IsTrue result ↔ (dot_count segment.now ≢ 0) }
+{
+    let dot = dot_len(segment);
+    let rest = &segment[dot..];
+    dot != 0 && dot_len(rest) == rest.len()
+}
+
+/// Whether the text begins with a dot or an escape.
+fn begins_dotted(text: &[u8]) -> bool
+    ensures { result ≡ begins_dotted text.now }
+{
+    match text {
+        [b'.' | b'%', ..] => true,
+        _ => false,
+    }
+}
+
+/// What follows the segments at the front that begin with no dot and no escape.
+#[inline(always)]
+fn after_plain(text: &[u8]) -> &[u8]
+    ensures passed { past_path text.now ≡ past_path result.now }
+    ensures within { length result.now ≤ length text.now }
+{
+    let [b'/', following @ ..] = text else {
+        return text;
+    };
+    if begins_dotted(following) {
+        return text;
+    }
+    let (plain, rest) = split(OPEN, following);
+    if !begins_dotted(rest) {
+        return rest;
+    }
+    match &text[plain.len()..] {
+        last @ [b'/', ..] => last,
+        last => after(SEGMENT, last),
+    }
+}
+
+/// What follows a path, unless a segment of it is `.` or `..`.
+fn after_path(text: &[u8]) -> Option<&[u8]>
+    ensures { past_path text.now ≡ option_map (λ rest. rest.now) result }
+{
+    let mut rest = after_plain(text);
+    while let [b'/', following @ ..] = rest {
+        if begins_dotted(following) {
+            // the dot segment that is met most, without a look-up
+            if let [b'.', b'.', b'/', ..] = following {
+                return None;
+            }
+            let (segment, more) = split(SEGMENT, following);
+            if is_dots(segment) {
+                return None;
+            }
+            rest = more;
+        } else {
+            rest = after_plain(after(SEGMENT, following));
+        }
+    }
+    Some(rest)
+}
+
+/// What follows a mark and the bytes behind it that stand in such a part, or all of the text where the mark isn't first.
+fn after_delimited<'a>(delimiter: u8, part: &[u8; 16], text: &'a [u8]) -> &'a [u8]
+    ensures { result.now ≡ after_delimited delimiter part.now text.now }
+{
+    match text {
+        [first, following @ ..] if *first == delimiter => after(part, following),
+        _ => text,
+    }
+}
+
+/// Whether the text is a path, a query and a fragment that stand as they are.
+fn is_target(text: &[u8]) -> bool
+    ensures { IsTrue result ↔ IsTarget text.now }
+{
+    let Some(query) = after_path(text) else {
+        return false;
+    };
+    let fragment = after_delimited(b'?', QUERY, query);
+    after_delimited(b'#', FRAGMENT, fragment).is_empty()
+}
+
+/// The path of a whole URL, its query and its fragment, where `url` would leave all of the URL as it is; `/` where only the slash
+/// of the path is missing.
+pub(crate) fn borrowed_target(url: &str) -> Option<&str>
+    ensures text { IfSome result (λ target. target.now ≡ prepared url.now) }
+    ensures plain { IsNormalizedUrl url.now → IsSome result }
+{
+    let target = after_site(url.as_bytes())?;
+    match target {
+        [] => Some("/"),
+        [b'/', ..] if is_target(target) => Some(&url[url.len() - target.len()..]),
+        _ => None,
+    }
+}
