@@ -257,7 +257,7 @@ agent_has agent = (
 membership_printable : (membership : Membership) → IsPrintable (membership_word membership)
 membership_printable Own = ascii_printable true (codes "own") refl
 membership_printable Other = ascii_printable true (codes "other") refl
-membership_printable Ungrouped = ascii_printable true (codes "outside") refl
+membership_printable Ungrouped = ascii_printable true (codes "ungrouped") refl
 
 pub kind_printable : (line : LineValue) → IsPrintable (kind_text line)
 kind_printable (UserAgent value) = ascii_printable true (codes "user-agent") refl
@@ -289,8 +289,8 @@ line_has label = (
   kind_printable label.line,
   (
     refl,
-    decimal_printable true label.number,
-    (refl, membership_printable label.membership, (refl, value_has label.line, tt)),
+    membership_printable label.membership,
+    (refl, decimal_printable true label.number, (refl, value_has label.line, tt)),
   ),
 )
 
