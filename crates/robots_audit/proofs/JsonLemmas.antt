@@ -37,7 +37,8 @@ use Rattle.robots_audit.specs.Rows.{kind_text}
 use Rattle.robots_io.specs.Sanitize.{IsPrintable, is_printable, is_printable_byte}
 use Rattle.robots_warnings.specs.Warnings.{WarningValue}
 use Rattle.robots_warnings.proofs.PrintableLemmas.{names_printable, text_printable}
-use Rattle.robots_io.proofs.SanitizeLemmas.{append_printable, ascii_printable, char_printable, decimal_printable}
+use Rattle.robots_io.proofs.SanitizeLemmas.{append_printable, ascii_printable, char_printable}
+use Rattle.robots_io.proofs.SanitizeLemmas.{decimal_printable}
 use Rattle.robots_io.proofs.SanitizeLemmas.{nil_printable}
 use Rattle.robots_io.proofs.SanitizeLemmas.{sanitized_printable}
 

@@ -5,7 +5,8 @@ use Rattle.std.proofs.Common.{append-nil, take-append-drop, drop-drop, length-ap
 use Rattle.std.proofs.lemmas.Bool.{cases_lt}
 use Rattle.std.proofs.lemmas.List.{drop_all, Prefix.at_from_reads, Prefix.at_reads, Prefix.front_rest}
 use Rattle.memchr.specs.Find.{FindsNeedle, OccursAt}
-use Rattle.texting_robots.specs.{Pattern.IsSuffix, Internal.Stars.IsRestAfterFirst, Internal.Stars.OccursNowhere}
+use Rattle.texting_robots.specs.{Pattern.IsSuffix, Internal.Stars.IsRestAfterFirst}
+use Rattle.texting_robots.specs.{Internal.Stars.OccursNowhere}
 
 -- where R holds of a text if it holds of an end of it, the first place of the piece is enough
 pub first_is_enough : (R : List ℕ → Type 0) (segment t : List ℕ)
