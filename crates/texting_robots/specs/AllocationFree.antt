@@ -1,4 +1,4 @@
--- Strings for which a verdict doesn't allocate, since their match target is a part of them.
+-- Strings for which a verdict doesn't allocate, since their match target can be borrowed.
 use Rattle.std.specs.Prelude.{◌≡◌, ◌≢◌, ◌⊎◌, ◌<◌, ◌^◌, ℕ, true, false}
 use Rattle.std.specs.Prelude.{List, [], ◌∷◌, ◌++◌, All, codes, decimal}
 use Rattle.std.specs.Prelude.{slice_index, Option, IfSome, option_map}

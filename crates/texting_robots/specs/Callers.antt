@@ -5,7 +5,7 @@ pub use Rattle.texting_robots.specs.Line.{LineValue, UserAgent, Allow, Disallow,
 pub use Rattle.texting_robots.specs.Line.{AreFileLinesOf, AreLinesOf, HasLines, HoldRangesOf, by_value}
 pub use Rattle.texting_robots.specs.Line.{AreFileBodiesOf, IsLineOf, nul_as_lf}
 pub use Rattle.texting_robots.specs.{Line.value_in, Delay.IsDelay}
--- which of them apply to a crawler
+-- what applies to a crawler
 pub use Rattle.texting_robots.specs.Group.{IsCaptured, group_name, is_agent_named}
 pub use Rattle.texting_robots.specs.Rules.{PlacedRule, Rule, unplaced, AreRulesFor, HoldsRule, IsRejected}
 pub use Rattle.texting_robots.specs.Rules.{AreSitemapsOf, HasNoRulesOrSitemaps, IsDelayFor, IsFirstOverlong}

@@ -1,4 +1,4 @@
--- Which line decides, and how many looks this takes.
+-- Which line decides, and how many looks (counted byte comparisons) this takes.
 use Rattle.std.specs.Prelude.{◌≡◌, ◌≢◌, ◌⊎◌, ℕ, ◌*◌, ◌<◌, ◌≤◌, nat_le}
 use Rattle.std.specs.Prelude.{true, false, List}
 use Rattle.std.specs.Prelude.{Option, Some, None, Contains, count_by, length}

@@ -26,7 +26,7 @@ file_lines text = parsed (map nul_as_lf text)
 abbrev pub file_bodies : List ℕ → List (List ℕ)
 file_bodies text = bodies_of (without_front (map nul_as_lf text))
 
--- the lines of the bytes within the size limit
+-- the lines of the first `file_limit` bytes
 abbrev pub lines_read : List ℕ → List LineValue
 lines_read file = file_lines (take file_limit file)
 

@@ -3,8 +3,8 @@
 -- which `Executable` and `Labels` use. The theorems `each_text_has_one_cut`, `each_text_has_one_delay`,
 -- `each_text_has_its_lines` and `captured_agrees` connect them with the relations, and the lemmas
 -- `statement_found` and `found_statement` do so for `Statement`. `Group` has a state that is updated line
--- by line; `captured_walked` connects it with captured lines, and `labels_are` with `labels_of`. The others
--- are only used in proofs, and no public clause depends on them.
+-- by line; `captured_walked` connects it with captured lines, and `labels_are` with `labels_of`. No public
+-- clause depends on the others.
 pub mod Cut
 pub mod Statement
 pub mod Delay

@@ -9,7 +9,7 @@ use Rattle.texting_robots.specs.{Escape.escaped, Group.IsCaptured, Group.group_n
 use Rattle.texting_robots.specs.{Group.passes_at, Pattern.IsOverlong}
 use Rattle.texting_robots.specs.Line.{Allow, CrawlDelay, Disallow, LineValue, Sitemap}
 
--- the line is at the position, and is captured for the crawler
+-- the line is at the position, and is captured for the crawler, that is, applies to it
 abbrev pub IsCapturedAt : List ℕ → List LineValue → ℕ → LineValue → Type 0
 IsCapturedAt agent lines position line =
     (slice_get lines position ≡ Some line) × IsCaptured (group_name agent lines) lines position

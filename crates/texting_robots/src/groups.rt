@@ -1,5 +1,6 @@
-//! Which lines apply to a crawler: the group name for it, and a tracker that goes through the lines and finds which
-//! group lines (Allow, Disallow, Crawl-delay) are captured, that is, apply.
+//! Which lines apply to a crawler. A group line is an Allow, a Disallow or a Crawl-delay; it is captured if it applies
+//! to the crawler. A first pass over a file finds the group name. A tracker that reads the lines in order then finds
+//! the captured ones.
 ghost use Rattle.std.specs.Prelude.{◌≡◌, not, false};
 ghost use Rattle.std.specs.Str.{str_to_ascii_lowercase};
 ghost use Rattle.texting_robots.specs.Group.{group_name};

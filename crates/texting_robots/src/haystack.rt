@@ -31,7 +31,7 @@ pub(crate) trait Haystack {
     /// Whether it is a position in this text.
     ghost is_rest: { Self.Rest → List ℕ → Type 0 };
 
-    /// What is left of the text there.
+    /// What is left of the text from this position on.
     ghost left: { Self.Rest → List ℕ → List ℕ };
 
     /// Whether the text is `/robots.txt`. This isn't a look.

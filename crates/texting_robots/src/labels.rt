@@ -136,9 +136,9 @@ pub fn is_named(agent: &str, txt: &[u8]) -> bool
     group_for(agent.as_bytes(), lazy_file_lines(txt)).is_named
 }
 
-/// The number of the first line with an overlong rule for the crawler with the product token `agent`, if there is one:
-/// the line for which `Robot::new` returns [`Error::InvalidRule`](crate::Error::InvalidRule). All bytes are read, as by
-/// [`labeled_lines`].
+/// The number of the first line with a rule that is too long, for the crawler with the product token `agent`, if there
+/// is one. For this line a robot of these bytes is rejected with [`Error::InvalidRule`](crate::Error::InvalidRule). All
+/// bytes are read, as by [`labeled_lines`].
 ///
 /// # Errors
 ///

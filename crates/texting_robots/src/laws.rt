@@ -40,8 +40,8 @@ pub fn raw_changes_nothing()
         → Same agent lines agent others }
 {}
 
-/// Changing the value of an Allow or Disallow that doesn't apply to a crawler changes no rule, verdict, delay, sitemap
-/// or rejection for it.
+/// Replacing an Allow with another Allow, or a Disallow with another Disallow, changes no rule, verdict, delay, sitemap
+/// or rejection for a crawler to which the line doesn't apply.
 pub fn uncaptured_reaches_nothing()
     ensures { (agent : List ℕ) (front back : List LineValue) (line other : LineValue) → IsSameKind line other
         → (let lines = front ++ line ∷ back in ¬ IsCaptured (group_name agent lines) lines (length front)
@@ -142,16 +142,16 @@ pub fn each_file_has_its_lines()
     ensures computed { (text : List ℕ) (lines : List LineValue) → AreFileLinesOf lines text ↔ lines ≡ file_lines text }
 {}
 
-/// `is_captured`, a function, agrees with `IsCaptured`, a relation. It connects lists of captured lines that are
-/// computed with the contract of `Robot::new`.
+/// `is_captured`, which is a function, agrees with `IsCaptured`, which is a relation. It connects the computed lists of
+/// captured lines with the contract of `Robot::new`.
 #[tactic(auto, using(crate::proofs::CapturedLemmas::is_captured_decides))]
 pub fn captured_agrees()
     ensures { (name : List ℕ) (lines : List LineValue) (i : ℕ)
         → IsTrue (is_captured name lines i) ↔ IsCaptured name lines i }
 {}
 
-/// Each line has exactly one label, which `labels_of` computes. So the contract of `labels::labeled_lines` agrees with
-/// `AreLabelsOf`.
+/// Each line has exactly one label, which `labels_of` computes. So the contract of `labels::labeled_lines`, which uses
+/// `labels_of`, agrees with `AreLabelsOf`.
 pub fn each_line_has_its_label()
     ensures { (name : List ℕ) (lines : List LineValue) (labels : List Label)
         → AreLabelsOf name lines labels ↔ labels ≡ labels_of name lines }

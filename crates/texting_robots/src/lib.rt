@@ -1,4 +1,4 @@
-//! Reads a robots.txt file for one crawler. It decides which URLs the crawler may fetch, how long it has to wait
+//! Reads a robots.txt file for one crawler, and determines which URLs the crawler may fetch, how long it has to wait
 //! between two requests, and which sitemaps the file lists. It is an independent rewrite of the Rust crate
 //! `texting_robots`, which follows Google's interpretation of the Robots Exclusion Protocol (RFC 9309).
 //! `docs/COMPATIBILITY.md` lists the differences.

@@ -11,8 +11,8 @@ use std::alloc::{AllocError, Global};
 use std::borrow::CowStr;
 use url::{Position, Url};
 
-/// The match target of a URL, or of a path alone. It is borrowed if it occurs unchanged in the argument. A string that
-/// begins with a slash isn't a URL, so it isn't parsed, and neither is a URL that `url` leaves unchanged.
+/// The match target of a URL, or of a path alone. It is borrowed for a path in which no byte is escaped, and for a URL
+/// that [`borrowed_target`] accepts. A string that begins with a slash isn't a URL, so it isn't parsed.
 pub(crate) fn prepare<'a>(alloc: Global, url: &'a str) -> Result<CowStr<'a, Global>, Error>
     ensures ok { IfOk result (λ text. cow_str_bytes text ≡ prepared url.now) }
     ensures memory { IfErr result (λ e. e ≡ Error.Memory) }

@@ -34,10 +34,10 @@ impl Model for Parts {
     ghost view = { λ p. record { delay = p.delay; sitemaps = map string_bytes p.sitemaps.items; rules = p.rules } };
 }
 
-/// Why a file gives no robot.
+/// Why there is no robot for a file.
 #[derive(Drop)]
 pub(crate) enum Rejection {
-    /// The crawler's rule in the line with this number is overlong, and no rule before it is.
+    /// The crawler's rule in the line with this number is too long, and no rule before it is.
     Overlong(usize),
     /// An allocation failed.
     Memory,

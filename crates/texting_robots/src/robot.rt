@@ -90,8 +90,8 @@ impl Robot {
     /// writes them.
     ///
     /// For the empty string it is `/`. A string that isn't a URL, such as a path alone, is escaped as patterns are, and
-    /// otherwise unchanged. A string without a scheme and a leading slash, such as `example.com/a`, usually matches no
-    /// rule, and so is allowed.
+    /// otherwise unchanged. A string with neither a scheme nor a leading slash, such as `example.com/a`, usually
+    /// matches no rule, and so is allowed.
     ///
     /// # Errors
     ///
@@ -106,7 +106,7 @@ impl Robot {
     /// Whether the crawler may fetch a URL, or a path alone. Any other string is matched too, as described at
     /// [`Robot::prepare_url`], and so is usually allowed. The call doesn't allocate for a path of which nothing is
     /// escaped. Nor does it for an absolute `http` or `https` URL that has a host name and no user, and that `url`
-    /// would leave unchanged, except for adding a missing slash after the host.
+    /// would leave unchanged, or to which it would only add a missing slash at the end.
     ///
     /// # Errors
     ///

@@ -31,8 +31,8 @@ use own::{OwnLines, OwnRules};
 use std::alloc::{AllocError, Global};
 use std::marker::Model;
 
-/// A robots.txt file that is read once for many crawlers. It has a copy of the bytes that were read, and the position
-/// in them of each Allow, Disallow, Crawl-delay and sitemap.
+/// A robots.txt file that is read once for many crawlers. It has a copy of the bytes that were read, the names in
+/// user-agent lines, and the position of each Allow, Disallow, Crawl-delay and sitemap.
 #[derive(Drop)]
 pub struct Site {
     /// The bytes that were read.
@@ -186,8 +186,8 @@ impl Site {
         Ok(own)
     }
 
-    /// The robot for the crawler with the product token `agent`, like that of [`Robot::new`]. It parses only the group
-    /// lines that apply to this crawler, and copies the sitemaps.
+    /// The robot for the crawler with the product token `agent`, like that of [`Robot::new`]. Of the group lines it
+    /// parses only those that apply to this crawler. It copies the sitemaps.
     ///
     /// # Errors
     ///

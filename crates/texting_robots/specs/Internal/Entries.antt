@@ -35,7 +35,7 @@ pub record IsEntry (text : List ℕ) (pieces : List Segment) (borders : List ℕ
 abbrev pub IsEntryOf : Unsorted → Entry → Type 0
 IsEntryOf all entry = IsEntry (string_bytes all.text) all.pieces.items all.borders.items entry
 
--- there are no more masks than entries
+-- each entry is one of these vectors, and there are no more masks than entries
 pub record AreEntries (all : Unsorted) : Type 0 where
   pub known : All (IsEntryOf all) all.entries.items
   pub masks : length all.masks.items ≤ length all.entries.items

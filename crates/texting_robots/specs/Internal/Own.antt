@@ -8,8 +8,8 @@ use Rattle.texting_robots.specs.Internal.Site.{Named, Tagged, in_front, is_run_o
 abbrev pub is_later : List ℕ → ℕ → List Named → ℕ → Bool
 is_later name run names other = ltb run other && is_run_of name names other
 
--- the group lines of this run at the start of `rest`, and those of later runs that contain the name, by
--- these user-agent lines
+-- the leading group lines of `rest` that are in this run, and the group lines of later runs in which one of
+-- these user-agent lines has the name
 abbrev pub own_from : List ℕ → ℕ → List Tagged → List Named → List Tagged → List Tagged
 own_from name run rest names tags = in_front run rest ++ filter (λ t. is_later name run names t.run) tags
 
