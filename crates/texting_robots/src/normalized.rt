@@ -257,7 +257,7 @@ fn after_plain(text: &[u8]) -> &[u8]
     }
 }
 
-/// What follows a path, unless a segment of it is `.` or `..`.
+/// What follows a path, or `None` if a segment of it is `.` or `..`, where each dot may be escaped.
 fn after_path(text: &[u8]) -> Option<&[u8]>
     ensures { past_path text.now ≡ option_map (λ rest. rest.now) result }
 {

@@ -154,7 +154,7 @@ pub(crate) fn tail_as<'a>(kind: Kind, text: &'a [u8]) -> Option<&'a [u8]>
     }
 }
 
-/// Whether a byte is `#`. It tests all bytes without an early exit, so that the compiler can vectorize the loop.
+/// Whether some byte is `#`. It tests all bytes without an early exit, so that the compiler can vectorize the loop.
 fn holds_hash_among(bytes: &[u8]) -> bool
     ensures { result ≡ list_any (λ byte. byte == hash) bytes.now }
 {
@@ -201,7 +201,7 @@ fn region_of<'a>(tail: &'a [u8]) -> &'a [u8]
     }
 }
 
-/// The text without white space at both ends, which are decoded.
+/// The text without white space at both ends. It decodes the UTF-8 characters there.
 #[inline(never)]
 fn trimmed_by_chars<'a>(text: &'a [u8]) -> &'a [u8]
     ensures { result.now ≡ trimmed text.now }
