@@ -1,4 +1,4 @@
--- The address of the robots file of a URL.
+-- The address of the robots.txt file for a URL.
 use Rattle.std.specs.Prelude.{ℕ, List, ◌++◌, ◌||◌, Bool, Option, Some, None, Ok, Err, codes}
 use Rattle.std.specs.Prelude.{bytes_eq, decimal, option_map, if◌then◌else◌}
 use Rattle.url.specs.declared.error.ParseError.TheVariants.{EmptyHost, SetHostOnCannotBeABaseUrl}
@@ -6,11 +6,11 @@ use Rattle.url.specs.{Parts.Parts, Parts.cannot_be_a_base, Parts.nonempty_host, 
 use Rattle.url.specs.{Parser.parse_url, Parser.and_then, declared.host.Host.Host}
 use Rattle.texting_robots.specs.Prepared.{with_delimiter}
 
--- the scheme is `http` or `https`
+-- whether the scheme is `http` or `https`
 abbrev pub is_web : List ℕ → Bool
 is_web scheme = bytes_eq scheme (codes "http") || bytes_eq scheme (codes "https")
 
--- the address for this host, which may be missing, and `:` with the port, if one is kept
+-- the address for this host, which may be missing, with `:` and the port unless the port is the default one
 abbrev pub address_at : Parts → Option (Host (List ℕ)) → Parsed (List ℕ)
 address_at url None = Err EmptyHost
 address_at url (Some host) =
@@ -23,6 +23,6 @@ robots_address_of url =
     if cannot_be_a_base url then Err SetHostOnCannotBeABaseUrl
     else (if is_web url.scheme then address_at url (nonempty_host url) else Err EmptyHost)
 
--- the address for a text, by the definition of parsing that `url` publishes
+-- the address for a string, by the specification of parsing that `url` exports
 abbrev pub robots_address : List ℕ → Parsed (List ℕ)
 robots_address text = and_then (parse_url None text) robots_address_of

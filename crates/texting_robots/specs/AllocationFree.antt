@@ -1,4 +1,4 @@
--- The texts on which a verdict takes no memory, since what rules are matched with stands in them.
+-- Strings for which a verdict doesn't allocate, since their match target can be borrowed.
 use Rattle.std.specs.Prelude.{◌≡◌, ◌≢◌, ◌⊎◌, ◌<◌, ◌^◌, ℕ, true, false}
 use Rattle.std.specs.Prelude.{List, [], ◌∷◌, ◌++◌, All, codes, decimal}
 use Rattle.std.specs.Prelude.{slice_index, Option, IfSome, option_map}
@@ -12,19 +12,19 @@ use Rattle.url.specs.{Input.rsplit_once, Path.IsSegmentList}
 use Rattle.texting_robots.specs.Escape.{is_escaped}
 use Rattle.texting_robots.specs.Prepared.{with_delimiter}
 
--- a host that `url` keeps, and whose last label begins with a letter, so that it is no number
+-- a host that `url` leaves unchanged, and whose last label begins with a letter, so that it isn't a number
 pub record IsName (host : List ℕ) : Type 0 where
   pub allowed : All (IsKept FORBIDDEN_DOMAIN) host
   pub small : All (λ b. is_ascii_uppercase b ≡ false) host
   pub letter : is_ascii_lowercase (slice_index (rsplit_once (byte ".") host).1 0) ≡ true
 
--- `:` and a port that isn't the scheme's own, or nothing
+-- `:` and a port that isn't the default one, `own`, or nothing
 abbrev pub IsPort : ℕ → List ℕ → Type 0
 IsPort own text =
     (port : Option ℕ) × (text ≡ with_delimiter (codes ":") (option_map decimal port))
     × IfSome port (λ n. (n < 2 ^ 16) × (n ≢ own))
 
--- a name and a port
+-- a host name and a port
 pub record IsAuthority (own : ℕ) (text : List ℕ) : Type 0 where
   pub host : List ℕ
   pub port : List ℕ
@@ -32,22 +32,22 @@ pub record IsAuthority (own : ℕ) (text : List ℕ) : Type 0 where
   pub is_name : IsName host
   pub is_port : IsPort own port
 
--- the scheme, a name and a port
+-- the scheme, a host name and a port
 abbrev pub IsSite : List ℕ → Type 0
 IsSite text =
     ((authority : List ℕ) × (text ≡ codes "https://" ++ authority) × IsAuthority 443 authority)
     ⊎ ((authority : List ℕ) × (text ≡ codes "http://" ++ authority) × IsAuthority 80 authority)
 
--- segments behind their slashes, of which none is a dot segment and nothing is to be escaped
+-- segments, each after its slash, of which none is a dot segment and in which no byte has to be escaped
 abbrev pub IsPath : List ℕ → Type 0
 IsPath path = IsSegmentList SpecialNotFile path
 
--- the mark and a part of which nothing is to be escaped, or nothing
+-- the delimiter and a part in which no byte has to be escaped, or nothing
 abbrev pub IsDelimited : List ℕ → AsciiSet → List ℕ → Type 0
 IsDelimited delimiter set text =
     (part : Option (List ℕ)) × (text ≡ with_delimiter delimiter part) × IfSome part (All (IsKept set))
 
--- a path, a query and a fragment of which nothing is to be changed
+-- a path, a query and a fragment that `url` leaves unchanged
 pub record IsTarget (text : List ℕ) : Type 0 where
   pub path : List ℕ
   pub query : List ℕ
@@ -57,13 +57,13 @@ pub record IsTarget (text : List ℕ) : Type 0 where
   pub is_query : IsDelimited (codes "?") SPECIAL_QUERY query
   pub is_fragment : IsDelimited (codes "#") FRAGMENT fragment
 
--- nothing more, or the slash of a path
+-- what may follow a site: nothing, or the slash of a path
 abbrev pub EndsSite : List ℕ → Type 0
 EndsSite [] = Unit {0}
 EndsSite (b ∷ rest) = b ≡ byte "/"
 
--- a whole URL with a name for a host and with no user, of which nothing is to be changed; where the path is
--- missing, so that `url` puts a slash there, there is nothing behind it either
+-- an absolute URL with a host name and without a user, which `url` leaves unchanged; but the path may be
+-- missing, so that `url` adds a slash, if there is no query and no fragment either
 pub record IsNormalizedUrl (url : List ℕ) : Type 0 where
   pub site : List ℕ
   pub target : List ℕ
@@ -72,11 +72,11 @@ pub record IsNormalizedUrl (url : List ℕ) : Type 0 where
   pub is_target : IsTarget target
   pub rooted : EndsSite target
 
--- a path by itself, or the empty text, of which no byte is escaped
+-- a path alone, or the empty string, in which no byte is escaped
 abbrev pub IsPlainPath : List ℕ → Type 0
 IsPlainPath text = ((text ≡ []) ⊎ (slice_index text 0 ≡ byte "/"))
     × All (λ b. is_escaped b ≡ false) text
 
--- a verdict on the text takes no memory
+-- a verdict on this string doesn't allocate; contracts state that it isn't an error
 abbrev pub IsAllocationFree : List ℕ → Type 0
 IsAllocationFree text = IsPlainPath text ⊎ IsNormalizedUrl text

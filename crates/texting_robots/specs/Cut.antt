@@ -1,4 +1,4 @@
--- How a text is cut into bodies and line ends.
+-- How a text is cut into line contents and line terminators.
 use Rattle.std.specs.Prelude.{◌≡◌, ◌≢◌, ◌⊎◌, ℕ, List, [], ◌∷◌, ◌++◌, All}
 use Rattle.std.specs.{Prelude.replicate, List.flat_map}
 
@@ -8,7 +8,7 @@ cr = 13
 abbrev pub lf : ℕ
 lf = 10
 
--- a body and the line end after it
+-- the content of a line, and the terminator after it
 pub record Pair : Type 0 where
   pub body : List ℕ
   pub ending : List ℕ
@@ -17,7 +17,7 @@ pub record Pair : Type 0 where
 abbrev pub IsBodyByte : ℕ → Type 0
 IsBodyByte byte = (byte ≢ cr) × (byte ≢ lf)
 
--- some CRs or none, and then at most one LF
+-- any number of CRs, and then at most one LF
 abbrev pub IsLineEnd : List ℕ → Type 0
 IsLineEnd bytes = (k : ℕ) × ((bytes ≡ replicate k cr) ⊎ (bytes ≡ replicate k cr ++ lf ∷ []))
 
@@ -26,9 +26,9 @@ abbrev pub joined : List Pair → List ℕ
 joined pairs = flat_map (λ pair. pair.body ++ pair.ending) pairs
 
 -- the pairs are a cut of the text:
--- - their bytes are the text, no body holds CR or LF, and each end is a line end;
--- - an empty end stands only in the last pair, after a body that isn't empty;
--- - a pair whose end holds no LF is the last one, or the next pair's body isn't empty
+-- - their bytes are the text, no content has CR or LF, and each ending is a line terminator;
+-- - only the last pair may have an empty ending, and then its content isn't empty;
+-- - after an ending without LF, the content of the next pair, if there is one, isn't empty
 pub record IsCut (pairs : List Pair) (text : List ℕ) : Type 0 where
   pub whole : joined pairs ≡ text
   pub bodies : All (λ pair. All IsBodyByte pair.body) pairs

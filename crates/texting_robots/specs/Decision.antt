@@ -1,19 +1,19 @@
--- Which line decides, and the looks that this takes.
+-- Which line decides, and how many looks (counted byte comparisons) this takes.
 use Rattle.std.specs.Prelude.{◌≡◌, ◌≢◌, ◌⊎◌, ℕ, ◌*◌, ◌<◌, ◌≤◌, nat_le}
 use Rattle.std.specs.Prelude.{true, false, List}
 use Rattle.std.specs.Prelude.{Option, Some, None, Contains, count_by, length}
 use Rattle.texting_robots.specs.View.{LooksAtMost, ViewValue}
 use Rattle.texting_robots.specs.{Pattern.Matches, Rules.PlacedRule, Verdict.robots_file}
 
--- the rule matches the text, and no rule that matches is longer
+-- the rule matches the text, and no matching rule is longer
 pub record IsLongestMatch (rules : List PlacedRule) (text : List ℕ) (placed : PlacedRule) : Type 0 where
   pub listed : Contains rules placed
   pub matches : Matches placed.rule.0 text
   pub longest : (other : PlacedRule) → Contains rules other → Matches other.rule.0 text
       → length other.rule.0 ≤ length placed.rule.0
 
--- the one rule is longer than the other; or as long, and an Allow against a Disallow; or as long and of the
--- same kind, in an earlier line
+-- `one` is longer than `other`; or they have the same length, and `one` is an Allow and `other` a Disallow;
+-- or they have the same length and kind, and `one` is in an earlier line
 abbrev pub IsBetter : PlacedRule → PlacedRule → Type 0
 IsBetter one other =
     (length other.rule.0 < length one.rule.0)
@@ -21,14 +21,14 @@ IsBetter one other =
     × (((one.rule.1 ≡ true) × (other.rule.1 ≡ false))
     ⊎ ((one.rule.1 ≡ other.rule.1) × (one.line < other.line))))
 
--- the rule matches the text, and no rule that matches is better
+-- the rule matches the text, and no matching rule is better
 pub record IsDecidingRule (rules : List PlacedRule) (text : List ℕ) (placed : PlacedRule) : Type 0 where
   pub listed : Contains rules placed
   pub matches : Matches placed.rule.0 text
   pub best : (other : PlacedRule) → Contains rules other → Matches other.rule.0 text
       → ¬ IsBetter other placed
 
--- the line of the rule that decides, or `None` for the robots file and where no rule matches
+-- the line of the deciding rule, or `None` for `/robots.txt` and if no rule matches
 abbrev pub IsDecidingLine : List PlacedRule → List ℕ → Option ℕ → Type 0
 IsDecidingLine rules text None =
     (text ≡ robots_file)
@@ -42,8 +42,8 @@ abbrev pub as_long_as : PlacedRule → List PlacedRule → ℕ
 as_long_as placed rules =
     count_by (λ (other : PlacedRule). nat_le (length placed.rule.0) (length other.rule.0)) rules
 
--- the looks taken are at most twice the text's length, times the number of rules; and where some rule
--- matches, times the number of rules that are at least as long as the longest that does
+-- at most 2 × (length of the text) looks are taken for each rule; if some rule matches, only rules count
+-- that are at least as long as the longest matching one
 pub record LooksForRules (rules : List PlacedRule) (old new : ViewValue) : Type 0 where
   pub all : LooksAtMost old new (2 * length old.text * length rules)
   pub tried : (placed : PlacedRule) → IsLongestMatch rules old.text placed

@@ -1,5 +1,5 @@
--- Worked examples: what the words of the definitions come to for small texts. They are theorems: laws of
--- `src/laws.rt` promise them, `examples_of_lines` and those below it.
+-- Worked examples: what the specification means for small inputs. They are theorems, proved as contracts in
+-- `src/laws.rt`: `examples_of_lines` and those after it.
 use Rattle.std.specs.Prelude.{◌≡◌, ◌-◌, ◌^◌, ℕ, Bool, true, false, List, [], ◌∷◌}
 use Rattle.std.specs.Prelude.{◌++◌}
 use Rattle.std.specs.Prelude.{Option, Some, None, Ok, Err, codes, replicate, take}
@@ -17,7 +17,7 @@ use Rattle.texting_robots.specs.{Statement.IsStatement, Verdict.IsVerdict}
 
 -- ---- lines
 
--- CR CR LF is one line end, and LF LF are two
+-- CR CR LF is one line terminator, and LF LF are two
 abbrev pub line_ends : Type 0
 line_ends =
     AreLinesOf (Raw (codes "a") ∷ Raw (codes "b") ∷ Raw [] ∷ Raw (codes "c") ∷ [])
@@ -27,26 +27,26 @@ line_ends =
 abbrev pub lf_before_cr : Type 0
 lf_before_cr = AreLinesOf (Raw [] ∷ Raw [] ∷ []) (codes "\n\r")
 
--- the last line may have an end or not; an empty text has no line
+-- the last line may have a terminator or not; an empty text has no lines
 abbrev pub last_line : Type 0
 last_line =
     AreLinesOf (Raw (codes "a") ∷ []) (codes "a\n") × AreLinesOf (Raw (codes "a") ∷ []) (codes "a")
     × AreLinesOf [] []
 
--- a NUL ends a line of a file, where the same text, taken as it is, has a line that holds the NUL
+-- in a file NUL ends a line; in the same bytes, not read as a file, it is part of a line
 abbrev pub nul : Type 0
 nul =
     AreFileLinesOf (Disallow (codes "/a") ∷ Allow (codes "/b") ∷ []) (codes "Disallow: /a\r\0Allow: /b")
     × AreLinesOf (Disallow (codes "/a") ∷ Raw (codes "\0Allow: /b") ∷ [])
     (codes "Disallow: /a\r\0Allow: /b")
 
--- of a file that is longer than the limit a beginning is read, which may end within a line
+-- only the first part of a file that exceeds the size limit is read; it may end within a line
 abbrev pub cut_short : Type 0
 cut_short =
     AreFileLinesOf (Disallow (codes "/ab") ∷ []) (take 13 (codes "Disallow: /abc"))
     × AreFileLinesOf (Allow (codes "/") ∷ []) (take 10 (codes "Disallow: /abc"))
 
--- a byte order mark in front is dropped, and so is a part of one that stands there
+-- a leading byte order mark is dropped, and so is a part of one
 abbrev pub byte_order_mark : Type 0
 byte_order_mark =
     AreLinesOf (Allow (codes "/") ∷ []) (0xEF ∷ 0xBB ∷ 0xBF ∷ codes "Allow: /")
@@ -54,7 +54,7 @@ byte_order_mark =
     × AreLinesOf (Raw (0x11 ∷ 0xBF ∷ codes "Allow: /") ∷ [])
     (0xEF ∷ 0x11 ∷ 0xBF ∷ codes "Allow: /")
 
--- these misspelled keys are read
+-- these misspelled field names are accepted
 abbrev pub nonstandard_keys : Type 0
 nonstandard_keys =
     AreLinesOf
@@ -62,24 +62,24 @@ nonstandard_keys =
     ∷ Disallow (codes "/e") ∷ [])
     (codes "dissallow: /a\ndissalow: /b\ndisalow: /c\ndiasllow: /d\ndisallaw: /e")
 
--- between key and value stands a colon, blanks, or both; white space around the value is no part of it
+-- a colon, spaces and tabs, or both separate field name and value; the value excludes white space around it
 abbrev pub separators : Type 0
 separators =
     AreLinesOf
     (Disallow (codes "/a") ∷ Disallow (codes "/b") ∷ Disallow (codes "/c") ∷ Allow (codes "/d") ∷ [])
     (codes "disallow:/a\ndisallow    /b\nDISALLAW\t:\t/c\t# x\nAllow: /d" ++ 0xC2 ∷ 0xA0 ∷ [])
 
--- a key without either makes no statement
+-- a field name without a separator isn't a directive
 abbrev pub no_separator : Type 0
 no_separator =
     AreLinesOf (Raw (codes "Disallow") ∷ Raw (codes "Disallow#x") ∷ Raw (codes "dissallow/b") ∷ [])
     (codes "Disallow\nDisallow#x\ndissallow/b")
 
--- what stands behind the first colon is the value, another colon included
+-- what follows the first colon is the value, even another colon
 abbrev pub two_colons : Type 0
 two_colons = IsStatement kind.Disallow (codes "/a:b") (codes "Disallow:/a:b")
 
--- behind a hash is a comment
+-- a comment begins with `#`
 abbrev pub comments : Type 0
 comments =
     AreLinesOf
@@ -87,13 +87,13 @@ comments =
     (codes "User-Agent: SmerBot\nAllow:    /path/exception   # ONLY THIS IS ALLOWED\n"
     ++ codes "Crawl-delay : 60 # Very slow delay")
 
--- an empty Disallow is an Allow of the slash, and an empty Allow is just that
+-- an empty Disallow is an Allow of `/`, but an empty Allow is unchanged
 abbrev pub empty_values : Type 0
 empty_values =
     AreLinesOf (Allow (codes "/") ∷ Allow (codes "/") ∷ Allow [] ∷ [])
     (codes "Disallow:\nDisallow #/x\nAllow:")
 
--- a crawl-delay whose value is no delay gives the whole line, its comment included
+-- a Crawl-delay whose value isn't a delay is `Raw`, with the whole line and its comment
 abbrev pub no_number : Type 0
 no_number = AreLinesOf (Raw (codes "Crawl-delay: wait # x") ∷ []) (codes "Crawl-delay: wait # x")
 
@@ -105,25 +105,25 @@ seconds =
     IsDelay (codes "3.14") (Some 3140000) × IsDelay (codes ".5") (Some 500000)
     × IsDelay (codes "+2.5E1") (Some 25000000)
 
--- a part of a microsecond is dropped
+-- a fraction of a microsecond is dropped
 abbrev pub rounded_down : Type 0
 rounded_down =
     IsDelay (codes "1.0000009") (Some 1000000) × IsDelay (codes "0.0000019") (Some 1)
     × IsDelay (codes "1e-7") (Some 0)
 
--- no delay is greater than the greatest number of 64 bits
+-- a delay is at most the greatest 64-bit number
 abbrev pub greatest : Type 0
 greatest =
     IsDelay (codes "inf") (Some (2 ^ 64 - 1)) × IsDelay (codes "INFINITY") (Some (2 ^ 64 - 1))
     × IsDelay (codes "18446744073709.551616") (Some (2 ^ 64 - 1))
 
--- behind a minus zero alone is a delay
+-- after a minus only zero is a delay
 abbrev pub minus : Type 0
 minus =
     IsDelay (codes "-0") (Some 0) × IsDelay (codes "-1") None × IsDelay (codes "-1e-99") None
     × IsDelay (codes "-inf") None
 
--- these are no delays
+-- these aren't delays
 abbrev pub no_delay : Type 0
 no_delay =
     IsDelay [] None × IsDelay (codes ".") None × IsDelay (codes "nan") None × IsDelay (codes "1e") None
@@ -138,7 +138,7 @@ allow_at line pattern = record { rule = (pattern, true); line = line }
 abbrev pub deny_at : ℕ → List ℕ → PlacedRule
 deny_at line pattern = record { rule = (pattern, false); line = line }
 
--- the agent gets these rules of the file
+-- the file has these rules for the crawler
 abbrev pub GivesRules : List ℕ → List ℕ → List PlacedRule → Type 0
 GivesRules agent file rules = HasLines file (λ lines. AreRulesFor agent lines rules)
 
@@ -150,7 +150,7 @@ simple =
     ++ codes "User-Agent: barbot\nUser-Agent: bazbot\nDisallow: /example/page.html\n\n"
     ++ codes "User-Agent: quxbot\n"
 
--- an agent gets the rules of its group, in whatever letter case it writes its name, and no others
+-- a crawler gets the rules of its group and no others, in whatever case its name is written
 abbrev pub own_group : Type 0
 own_group =
     GivesRules (codes "FooBot") simple
@@ -163,32 +163,32 @@ two_names =
     GivesRules (codes "barbot") simple (deny_at 13 (codes "/example/page.html") ∷ [])
     × GivesRules (codes "bazbot") simple (deny_at 13 (codes "/example/page.html") ∷ [])
 
--- an agent that no line names gets the rules of the star
+-- a crawler that no line names gets the rules of `*`
 abbrev pub star_group : Type 0
 star_group =
     GivesRules (codes "otherbot") simple
     (deny_at 2 (codes "*.gif$") ∷ deny_at 3 (codes "/example/")
     ∷ allow_at 4 (codes "/publications/") ∷ [])
 
--- one that is named doesn't, even where its own group is empty
+-- a crawler that is named doesn't, even if its own group is empty
 abbrev pub empty_group : Type 0
 empty_group = GivesRules (codes "quxbot") simple []
 
--- by places, counted from 0: a line is captured for the names that lead its group
+-- by positions, counted from 0: a line is captured for the names at the start of its group
 abbrev pub captured : Type 0
 captured =
     HasLines simple (λ lines. IsCaptured (codes "bazbot") lines 12 × ¬ IsCaptured (codes "bazbot") lines 6
     × ¬ IsCaptured (codes "quxbot") lines 12)
 
--- three groups, two of them with one name
+-- three groups, two of which have the same name
 abbrev pub groups : List ℕ
 groups =
     codes "allow: /foo/bar/\nuser-agent: FooBot\ndisallow: /\nallow: /x/\n"
     ++ codes "user-agent: BarBot\ndisallow: /\nallow: /y/\n\n\nallow: /w/\n"
     ++ codes "user-agent: BazBot\n\nuser-agent: FooBot\nallow: /z/\ndisallow: /"
 
--- groups of one name are one group; an empty line ends none, and parts no user-agent line from the next; and
--- a rule before the first user-agent line is nobody's
+-- groups with the same name are merged; an empty line ends neither a group nor a run of user-agent lines; a
+-- rule above the first user-agent line applies to no crawler
 abbrev pub merged_groups : Type 0
 merged_groups =
     GivesRules (codes "FooBot") groups
@@ -201,7 +201,7 @@ merged_groups =
 abbrev pub one_rule : List ℕ
 one_rule = codes "Disallow: /a"
 
--- without any user-agent line a rule is everybody's
+-- without any user-agent line a rule applies to every crawler
 abbrev pub no_agents : Type 0
 no_agents = GivesRules (codes "BobBot") one_rule (deny_at 1 (codes "/a") ∷ [])
 
@@ -209,20 +209,20 @@ abbrev pub three_values : List ℕ
 three_values =
     codes "Disallow: /" ++ 0xFF ∷ codes "\nDisallow: /" ++ 0xC3 ∷ 0xA9 ∷ codes "\nDisallow: /a b"
 
--- a value that isn't UTF-8 gives no rule; of another, blanks and what isn't ASCII are escaped
+-- a value that isn't UTF-8 isn't a rule; in others, spaces and non-ASCII bytes are escaped
 abbrev pub values : Type 0
 values =
     GivesRules (codes "BobBot") three_values
     (deny_at 2 (codes "/%C3%A9") ∷ deny_at 3 (codes "/a%20b") ∷ [])
 
--- the agent gets this delay of the file, in microseconds
+-- the file has this delay for the crawler, in microseconds
 abbrev pub GivesDelay : List ℕ → List ℕ → ℕ → Type 0
 GivesDelay agent file delay = HasLines file (λ lines. IsDelayFor agent lines (Some delay))
 
 abbrev pub rejected_delay : List ℕ
 rejected_delay = codes "User-Agent: D\nCrawl-Delay: -1.25\nUser-Agent: E\nCrawl-Delay: 8"
 
--- a line that is no statement ends no run of user-agent lines, so this delay is that of both
+-- an ignored line doesn't end a run of user-agent lines, so this delay is that of both
 abbrev pub raw_in_a_run : Type 0
 raw_in_a_run = GivesDelay (codes "D") rejected_delay 8000000
 
@@ -232,62 +232,63 @@ two_delays = codes "Crawl-Delay: 5\nCrawl-Delay: 6"
 abbrev pub early_delays : List ℕ
 early_delays = codes "Crawl-Delay: 1\nCrawl-Delay: 2\nUser-Agent: *\nDisallow: /x"
 
--- of a group's delays the first counts; a group without one has the last before the user-agent lines
+-- the first delay of a group is used; if it has none, the last one above the user-agent lines
 abbrev pub which_delay : Type 0
 which_delay =
     GivesDelay (codes "BobBot") two_delays 5000000 × GivesDelay (codes "BobBot") early_delays 2000000
 
 -- ---- patterns
 
--- a pattern matches a text that begins so
+-- a pattern matches a text that begins with it
 abbrev pub beginning : Type 0
 beginning =
     Matches [] (codes "/x") × Matches (codes "/fish") (codes "/fish/salmon")
     × ¬ Matches (codes "/fish") (codes "/catfish") × ¬ Matches (codes "b*c") (codes "*abc")
 
--- a star stands for any bytes, or for none
+-- a star matches any bytes, or none
 abbrev pub stars : Type 0
 stars =
     Matches (codes "/a*") (codes "/a") × Matches (codes "a*a") (codes "aba")
     × ¬ Matches (codes "a*a") (codes "a")
 
--- a dollar stands for the end of the text
+-- a dollar matches at the end of the text
 abbrev pub ends : Type 0
 ends =
     Matches (codes "/*ab*ba$") (codes "/abba") × ¬ Matches (codes "/*ab*ba$") (codes "/aba")
     × Matches (codes "$") [] × ¬ Matches (codes "$") (codes "/")
 
--- also before a star
+-- also if a star follows the dollar
 abbrev pub star_after : Type 0
 star_after = Matches (codes "/a$*") (codes "/a") × ¬ Matches (codes "/a$*") (codes "/ab")
 
--- and before any other byte, so that such a pattern matches nothing
+-- also if another byte follows it, so that such a pattern matches nothing
 abbrev pub dollar_inside : Type 0
 dollar_inside = ¬ Matches (codes "/a$b") (codes "/a$b") × ¬ Matches (codes "/a$b") (codes "/a")
 
--- where a dollar is an ordinary byte, it stands for itself
+-- a dollar that is an ordinary byte matches itself
 abbrev pub plain_dollar : Type 0
 plain_dollar = MatchesStars (codes "/a$") (codes "/a$b") × ¬ MatchesStars (codes "/a$") (codes "/a")
 
--- of each run of stars one stays
+-- one star of each run is kept
 abbrev pub one_star : Type 0
 one_star =
     (collapsed (codes "/x***y/") ≡ codes "/x*y/") × (collapsed (codes "**") ≡ codes "*")
     × (collapsed (codes "/a**$") ≡ codes "/a*$")
 
--- a slash, so many `a`, and an end
+-- a slash, n times `a`, and `end`
 abbrev pub long : ℕ → List ℕ → List ℕ
 long n end = codes "/" ++ replicate n 97 ++ end
 
--- 4,096 bytes are no more than a pattern with a dollar may have, and 4,097 are
+-- a pattern with a dollar may have 4,096 bytes, but not 4,097
 abbrev pub overlong : Type 0
 overlong = ¬ IsOverlong (long 4094 (codes "$")) × IsOverlong (long 4095 (codes "$"))
 
--- of a run of stars one counts, and without a dollar there is no bound
+-- a run of stars counts as one, and without a dollar there is no limit
 abbrev pub not_overlong : Type 0
 not_overlong = ¬ IsOverlong (long 4093 (codes "**$")) × ¬ IsOverlong (long 4095 (codes "b"))
 
--- a longer pattern stands first, all its stars counted; of two that are as long the one with the smaller byte
+-- a longer pattern is before a shorter one, with all of its stars counted; of two patterns of the same
+-- length, the one with the smaller byte is first
 abbrev pub order : Type 0
 order =
     IsBefore (codes "/ab") (codes "/a") × IsBefore (codes "/a**") (codes "/a*")
@@ -295,13 +296,13 @@ order =
 
 -- ---- verdicts
 
--- the rules give this answer about the text, and this line decides
+-- the verdict of the rules on the text, and the deciding line
 pub record Answers (rules : List PlacedRule) (text : List ℕ) (answer : Bool) (line : Option ℕ)
     : Type 0 where
   pub verdict : IsVerdict (unplaced rules) text answer
   pub deciding : IsDecidingLine rules text line
 
--- the longest rule that matches decides, as in the second example of RFC 9309
+-- the longest matching rule decides, as in the second example of RFC 9309
 abbrev pub longest : Type 0
 longest =
     let rules =
@@ -309,13 +310,13 @@ longest =
     Answers rules (codes "/example/page/disallowed.gif") false (Some 3)
     × Answers rules (codes "/example/page/other.gif") true (Some 2)
 
--- where no rule matches, the answer is yes, and no line decides
+-- if no rule matches, the text is allowed, and no line decides
 abbrev pub no_match : Type 0
 no_match =
     Answers (deny_at 2 (codes "/foo") ∷ []) (codes "/FOO") true None
     × Answers (deny_at 3 (codes "b*c") ∷ []) (codes "*abc") true None
 
--- of two that are as long an Allow decides, also where it stands behind the Disallow
+-- of two rules with the same length an Allow decides, even after a Disallow
 abbrev pub tie : Type 0
 tie =
     Answers (deny_at 1 (codes "/a") ∷ allow_at 2 (codes "/a") ∷ []) (codes "/ab") true (Some 2)
@@ -326,31 +327,31 @@ abbrev pub stars_count : Type 0
 stars_count =
     Answers (deny_at 1 (codes "/***b") ∷ allow_at 2 (codes "/aab") ∷ []) (codes "/aab") false (Some 1)
 
--- of several that are as long and of one kind the first is named
+-- of several rules with the same length and kind, the first one decides
 abbrev pub first_named : Type 0
 first_named =
     Answers (deny_at 1 (codes "/*") ∷ deny_at 2 (codes "/a") ∷ []) (codes "/a") false (Some 1)
     × Answers (deny_at 1 (codes "/a") ∷ deny_at 2 (codes "/*") ∷ []) (codes "/b") false (Some 2)
 
--- the robots file is always allowed, by no line
+-- `/robots.txt` is always allowed, and no line decides
 abbrev pub robots_file : Type 0
 robots_file =
     let rules = deny_at 1 (codes "/") ∷ [] in
     Answers rules (codes "/robots.txt") true None × Answers rules (codes "/robots.txt?x") false (Some 1)
 
--- an empty Allow matches every text, and no rule is shorter
+-- an empty Allow matches every text, and every other rule is at least as long
 abbrev pub empty_allow : Type 0
 empty_allow = Answers (deny_at 1 (codes "/") ∷ allow_at 2 [] ∷ []) (codes "/x") false (Some 1)
 
--- ---- URLs and other texts
+-- ---- URLs and other strings
 
--- of a URL the path, the query and the fragment stay
+-- the match target of a URL is its path, query and fragment
 abbrev pub prepared_url : Type 0
 prepared_url =
     (prepared (codes "https://example.com") ≡ codes "/")
     × (prepared (codes "http://www.example.com/a/b?c=d&e=f#fragment") ≡ codes "/a/b?c=d&e=f#fragment")
 
--- a text that is no URL is escaped, and what is escaped in it already stays so; the empty text gives a slash
+-- a string that isn't a URL is escaped, but existing escapes are unchanged; for the empty string it is `/`
 abbrev pub prepared_path : Type 0
 prepared_path =
     (prepared (codes "/" ++ 0xC3 ∷ 0xA1 ∷ []) ≡ codes "/%C3%A1")
@@ -361,21 +362,21 @@ prepared_path =
 abbrev pub escapes : Type 0
 escapes = escaped (codes "/a b\"<>`") ≡ codes "/a%20b%22%3C%3E%60"
 
--- the robots file stands at the root of the host, behind the port unless that is the scheme's own
+-- robots.txt is at the root of the host; the address has the port unless it is the default one
 abbrev pub address : Type 0
 address =
     (robots_address (codes "https://user@example.com:80/x")
     ≡ Ok (codes "https://example.com:80/robots.txt"))
     × (robots_address (codes "http://user@example.com:80/x") ≡ Ok (codes "http://example.com/robots.txt"))
 
--- these have none
+-- these have no address
 abbrev pub no_address : Type 0
 no_address =
     (robots_address (codes "ftp://linux-isos.org/") ≡ Err EmptyHost)
     × (robots_address (codes "mailto:ferris@rust.com") ≡ Err SetHostOnCannotBeABaseUrl)
     × (robots_address (codes "/rust/v1/index.html") ≡ Err RelativeUrlWithoutBase)
 
--- ---- one file from its bytes to its answers
+-- ---- one file, from its bytes to verdicts
 
 abbrev pub ferris_file : List ℕ
 ferris_file =
@@ -403,11 +404,11 @@ ferris_robot = record {
 abbrev pub lines : Type 0
 lines = AreFileLinesOf ferris_lines ferris_file
 
--- the crawler gets this delay, these sitemaps and these rules of them
+-- they have this delay, these sitemaps and these rules for the crawler
 abbrev pub robot : Type 0
 robot = IsRobotOf (codes "FerrisCrawler") ferris_lines ferris_robot
 
--- and the rules answer so
+-- and the rules have these verdicts
 abbrev pub answers : Type 0
 answers =
     Answers ferris_rules (codes "/ocean/reef.html") true (Some 2)

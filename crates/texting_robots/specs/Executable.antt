@@ -1,7 +1,7 @@
--- What the relations say, as functions that compute it: for contracts that are equations, as a report's.
--- Laws say that they agree: `each_text_has_one_cut`, `each_text_has_its_lines`, `each_file_has_its_lines`,
+-- The relations as functions, for contracts that are equations, such as that of a report. Theorems state
+-- that both agree: `each_text_has_one_cut`, `each_text_has_its_lines`, `each_file_has_its_lines`,
 -- `each_agent_has_its_rules`, `each_agent_has_its_delay`, `each_file_has_its_sitemaps`. No contract of a
--- robot rests on them.
+-- robot depends on these functions.
 use Rattle.std.specs.Prelude.{ℕ, ◌+◌, Bool, true, false, List, Option, Some, None, filter, map}
 use Rattle.std.specs.Prelude.{option_map, slice_get, take, if◌then◌else◌}
 use Rattle.std.specs.List.{before_first, enumerate_from, filter_map, last_or, list_any}
@@ -18,25 +18,25 @@ use Rattle.texting_robots.specs.Internal.{Captured.is_captured, Cut.bodies_of, L
 abbrev pub parsed : List ℕ → List LineValue
 parsed text = lines_of (without_front text)
 
--- the lines of a file: those of its text with each NUL read as LF
+-- the lines of a file, in which each NUL is read as LF
 abbrev pub file_lines : List ℕ → List LineValue
 file_lines text = parsed (map nul_as_lf text)
 
--- the bodies of these lines, one for each: a body is a line as it stands, without its end
+-- the contents of these lines: each line unchanged, but without its terminator
 abbrev pub file_bodies : List ℕ → List (List ℕ)
 file_bodies text = bodies_of (without_front (map nul_as_lf text))
 
--- the lines of the bytes that count
+-- the lines of the first `file_limit` bytes
 abbrev pub lines_read : List ℕ → List LineValue
 lines_read file = file_lines (take file_limit file)
 
--- and their bodies
+-- and their contents
 abbrev pub bodies_read : List ℕ → List (List ℕ)
 bodies_read file = file_bodies (take file_limit file)
 
 -- ---- rules
 
--- the rule that a value gives
+-- the rule with this value, if the value is UTF-8
 abbrev pub rule_with : List ℕ → Bool → Option Rule
 rule_with value is_allow = if is_utf8 value then Some (escaped value, is_allow) else None
 
@@ -45,12 +45,12 @@ rule_in (Allow value) = rule_with value true
 rule_in (Disallow value) = rule_with value false
 rule_in _ = None
 
--- the lines at captured places, in order, each with its place, counted from 0; of these only an Allow, a
--- Disallow or a delay gives something
+-- the lines at captured positions, in order, each with its position, counted from 0; only an Allow, a
+-- Disallow or a Crawl-delay has an effect
 abbrev pub captured_lines : List ℕ → List LineValue → List (ℕ × LineValue)
 captured_lines name lines = filter (λ p. is_captured name lines p.0) (enumerate_from 0 lines)
 
--- the rule of the line at a place, if it gives one, with the line's number
+-- the rule of the line at a position, if it has one, with the number of the line
 abbrev pub placed_in : ℕ × LineValue → Option PlacedRule
 placed_in p = option_map (λ (r : Rule). record { rule = r; line = p.0 + 1 }) (rule_in p.1)
 
@@ -68,12 +68,12 @@ rules_for agent lines = unplaced (placed_rules agent lines)
 abbrev pub captured_delays : List ℕ → List LineValue → List ℕ
 captured_delays agent lines = filter_map (λ p. delay_in p.1) (captured_lines (group_name agent lines) lines)
 
--- where there is an agent line, the last delay before the first one
+-- if there is a user-agent line, the last delay above the first one
 abbrev pub delay_before_agents : List LineValue → Option ℕ
 delay_before_agents lines =
     if list_any is_agent lines then last_or None (filter_map delay_in (before_first is_agent lines)) else None
 
--- the first captured delay, else that before the agents
+-- the first captured delay, else the one above the user-agent lines
 abbrev pub delay_for : List ℕ → List LineValue → Option ℕ
 delay_for agent lines = option_or (slice_get (captured_delays agent lines) 0) (delay_before_agents lines)
 

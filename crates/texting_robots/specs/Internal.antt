@@ -1,10 +1,10 @@
--- Words of the steps that the code takes, cited by contracts of private functions; nobody has to believe
--- them. `Cut`, `Statement`, `Delay`, `Line` and `Captured` are definitions again, as functions, by which
--- `Executable` and `Labels` compute. They are tied to the definitions by the laws `each_text_has_one_cut`,
--- `each_text_has_one_delay`, `each_text_has_its_lines` and `captured_agrees`, and `Statement` by the lemmas
--- `statement_found` and `found_statement`. `Group` has a walk along the lines, tied to captured lines by
--- `captured_walked` and to `labels_of` by `labels_are`. The others are inner words of proofs, on which no
--- public clause rests.
+-- Specifications that follow the code, for contracts of private functions; you don't need to trust them.
+-- `Cut`, `Statement`, `Delay`, `Line` and `Captured` specify the same as the relations, but as functions,
+-- which `Executable` and `Labels` use. The theorems `each_text_has_one_cut`, `each_text_has_one_delay`,
+-- `each_text_has_its_lines` and `captured_agrees` connect them with the relations, and the lemmas
+-- `statement_found` and `found_statement` do so for `Statement`. `Group` has a state that is updated line
+-- by line; `captured_walked` connects it with captured lines, and `labels_are` with `labels_of`. No public
+-- clause depends on the others.
 pub mod Cut
 pub mod Statement
 pub mod Delay

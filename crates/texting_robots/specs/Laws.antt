@@ -1,4 +1,4 @@
--- Words of the laws, which stand as the contracts of `laws`.
+-- Predicates of the theorems in `laws`.
 use Rattle.std.specs.Prelude.{◌≡◌, ◌↔◌, ℕ, Bool, ◌==◌, ◌&&◌, List}
 use Rattle.std.specs.Prelude.{[]}
 use Rattle.std.specs.Prelude.{◌∷◌, slice_index, if◌then◌else◌}
@@ -7,13 +7,15 @@ use Rattle.texting_robots.specs.Rules.{IsRejected}
 use Rattle.texting_robots.specs.{Cut.cr, Cut.lf}
 use Rattle.texting_robots.specs.{Line.Allow, Line.Disallow, Line.LineValue, Verdict.IsVerdict}
 
--- LF in place of each CR LF: the text without each CR that LF follows (`slice_index` is 0 past the end)
+-- each CR LF replaced with LF: the text without each CR that precedes an LF (`slice_index` is 0 past the
+-- end)
 abbrev pub crlf_to_lf : List ℕ → List ℕ
 crlf_to_lf [] = []
 crlf_to_lf (b ∷ text) =
     if b == cr && slice_index text 0 == lf then crlf_to_lf text else b ∷ crlf_to_lf text
 
--- one agent's lines and another's give the same rules, verdicts, delay and refusal
+-- two crawlers, each with its own lines, have the same rules, verdicts and delay, and both files are
+-- rejected or neither
 pub record SameButSitemaps (agent : List ℕ) (lines : List LineValue)
     (other : List ℕ) (others : List LineValue) : Type 0 where
   pub rules : rules_for agent lines ≡ rules_for other others
@@ -27,7 +29,7 @@ abbrev pub Same : List ℕ → List LineValue → List ℕ → List LineValue �
 Same agent lines other others =
     SameButSitemaps agent lines other others × (sitemaps_in lines ≡ sitemaps_in others)
 
--- both Allow, or both Disallow
+-- both are Allows, or both are Disallows
 abbrev pub IsSameKind : LineValue → LineValue → Type 0
 IsSameKind (Allow value) (Allow other) = Unit {0}
 IsSameKind (Disallow value) (Disallow other) = Unit {0}

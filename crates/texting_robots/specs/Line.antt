@@ -1,4 +1,4 @@
--- Which line a body is, and which lines a text has.
+-- Which line has which content, and which lines a text has.
 use Rattle.std.specs.Prelude.{◌≡◌, ◌⊎◌, ℕ, ◌==◌, Bool, true, false, List, [], ◌∷◌}
 use Rattle.std.specs.Prelude.{◌++◌, map, codes, IfSome, IsSome, Option, Some, None, if◌then◌else◌}
 use Rattle.std.specs.List.{AllZip}
@@ -8,7 +8,7 @@ use Rattle.texting_robots.specs.{Delay.IsDelay, Pattern.IsSuffix, Statement.IsSt
 use Rattle.texting_robots.specs.declared.parser.Line.TheVariants as line
 use Rattle.texting_robots.specs.declared.parser.statement.Kind.TheVariants as kind
 
--- a line by value, wherever its bytes lie
+-- a line by value, wherever its bytes are in memory
 pub data LineValue : Type 0 where
   UserAgent Allow Disallow Sitemap Raw : List ℕ → LineValue
   CrawlDelay : Option ℕ → LineValue
@@ -21,10 +21,10 @@ by_value (line.Sitemap value) = Sitemap value.now
 by_value (line.CrawlDelay delay) = CrawlDelay delay
 by_value (line.Raw body) = Raw body.now
 
--- ---- the line of a body
+-- ---- the line of a line's content
 
--- the line is that of a statement of this kind with this value, in this body; an empty Disallow gives an
--- Allow of the slash, and a crawl-delay whose value names no delay gives the whole body
+-- the line of a directive of this kind with this value; an empty Disallow is an Allow of `/`, and a
+-- Crawl-delay whose value isn't a delay is `Raw`, with the whole content
 abbrev pub IsLineWith : Kind → List ℕ → List ℕ → LineValue → Type 0
 IsLineWith kind.UserAgent value body line = line ≡ UserAgent value
 IsLineWith kind.Allow value body line = line ≡ Allow value
@@ -35,7 +35,7 @@ IsLineWith kind.CrawlDelay value body line =
     ((delay : ℕ) × IsDelay value (Some delay) × (line ≡ CrawlDelay (Some delay)))
     ⊎ (IsDelay value None × (line ≡ Raw body))
 
--- the line is that of the body: its statement's, or the whole body where it is no statement
+-- the line with this content: that of its directive, or `Raw` if it isn't a directive
 abbrev pub IsLineOf : LineValue → List ℕ → Type 0
 IsLineOf line body =
     ((kind : Kind) × (value : List ℕ) × IsStatement kind value body × IsLineWith kind value body line)
@@ -43,16 +43,17 @@ IsLineOf line body =
 
 -- ---- the lines of a text
 
--- the text without this byte where it stands first
+-- the text without this byte, if the byte is its first
 abbrev pub without : ℕ → List ℕ → List ℕ
 without byte [] = []
 without byte (first ∷ text) = if first == byte then text else first ∷ text
 
--- the text without EF where that stands first, then without BB, then without BF, each where it then does
+-- the text without a byte order mark: without a leading EF, then without a leading BB, then without a
+-- leading BF
 abbrev pub without_front : List ℕ → List ℕ
 without_front text = without 0xBF (without 0xBB (without 0xEF text))
 
--- these are the lines of the text: those of the bodies of its cut, its front taken off
+-- these are the lines of the text: those of the contents in its cut, without the byte order mark
 pub record AreLinesOf (lines : List LineValue) (text : List ℕ) : Type 0 where
   pub pairs : List Pair
   pub is_cut : IsCut pairs (without_front text)
@@ -62,22 +63,22 @@ pub record AreLinesOf (lines : List LineValue) (text : List ℕ) : Type 0 where
 abbrev pub nul_as_lf : ℕ → ℕ
 nul_as_lf byte = if byte == 0 then lf else byte
 
--- these are the lines of the file: those of its text with LF in place of each NUL
+-- these are the lines of the file, in which each NUL is read as LF
 abbrev pub AreFileLinesOf : List LineValue → List ℕ → Type 0
 AreFileLinesOf lines text = AreLinesOf lines (map nul_as_lf text)
 
--- these are the bodies of the file, one for each of its lines: those of the same cut
+-- these are the contents of the file's lines, one for each line: those of the same cut
 abbrev pub AreFileBodiesOf : List (List ℕ) → List ℕ → Type 0
 AreFileBodiesOf bodies text = (pairs : List Pair) × IsCut pairs (without_front (map nul_as_lf text))
     × (bodies ≡ map (λ pair. pair.body) pairs)
 
--- the file has lines, of which P holds
+-- the file has lines for which P holds
 abbrev pub HasLines : List ℕ → (List LineValue → Type 0) → Type 0
 HasLines file P = (lines : List LineValue) × AreFileLinesOf lines file × P lines
 
--- ---- what bytes a line holds
+-- ---- which bytes a line has
 
--- the bytes that the line holds, where it holds some
+-- the bytes of the line, if it has bytes
 abbrev pub value_in : LineValue → Option (List ℕ)
 value_in (UserAgent value) = Some value
 value_in (Allow value) = Some value
@@ -86,11 +87,11 @@ value_in (Sitemap value) = Some value
 value_in (CrawlDelay delay) = None
 value_in (Raw body) = Some body
 
--- the value is a range of the body; where in it a line's value stands is said by `IsStatement`
+-- the value is a range of the content; `IsStatement` states which range
 abbrev pub IsRangeOf : List ℕ → List ℕ → Type 0
 IsRangeOf value body = (before : List ℕ) × (after : List ℕ) × (body ≡ before ++ (value ++ after))
 
--- what the line holds is a range of the body, or the slash of an empty Disallow; a delay is a number
+-- the bytes of the line are a range of its content, or the `/` of an empty Disallow; a delay is a number
 abbrev pub HoldsRangeOf : LineValue → List ℕ → Type 0
 HoldsRangeOf (Allow value) body =
     IsRangeOf value body ⊎ ((value ≡ codes "/") × IsStatement kind.Disallow [] body)
@@ -98,14 +99,15 @@ HoldsRangeOf (CrawlDelay delay) body = IsSome delay
 HoldsRangeOf (Raw value) body = value ≡ body
 HoldsRangeOf line body = IfSome (value_in line) (λ value. IsRangeOf value body)
 
--- each line holds a range of its body, and the pairs, joined, are what is left of the text behind its front
+-- the bytes of each line are a range of its content, and the pairs, joined, are the text without its byte
+-- order mark
 pub record HoldRangesOf (lines : List LineValue) (text : List ℕ) : Type 0 where
   pub pairs : List Pair
   pub is_cut : IsCut pairs (without_front text)
   pub whole : IsSuffix (joined pairs) text
   pub each : AllZip HoldsRangeOf lines (map (λ pair. pair.body) pairs)
 
--- ---- what else is asked of a line
+-- ---- other properties of a line
 
 abbrev pub is_sitemap : LineValue → Bool
 is_sitemap (Sitemap value) = true
@@ -115,7 +117,7 @@ abbrev pub is_raw : LineValue → Bool
 is_raw (Raw body) = true
 is_raw _ = false
 
--- the delay that the line gives
+-- the delay in the line
 abbrev pub delay_in : LineValue → Option ℕ
 delay_in (CrawlDelay delay) = delay
 delay_in _ = None

@@ -1,13 +1,13 @@
--- What the headline theorem says of an answer.
+-- What the main theorem states about a result.
 use Rattle.std.specs.Prelude.{Bool, List, ℕ, Result, IfErr, IfOk}
 use Rattle.texting_robots.specs.declared.error.Error.{Error}
 use Rattle.texting_robots.specs.Rules.{IsRejected, PlacedRule, unplaced}
 use Rattle.texting_robots.specs.{Decision.LooksForRules, Error.IsMemoryErrorOr, Line.LineValue}
 use Rattle.texting_robots.specs.{Verdict.IsVerdict, View.ViewValue}
 
--- Lines that hold these rules for an agent give this answer about the text of a view: they are refused, want
--- of memory aside, exactly where some line holds an overlong rule; otherwise the answer is the rules'
--- verdict, for no more looks than they may take.
+-- `answer` is the result for an agent, lines that hold these rules for it, and the text of a view. Want of
+-- memory aside, it is an error exactly if some line holds an overlong rule for the agent. Otherwise it is
+-- the verdict of the rules on the text. In both cases the looks taken are within `LooksForRules`.
 pub record IsAnswerOf (agent : List ℕ) (lines : List LineValue) (rules : List PlacedRule)
     (old new : ViewValue) (answer : Result Bool Error) : Type 0 where
   pub rejected : IfErr answer (IsMemoryErrorOr (IsRejected agent lines))

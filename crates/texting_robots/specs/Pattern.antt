@@ -13,24 +13,25 @@ dollar = 36
 abbrev pub longest_with_dollar : ℕ
 longest_with_dollar = 4096
 
--- s is what is left of t when some beginning is taken off: t itself, the empty text, or any between
+-- s is t without some prefix, which may be empty or all of t
 abbrev pub IsSuffix : List ℕ → List ℕ → Type 0
 IsSuffix s t = (front : List ℕ) × (t ≡ front ++ s)
 
--- The pattern's byte b takes a beginning off t and leaves s: a star takes any beginning; a dollar, where
--- `anchors` is true, takes nothing and stands only where t is empty; any other byte takes itself.
+-- The byte b of a pattern consumes a prefix of t and leaves s. A star consumes any prefix. A dollar, if
+-- `anchors` is true, consumes nothing and needs t to be empty. Any other byte consumes itself.
 abbrev pub Consumes : Bool → ℕ → List ℕ → List ℕ → Type 0
 Consumes anchors b t s =
     MatchBool (b == star) (IsSuffix s t)
     (MatchBool (anchors && (b == dollar)) ((t ≡ []) × (s ≡ []))
     (t ≡ b ∷ s))
 
--- the pattern matches the text, or a beginning of it: its bytes take what they stand for, one after the other
+-- the pattern matches from the start of the text, but not necessarily up to its end: its bytes consume the
+-- text one after the other
 unfoldable pub MatchesWith : Bool → List ℕ → List ℕ → Type 0
 MatchesWith anchors [] t = Unit {0}
 MatchesWith anchors (b ∷ q) t = (s : List ℕ) × Consumes anchors b t s × MatchesWith anchors q s
 
--- what a rule's pattern matches
+-- what the pattern of a rule matches
 abbrev pub Matches : List ℕ → List ℕ → Type 0
 Matches pattern text = MatchesWith true pattern text
 
@@ -38,12 +39,12 @@ Matches pattern text = MatchesWith true pattern text
 abbrev pub MatchesStars : List ℕ → List ℕ → Type 0
 MatchesStars pattern text = MatchesWith false pattern text
 
--- the pattern with one star in place of each run of stars: without each star that another one follows
+-- the pattern with one star in place of each run of stars: without each star that precedes another one
 -- (`slice_index` is 0 past the end)
 unfoldable pub collapsed : List ℕ → List ℕ
 collapsed [] = []
 collapsed (b ∷ q) = if (b == star) && (slice_index q 0 == star) then collapsed q else b ∷ collapsed q
 
--- it holds a dollar, and is too long when it is collapsed
+-- the pattern contains a dollar, and is too long after it is collapsed
 abbrev pub IsOverlong : List ℕ → Type 0
 IsOverlong pattern = Contains pattern dollar × (longest_with_dollar < length (collapsed pattern))

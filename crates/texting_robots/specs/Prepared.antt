@@ -1,9 +1,9 @@
--- The prepared text of a URL or a path.
+-- The match target of a URL or a path.
 use Rattle.std.specs.Prelude.{ℕ, List, [], ◌++◌, codes, Option, Some, None, Ok, Err}
 use Rattle.url.specs.{Parts.Parts, Parser.parse_url}
 use Rattle.texting_robots.specs.Escape.{escaped}
 
--- a mark and the text behind it, where there is one
+-- a delimiter and the text after it, if there is one
 abbrev pub with_delimiter : List ℕ → Option (List ℕ) → List ℕ
 with_delimiter delimiter None = []
 with_delimiter delimiter (Some text) = delimiter ++ text
@@ -12,7 +12,8 @@ with_delimiter delimiter (Some text) = delimiter ++ text
 abbrev pub target_of : Parts → List ℕ
 target_of url = url.path ++ with_delimiter (codes "?") url.query ++ with_delimiter (codes "#") url.fragment
 
--- the text that rules are matched with; what is a URL is said by the definition that `url` publishes
+-- the match target of a string, which patterns are compared with; `url` exports the specification of what a
+-- URL is
 abbrev pub prepared : List ℕ → List ℕ
 prepared [] = codes "/"
 prepared text = elim (parse_url None text) [ Ok url ↦ target_of url | Err e ↦ escaped text ]

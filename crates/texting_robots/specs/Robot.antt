@@ -1,11 +1,11 @@
--- What contracts see of a robot.
+-- What contracts state about a robot.
 use Rattle.std.specs.Prelude.{◌↔◌, ℕ, Bool, List, Option}
 use Rattle.texting_robots.specs.Rules.{AreRulesFor, AreSitemapsOf, IsDelayFor, IsRejected, PlacedRule}
 use Rattle.texting_robots.specs.Rules.{unplaced}
 use Rattle.texting_robots.specs.{Decision.IsDecidingLine, Decision.LooksForRules, Line.HasLines}
 use Rattle.texting_robots.specs.{Line.LineValue, Verdict.IsVerdict, View.ViewValue}
 
--- how many bytes of a file count
+-- how many bytes of a file are used
 abbrev pub file_limit : ℕ
 file_limit = 512000
 
@@ -15,22 +15,22 @@ pub record RobotValue : Type 0 where
   pub sitemaps : List (List ℕ)
   pub rules : List PlacedRule
 
--- the robot is what the agent gets of a file with these lines, and none of its rules is overlong
+-- the robot is the one for this crawler and a file with these lines, and none of its rules is overlong
 pub record IsRobotOf (agent : List ℕ) (lines : List LineValue) (robot : RobotValue) : Type 0 where
   pub delay : IsDelayFor agent lines robot.delay
   pub sitemaps : AreSitemapsOf lines robot.sitemaps
   pub rules : AreRulesFor agent lines robot.rules
   pub accepted : ¬ IsRejected agent lines
 
--- the robot is what the agent gets of this file
+-- the robot is the one for this crawler and this file
 abbrev pub IsRobotOfFile : List ℕ → List ℕ → RobotValue → Type 0
 IsRobotOfFile agent file robot = HasLines file (λ lines. IsRobotOf agent lines robot)
 
--- some line of this file holds an overlong rule for the agent
+-- some line of this file holds an overlong rule for the crawler
 abbrev pub IsFileRejected : List ℕ → List ℕ → Type 0
 IsFileRejected agent file = HasLines file (IsRejected agent)
 
--- the two lists give the same verdicts, by the same lines, and may take as many looks
+-- the two lists have the same verdicts, deciding lines and bounds on looks
 pub record AnswerAlike (rules others : List PlacedRule) : Type 0 where
   pub verdicts : (text : List ℕ) (answer : Bool)
       → IsVerdict (unplaced rules) text answer ↔ IsVerdict (unplaced others) text answer

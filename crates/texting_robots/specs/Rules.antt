@@ -1,5 +1,5 @@
--- What an agent gets of the lines of a file: rules and delays by the places of the lines, counted from 0, and
--- sitemaps line by line.
+-- What applies to a crawler of the lines of a file. Rules and delays are specified by the positions of
+-- lines, counted from 0, and sitemaps line by line.
 use Rattle.std.specs.Prelude.{◌≡◌, ◌≢◌, ◌⊎◌, ◌↔◌, ℕ, ◌+◌, ◌<◌, ◌≤◌}
 use Rattle.std.specs.Prelude.{All, Bool, List, [], ◌∷◌, ◌++◌}
 use Rattle.std.specs.Prelude.{Option, Some, None, AllPairs, Contains, IsTrue, map, slice_get}
@@ -9,7 +9,7 @@ use Rattle.texting_robots.specs.{Escape.escaped, Group.IsCaptured, Group.group_n
 use Rattle.texting_robots.specs.{Group.passes_at, Pattern.IsOverlong}
 use Rattle.texting_robots.specs.Line.{Allow, CrawlDelay, Disallow, LineValue, Sitemap}
 
--- the line stands at the place, and is captured for the agent
+-- the line is at the position, and is captured for the crawler, that is, applies to it
 abbrev pub IsCapturedAt : List ℕ → List LineValue → ℕ → LineValue → Type 0
 IsCapturedAt agent lines position line =
     (slice_get lines position ≡ Some line) × IsCaptured (group_name agent lines) lines position
@@ -29,21 +29,21 @@ pub record PlacedRule : Type 0 where
 abbrev pub unplaced : List PlacedRule → List Rule
 unplaced rules = map (λ (placed : PlacedRule). placed.rule) rules
 
--- the line at the place is captured, and is an Allow or a Disallow, as the rule says, whose value is UTF-8;
--- escaped, it is the pattern
+-- the line at the position is captured, and is an Allow or a Disallow, as the rule is; its value is UTF-8,
+-- and the pattern of the rule is the escaped value
 pub record HoldsRule (agent : List ℕ) (lines : List LineValue) (position : ℕ) (rule : Rule) : Type 0 where
   pub value : List ℕ
   pub line : IsCapturedAt agent lines position (if rule.1 then Allow value else Disallow value)
   pub utf8 : IsTrue (is_utf8 value)
   pub pattern : rule.0 ≡ escaped value
 
--- these are the rules that the lines hold for the agent, each with its line, and no line twice
+-- these are the rules that the lines hold for the crawler, each with its line, and no line twice
 pub record AreRulesFor (agent : List ℕ) (lines : List LineValue) (rules : List PlacedRule) : Type 0 where
   pub held : (placed : PlacedRule) → Contains rules placed
       ↔ ((position : ℕ) × (placed.line ≡ position + 1) × HoldsRule agent lines position placed.rule)
   pub once : AllPairs (λ (one other : PlacedRule). one.line ≢ other.line) rules
 
--- the first of the rules that is overlong stands in the line with this number
+-- the first overlong rule is in the line with this number
 pub record IsFirstOverlong (rules : List PlacedRule) (number : ℕ) : Type 0 where
   pub front : List PlacedRule
   pub placed : PlacedRule
@@ -53,37 +53,38 @@ pub record IsFirstOverlong (rules : List PlacedRule) (number : ℕ) : Type 0 whe
   pub overlong : IsOverlong placed.rule.0
   pub line : placed.line ≡ number
 
--- some line holds an overlong rule for the agent
+-- some line holds an overlong rule for the crawler
 abbrev pub IsRejected : List ℕ → List LineValue → Type 0
 IsRejected agent lines =
     (position : ℕ) × (rule : Rule) × HoldsRule agent lines position rule × IsOverlong rule.0
 
 -- ---- delays
 
--- P holds of the number at a place, and at no place before it of any
+-- P holds for the number at some position, and at no earlier position for any number
 abbrev pub IsFirst : (ℕ → ℕ → Type 0) → ℕ → Type 0
 IsFirst P number = (position : ℕ) × P position number × ((other n : ℕ) → P other n → position ≤ other)
 
--- P holds of the number at a place, and at no place behind it of any
+-- P holds for the number at some position, and at no later position for any number
 abbrev pub IsLast : (ℕ → ℕ → Type 0) → ℕ → Type 0
 IsLast P number = (position : ℕ) × P position number × ((other n : ℕ) → P other n → other ≤ position)
 
--- P holds nowhere of any number
+-- P holds at no position for any number
 abbrev pub Nowhere : (ℕ → ℕ → Type 0) → Type 0
 Nowhere P = (position n : ℕ) → ¬ P position n
 
--- the line at the place is a captured delay, of so many microseconds
+-- the line at the position is a captured delay of this many microseconds
 abbrev pub IsCapturedDelay : List ℕ → List LineValue → ℕ → ℕ → Type 0
 IsCapturedDelay agent lines position delay = IsCapturedAt agent lines position (CrawlDelay (Some delay))
 
--- the line at the place is a delay, and the first user-agent line stands behind it
+-- the line at the position is a delay above the first user-agent line, and there is such a line
 abbrev pub IsEarlyDelay : List LineValue → ℕ → ℕ → Type 0
 IsEarlyDelay lines position delay =
     (slice_get lines position ≡ Some (CrawlDelay (Some delay)))
     × ((k : ℕ) → k < position → ¬ IsTrue (passes_at is_agent lines k))
     × (k : ℕ) × (position < k) × IsTrue (passes_at is_agent lines k)
 
--- the agent's delay: the first that is captured; where none is, the last before the first user-agent line
+-- the crawler's delay: the first captured one; if there is none, the last one above the first user-agent
+-- line
 abbrev pub IsDelayFor : List ℕ → List LineValue → Option ℕ → Type 0
 IsDelayFor agent lines (Some delay) =
     IsFirst (IsCapturedDelay agent lines) delay
@@ -104,6 +105,6 @@ AreSitemapsOf (line ∷ lines) sitemaps =
     × (sitemaps ≡ first ∷ later))
     ⊎ (((sitemap : List ℕ) → ¬ ListsSitemap line sitemap) × AreSitemapsOf lines sitemaps)
 
--- the lines hold no rule for the agent, and list no sitemap
+-- the lines hold no rule for the crawler, and list no sitemap
 abbrev pub HasNoRulesOrSitemaps : List ℕ → List LineValue → Type 0
 HasNoRulesOrSitemaps agent lines = AreRulesFor agent lines [] × AreSitemapsOf lines []

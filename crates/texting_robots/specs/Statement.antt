@@ -1,11 +1,11 @@
--- Which bodies are statements.
+-- Directives: which contents of lines are directives.
 use Rattle.std.specs.Prelude.{◌≡◌, ◌≢◌, ◌⊎◌, ℕ, List, [], ◌∷◌, ◌++◌, codes}
 use Rattle.std.specs.{Str.byte, Str.str_to_ascii_lowercase, List.AllByRecursion as Each, List.Contains}
 use Rattle.texting_robots.specs.declared.parser.statement.Kind.TheVariants.{UserAgent, Allow, Disallow}
 use Rattle.texting_robots.specs.declared.parser.statement.Kind.TheVariants.{Sitemap, CrawlDelay}
 use Rattle.texting_robots.specs.{Trim.IsTrimOf, declared.parser.statement.Kind.Kind}
 
--- how the key of each kind is spelled, in small letters
+-- the accepted field names of each kind of directive, in lowercase
 abbrev pub field_names : Kind → List (List ℕ)
 field_names UserAgent = codes "user-agent" ∷ codes "user agent" ∷ codes "useragent" ∷ []
 field_names Allow = codes "allow" ∷ []
@@ -18,25 +18,25 @@ field_names CrawlDelay = codes "crawl-delay" ∷ codes "crawl delay" ∷ codes "
 abbrev pub IsBlank : ℕ → Type 0
 IsBlank b = (b ≡ byte " ") ⊎ (b ≡ byte "\t")
 
--- neither a blank nor a colon stands first
+-- the first byte, if there is one, is neither a space, nor a tab, nor a colon
 abbrev pub StartsValue : List ℕ → Type 0
 StartsValue [] = Unit {0}
 StartsValue (b ∷ text) = (¬ IsBlank b) × (b ≢ byte ":")
 
--- the rest is any number of blanks, a colon and the tail
+-- the rest is any number of spaces and tabs, a colon and the tail
 abbrev pub IsAfterColon : List ℕ → List ℕ → Type 0
 IsAfterColon tail rest =
     (blanks : List ℕ) × Each IsBlank blanks × (rest ≡ blanks ++ byte ":" ∷ tail)
 
--- the rest is one or more blanks and the tail, which begins with no blank and no colon
+-- the rest is one or more spaces and tabs, and the tail, which doesn't begin with a space, a tab or a colon
 abbrev pub IsAfterBlanks : List ℕ → List ℕ → Type 0
 IsAfterBlanks tail rest =
     (blanks : List ℕ) × Each IsBlank blanks × (blanks ≢ []) × (rest ≡ blanks ++ tail)
     × StartsValue tail
 
--- the body is a statement of this kind with this value: blanks, a spelling of the kind's key, ASCII letters
--- in any case, a separator, a region without a hash, and then nothing or a comment; the value is the region,
--- trimmed
+-- `body`, the content of a line, is a directive of this kind with this value: spaces and tabs, a field name
+-- of this kind, ASCII letters in any case, a separator, a raw value without `#`, and then nothing or a
+-- comment; the value is the raw value, trimmed
 pub record IsStatement (kind : Kind) (value body : List ℕ) : Type 0 where
   pub margin : List ℕ
   pub key : List ℕ

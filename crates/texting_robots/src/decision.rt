@@ -1,11 +1,11 @@
-//! A verdict with its reason.
+//! A verdict with the line that decides it.
 
-/// Whether a crawler may fetch what was asked for, and the line of the file that says so.
+/// Whether a crawler may fetch a URL, and the line of the file that decides.
 #[derive(Clone, Copy, PartialEq, Eq, Debug)]
 pub struct Decision {
     /// Whether the crawler may fetch it.
     pub allowed: bool,
-    /// The number of the deciding rule's line, counted from 1 among all lines of the file. It is `None` where no rule
-    /// matches, and for `/robots.txt`, which is always allowed.
+    /// The number of the deciding line, counted from 1 among all lines of the file. It is `None` if no rule matches,
+    /// and for `/robots.txt`, which is always allowed.
     pub line: Option<usize>,
 }

@@ -1,4 +1,4 @@
-//! Why a call was refused.
+//! Why a call fails.
 ghost use Rattle.std.specs.Prelude.{◌↔◌, IsTrue};
 ghost use Rattle.url.specs.Parser.{IsOutOfRoom};
 
@@ -6,16 +6,17 @@ use std::alloc::{AllocError, AllocFailed};
 use thiserror::Error;
 use url::ParseError;
 
-/// Why a call was refused.
+/// Why a call fails.
 #[derive(Debug, Drop, Error)]
 pub enum Error {
-    /// The file can't be parsed. No call answers this: every file has its lines.
+    /// The file can't be parsed. No call returns this: every file has lines.
     #[error("Failed to parse robots.txt")]
     InvalidRobots,
-    /// A pattern with `$` has more than 4,096 bytes, each run of stars counted as one. `Robot::new` counts the escaped rule.
+    /// A pattern contains `$` and has more than 4,096 bytes, each run of stars counted as one. `Robot::new` counts the
+    /// bytes of the escaped pattern.
     #[error("Rule with $ is too long")]
     InvalidRule,
-    /// Memory was refused, or a URL came to more bytes than `url` can count.
+    /// An allocation failed, or a URL has more bytes than `url` can count.
     #[error("Out of memory")]
     Memory,
 }
@@ -42,7 +43,8 @@ impl<T: Drop> From<AllocFailed<T>> for Error {
     }
 }
 
-/// Whether an error of `url` is want of memory: memory was refused, or a URL came to more bytes than `url` can count.
+/// Whether an error of `url` becomes `Error::Memory`: an allocation failed, or a URL has more bytes than `url` can
+/// count.
 pub(crate) fn is_memory_or_overflow(error: &ParseError) -> bool
     ensures { IsTrue result ↔ IsOutOfRoom error.now }
 {

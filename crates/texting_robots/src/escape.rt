@@ -1,4 +1,4 @@
-//! The escape.
+//! Percent-encoding of patterns and match targets.
 ghost use Rattle.std.specs.Prelude.{◌≡◌, ◌++◌, All, IsOk, OnErr, OnOk, IfOk, false, length, string_bytes};
 ghost use Rattle.std.specs.Cow.{cow_str_bytes};
 ghost use Rattle.std.specs.List.{list_any};
@@ -12,7 +12,7 @@ use std::simd::prelude::*;
 /// The ASCII bytes that are escaped.
 const ESCAPED: AsciiSet = ascii_set!(CONTROLS.add(b' ').add(b'"').add(b'<').add(b'>').add(b'`'));
 
-/// The text with each byte of the set and each byte past ASCII escaped. It is lent where there is none.
+/// The string with each byte of `ESCAPED` and each non-ASCII byte escaped. It is borrowed if there is no such byte.
 pub(crate) fn escaped<'a>(alloc: Global, text: &'a str) -> Result<CowStr<'a, Global>, AllocError>
     ensures ok { IfOk result (λ s. cow_str_bytes s ≡ escaped text.now) }
     ensures lent { All (λ b. is_escaped b ≡ false) text.now → IsOk result }
@@ -32,7 +32,7 @@ fn is_escaped(byte: u8) -> bool
         | (byte == b'`')
 }
 
-/// Whether some byte is escaped. All are tested, with no early exit, so that the compiler can test many at once.
+/// Whether some byte is escaped. It tests all bytes without an early exit, so that the compiler can vectorize the loop.
 fn holds_escaped_among(bytes: &[u8]) -> bool
     ensures { result ≡ list_any is_escaped bytes.now }
 {
@@ -43,7 +43,7 @@ fn holds_escaped_among(bytes: &[u8]) -> bool
     holds
 }
 
-/// Whether some byte of eight is escaped.
+/// Whether one of eight bytes is escaped.
 #[inline(always)]
 fn eight_hold_escaped(bytes: &[u8]) -> bool
     requires { length bytes.now ≡ 8 }
@@ -59,7 +59,7 @@ fn eight_hold_escaped(bytes: &[u8]) -> bool
     escaped.any()
 }
 
-/// Whether some byte of sixteen is escaped.
+/// Whether one of sixteen bytes is escaped.
 #[inline(always)]
 fn sixteen_hold_escaped(bytes: &[u8]) -> bool
     requires { length bytes.now ≡ 16 }
@@ -75,8 +75,8 @@ fn sixteen_hold_escaped(bytes: &[u8]) -> bool
     escaped.any()
 }
 
-/// Whether some byte is escaped. A short text is tested in two parts of one length, which may overlap. It is a call of its own, so that
-/// [`push_escaped`] stays small.
+/// Whether some byte is escaped. Eight to 32 bytes are tested as two parts of equal length, which may overlap. It
+/// isn't inlined, so that [`push_escaped`] stays small.
 #[inline(never)]
 fn holds_escaped(bytes: &[u8]) -> bool
     ensures { result ≡ list_any is_escaped bytes.now }
@@ -90,7 +90,8 @@ fn holds_escaped(bytes: &[u8]) -> bool
     }
 }
 
-/// Adds the text with each byte of the set and each byte past ASCII escaped. Most texts have none, and are copied whole.
+/// Appends the string with each byte of `ESCAPED` and each non-ASCII byte escaped. Most strings have no such byte and
+/// are copied in one go.
 pub(crate) fn push_escaped(out: &mut String, text: &str) -> Result<(), AllocError>
     ensures { OnOk result (string_bytes out.new ≡ string_bytes out.old ++ escaped text.now) }
 {
@@ -100,8 +101,9 @@ pub(crate) fn push_escaped(out: &mut String, text: &str) -> Result<(), AllocErro
     out.push_str(text)
 }
 
-/// Adds the bytes, escaped as rules are. They may be any: each control, space, `"`, `<`, `>` and backquote and each byte past
-/// ASCII comes out as `%` and two digits, so what was added is printable ASCII. Where memory is refused, nothing is added.
+/// Appends any bytes, escaped as patterns are: each control character, space, `"`, `<`, `>`, backquote and non-ASCII
+/// byte becomes `%` and two hexadecimal digits. So what is appended is printable ASCII. If an allocation fails, nothing
+/// is appended.
 pub fn push_escaped_bytes(out: &mut String, bytes: &[u8]) -> Result<(), AllocError>
     ensures ok { OnOk result (string_bytes out.new ≡ string_bytes out.old ++ escaped bytes.now) }
     ensures rejected { OnErr result (string_bytes out.new ≡ string_bytes out.old) }

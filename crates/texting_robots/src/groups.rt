@@ -1,4 +1,6 @@
-//! Whose lines are whose: the group of a file that an agent gets, and a walk along the lines that says which are captured.
+//! Which lines apply to a crawler. A group line is an Allow, a Disallow or a Crawl-delay; it is captured if it applies
+//! to the crawler. A first pass over a file finds the group name. A tracker that reads the lines in order then finds
+//! the captured ones.
 ghost use Rattle.std.specs.Prelude.{◌≡◌, not, false};
 ghost use Rattle.std.specs.Str.{str_to_ascii_lowercase};
 ghost use Rattle.texting_robots.specs.Group.{group_name};
@@ -9,21 +11,21 @@ ghost use Rattle.texting_robots.specs.Internal.Group.{captured_ahead, start_of, 
 
 use crate::parser::{Kind, LazyLines, Line};
 
-/// What the first pass over a file finds out for an agent.
+/// What the first pass over a file finds out for a crawler.
 #[derive(Drop)]
 pub(crate) struct Group<'a> {
-    /// The name whose groups the agent gets, where there is an agent line: its own if a line names it, else a star.
+    /// The group name: the crawler's product token if a user-agent line has it, else `*`.
     pub(crate) name: &'a [u8],
-    /// Whether a line names the agent.
+    /// Whether a user-agent line names the crawler.
     pub(crate) is_named: bool,
-    /// The walk before the first line.
+    /// The tracker before the first line.
     pub(crate) start: GroupTracker,
-    /// The last delay before the first agent line, where there is one.
+    /// The last delay above the first user-agent line, if there are both.
     pub(crate) delay_before_agents: Option<u64>,
 }
 
-/// The first pass. It reads the lines up to the first user-agent line, where a delay may stand, and then looks for a line that
-/// names the agent.
+/// The first pass. It reads the lines up to the first user-agent line, among which a delay may be, and then looks for a
+/// user-agent line that names the crawler.
 #[tactic(auto, using(crate::proofs::RulesLemmas::last_more, crate::proofs::NameLemmas::tested_names))]
 #[inline(never)]
 pub(crate) fn group_for<'a>(agent: &'a [u8], lines: LazyLines<'_>) -> Group<'a>
@@ -63,17 +65,17 @@ pub(crate) fn group_for<'a>(agent: &'a [u8], lines: LazyLines<'_>) -> Group<'a>
     }
 }
 
-/// Where a walk along the lines stands.
+/// The state while the lines are read from first to last.
 #[derive(Clone, Copy)]
 pub(crate) struct GroupTracker {
-    /// A group line here is captured.
+    /// Whether a group line at this position would be captured.
     pub(crate) captured: bool,
-    /// The name stood in an agent line since the last group line.
+    /// Whether a user-agent line since the last group line has the group name.
     pub(crate) named: bool,
 }
 
 impl GroupTracker {
-    /// Before the first line of a file that has agent lines, or none.
+    /// The state before the first line of a file that has user-agent lines, or has none.
     fn start(has_agents: bool) -> Self
         ensures captured { result.captured ≡ not has_agents }
         ensures named { result.named ≡ false }
@@ -84,7 +86,7 @@ impl GroupTracker {
         }
     }
 
-    /// Goes on over a line.
+    /// Reads one line.
     #[tactic(auto, using(crate::proofs::NameLemmas::tested_names))]
     pub(crate) fn step(&mut self, name: &[u8], line: Line<'_>)
         ensures { self.new ≡ step (str_to_ascii_lowercase name.now) self.old (by_value line.entry) }
@@ -99,7 +101,7 @@ impl GroupTracker {
         }
     }
 
-    /// Whether the first group line of those that are left is captured; where none is left, whether one behind the last line
+    /// Whether the next group line of those that are left is captured. If none is left: whether one after the last line
     /// would be.
     pub(crate) fn ahead(self, name: &[u8], left: LazyLines<'_>) -> bool
         ensures { result ≡ captured_ahead (str_to_ascii_lowercase name.now) self left.entry }

@@ -1,4 +1,5 @@
-//! Texts that patterns are matched against, with their looks counted or not.
+//! Texts that patterns are matched against, with or without counted looks. A look is one comparison of a byte of the
+//! text.
 ghost use Rattle.std.specs.Prelude.{◌≡◌, ◌≢◌, ℕ, ◌+◌, ◌<◌, ◌≤◌, ◌↔◌, ◌++◌, List, [], IfNone, IfSome, IsTrue, MatchOption, codes, drop, length};
 ghost use Rattle.std.specs.Option.{option_map_or};
 ghost use Rattle.memchr.specs.Find.{OccursAt};
@@ -21,28 +22,28 @@ pub(crate) trait Haystack {
     ghost use Rattle.std.specs.Prelude.{ℕ, List};
     ghost use Rattle.texting_robots.specs.View.{ViewValue};
 
-    /// Where what is left of the text begins.
+    /// A position in the text. What is left of the text begins there.
     type Rest: Copy;
 
-    /// The text, and the looks at it that were counted.
+    /// The text, and the number of counted looks.
     ghost seen: { Self → ViewValue };
 
-    /// Whether it is a place in the text.
+    /// Whether it is a position in this text.
     ghost is_rest: { Self.Rest → List ℕ → Type 0 };
 
-    /// What is left of the text there.
+    /// What is left of the text from this position on.
     ghost left: { Self.Rest → List ℕ → List ℕ };
 
-    /// Whether it is `/robots.txt`. It is no look.
+    /// Whether the text is `/robots.txt`. This isn't a look.
     fn is_robots_file(&self) -> bool
         ensures { IsTrue result ↔ ((seen self.now).text ≡ codes "/robots.txt") };
 
-    /// Whether rules are passed over by these signs, or all are asked from the first one on. Either is right: it is a matter of
-    /// speed.
+    /// Whether to skip rules by these bigram masks, instead of trying all from the first one on. Either result is
+    /// correct; it only affects speed.
     fn passes_over(&self, masks: &[u64]) -> bool;
 
-    /// Which rules are to be asked next, from this place up to the end, by the signs that there are: none between can match
-    /// it. It is no look.
+    /// The range of rules to try next, between `from` and `end`. By their bigram masks, the rules before this range
+    /// can't match the text. This takes no looks.
     fn next(&mut self, masks: &[u64], from: usize, end: usize) -> Span
         requires from { from < end }
         requires masks { length masks.now ≤ end }
@@ -53,12 +54,13 @@ pub(crate) trait Haystack {
         ensures apart { AreApart masks.now (pair_set (seen self.old).text) from result.start }
         ensures same { seen self.new ≡ seen self.old };
 
-    /// Whether a pattern with these needs may match it: where it meets them, it may. It is no look.
+    /// Whether a pattern with this prefilter may match the text. It returns true if the text meets the prefilter. This
+    /// takes no looks.
     fn may_match(&mut self, prefilter: Prefilter) -> bool
         ensures answer { Meets prefilter (seen self.old).text → IsTrue result }
         ensures same { seen self.new ≡ seen self.old };
 
-    /// What is left behind the piece, if the text begins with it.
+    /// What is left after the segment, if the text begins with it.
     fn begins_with(&mut self, segment: &[u8]) -> Option<Self::Rest>
         ensures none { IfNone result ((following : List ℕ) → (seen self.old).text ≢ segment.now ++ following) }
         ensures some { IfSome result (λ rest. is_rest rest (seen self.old).text
@@ -66,7 +68,7 @@ pub(crate) trait Haystack {
         ensures cost { PassesTo (seen self.old) (seen self.new) (seen self.old).text
             (option_map_or (λ rest. left rest (seen self.old).text) result []) };
 
-    /// What is left behind the piece where it first stands in what is left. The table is the piece's.
+    /// What is left after the first occurrence of the segment in `rest`. `table` is the failure table of the segment.
     fn find(&mut self, rest: Self::Rest, segment: &[u8], table: &[usize]) -> Option<Self::Rest>
         requires rest { is_rest rest (seen self.old).text }
         requires table { IsTable segment.now table.now }
@@ -76,13 +78,13 @@ pub(crate) trait Haystack {
         ensures cost { PassesTo (seen self.old) (seen self.new) (left rest (seen self.old).text)
             (option_map_or (λ following. left following (seen self.old).text) result []) };
 
-    /// Whether what is left ends with the piece.
+    /// Whether what is left ends with the segment.
     fn ends_with(&mut self, rest: Self::Rest, segment: &[u8]) -> bool
         requires { is_rest rest (seen self.old).text }
         ensures answer { IsTrue result ↔ IsSuffix segment.now (left rest (seen self.old).text) }
         ensures cost { PassesTo (seen self.old) (seen self.new) (left rest (seen self.old).text) [] };
 
-    /// Whether nothing is left. It is no look.
+    /// Whether nothing is left. This isn't a look.
     fn is_at_end(&self, rest: Self::Rest) -> bool
         requires { is_rest rest (seen self.now).text }
         ensures { IsTrue result ↔ (left rest (seen self.now).text ≡ []) };
@@ -150,7 +152,7 @@ impl<'a> Haystack for View<'a> {
     }
 }
 
-/// Whether the piece stands in the text at this place.
+/// Whether the segment occurs at this position of the text.
 fn occurs_at(view: &mut View<'_>, at: usize, segment: &[u8]) -> bool
     requires { at ≤ length view.old.text }
     ensures answer { IsTrue result ↔ OccursAt view.old.text segment.now at }
@@ -170,8 +172,7 @@ fn occurs_at(view: &mut View<'_>, at: usize, segment: &[u8]) -> bool
     true
 }
 
-/// A text of which no look is counted, its first bytes as a number, and its pairs from the first time on that they are
-/// asked for.
+/// A text whose looks aren't counted, with its first eight bytes as a number, and its bigrams once they were requested.
 #[derive(Drop)]
 pub(crate) struct Uncounted<'a> {
     text: &'a [u8],
@@ -202,7 +203,7 @@ impl<'a> Uncounted<'a> {
         }
     }
 
-    /// The text's pairs.
+    /// The bigrams of the text. They are computed once.
     fn pairs(&mut self) -> BigramSet
         ensures pairs { result.bits ≡ pair_set self.old }
         ensures same { self.new ≡ self.old }
@@ -241,7 +242,7 @@ impl<'a> Haystack for Uncounted<'a> {
         }
     }
 
-    /// The text's pairs are asked for only where some are needed.
+    /// The bigrams of the text are requested only if the prefilter has bigrams.
     fn may_match(&mut self, prefilter: Prefilter) -> bool {
         prefilter.head.fits(self.front)
             && (prefilter.pairs.is_empty() || prefilter.pairs.are_within(self.pairs()))
@@ -264,7 +265,7 @@ impl<'a> Haystack for Uncounted<'a> {
     }
 }
 
-/// What follows the piece where it first stands in the text.
+/// What follows the first occurrence of the segment in the text.
 pub(crate) fn after_first<'a>(text: &'a [u8], segment: &[u8]) -> Option<&'a [u8]>
     ensures { MatchOption result (OccursNowhere segment.now text.now)
         (λ rest. IsRestAfterFirst segment.now text.now rest.now) }

@@ -1,4 +1,5 @@
-//! The lines of a file as one agent gets them, for whoever shows a site owner which line does what.
+//! The lines of a file with their membership in a crawler's group, for programs that show a site owner what each line
+//! does. A group line is an Allow, a Disallow or a Crawl-delay.
 ghost use Rattle.std.specs.Prelude.{◌≡◌, ◌≤◌, IfOk, MatchOption, length};
 ghost use Rattle.std.specs.Iterator.{YieldsFirstBy, item_count};
 ghost use Rattle.texting_robots.specs.Group.{group_name};
@@ -14,43 +15,42 @@ use crate::reading::{Rejection, read_file};
 use std::alloc::{AllocError, Global};
 use std::marker::Model;
 
-/// Where a line of a file stands to an agent.
+/// Whether a line belongs to a crawler's group.
 #[derive(Clone, Copy, PartialEq, Eq, Debug)]
 pub enum Membership {
-    /// In the agent's group: a rule or a delay that is captured, or a user-agent line of a run in which one has the group's
-    /// name, even where no rule follows.
+    /// In the crawler's group: a group line that applies to the crawler, or a user-agent line of a run that contains
+    /// the group name, even if no group line follows.
     Own,
-    /// In another group: any other rule or delay behind a user-agent line, or a user-agent line of any other run.
+    /// In another group: any other group line below a user-agent line, or any other user-agent line.
     Other,
-    /// In no group: a line that is neither a user-agent line nor a rule nor a delay, or a rule or a delay before the first
-    /// user-agent line. Such a delay may still be the one that the agent gets. In a file with no user-agent line every rule and
-    /// every delay is `Own`.
+    /// In no group: an ignored line, a sitemap, or a group line above all user-agent lines. The crawler's delay may
+    /// still be from such a line. If a file has no user-agent line, all group lines are `Own`.
     Ungrouped,
 }
 
-/// A line of a file with its number and where it stands.
+/// A line of a file with its number and its membership.
 #[derive(Clone, Copy, PartialEq, Eq, Debug)]
 pub struct LabeledLine<'a> {
     /// Its number, counted from 1 among all lines of the file, as in `Decision`.
     pub number: usize,
-    /// Where it stands to the agent.
+    /// Whether it belongs to the crawler's group.
     pub membership: Membership,
     /// The line.
     pub line: Line<'a>,
 }
 
-/// An iterator over the marked lines of a file, which takes no memory.
+/// An iterator over the labeled lines of a file. It doesn't allocate.
 #[derive(Drop)]
 pub struct LabeledLineIter<'n, 'a> {
-    /// The name whose groups the agent gets.
+    /// The group name for the crawler.
     name: &'n [u8],
     lines: LazyLines<'a>,
-    /// How many lines were passed.
+    /// How many lines were returned.
     position: usize,
     tracker: GroupTracker,
-    /// A user-agent line was passed.
+    /// Whether a user-agent line was returned.
     begun: bool,
-    /// Whether the first group line that is left, or one at the end, is captured, where that is known.
+    /// If known: whether the next group line applies to the crawler, or, if none is left, whether one at the end would.
     ahead: Option<bool>,
 }
 
@@ -69,7 +69,8 @@ impl<'n, 'a> Model for LabeledLineIter<'n, 'a> {
         × IfSome s.ahead (λ known. captured_ahead (str_to_ascii_lowercase s.name.now) s.tracker s.lines ≡ known) };
 }
 
-/// Where a line stands, by whether the next group line is captured and whether a user-agent line stood here or before.
+/// The membership of a line. `captured` states whether the next group line, which may be this one, applies to the
+/// crawler; `begun` whether this line or one above is a user-agent line.
 fn membership_of(captured: bool, begun: bool, line: Line<'_>) -> Membership
     ensures { result ≡ membership_by captured begun (by_value line.entry) }
 {
@@ -106,11 +107,11 @@ impl<'n, 'a> Iterator for LabeledLineIter<'n, 'a> {
     }
 }
 
-/// The lines of the file `txt`, all of its bytes, each with its number and its standing to the crawler that calls itself
-/// `agent`. It takes no memory, and there are no more lines than bytes.
+/// The lines of the file `txt`, each with its number and its membership for the crawler with the product token `agent`.
+/// It doesn't allocate, and there are no more lines than bytes.
 ///
-/// A robot reads the first [`FILE_LIMIT`](crate::robot::FILE_LIMIT) bytes: whoever sets these lines beside a robot's rules or
-/// decisions hands in the same beginning of the file.
+/// All bytes are read, while a robot reads the first [`FILE_LIMIT`](crate::robot::FILE_LIMIT). To compare these lines
+/// with the rules or decisions of a robot, pass the same first bytes of the file.
 pub fn labeled_lines<'n, 'a>(agent: &'n str, txt: &'a [u8]) -> LabeledLineIter<'n, 'a>
     ensures labels { result ≡ labels_of (group_name agent.now (file_lines txt.now)) (file_lines txt.now) }
     ensures count { length result ≤ length txt.now }
@@ -126,22 +127,22 @@ pub fn labeled_lines<'n, 'a>(agent: &'n str, txt: &'a [u8]) -> LabeledLineIter<'
     }
 }
 
-/// Whether a user-agent line of the file `txt` names the crawler that calls itself `agent`, ASCII letters in any case. A
-/// crawler that isn't named gets the groups of `*`, or in a file with no user-agent line all rules and delays. It takes no
-/// memory. All bytes are read, as by [`labeled_lines`].
+/// Whether a user-agent line of the file `txt` names the crawler with the product token `agent`, ASCII letters in any
+/// case. A crawler that isn't named gets the groups of `*`, or all rules and delays if the file has no user-agent line.
+/// It doesn't allocate. All bytes are read, as by [`labeled_lines`].
 pub fn is_named(agent: &str, txt: &[u8]) -> bool
     ensures { result ≡ is_named agent.now (file_lines txt.now) }
 {
     group_for(agent.as_bytes(), lazy_file_lines(txt)).is_named
 }
 
-/// The number of the first line that holds an overlong rule for the crawler that calls itself `agent`, if one does: the line
-/// for which a robot is refused with [`Error::InvalidRule`](crate::Error::InvalidRule). All bytes are read, as by
-/// [`labeled_lines`].
+/// The number of the first line with a rule that is too long, for the crawler with the product token `agent`, if there
+/// is one. For this line a robot of these bytes is rejected with [`Error::InvalidRule`](crate::Error::InvalidRule). All
+/// bytes are read, as by [`labeled_lines`].
 ///
 /// # Errors
 ///
-/// `AllocError` where memory is refused.
+/// `AllocError` if an allocation fails.
 pub fn first_overlong_line(
     alloc: Global,
     agent: &str,

@@ -1,4 +1,4 @@
-//! Bytes that are compared many at once.
+//! Comparisons of many bytes at once.
 ghost use Rattle.std.specs.Prelude.{◌≡◌, ◌==◌, if◌then◌else◌};
 ghost use Rattle.std.specs.List.{list_all};
 ghost use Rattle.std.specs.Int.{trailing_zeros, w64};
@@ -6,7 +6,7 @@ ghost use Rattle.std.specs.Int.{trailing_zeros, w64};
 /// How many bytes are compared at once.
 pub(crate) const LANES: usize = 32;
 
-/// The place of the mask's lowest bit that is set, or `lanes` where none is.
+/// The position of the lowest bit that is set in the mask, or `lanes` if none is.
 #[inline(always)]
 pub(crate) fn first_lane(mask: u64, lanes: usize) -> usize
     ensures { result ≡ (if mask == 0 then lanes else trailing_zeros w64 mask) }
@@ -18,7 +18,8 @@ pub(crate) fn first_lane(mask: u64, lanes: usize) -> usize
     }
 }
 
-/// Whether each byte is this one. All are tested, with no early exit, so that the compiler can test many at once.
+/// Whether each byte equals `byte`. It tests all bytes without an early exit, so that the compiler can vectorize the
+/// loop.
 pub(crate) fn all_are(bytes: &[u8], byte: u8) -> bool
     ensures { result ≡ list_all (λ b. b == byte) bytes.now }
 {

@@ -1,4 +1,4 @@
-//! Laws over the definitions, each the contract of a function that computes nothing.
+//! Theorems about the specification. Each is the contract of an empty function.
 ghost use Rattle.std.specs.Prelude.{◌≡◌, ◌≢◌, ◌<◌, ◌↔◌, ◌⊎◌, ℕ, Bool, true, false, not, List, [], ◌∷◌, ◌++◌};
 ghost use Rattle.std.specs.Prelude.{Any, ◌+◌, Option, Some, None, IsTrue, IsPermutation, codes, filter, length};
 ghost use Rattle.std.specs.declared.cmp.Ordering.TheVariants.{Less, Equal};
@@ -26,30 +26,30 @@ ghost use Rattle.texting_robots.specs.Internal.Site.{delay_of as tagged_delay, o
 ghost use Rattle.texting_robots.specs.Trim.{IsTrimOf};
 ghost use Rattle.texting_robots.specs.Verdict.{IsVerdict, robots_file};
 
-/// Every input has its lines, and every value in them is a range of its line's body, but for the `/` of an empty Disallow.
-/// Whoever shows values relies on it: they are bytes of the input.
+/// Every input has lines. Each value in them is a range of bytes of its line's content, except the `/` of an empty
+/// Disallow. Used by programs that show values: these are bytes of the input.
 pub fn parse_takes_all()
     ensures { (text : List ℕ) → (lines : List LineValue) × AreLinesOf lines text × HoldRangesOf lines text }
 {}
 
-/// Adding or removing `Raw` lines changes no rule, verdict, delay, sitemap or refusal.
-/// Site owners rely on it: a stray line reaches no crawler.
+/// Adding or removing ignored lines (`Raw`) changes no rule, verdict, delay, sitemap or rejection. So a stray line
+/// affects no crawler. It may change line numbers.
 pub fn raw_changes_nothing()
     ensures { (agent : List ℕ) (lines others : List LineValue)
         → filter (λ line. not (is_raw line)) lines ≡ filter (λ line. not (is_raw line)) others
         → Same agent lines agent others }
 {}
 
-/// Another value in an Allow or Disallow line that isn't captured changes no rule, verdict, delay, sitemap or refusal.
-/// Site owners rely on it: a line for one crawler reaches no other.
+/// Replacing an Allow with another Allow, or a Disallow with another Disallow, changes no rule, verdict, delay, sitemap
+/// or rejection for a crawler to which the line doesn't apply.
 pub fn uncaptured_reaches_nothing()
     ensures { (agent : List ℕ) (front back : List LineValue) (line other : LineValue) → IsSameKind line other
         → (let lines = front ++ line ∷ back in ¬ IsCaptured (group_name agent lines) lines (length front)
         → Same agent lines agent (front ++ other ∷ back)) }
 {}
 
-/// Sitemap lines change the sitemaps alone, and these are the same for every agent.
-/// A store that keeps one list of sitemaps a host relies on it.
+/// Sitemap lines affect only the sitemaps, and these are the same for every crawler. Used by stores that keep one list
+/// of sitemaps for each host.
 pub fn sitemaps_for_all()
     ensures others { (agent : List ℕ) (lines others : List LineValue)
         → filter (λ line. not (is_sitemap line)) lines ≡ filter (λ line. not (is_sitemap line)) others
@@ -58,15 +58,14 @@ pub fn sitemaps_for_all()
         → IsRobotOf agent lines robot → IsRobotOf other lines another → robot.sitemaps ≡ another.sitemaps }
 {}
 
-/// Reordering the rules changes no verdict.
-/// An audit that shows rules in an order of its own relies on it.
+/// Reordering the rules changes no verdict. Used by audits that show rules in another order.
 pub fn order_changes_nothing()
     ensures { (rules others : List Rule) (text : List ℕ) (answer : Bool) → IsPermutation rules others
         → IsVerdict rules text answer → IsVerdict others text answer }
 {}
 
-/// One more Disallow never turns a no into a yes, and one more Allow never a yes into a no.
-/// An audit that removes rules one by one relies on it.
+/// One more Disallow never makes a denied URL allowed, and one more Allow never makes an allowed URL denied. Used by
+/// audits that remove rules one at a time.
 pub fn one_more_rule()
     ensures disallow { (front back : List Rule) (pattern text : List ℕ) → IsVerdict (front ++ back) text false
         → IsVerdict (front ++ (pattern, false) ∷ back) text false }
@@ -74,8 +73,8 @@ pub fn one_more_rule()
         → IsVerdict (front ++ (pattern, true) ∷ back) text true }
 {}
 
-/// Collapsing runs of stars changes no match, and a rule's length is that before collapsing.
-/// An audit that shows collapsed patterns relies on it.
+/// Collapsing runs of stars doesn't change what a pattern matches. Which of two matching rules is longer is decided
+/// before collapsing. Used by audits that show collapsed patterns.
 pub fn collapse_keeps_meaning()
     ensures meaning { (anchors : Bool) (pattern text : List ℕ)
         → MatchesWith anchors (collapsed pattern) text ↔ MatchesWith anchors pattern text }
@@ -83,21 +82,20 @@ pub fn collapse_keeps_meaning()
         → IsVerdict ((deny, false) ∷ (allow, true) ∷ []) text false ↔ (length allow < length deny) }
 {}
 
-/// Agents that differ in ASCII letter case alone get the same rules, delay and sitemaps.
-/// A store that keeps one answer for an agent relies on it.
+/// Crawlers whose product tokens differ only in the case of ASCII letters get the same rules, delay and sitemaps. Used
+/// by stores that keep one result for such crawlers.
 pub fn agent_case()
     ensures { (agent other : List ℕ) (lines : List LineValue)
         → str_to_ascii_lowercase agent ≡ str_to_ascii_lowercase other → Same agent lines other lines }
 {}
 
-/// The text `/robots.txt` is always allowed.
-/// A crawler that reads a file anew relies on it.
+/// The match target `/robots.txt` is always allowed. Used by crawlers that fetch the file again.
 pub fn robots_file_allowed()
     ensures { (rules : List Rule) → IsVerdict rules robots_file true }
 {}
 
-/// Of two patterns exactly one holds: they are equal, the first is before the second, or the second before the first;
-/// and before is transitive. Ordered maps and sets of patterns rely on it.
+/// `IsBefore` is a strict total order: of two different patterns exactly one is before the other, no pattern is before
+/// itself, and the order is transitive. Used by ordered maps and sets of patterns.
 pub fn order_agrees()
     ensures one { (p q : List ℕ) → (p ≡ q) ⊎ (IsBefore p q ⊎ IsBefore q p) }
     ensures not_both { (p q : List ℕ) → IsBefore p q → ¬ IsBefore q p }
@@ -105,36 +103,38 @@ pub fn order_agrees()
     ensures transitive { (p q r : List ℕ) → IsBefore p q → IsBefore q r → IsBefore p r }
 {}
 
-/// LF in place of each CR LF leaves the lines as they are.
-/// Whoever shows lines with their place in the file relies on it.
+/// Replacing each CR LF with LF doesn't change the lines. Used by programs that show lines with their position in the
+/// file.
 pub fn cr_lf_is_lf()
     ensures { (text : List ℕ) (lines : List LineValue) → AreLinesOf lines (crlf_to_lf text) ↔ AreLinesOf lines text }
 {}
 
-/// Each text has one cut into bodies and line ends. Whoever reads the definition of lines relies on it.
+/// Each text has exactly one cut into line contents and terminators. So the specification of lines is unambiguous.
 pub fn each_text_has_one_cut()
     ensures { (text : List ℕ) → IsCut (cut text) text × ((pairs : List Pair) → IsCut pairs text → pairs ≡ cut text) }
 {}
 
-/// A body is a statement of one kind with one value at most. Whoever reads the definition of lines relies on it.
+/// The content of a line is a directive of at most one kind, with one value. So the specification of lines is
+/// unambiguous.
 pub fn one_statement_fits()
     ensures { (kind other : Kind) (value text body : List ℕ) → IsStatement kind value body
         → IsStatement other text body → (kind ≡ other) × (value ≡ text) }
 {}
 
-/// Each text names one delay or none, the one that `delay_of` computes. Whoever reads the definition of delays relies on it.
+/// Each text denotes exactly one delay or none, as `delay_of` computes it. So the specification of delays is
+/// unambiguous.
 pub fn each_text_has_one_delay()
     ensures { (text : List ℕ) (delay : Option ℕ) → IsDelay text delay ↔ delay ≡ delay_of text }
 {}
 
-/// Each text has one list of lines, the one that `parsed` computes. Whoever reads the contract of `robots_txt_parse` relies
-/// on it.
+/// Each text has exactly one list of lines, which `parsed` computes. So the contract of `robots_txt_parse` determines
+/// the lines.
 pub fn each_text_has_its_lines()
     ensures { (text : List ℕ) (lines : List LineValue) → AreLinesOf lines text ↔ lines ≡ parsed text }
 {}
 
-/// Each file has one list of lines, the one that `file_lines` computes. Whoever reads the contract of `allowed_in_file` or
-/// `Robot::new` relies on it.
+/// Each file has exactly one list of lines, which `file_lines` computes. So the lines in the contracts of
+/// `allowed_in_file` and `Robot::new` are determined.
 pub fn each_file_has_its_lines()
     ensures some { (text : List ℕ) → (lines : List LineValue) × AreFileLinesOf lines text }
     ensures one { (text : List ℕ) (lines others : List LineValue) → AreFileLinesOf lines text
@@ -142,35 +142,36 @@ pub fn each_file_has_its_lines()
     ensures computed { (text : List ℕ) (lines : List LineValue) → AreFileLinesOf lines text ↔ lines ≡ file_lines text }
 {}
 
-/// The test by which lists of captured lines are made says what the definition by places says. Whoever reads the contract of
-/// `Robot::new` relies on it.
+/// `is_captured`, which is a function, agrees with `IsCaptured`, which is a relation. It connects the computed lists of
+/// captured lines with the contract of `Robot::new`.
 #[tactic(auto, using(crate::proofs::CapturedLemmas::is_captured_decides))]
 pub fn captured_agrees()
     ensures { (name : List ℕ) (lines : List LineValue) (i : ℕ)
         → IsTrue (is_captured name lines i) ↔ IsCaptured name lines i }
 {}
 
-/// Each line has its mark, the one that `labels_of` computes. Whoever reads the contract of `labels::labeled_lines` relies on it.
+/// Each line has exactly one label, which `labels_of` computes. So the contract of `labels::labeled_lines`, which uses
+/// `labels_of`, agrees with `AreLabelsOf`.
 pub fn each_line_has_its_label()
     ensures { (name : List ℕ) (lines : List LineValue) (labels : List Label)
         → AreLabelsOf name lines labels ↔ labels ≡ labels_of name lines }
 {}
 
-/// The comparison of patterns that `cmp` and `partial_cmp` make says what the order says. Ordered maps and sets of patterns
-/// rely on it.
+/// The comparison of patterns by `cmp` and `partial_cmp` agrees with `IsBefore` and with equality. Used by ordered maps
+/// and sets of patterns.
 pub fn comparison_agrees()
     ensures less { (p q : List ℕ) → (pattern_cmp p q ≡ Less) ↔ IsBefore p q }
     ensures equal { (p q : List ℕ) → (pattern_cmp p q ≡ Equal) ↔ (p ≡ q) }
 {}
 
-/// At most one line decides on a text. Whoever reads the contract of `Robot::decision` relies on it.
+/// At most one line decides about a text. So the contract of `Robot::decision` determines the line.
 pub fn one_line_decides()
     ensures { (rules : List PlacedRule) (text : List ℕ) (line other : Option ℕ)
         → IsDecidingLine rules text line → IsDecidingLine rules text other → line ≡ other }
 {}
 
-/// The line that decides is captured, and is an Allow or a Disallow whose escaped value is the deciding pattern.
-/// Whoever shows a site owner why a URL is allowed or not relies on it.
+/// The deciding line applies to the crawler, and is an Allow or a Disallow whose escaped value is the deciding pattern.
+/// Used by programs that show a site owner why a URL is allowed or not.
 pub fn deciding_line_holds_its_rule()
     ensures { (agent : List ℕ) (lines : List LineValue) (rules : List PlacedRule) (text : List ℕ) (number : ℕ)
         → AreRulesFor agent lines rules → IsDecidingLine rules text (Some number)
@@ -178,8 +179,8 @@ pub fn deciding_line_holds_its_rule()
         × (position : ℕ) × (number ≡ position + 1) × HoldsRule agent lines position placed.rule }
 {}
 
-/// The line that decides gives the verdict: an Allow a yes, a Disallow a no; and where none decides, it is yes.
-/// Whoever shows a site owner why a URL is allowed or not relies on it.
+/// The deciding line determines the verdict: an Allow allows, and a Disallow denies. If no line decides, the verdict is
+/// "allowed". Used by programs that show a site owner why a URL is allowed or not.
 pub fn deciding_line_gives_the_verdict()
     ensures line { (agent : List ℕ) (lines : List LineValue) (rules : List PlacedRule) (text : List ℕ) (position : ℕ)
         (rule : Rule) → AreRulesFor agent lines rules → IsDecidingLine rules text (Some (position + 1))
@@ -188,8 +189,9 @@ pub fn deciding_line_gives_the_verdict()
         → IsVerdict (unplaced rules) text true }
 {}
 
-/// Lines hold one list of rules for an agent, in any order, and each order gives the same answers. `placed_rules` computes it, and
-/// from it whether the lines are refused. Whoever reads the contract of `allowed_in_file` or `Robot::new` relies on it.
+/// Lines have exactly one list of rules for a crawler, up to order, and the order changes no result. `placed_rules`
+/// computes the list, which also determines whether the lines are rejected. So the rules in the contracts of
+/// `allowed_in_file` and `Robot::new` are determined up to order.
 pub fn each_agent_has_its_rules()
     ensures some { (agent : List ℕ) (lines : List LineValue) → (rules : List PlacedRule) × AreRulesFor agent lines rules }
     ensures one { (agent : List ℕ) (lines : List LineValue) (rules others : List PlacedRule)
@@ -202,20 +204,21 @@ pub fn each_agent_has_its_rules()
         → IsRejected agent lines ↔ Any (λ (rule : Rule). IsOverlong rule.0) (rules_for agent lines) }
 {}
 
-/// Lines give an agent one delay or none, the one that `delay_for` computes. Whoever reads the contract of `Robot::new` relies on
-/// it.
+/// Lines have exactly one delay for a crawler, or none, as `delay_for` computes it. So the contract of `Robot::new`
+/// determines the delay.
 pub fn each_agent_has_its_delay()
     ensures { (agent : List ℕ) (lines : List LineValue) (delay : Option ℕ)
         → IsDelayFor agent lines delay ↔ delay ≡ delay_for agent lines }
 {}
 
-/// Lines list the sitemaps that `sitemaps_in` computes, and no others. Whoever reads the contract of `Robot::new` relies on it.
+/// Lines have exactly one list of sitemaps, which `sitemaps_in` computes. So the contract of `Robot::new` determines
+/// the sitemaps.
 pub fn each_file_has_its_sitemaps()
     ensures { (lines : List LineValue) (sitemaps : List (List ℕ))
         → AreSitemapsOf lines sitemaps ↔ sitemaps ≡ sitemaps_in lines }
 {}
 
-/// Worked examples of lines, each a theorem. Whoever reads the definitions sees in `specs/Examples.antt` what they come to.
+/// Worked examples of lines, each a theorem. `specs/Examples.antt` shows by them what the specification means.
 pub fn examples_of_lines()
     ensures line_ends { example.line_ends }
     ensures lf_before_cr { example.lf_before_cr }
@@ -280,7 +283,7 @@ pub fn examples_of_verdicts()
     ensures empty_allow { example.empty_allow }
 {}
 
-/// Worked examples of prepared texts and of the addresses of robots files.
+/// Worked examples of match targets and of addresses of robots.txt files.
 pub fn examples_of_urls()
     ensures prepared_url { example.prepared_url }
     ensures prepared_path { example.prepared_path }
@@ -289,15 +292,16 @@ pub fn examples_of_urls()
     ensures no_address { example.no_address }
 {}
 
-/// One file from its bytes to its answers.
+/// One file, from its bytes to verdicts.
 pub fn example_of_a_file()
     ensures lines { example.lines }
     ensures robot { example.robot }
     ensures answers { example.answers }
 {}
 
-/// In a file with user-agent lines an agent's rules and delays are those that stand below the runs of user-agent lines in which
-/// one has its group's name, in the file's order. Whoever reads the contract of `Site::robot` relies on it.
+/// If a file has user-agent lines, the rules and delays that apply to a crawler are those below the runs of user-agent
+/// lines that contain its group name, in file order. It connects the index of a `Site` with the contract of
+/// `Site::robot`.
 #[tactic(auto, using(crate::proofs::SiteLemmas::rules_of_runs, crate::proofs::SiteLemmas::delays_of_runs))]
 pub fn captured_by_runs()
     ensures rules { (agent : List ℕ) (lines : List LineValue) → list_any is_agent lines ≡ true
@@ -306,8 +310,8 @@ pub fn captured_by_runs()
         → captured_delays agent lines ≡ filter_map tagged_delay (own_tagged (group_name agent lines) lines) }
 {}
 
-/// Agents whose groups have the same name have the same robot.
-/// Whoever keeps one robot for all agents that a file doesn't name relies on it.
+/// Crawlers with the same group name have the same robots. Used by callers that keep one robot for all crawlers that a
+/// file doesn't name.
 #[tactic(auto, using(crate::proofs::SiteOwnLemmas::same_robot))]
 pub fn one_robot_a_group()
     ensures { (agent other : List ℕ) (lines : List LineValue) (robot : RobotValue)

@@ -1,11 +1,12 @@
-//! Reads the bytes of a robots.txt file for one crawler, and says which URLs that crawler may fetch, how long it waits
-//! between two requests, and which sitemaps the file lists. It has the behaviour of the Rust crate `texting_robots`, which
-//! follows Google's reading of the Robots Exclusion Protocol (RFC 9309); `docs/COMPATIBILITY.md` lists where it departs.
+//! Reads a robots.txt file for one crawler, and determines which URLs the crawler may fetch, how long it has to wait
+//! between two requests, and which sitemaps the file lists. It is an independent rewrite of the Rust crate
+//! `texting_robots`, which follows Google's interpretation of the Robots Exclusion Protocol (RFC 9309).
+//! `docs/COMPATIBILITY.md` lists the differences.
 //!
-//! [`Robot`] is the way in: `Robot::new` reads a file for an agent, and `allowed` answers for a URL. [`Site`] reads a file once
-//! for many agents, and `Site::robot` gives the same robots. [`allowed_in_file`] reads a file and asks about one text, and its
-//! contract is the theorem that the library exists for. [`get_robots_url`] says where the file of a site stands. [`parser`],
-//! [`minregex`] and [`view`] are the layers below.
+//! Start with [`Robot`]: `Robot::new` reads a file for a crawler, and `allowed` decides about a URL. [`Site`] reads a
+//! file once for many crawlers, and `Site::robot` makes the same robots. [`allowed_in_file`] reads a file and decides
+//! about one match target; its contract is the main theorem of the library. [`get_robots_url`] returns the address of a
+//! site's file. [`parser`], [`minregex`] and [`view`] are the layers below.
 //!
 //! ```
 //! use std::alloc::Global;
@@ -23,9 +24,9 @@
 //! }
 //! ```
 //!
-//! A call that may have to take memory is handed an allocator, but for [`push_escaped_bytes`], and answers a `Result`. 'Want of
-//! memory' is an allocation failure: the allocator refused, and the call answers `Error::Memory` in place of ending the process.
-//! Its other errors stand under 'Errors' at each call.
+//! A call that may allocate takes an allocator, except [`push_escaped_bytes`], which uses that of its string. It
+//! returns a `Result`: if an allocation fails, it returns an error, usually `Error::Memory`, and doesn't end the
+//! process. Each call lists its other errors under 'Errors'.
 #![tactic(auto)]
 
 pub mod address;

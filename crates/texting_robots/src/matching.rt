@@ -1,4 +1,4 @@
-//! Whether a pattern matches a text: its pieces are found one after the other.
+//! Whether a pattern matches a text: its segments are searched for from left to right.
 ghost use Rattle.std.specs.Prelude.{◌≡◌, ◌*◌, ◌↔◌, [], IsTrue, length};
 ghost use Rattle.texting_robots.specs.Pattern.{Matches};
 ghost use Rattle.texting_robots.specs.Internal.Haystack.{PassesTo};
@@ -9,7 +9,7 @@ use crate::haystack::Haystack;
 use crate::segments::{Ending, Pattern};
 
 impl<'a> Pattern<'a> {
-    /// Whether the pattern matches the text, or a beginning of it.
+    /// Whether the pattern matches from the start of the text. It needn't match up to the end.
     pub(crate) fn matches<A: Haystack>(&self, haystack: &mut A) -> bool
         ensures answer { IsTrue result ↔ Matches self.now (A.seen haystack.old).text }
         ensures looks { LooksAtMost (A.seen haystack.old) (A.seen haystack.new) (2 * length (A.seen haystack.old).text) }
@@ -29,7 +29,7 @@ impl<'a> Pattern<'a> {
     }
 }
 
-/// Whether what is left of the text is as the ending says.
+/// Whether what is left of the text fits the ending of the pattern.
 fn ends_as<A: Haystack>(haystack: &mut A, rest: A::Rest, pattern: &[u8], ending: Ending) -> bool
     requires rest { A.is_rest rest (A.seen haystack.old).text }
     requires ending { IsEnding pattern.now ending }

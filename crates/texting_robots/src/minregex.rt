@@ -1,4 +1,4 @@
-//! Patterns of rules: `*` stands for any bytes, and `$` for the end of the text.
+//! Patterns of rules: `*` matches any bytes, and `$` matches at the end of the text.
 ghost use Rattle.std.specs.Prelude.{◌≡◌, ◌≢◌, ◌+◌, ◌*◌, ◌≤◌, ◌↔◌, ◌==◌, IsTrue, IfErr, IfOk, IsErrOf, OnOk, length, string_bytes};
 ghost use Rattle.std.specs.Cmp.{partial_order_from_own_ties};
 ghost use Rattle.std.specs.Cmp.Lexicographic.{pointwise};
@@ -21,7 +21,8 @@ use std::cmp::Ordering;
 use std::fmt::{self, Debug, Formatter};
 use std::marker::Model;
 
-/// A pattern, ready to be matched. It is compared by its bytes before collapsing: the longer first, then by bytes.
+/// A pattern, ready for matching. Patterns are compared by their bytes before collapsing: the longer one is first, and
+/// patterns of the same length are ordered by bytes.
 #[derive(Drop)]
 pub struct MinRegex {
     pattern: String,
@@ -45,12 +46,12 @@ impl Model for MinRegex {
 }
 
 impl MinRegex {
-    /// Takes a pattern, which isn't escaped here.
+    /// Makes a pattern of these bytes. They aren't escaped here.
     ///
     /// # Errors
     ///
-    /// `Error::InvalidRule` where it holds `$` and has more than 4,096 bytes, each run of stars counted as one.
-    /// `Error::Memory` where memory is refused.
+    /// `Error::InvalidRule` if the pattern contains `$` and has more than 4,096 bytes, each run of stars counted as
+    /// one. `Error::Memory` if an allocation fails.
     pub fn new(alloc: Global, pattern: &str) -> Result<Self, Error>
         ensures ok { IfOk result (λ regex. regex ≡ pattern.now) }
         ensures accepted { OnOk result (¬ IsOverlong pattern.now) }
@@ -77,7 +78,7 @@ impl MinRegex {
     ///
     /// # Errors
     ///
-    /// `Error::Memory` where memory is refused.
+    /// `Error::Memory` if an allocation fails.
     pub fn clone(&self, alloc: Global) -> Result<Self, Error>
         ensures ok { IfOk result (λ regex. regex ≡ self.now) }
         ensures memory { IfErr result (λ e. e ≡ Error.Memory) }
@@ -91,8 +92,8 @@ impl MinRegex {
         })
     }
 
-    /// Whether the pattern matches the view's text, or a beginning of it. It takes no memory, and at most twice the text's
-    /// length of looks.
+    /// Whether the pattern matches from the start of the view's text. It needn't match up to the end. It doesn't
+    /// allocate, and takes at most 2 × (length of the text) looks.
     pub fn matches_view(&self, view: &mut View<'_>) -> bool
         ensures answer { IsTrue result ↔ Matches self.now view.old.text }
         ensures looks { LooksAtMost view.old view.new (2 * length view.old.text) }
@@ -100,7 +101,7 @@ impl MinRegex {
         self.as_pattern().matches(view)
     }
 
-    /// The pattern, lent with its pieces.
+    /// The pattern, borrowed with its segments.
     fn as_pattern(&self) -> Pattern<'_>
         ensures { result ≡ self.now }
     {
@@ -112,7 +113,7 @@ impl MinRegex {
         )
     }
 
-    /// Whether the pattern matches the text, or a beginning of it. It takes no memory.
+    /// Whether the pattern matches from the start of the text. It needn't match up to the end. It doesn't allocate.
     pub fn is_match(&self, text: &str) -> bool
         ensures { IsTrue result ↔ Matches self.now text.now }
     {
@@ -120,8 +121,8 @@ impl MinRegex {
             .matches(&mut Uncounted::new(text.as_bytes()))
     }
 
-    /// Whether the pattern handed in matches the text, with `$` as an ordinary byte. The object plays no part. It takes no
-    /// memory.
+    /// Whether the argument `pattern`, with `$` as an ordinary byte, matches from the start of the text. `self` isn't
+    /// used. It doesn't allocate.
     pub fn match_stars(&self, pattern: &[u8], text: &[u8]) -> bool
         ensures { IsTrue result ↔ MatchesStars pattern.now text.now }
     {
@@ -140,7 +141,7 @@ impl MinRegex {
         true
     }
 
-    /// The pattern with one star in place of each run of stars.
+    /// The pattern, collapsed: with one star in place of each run of stars.
     pub fn as_str(&self) -> &str
         ensures { result.now ≡ collapsed self.now }
     {
@@ -198,7 +199,7 @@ impl PartialOrd for MinRegex {
     }
 }
 
-/// The longer first, and of two as long the one with the smaller bytes.
+/// A longer pattern is first. Patterns of the same length are ordered by their bytes.
 fn order(left: &MinRegex, right: &MinRegex) -> Ordering
     ensures { result ≡ pattern_cmp left.now right.now }
 {
@@ -209,7 +210,7 @@ fn order(left: &MinRegex, right: &MinRegex) -> Ordering
         .then(left.pattern.as_bytes().cmp(right.pattern.as_bytes()))
 }
 
-/// The pattern with one star in place of each run of stars.
+/// The pattern, collapsed: with one star in place of each run of stars.
 fn collapse_stars(alloc: Global, pattern: &str) -> Result<String, AllocError>
     ensures { IfOk result (λ text. string_bytes text ≡ collapsed pattern.now) }
 {
@@ -226,7 +227,7 @@ fn collapse_stars(alloc: Global, pattern: &str) -> Result<String, AllocError>
     Ok(text)
 }
 
-/// What stands before the first star, and what follows that star, if there is one.
+/// What precedes the first star, and what follows it, if there is one.
 fn cut_at_star(pattern: &[u8]) -> (&[u8], Option<&[u8]>)
     ensures { IsCutAtStar pattern.now result.0.now result.1 }
 {

@@ -1,4 +1,5 @@
-//! Whole URLs that the URL parser would leave as they are: the text that rules are matched with stands at their end.
+//! Absolute URLs that the crate `url` would leave unchanged. Their match target is their last part, so it can be
+//! borrowed.
 ghost use Rattle.std.specs.Prelude.{◌≡◌, ◌<◌, ◌≤◌, ◌≢◌, ◌↔◌, ℕ, List, drop, false, true, length, map, slice_index};
 ghost use Rattle.std.specs.Prelude.{IfSome, IsSome, IsSomeAnd, IsTrue, decimal, option_map};
 ghost use Rattle.std.specs.Char.{is_ascii_lowercase};
@@ -12,8 +13,9 @@ ghost use Rattle.texting_robots.specs.Internal.Normalized.{EndsPath, IsOther, Le
 
 use std::simd::prelude::*;
 
-/// The upper halves of the bytes of ASCII, each a bit. A part is a table: at the lower half of a byte it has the bits of the upper
-/// halves with which the byte stands as it is.
+/// One bit for each upper half of an ASCII byte. The tables below are sets of bytes that `url` leaves unchanged in a
+/// part of a URL. A table is indexed by the lower half of a byte, and has the bits of those upper halves with which the
+/// byte is in the set.
 const UPPER: &[u8; 16] = &[1, 2, 4, 8, 16, 32, 64, 128, 0, 0, 0, 0, 0, 0, 0, 0];
 
 const NAME: &[u8; 16] = &[
@@ -24,7 +26,7 @@ const SEGMENT: &[u8; 16] = &[
     184, 252, 248, 248, 252, 252, 252, 252, 252, 252, 252, 124, 212, 124, 212, 112,
 ];
 
-/// What stands in a segment but dots and escapes, and slashes.
+/// The bytes of `SEGMENT` without `.` and `%`, but with `/`.
 const OPEN: &[u8; 16] = &[
     184, 252, 248, 248, 252, 248, 252, 252, 252, 252, 252, 124, 212, 124, 208, 116,
 ];
@@ -39,7 +41,7 @@ const FRAGMENT: &[u8; 16] = &[
 
 const NUMBER: &[u8; 16] = &[8, 8, 8, 8, 8, 8, 8, 8, 8, 8, 0, 0, 0, 0, 0, 0];
 
-/// What a table has at each of the places.
+/// The elements of a table at these indexes.
 fn looked_up(table: &[u8; 16], places: u8x16) -> u8x16
     requires { Each1 (λ k. k < 16) places }
     ensures { result ≡ map (slice_index table.now) places }
@@ -47,7 +49,7 @@ fn looked_up(table: &[u8; 16], places: u8x16) -> u8x16
     u8x16::from_array(*table).swizzle_dyn_within::<16>(places)
 }
 
-/// How many of sixteen bytes stand in such a part before one that doesn't.
+/// How many of sixteen bytes are in the set before the first one that isn't.
 fn prefix_len_in_sixteen(part: &[u8; 16], bytes: u8x16) -> usize
     ensures { result ≡ prefix_len (is_kept part.now) bytes }
 {
@@ -61,7 +63,7 @@ fn prefix_len_in_sixteen(part: &[u8; 16], bytes: u8x16) -> usize
     }
 }
 
-/// The same of a text of fewer bytes. It is a call of its own, so that where it isn't needed there is no room made for the bytes.
+/// The same for fewer bytes. It isn't inlined, so that the buffer for the bytes is only needed if it is called.
 #[inline(never)]
 fn front_len(part: &[u8; 16], text: &[u8]) -> usize
     requires { length text.now < 16 }
@@ -73,7 +75,7 @@ fn front_len(part: &[u8; 16], text: &[u8]) -> usize
     prefix_len_in_sixteen(part, u8x16::from_array(bytes)).min(text.len())
 }
 
-/// What follows the bytes at the front that stand in such a part.
+/// What follows the leading bytes that are in the set.
 #[tactic(auto, using(crate::proofs::WholeLemmas::after_few, crate::proofs::WholeLemmas::after_all))]
 fn after<'a>(part: &[u8; 16], text: &'a [u8]) -> &'a [u8]
     ensures { result.now ≡ after part.now text.now }
@@ -89,7 +91,7 @@ fn after<'a>(part: &[u8; 16], text: &'a [u8]) -> &'a [u8]
     &rest[front_len(part, rest)..]
 }
 
-/// The bytes at the front that stand in such a part, and what follows them.
+/// The leading bytes that are in the set, and what follows them.
 fn split<'a>(part: &[u8; 16], text: &'a [u8]) -> (&'a [u8], &'a [u8])
     ensures front { result.0.now ≡ kept_prefix part.now text.now }
     ensures rest { result.1.now ≡ after part.now text.now }
@@ -98,7 +100,7 @@ fn split<'a>(part: &[u8; 16], text: &'a [u8]) -> (&'a [u8], &'a [u8])
     (&text[..text.len() - rest.len()], rest)
 }
 
-/// The label behind the last dot.
+/// The label after the last dot of a host.
 fn last_label(host: &[u8]) -> &[u8]
     ensures { result.now ≡ (rsplit_once 46 host.now).1 }
 {
@@ -108,7 +110,7 @@ fn last_label(host: &[u8]) -> &[u8]
     }
 }
 
-/// Whether the text begins with a small letter.
+/// Whether the text begins with a lowercase ASCII letter.
 fn begins_with_letter(text: &[u8]) -> bool
     ensures { result ≡ is_ascii_lowercase (slice_index text.now 0) }
 {
@@ -118,7 +120,7 @@ fn begins_with_letter(text: &[u8]) -> bool
     }
 }
 
-/// Whether the digits have no sign, and a zero in front only where it stands alone.
+/// Whether the digits have no leading `+`, and no leading zero except in a single `0`.
 fn begins_plainly(digits: &[u8]) -> bool
     ensures { result ≡ begins_plainly digits.now }
 {
@@ -128,7 +130,7 @@ fn begins_plainly(digits: &[u8]) -> bool
     }
 }
 
-/// Whether these are the digits of such an own port of a scheme, which is told without reading a number.
+/// Whether these are the digits of a scheme's default port, `own`, if that is 443 or 80. It doesn't parse a number.
 fn is_own(own: u16, digits: &[u8]) -> bool
     ensures { IsTrue result → digits.now ≡ decimal own }
 {
@@ -139,8 +141,8 @@ fn is_own(own: u16, digits: &[u8]) -> bool
     }
 }
 
-/// Whether these are the digits of a port that isn't the scheme's own, as a port is written: with no zero in front. Few URLs have
-/// one, so it is a call of its own too.
+/// Whether these are the digits of a port that isn't the default one, `own`, as `url` writes a port: without leading
+/// zeros. Few URLs have a port, so it isn't inlined either.
 #[inline(never)]
 fn is_port(own: u16, digits: &[u8]) -> bool
     ensures { IsTrue result ↔ IsOther own digits.now }
@@ -157,7 +159,7 @@ fn is_port(own: u16, digits: &[u8]) -> bool
     }
 }
 
-/// What follows a port that isn't the scheme's own, or no port.
+/// What follows a port that isn't the default one, `own`, or a missing port.
 fn after_port(own: u16, text: &[u8]) -> Option<&[u8]>
     ensures some { IfSome result (λ rest. Leaves (IsPort own) text.now rest.now) }
     ensures whole { (rest : List ℕ) → EndsSite rest → Leaves (IsPort own) text.now rest
@@ -201,7 +203,7 @@ fn after_site(url: &[u8]) -> Option<&[u8]>
     }
 }
 
-/// How long the dot at the front or its escape is.
+/// How many bytes a leading dot or escaped dot has, or 0 if there is none.
 fn dot_len(text: &[u8]) -> usize
     ensures value { result ≡ dot_len text.now }
     ensures within { result ≤ length text.now }
@@ -213,7 +215,7 @@ fn dot_len(text: &[u8]) -> usize
     }
 }
 
-/// Whether the segment is one dot or two, each written as it is or escaped.
+/// Whether the segment consists of one or two dots, each of which may be escaped.
 #[tactic(auto, unfolding(url::specs::Path::dot_count))]
 fn is_dots(segment: &[u8]) -> bool
     ensures { IsTrue result ↔ (dot_count segment.now ≢ 0) }
@@ -233,7 +235,7 @@ fn begins_dotted(text: &[u8]) -> bool
     }
 }
 
-/// What follows the segments at the front that begin with no dot and no escape.
+/// Skips leading segments of a path that begin with neither a dot nor an escape. What follows the path stays the same.
 #[inline(always)]
 fn after_plain(text: &[u8]) -> &[u8]
     ensures passed { past_path text.now ≡ past_path result.now }
@@ -255,14 +257,14 @@ fn after_plain(text: &[u8]) -> &[u8]
     }
 }
 
-/// What follows a path, unless a segment of it is `.` or `..`.
+/// What follows a path, or `None` if a segment of it is `.` or `..`, where each dot may be escaped.
 fn after_path(text: &[u8]) -> Option<&[u8]>
     ensures { past_path text.now ≡ option_map (λ rest. rest.now) result }
 {
     let mut rest = after_plain(text);
     while let [b'/', following @ ..] = rest {
         if begins_dotted(following) {
-            // the dot segment that is met most, without a look-up
+            // a shortcut for `..`, without the tables
             if let [b'.', b'.', b'/', ..] = following {
                 return None;
             }
@@ -278,7 +280,8 @@ fn after_path(text: &[u8]) -> Option<&[u8]>
     Some(rest)
 }
 
-/// What follows a mark and the bytes behind it that stand in such a part, or all of the text where the mark isn't first.
+/// What follows the delimiter and the bytes after it that are in the set, or all of the text if the delimiter isn't its
+/// first byte.
 fn after_delimited<'a>(delimiter: u8, part: &[u8; 16], text: &'a [u8]) -> &'a [u8]
     ensures { result.now ≡ after_delimited delimiter part.now text.now }
 {
@@ -288,7 +291,7 @@ fn after_delimited<'a>(delimiter: u8, part: &[u8; 16], text: &'a [u8]) -> &'a [u
     }
 }
 
-/// Whether the text is a path, a query and a fragment that stand as they are.
+/// Whether the text is a path, a query and a fragment that `url` leaves unchanged.
 fn is_target(text: &[u8]) -> bool
     ensures { IsTrue result ↔ IsTarget text.now }
 {
@@ -299,8 +302,8 @@ fn is_target(text: &[u8]) -> bool
     after_delimited(b'#', FRAGMENT, fragment).is_empty()
 }
 
-/// The path of a whole URL, its query and its fragment, where `url` would leave all of the URL as it is; `/` where only the slash
-/// of the path is missing.
+/// The path, query and fragment of an absolute URL that `url` would leave unchanged, or `/` if only the slash of the
+/// path is missing.
 pub(crate) fn borrowed_target(url: &str) -> Option<&str>
     ensures text { IfSome result (λ target. target.now ≡ prepared url.now) }
     ensures plain { IsNormalizedUrl url.now → IsSome result }

@@ -1,4 +1,4 @@
-//! One question about one file, for one crawler.
+//! One verdict by one file, for one crawler. The contract is the main theorem.
 ghost use Rattle.std.specs.Prelude.{◌≡◌, ℕ, IfErr, IsOk, List, take};
 ghost use Rattle.texting_robots.specs.MainTheorem.{IsAnswerOf};
 ghost use Rattle.texting_robots.specs.Rules.{AreRulesFor};
@@ -11,14 +11,14 @@ use crate::robot::Robot;
 use crate::view::View;
 use std::alloc::Global;
 
-/// Whether the crawler that calls itself `agent` may fetch what a view's prepared text stands for, by the first
-/// [`FILE_LIMIT`](crate::robot::FILE_LIMIT) bytes of the file `txt`.
+/// Whether the crawler with the product token `agent` may fetch the URL whose match target is the text of the view,
+/// according to the first [`FILE_LIMIT`](crate::robot::FILE_LIMIT) bytes of the file `txt`.
 ///
-/// It is [`Robot::new`] and [`Robot::allowed_view`] in one call; who asks more than once keeps the robot.
+/// It is [`Robot::new`] and [`Robot::allowed_view`] in one call. To query a file more than once, keep the robot.
 ///
 /// # Errors
 ///
-/// As [`Robot::new`].
+/// As for [`Robot::new`].
 pub fn allowed_in_file(
     alloc: Global,
     agent: &str,

@@ -1,4 +1,4 @@
-//! The lines of a robots.txt file.
+//! The lines of a robots.txt file. The content of a line is its bytes without the line terminator.
 ghost use Rattle.std.specs.Prelude.{◌≡◌, ◌⊎◌, ◌<◌, ◌≤◌, ◌++◌, ◌∷◌, IfErr, IfOk, None, Some, false, length, map, option_map};
 ghost use Rattle.std.specs.Prelude.{ℕ, List};
 ghost use Rattle.std.specs.Iterator.{YieldsFirst, YieldsFirstBy, item_count};
@@ -27,25 +27,26 @@ use statement::{kind_by, skip_blanks, tail_as, value_of};
 use std::alloc::{AllocError, Global};
 use std::marker::Model;
 
-/// A line of a file. A value is what stands between the separator and the comment, trimmed of Unicode's white space.
+/// A line of a file. A value is what is between the separator and the comment, without Unicode white space at both
+/// ends.
 #[derive(Clone, Copy, PartialEq, Eq, Debug)]
 pub enum Line<'a> {
-    /// A crawler that the group is for, or `*`.
+    /// The name of a crawler that the group is for, or `*`.
     UserAgent(&'a [u8]),
-    /// A pattern of what may be fetched. A Disallow with no value is one too, of `/`.
+    /// A pattern of what may be fetched. A Disallow with an empty value is an Allow of `/`.
     Allow(&'a [u8]),
     /// A pattern of what may not be fetched.
     Disallow(&'a [u8]),
     /// The address of a sitemap.
     Sitemap(&'a [u8]),
-    /// How many microseconds a crawler waits between two requests. The parser always gives a number.
+    /// How many microseconds a crawler has to wait between two requests. The parser never returns `None` here.
     CrawlDelay(Option<u64>),
-    /// All else: the whole line without its end.
+    /// Any other line: its whole content.
     Raw(&'a [u8]),
 }
 
 impl<'a> Line<'a> {
-    /// The bytes that the line holds: its value, or the whole line where it is `Raw`. A delay has a number in place of bytes.
+    /// The bytes that the line has: its value, or its whole content if it is `Raw`. A delay has a number and no bytes.
     pub fn value(self) -> Option<&'a [u8]>
         ensures { option_map (λ value. value.now) result ≡ value_in (by_value self.entry) }
     {
@@ -59,7 +60,7 @@ impl<'a> Line<'a> {
         }
     }
 
-    /// Whether it is an Allow, a Disallow or a delay.
+    /// Whether it is an Allow, a Disallow or a Crawl-delay.
     pub(crate) fn is_group(self) -> bool
         ensures { result ≡ is_group (by_value self.entry) }
     {
@@ -70,13 +71,13 @@ impl<'a> Line<'a> {
     }
 }
 
-/// A line that is cut out and not read yet. The first letter of its key tells of which kind alone it may be.
+/// A line that is cut out and not parsed yet. The first letter of its field name determines which directive it may be.
 #[derive(Drop)]
 pub(crate) struct LazyLine<'a> {
     body: &'a [u8],
-    /// The body without the blanks at its front.
+    /// The content without leading spaces and tabs.
     text: &'a [u8],
-    /// The kind whose keys begin with the first letter of the text.
+    /// The kind of directive whose field names begin with the first letter of `text`.
     kind: Option<Kind>,
 }
 
@@ -94,7 +95,7 @@ impl<'a> Model for LazyLine<'a> {
 }
 
 impl<'a> LazyLine<'a> {
-    /// The line of a body.
+    /// The line with this content.
     #[inline(always)]
     pub(crate) fn new(body: &'a [u8]) -> Self
         ensures { result ≡ line_of body.now }
@@ -107,7 +108,7 @@ impl<'a> LazyLine<'a> {
         }
     }
 
-    /// The kind that it may be of. It is of no other, whatever follows the first letter of its key.
+    /// The only kind of directive that the line may be. It may also be none.
     #[inline(always)]
     pub(crate) fn kind(&self) -> Option<Kind>
         ensures agent { (result ≡ Some Kind.UserAgent) ⊎ (is_agent self.now ≡ false) }
@@ -117,7 +118,7 @@ impl<'a> LazyLine<'a> {
         self.kind
     }
 
-    /// Whether it is a user-agent line that names the agent.
+    /// Whether it is a user-agent line that names the crawler.
     #[tactic(auto, using(crate::proofs::AgentLemmas::no_agent, crate::proofs::NameLemmas::tested_names))]
     fn names(&self, agent: &[u8]) -> bool
         ensures { result ≡ is_agent_named (str_to_ascii_lowercase agent.now) self.now }
@@ -131,7 +132,7 @@ impl<'a> LazyLine<'a> {
         }
     }
 
-    /// The line, read.
+    /// Parses the line.
     #[tactic(auto, using(crate::proofs::LineLemmas::line_read, crate::proofs::LineLemmas::line_without_tail, crate::proofs::LineLemmas::line_without_kind))]
     #[inline(always)]
     pub(crate) fn read(&self) -> Line<'a>
@@ -147,7 +148,8 @@ impl<'a> LazyLine<'a> {
     }
 }
 
-/// The first line of a text that isn't empty, without its end, and what follows it.
+/// The content of the first line of a text that isn't empty, and what follows the line terminator. `nul_ends`
+/// determines whether NUL is read as LF.
 #[inline(always)]
 pub(crate) fn split_line<'a>(text: &'a [u8], nul_ends: bool) -> (&'a [u8], &'a [u8])
     requires { 0 < length text.now }
@@ -159,7 +161,7 @@ pub(crate) fn split_line<'a>(text: &'a [u8], nul_ends: bool) -> (&'a [u8], &'a [
     (body, after_end(after, nul_ends))
 }
 
-/// An iterator over the bodies of a file's lines, which takes no memory.
+/// An iterator over the contents of a file's lines. It doesn't allocate.
 #[derive(Drop)]
 pub struct BodyIter<'a> {
     rest: &'a [u8],
@@ -193,7 +195,7 @@ impl<'a> Iterator for BodyIter<'a> {
     }
 }
 
-/// An iterator over the lines of a text, none of them read to its value.
+/// An iterator over the lines of a text, which doesn't parse them.
 #[derive(Drop)]
 pub(crate) struct LazyLines<'a> {
     bodies: BodyIter<'a>,
@@ -210,7 +212,8 @@ impl<'a> Model for LazyLines<'a> {
 }
 
 impl<'a> LazyLines<'a> {
-    /// Whether one of the lines names the agent. Lines of other kinds are passed over together.
+    /// Whether one of the lines names the crawler. Lines that can't be user-agent lines are skipped many bytes at a
+    /// time.
     pub(crate) fn name_agent(&self, agent: &[u8]) -> bool
         ensures { result ≡ is_named agent.now self.now }
     {
@@ -226,7 +229,7 @@ impl<'a> LazyLines<'a> {
         false
     }
 
-    /// The lines that are left, once more.
+    /// The lines that are left, for another pass.
     pub(crate) fn again(&self) -> Self
         ensures { result ≡ self.now }
     {
@@ -253,7 +256,7 @@ impl<'a> Iterator for LazyLines<'a> {
     }
 }
 
-/// An iterator over the lines of a text, which takes no memory.
+/// An iterator over the lines of a text. It doesn't allocate.
 #[derive(Drop)]
 pub struct LineIter<'a> {
     lazy: LazyLines<'a>,
@@ -280,7 +283,7 @@ impl<'a> Iterator for LineIter<'a> {
     }
 }
 
-/// The text without EF where it begins with it, then without BB, then without BF, each where it then stands first.
+/// The text without a byte order mark: without a leading EF, then without a leading BB, then without a leading BF.
 pub(crate) fn without_front<'a>(text: &'a [u8]) -> &'a [u8]
     ensures value { result.now ≡ without_front text.now }
     ensures end { (front : List ℕ) × (text.now ≡ front ++ result.now) }
@@ -290,7 +293,8 @@ pub(crate) fn without_front<'a>(text: &'a [u8]) -> &'a [u8]
     text.strip_prefix(b"\xBF").unwrap_or(text)
 }
 
-/// The lines of a text, one after the other. It takes no memory, and after `None` there is nothing more.
+/// The lines of a text, in order. NUL isn't a line terminator here, unlike in [`file_lines`]. It doesn't allocate.
+/// After `None` it returns no more lines.
 #[tactic(auto, using(crate::proofs::LineLemmas::lines_are, crate::proofs::LineLemmas::lines_range))]
 pub fn lines<'a>(input: &'a [u8]) -> LineIter<'a>
     ensures value { result ≡ parsed input.now }
@@ -308,8 +312,8 @@ pub fn lines<'a>(input: &'a [u8]) -> LineIter<'a>
     }
 }
 
-/// The bodies of a file's lines: each of the lines that [`file_lines`] gives, as it stands and without its end. They are slices
-/// of `input`, and hold no CR, LF or NUL. It takes no memory.
+/// The contents of a file's lines, one for each line of [`file_lines`], including field names and comments. They are
+/// slices of `input`, and contain no CR, LF or NUL. It doesn't allocate.
 #[tactic(auto, using(crate::proofs::LineLemmas::file_bodies_are, crate::proofs::LineLemmas::lines_of_file_bodies))]
 pub fn file_bodies<'a>(input: &'a [u8]) -> BodyIter<'a>
     ensures value { result ≡ file_bodies input.now }
@@ -323,7 +327,7 @@ pub fn file_bodies<'a>(input: &'a [u8]) -> BodyIter<'a>
     }
 }
 
-/// The lines of a file, those of its text with each NUL read as LF, not read to their values.
+/// The lines of a file, not parsed yet. NUL is read as LF.
 pub(crate) fn lazy_file_lines<'a>(input: &'a [u8]) -> LazyLines<'a>
     ensures value { result ≡ file_lines input.now }
     ensures count { length result ≤ length input.now }
@@ -333,8 +337,7 @@ pub(crate) fn lazy_file_lines<'a>(input: &'a [u8]) -> LazyLines<'a>
     }
 }
 
-/// The lines of a file, one after the other: those of its text with each NUL read as LF. It takes no
-/// memory, and there are no more lines than bytes.
+/// The lines of a file, in order. NUL is read as LF. It doesn't allocate, and there are no more lines than bytes.
 pub fn file_lines<'a>(input: &'a [u8]) -> LineIter<'a>
     ensures value { result ≡ file_lines input.now }
     ensures lines { AreFileLinesOf result input.now }
@@ -346,7 +349,7 @@ pub fn file_lines<'a>(input: &'a [u8]) -> LineIter<'a>
     }
 }
 
-/// The line of a statement of this kind with this value.
+/// The line of a directive of this kind with this value.
 #[tactic(auto, using(crate::proofs::DelayLemmas::is_delay_of))]
 #[inline(always)]
 fn line_with<'a>(kind: Kind, value: &'a [u8], body: &'a [u8]) -> Line<'a>
@@ -378,11 +381,11 @@ fn collected<'a>(alloc: Global, lines: LineIter<'a>) -> Result<Vec<Line<'a>>, Al
     Ok(all)
 }
 
-/// All lines of a text. It reads every text to its end.
+/// All lines of a text, in order. NUL isn't a line terminator here, unlike in [`file_lines`].
 ///
 /// # Errors
 ///
-/// `Error::Memory` where memory is refused.
+/// `Error::Memory` if an allocation fails.
 #[tactic(auto, using(crate::proofs::LineLemmas::lines_are, crate::proofs::LineLemmas::lines_range))]
 pub fn robots_txt_parse<'a>(alloc: Global, input: &'a [u8]) -> Result<Vec<Line<'a>>, Error>
     ensures value { IfOk result (λ lines. map by_value lines.items ≡ parsed input.now) }

@@ -1,4 +1,4 @@
-//! What a text needs so that a pattern can match it, by which most rules are passed over.
+//! The prefilter: conditions on a text without which a pattern can't match it. Most rules are skipped by them.
 ghost use Rattle.std.specs.Prelude.{◌≡◌, ◌+◌, ◌≤◌, length, max, true};
 ghost use Rattle.texting_robots.specs.Internal.Prefilter.{AreApart, ArePrefilter, ending_pairs};
 ghost use Rattle.texting_robots.specs.Internal.Segments.{IsEnding};
@@ -10,7 +10,7 @@ use crate::segments::{Ending, Pattern};
 use bigrams::BigramSet;
 use head::Head;
 
-/// How a text has to begin, and the pairs of neighbouring bytes that have to stand in it.
+/// How a text has to begin, and the bigrams (pairs of adjacent bytes) that have to occur in it.
 #[derive(Clone, Copy)]
 pub(crate) struct Prefilter {
     pub(crate) head: Head,
@@ -18,7 +18,7 @@ pub(crate) struct Prefilter {
 }
 
 impl Prefilter {
-    /// What a text needs so that the pattern can match it.
+    /// The conditions without which the pattern can't match a text.
     pub(crate) fn of(pattern: &Pattern<'_>) -> Self
         ensures { ArePrefilter pattern.now result }
     {
@@ -34,7 +34,7 @@ impl Prefilter {
     }
 }
 
-/// The pairs of the bytes that a text has to end with.
+/// The bigrams of the bytes that a text has to end with.
 fn ending_pairs(pattern: &[u8], ending: Ending) -> BigramSet
     requires { IsEnding pattern.now ending }
     ensures { result.bits ≡ ending_pairs pattern.now ending }
@@ -45,8 +45,8 @@ fn ending_pairs(pattern: &[u8], ending: Ending) -> BigramSet
     }
 }
 
-/// Whether none of eight signs from this place on is within the text's pairs. All are tested: where most are apart, stopping early
-/// costs more than it saves.
+/// Whether none of the eight masks from this index on is a subset of the text's bigrams. It tests all eight without an
+/// early exit, since in the usual case none is.
 fn are_apart(masks: &[u64], from: usize, text: u64) -> bool
     requires { from + 8 ≤ length masks.now }
     ensures { result ≡ true → AreApart masks.now text from (from + 8) }
@@ -58,8 +58,9 @@ fn are_apart(masks: &[u64], from: usize, text: u64) -> bool
     apart
 }
 
-/// Where the first eight signs from this place on begin of which one is within the text's pairs, or where fewer are left.
-/// It stands by itself, so that few rules are asked without what it takes.
+/// Goes through the masks in blocks of eight from this index on. The result is the start of the first block with a mask
+/// that is a subset of the text's bigrams, or the index from which fewer than eight are left. It isn't inlined, so that
+/// calls with few rules don't pay for it.
 #[inline(never)]
 pub(crate) fn first_near(masks: &[u64], from: usize, text: u64) -> usize
     ensures from { from ≤ result }

@@ -1,4 +1,4 @@
-//! The text that rules are matched with.
+//! Match targets: what patterns are compared with.
 ghost use Rattle.std.specs.Prelude.{◌≡◌, IfErr, IfOk, IsOk, string_bytes};
 ghost use Rattle.std.specs.Cow.{cow_str_bytes};
 ghost use Rattle.texting_robots.specs.AllocationFree.{IsAllocationFree};
@@ -11,8 +11,8 @@ use std::alloc::{AllocError, Global};
 use std::borrow::CowStr;
 use url::{Position, Url};
 
-/// The text that rules are matched with, of a URL or of a path by itself, lent where it stands there as it is. What begins with a
-/// slash is no URL, and isn't parsed, nor is a URL that stands as it is.
+/// The match target of a URL, or of a path alone. It is borrowed for a path in which no byte is escaped, and for a URL
+/// that [`borrowed_target`] accepts. A string that begins with a slash isn't a URL, so it isn't parsed.
 pub(crate) fn prepare<'a>(alloc: Global, url: &'a str) -> Result<CowStr<'a, Global>, Error>
     ensures ok { IfOk result (λ text. cow_str_bytes text ≡ prepared url.now) }
     ensures memory { IfErr result (λ e. e ≡ Error.Memory) }
@@ -34,7 +34,7 @@ pub(crate) fn prepare<'a>(alloc: Global, url: &'a str) -> Result<CowStr<'a, Glob
     }
 }
 
-/// The path of a URL, its query and its fragment, in the URL's own memory.
+/// The path, query and fragment of a URL, in the allocation of the URL.
 fn into_target(url: Url) -> Result<String, AllocError>
     ensures { IfOk result (λ text. string_bytes text ≡ target_of url) }
 {
@@ -44,7 +44,7 @@ fn into_target(url: Url) -> Result<String, AllocError>
     Ok(text)
 }
 
-/// The path of a URL, its query and its fragment: they stand together at its end. It takes no memory.
+/// The path, query and fragment of a URL, which are adjacent at its end. It doesn't allocate.
 pub(crate) fn target(url: &Url) -> &str
     ensures { result.now ≡ target_of url.now }
 {

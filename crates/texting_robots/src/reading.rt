@@ -1,4 +1,4 @@
-//! What one crawler gets of a whole file: what its captured lines give, and its sitemaps.
+//! Reads a whole file for one crawler: the rules and the delay that apply, and the sitemaps.
 ghost use Rattle.std.specs.Prelude.{◌≡◌, ◌++◌, [], IfErr, IfOk, IsOk, None, OnOk, map, string_bytes};
 ghost use Rattle.std.specs.Option.{IfSome, IsSomeAnd, option_or, option_to_list};
 ghost use Rattle.std.specs.Str.{str_to_ascii_lowercase};
@@ -17,7 +17,7 @@ use crate::rules::{Rules, Unsorted};
 use std::alloc::{AllocError, Global};
 use std::marker::Model;
 
-/// What a file gives one crawler: the parts of its robot.
+/// The parts of a robot.
 #[derive(Drop)]
 pub(crate) struct Parts {
     pub(crate) delay: Option<u64>,
@@ -34,16 +34,16 @@ impl Model for Parts {
     ghost view = { λ p. record { delay = p.delay; sitemaps = map string_bytes p.sitemaps.items; rules = p.rules } };
 }
 
-/// Why a file gives no robot.
+/// Why there is no robot for a file.
 #[derive(Drop)]
 pub(crate) enum Rejection {
-    /// The agent's rule in the line with this number is overlong, and none before it is.
+    /// The crawler's rule in the line with this number is too long, and no rule before it is.
     Overlong(usize),
-    /// Memory was refused.
+    /// An allocation failed.
     Memory,
 }
 
-/// What an error at the line with this number comes to.
+/// The rejection for an error at the line with this number.
 fn rejection_at(number: usize, error: Error) -> Rejection
     ensures { result ≡ rejection_at number error }
 {
@@ -53,20 +53,20 @@ fn rejection_at(number: usize, error: Error) -> Rejection
     }
 }
 
-/// What the lines gave so far.
+/// What was found in the lines so far.
 #[derive(Drop)]
 pub(crate) struct RobotBuilder {
-    /// Where the walk along the lines stands.
+    /// The state of the group tracker before the next line.
     pub(crate) tracker: GroupTracker,
-    /// The first captured delay.
+    /// The first delay that applies.
     pub(crate) delay: Option<u64>,
-    /// The sitemaps, in the order of the file.
+    /// The sitemaps, in file order.
     pub(crate) sitemaps: Vec<String>,
-    /// The captured rules.
+    /// The rules that apply.
     pub(crate) rules: Unsorted,
 }
 
-/// Adds the rule that a value gives, if it is UTF-8.
+/// Adds the rule with this value, if the value is UTF-8.
 #[tactic(auto, using(crate::proofs::RulesLemmas::no_text))]
 pub(crate) fn push_rule(
     rules: &mut Unsorted,
@@ -124,8 +124,8 @@ impl RobotBuilder {
         }
     }
 
-    /// Adds what a line gives. It takes memory only for a rule or a sitemap. A line that is neither captured nor an agent
-    /// line nor a sitemap isn't read.
+    /// Adds what is in a line. It allocates only for a rule or a sitemap. If group lines don't apply here, only lines
+    /// that may be user-agent lines or sitemaps are parsed.
     #[tactic(auto, using(crate::proofs::RulesLemmas::no_sitemap))]
     pub(crate) fn take(
         &mut self,
@@ -170,7 +170,7 @@ impl RobotBuilder {
     }
 }
 
-/// Reads a whole file, in two passes: for the agent's group, and for what the group's lines give.
+/// Reads a whole file in two passes. The first finds the crawler's group name, the second what applies to it.
 pub(crate) fn read_file(alloc: Global, agent: &str, txt: &[u8]) -> Result<Parts, Rejection>
     ensures robot { IfOk result (IsComputedRobot agent.now (file_lines txt.now)) }
     ensures rejected { IfErr result (IsRejectionOf (placed_rules agent.now (file_lines txt.now))) }

@@ -1,4 +1,4 @@
-//! What one crawler gets of a robots.txt file.
+//! The robot: what a robots.txt file means for one crawler.
 ghost use Rattle.std.specs.Prelude.{◌≡◌, IfErr, IfOk, IsOk, string_bytes, take};
 ghost use Rattle.texting_robots.specs.Decision.{IsDecidingLine, LooksForRules};
 ghost use Rattle.texting_robots.specs.Error.{IsMemoryErrorOr};
@@ -22,13 +22,13 @@ use url::Url;
 /// How many bytes of a file [`Robot::new`] reads: Google's limit of 500 kibibytes.
 pub const FILE_LIMIT: usize = 512_000;
 
-/// What one crawler gets of a robots.txt file.
+/// What a robots.txt file means for one crawler.
 #[derive(Debug, Drop)]
 pub struct Robot {
-    /// How many microseconds the crawler waits between two requests, where the file says so. It may be `u64::MAX`, as for
-    /// `Crawl-delay: inf`: a caller caps it before adding it to a time.
+    /// How many microseconds the crawler has to wait between two requests, if the file specifies that. It may be
+    /// `u64::MAX`, as for `Crawl-delay: inf`, so cap it before you add it to a time.
     pub delay: Option<u64>,
-    /// The sitemaps that the file lists, for every crawler, in the file's order.
+    /// The sitemaps that the file lists, in file order. They are the same for every crawler.
     pub sitemaps: Vec<String>,
     pub(crate) rules: Rules,
 }
@@ -43,17 +43,17 @@ impl Model for Robot {
 }
 
 impl Robot {
-    /// Reads the first [`FILE_LIMIT`] bytes of the file `txt` for the crawler that calls itself `agent`.
+    /// Reads the first [`FILE_LIMIT`] bytes of the file `txt` for the crawler with the product token `agent`.
     ///
-    /// The agent is compared whole with the file's user-agent lines, ASCII letters in any case; it isn't trimmed. Lines that
-    /// are no statement are passed over, and where memory is there a file is refused only for a rule of this crawler's that
-    /// is too long. Memory is taken only for rules and sitemaps.
+    /// `agent` is compared in full with the values of user-agent lines, ASCII letters in any case. It isn't trimmed.
+    /// Lines that aren't directives are ignored. Unless an allocation fails, a file is rejected only if a rule that
+    /// applies to this crawler is too long. Only rules and sitemaps are allocated.
     ///
     /// # Errors
     ///
-    /// `Error::InvalidRule` where a rule of this crawler's, in UTF-8, holds `$` and has more than 4,096 bytes escaped, each run of stars
-    /// counted as one. There is no robot then: the caller treats the file as one that it can't use, as its own policy says.
-    /// `Error::Memory` where memory is refused.
+    /// `Error::InvalidRule` if a rule that applies to this crawler, in UTF-8, contains `$` and has more than 4,096
+    /// bytes, escaped and with each run of stars counted as one. There is no robot then, and the caller decides how to
+    /// treat a file that it can't use. `Error::Memory` if an allocation fails.
     pub fn new(alloc: Global, agent: &str, txt: &[u8]) -> Result<Self, Error>
         ensures robot { IfOk result (IsRobotOfFile agent.now (take file_limit txt.now)) }
         ensures rejected { IfErr result (IsMemoryErrorOr (IsFileRejected agent.now (take file_limit txt.now))) }
@@ -62,14 +62,14 @@ impl Robot {
         Robot::with_limit(alloc, agent, txt, FILE_LIMIT)
     }
 
-    /// Reads the first `limit` bytes of the file `txt`, or all if there are fewer, as [`Robot::new`] does.
+    /// Reads the first `limit` bytes of the file `txt`, or all if there are fewer, like [`Robot::new`].
     ///
-    /// The limit counts the file's bytes as they came, those of a byte order mark too, and may cut a line anywhere: what
-    /// stands before the cut is read as a line.
+    /// The limit counts the bytes of the original file, including a byte order mark. If it cuts a line, the first part
+    /// of that line is read as a line.
     ///
     /// # Errors
     ///
-    /// As [`Robot::new`].
+    /// As for [`Robot::new`].
     pub fn with_limit(alloc: Global, agent: &str, txt: &[u8], limit: usize) -> Result<Self, Error>
         ensures robot { IfOk result (IsRobotOfFile agent.now (take limit txt.now)) }
         ensures rejected { IfErr result (IsMemoryErrorOr (IsFileRejected agent.now (take limit txt.now))) }
@@ -86,14 +86,16 @@ impl Robot {
         }
     }
 
-    /// The text that rules are matched with: of a URL its path, query and fragment, as the crate `url` writes them.
+    /// The match target of a URL, which patterns are compared with: its path, query and fragment, as the crate `url`
+    /// writes them.
     ///
-    /// The empty text gives `/`. What is no URL, as a path by itself, is escaped as rules are, and so matched as it stands: a text with
-    /// no scheme and no slash in front, as `example.com/a`, mostly matches no rule, and is allowed.
+    /// For the empty string it is `/`. A string that isn't a URL, such as a path alone, is escaped as patterns are, and
+    /// otherwise unchanged. A string with neither a scheme nor a leading slash, such as `example.com/a`, usually
+    /// matches no rule, and so is allowed.
     ///
     /// # Errors
     ///
-    /// `Error::Memory` where memory is refused, or a URL comes to more bytes than `url` can count.
+    /// `Error::Memory` if an allocation fails, or if the URL has more bytes than `url` can count.
     pub fn prepare_url(alloc: Global, url: &str) -> Result<String, Error>
         ensures ok { IfOk result (λ text. string_bytes text ≡ prepared url.now) }
         ensures memory { IfErr result (λ e. e ≡ Error.Memory) }
@@ -101,14 +103,14 @@ impl Robot {
         Ok(prepare(alloc, url)?.into_owned(alloc)?)
     }
 
-    /// Whether the crawler may fetch a URL, or a path by itself; what is neither is matched as it stands, as [`Robot::prepare_url`]
-    /// says, and so mostly allowed. A path of which nothing is escaped takes no memory, nor does a
-    /// whole URL of `http` or `https` with a host that is a name, with no user, and of which `url` would change nothing but put a
-    /// missing slash behind the host.
+    /// Whether the crawler may fetch a URL, or a path alone. Any other string is matched too, as described at
+    /// [`Robot::prepare_url`], and so is usually allowed. The call doesn't allocate for a path of which nothing is
+    /// escaped. Nor does it for an absolute `http` or `https` URL that has a host name and no user, and that `url`
+    /// would leave unchanged, or to which it would only add a missing slash at the end.
     ///
     /// # Errors
     ///
-    /// As [`Robot::prepare_url`].
+    /// As for [`Robot::prepare_url`].
     pub fn allowed(&self, alloc: Global, url: &str) -> Result<bool, Error>
         ensures ok { IfOk result (λ answer. IsVerdict (unplaced self.now.rules) (prepared url.now) answer) }
         ensures memory { IfErr result (λ e. e ≡ Error.Memory) }
@@ -118,27 +120,27 @@ impl Robot {
         Ok(self.allowed_prepared(text.as_str()))
     }
 
-    /// Whether the crawler may fetch a URL that is parsed already. It takes no memory.
+    /// Whether the crawler may fetch a URL that is already parsed. It doesn't allocate.
     pub fn allowed_url(&self, url: &Url) -> bool
         ensures { IsVerdict (unplaced self.now.rules) (target_of url.now) result }
     {
         self.allowed_prepared(target(url))
     }
 
-    /// Whether the crawler may fetch what a prepared text stands for. It takes no memory.
+    /// Whether the crawler may fetch the URL with this match target. It doesn't allocate.
     pub fn allowed_prepared(&self, text: &str) -> bool
         ensures { IsVerdict (unplaced self.now.rules) text.now result }
     {
         self.rules.allow(text.as_bytes())
     }
 
-    /// Whether the crawler may fetch a URL, or a path by itself, and the line that decides. It reads the URL as
-    /// [`Robot::allowed`] does, and allocates only where that does. It counts no comparisons, so it is faster than
-    /// [`Robot::decision`] of the URL's prepared text, with the same result.
+    /// Whether the crawler may fetch a URL, or a path alone, and the line that decides. It reads the URL as
+    /// [`Robot::allowed`] does, and allocates only if that call does. It counts no comparisons, so it is faster than
+    /// [`Robot::decision`] for the match target of the URL. The result is the same.
     ///
     /// # Errors
     ///
-    /// As [`Robot::prepare_url`].
+    /// As for [`Robot::prepare_url`].
     pub fn decide(&self, alloc: Global, url: &str) -> Result<Decision, Error>
         ensures verdict { IfOk result (λ decision. IsVerdict (unplaced self.now.rules) (prepared url.now) decision.allowed) }
         ensures line { IfOk result (λ decision. IsDecidingLine self.now.rules (prepared url.now) decision.line) }
@@ -149,8 +151,8 @@ impl Robot {
         Ok(self.decision_prepared(text.as_str()))
     }
 
-    /// Whether the crawler may fetch what a prepared text is for, and the line that decides: the result of
-    /// [`Robot::decision`], with no comparison counted. It allocates nothing.
+    /// Whether the crawler may fetch the URL with this match target, and the line that decides. The result is that of
+    /// [`Robot::decision`], but no comparisons are counted. It doesn't allocate.
     pub fn decision_prepared(&self, text: &str) -> Decision
         ensures verdict { IsVerdict (unplaced self.now.rules) text.now result.allowed }
         ensures line { IsDecidingLine self.now.rules text.now result.line }
@@ -158,9 +160,9 @@ impl Robot {
         self.rules.decide_uncounted(text.as_bytes())
     }
 
-    /// Whether the crawler may fetch what a view's prepared text stands for. It takes no memory, and for each rule at most
-    /// twice the text's length of looks; a look is one call of [`View::same`]. Where a rule matches, only the rules count
-    /// that are at least as long as the longest that does.
+    /// Whether the crawler may fetch the URL whose match target is the text of the view. It doesn't allocate. For each
+    /// rule it takes at most 2 × (length of the text) looks; a look is one call of [`View::same`]. If a rule matches,
+    /// only rules count that are at least as long as the longest matching one.
     pub fn allowed_view(&self, view: &mut View<'_>) -> bool
         ensures verdict { IsVerdict (unplaced self.now.rules) view.old.text result }
         ensures looks { LooksForRules self.now.rules view.old view.new }
@@ -168,8 +170,8 @@ impl Robot {
         self.decision(view).allowed
     }
 
-    /// The verdict on what a view's prepared text stands for, and the line that it follows from. It takes no memory; the
-    /// bound on its looks is that of [`Robot::allowed_view`].
+    /// Whether the crawler may fetch the URL whose match target is the text of the view, and the line that decides. It
+    /// doesn't allocate. The bound on its looks is that of [`Robot::allowed_view`].
     pub fn decision(&self, view: &mut View<'_>) -> Decision
         ensures verdict { IsVerdict (unplaced self.now.rules) view.old.text result.allowed }
         ensures line { IsDecidingLine self.now.rules view.old.text result.line }

@@ -1,4 +1,4 @@
-//! The pieces of a pattern, and where they stand in a text.
+//! The segments of a pattern, which are the bytes between its stars, with their Knuth-Morris-Pratt failure tables.
 ghost use Rattle.std.specs.Prelude.{◌≡◌, ℕ, ◌+◌, ◌-◌, ◌≤◌, ◌↔◌, ◌++◌, ◌==◌, IsTrue, IfOk, length, take};
 ghost use Rattle.std.specs.List.{list_all, position_or_len, prefix_len};
 ghost use Rattle.texting_robots.specs.Internal.Border.{IsTable};
@@ -11,16 +11,16 @@ use std::alloc::AllocError;
 use std::marker::Model;
 use std::simd::prelude::*;
 
-/// Stands for any bytes.
+/// Matches any bytes.
 pub(crate) const STAR: u8 = b'*';
 
-/// Stands for the end of the text.
+/// Matches at the end of the text.
 const DOLLAR: u8 = b'$';
 
 /// How many bytes a pattern with `$` may have, each run of stars counted as one.
 const LONGEST_WITH_DOLLAR: usize = 4096;
 
-/// A range of a list.
+/// A range of indexes of a list.
 #[derive(Clone, Copy)]
 pub(crate) struct Span {
     pub(crate) start: usize,
@@ -36,34 +36,35 @@ impl Span {
     }
 }
 
-/// A piece that may stand anywhere behind the one before, and where its table begins among the tables.
+/// A segment that may occur anywhere after the one before, and where its failure table begins in the list of all
+/// tables.
 #[derive(Clone, Copy)]
 pub(crate) struct Segment {
     pub(crate) span: Span,
     pub(crate) table: usize,
 }
 
-/// What has to follow the searched pieces.
+/// What has to follow the segments that are searched for.
 #[derive(Clone, Copy)]
 pub(crate) enum Ending {
     /// Anything: the pattern has no dollar.
     Open,
-    /// The text's end, right behind the first piece: a dollar comes before any star.
+    /// The end of the text, right after the first segment: a dollar precedes any star.
     Closed,
-    /// These bytes, at the text's end: they stand between the last star and the dollar.
+    /// These bytes, at the end of the text: they are between the last star and the dollar.
     Last(Span),
-    /// Nothing does: a byte other than a star or a dollar stands behind the dollar.
+    /// The pattern matches no text: a byte other than a star or a dollar follows the dollar.
     Never,
 }
 
-/// How many bytes stand before the first star or dollar, and what has to follow the searched pieces.
+/// How many bytes precede the first star or dollar, and what has to follow the segments that are searched for.
 #[derive(Clone, Copy)]
 pub(crate) struct Ends {
     pub(crate) first_len: usize,
     pub(crate) ending: Ending,
 }
 
-/// A pattern, lent with its pieces and their tables.
+/// A pattern, borrowed with its segments and their failure tables.
 #[derive(Drop)]
 pub(crate) struct Pattern<'a> {
     pub(crate) bytes: &'a [u8],
@@ -84,7 +85,7 @@ impl<'a> Model for Pattern<'a> {
 }
 
 impl<'a> Pattern<'a> {
-    /// The pattern whose pieces and tables these are.
+    /// The pattern with these segments and failure tables.
     pub(crate) fn new(
         bytes: &'a [u8],
         ends: Ends,
@@ -103,7 +104,7 @@ impl<'a> Pattern<'a> {
     }
 }
 
-/// Where a star or a dollar stands first among the first eight bytes, or eight where none does.
+/// The index of the first star or dollar among the first eight bytes, or eight if there is none.
 #[inline(always)]
 fn wildcard_in_eight(pattern: &[u8]) -> usize
     requires { 8 ≤ length pattern.now }
@@ -114,7 +115,7 @@ fn wildcard_in_eight(pattern: &[u8]) -> usize
     first_lane(labels.to_bitmask(), 8)
 }
 
-/// Where a star or a dollar stands first among the first sixteen bytes, or sixteen where none does.
+/// The index of the first star or dollar among the first sixteen bytes, or sixteen if there is none.
 #[inline(always)]
 fn wildcard_in_sixteen(pattern: &[u8]) -> usize
     requires { 16 ≤ length pattern.now }
@@ -125,8 +126,8 @@ fn wildcard_in_sixteen(pattern: &[u8]) -> usize
     first_lane(labels.to_bitmask(), 16)
 }
 
-/// Where a star or a dollar stands first, or how many bytes there are where none does. Most patterns are short, and are
-/// compared in two parts of one length, which may overlap.
+/// The index of the first star or dollar, or the length if there is none. Eight to 32 bytes are compared as two parts
+/// of equal length, which may overlap.
 fn first_wildcard(pattern: &[u8]) -> usize
     ensures { result ≡ position_or_len is_wildcard pattern.now }
 {
@@ -148,7 +149,7 @@ fn first_wildcard(pattern: &[u8]) -> usize
     len - 16 + wildcard_in_sixteen(&pattern[len - 16..])
 }
 
-/// What stands before the first star or dollar, and the rest from there on.
+/// What precedes the first star or dollar, and the rest from there on.
 #[tactic(auto, using(crate::proofs::SegmentLemmas::cut_at_first))]
 fn cut_at_wildcard(pattern: &[u8]) -> (&[u8], &[u8])
     ensures { IsCutAtWildcard pattern.now result.0.now result.1.now }
@@ -156,7 +157,7 @@ fn cut_at_wildcard(pattern: &[u8]) -> (&[u8], &[u8])
     pattern.split_at(first_wildcard(pattern))
 }
 
-/// How many stars stand at the front, counted one by one.
+/// How many leading stars there are, counted one by one.
 fn few_stars_len(pattern: &[u8]) -> usize
     ensures value { result ≡ prefix_len (λ b. b == star) pattern.now }
     ensures within { result ≤ length pattern.now }
@@ -164,7 +165,7 @@ fn few_stars_len(pattern: &[u8]) -> usize
     pattern.iter().take_while(|b| **b == STAR).count()
 }
 
-/// How many stars stand at the front. Many are counted `LANES` at a time.
+/// How many leading stars there are. Many are counted `LANES` at a time.
 fn stars_len(pattern: &[u8]) -> usize
     ensures value { result ≡ prefix_len (λ b. b == star) pattern.now }
     ensures within { result ≤ length pattern.now }
@@ -183,7 +184,7 @@ fn only_wildcards(pattern: &[u8]) -> bool
     pattern.iter().all(|b| *b == STAR || *b == DOLLAR)
 }
 
-/// Whether it is a dollar, and behind that only stars and dollars.
+/// Whether it is a dollar, followed only by stars and dollars.
 fn closes(pattern: &[u8]) -> bool
     ensures { IsTrue result ↔ Closes pattern.now }
 {
@@ -208,7 +209,7 @@ fn collapsed_len(pattern: &[u8]) -> usize
     len
 }
 
-/// Whether a pattern holds `$` and is too long for that.
+/// Whether a pattern contains `$` and is too long for that.
 #[tactic(auto, using(crate::proofs::CollapseLemmas::length_within))]
 pub(crate) fn is_overlong(pattern: &[u8]) -> bool
     ensures { IsTrue result ↔ IsOverlong pattern.now }
@@ -219,7 +220,8 @@ pub(crate) fn is_overlong(pattern: &[u8]) -> bool
     pattern.contains(&DOLLAR) && collapsed_len(pattern) > LONGEST_WITH_DOLLAR
 }
 
-/// Adds the table of a piece: for each beginning of it, but the piece itself, the length of its longest proper border.
+/// Appends the failure table of a segment. It has the length of the longest border of each prefix, except the empty one
+/// and the segment itself. A border is a shorter prefix that is also a suffix.
 fn push_borders(borders: &mut Vec<usize>, segment: &[u8]) -> Result<(), AllocError>
     ensures { IfOk result (λ _. (table : _) × (borders.new.items ≡ borders.old.items ++ table)
         × IsTable segment.now table) }
@@ -244,7 +246,7 @@ fn push_borders(borders: &mut Vec<usize>, segment: &[u8]) -> Result<(), AllocErr
     Ok(())
 }
 
-/// Cuts a pattern, and adds its searched pieces and their tables at the end.
+/// Cuts a pattern, and appends the segments that are searched for and their failure tables.
 pub(crate) fn push_segments(
     pattern: &[u8],
     segments: &mut Vec<Segment>,

@@ -1,4 +1,4 @@
-//! A robots.txt file that is read once for all crawlers.
+//! A robots.txt file that is read once for many crawlers.
 ghost use Rattle.std.specs.Prelude.{◌≡◌, ◌++◌, [], All, Any, IfErr, IfOk, IsOk, None, OnOk, map, slice_get, string_bytes, take};
 ghost use Rattle.std.specs.List.{filter_map};
 ghost use Rattle.std.specs.Option.{option_to_list};
@@ -31,17 +31,17 @@ use own::{OwnLines, OwnRules};
 use std::alloc::{AllocError, Global};
 use std::marker::Model;
 
-/// A robots.txt file that is read once for all crawlers. It holds a copy of the bytes that were read, and for each rule, delay and
-/// sitemap its position in them.
+/// A robots.txt file that is read once for many crawlers. It has a copy of the bytes that were read, the names in
+/// user-agent lines, and the position of each Allow, Disallow, Crawl-delay and sitemap.
 #[derive(Drop)]
 pub struct Site {
     /// The bytes that were read.
     text: Vec<u8>,
-    /// The rules and delays, in the file's order.
+    /// The group lines (Allow, Disallow and Crawl-delay), in file order.
     lines: Vec<KeptLine>,
     names: Names,
     sitemaps: Vec<Span>,
-    /// The last delay before the first user-agent line.
+    /// The last delay above the first user-agent line.
     early: Option<u64>,
 }
 
@@ -86,19 +86,19 @@ impl Site {
     ///
     /// # Errors
     ///
-    /// `AllocError` if an allocation fails. No file is rejected: a rule that is too long is an error of [`Site::robot`], for the
-    /// crawlers that it is for.
+    /// `AllocError` if an allocation fails. No file is rejected here: if a rule is too long, [`Site::robot`] returns an
+    /// error for the crawlers that it applies to.
     pub fn new(alloc: Global, txt: &[u8]) -> Result<Self, AllocError>
         ensures { IfOk result (λ site. site ≡ take file_limit txt.now) }
     {
         Site::with_limit(alloc, txt, FILE_LIMIT)
     }
 
-    /// Reads the first `limit` bytes of the file `txt`, or all if there are fewer, as [`Site::new`] does.
+    /// Reads the first `limit` bytes of the file `txt`, or all if there are fewer, like [`Site::new`].
     ///
     /// # Errors
     ///
-    /// As [`Site::new`].
+    /// As for [`Site::new`].
     pub fn with_limit(alloc: Global, txt: &[u8], limit: usize) -> Result<Self, AllocError>
         ensures { IfOk result (λ site. site ≡ take limit txt.now) }
     {
@@ -128,8 +128,8 @@ impl Site {
         self.names.first(agent.as_bytes()) < self.names.lines().len()
     }
 
-    /// The name whose groups the crawler gets: its own if a user-agent line has it, otherwise `*`. Crawlers for which it is the
-    /// same, ASCII letters in any case, have the same robot.
+    /// The group name for the crawler: its product token if a user-agent line has it, else `*`. Crawlers with the same
+    /// group name, ASCII letters in any case, have the same robot.
     pub fn group_name<'n>(&self, agent: &'n str) -> &'n [u8]
         ensures { str_to_ascii_lowercase result.now ≡ group_name agent.now (file_lines self.now) }
     {
@@ -140,8 +140,8 @@ impl Site {
         }
     }
 
-    /// The names in the file's user-agent lines that are UTF-8, in the file's order, `*` like any other. Of names that differ
-    /// only in the case of ASCII letters it gives the first.
+    /// The names in user-agent lines that are UTF-8, in file order, including `*`. If names differ only in the case of
+    /// ASCII letters, only the first is returned.
     ///
     /// # Errors
     ///
@@ -159,7 +159,7 @@ impl Site {
         Ok(agents)
     }
 
-    /// The rules and delays that the crawler gets.
+    /// The group lines that apply to the crawler.
     fn own_lines<'s, 'n>(&'s self, agent: &'n str) -> OwnLines<'s, 'n>
         ensures rules { filter_map rule_of result ≡ placed_rules agent.now (file_lines self.now) }
         ensures delays { filter_map delay_of result ≡ captured_delays agent.now (file_lines self.now) }
@@ -167,7 +167,7 @@ impl Site {
         OwnLines::new(&self.text, &self.lines, &self.names, self.group_name(agent))
     }
 
-    /// The crawler's rules and its first delay.
+    /// The rules and the first delay that apply to the crawler.
     fn own_rules(&self, alloc: Global, agent: &str) -> Result<OwnRules, Error>
         ensures known { IfOk result (λ own. AreEntries own.rules) }
         ensures rules { IfOk result (λ own. rules_in own.rules ≡ placed_rules agent.now (file_lines self.now)) }
@@ -186,12 +186,12 @@ impl Site {
         Ok(own)
     }
 
-    /// What the file holds for the crawler that calls itself `agent`: the same robot as [`Robot::new`] gives. It reads only the
-    /// crawler's own rules and delays, and copies the sitemaps.
+    /// The robot for the crawler with the product token `agent`, like that of [`Robot::new`]. Of the group lines it
+    /// parses only those that apply to this crawler. It copies the sitemaps.
     ///
     /// # Errors
     ///
-    /// As [`Robot::new`].
+    /// As for [`Robot::new`].
     pub fn robot(&self, alloc: Global, agent: &str) -> Result<Robot, Error>
         ensures robot { IfOk result (IsRobotOfFile agent.now self.now) }
         ensures rejected { IfErr result (IsMemoryErrorOr (IsFileRejected agent.now self.now)) }
@@ -211,7 +211,7 @@ impl Site {
         })
     }
 
-    /// The first delay of the crawler's groups.
+    /// The first delay that applies to the crawler.
     fn own_delay(&self, agent: &str) -> Option<u64>
         ensures { result ≡ slice_get (captured_delays agent.now (file_lines self.now)) 0 }
     {
@@ -225,8 +225,9 @@ impl Site {
         None
     }
 
-    /// How many microseconds the crawler that calls itself `agent` waits between two requests: the delay of its robot, which is
-    /// here also for a crawler that has a rule that is too long. It allocates nothing.
+    /// How many microseconds the crawler with the product token `agent` has to wait between two requests, if the file
+    /// specifies that. It is the delay of the crawler's robot, but it is also returned if a rule is too long. It
+    /// doesn't allocate.
     pub fn delay(&self, agent: &str) -> Option<u64>
         ensures { HasLines self.now (λ lines. IsDelayFor agent.now lines result) }
     {
@@ -247,7 +248,7 @@ impl Site {
         Ok(all)
     }
 
-    /// The sitemaps that the file lists, for every crawler, in the file's order.
+    /// The sitemaps that the file lists, in file order. They are the same for every crawler.
     ///
     /// # Errors
     ///

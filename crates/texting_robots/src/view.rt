@@ -1,4 +1,4 @@
-//! A text of which only counted looks are possible, but for one comparison with `/robots.txt`.
+//! A text whose bytes can only be compared by counted looks, except for one comparison with `/robots.txt`.
 ghost use Rattle.std.specs.Prelude.{◌≡◌, ℕ, ◌+◌, ◌<◌, ◌≤◌, ◌↔◌, IsTrue, length, slice_index, []};
 ghost use Rattle.texting_robots.specs.Verdict.{robots_file};
 ghost use Rattle.texting_robots.specs.View.{seen_of};
@@ -8,7 +8,7 @@ mod looks;
 use looks::Looks;
 use std::marker::Model;
 
-/// A lent text, and how many looks at its bytes were taken.
+/// A borrowed text, and how many looks were taken. A look is a call of [`View::same`], which compares one byte.
 #[derive(Drop)]
 pub struct View<'a> {
     text: &'a str,
@@ -47,14 +47,14 @@ impl<'a> View<'a> {
         self.text.len()
     }
 
-    /// Whether the text has no bytes. It is no look.
+    /// Whether the text is empty. This isn't a look.
     pub fn is_empty(&self) -> bool
         ensures { IsTrue result ↔ (self.now.text ≡ []) }
     {
         self.text.is_empty()
     }
 
-    /// Whether the byte at a place is this one. It is one look.
+    /// Whether the byte at this offset of the text equals `byte`. This is one look.
     pub fn same(&mut self, at: usize, byte: u8) -> bool
         requires { at < length self.old.text }
         ensures answer { IsTrue result ↔ (slice_index self.old.text at ≡ byte) }
@@ -66,14 +66,14 @@ impl<'a> View<'a> {
         self.text.as_bytes()[at] == byte
     }
 
-    /// Whether the text is `/robots.txt`. It is no look.
+    /// Whether the text is `/robots.txt`. This isn't a look.
     pub fn is_robots_file(&self) -> bool
         ensures { IsTrue result ↔ (self.now.text ≡ robots_file) }
     {
         self.text == "/robots.txt"
     }
 
-    /// How many looks there were, or `u64::MAX` where there were more.
+    /// How many looks were taken, at most `u64::MAX`.
     pub fn seen(&self) -> u64
         ensures { result ≡ seen_of self.now.looks }
     {

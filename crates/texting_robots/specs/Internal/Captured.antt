@@ -1,10 +1,10 @@
--- Whether a line is captured, as a test that computes; the law `captured_agrees` says that it agrees.
+-- Whether a line is captured, as a function; by the theorem `captured_agrees` it agrees with `IsCaptured`.
 use Rattle.std.specs.Prelude.{ℕ, zero, suc, nat_lt, Bool, false, not, ◌&&◌, ◌||◌, List}
 use Rattle.std.specs.List.{list_any}
 use Rattle.texting_robots.specs.Group.{is_agent, is_agent_named, is_group, passes_at}
 use Rattle.texting_robots.specs.Line.{LineValue}
 
--- some number below this one passes
+-- some number below this one passes the test
 abbrev pub some_below : (ℕ → Bool) → ℕ → Bool
 some_below test zero = false
 some_below test (suc n) = test n || some_below test n

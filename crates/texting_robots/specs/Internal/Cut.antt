@@ -1,15 +1,15 @@
--- The cut, computed from the back of the text, and the parts of its first pair.
+-- The cut as a function, which computes it from the end of the text, and the parts of its first pair.
 use Rattle.std.specs.Prelude.{ℕ, suc, ◌==◌, List, [], ◌∷◌, if◌then◌else◌, map, Bool, true}
 use Rattle.std.specs.Prelude.{false}
 use Rattle.texting_robots.specs.Cut.{Pair, cr, lf}
 use Rattle.texting_robots.specs.Line.{nul_as_lf}
 
--- a body byte goes to the first body
+-- a byte of a line's content is added to the first content
 abbrev pub before_body : ℕ → List Pair → List Pair
 before_body byte [] = record { body = byte ∷ []; ending = [] } ∷ []
 before_body byte (pair ∷ later) = record { body = byte ∷ pair.body; ending = pair.ending } ∷ later
 
--- a CR goes to the end that follows it, or is one by itself
+-- a CR is added to the terminator that follows it, or is a terminator by itself
 abbrev pub before_end : List Pair → List Pair
 before_end [] = record { body = []; ending = cr ∷ [] } ∷ []
 before_end (pair ∷ later) = elim pair.body [
@@ -17,7 +17,7 @@ before_end (pair ∷ later) = elim pair.body [
   | _ ∷ _ ↦ record { body = []; ending = cr ∷ [] } ∷ pair ∷ later
 ]
 
--- the pairs of a text with one more byte in front
+-- the pairs of a text after one more byte is added at its start
 abbrev pub before_byte : ℕ → List Pair → List Pair
 before_byte byte pairs =
     if byte == lf then record { body = []; ending = lf ∷ [] } ∷ pairs
@@ -28,21 +28,21 @@ unfoldable pub cut : List ℕ → List Pair
 cut [] = []
 cut (byte ∷ text) = before_byte byte (cut text)
 
--- the bodies of a text
+-- the line contents of a text
 abbrev pub bodies_of : List ℕ → List (List ℕ)
 bodies_of text = map (λ pair. pair.body) (cut text)
 
--- how many bytes stand before the first CR or LF
+-- how many bytes precede the first CR or LF
 abbrev pub body_len : List ℕ → ℕ
 body_len [] = 0
 body_len (byte ∷ text) = if byte == lf then 0 else (if byte == cr then 0 else suc (body_len text))
 
--- how long the end is that the text begins with
+-- the length of the leading line terminator
 abbrev pub end_len : List ℕ → ℕ
 end_len [] = 0
 end_len (byte ∷ text) = if byte == lf then 1 else (if byte == cr then suc (end_len text) else 0)
 
--- a byte as it is cut: NUL as LF, or each as it stands
+-- a byte as it is cut: NUL as LF, or each byte unchanged
 abbrev pub read_byte : Bool → ℕ → ℕ
 read_byte true byte = nul_as_lf byte
 read_byte false byte = byte

@@ -1,4 +1,4 @@
--- The delay of a text as a function, found part by part.
+-- The delay of a text as a function, which finds one part after the other.
 use Rattle.std.specs.Prelude.{ℕ, ◌+◌, ◌-◌, ◌*◌, ◌/◌, ◌^◌, ◌<◌, ◌==◌, ◌&&◌}
 use Rattle.std.specs.Prelude.{◌||◌, nat_lt, min, Bool, true, false, List, [], ◌∷◌, ◌++◌, All}
 use Rattle.std.specs.Prelude.{Option, Some, None, if◌then◌else◌, codes, drop, length}
@@ -13,14 +13,14 @@ abbrev pub is_infinite : List ℕ → Bool
 is_infinite text = str_eq_ignore_ascii_case text (codes "inf") || str_eq_ignore_ascii_case text
     (codes "infinity")
 
--- the digits in front, and what follows
+-- the leading digits, and what follows them
 abbrev pub digits_in_front : List ℕ → List ℕ
 digits_in_front text = take_while is_ascii_digit text
 
 abbrev pub after_digits : List ℕ → List ℕ
 after_digits text = drop (prefix_len is_ascii_digit text) text
 
--- the digits behind a point in front, and what follows
+-- the digits after a leading point, and what follows them
 abbrev pub fraction_in_front : List ℕ → List ℕ
 fraction_in_front [] = []
 fraction_in_front (b ∷ text) = if b == byte "." then digits_in_front text else []
@@ -32,13 +32,13 @@ after_fraction (b ∷ text) = if b == byte "." then after_digits text else b ∷
 abbrev pub is_numeral : List ℕ → Bool
 is_numeral text = nat_lt 0 (length text) && list_all is_ascii_digit text
 
--- the exponent of a number whose digits are read
+-- the exponent of a number, from what follows its digits
 abbrev pub exponent_of : List ℕ → Option (List ℕ)
 exponent_of [] = Some []
 exponent_of (b ∷ text) =
     if ((b == byte "e") || (b == byte "E")) && is_numeral (without_leading_sign text) then Some text else None
 
--- the number that the text spells
+-- the number that the text denotes
 abbrev pub number_with : List ℕ → List ℕ → Option (List ℕ) → Option Decimal
 number_with whole fraction exponent =
     if nat_lt 0 (length (whole ++ fraction))
@@ -49,7 +49,7 @@ number_of text =
     let rest = after_digits text in
     number_with (digits_in_front text) (fraction_in_front rest) (exponent_of (after_fraction rest))
 
--- the parts of a number that a text spells
+-- the parts of a number in a text
 pub record HasDigits (n : Decimal) : Type 0 where
   pub whole : All IsAsciiDigit n.whole
   pub fraction : All IsAsciiDigit n.fraction
@@ -75,7 +75,7 @@ is_zero n = list_all (λ digit. digit == byte "0") (n.whole ++ n.fraction)
 abbrev pub zero_of : Decimal → Option ℕ
 zero_of n = if is_zero n then Some 0 else None
 
--- the delay of a text behind its sign, and whether the sign is a minus
+-- the delay of a text without its sign; the first argument is true if that is a minus
 abbrev pub delay_after : Bool → List ℕ → Option ℕ
 delay_after true unsigned = option_and_then zero_of (number_of unsigned)
 delay_after false unsigned =

@@ -19,11 +19,12 @@ use Rattle.texting_robots.specs.Rules.{PlacedRule}
 abbrev pub len_of : Entry → ℕ
 len_of entry = entry.pattern.end - entry.pattern.start
 
--- twice the length, and one more where the rule allows
+-- twice the length, plus one for an Allow
 abbrev pub rank : ℕ → Bool → ℕ
 rank len allows = 2 * len + (if allows then 1 else 0)
 
--- the ranges hold a pattern and its pieces, whose tables are among all, and what it matches meets the needs
+-- the ranges contain a pattern and its segments, whose failure tables are in `borders`; every text that the
+-- pattern matches meets the prefilter
 pub record IsEntry (text : List ℕ) (segments : List Segment) (borders : List ℕ) (entry : Entry) : Type 0 where
   pub pattern : IsSpan text entry.pattern
   pub searched : IsSpan segments entry.segments
@@ -34,7 +35,7 @@ pub record IsEntry (text : List ℕ) (segments : List Segment) (borders : List �
 abbrev pub IsEntryOf : Unsorted → Entry → Type 0
 IsEntryOf all entry = IsEntry (string_bytes all.text) all.segments.items all.borders.items entry
 
--- there are no more signs
+-- each entry is one of these vectors, and there are no more masks than entries
 pub record AreEntries (all : Unsorted) : Type 0 where
   pub known : All (IsEntryOf all) all.entries.items
   pub masks : length all.masks.items ≤ length all.entries.items
@@ -57,18 +58,18 @@ rank_in entry = entry.rank
 abbrev pub line_in : Entry → ℕ
 line_in entry = entry.line
 
--- which of two is asked first
+-- which of two entries is tried first
 abbrev pub entry_cmp : Entry → Entry → Ordering
 entry_cmp = then_cmp (flip_args (on rank_in nat_cmp)) (on line_in nat_cmp)
 
--- the one that ranks higher goes first, of two that rank alike the one of the earlier line
+-- the higher rank is first, and for the same rank the earlier line
 pub record GoesBefore (first second : Entry) : Type 0 where
   pub higher : second.rank ≤ first.rank
   pub earlier : second.rank ≡ first.rank → first.line ≤ second.line
 
--- ---- which rule matches first
+-- ---- the first matching rule
 
--- stands for an entry where there is none
+-- a default, for positions without an entry
 abbrev pub no_entry : Entry
 no_entry =
     let none : Span = record { start = 0; end = 0 } in
@@ -82,7 +83,7 @@ no_entry =
       line = 0;
     }
 
--- the pairs that a text needs anywhere, and those of the bytes that it needs in front, up to nine
+-- the bigrams of the prefilter, and those of at most nine bytes before the first wildcard
 abbrev pub mask_in : List ℕ → Entry → ℕ
 mask_in text entry =
     bit_or entry.prefilter.pairs.bits
@@ -92,7 +93,7 @@ abbrev pub HaveMasks : List ℕ → List Entry → List ℕ → Type 0
 HaveMasks text entries masks =
     EachIndex masks (λ k. slice_index masks k ≡ mask_in text (slice_index_or entries k no_entry))
 
--- the rule at this place matches the text
+-- the rule at this position matches the text
 abbrev pub MatchesAt : Unsorted → ℕ → List ℕ → Type 0
 MatchesAt all at text =
     Matches (pattern_of all (slice_index_or all.entries.items at no_entry)) text
@@ -100,7 +101,7 @@ MatchesAt all at text =
 abbrev pub NoneMatches : Unsorted → List ℕ → Type 0
 NoneMatches all text = (k : ℕ) → k < length all.entries.items → ¬ MatchesAt all k text
 
--- the rule at this place matches the text, and none before it does
+-- the rule at this position matches the text, and none before it does
 abbrev pub IsFirstMatch : Unsorted → List ℕ → ℕ → Type 0
 IsFirstMatch all text at =
     (at < length all.entries.items) × MatchesAt all at text

@@ -1,4 +1,4 @@
--- The code's walk along the lines, and what it finds in them.
+-- The state that the code updates line by line (`GroupTracker`), and what it finds in the lines.
 use Rattle.std.specs.Prelude.{ℕ, ◌+◌, Bool, false, not, ◌&&◌, ◌||◌, List, []}
 use Rattle.std.specs.Prelude.{◌∷◌, Option, Some, None, option_map, if◌then◌else◌}
 use Rattle.std.specs.{List.cons_option, List.list_any, Str.is_utf8}
@@ -14,20 +14,20 @@ use Rattle.texting_robots.specs.Rules.{PlacedRule, Rule}
 abbrev pub start_of : List LineValue → GroupTracker
 start_of lines = record { captured = not (list_any is_agent lines); named = false }
 
--- one line further
+-- after one more line
 abbrev pub step : List ℕ → GroupTracker → LineValue → GroupTracker
 step name tracker line = record {
   captured = if is_agent line then is_agent_named name line || tracker.named else tracker.captured;
   named = is_agent_named name line || (not (is_group line) && tracker.named);
 }
 
--- ---- what captured lines give
+-- ---- what is in captured lines
 
 -- what is found in the next line, if it is captured
 abbrev pub if_captured : {X : Type 0} → GroupTracker → Option X → Option X
 if_captured tracker found = if tracker.captured then found else None
 
--- what `given` finds in the captured lines of those that are left, each with its place
+-- what `given` finds in the captured lines of those that are left, each with its position
 abbrev pub from_captured : {X : Type 0} → (ℕ × LineValue → Option X) → List ℕ → GroupTracker → ℕ
     → List LineValue → List X
 from_captured given name tracker position [] = []
@@ -43,7 +43,7 @@ placed line rule = option_map (λ (r : Rule). record { rule = r; line = line }) 
 abbrev pub text_from : List ℕ → Option (List ℕ)
 text_from value = if is_utf8 value then Some value else None
 
--- ---- where a line stands
+-- ---- membership
 
 -- whether the first group line of these, or one at the end, is captured
 abbrev pub captured_ahead : List ℕ → GroupTracker → List LineValue → Bool
@@ -51,13 +51,14 @@ captured_ahead name tracker [] = tracker.captured
 captured_ahead name tracker (line ∷ lines) =
     if is_group line then tracker.captured else captured_ahead name (step name tracker line) lines
 
--- by whether the next group line is captured, and whether a user-agent line stood there or before
+-- the membership of a line; `captured`: the next group line is captured; `begun`: this line or one above is
+-- a user-agent line
 abbrev pub membership_by : Bool → Bool → LineValue → Membership
 membership_by captured begun line =
     if not (is_agent line || is_group line) then Ungrouped
     else if captured then Own else if begun then Other else Ungrouped
 
--- the marks of the lines that are left, by whether a user-agent line stood before them
+-- the labels of the lines that are left; `before`: a user-agent line is above them
 abbrev pub labels_from : List ℕ → GroupTracker → Bool → ℕ → List LineValue → List Label
 labels_from name tracker before position [] = []
 labels_from name tracker before position (line ∷ lines) =
@@ -66,6 +67,6 @@ labels_from name tracker before position (line ∷ lines) =
     record { number = position + 1; membership = membership; line = line }
     ∷ labels_from name (step name tracker line) begun (position + 1) lines
 
--- the rule of a mark, if it is the agent's own, with its line
+-- the rule in a labeled line, if the line is in the crawler's own group, with the number of the line
 abbrev pub own_rule_at : Label → Option PlacedRule
 own_rule_at label = placed label.number (if is_own label.membership then rule_in label.line else None)

@@ -1,4 +1,4 @@
--- The lines of a text, computed.
+-- The lines of a text as a function.
 use Rattle.std.specs.Prelude.{ℕ, List, [], ◌∷◌, codes, map, Option, Some, None}
 use Rattle.texting_robots.specs.declared.parser.statement.Kind.{Kind}
 use Rattle.texting_robots.specs.Internal.Cut.{bodies_of}
@@ -7,12 +7,12 @@ use Rattle.texting_robots.specs.Internal.Statement.{statement_of}
 use Rattle.texting_robots.specs.declared.parser.statement.Kind.TheVariants as kind
 use Rattle.texting_robots.specs.Line.{LineValue, UserAgent, Allow, Disallow, Sitemap, CrawlDelay, Raw}
 
--- the line with this delay, or the whole body where there is none
+-- the line with this delay, or `Raw` with the whole content if there is none
 abbrev pub delay_or_raw : Option ℕ → List ℕ → LineValue
 delay_or_raw None body = Raw body
 delay_or_raw (Some delay) body = CrawlDelay (Some delay)
 
--- the line of a statement of this kind with this value, in this body
+-- the line of a directive of this kind with this value; `body` is the content of the line
 abbrev pub line_with : Kind → List ℕ → List ℕ → LineValue
 line_with kind.UserAgent value body = UserAgent value
 line_with kind.Allow value body = Allow value
@@ -25,10 +25,10 @@ abbrev pub line_by : Option (Kind × List ℕ) → List ℕ → LineValue
 line_by None body = Raw body
 line_by (Some found) body = line_with found.0 found.1 body
 
--- the line of a body
+-- the line with this content
 unfoldable pub line_of : List ℕ → LineValue
 line_of body = line_by (statement_of body) body
 
--- the lines of the bodies of a text
+-- the lines of a text
 abbrev pub lines_of : List ℕ → List LineValue
 lines_of text = map line_of (bodies_of text)

@@ -12,15 +12,15 @@ abbrev pub hash_from : ℕ → List ℕ → ℕ
 hash_from hash [] = hash
 hash_from hash (b ∷ bs) = hash_from ((hash * 33 + b) % 16777216) bs
 
--- the bucket of a name in lower case, of so many
+-- the bucket of a name in lowercase, of `count` buckets
 abbrev pub bucket_of : ℕ → List ℕ → ℕ
 bucket_of count name = hash_from 0 name % count
 
--- the line's name is in this bucket
+-- the name of the line is in this bucket
 abbrev pub is_in : ℕ → ℕ → Named → Bool
 is_in count bucket named = bucket_of count (str_to_ascii_lowercase named.name) == bucket
 
--- of the lines from a place on, each bucket's head is its first line, and each line's next one is the next
+-- among the lines from `from` on, each bucket's head is its first line, and each line is linked to the next
 -- line in its bucket
 pub record AreLinked (from : ℕ) (names : List Named) (heads nexts : List ℕ) : Type 0 where
   pub buckets : length heads ≡ length names

@@ -1,4 +1,4 @@
--- What a text needs so that a pattern can match it.
+-- The prefilter: conditions on a text without which a pattern can't match it.
 use Rattle.std.specs.Prelude.{◌≡◌, ℕ, ◌+◌, ◌*◌, ◌-◌, ◌%◌, ◌^◌, ◌<◌, ◌≤◌}
 use Rattle.std.specs.Prelude.{List, [], ◌∷◌, Option, IfSome, bit_and, bit_or, length, min, slice_index}
 use Rattle.std.specs.Int.{w64, from_le_bytes}
@@ -12,68 +12,68 @@ use Rattle.texting_robots.specs.Internal.Segments.{part_of}
 
 -- ---- the beginning
 
--- the first eight bytes, the first one lowest; behind a shorter text stand zeros
+-- the first eight bytes as a little-endian number; a shorter text is padded with zeros
 abbrev pub first_eight : List ℕ → ℕ
 first_eight text = from_le_bytes w64 text
 
--- ones in the first n bytes, up to eight
+-- ones for the first n bytes of eight
 abbrev pub ones_below : ℕ → ℕ
 ones_below n = 2 ^ (8 * min n 8) - 1
 
--- the piece's first bytes, and ones where they stand
+-- the first bytes of the segment, at most eight, and ones for them
 pub record IsHeadOf (segment : List ℕ) (head : Head) : Type 0 where
   pub mask : head.mask ≡ ones_below (length segment)
   pub bytes : head.bytes ≡ bit_and (first_eight segment) head.mask
 
--- where the head has ones, the front is as its bytes
+-- `front`, the first eight bytes of a text, has the bytes of the head where the mask has ones
 abbrev pub Fits : Head → ℕ → Type 0
 Fits head front = bit_and front head.mask ≡ head.bytes
 
--- ---- pairs of neighbouring bytes, as sets of 64 bits
+-- ---- bigrams (pairs of adjacent bytes), as sets of 64 bits
 
--- the bit of a pair
+-- the bit of a bigram
 abbrev pub pair_bit : ℕ → ℕ → ℕ
 pair_bit first second = 2 ^ ((first + 2 * second) % 64)
 
--- the bit of the byte and its neighbour, if there is one
+-- the bit of the byte and the next one, if there is one
 abbrev pub front_bit : ℕ → List ℕ → ℕ
 front_bit first [] = 0
 front_bit first (second ∷ rest) = pair_bit first second
 
--- the bits of all pairs of neighbours
+-- the bits of all bigrams of a text
 unfoldable pub pair_set : List ℕ → ℕ
 pair_set [] = 0
 pair_set (first ∷ rest) = bit_or (front_bit first rest) (pair_set rest)
 
--- each bit of the one is a bit of the other
+-- each bit of the first set is in the second
 abbrev pub AreWithin : ℕ → ℕ → Type 0
 AreWithin few many = bit_or few many ≡ many
 
--- the pairs are those of the text, where they are known
+-- the bigrams are those of the text, if they are known
 abbrev pub ArePairsOf : List ℕ → Option BigramSet → Type 0
 ArePairsOf text pairs = IfSome pairs (λ known. known.bits ≡ pair_set text)
 
--- the pairs of the bytes at a text's end
+-- the bigrams of the bytes that a text has to end with
 abbrev pub ending_pairs : List ℕ → Ending → ℕ
 ending_pairs pattern Open = 0
 ending_pairs pattern Closed = 0
 ending_pairs pattern (Last span) = pair_set (part_of pattern span)
 ending_pairs pattern Never = 0
 
--- ---- signs: some pairs that a rule needs, by which many rules are passed over at once
+-- ---- masks: some bigrams without which a rule can't match, by which many rules are skipped at once
 
--- the signs of a range are there, and aren't within the text's pairs
+-- the masks of this range exist, and none is a subset of the text's bigrams
 abbrev pub AreApart : List ℕ → ℕ → ℕ → ℕ → Type 0
 AreApart masks text from to =
     (k : ℕ) → from ≤ k → k < to → (k < length masks) × ¬ AreWithin (slice_index masks k) text
 
 -- ---- both
 
--- the text begins as it has to, and has the pairs
+-- the text begins with the bytes of the head, and has the bigrams
 pub record Meets (prefilter : Prefilter) (text : List ℕ) : Type 0 where
   pub head : Fits prefilter.head (first_eight text)
   pub pairs : AreWithin prefilter.pairs.bits (pair_set text)
 
--- what the pattern matches meets the needs
+-- every text that the pattern matches meets the prefilter
 abbrev pub ArePrefilter : List ℕ → Prefilter → Type 0
 ArePrefilter pattern prefilter = (text : List ℕ) → Matches pattern text → Meets prefilter text

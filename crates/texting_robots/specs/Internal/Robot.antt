@@ -1,4 +1,4 @@
--- A robot by what is computed of its lines, and why there is none.
+-- A robot by functions of its lines, and why there may be none.
 use Rattle.std.specs.Prelude.{◌≡◌, ⊤, ℕ, List, Any, IsPermutation}
 use Rattle.texting_robots.specs.{Line.LineValue, Pattern.IsOverlong, Robot.RobotValue, Rules.Rule}
 use Rattle.texting_robots.specs.Executable.{delay_for, placed_rules, rules_for, sitemaps_in}
@@ -18,13 +18,13 @@ pub record IsComputedRobot (agent : List ℕ) (lines : List LineValue) (robot : 
   pub rules : IsPermutation (placed_rules agent lines) robot.rules
   pub accepted : ¬ SomeOverlong agent lines
 
--- what an error at the line with this number comes to
+-- the rejection for an error at the line with this number
 abbrev pub rejection_at : ℕ → Error → Rejection
 rejection_at number error.InvalidRobots = Memory
 rejection_at number error.InvalidRule = Overlong number
 rejection_at number error.Memory = Memory
 
--- the rules may be refused so: nothing is claimed of when a request for memory fails
+-- this may be the reason to reject these rules; there is no condition for allocation failures
 abbrev pub IsRejectionOf : List PlacedRule → Rejection → Type 0
 IsRejectionOf rules (Overlong number) = IsFirstOverlong rules number
 IsRejectionOf rules Memory = ⊤

@@ -1,4 +1,4 @@
--- What the parts of a cut pattern stand for, by what is left of the pattern behind each.
+-- What the segments of a pattern match, given by the rest of the pattern after each of them.
 use Rattle.std.specs.Prelude.{◌≡◌, ◌↔◌, ℕ, ◌+◌, ◌-◌, ◌≤◌}
 use Rattle.std.specs.Prelude.{◌==◌, ◌||◌, Bool, true, false, List, []}
 use Rattle.std.specs.Prelude.{◌∷◌, ◌++◌, All, drop, length, slice_range, take}
@@ -15,28 +15,28 @@ use Rattle.texting_robots.specs.Pattern.{dollar, IsSuffix, Matches, star}
 abbrev pub is_wildcard : ℕ → Bool
 is_wildcard b = (b == star) || (b == dollar)
 
--- it is at its end, or begins with a mark
+-- the pattern is empty, or begins with a wildcard
 abbrev pub IsAtWildcard : List ℕ → Type 0
 IsAtWildcard [] = Unit {0}
 IsAtWildcard (b ∷ q) = is_wildcard b ≡ true
 
--- the piece stands before the pattern's first mark, and there the rest begins
+-- the segment precedes the pattern's first wildcard, where the rest begins
 pub record IsCutAtWildcard (pattern segment rest : List ℕ) : Type 0 where
   pub plain : All (λ b. is_wildcard b ≡ false) segment
   pub parts : pattern ≡ segment ++ rest
   pub at_wildcard : IsAtWildcard rest
 
--- what follows the stars at the front
+-- what follows the leading stars
 abbrev pub after_stars : List ℕ → List ℕ
 after_stars pattern = drop (prefix_len (λ b. b == star) pattern) pattern
 
--- it is a dollar, and behind that what matches the empty text
+-- it is a dollar, followed by a pattern that matches the empty text
 pub record Closes (pattern : List ℕ) : Type 0 where
   pub following : List ℕ
   pub dollar : pattern ≡ dollar ∷ following
   pub empty : Matches following []
 
--- the range lies within the list
+-- the range is within the list
 pub record IsSpan {X : Type 0} (xs : List X) (span : Span) : Type 0 where
   pub ordered : span.start ≤ span.end
   pub within : span.end ≤ length xs
@@ -45,55 +45,55 @@ pub record IsSpan {X : Type 0} (xs : List X) (span : Span) : Type 0 where
 abbrev pub part_of : {X : Type 0} → List X → Span → List X
 part_of xs span = slice_range xs span.start span.end
 
--- stands for a piece where there is none
+-- a default, for positions without a segment
 abbrev pub no_segment : Segment
 no_segment = record { span = record { start = 0; end = 0 }; table = 0 }
 
--- the text is the piece, and then what the rest of the pattern matches
+-- the text is the segment, and then what the rest of the pattern matches
 abbrev pub InFront : List ℕ → List ℕ → List ℕ → Type 0
 InFront segment rest text = (after : List ℕ) × (text ≡ segment ++ after) × Matches rest after
 
--- the piece stands somewhere in the text, and then comes what the rest of the pattern matches
+-- the segment occurs somewhere in the text, followed by what the rest of the pattern matches
 abbrev pub Somewhere : List ℕ → List ℕ → List ℕ → Type 0
 Somewhere segment rest text = (after : List ℕ) × IsSuffix (segment ++ after) text × Matches rest after
 
--- where it matches the end of a text, it matches the text
+-- if it matches a suffix of a text, it matches the text
 abbrev pub Grows : List ℕ → Type 0
 Grows pattern = (end text : List ℕ) → IsSuffix end text → Matches pattern end → Matches pattern text
 
--- what the ending says of the text that is left
+-- the text that is left fits the ending of the pattern
 abbrev pub EndsAs : List ℕ → Ending → List ℕ → Type 0
 EndsAs pattern Open text = Unit {0}
 EndsAs pattern Closed text = text ≡ []
 EndsAs pattern (Last span) text = IsSuffix (part_of pattern span) text
 EndsAs pattern Never text = ⊥
 
--- the range of an ending lies within the pattern
+-- the range in an ending is within the pattern
 abbrev pub IsEnding : List ℕ → Ending → Type 0
 IsEnding pattern Open = Unit {0}
 IsEnding pattern Closed = Unit {0}
 IsEnding pattern (Last span) = IsSpan pattern span
 IsEnding pattern Never = Unit {0}
 
--- the table of the piece's bytes stands where the piece says
+-- the failure table for the bytes of the segment is at the position that the segment states
 pub record IsSegment (pattern borders : List ℕ) (segment : Segment) : Type 0 where
   pub span : IsSpan pattern segment.span
   pub fits : segment.table + (length (part_of pattern segment.span) - 1) ≤ length borders
   pub table : IsTable (part_of pattern segment.span)
       (slice_range borders segment.table (segment.table + (length (part_of pattern segment.span) - 1)))
 
--- what is left of the pattern is the piece, which may stand anywhere, and then the rest
+-- what is left of the pattern is the segment, which may occur anywhere, and then the rest
 pub record IsLeft (left segment rest : List ℕ) : Type 0 where
   pub decides : (text : List ℕ) → Matches left text ↔ Somewhere segment rest text
   pub grows : Grows rest
 
--- what is left of the pattern is these pieces, one after the other, and then the ending
+-- what is left of the pattern is these segments, one after the other, and then the ending
 abbrev pub AreLeft : List ℕ → Ending → List Segment → List ℕ → Type 0
 AreLeft pattern ending [] left = (text : List ℕ) → Matches left text ↔ EndsAs pattern ending text
 AreLeft pattern ending (segment ∷ segments) left =
     (rest : List ℕ) × IsLeft left (part_of pattern segment.span) rest × AreLeft pattern ending segments rest
 
--- the pattern is its first piece, these pieces with their tables, and its ending
+-- the pattern is its first segment, these segments with their failure tables, and its ending
 pub record AreSegments (pattern : List ℕ) (ends : Ends) (segments : List Segment)
     (borders : List ℕ) : Type 0 where
   pub first : ends.first_len ≤ length pattern
@@ -103,7 +103,7 @@ pub record AreSegments (pattern : List ℕ) (ends : Ends) (segments : List Segme
   pub decides : (text : List ℕ) → Matches pattern text ↔ InFront (take ends.first_len pattern) rest text
   pub left : AreLeft pattern ends.ending segments rest
 
--- the pieces were added, and their tables behind the others
+-- the segments were appended, and so were their failure tables
 pub record AddsSegments (pattern : List ℕ) (ends : Ends) (old_segments new_segments : List Segment)
     (old_borders new_borders : List ℕ) : Type 0 where
   pub segments : List Segment

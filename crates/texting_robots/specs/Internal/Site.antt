@@ -39,7 +39,7 @@ abbrev pub tag_in : ℕ → ℕ → LineValue → Option Tagged
 tag_in run number line =
     if is_group line then Some (record { number = number; line = line; run = run }) else None
 
--- the group lines of those that are left, by the run before them
+-- the group lines among those that are left; `run` is the run above them
 abbrev pub tagged_from : ℕ → Bool → ℕ → List LineValue → List Tagged
 tagged_from run joins position [] = []
 tagged_from run joins position (line ∷ lines) =
@@ -64,7 +64,7 @@ named_from run joins position count (line ∷ lines) =
     (named_from (run_after run joins (position + 1) line) (joins_after joins line) (position + 1)
     (count_after count line) lines)
 
--- those of a whole file
+-- the same for all lines of a file
 abbrev pub tagged : List LineValue → List Tagged
 tagged lines = tagged_from 0 false 0 lines
 
@@ -75,22 +75,22 @@ named lines = named_from 0 false 0 0 lines
 abbrev pub has_name : List ℕ → Named → Bool
 has_name name named = bytes_eq (str_to_ascii_lowercase named.name) name
 
--- and is of this run
+-- and it is in this run
 abbrev pub is_of : List ℕ → ℕ → Named → Bool
 is_of name run named = has_name name named && (named.run == run)
 
 abbrev pub is_run_of : List ℕ → List Named → ℕ → Bool
 is_run_of name names run = list_any (is_of name run) names
 
--- the group lines of the runs that have the name, in order
+-- the group lines of the runs that contain the name, in order
 abbrev pub own_tagged : List ℕ → List LineValue → List Tagged
 own_tagged name lines = filter (λ t. is_run_of name (named lines) t.run) (tagged lines)
 
--- the rule that a group line gives
+-- the rule in a group line
 abbrev pub rule_of : Tagged → Option PlacedRule
 rule_of t = placed t.number (rule_in t.line)
 
--- the delay
+-- the delay in a group line
 abbrev pub delay_of : Tagged → Option ℕ
 delay_of t = delay_in t.line
 
@@ -99,9 +99,9 @@ abbrev pub in_front : ℕ → List Tagged → List Tagged
 in_front run [] = []
 in_front run (t ∷ tags) = if t.run == run then t ∷ in_front run tags else []
 
--- ---- what is kept of a file
+-- ---- what a site keeps of a file
 
--- the bytes of a text at a span, and the line that they are
+-- the bytes of a text at a span, and the line with this content
 abbrev pub bytes_at : List ℕ → Span → List ℕ
 bytes_at text span = take span.len (drop span.start text)
 
@@ -120,13 +120,13 @@ named_of agent = record { name = agent.name.items; run = agent.run; start = agen
 abbrev pub listed : List ℕ → Span → Option (List ℕ)
 listed text span = sitemap_in (line_at text span)
 
--- the last delay before the first user-agent line, after one line more; `begun` is whether there was a
--- user-agent line before
+-- the last delay above the first user-agent line, after one more line; `begun`: there was a user-agent line
+-- before it
 abbrev pub early_after : Bool → Option ℕ → LineValue → Option ℕ
 early_after begun early line = if begun then early else option_or (delay_in line) early
 
--- the group lines, names and sitemaps are those of a file's lines, and the delay is the last one before all
--- names
+-- the group lines, names and sitemaps are those of the lines of a file, and the delay is the last one above
+-- all user-agent lines
 pub record IsIndexOf (text : List ℕ) (groups : List KeptLine) (names : List Named) (sitemaps : List Span)
     (early : Option ℕ) : Type 0 where
   pub groups_are : map (tag_at text) groups ≡ tagged (file_lines text)

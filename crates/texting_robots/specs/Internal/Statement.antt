@@ -1,4 +1,4 @@
--- The statement of a body, computed from its front.
+-- The directive in the content of a line, as a function that reads it from its start.
 use Rattle.std.specs.Prelude.{◌≡◌, ◌⊎◌, ℕ, ◌==◌, ◌||◌, Bool, nat_lt, List, []}
 use Rattle.std.specs.Prelude.{◌∷◌, map, length, take, drop, Option, Some, None, if◌then◌else◌}
 use Rattle.std.specs.Prelude.{option_and_then}
@@ -23,16 +23,17 @@ colon = 58
 abbrev pub hash : ℕ
 hash = 35
 
--- nothing, or a hash and anything
+-- nothing, or `#` and any bytes
 abbrev pub IsOptionalComment : List ℕ → Type 0
 IsOptionalComment bytes = (bytes ≡ []) ⊎ ((text : List ℕ) × (bytes ≡ hash ∷ text))
 
--- the text from its first byte that is no blank on
+-- the text without leading spaces and tabs
 abbrev pub skip_blanks : List ℕ → List ℕ
 skip_blanks [] = []
 skip_blanks (byte ∷ text) = if byte == space || byte == tab then skip_blanks text else byte ∷ text
 
--- the kind whose keys begin with this small letter: 'u' is 117, 'a' 97, 'd' 100, 's' 115 and 'c' 99
+-- the kind whose field names begin with this lowercase letter: 'u' is 117, 'a' 97, 'd' 100, 's' 115 and 'c'
+-- 99
 abbrev pub kind_with : ℕ → Option Kind
 kind_with letter =
     if letter == 117 then Some UserAgent
@@ -41,16 +42,16 @@ kind_with letter =
     else (if letter == 115 then Some Sitemap
     else (if letter == 99 then Some CrawlDelay else None))))
 
--- the kind that a key at the front of the text has, if one stands there
+-- the kind whose field names begin with the first letter of the text, in any case
 abbrev pub kind_by : List ℕ → Option Kind
 kind_by [] = None
 kind_by (byte ∷ text) = kind_with (to_ascii_lowercase byte)
 
--- the text begins with the spelling, which is in small letters, ASCII letters in any case
+-- the text begins with the field name, which is given in lowercase, ASCII letters in any case
 abbrev pub begins : List ℕ → List ℕ → Bool
 begins name text = bytes_eq (map to_ascii_lowercase (take (length name) text)) name
 
--- what follows the first of these spellings that the text begins with
+-- what follows the first of these field names that the text begins with
 abbrev pub after_any : List (List ℕ) → List ℕ → Option (List ℕ)
 after_any [] text = None
 after_any (name ∷ field_names) text =
@@ -64,11 +65,11 @@ after_separator rest [] = after_blanks rest []
 after_separator rest (byte ∷ after) =
     if byte == colon then Some (skip_blanks after) else after_blanks rest (byte ∷ after)
 
--- what follows the separator that the rest begins with, and the blanks behind it
+-- what follows the leading separator, and spaces and tabs after it
 abbrev pub tail_of : List ℕ → Option (List ℕ)
 tail_of rest = after_separator rest (skip_blanks rest)
 
--- what stands before the first hash
+-- the raw value: what precedes the first `#`
 abbrev pub region_of : List ℕ → List ℕ
 region_of tail = before_first (λ byte. byte == hash) tail
 
@@ -79,11 +80,11 @@ trimmed region = trim_end_by is_whitespace (trim_start_by is_whitespace region)
 abbrev pub value_of : List ℕ → List ℕ
 value_of tail = trimmed (region_of tail)
 
--- the tail of a text that begins with a key of this kind and a separator
+-- the tail of a text that begins with a field name of this kind and a separator
 abbrev pub tail_as : Kind → List ℕ → Option (List ℕ)
 tail_as kind text = option_and_then tail_of (after_any (field_names kind) text)
 
--- the kind and the value of a body, if it is a statement
+-- the kind and the value of the directive in this content, if it is one
 unfoldable pub statement_of : List ℕ → Option (Kind × List ℕ)
 statement_of body =
     let text = skip_blanks body in

@@ -1,4 +1,4 @@
-//! Passing over lines that can't be user-agent lines, many bytes at a time and without cutting them.
+//! Skips lines that can't be user-agent lines, many bytes at a time and without cutting them.
 ghost use Rattle.std.specs.Prelude.{◌≡◌, ℕ, ◌+◌, ◌<◌, List, false, length, true};
 ghost use Rattle.std.specs.List.{list_any};
 ghost use Rattle.texting_robots.specs.Group.{is_agent_named};
@@ -7,10 +7,10 @@ ghost use Rattle.texting_robots.specs.Internal.{Cut.read_as, Line.lines_of};
 
 use super::cut::{after_end, body_len};
 
-/// How many pairs of neighbouring bytes are tested at once.
+/// How many pairs of adjacent bytes are tested at once.
 const LANES: usize = 32;
 
-/// Whether the byte may end a line. One comparison is enough, since files hold few other bytes up to CR.
+/// Whether the byte may end a line. This is one comparison, so it also accepts other bytes below CR.
 fn may_end(byte: u8) -> bool
     ensures { result ≡ may_end byte }
 {
@@ -24,8 +24,8 @@ fn may_begin(byte: u8) -> bool
     (byte == b' ') | (byte == b'\t') | (byte == b'U') | (byte == b'u')
 }
 
-/// Whether no user-agent line begins right after one of the first bytes. All are tested: where none does, stopping early costs
-/// more than it saves.
+/// Whether no user-agent line begins right after one of the first `LANES` bytes. It tests all of them without an early
+/// exit, since in the usual case none does.
 fn none_begins(text: &[u8]) -> bool
     requires { LANES < length text.now }
     ensures { result ≡ true → NoneBegins text.now LANES }
@@ -37,7 +37,7 @@ fn none_begins(text: &[u8]) -> bool
     none
 }
 
-/// The lines after the first one, without some at their front that can't be user-agent lines.
+/// The lines after the first one, from which some leading lines that can't be user-agent lines may be missing.
 pub(crate) fn after_others<'a>(text: &'a [u8], nul_ends: bool) -> &'a [u8]
     requires { 0 < length text.now }
     ensures shorter { length result.now < length text.now }
@@ -48,7 +48,7 @@ pub(crate) fn after_others<'a>(text: &'a [u8], nul_ends: bool) -> &'a [u8]
     while rest.len() > LANES && none_begins(rest) {
         rest = rest.split_at(LANES).1;
     }
-    // the rest begins in the first line, or in one that isn't a user-agent line, and goes on with the next line
+    // the rest begins in the first line or in another line that isn't a user-agent line; skip to the next line
     let (_, after) = rest.split_at(body_len(rest, nul_ends));
     after_end(after, nul_ends)
 }

@@ -7,10 +7,10 @@ use crate::lanes::{LANES, all_are, first_lane};
 use memchr::{memchr2, memchr3};
 use std::simd::prelude::*;
 
-/// How many bytes are compared at once where fewer than `LANES` are left.
+/// How many bytes are compared at once if fewer than `LANES` are left.
 const HALF: usize = 16;
 
-/// Where a line end stands first.
+/// The index of the first byte that ends a line.
 fn first_end(text: &[u8], nul_ends: bool) -> Option<usize>
     ensures { let len = body_len (read_as nul_ends text.now) in MatchOption result (len ≡ length text.now)
         (λ end. (len ≡ end) × (end < length text.now)) }
@@ -22,14 +22,14 @@ fn first_end(text: &[u8], nul_ends: bool) -> Option<usize>
     }
 }
 
-/// A third byte that ends a line, beside CR and LF: NUL, or LF again.
+/// A third byte that ends a line, besides CR and LF: NUL, or LF again.
 fn third_end(nul_ends: bool) -> u8
     ensures { result ≡ (if nul_ends then 0 else lf) }
 {
     if nul_ends { 0 } else { b'\n' }
 }
 
-/// How many of the text's first bytes stand before the first line end among these.
+/// How many of the first `LANES` bytes precede the first of them that ends a line.
 #[inline(always)]
 fn body_len_in_front(text: &[u8], nul_ends: bool) -> usize
     requires { LANES ≤ length text.now }
@@ -43,7 +43,7 @@ fn body_len_in_front(text: &[u8], nul_ends: bool) -> usize
     first_lane(ends.to_bitmask(), LANES)
 }
 
-/// The same of half as many bytes.
+/// The same for half as many bytes.
 #[inline(always)]
 fn body_len_in_half(text: &[u8], nul_ends: bool) -> usize
     requires { HALF ≤ length text.now }
@@ -57,7 +57,7 @@ fn body_len_in_half(text: &[u8], nul_ends: bool) -> usize
     first_lane(ends.to_bitmask(), HALF)
 }
 
-/// How many bytes stand before the first line end of a short text.
+/// How many bytes of a short text precede the first one that ends a line.
 fn short_body_len(text: &[u8], nul_ends: bool) -> usize
     ensures value { result ≡ body_len (read_as nul_ends text.now) }
     ensures within { result ≤ length text.now }
@@ -73,7 +73,7 @@ fn short_body_len(text: &[u8], nul_ends: bool) -> usize
     HALF + first_end(rest, nul_ends).unwrap_or(rest.len())
 }
 
-/// How many bytes stand before the first line end.
+/// How many bytes precede the first one that ends a line.
 pub(crate) fn body_len(text: &[u8], nul_ends: bool) -> usize
     ensures value { result ≡ body_len (read_as nul_ends text.now) }
     ensures within { result ≤ length text.now }
@@ -89,14 +89,14 @@ pub(crate) fn body_len(text: &[u8], nul_ends: bool) -> usize
     text.len() - rest.len() + short_body_len(rest, nul_ends)
 }
 
-/// Whether the byte ends a line, alone or after CRs.
+/// Whether the byte completes a line terminator, alone or after CRs.
 fn feeds(byte: u8, nul_ends: bool) -> bool
     ensures { result ≡ (read_byte nul_ends byte == lf) }
 {
     byte == b'\n' || nul_ends && byte == 0
 }
 
-/// The text without most of the CRs at its front, which are passed over `LANES` at a time.
+/// The text without most of its leading CRs, which are skipped `LANES` at a time.
 #[inline(never)]
 fn skip_returns<'a>(text: &'a [u8], nul_ends: bool) -> &'a [u8]
     ensures { drop (end_len (read_as nul_ends result.now)) result.now ≡ drop (end_len (read_as nul_ends text.now)) text.now }
@@ -108,8 +108,8 @@ fn skip_returns<'a>(text: &'a [u8], nul_ends: bool) -> &'a [u8]
     rest
 }
 
-/// The text, without most of the CRs at its front if there are at least two. Most line ends have one CR or none, and are left to
-/// the caller.
+/// The text, without most of its leading CRs if there are at least two. Most terminators have at most one CR, and are
+/// left to the caller.
 #[inline(always)]
 fn without_many_returns<'a>(text: &'a [u8], nul_ends: bool) -> &'a [u8]
     ensures { drop (end_len (read_as nul_ends result.now)) result.now ≡ drop (end_len (read_as nul_ends text.now)) text.now }
@@ -120,7 +120,7 @@ fn without_many_returns<'a>(text: &'a [u8], nul_ends: bool) -> &'a [u8]
     }
 }
 
-/// What follows the line end that the text begins with, whatever end that is.
+/// What follows the leading line terminator, for any terminator.
 #[tactic(auto, using(crate::proofs::CutFromFront::past_return, crate::proofs::CutFromFront::past_feed, crate::proofs::CutFromFront::no_end))]
 #[inline(never)]
 fn after_any_end<'a>(text: &'a [u8], nul_ends: bool) -> &'a [u8]
@@ -136,7 +136,7 @@ fn after_any_end<'a>(text: &'a [u8], nul_ends: bool) -> &'a [u8]
     }
 }
 
-/// What follows the line end that the text begins with. Most are an LF alone, and that is tested without a call.
+/// What follows the leading line terminator. A single LF is tested first, without a call.
 #[tactic(auto, using(crate::proofs::CutFromFront::past_line_feed))]
 #[inline(always)]
 pub(crate) fn after_end<'a>(text: &'a [u8], nul_ends: bool) -> &'a [u8]

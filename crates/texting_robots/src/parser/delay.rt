@@ -1,4 +1,4 @@
-//! How long a crawler waits between two requests.
+//! Crawl delays: how long a crawler has to wait between two requests.
 ghost use Rattle.std.specs.Prelude.{◌≡◌, ◌==◌, ◌≤◌, All, length, take};
 ghost use Rattle.std.specs.Char.{IsAsciiDigit, is_ascii_digit};
 ghost use Rattle.std.specs.List.{list_all, prefix_len};
@@ -10,7 +10,7 @@ ghost use Rattle.texting_robots.specs.Internal.Delay as steps;
 
 use std::marker::Model;
 
-/// A number of seconds in decimal: its digits, and the text of its exponent.
+/// A decimal number of seconds: its digits, and its exponent with a possible sign.
 #[derive(Drop)]
 struct Number<'a> {
     whole: &'a [u8],
@@ -29,13 +29,13 @@ impl<'a> Model for Number<'a> {
     ghost invariant = { λ n. HasDigits (record { whole = n.whole.now; fraction = n.fraction.now; exponent = n.exponent.now }) };
 }
 
-/// The digits of a second's fraction that are whole microseconds.
+/// How many digits of the fraction are whole microseconds.
 const MICROS_DIGITS: usize = 6;
 
-/// A number that more zeros than these end is above `u64::MAX`, unless it is 0.
+/// A number other than 0 that is followed by so many zeros is above `u64::MAX`.
 const ZEROS: [u8; 20] = [b'0'; 20];
 
-/// Whether a minus stands in front of the text, and the text behind its sign.
+/// Whether the text begins with a minus, and the text without its sign.
 fn split_sign(text: &[u8]) -> (bool, &[u8])
     ensures minus { result.0 ≡ starts_with_minus text.now }
     ensures rest { result.1.now ≡ without_leading_sign text.now }
@@ -47,7 +47,7 @@ fn split_sign(text: &[u8]) -> (bool, &[u8])
     }
 }
 
-/// How many digits stand in front.
+/// How many leading digits there are.
 fn digits_len(text: &[u8]) -> usize
     ensures value { result ≡ prefix_len is_ascii_digit text.now }
     ensures within { result ≤ length text.now }
@@ -55,7 +55,7 @@ fn digits_len(text: &[u8]) -> usize
     text.iter().take_while(|byte| byte.is_ascii_digit()).count()
 }
 
-/// The digits in front, and what follows them.
+/// The leading digits, and what follows them.
 fn split_digits(text: &[u8]) -> (&[u8], &[u8])
     ensures digits { result.0.now ≡ steps.digits_in_front text.now }
     ensures rest { result.1.now ≡ steps.after_digits text.now }
@@ -63,7 +63,7 @@ fn split_digits(text: &[u8]) -> (&[u8], &[u8])
     text.split_at(digits_len(text))
 }
 
-/// The digits behind a point in front, and what follows them.
+/// The digits after a leading point, and what follows them.
 fn split_fraction(text: &[u8]) -> (&[u8], &[u8])
     ensures digits { result.0.now ≡ steps.fraction_in_front text.now }
     ensures rest { result.1.now ≡ steps.after_fraction text.now }
@@ -95,7 +95,8 @@ fn is_numeral(text: &[u8]) -> bool
     !text.is_empty() && are_digits(text)
 }
 
-/// The exponent of a number whose digits are read: a sign and digits, or nothing where it has none.
+/// Parses what follows the digits of a number: an exponent, or nothing. The result is the sign and digits of the
+/// exponent.
 fn read_exponent(text: &[u8]) -> Option<&[u8]>
     ensures { option_copied result ≡ steps.exponent_of text.now }
 {
@@ -106,7 +107,7 @@ fn read_exponent(text: &[u8]) -> Option<&[u8]>
     }
 }
 
-/// The number that the text spells.
+/// Parses a number of seconds without a sign.
 fn read_number(text: &[u8]) -> Option<Number<'_>>
     ensures { result ≡ steps.number_of text.now }
 {
@@ -123,14 +124,14 @@ fn read_number(text: &[u8]) -> Option<Number<'_>>
     })
 }
 
-/// So many digits from the first, or all where there are no more.
+/// The first `count` digits, or all if there are fewer.
 fn first(digits: &[u8], count: usize) -> &[u8]
     ensures { result.now ≡ take count digits.now }
 {
     digits.get(..count).unwrap_or(digits)
 }
 
-/// The number that these digits write when they follow those of `start`, at most `u64::MAX`.
+/// The number whose digits are those of `start` and then these, at most `u64::MAX`.
 #[tactic(auto, using(crate::proofs::DelayNumbers::digit_there, crate::proofs::DelayNumbers::one_more_digit, crate::proofs::DelayNumbers::all_digits_read))]
 fn append_digits(start: u64, digits: &[u8]) -> u64
     requires { All IsAsciiDigit digits.now }
@@ -146,7 +147,7 @@ fn append_digits(start: u64, digits: &[u8]) -> u64
 }
 
 impl Number<'_> {
-    /// Whether only zeros stand before the exponent.
+    /// Whether all digits before the exponent are zeros.
     fn is_zero(&self) -> bool
         ensures { result ≡ steps.is_zero self.now }
     {
@@ -187,10 +188,10 @@ fn is_infinite(text: &[u8]) -> bool
     text.eq_ignore_ascii_case(b"inf") || text.eq_ignore_ascii_case(b"infinity")
 }
 
-/// The delay that a text names in seconds, as whole microseconds rounded down, at most `u64::MAX`.
+/// Parses a delay in seconds. The result is in microseconds, rounded down, and at most `u64::MAX`.
 ///
-/// The text isn't trimmed. It is a decimal number, with an exponent or without, or `inf` or `infinity`; `None` refuses all
-/// else, and what is below zero. It takes no memory.
+/// The text isn't trimmed. It has to be a decimal number, possibly with an exponent, or `inf` or `infinity`. For
+/// anything else, and for a delay below zero, the result is `None`. It doesn't allocate.
 #[tactic(auto, using(crate::proofs::DelayLemmas::is_delay))]
 pub fn read_delay(text: &[u8]) -> Option<u64>
     ensures { IsDelay text.now result }

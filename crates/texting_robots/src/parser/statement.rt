@@ -1,4 +1,5 @@
-//! Which statement a body is.
+//! Directives: which one the content of a line is. A directive consists of a field name, a separator, and a tail, which
+//! is a raw value and possibly a comment.
 ghost use Rattle.std.specs.Prelude.{◌≡◌, ◌↔◌, ◌==◌, IfSome, IsTrue, MatchOption, Some, None, map, true, false, drop, length};
 ghost use Rattle.std.specs.List.{list_any};
 ghost use Rattle.std.specs.Str.{str_to_ascii_lowercase};
@@ -9,7 +10,7 @@ ghost use Rattle.texting_robots.specs.Internal.Statement.{skip_blanks, kind_by, 
 use bstr::ByteSlice;
 use memchr::memchr;
 
-/// What a statement is about, as its key says.
+/// The kind of a directive, which its field name determines.
 #[derive(Clone, Copy, PartialEq, Eq)]
 pub enum Kind {
     /// A crawler that the group is for.
@@ -18,14 +19,14 @@ pub enum Kind {
     Allow,
     /// What may not be fetched.
     Disallow,
-    /// Where a sitemap stands.
+    /// The address of a sitemap.
     Sitemap,
-    /// How long a crawler waits.
+    /// How long a crawler has to wait.
     CrawlDelay,
 }
 
-/// How a key of this kind is spelled, ASCII letters in any case. The first is the usual one, as it is mostly written. It allocates
-/// nothing.
+/// The accepted field names of a directive, ASCII letters in any case. The first is the usual one, in its usual case.
+/// It doesn't allocate.
 pub fn field_names(kind: Kind) -> &'static [&'static str]
     ensures { map (λ name. str_to_ascii_lowercase name.now) result.now ≡ field_names kind }
 {
@@ -45,7 +46,7 @@ pub fn field_names(kind: Kind) -> &'static [&'static str]
     }
 }
 
-/// The text without the spaces and tabs at its front.
+/// The text without leading spaces and tabs.
 pub(crate) fn skip_blanks<'a>(text: &'a [u8]) -> &'a [u8]
     ensures { result.now ≡ skip_blanks text.now }
 {
@@ -56,7 +57,8 @@ pub(crate) fn skip_blanks<'a>(text: &'a [u8]) -> &'a [u8]
     rest
 }
 
-/// The kind that a key at the front of the text has, if one stands there. The first letter tells the kinds apart.
+/// The kind whose field names begin with the first letter of the text, in any case. The rest of the field name isn't
+/// checked.
 #[inline(always)]
 pub(crate) fn kind_by(text: &[u8]) -> Option<Kind>
     ensures { result ≡ kind_by text.now }
@@ -71,14 +73,14 @@ pub(crate) fn kind_by(text: &[u8]) -> Option<Kind>
     }
 }
 
-/// Whether the key is the spelling, ASCII letters in any case. One that is written alike is told sooner.
+/// Whether the field name is this one, ASCII letters in any case. It tries an exact comparison first.
 fn is_written(key: &[u8], name: &[u8]) -> bool
     ensures { IsTrue result ↔ (str_to_ascii_lowercase key.now ≡ str_to_ascii_lowercase name.now) }
 {
     key == name || key.eq_ignore_ascii_case(name)
 }
 
-/// What follows the spelling, if the text begins with it, ASCII letters in any case.
+/// What follows the field name, if the text begins with it, ASCII letters in any case.
 fn after_name<'a>(name: &str, text: &'a [u8]) -> Option<&'a [u8]>
     ensures { let small = str_to_ascii_lowercase name.now in MatchOption result
         (begins small text.now ≡ false)
@@ -92,7 +94,7 @@ fn after_name<'a>(name: &str, text: &'a [u8]) -> Option<&'a [u8]>
     }
 }
 
-/// What follows the first of the spellings that the text begins with.
+/// What follows the first of the field names that the text begins with.
 fn after_any<'a>(field_names: &[&str], text: &'a [u8]) -> Option<&'a [u8]>
     ensures { let small = map (λ name. str_to_ascii_lowercase name.now) field_names.now
         in MatchOption result (after_any small text.now ≡ None)
@@ -106,7 +108,7 @@ fn after_any<'a>(field_names: &[&str], text: &'a [u8]) -> Option<&'a [u8]>
     None
 }
 
-/// What follows the separator and the blanks behind it.
+/// What follows the separator, and spaces and tabs after it.
 #[inline(always)]
 fn tail_of<'a>(rest: &'a [u8]) -> Option<&'a [u8]>
     ensures { MatchOption result (tail_of rest.now ≡ None) (λ tail. tail_of rest.now ≡ Some tail.now) }
@@ -119,7 +121,7 @@ fn tail_of<'a>(rest: &'a [u8]) -> Option<&'a [u8]>
     }
 }
 
-/// What follows the key, if it has the usual spelling and the usual case. Other keys are left to [`after_any`].
+/// What follows the field name, if it is the usual one in its usual case. Other field names are left to [`after_any`].
 #[inline(always)]
 fn after_usual<'a>(kind: Kind, text: &'a [u8]) -> Option<&'a [u8]>
     ensures { IfSome result (λ rest. after_any (field_names kind) text.now ≡ Some rest.now) }
@@ -133,7 +135,7 @@ fn after_usual<'a>(kind: Kind, text: &'a [u8]) -> Option<&'a [u8]>
     }
 }
 
-/// What follows the separator, if the text begins with a key of this kind, in any of its spellings.
+/// What follows the separator, if the text begins with any field name of this kind.
 #[inline(never)]
 fn tail_by_field_names<'a>(kind: Kind, text: &'a [u8]) -> Option<&'a [u8]>
     ensures { MatchOption result (tail_as kind text.now ≡ None) (λ tail. tail_as kind text.now ≡ Some tail.now) }
@@ -141,7 +143,7 @@ fn tail_by_field_names<'a>(kind: Kind, text: &'a [u8]) -> Option<&'a [u8]>
     tail_of(after_any(field_names(kind), text)?)
 }
 
-/// What follows the separator, if the text begins with a key of this kind.
+/// What follows the separator, if the text begins with a field name of this kind.
 #[inline(always)]
 pub(crate) fn tail_as<'a>(kind: Kind, text: &'a [u8]) -> Option<&'a [u8]>
     ensures { MatchOption result (tail_as kind text.now ≡ None) (λ tail. tail_as kind text.now ≡ Some tail.now) }
@@ -152,7 +154,7 @@ pub(crate) fn tail_as<'a>(kind: Kind, text: &'a [u8]) -> Option<&'a [u8]>
     }
 }
 
-/// Whether a byte is a hash. It has no way out before the last byte, so a few bytes are compared at once.
+/// Whether some byte is `#`. It tests all bytes without an early exit, so that the compiler can vectorize the loop.
 fn holds_hash_among(bytes: &[u8]) -> bool
     ensures { result ≡ list_any (λ byte. byte == hash) bytes.now }
 {
@@ -163,7 +165,7 @@ fn holds_hash_among(bytes: &[u8]) -> bool
     holds
 }
 
-/// Whether a hash stands in the text. A short text is looked at in two parts of one length, which may overlap.
+/// Whether the text contains `#`. Eight to 32 bytes are tested as two parts of equal length, which may overlap.
 fn holds_hash(text: &[u8]) -> bool
     ensures { result ≡ list_any (λ byte. byte == hash) text.now }
 {
@@ -175,7 +177,7 @@ fn holds_hash(text: &[u8]) -> bool
     }
 }
 
-/// What stands before the first hash.
+/// What precedes the first `#`.
 #[tactic(auto, using(crate::proofs::RegionLemmas::first_is, crate::proofs::RegionLemmas::none_is))]
 #[inline(never)]
 fn before_hash<'a>(tail: &'a [u8]) -> &'a [u8]
@@ -187,7 +189,7 @@ fn before_hash<'a>(tail: &'a [u8]) -> &'a [u8]
     }
 }
 
-/// What stands before the comment. Most tails hold none, and these are told soonest.
+/// The raw value: what precedes the comment. It first tests whether there is a comment, since most tails have none.
 #[tactic(auto, using(crate::proofs::RegionLemmas::plain_is))]
 fn region_of<'a>(tail: &'a [u8]) -> &'a [u8]
     ensures { result.now ≡ region_of tail.now }
@@ -199,7 +201,7 @@ fn region_of<'a>(tail: &'a [u8]) -> &'a [u8]
     }
 }
 
-/// The text without white space at its ends, which are decoded.
+/// The text without white space at both ends. It decodes the UTF-8 characters there.
 #[inline(never)]
 fn trimmed_by_chars<'a>(text: &'a [u8]) -> &'a [u8]
     ensures { result.now ≡ trimmed text.now }
@@ -207,7 +209,8 @@ fn trimmed_by_chars<'a>(text: &'a [u8]) -> &'a [u8]
     text.trim()
 }
 
-/// The text without white space at its ends. Where both ends are ASCII and visible, nothing is decoded.
+/// The text without white space at both ends. Nothing is decoded if its first and last bytes are visible ASCII
+/// characters.
 fn trimmed<'a>(text: &'a [u8]) -> &'a [u8]
     ensures { result.now ≡ trimmed text.now }
 {
@@ -220,7 +223,7 @@ fn trimmed<'a>(text: &'a [u8]) -> &'a [u8]
     }
 }
 
-/// The value in a tail.
+/// The value in a tail: the raw value, trimmed.
 pub(crate) fn value_of<'a>(tail: &'a [u8]) -> &'a [u8]
     ensures { result.now ≡ value_of tail.now }
 {

@@ -1,22 +1,22 @@
-//! The pairs of neighbouring bytes of a text, as a small set.
+//! The bigrams (pairs of adjacent bytes) of a text, as a small set.
 ghost use Rattle.std.specs.Prelude.{◌≡◌, ◌↔◌, IsTrue, bit_or};
 ghost use Rattle.texting_robots.specs.Internal.Prefilter.{AreWithin, pair_bit, pair_set};
 
-/// A set of pairs of bytes. Each pair has one of 64 bits, and some share one.
+/// A set of bigrams. Each bigram has one of 64 bits, and some share one.
 #[derive(Clone, Copy)]
 pub(crate) struct BigramSet {
     pub(crate) bits: u64,
 }
 
 impl BigramSet {
-    /// No pairs.
+    /// No bigrams.
     pub(crate) fn none() -> Self
         ensures { result.bits ≡ 0 }
     {
         BigramSet { bits: 0 }
     }
 
-    /// The pairs of neighbours in the text. Two are put in at a time.
+    /// The bigrams of the text. Each iteration adds two.
     pub(crate) fn of(text: &[u8]) -> Self
         ensures { result.bits ≡ pair_set text.now }
     {
@@ -35,14 +35,14 @@ impl BigramSet {
         }
     }
 
-    /// Whether no pair is in the set.
+    /// Whether the set is empty.
     pub(crate) fn is_empty(self) -> bool
         ensures { IsTrue result ↔ (self.bits ≡ 0) }
     {
         self.bits == 0
     }
 
-    /// Both sets.
+    /// The union of the sets.
     pub(crate) fn and(self, other: BigramSet) -> Self
         ensures { result.bits ≡ bit_or self.bits other.bits }
     {
@@ -51,7 +51,7 @@ impl BigramSet {
         }
     }
 
-    /// Whether each of them is in the other set.
+    /// Whether it is a subset of the other set.
     pub(crate) fn are_within(self, other: BigramSet) -> bool
         ensures { IsTrue result ↔ AreWithin self.bits other.bits }
     {
@@ -59,7 +59,7 @@ impl BigramSet {
     }
 }
 
-/// The bit of a pair.
+/// The bit of a bigram.
 fn bit_of(first: u8, second: u8) -> u64
     ensures { result ≡ pair_bit first second }
 {

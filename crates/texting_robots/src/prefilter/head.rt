@@ -2,7 +2,7 @@
 ghost use Rattle.std.specs.Prelude.{◌≡◌, ◌≤◌, ◌↔◌, IsTrue, length, slice_index_or, take};
 ghost use Rattle.texting_robots.specs.Internal.Prefilter.{Fits, IsHeadOf, first_eight, ones_below};
 
-/// The first bytes of a piece, up to eight, and ones where they stand.
+/// The first bytes of a segment, at most eight, and a mask of ones for them.
 #[derive(Clone, Copy)]
 pub(crate) struct Head {
     bytes: u64,
@@ -10,7 +10,7 @@ pub(crate) struct Head {
 }
 
 impl Head {
-    /// What a text that begins with the first `len` bytes of the pattern has in front. Those behind are masked out.
+    /// The first `len` bytes of the pattern, at most eight. The others are masked out.
     pub(crate) fn of(pattern: &[u8], len: usize) -> Self
         requires { len ≤ length pattern.now }
         ensures { IsHeadOf (take len pattern.now) result }
@@ -22,7 +22,7 @@ impl Head {
         }
     }
 
-    /// Whether a text with this front may begin with the piece: where it doesn't fit, the text doesn't.
+    /// Whether a text with these first eight bytes may begin with the segment. If the result is false, it doesn't.
     pub(crate) fn fits(self, front: u64) -> bool
         ensures { IsTrue result ↔ Fits self front }
     {
@@ -30,7 +30,7 @@ impl Head {
     }
 }
 
-/// The first eight bytes of a text as one number, the first one lowest; behind a shorter text stand zeros.
+/// The first eight bytes of a text as a little-endian number. A shorter text is padded with zeros.
 pub(crate) fn front(text: &[u8]) -> u64
     ensures { result ≡ first_eight text.now }
 {
@@ -50,14 +50,14 @@ pub(crate) fn front(text: &[u8]) -> u64
     ])
 }
 
-/// The byte at a place of the text, or zero past its end.
+/// The byte at an index of the text, or zero past its end.
 fn byte_or_zero(text: &[u8], at: usize) -> u8
     ensures { result ≡ slice_index_or text.now at 0 }
 {
     text.get(at).copied().unwrap_or(0)
 }
 
-/// Ones in the first bytes of eight.
+/// Ones for the first `len` bytes of eight.
 fn mask_of(len: usize) -> u64
     ensures { result ≡ ones_below len }
 {

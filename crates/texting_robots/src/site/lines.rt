@@ -1,4 +1,4 @@
-//! The lines of a file that a site keeps, and one pass over the file that collects them.
+//! The lines of a file that a site keeps, and the pass over the file that collects them.
 ghost use Rattle.std.specs.Prelude.{◌≡◌, ◌++◌, ◌||◌, IfOk, None, OnOk, [], false, if◌then◌else◌, length, map, true};
 ghost use Rattle.std.specs.List.{filter_map};
 ghost use Rattle.std.specs.Option.{option_to_list};
@@ -11,7 +11,7 @@ ghost use Rattle.texting_robots.specs.Internal.Site.{named_in, named_of, run_aft
 use crate::parser::{LazyLine, Line, split_line, without_front};
 use std::alloc::{AllocError, Global};
 
-/// Where a line, without its end, is in the bytes of a file.
+/// The position of a line's content in the bytes of a file.
 #[derive(Clone, Copy)]
 pub(crate) struct Span {
     pub(crate) start: usize,
@@ -19,7 +19,7 @@ pub(crate) struct Span {
 }
 
 impl Span {
-    /// The bytes at the span.
+    /// The bytes of the span.
     fn bytes_in<'t>(self, text: &'t [u8]) -> &'t [u8]
         ensures { result.now ≡ bytes_at text.now self }
     {
@@ -27,7 +27,7 @@ impl Span {
         &rest[..self.len.min(rest.len())]
     }
 
-    /// The line at the span.
+    /// The line of the span.
     pub(crate) fn line_in<'t>(self, text: &'t [u8]) -> Line<'t>
         ensures { by_value result ≡ line_at text.now self }
     {
@@ -35,17 +35,17 @@ impl Span {
     }
 }
 
-/// A rule or a delay.
+/// A group line: an Allow, a Disallow or a Crawl-delay.
 #[derive(Clone, Copy)]
 pub(crate) struct GroupLine<'a> {
     pub(crate) line: Line<'a>,
     /// Its number, counted from 1 among all lines of the file.
     pub(crate) number: usize,
-    /// The number of the first line of the run of user-agent lines above it, or 0 if there is none above it.
+    /// The number of the first line of the run of user-agent lines above it, or 0 if there is none.
     pub(crate) run: usize,
 }
 
-/// A rule or a delay, by its position in the file.
+/// A group line, by its position in the file.
 #[derive(Clone, Copy)]
 pub(crate) struct KeptLine {
     pub(crate) span: Span,
@@ -54,7 +54,7 @@ pub(crate) struct KeptLine {
 }
 
 impl KeptLine {
-    /// The rule or delay.
+    /// Parses the group line.
     pub(crate) fn read<'t>(&self, text: &'t [u8]) -> GroupLine<'t>
         ensures { tag_of result ≡ tag_at text.now self.now }
     {
@@ -76,13 +76,13 @@ pub(crate) struct AgentLine {
     pub(crate) start: usize,
 }
 
-/// The lines of a file, sorted by their kinds, each kind in the file's order.
+/// The lines of a file, separated by kind, each kind in file order.
 #[derive(Drop)]
 pub(crate) struct SiteLines {
     pub(crate) group_lines: Vec<KeptLine>,
     pub(crate) agent_lines: Vec<AgentLine>,
     pub(crate) sitemaps: Vec<Span>,
-    /// The last delay before the first user-agent line.
+    /// The last delay above the first user-agent line.
     pub(crate) early: Option<u64>,
     /// Whether a user-agent line was read.
     begun: bool,
@@ -92,7 +92,8 @@ pub(crate) struct SiteLines {
     joins: bool,
 }
 
-/// The last delay before the first user-agent line, after one more line; `begun` says whether there was a user-agent line before.
+/// The last delay above the first user-agent line, after one more line. `begun` states whether there was a user-agent
+/// line before.
 fn early_after(begun: bool, early: Option<u64>, line: Line<'_>) -> Option<u64>
     ensures { result ≡ early_after begun early (by_value line.entry) }
 {
@@ -148,7 +149,7 @@ impl SiteLines {
         Ok(())
     }
 
-    /// Adds the line with this number, which is at the span.
+    /// Adds the line with this number at this span.
     fn add(
         &mut self,
         alloc: Global,
@@ -189,7 +190,7 @@ impl SiteLines {
         }
     }
 
-    /// All lines, without a last delay before the first user-agent line if there was no user-agent line.
+    /// All lines. The last delay above the first user-agent line is dropped if there was no user-agent line.
     fn finished(self) -> Self
         ensures lines { result.group_lines ≡ self.group_lines }
         ensures names { result.agent_lines ≡ self.agent_lines }

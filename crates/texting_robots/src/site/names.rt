@@ -9,16 +9,17 @@ use crate::site::lines::AgentLine;
 use std::alloc::{AllocError, Global};
 use std::marker::Model;
 
-/// The user-agent lines of a file, in the file's order, and a hash table that finds the next one with a name.
+/// The user-agent lines of a file, in file order, and a hash table that finds the next one with a name.
 ///
-/// There are as many buckets as lines. A lookup compares the name with those of one bucket, usually one or two. The hash
-/// function is fixed, so a file can be written whose names are all in one bucket: then a lookup compares it with each.
+/// There are as many buckets as lines. A look-up compares the name with those of one bucket, usually one or two. The
+/// hash function is fixed, so someone can write a file whose names are all in one bucket. Then a look-up compares the
+/// name with all of them.
 #[derive(Drop)]
 pub(crate) struct Names {
     lines: Vec<AgentLine>,
-    /// For each bucket the place of its first line, or the number of lines.
+    /// For each bucket the index of its first line, or the number of lines.
     heads: Vec<usize>,
-    /// For each line the place of the next one in its bucket, or the number of lines.
+    /// For each line the index of the next one in its bucket, or the number of lines.
     nexts: Vec<usize>,
 }
 
@@ -34,7 +35,7 @@ impl Model for Names {
     ghost invariant = { λ s. AreLinked 0 (map named_of s.lines.items) s.heads.items s.nexts.items };
 }
 
-/// A number that is the same for names that differ only in the case of ASCII letters.
+/// A hash, which is the same for names that differ only in the case of ASCII letters.
 fn hash_of(name: &[u8]) -> usize
     ensures { result ≡ hash_from 0 (str_to_ascii_lowercase name.now) }
 {
@@ -70,7 +71,7 @@ fn link(lines: &[AgentLine], heads: &mut [usize], nexts: &mut [usize])
 }
 
 impl Names {
-    /// The lines, in the file's order.
+    /// The lines, in file order.
     pub(crate) fn new(alloc: Global, lines: Vec<AgentLine>) -> Result<Self, AllocError>
         ensures { IfOk result (λ names. names ≡ map named_of lines.items) }
     {
@@ -92,8 +93,8 @@ impl Names {
         &self.lines
     }
 
-    /// The place of the first line with the name from a place on, or the number of lines; the place is that of a line in the
-    /// name's bucket, or the number of lines.
+    /// The index of the first line with the name from `start` on, or the number of lines. `start` has to be the index
+    /// of a line in the name's bucket, or the number of lines.
     fn find_from(&self, start: usize, name: &[u8]) -> usize
         requires { position_or_len (is_in (length self.now) (bucket_of (length self.now) (str_to_ascii_lowercase name.now)))
             (drop start self.now) ≡ 0 }
@@ -109,7 +110,7 @@ impl Names {
         position
     }
 
-    /// The place of the first line with the name, ASCII letters in any case, or the number of lines.
+    /// The index of the first line with the name, ASCII letters in any case, or the number of lines.
     pub(crate) fn first(&self, name: &[u8]) -> usize
         ensures { result ≡ first_named (str_to_ascii_lowercase name.now) self.now }
     {
@@ -120,7 +121,7 @@ impl Names {
         self.find_from(heads[bucket_of(name, heads.len())], name)
     }
 
-    /// The place of the next line with the name of the line at a place, or the number of lines.
+    /// The index of the next line with the same name as the line at `position`, or the number of lines.
     pub(crate) fn after(&self, position: usize, name: &[u8]) -> usize
         requires within { position < length self.now }
         requires here { first_named (str_to_ascii_lowercase name.now) (drop position self.now) ≡ 0 }

@@ -1,4 +1,4 @@
-//! What one crawler gets of the lines that a site keeps.
+//! The lines kept by a site that apply to one crawler.
 ghost use Rattle.std.specs.Prelude.{◌≡◌, ◌+◌, ◌<◌, ◌≤◌, ◌++◌, ◌∷◌, [], IfErr, IsOk, MatchOption, None, OnOk, drop, length, map};
 ghost use Rattle.std.specs.Iterator.{YieldsFirstBy, item_count};
 ghost use Rattle.std.specs.Option.{IfSome, IsSomeAnd, option_or, option_to_list};
@@ -18,26 +18,26 @@ use crate::site::names::Names;
 use std::alloc::Global;
 use std::marker::Model;
 
-/// How far a walk along a crawler's lines has come.
+/// The state of an iteration over a crawler's lines.
 #[derive(Clone, Copy)]
 pub(crate) struct Position {
-    /// The place of the next user-agent line with the crawler's name, or the number of user-agent lines.
+    /// The index of the next user-agent line with the group name, or the number of user-agent lines.
     pub(crate) name_index: usize,
-    /// The run whose group lines come next.
+    /// The run whose group lines are next.
     pub(crate) run: usize,
-    /// The index of the next of them, if one is left.
+    /// The index of the next of these group lines, if one is left.
     pub(crate) at: usize,
 }
 
-/// An iterator over the rules and delays that a crawler gets, in the file's order. It allocates nothing.
+/// An iterator over the group lines that apply to a crawler, in file order. It doesn't allocate.
 ///
-/// It goes from one user-agent line with the name to the next, and takes the group lines of that line's run.
+/// It goes from one user-agent line with the group name to the next, and returns the group lines of its run.
 #[derive(Drop)]
 pub(crate) struct OwnLines<'s, 'n> {
     text: &'s [u8],
     lines: &'s [KeptLine],
     names: &'s Names,
-    /// The name whose groups the crawler gets.
+    /// The group name for the crawler.
     name: &'n [u8],
     position: Position,
 }
@@ -57,7 +57,7 @@ impl<'s, 'n> Model for OwnLines<'s, 'n> {
         (map (tag_at s.text.now) s.lines.now) };
 }
 
-/// The line at an index, if it is of the run.
+/// The line at an index, if it is in the run.
 fn line_of_run<'t>(
     text: &'t [u8],
     lines: &[KeptLine],
@@ -73,7 +73,7 @@ fn line_of_run<'t>(
     }
 }
 
-/// The next line of a walk, and the position after it.
+/// The next line of an iteration, and the position after it.
 fn next_line<'t>(
     text: &'t [u8],
     lines: &[KeptLine],
@@ -112,8 +112,8 @@ fn next_line<'t>(
     }
 }
 
-/// Where a walk finds its first line: at the start in a file without user-agent lines, otherwise past the end, since lines
-/// before the first user-agent line are nobody's.
+/// The index of the first group line of an iteration: 0 in a file without user-agent lines. Otherwise it is past the
+/// end, since group lines above the first user-agent line apply to no crawler.
 fn first_line(lines: &[KeptLine], names: &Names) -> usize
     ensures unnamed { length names.now ≡ 0 → result ≡ 0 }
     ensures named { 0 < length names.now → length lines.now ≤ result }
@@ -126,7 +126,7 @@ fn first_line(lines: &[KeptLine], names: &Names) -> usize
 }
 
 impl<'s, 'n> OwnLines<'s, 'n> {
-    /// The lines that the name gets, of a file's group lines and user-agent lines.
+    /// The lines for the group name, of a file's group lines and user-agent lines.
     pub(super) fn new(
         text: &'s [u8],
         lines: &'s [KeptLine],
@@ -171,7 +171,7 @@ impl<'s, 'n> Iterator for OwnLines<'s, 'n> {
     }
 }
 
-/// What a crawler gets of its lines.
+/// The rules and the delay of a crawler.
 #[derive(Drop)]
 pub(crate) struct OwnRules {
     /// The first delay.
@@ -191,7 +191,7 @@ impl OwnRules {
         }
     }
 
-    /// Adds what a group line gives.
+    /// Adds the rule or delay of a group line.
     pub(super) fn add(&mut self, line: &GroupLine<'_>) -> Result<(), Error>
         requires { AreEntries self.old.rules }
         ensures known { OnOk result (AreEntries self.new.rules) }

@@ -1,10 +1,10 @@
-//! A counter that only contracts read: no number stands in it at run time.
+//! A counter that only contracts can read. At run time it has no number.
 ghost use Rattle.std.specs.Prelude.{◌≡◌, ◌+◌};
 
 use std::marker::Model;
 use std::snapshot::Snapshot;
 
-/// How many looks were taken: none, or one more than before the last one. A snapshot has no bytes.
+/// How many looks were taken: none, or one more than before the last one. A snapshot has no bytes at run time.
 #[derive(Drop)]
 pub(super) struct Looks {
     before_last: Option<Snapshot<Looks>>,
