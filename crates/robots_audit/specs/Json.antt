@@ -33,7 +33,7 @@ number_json (Some n) = number (unsigned n)
 abbrev pub list_json : {X : Type 0} → (X → Data) → List X → Data
 list_json value xs = array (items_of (map value xs))
 
--- ---- an agent
+-- ---- a crawler
 
 -- whether the URL is allowed, the line that decides, and the URL
 abbrev pub verdict_json : VerdictValue → Data

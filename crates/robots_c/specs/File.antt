@@ -16,7 +16,7 @@ IsSiteOfSomeFile site = (file : List ℕ) × (site ≡ bytes_read file)
 abbrev pub IsRobotFor : List ℕ → List ℕ → RobotValue → Type 0
 IsRobotFor agent site robot = IsUtf8 agent × IsRobotOfFile agent site robot
 
--- the site isn't rejected for the crawler, and the crawler's robot has the property P
+-- the crawler has a robot for the site, with the property P
 abbrev pub GivesRobot : List ℕ → List ℕ → (RobotValue → Type 0) → Type 0
 GivesRobot agent site P = (robot : RobotValue) × IsRobotFor agent site robot × P robot
 

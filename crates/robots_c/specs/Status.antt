@@ -36,7 +36,7 @@ abbrev pub HasFaultAt : (Fault → Type 0) → ℤ → ℕ → ℕ → Type 0
 HasFaultAt Why status old new = ((status ≡ pos 0) × (new ≡ old))
     ⊎ ((fault : Fault) × Why fault × (status ≡ status_of fault) × (new ≡ line_after fault old))
 
--- ---- the cause of each error, by task; an allocation failure is possible wherever one is made
+-- ---- the cause of each error, by task; an allocation can fail wherever one is made
 
 -- this is the number, counted from 1, of the first line with a rule that applies to the crawler and is too
 -- long

@@ -367,8 +367,8 @@ pub unsafe extern "C" fn robots_site_agents(
     site::agents(alloc, &*(site as *const Site), out, len)
 }
 
-/// Whether a user-agent line names the crawler: 1 if one does, 0 if none does, so that the rules of `*` apply, and -1
-/// if the crawler's name isn't UTF-8. The site is borrowed, as in `robots_site_robot`. It doesn't allocate.
+/// Whether a user-agent line names the crawler: 1 if one does, 0 if none does, so that the crawler has the robot of
+/// `*`, and -1 if the crawler's name isn't UTF-8. The site is borrowed, as in `robots_site_robot`. It doesn't allocate.
 #[unsafe(no_mangle)]
 pub unsafe extern "C" fn robots_site_is_named(site: *const u8, agent: &[u8]) -> i32
     ghost g: { Lft × Share × List ℕ }

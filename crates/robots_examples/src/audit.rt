@@ -13,7 +13,7 @@ pub enum Kind {
     Agent,
     /// An Allow or a Disallow.
     Rule,
-    /// A sitemap, which every crawler gets.
+    /// A sitemap line, which applies to every crawler.
     Sitemap,
     /// A crawl delay.
     Delay,

@@ -11,7 +11,7 @@ use url::Url;
 
 /// A call that doesn't allocate.
 pub(crate) enum Call {
-    /// None but those that make the fixture, which allocate.
+    /// No call other than those that make the fixture, which allocate.
     MakeFixture,
     AllowedPrepared,
     AllowedUrl,

@@ -1,4 +1,4 @@
-//! A reader and a writer for tests. They transfer a few bytes at a time, and fail when the test wants it.
+//! A reader and a writer for tests. They transfer a few bytes at a time, and can be made to fail.
 use std::alloc::Global;
 use std::io;
 use std::io::{ErrorKind, Read, Write};

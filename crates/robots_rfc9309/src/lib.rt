@@ -10,14 +10,14 @@ ghost use Rattle.robots_rfc9309.specs.Sample as sample;
 ghost use Rattle.texting_robots.specs.Executable.{file_lines, rules_for, sitemaps_in};
 ghost use Rattle.texting_robots.specs.Trim.{IsTrimOf};
 
-/// About files that follow the extended grammar `IsFile`, for site owners who write to the standard:
+/// Theorems about files that follow the extended grammar `IsFile`, used by site owners who write to the standard:
 ///
-/// - `read`: the rules that this library finds for a crawler are, in order, those that the grammar's groups have for it,
-///   each changed as `IsReadAs` states: the pattern is trimmed and escaped, and an empty Disallow becomes an Allow of
-///   `/`.
+/// - `read`: the rules that this library finds for a crawler are, in order, those that the grammar's groups have for
+///   it, each changed as `IsReadAs` states: the pattern is trimmed and escaped, and an empty Disallow becomes an Allow
+///   of `/`.
 /// - `once`: all ways to parse a file result in the same groups after merging.
 /// - `sitemaps`: the library's sitemaps are, in order, the addresses of the sitemap lines, trimmed.
-/// - `listed`: the grammar gives a file exactly one list of sitemap addresses.
+/// - `listed`: the grammar yields exactly one list of sitemap addresses for a file.
 /// - `bare`: a file that follows the standard's own grammar follows the extended one.
 pub fn standard_files_are_read_so()
     ensures read { (text : List ℕ) (groups : List rfc.Group) (agent : List ℕ) → rfc.IsFile groups text
