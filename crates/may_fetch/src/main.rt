@@ -1,12 +1,12 @@
-//! Whether a crawler may fetch URLs, by a robots.txt file: `may_fetch AGENT FILE URL..`
+//! Decides by a robots.txt file whether a crawler may fetch URLs: `may_fetch AGENT FILE URL..`
 #![tactic(auto)]
 
 use std::io::ErrorKind;
 use std::{env, fs, io};
 use texting_robots::{Error, Robot};
 
-/// Says whether the crawler may fetch a URL. A text that is neither a URL nor a path is matched as it stands: since it begins with
-/// no slash, mostly no rule matches it, and the answer is yes.
+/// Prints whether the crawler may fetch a URL. A string that is neither a URL nor a path is matched unchanged. As it
+/// doesn't start with a slash, usually no rule matches it, and the result is "allow".
 fn print_verdict(rt: &HostRuntime, robot: &Robot, url: &str) -> io::Result<()> {
     match robot.allowed(rt.alloc(), url) {
         Ok(true) => println!(rt; "allow {url}"),

@@ -1,4 +1,5 @@
--- What comes of a request. `Appends` and `Keeps` claim nothing of a writer that doesn't tell its bytes.
+-- The result of a run. `Appends` and `Keeps` claim nothing about a writer whose bytes the specification
+-- can't observe.
 use Rattle.std.specs.Prelude.{◌≡◌, ◌≢◌, ℕ, ◌==◌, Bool, true, false, not, List, [], Option}
 use Rattle.std.specs.Prelude.{Result, if◌then◌else◌, is_some, length}
 use Rattle.std.specs.Prelude.{IfErr, IfOk, IfSome, IsErrOf, map, option_map, string_bytes}
@@ -16,14 +17,14 @@ use Rattle.robots_audit.specs.Json.{json_text}
 use Rattle.robots_audit.specs.Report.{report_lines, warning_lines}
 use Rattle.robots_io.specs.Sanitize.{sanitized, sanitized_lines}
 
--- the bytes that a reader has left, and those that a writer held before and holds after; `None` where an end
--- doesn't tell its bytes
+-- the bytes that the reader has left, and those that the writer held before and holds after the run; `None`
+-- if the specification can't observe them
 pub record Ends : Type 0 where
   pub left : Option (List ℕ)
   pub old : Option (List ℕ)
   pub new : Option (List ℕ)
 
--- what a request asks for
+-- the request, by value
 abbrev pub requested_by : Request → RequestValue
 requested_by request = record {
   agent = option_map (λ agent. agent.now) request.agent;
@@ -34,23 +35,23 @@ requested_by request = record {
   ignored = map (λ name. name.now) request.ignored.items;
 }
 
--- ---- what is said
+-- ---- the report and the warnings
 
--- rows are for one agent, and only where they aren't unwanted
+-- the report has rows if it is about one crawler and `--quiet` isn't given
 abbrev pub has_rows : RequestValue → Bool
 has_rows requested = if requested.is_quiet then false else is_some requested.agent
 
--- what is written of an audit: JSON, or lines
+-- the report: JSON, or lines
 abbrev pub output : RequestValue → AuditValue → List ℕ
 output requested audit =
     if requested.is_json then json_text (has_rows requested) audit
     else ended (report_lines (has_rows requested) audit)
 
--- what is said of it on standard error: the warnings, unless they are in the JSON
+-- the message on standard error: the warnings, unless they are in the JSON
 abbrev pub message : RequestValue → AuditValue → List ℕ
 message requested audit = if requested.is_json then [] else ended (warning_lines audit.warnings)
 
--- something is warned of
+-- there are warnings
 abbrev pub is_warned : AuditValue → Bool
 is_warned audit = not (length audit.warnings == 0)
 
@@ -59,14 +60,14 @@ pub record IsOutcomeOf (requested : RequestValue) (audit : AuditValue) (outcome 
   pub warned : outcome.is_warned ≡ is_warned audit
   pub warnings : string_bytes outcome.warnings ≡ message requested audit
 
--- ---- what is written
+-- ---- a run
 
--- the file has an audit, of which this holds
+-- the file has an audit with this property
 abbrev pub HasAudit : RequestValue → List ℕ → (AuditValue → Type 0) → Type 0
 HasAudit requested file P = (audit : AuditValue) × IsAuditOf requested file audit × P audit
 
--- the reader has this file left: it is audited, what is found out is written, and the outcome is that of the
--- audit; or there is a fault, and where writing failed, a beginning is written
+-- for a reader that has this file left: either the report on an audit is written and the outcome is that of
+-- this audit; or there is an error, and if that is a failed write, a prefix of the report is written
 pub record AuditsFile (request : Request) (ends : Ends) (result : Result Outcome Fault) (file : List ℕ)
     : Type 0 where
   pub ok : IfOk result (λ outcome. HasAudit (requested_by request) file (λ audit.
@@ -77,14 +78,16 @@ pub record AuditsFile (request : Request) (ends : Ends) (result : Result Outcome
   pub beginning : IsErrOf result Write → HasAudit (requested_by request) file (λ audit.
       AppendsBeginning ends.old ends.new (output (requested_by request) audit))
 
--- what is left is audited, where the reader tells it; the outcome is as strict as the request; and after a
--- fault other than one of writing nothing is written, whether the reader tells its bytes or not
+-- if the reader's bytes can be observed, `AuditsFile` holds for them; the outcome is strict if the request
+-- is; and after an error other than a failed write nothing has been written, whether the reader's bytes can
+-- be observed or not
 pub record Audits (request : Request) (ends : Ends) (result : Result Outcome Fault) : Type 0 where
   pub reported : IfSome ends.left (AuditsFile request ends result)
   pub strict : IfOk result (λ outcome. outcome.is_strict ≡ request.is_strict)
   pub nothing_written : IfErr result (λ fault. fault ≢ Write → Keeps ends.old ends.new)
 
--- help or the version is written, nothing is warned of, and the status is that of URLs which are all allowed
+-- the help or the version is written, or if the write fails a prefix of it; the outcome has no warnings,
+-- and leads to exit status 0
 pub record Helps (text : List ℕ) (old new : Option (List ℕ)) (result : Result Outcome Fault)
     : Type 0 where
   pub ok : IfOk result (λ outcome. Appends old new text)
@@ -93,12 +96,12 @@ pub record Helps (text : List ℕ) (old new : Option (List ℕ)) (result : Resul
   pub fault : IfErr result (λ fault. fault ≡ Write)
   pub beginning : AppendsBeginning old new text
 
--- the words can't be read, of which `clap` says this, or an allocation failed
+-- the error has the sanitized message of `clap`, or an allocation failed
 abbrev pub IsRejection : List ℕ → Fault → Type 0
 IsRejection message (Words text) = string_bytes text ≡ sanitized_lines message
 IsRejection message fault = fault ≡ Memory
 
--- a file with this name can't be read, or an allocation failed
+-- the error has the sanitized name of the file that can't be read, or an allocation failed
 abbrev pub IsFileUnreadable : List ℕ → Fault → Type 0
 IsFileUnreadable name (File text) = string_bytes text ≡ sanitized name
 IsFileUnreadable name fault = fault ≡ Memory

@@ -1,4 +1,4 @@
--- What is found out about a file.
+-- The audit of a file: its lines, what applies to each requested crawler, and the warnings.
 use Rattle.std.specs.Prelude.{◌≡◌, ℕ, Bool, List, [], ◌∷◌, ◌++◌, Option, Some, None}
 use Rattle.std.specs.Prelude.{bytes_eq, codes}
 use Rattle.std.specs.Prelude.{if◌then◌else◌}
@@ -16,9 +16,9 @@ use Rattle.robots_warnings.specs.File.{labels_for}
 use Rattle.robots_warnings.specs.Warnings.{WarningValue, warnings}
 use Rattle.robots_audit.specs.Chosen.{chosen}
 
--- what an audit is asked for: an agent, or none for each that the file names; URLs; whether there are rows;
--- whether it is written as JSON; the names of the warnings that are given, or none for all; and of those that
--- are left out
+-- a request: the crawler, or `None` for `*` and each that the file names; the URLs; whether the rows are
+-- left out; whether the report is JSON; the names of the warnings that are reported, where an empty list
+-- means all; and the names of those that are left out
 pub record RequestValue : Type 0 where
   pub agent : Option (List ℕ)
   pub urls : List (List ℕ)
@@ -27,15 +27,15 @@ pub record RequestValue : Type 0 where
   pub only : List (List ℕ)
   pub ignored : List (List ℕ)
 
--- ---- which agents
+-- ---- the crawlers of a report
 
--- some name of these is the name, ASCII letters in any case
+-- the name is in the list, compared without regard to the case of ASCII letters
 abbrev pub is_among : List ℕ → List (List ℕ) → Bool
 is_among name names =
     list_any (λ other. bytes_eq (str_to_ascii_lowercase other) (str_to_ascii_lowercase name)) names
 
--- the names, and that of the line after them where it is a new one; an agent is given as text, so a name
--- that isn't UTF-8 is no agent's
+-- the list, with the name of a user-agent line appended if it is new; a name that isn't UTF-8 is left out,
+-- as a crawler's name is a string
 abbrev pub with_name : List (List ℕ) → LineValue → List (List ℕ)
 with_name names (UserAgent name) =
     if is_utf8 name then (if is_among name names then names else names ++ name ∷ []) else names
@@ -45,7 +45,7 @@ abbrev pub with_names : List (List ℕ) → List LineValue → List (List ℕ)
 with_names names [] = names
 with_names names (line ∷ lines) = with_names (with_name names line) lines
 
--- `*` and each agent that the lines name, in their order and each once
+-- `*`, and then each crawler that the lines name, once, in the order of the lines
 abbrev pub agents_in : List LineValue → List (List ℕ)
 agents_in lines = with_names (codes "*" ∷ []) lines
 
@@ -53,9 +53,9 @@ abbrev pub agents_requested : Option (List ℕ) → List LineValue → List (Lis
 agents_requested (Some agent) lines = agent ∷ []
 agents_requested None lines = agents_in lines
 
--- ---- what an agent gets
+-- ---- what a file means for a crawler
 
--- by which user-agent lines it gets what it gets
+-- which user-agent lines determine the group of the crawler
 abbrev pub group_of : List ℕ → List LineValue → Group
 group_of agent lines =
     if is_named agent lines then Named
@@ -72,12 +72,12 @@ pub record AgentValue : Type 0 where
   pub delay : Option ℕ
   pub verdicts : List VerdictValue
 
--- what the rules decide on the URL
+-- the URL, and the decision of the rules on it
 pub record IsVerdictOn (rules : List PlacedRule) (url : List ℕ) (verdict : VerdictValue) : Type 0 where
   pub url_is : verdict.url ≡ url
   pub decided : IsDecisionOn rules url verdict.decision
 
--- what an agent gets that can use the file
+-- the file isn't rejected for the crawler, and this is what it means for it
 pub record IsAgentAudit (urls : List (List ℕ)) (lines : List LineValue) (agent : List ℕ)
     (value : AgentValue) : Type 0 where
   pub accepted : ¬ IsRejected agent lines
@@ -93,16 +93,16 @@ pub record AuditValue : Type 0 where
   pub agents : List AgentValue
   pub warnings : List WarningValue
 
--- the agent by which lines are marked: `*` where each is asked for
+-- the crawler for which lines are labeled; `*` if there is no single one
 abbrev pub labeling_agent : Option (List ℕ) → List ℕ
 labeling_agent (Some agent) = agent
 labeling_agent None = codes "*"
 
--- the lines, marked
+-- the labeled lines of the file
 abbrev pub labels_requested : RequestValue → List ℕ → List Label
 labels_requested requested file = labels_for (labeling_agent requested.agent) (lines_read file)
 
--- what is warned of, as far as it is asked for
+-- the warnings that the request doesn't exclude
 abbrev pub warnings_requested : RequestValue → List ℕ → List Label → List WarningValue
 warnings_requested requested file labels =
     chosen requested.only requested.ignored (warnings requested.agent requested.urls file (facts_of file labels) labels)
@@ -113,10 +113,10 @@ pub record IsAuditOf (requested : RequestValue) (file : List ℕ) (audit : Audit
       (agents_requested requested.agent (lines_read file)) audit.agents
   pub warnings_are : audit.warnings ≡ warnings_requested requested file (labels_requested requested file)
 
--- each of these verdicts allows
+-- all of these verdicts are "allowed"
 abbrev pub allows_all : List VerdictValue → Bool
 allows_all verdicts = list_all (λ (verdict : VerdictValue). verdict.decision.allowed) verdicts
 
--- each agent may fetch each URL
+-- each of these crawlers may fetch all of its URLs
 abbrev pub all_allowed : List AgentValue → Bool
 all_allowed agents = list_all (λ (agent : AgentValue). allows_all agent.verdicts) agents

@@ -1,4 +1,4 @@
--- What the arguments ask for, by what `clap` found in them.
+-- The request that the arguments contain, specified by what `clap` found in them.
 use Rattle.std.specs.Prelude.{◌≡◌, ◌⊎◌, ℕ, Bool, true, false, List, [], ◌∷◌, ◌++◌}
 use Rattle.std.specs.Prelude.{Option, Some, None}
 use Rattle.std.specs.Prelude.{Contains, IsTrue, Result, Ok, Err, bytes_eq, codes, if◌then◌else◌, is_none, map}
@@ -13,36 +13,36 @@ use Rattle.robots_audit.specs.declared.fault.Fault.TheVariants.{Memory, UnknownW
 use Rattle.robots_io.specs.Sanitize.{sanitized}
 use Rattle.robots_warnings.specs.Table.{is_name}
 
--- the first value that was given under a name
+-- the first value of an option or argument
 abbrev pub value_of : ArgMatches → List ℕ → Option (List ℕ)
 value_of matches id = first_value (found_of matches) id
 
--- all of them
+-- all of its values
 abbrev pub values_of : ArgMatches → List ℕ → List (List ℕ)
 values_of matches id = option_map_or raw_values (matched_of (found_of matches) id) []
 
--- the words that are no options
+-- the arguments that aren't options
 abbrev pub words_of : ArgMatches → List (List ℕ)
 words_of matches = values_of matches (codes "agent") ++ values_of matches (codes "url")
 
--- an option is on, or off
+-- the value of an option that is on or off
 abbrev pub IsOn : ArgMatches → List ℕ → Bool → Type 0
 IsOn matches id answer =
     (one_text (found_of matches) id ≡ Some (codes "true") → answer ≡ true)
     × (one_text (found_of matches) id ≡ Some (codes "false") → answer ≡ false)
     × (one_text (found_of matches) id ≡ None → answer ≡ false)
 
--- the file that is read: none for standard input
+-- the name of the file that is read; `None` for standard input, which `-` means too
 abbrev pub file_read : Option (List ℕ) → Option (List ℕ)
 file_read None = None
 file_read (Some name) = if bytes_eq name (codes "-") then None else Some name
 
--- the words are an agent and URLs; where each agent is asked for, all of them are URLs
+-- the arguments are a product token and URLs; without a crawler they are all URLs
 abbrev pub AreWordsOf : Option (List ℕ) → List (List ℕ) → List (List ℕ) → Type 0
 AreWordsOf (Some agent) urls words = words ≡ agent ∷ urls
 AreWordsOf None urls words = words ≡ urls
 
--- names of warnings that were given under a name
+-- the names given with this option; each is that of a warning
 pub record AreNamesOf (matches : ArgMatches) (id : List ℕ) (names : List (List ℕ)) : Type 0 where
   pub all : names ≡ values_of matches id
   pub known : IsTrue (list_all is_name names)
@@ -58,17 +58,17 @@ pub record IsRequestOf (matches : ArgMatches) (request : Request) : Type 0 where
   pub only : AreNamesOf matches (codes "only") (map (λ name. name.now) request.only.items)
   pub ignored : AreNamesOf matches (codes "ignore") (map (λ name. name.now) request.ignored.items)
 
--- no warning has this name, or an allocation failed
+-- the error reports that no warning has this name, or an allocation failed
 abbrev pub IsUnknown : List ℕ → Fault → Type 0
 IsUnknown name (UnknownWarning text) = string_bytes text ≡ sanitized name
 IsUnknown name fault = fault ≡ Memory
 
--- no warning has some name of these, or an allocation failed
+-- the error reports one of these names, which no warning has, or an allocation failed
 abbrev pub IsUnknownIn : List (List ℕ) → Fault → Type 0
 IsUnknownIn names fault =
     (fault ≡ Memory) ⊎ ((name : List ℕ) × Contains names name × (is_name name ≡ false) × IsUnknown name fault)
 
--- a request, or a fault: no agent was given, no warning has a name that was given, or an allocation failed
+-- a request, or an error: AGENT is missing, no warning has a given name, or an allocation failed
 abbrev pub Asks : ArgMatches → Result Request Fault → Type 0
 Asks matches (Ok request) = IsRequestOf matches request
 Asks matches (Err fault) =

@@ -1,4 +1,4 @@
--- How a delay is shown: in seconds, exactly.
+-- A delay in seconds, exact to the microsecond.
 use Rattle.std.specs.Prelude.{ℕ, zero, suc, ◌*◌, ◌/◌, ◌%◌, ◌==◌, List, []}
 use Rattle.std.specs.Prelude.{◌++◌, Option, Some, None}
 use Rattle.std.specs.Prelude.{codes, decimal, if◌then◌else◌}
@@ -6,7 +6,7 @@ use Rattle.std.specs.Prelude.{codes, decimal, if◌then◌else◌}
 abbrev pub million : ℕ
 million = 1000000
 
--- so many millionths as digits after a point, so many at most, without zeros at the end
+-- the digits after a decimal point, at most this many, without trailing zeros
 abbrev pub fraction : ℕ → ℕ → List ℕ
 fraction zero millionths = []
 fraction (suc digits) millionths =

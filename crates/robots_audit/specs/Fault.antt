@@ -1,4 +1,4 @@
--- What the program says where it stops, and the status that it ends with.
+-- The message for each error, and the exit status.
 use Rattle.std.specs.Prelude.{ℕ, not, ◌&&◌, List, [], ◌∷◌, ◌++◌, Result, Ok, Err}
 use Rattle.std.specs.Prelude.{⊤, Contains, codes, decimal, if◌then◌else◌, string_bytes}
 use Rattle.texting_robots.specs.Callers.{IsFirstOverlong, lines_read, placed_rules}
@@ -11,7 +11,7 @@ use Rattle.robots_audit.specs.declared.fault.Fault.TheVariants.{NotUtf8, Read, U
 use Rattle.robots_audit.specs.declared.fault.Fault.TheVariants.{Write}
 use Rattle.robots_audit.specs.declared.fault.Outcome.{Outcome}
 
--- why the program stopped
+-- the message for an error
 abbrev pub reason_of : Fault → List ℕ
 reason_of (Words text) = string_bytes text
 reason_of Usage = codes "missing AGENT (or use --agents)"
@@ -25,7 +25,7 @@ reason_of (InvalidRule line) =
     ++ codes ": a pattern with $ longer than 4,096 bytes isn't supported; shorten it"
 reason_of Memory = codes "out of memory"
 
--- after a fault in the arguments, how the program is called
+-- the usage, after an error in the arguments that `clap` doesn't report
 abbrev pub usage_after : Fault → List ℕ
 usage_after (Words text) = []
 usage_after Usage = codes "; usage: robots_audit [OPTIONS] AGENT [URL].."
@@ -37,28 +37,28 @@ usage_after Write = []
 usage_after (InvalidRule line) = []
 usage_after Memory = []
 
--- a fault, as a line; what `clap` says has its own line ends
+-- the line for an error; the message of `clap` has its own line ends
 abbrev pub fault_text : Fault → List ℕ
 fault_text (Words text) = string_bytes text
 fault_text fault = codes "robots_audit: " ++ reason_of fault ++ usage_after fault ++ lf ∷ []
 
--- what is said on standard error before the process ends: the warnings, a line each, or the fault
+-- the message on standard error: the warnings, one per line, or the error
 abbrev pub message_after : Result Outcome Fault → List ℕ
 message_after (Ok outcome) = string_bytes outcome.warnings
 message_after (Err fault) = fault_text fault
 
--- the status that the process ends with: 0 where every URL is allowed, and in a strict run nothing is warned
--- of; else 1, and 2 after a fault
+-- the exit status: 2 after an error; 1 if some URL is denied, or if `--strict` is given and there are
+-- warnings; else 0
 abbrev pub status_after : Result Outcome Fault → ℕ
 status_after (Ok outcome) =
     if not outcome.all_allowed then 1
     else if outcome.is_strict && outcome.is_warned then 1 else 0
 status_after (Err fault) = 2
 
--- ---- when
+-- ---- possible errors
 
--- a run on the file for these agents may end with this fault: nothing is claimed of when a read, a write or a
--- request for memory fails
+-- a run on the file for these crawlers can end with this error; the specification doesn't state when a
+-- read, a write or an allocation fails
 abbrev pub MayFail : List (List ℕ) → Fault → List ℕ → Type 0
 MayFail agents (Words text) file = ⊥
 MayFail agents Usage file = ⊥
@@ -71,7 +71,7 @@ MayFail agents (InvalidRule line) file =
     (agent : List ℕ) × Contains agents agent × IsFirstOverlong (placed_rules agent (lines_read file)) line
 MayFail agents Memory file = ⊤
 
--- what a fault of reading comes to
+-- the error of the program for a failed read
 abbrev pub fault_of_read : ReadFault → Fault
 fault_of_read read.Read = Read
 fault_of_read read.Memory = Memory

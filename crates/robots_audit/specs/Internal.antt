@@ -1,4 +1,4 @@
--- What the program keeps, by value.
+-- The program's own types, by value.
 pub mod Agents
 use Rattle.std.specs.Prelude.{map, string_bytes}
 use Rattle.texting_robots.specs.Callers.{label_by_value}

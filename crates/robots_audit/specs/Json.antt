@@ -1,4 +1,4 @@
--- What is found out about a file, as JSON.
+-- The audit as one line of JSON.
 use Rattle.std.specs.Prelude.{ℕ, Bool, List, [], ◌∷◌, ◌++◌, Option, Some, None, codes}
 use Rattle.std.specs.Prelude.{if◌then◌else◌, map}
 use Rattle.serde_json.specs.Data.{Data, array, boolean, member, no_members, null, number, object, string}
@@ -20,22 +20,22 @@ use Rattle.robots_warnings.specs.Warnings.{WarningValue, warning_text}
 
 -- ---- values
 
--- a text of others, as it is shown
+-- untrusted bytes as a JSON string, sanitized
 abbrev pub sanitized_json : List ℕ → Data
 sanitized_json text = string (sanitized text)
 
--- a number, or null where there is none
+-- a number, or null for `None`
 abbrev pub number_json : Option ℕ → Data
 number_json None = null
 number_json (Some n) = number (unsigned n)
 
--- the values of a list, in its order
+-- the values of the items, in order
 abbrev pub list_json : {X : Type 0} → (X → Data) → List X → Data
 list_json value xs = array (items_of (map value xs))
 
--- ---- an agent
+-- ---- a crawler
 
--- what is decided on a URL, and by which line
+-- whether the URL is allowed, the line that decides, and the URL
 abbrev pub verdict_json : VerdictValue → Data
 verdict_json verdict = object
     (member (codes "allowed") (boolean verdict.decision.allowed)
@@ -48,7 +48,7 @@ group_word Star = codes "star"
 group_word Nobody = codes "none"
 group_word Everyone = codes "everyone"
 
--- an agent, its group, its delay in microseconds, and what is decided on each URL
+-- the crawler, its delay in microseconds, the group that applies to it, and the verdicts
 abbrev pub agent_json : AgentValue → Data
 agent_json agent = object
     (member (codes "agent") (sanitized_json agent.agent)
@@ -63,12 +63,12 @@ membership_word Own = codes "own"
 membership_word Other = codes "other"
 membership_word Ungrouped = codes "ungrouped"
 
--- a delay in microseconds, and else the value as it is shown, or null where there is none
+-- a delay in microseconds; for other lines the sanitized value; null if there is no value
 abbrev pub value_json : LineValue → Data
 value_json (CrawlDelay delay) = number_json delay
 value_json line = if has_value line then string (value_text line) else null
 
--- a line of the file: what it was read as, its number, where it stands, and its value
+-- a line of the file: its directive, its number, its membership and its value
 abbrev pub line_json : Label → Data
 line_json label = object
     (member (codes "kind") (string (kind_text label.line))
@@ -78,14 +78,14 @@ line_json label = object
 
 -- ---- the audit
 
--- a warning: the number of its line, what it is called, and what is said
+-- a warning: the number of its line, its name and its message
 abbrev pub warning_json : WarningValue → Data
 warning_json warning = object
     (member (codes "line") (number_json warning.line)
     (member (codes "name") (string (name_of warning.cause))
     (member (codes "text") (string (warning_text warning)) no_members)))
 
--- what each agent gets, the lines of the file, if rows are wanted, its sitemaps, and what is warned of
+-- what the file means for each crawler, the lines if there are rows, the sitemaps and the warnings
 abbrev pub audit_json : Bool → AuditValue → Data
 audit_json has_rows audit = object
     (member (codes "agents") (list_json agent_json audit.agents)
@@ -93,6 +93,6 @@ audit_json has_rows audit = object
     (member (codes "sitemaps") (list_json sanitized_json (sitemaps_in (lines_of audit.labels)))
     (member (codes "warnings") (list_json warning_json audit.warnings) no_members))))
 
--- the same as text, in one line
+-- the JSON object in one line
 abbrev pub json_text : Bool → AuditValue → List ℕ
 json_text has_rows audit = compact_text (audit_json has_rows audit) ++ lf ∷ []

@@ -1,4 +1,4 @@
--- What is found out about a file, as lines of text.
+-- The audit as lines of text.
 use Rattle.std.specs.Prelude.{ℕ, Bool, List, [], ◌∷◌, ◌++◌, bytes_eq, codes, flat_map}
 use Rattle.std.specs.Prelude.{if◌then◌else◌, map}
 use Rattle.robots_io.specs.Verdicts.{verdict_front}
@@ -10,13 +10,13 @@ use Rattle.robots_audit.specs.Rows.{rows}
 use Rattle.robots_io.specs.Sanitize.{sanitized}
 use Rattle.robots_warnings.specs.Warnings.{WarningValue, warning_line}
 
--- neither the crawler nor `*` has a group
+-- the file names neither the crawler nor `*`
 abbrev pub nobody_text : List ℕ → List ℕ
 nobody_text agent =
     if bytes_eq agent (codes "*") then codes "none (no group for *; everything is allowed)"
     else codes "none (no group for " ++ sanitized agent ++ codes " or *; everything is allowed)"
 
--- the group of a crawler, and why it is that one
+-- the group that applies to a crawler, and the reason if it isn't the crawler's own
 abbrev pub group_text : List ℕ → Group → List ℕ
 group_text agent Named = sanitized agent
 group_text agent Star = codes "* (" ++ sanitized agent ++ codes " has no group of its own)"
@@ -26,24 +26,24 @@ group_text agent Everyone = codes "none (the file has no User-agent line; all ru
 abbrev pub group_line : List ℕ → Group → List ℕ
 group_line agent group = codes "group: " ++ group_text agent group
 
--- what is decided on a URL, and by which line
+-- whether the URL is allowed, the line that decides, and the URL
 abbrev pub verdict_line : VerdictValue → List ℕ
 verdict_line verdict =
     verdict_front verdict.decision.allowed verdict.decision.line ++ sanitized verdict.url
 
--- an agent's group, its delay, and what is decided on each URL
+-- the group that applies to a crawler, its delay and its verdicts
 abbrev pub agent_lines : AgentValue → List (List ℕ)
 agent_lines agent =
     group_line agent.agent agent.group ∷ delay_line agent.delay ∷ map verdict_line agent.verdicts
 
--- a row for each line of the file, if rows are wanted, and what each agent gets
+-- a row for each line of the file if there are rows, then the lines about each crawler
 abbrev pub report_lines : Bool → AuditValue → List (List ℕ)
 report_lines has_rows audit =
     (if has_rows then rows audit.labels else []) ++ flat_map agent_lines audit.agents
 
--- ---- what is warned of
+-- ---- warnings
 
--- a warning after the program's name
+-- a warning, with the program's name before it
 abbrev pub message_line : WarningValue → List ℕ
 message_line warning = codes "robots_audit: warning: " ++ warning_line warning
 

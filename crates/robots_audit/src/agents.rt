@@ -1,4 +1,4 @@
-//! Which agents a file names.
+//! The crawlers that a report covers: the one that was requested, or `*` and each that the file names.
 ghost use Rattle.std.specs.Prelude.{◌≡◌, ◌++◌, ◌∷◌, [], IfOk, MatchOption, OnOk, false, if◌then◌else◌, true, map, option_map, string_bytes};
 ghost use Rattle.std.specs.Str.{is_utf8};
 ghost use Rattle.texting_robots.specs.Callers.{by_value, label_by_value};
@@ -12,7 +12,7 @@ use std::collections::BTreeSet;
 use texting_robots::labels::LabeledLine;
 use texting_robots::parser::Line;
 
-/// The bytes as text, where they are UTF-8.
+/// The bytes as a string, or `None` if they aren't UTF-8.
 pub(crate) fn as_text<'a>(bytes: &'a [u8]) -> Option<&'a str>
     ensures { MatchOption result (is_utf8 bytes.now ≡ false)
         (λ text. (is_utf8 bytes.now ≡ true) × (text.now ≡ bytes.now)) }
@@ -23,7 +23,7 @@ pub(crate) fn as_text<'a>(bytes: &'a [u8]) -> Option<&'a str>
     }
 }
 
-/// Adds a text to a list, if there is cause for it.
+/// Appends the name to the list if `cause` is true.
 fn add_if(alloc: Global, names: &mut Vec<String>, cause: bool, name: &str) -> Result<(), AllocError>
     ensures { OnOk result (map string_bytes names.new.items
         ≡ map string_bytes names.old.items ++ (if cause then name.now ∷ [] else [])) }
@@ -34,7 +34,8 @@ fn add_if(alloc: Global, names: &mut Vec<String>, cause: bool, name: &str) -> Re
     Ok(())
 }
 
-/// Adds the name that a line has, if it is none of those that were met.
+/// Appends the name of a user-agent line, if it is UTF-8 and not in `met` yet, and inserts it into `met`. Other lines
+/// change nothing.
 fn add_agent(
     alloc: Global,
     met: &mut Names,
@@ -62,7 +63,7 @@ fn only(alloc: Global, name: &str) -> Result<Vec<String>, AllocError>
     Ok(names)
 }
 
-/// `*` and each agent that the lines name.
+/// `*`, and then each crawler that the lines name, once, in the order of the lines.
 fn agents_in(alloc: Global, labels: &[LabeledLine<'_>]) -> Result<Vec<String>, AllocError>
     ensures { IfOk result (λ names. map string_bytes names.items
         ≡ agents_in (lines_of (map label_by_value labels.now))) }
@@ -76,7 +77,7 @@ fn agents_in(alloc: Global, labels: &[LabeledLine<'_>]) -> Result<Vec<String>, A
     Ok(names)
 }
 
-/// The agents that are asked for: one, or each.
+/// The crawlers that a report covers: the given one, or with `None` `*` and each that the lines name.
 pub(crate) fn agents_requested(
     alloc: Global,
     agent: Option<&str>,

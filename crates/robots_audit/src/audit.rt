@@ -1,4 +1,4 @@
-//! What is found out about a file.
+//! The audit of a file: its lines, what applies to each requested crawler, and the warnings.
 ghost use Rattle.std.specs.Prelude.{◌≡◌, ◌≢◌, ◌∷◌, [], IfErr, IfOk, map, option_map, string_bytes, take};
 ghost use Rattle.std.specs.List.{AllZip, list_any};
 ghost use Rattle.texting_robots.specs.Callers.{IsRobotOfFile, file_limit, lines_read, label_by_value};
@@ -27,14 +27,14 @@ use texting_robots::labels::{LabeledLine, first_overlong_line};
 use texting_robots::robot::Decision;
 use texting_robots::{Error, Robot, Site};
 
-/// What is decided on a URL.
+/// The verdict on a URL.
 #[derive(Drop)]
 pub(crate) struct Verdict<'a> {
     pub(crate) url: &'a str,
     pub(crate) decision: Decision,
 }
 
-/// What an agent gets.
+/// What a file means for one crawler.
 #[derive(Drop)]
 pub(crate) struct AgentAudit<'a> {
     pub(crate) agent: String,
@@ -44,7 +44,7 @@ pub(crate) struct AgentAudit<'a> {
     pub(crate) verdicts: Vec<Verdict<'a>>,
 }
 
-/// What is found out about a file.
+/// The audit of a file.
 #[derive(Drop)]
 pub(crate) struct Audit<'a, 'b> {
     pub(crate) labels: Vec<LabeledLine<'b>>,
@@ -52,7 +52,8 @@ pub(crate) struct Audit<'a, 'b> {
     pub(crate) warnings: Vec<Warning<'a>>,
 }
 
-/// What an agent gets of a file, or why it can't use it.
+/// The crawler's robot for the first 512,000 bytes of the file. If the file is rejected, the error has the line of the
+/// rule that is too long.
 fn robot_for(alloc: Global, agent: &str, file: &[u8], site: &Site) -> Result<Robot, Fault>
     requires { site.now ≡ take file_limit file.now }
     ensures ok { IfOk result (IsRobotOfFile agent.now (take file_limit file.now)) }
@@ -68,7 +69,7 @@ fn robot_for(alloc: Global, agent: &str, file: &[u8], site: &Site) -> Result<Rob
     }
 }
 
-/// What a robot decides on each URL.
+/// The robot's verdict on each URL, in order.
 fn verdicts_on<'a>(
     alloc: Global,
     robot: &Robot,
@@ -86,7 +87,7 @@ fn verdicts_on<'a>(
     Ok(verdicts)
 }
 
-/// What an agent gets of a file; `has_agents` says whether the file has a user-agent line.
+/// What the file means for one crawler. `has_agents` is true if the file has a user-agent line.
 fn agent_audit<'a>(
     alloc: Global,
     agent: &str,
@@ -115,7 +116,7 @@ fn agent_audit<'a>(
     }
 }
 
-/// What each of these agents gets of a file; `has_agents` says whether the file has a user-agent line.
+/// What the file means for each of these crawlers. `has_agents` is true if the file has a user-agent line.
 fn agent_audits<'a>(
     alloc: Global,
     agents: &[String],
@@ -138,7 +139,7 @@ fn agent_audits<'a>(
     Ok(audits)
 }
 
-/// What each agent gets that is asked for, of a file, of which these are the facts and the lines.
+/// What the file means for each crawler of the request. `facts` and `labels` are those of this file.
 fn agents_of<'a>(
     alloc: Global,
     request: &Request<'a>,
@@ -159,7 +160,7 @@ fn agents_of<'a>(
     agent_audits(alloc, &names, file, &site, has_agents, &request.urls)
 }
 
-/// The agent by which lines are marked.
+/// The crawler for which lines are labeled: with `None`, `*`.
 fn labeling_agent<'a>(agent: Option<&'a str>) -> &'a str
     ensures { result.now ≡ labeling_agent (option_map (λ agent. agent.now) agent.entry) }
 {
@@ -169,7 +170,8 @@ fn labeling_agent<'a>(agent: Option<&'a str>) -> &'a str
     }
 }
 
-/// What is warned of in a file, of which these are the facts and the lines.
+/// The warnings about the file and the request, without those that the request excludes. `facts` and `labels` are those
+/// of this file.
 fn warnings_of<'a>(
     alloc: Global,
     request: &Request<'a>,
@@ -186,7 +188,7 @@ fn warnings_of<'a>(
     chosen(alloc, &request.only, &request.ignored, &all)
 }
 
-/// What is found out about a file.
+/// Audits a file for the crawlers and URLs of the request.
 pub(crate) fn audit_of<'a, 'b>(
     alloc: Global,
     request: &Request<'a>,
@@ -207,7 +209,7 @@ pub(crate) fn audit_of<'a, 'b>(
     })
 }
 
-/// Whether each of these verdicts allows.
+/// Whether all of these verdicts are "allowed".
 #[tactic(auto, using(crate::proofs::AuditLemmas::allows_next))]
 fn allows_all(verdicts: &[Verdict<'_>]) -> bool
     ensures { result ≡ allows_all (map verdict_value verdicts.now) }
@@ -220,7 +222,7 @@ fn allows_all(verdicts: &[Verdict<'_>]) -> bool
     true
 }
 
-/// Whether each agent may fetch each URL.
+/// Whether each of these crawlers may fetch all of its URLs.
 #[tactic(auto, using(crate::proofs::AuditLemmas::allowed_next))]
 pub(crate) fn all_allowed(agents: &[AgentAudit<'_>]) -> bool
     ensures { result ≡ all_allowed (map agent_value agents.now) }

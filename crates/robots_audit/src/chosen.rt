@@ -1,4 +1,4 @@
-//! Which warnings are given, by their names.
+//! Which warnings are reported, chosen by name.
 ghost use Rattle.std.specs.Prelude.{◌≡◌, IfOk, map};
 ghost use Rattle.robots_audit.specs.Chosen.{chosen, is_among_names, is_chosen};
 ghost use Rattle.robots_warnings.specs.Internal.{warning_value};
@@ -6,7 +6,7 @@ ghost use Rattle.robots_warnings.specs.Internal.{warning_value};
 use robots_warnings::warning::Warning;
 use std::alloc::{AllocError, Global};
 
-/// Whether the name is one of these.
+/// Whether the name is in the list.
 fn is_among_names(names: &[&str], name: &str) -> bool
     ensures { result ≡ is_among_names (map (λ name. name.now) names.now) name.now }
 {
@@ -18,14 +18,16 @@ fn is_among_names(names: &[&str], name: &str) -> bool
     false
 }
 
-/// Whether a warning with this name is given.
+/// Whether warnings with this name are reported: `only` is empty or contains the name, and `ignored` doesn't contain
+/// it.
 fn is_chosen(only: &[&str], ignored: &[&str], name: &str) -> bool
     ensures { result ≡ is_chosen (map (λ name. name.now) only.now) (map (λ name. name.now) ignored.now) name.now }
 {
     (only.is_empty() || is_among_names(only, name)) && !is_among_names(ignored, name)
 }
 
-/// Those of the warnings that are given: those named by `only`, or all where it is empty, without those named by `ignored`.
+/// The warnings that are reported, in order: those named in `only`, or all if it is empty, without those named in
+/// `ignored`.
 pub(crate) fn chosen<'a>(
     alloc: Global,
     only: &[&str],

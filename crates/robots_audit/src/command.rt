@@ -1,4 +1,4 @@
-//! What the arguments ask for.
+//! The command line: its options, and the request that they result in.
 ghost use Rattle.std.specs.Prelude.{◌≡◌, ◌++◌, IfErr, IfOk, IsTrue, OnOk, map, option_map};
 ghost use Rattle.std.specs.List.{list_all};
 ghost use Rattle.robots_warnings.specs.Table.{is_name};
@@ -10,28 +10,28 @@ use robots_io::sanitize::push_sanitized;
 use robots_warnings::table::is_name;
 use std::alloc::{AllocError, Global};
 
-/// What the program is asked for.
+/// The parsed command line.
 #[derive(Drop)]
 pub struct Request<'a> {
-    /// The name of the file; none for standard input.
+    /// The name of the file; `None` for standard input.
     pub file: Option<&'a str>,
-    /// Whether the report has no rows.
+    /// Whether the rows are left out of the report.
     pub is_quiet: bool,
     /// Whether the report is JSON.
     pub is_json: bool,
-    /// Whether a warning counts as a URL that is denied.
+    /// Whether a warning leads to exit status 1, as a denied URL does.
     pub is_strict: bool,
-    /// The crawler; none for each that the file names.
+    /// The product token of the crawler; `None` for `*` and each crawler that the file names.
     pub agent: Option<&'a str>,
-    /// The URLs.
+    /// The URLs or paths to check.
     pub urls: Vec<&'a str>,
-    /// The names of the warnings that are given; none for all.
+    /// The names of the warnings that are reported; empty for all.
     pub only: Vec<&'a str>,
-    /// The names of warnings that are left out.
+    /// The names of the warnings that are left out.
     pub ignored: Vec<&'a str>,
 }
 
-/// An option that is on or off.
+/// An option without a value.
 fn switch<'a>(alloc: Global, name: &'a str, help: &'a str) -> Arg<'a> {
     Arg::new(alloc, name)
         .long(name)
@@ -39,7 +39,7 @@ fn switch<'a>(alloc: Global, name: &'a str, help: &'a str) -> Arg<'a> {
         .help(help)
 }
 
-/// Takes an agent, URLs and the name of a file.
+/// Adds the arguments AGENT and URL, and the option `--file`.
 fn with_words<'a>(alloc: Global, called: Command<'a>) -> Result<Command<'a>, AllocError> {
     let agent = Arg::new(alloc, "agent")
         .value_name("AGENT")
@@ -58,7 +58,7 @@ fn with_words<'a>(alloc: Global, called: Command<'a>) -> Result<Command<'a>, All
     called.arg(file)
 }
 
-/// Takes the options that are on or off.
+/// Adds the options without a value.
 fn with_switches<'a>(alloc: Global, called: Command<'a>) -> Result<Command<'a>, AllocError> {
     let agents = switch(
         alloc,
@@ -74,7 +74,7 @@ fn with_switches<'a>(alloc: Global, called: Command<'a>) -> Result<Command<'a>, 
     called.arg(strict)
 }
 
-/// An option that takes the name of a warning, and may be repeated.
+/// An option whose value is the name of a warning, and which can be repeated.
 fn naming<'a>(alloc: Global, name: &'a str, help: &'a str) -> Arg<'a> {
     Arg::new(alloc, name)
         .long(name)
@@ -83,7 +83,7 @@ fn naming<'a>(alloc: Global, name: &'a str, help: &'a str) -> Arg<'a> {
         .help(help)
 }
 
-/// Takes the names of warnings.
+/// Adds the options that choose warnings by name.
 fn with_names<'a>(alloc: Global, called: Command<'a>) -> Result<Command<'a>, AllocError> {
     let only = naming(
         alloc,
@@ -99,7 +99,7 @@ fn with_names<'a>(alloc: Global, called: Command<'a>) -> Result<Command<'a>, All
     called.arg(ignored)
 }
 
-/// How the program is called.
+/// The program's options and arguments.
 pub fn command<'a>(alloc: Global) -> Result<Command<'a>, AllocError> {
     let called = Command::new(alloc, "robots_audit")
         .version("0.1.0")
@@ -109,7 +109,7 @@ pub fn command<'a>(alloc: Global) -> Result<Command<'a>, AllocError> {
     with_names(alloc, called)
 }
 
-/// The name of the file that is read; none for standard input.
+/// The name of the file that is read; `None` for standard input, which `-` means too.
 fn file_read<'a>(name: Option<&'a str>) -> Option<&'a str>
     ensures { option_map (λ name. name.now) result ≡ file_read (option_map (λ name. name.now) name.entry) }
 {
@@ -119,7 +119,7 @@ fn file_read<'a>(name: Option<&'a str>) -> Option<&'a str>
     }
 }
 
-/// Adds all values that were given under a name.
+/// Appends all values of an option or argument.
 fn add_values<'a>(
     words: &mut Vec<&'a str>,
     matches: &ArgMatches<'a>,
@@ -134,7 +134,7 @@ fn add_values<'a>(
     }
 }
 
-/// The words that are no options.
+/// The arguments that aren't options, in order.
 fn words_of<'a>(alloc: Global, matches: &ArgMatches<'a>) -> Result<Vec<&'a str>, AllocError>
     ensures { IfOk result (λ words. map (λ word. word.now) words.items ≡ words_of matches.now) }
 {
@@ -144,7 +144,7 @@ fn words_of<'a>(alloc: Global, matches: &ArgMatches<'a>) -> Result<Vec<&'a str>,
     Ok(words)
 }
 
-/// All values that were given under a name.
+/// All values of an option or argument.
 fn values_of<'a>(
     alloc: Global,
     matches: &ArgMatches<'a>,
@@ -157,7 +157,7 @@ fn values_of<'a>(
     Ok(values)
 }
 
-/// The fault of a name that no warning has.
+/// The error for a name that no warning has; `Fault::Memory` if an allocation fails.
 fn unknown(alloc: Global, name: &str) -> Fault
     ensures { IsUnknown name.now result }
 {
@@ -181,7 +181,7 @@ fn known(alloc: Global, names: &[&str]) -> Result<(), Fault>
     Ok(())
 }
 
-/// The names of warnings that were given under a name.
+/// The names given with this option. Fails if one of them isn't the name of a warning.
 fn names_of<'a>(alloc: Global, matches: &ArgMatches<'a>, id: &str) -> Result<Vec<&'a str>, Fault>
     ensures ok { IfOk result (λ names. AreNamesOf matches.now id.now (map (λ name. name.now) names.items)) }
     ensures fault { IfErr result (IsUnknownIn (values_of matches.now id.now)) }
@@ -191,7 +191,8 @@ fn names_of<'a>(alloc: Global, matches: &ArgMatches<'a>, id: &str) -> Result<Vec
     Ok(names)
 }
 
-/// What was asked for.
+/// The request that the arguments contain. Fails if AGENT is missing, if no warning has a given name, or if an
+/// allocation fails.
 pub fn requested<'a>(alloc: Global, matches: &ArgMatches<'a>) -> Result<Request<'a>, Fault>
     ensures { Asks matches.now result }
 {

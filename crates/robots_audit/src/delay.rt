@@ -1,4 +1,4 @@
-//! How a delay is shown.
+//! Formats a delay in seconds, exactly.
 ghost use Rattle.std.specs.Prelude.{◌≡◌, ◌++◌, ◌∷◌, ◌<◌, [], OnOk, string_bytes};
 ghost use Rattle.robots_io.specs.Lines.{ended};
 ghost use Rattle.robots_audit.specs.Delay.{delay_line, delay_text, fraction, million, seconds};
@@ -6,13 +6,13 @@ ghost use Rattle.robots_audit.specs.Delay.{delay_line, delay_text, fraction, mil
 use robots_io::lines::{push_line, push_number};
 use std::alloc::AllocError;
 
-/// How many microseconds a second has.
+/// Microseconds per second.
 const MILLION: u64 = 1_000_000;
 
-/// How many digits are after the point at most.
+/// The maximum number of digits after the decimal point.
 const DIGITS: u32 = 6;
 
-/// Adds so many millionths as digits, without zeros at the end.
+/// Appends the digits after the decimal point, without trailing zeros.
 fn push_fraction(text: &mut String, millionths: u64) -> Result<(), AllocError>
     requires { millionths < million }
     ensures { OnOk result (string_bytes text.new ≡ string_bytes text.old ++ fraction 6 millionths) }
@@ -27,7 +27,7 @@ fn push_fraction(text: &mut String, millionths: u64) -> Result<(), AllocError>
     Ok(())
 }
 
-/// Adds so many microseconds as a number of seconds.
+/// Appends the microseconds as a number of seconds.
 fn push_seconds(text: &mut String, micros: u64) -> Result<(), AllocError>
     ensures { OnOk result (string_bytes text.new ≡ string_bytes text.old ++ seconds micros) }
 {
@@ -40,7 +40,7 @@ fn push_seconds(text: &mut String, micros: u64) -> Result<(), AllocError>
     Ok(())
 }
 
-/// Adds so many microseconds, in seconds.
+/// Appends the microseconds as a number of seconds with the unit.
 pub(crate) fn push_delay_text(text: &mut String, micros: u64) -> Result<(), AllocError>
     ensures { OnOk result (string_bytes text.new ≡ string_bytes text.old ++ delay_text micros) }
 {
@@ -48,7 +48,7 @@ pub(crate) fn push_delay_text(text: &mut String, micros: u64) -> Result<(), Allo
     text.push_str(" s")
 }
 
-/// Adds the line of the delay.
+/// Appends the line with the delay.
 pub(crate) fn push_delay(text: &mut String, delay: Option<u64>) -> Result<(), AllocError>
     ensures { OnOk result (string_bytes text.new ≡ string_bytes text.old ++ ended (delay_line delay ∷ [])) }
 {

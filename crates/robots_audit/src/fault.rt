@@ -1,4 +1,4 @@
-//! How a run ends.
+//! The end of a run: its outcome or its error, the message on standard error, and the exit status.
 ghost use Rattle.std.specs.Prelude.{◌≡◌};
 ghost use Rattle.robots_audit.specs.Fault.{status_after, usage_after};
 
@@ -6,39 +6,39 @@ use robots_io::streams::{ReadFault, WriteFault};
 use std::alloc::{AllocError, AllocFailed};
 use std::fmt;
 
-/// What a run that wrote its report found.
+/// The outcome of a run that wrote its report.
 #[derive(Drop)]
 pub struct Outcome {
-    /// Whether the agent may fetch every URL that was asked for.
+    /// Whether each crawler of the report may fetch every URL of the request.
     pub all_allowed: bool,
-    /// Whether something is warned of.
+    /// Whether there are warnings.
     pub is_warned: bool,
-    /// What is warned of, a line each; nothing where it is in the report.
+    /// The warnings, one per line; empty if they are in the report.
     pub warnings: String,
-    /// Whether a warning counts as a URL that is denied.
+    /// Whether a warning leads to exit status 1, as a denied URL does.
     pub is_strict: bool,
 }
 
-/// Why the program stopped.
+/// The error that ended a run.
 #[derive(Drop)]
 pub enum Fault {
-    /// The words can't be read so; this is what `clap` says of them, usage included.
+    /// `clap` rejects the arguments; this is its message, with the usage.
     Words(String),
-    /// No agent was given.
+    /// AGENT is missing.
     Usage,
     /// An argument isn't UTF-8.
     NotUtf8,
-    /// No warning has this name, as it is shown.
+    /// No warning has this name, which is sanitized.
     UnknownWarning(String),
-    /// The file with this name, as it is shown, can't be read.
+    /// The file with this name, which is sanitized, can't be opened or read.
     File(String),
-    /// A read failed, or the file didn't end within the reads that are made.
+    /// A read failed, or the input didn't end within the maximum number of reads.
     Read,
-    /// A write failed, or took nothing.
+    /// A write or a flush failed, or a write accepted no bytes.
     Write,
-    /// The agent's rule in the line with this number holds `$` and is too long.
+    /// The rule in this line applies to a crawler of the report, contains `$` and is too long.
     InvalidRule(usize),
-    /// Memory was refused, or a URL came to more bytes than `url` can count.
+    /// An allocation failed, or a URL is too long for the crate `url`.
     Memory,
 }
 
@@ -113,7 +113,7 @@ impl From<WriteFault> for Fault {
     }
 }
 
-/// How the program is called, after a fault in the arguments.
+/// The usage, which is appended to an error in the arguments that `clap` doesn't report.
 fn usage_after(fault: &Fault) -> &'static str
     ensures { result.now ≡ usage_after fault.now }
 {
@@ -124,7 +124,7 @@ fn usage_after(fault: &Fault) -> &'static str
     }
 }
 
-/// What the process says on standard error after a run that answered this. Whoever prints it asks for no memory.
+/// The message on standard error after a run with this result. Formatting it doesn't allocate.
 #[derive(Drop)]
 pub struct StderrMessage<'a> {
     pub outcome: &'a Result<Outcome, Fault>,
@@ -145,7 +145,7 @@ impl<'a> fmt::Display for StderrMessage<'a> {
     }
 }
 
-/// The status that the process ends with.
+/// The exit status of the process.
 pub fn status_after(outcome: &Result<Outcome, Fault>) -> u8
     ensures { result ≡ status_after outcome.now }
 {

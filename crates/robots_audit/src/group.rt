@@ -1,4 +1,4 @@
-//! The group that an agent gets.
+//! The group that applies to a crawler.
 ghost use Rattle.std.specs.Prelude.{◌≡◌};
 ghost use Rattle.std.specs.List.{list_any};
 ghost use Rattle.texting_robots.specs.Callers.{file_lines};
@@ -7,20 +7,20 @@ ghost use Rattle.robots_audit.specs.Audit.{group_of};
 
 use texting_robots::Site;
 
-/// By which user-agent lines an agent gets what it gets.
+/// Which user-agent lines determine the group of a crawler.
 #[derive(Clone, Copy, PartialEq, Eq)]
 pub enum Group {
-    /// Those that name it.
+    /// Those that name the crawler.
     Named,
-    /// Those of `*`, as none names it.
+    /// Those of `*`, as no line names the crawler.
     Star,
-    /// None, as neither it nor `*` is named.
+    /// None: no line names the crawler or `*`, so no group applies.
     Nobody,
-    /// The file has none, so all rules and delays are everyone's.
+    /// The file has no user-agent line, so all rules and delays apply to every crawler.
     Everyone,
 }
 
-/// The group that an agent gets of a site; `has_agents` says whether the site has a user-agent line.
+/// Which group applies to a crawler in this file. `has_agents` is true if the file has a user-agent line.
 pub(crate) fn group_of(agent: &str, site: &Site, has_agents: bool) -> Group
     requires { has_agents ≡ list_any is_agent (file_lines site.now) }
     ensures { result ≡ group_of agent.now (file_lines site.now) }

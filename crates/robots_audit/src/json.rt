@@ -1,4 +1,4 @@
-//! What is found out about a file, as JSON.
+//! The audit as one line of JSON.
 ghost use Rattle.std.specs.Prelude.{◌≡◌, ◌++◌, ◌∷◌, [], IfOk, OnOk, if◌then◌else◌, map, string_bytes};
 ghost use Rattle.serde_json.specs.View.{view};
 ghost use Rattle.texting_robots.specs.Callers.{by_value, label_by_value, sitemaps_in};
@@ -18,7 +18,7 @@ use std::alloc::{AllocError, Global};
 use texting_robots::labels::{LabeledLine, Membership};
 use texting_robots::parser::Line;
 
-/// What is written as JSON.
+/// A value with a JSON form.
 trait Json {
     ghost use Rattle.serde_json.specs.Data.{Data};
 
@@ -28,7 +28,7 @@ trait Json {
         ensures { IfOk result (λ value. view value ≡ json self.now) };
 }
 
-/// A list of what is written as JSON.
+/// A JSON array of these values, in order.
 fn list_json<T: Json>(alloc: Global, items: &[T]) -> Result<Value, AllocError>
     ensures { IfOk result (λ value. view value ≡ list_json T.json items.now) }
 {
@@ -39,7 +39,7 @@ fn list_json<T: Json>(alloc: Global, items: &[T]) -> Result<Value, AllocError>
     Ok(Value::Array(list))
 }
 
-/// Untrusted text, as it is shown.
+/// Untrusted bytes as a JSON string, sanitized.
 fn sanitized_json(alloc: Global, bytes: &[u8]) -> Result<Value, AllocError>
     ensures { IfOk result (λ value. view value ≡ sanitized_json bytes.now) }
 {
@@ -64,7 +64,7 @@ impl<'a> Json for Verdict<'a> {
     }
 }
 
-/// The word for a group.
+/// The name of a group in the JSON.
 fn group_word(group: Group) -> &'static str
     ensures { result.now ≡ group_word group }
 {
@@ -76,7 +76,7 @@ fn group_word(group: Group) -> &'static str
     }
 }
 
-/// What is decided on each URL.
+/// The verdicts as a JSON array.
 fn verdicts_json(alloc: Global, verdicts: &[Verdict<'_>]) -> Result<Value, AllocError>
     ensures { IfOk result (λ value. view value ≡ list_json verdict_json (map verdict_value verdicts.now)) }
 {
@@ -101,7 +101,7 @@ impl<'a> Json for AgentAudit<'a> {
     }
 }
 
-/// The word for the standing of a line.
+/// The name of a membership in the JSON.
 fn membership_word(membership: Membership) -> &'static str
     ensures { result.now ≡ membership_word membership }
 {
@@ -112,7 +112,7 @@ fn membership_word(membership: Membership) -> &'static str
     }
 }
 
-/// The value of a line.
+/// The value of a line: for a delay its microseconds, for another line the sanitized value, and null if there is none.
 fn value_json(alloc: Global, line: Line<'_>) -> Result<Value, AllocError>
     ensures { IfOk result (λ value. view value ≡ value_json (by_value line.entry)) }
 {
@@ -154,7 +154,7 @@ impl<'a> Json for &'a [u8] {
     }
 }
 
-/// Adds the sitemap that a line lists.
+/// Appends the value of a sitemap line, if it is UTF-8. Other lines change nothing.
 fn add_sitemap<'a>(sitemaps: &mut Vec<&'a [u8]>, line: Line<'a>) -> Result<(), AllocError>
     ensures { OnOk result (map (λ sitemap. sitemap.now) sitemaps.new.items
         ≡ map (λ sitemap. sitemap.now) sitemaps.old.items ++ sitemaps_in (by_value line.entry ∷ [])) }
@@ -168,7 +168,7 @@ fn add_sitemap<'a>(sitemaps: &mut Vec<&'a [u8]>, line: Line<'a>) -> Result<(), A
     Ok(sitemaps.push(value)?)
 }
 
-/// The sitemaps that the file lists.
+/// The sitemaps that the file lists, in order.
 #[tactic(auto, using(crate::proofs::JsonLemmas::sitemaps_next))]
 fn sitemaps_of<'a>(alloc: Global, labels: &[LabeledLine<'a>]) -> Result<Vec<&'a [u8]>, AllocError>
     ensures { IfOk result (λ sitemaps. map (λ sitemap. sitemap.now) sitemaps.items
@@ -198,21 +198,21 @@ impl<'a> Json for Warning<'a> {
     }
 }
 
-/// What each agent gets.
+/// What the file means for each crawler, as a JSON array.
 fn agents_json(alloc: Global, agents: &[AgentAudit<'_>]) -> Result<Value, AllocError>
     ensures { IfOk result (λ value. view value ≡ list_json agent_json (map agent_value agents.now)) }
 {
     list_json(alloc, agents)
 }
 
-/// What is warned of.
+/// The warnings as a JSON array.
 fn warnings_json(alloc: Global, warnings: &[Warning<'_>]) -> Result<Value, AllocError>
     ensures { IfOk result (λ value. view value ≡ list_json warning_json (map warning_value warnings.now)) }
 {
     list_json(alloc, warnings)
 }
 
-/// The sitemaps that the file lists.
+/// The sitemaps that the file lists, as a JSON array.
 fn sitemaps_json(alloc: Global, labels: &[LabeledLine<'_>]) -> Result<Value, AllocError>
     ensures { IfOk result (λ value. view value
         ≡ list_json sanitized_json (sitemaps_in (lines_of (map label_by_value labels.now)))) }
@@ -221,7 +221,7 @@ fn sitemaps_json(alloc: Global, labels: &[LabeledLine<'_>]) -> Result<Value, All
     list_json(alloc, &sitemaps)
 }
 
-/// The lines of the file, or none where no rows are asked for.
+/// The lines of the file as a JSON array, which is empty if the report has no rows.
 fn rows_json(alloc: Global, has_rows: bool, labels: &[LabeledLine<'_>]) -> Result<Value, AllocError>
     ensures { IfOk result (λ value. view value
         ≡ list_json line_json (if has_rows then map label_by_value labels.now else [])) }
@@ -233,7 +233,7 @@ fn rows_json(alloc: Global, has_rows: bool, labels: &[LabeledLine<'_>]) -> Resul
     }
 }
 
-/// What is found out, as a value.
+/// The audit as a JSON object.
 fn audit_json(alloc: Global, has_rows: bool, audit: &Audit<'_, '_>) -> Result<Value, AllocError>
     ensures { IfOk result (λ value. view value ≡ audit_json has_rows (audit_value audit.now)) }
 {
@@ -249,7 +249,7 @@ fn audit_json(alloc: Global, has_rows: bool, audit: &Audit<'_, '_>) -> Result<Va
     })
 }
 
-/// What is found out, as JSON in one line.
+/// The audit as one line of JSON.
 pub(crate) fn json_text(
     alloc: Global,
     has_rows: bool,

@@ -1,12 +1,13 @@
-//! Shows a site owner what a crawler makes of a robots.txt file, a named one or standard input: each line of its first 512,000
-//! bytes with its number, whether it is in the crawler's group, and what it was read as; the group and the delay that the crawler
-//! gets; and for each URL whether the crawler may fetch it, and which line says so. On standard error it warns of what means
-//! something other than it seems. All of it can be written as JSON.
+//! Explains how a crawler interprets a robots.txt file, which is a named one or standard input. The report has a row
+//! for each line of the first 512,000 bytes, with its number, whether it is in the crawler's group, and its directive;
+//! then the group and the delay that apply to the crawler; then for each URL whether the crawler may fetch it, and
+//! which line decides. Warnings about lines that probably don't do what was intended go to standard error. All of this
+//! can be written as JSON instead.
 //!
 //! `robots_audit [OPTIONS] AGENT [URL]..`
 //!
-//! The status is 0 where every URL is allowed, 1 where some is denied or, in a strict run, something is warned of, and 2 where the
-//! program couldn't answer.
+//! The exit status is 0 if every URL is allowed; 1 if some URL is denied, or with `--strict` if there are warnings; and
+//! 2 after an error.
 #![tactic(auto)]
 
 mod agents;
@@ -33,7 +34,7 @@ use std::fs::File;
 use std::io::ErrorKind;
 use std::process::ExitCode;
 
-/// The words, from the program's name on.
+/// The command line, including the program's name.
 fn words(rt: &HostRuntime) -> Result<Vec<String>, Fault> {
     match env::args(rt) {
         Ok(args) => Ok(args.collect(rt.alloc())?),
@@ -42,7 +43,7 @@ fn words(rt: &HostRuntime) -> Result<Vec<String>, Fault> {
     }
 }
 
-/// What `clap` answers of words that ask for help or the version, or can't be read.
+/// Handles what `clap` returns if the arguments request help or the version, or can't be parsed.
 fn reported(rt: &HostRuntime, error: clap::Error) -> Result<Outcome, Fault> {
     if error.kind() == WordsKind::OutOfMemory {
         return Err(Fault::Memory);
@@ -55,7 +56,7 @@ fn reported(rt: &HostRuntime, error: clap::Error) -> Result<Outcome, Fault> {
     }
 }
 
-/// Audits the file that has this name.
+/// Audits the file with this name.
 fn audit_named(rt: &HostRuntime, request: &Request<'_>, name: &str) -> Result<Outcome, Fault> {
     let Ok(mut file) = File::open(rt, name) else {
         return Err(unread(rt.alloc(), name));
@@ -66,7 +67,7 @@ fn audit_named(rt: &HostRuntime, request: &Request<'_>, name: &str) -> Result<Ou
     }
 }
 
-/// Audits the file that `clap` found asked for in the words.
+/// Audits the file that the parsed arguments name, or standard input.
 fn audited(rt: &HostRuntime, matches: &ArgMatches<'_>) -> Result<Outcome, Fault> {
     let request = requested(rt.alloc(), matches)?;
     match request.file {
@@ -75,7 +76,7 @@ fn audited(rt: &HostRuntime, matches: &ArgMatches<'_>) -> Result<Outcome, Fault>
     }
 }
 
-/// Does what the words ask for.
+/// Parses the arguments and does what they request.
 fn outcome(rt: &HostRuntime) -> Result<Outcome, Fault> {
     let words = words(rt)?;
     match command(rt.alloc())?.try_get_matches_from(&words) {

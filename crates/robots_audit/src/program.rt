@@ -1,4 +1,4 @@
-//! The program over a reader and a writer.
+//! The program for any reader and writer, without the command line.
 ghost use Rattle.std.specs.Prelude.{◌≡◌, ◌==◌, IfOk, length, not, string_bytes};
 ghost use Rattle.robots_audit.specs.Answer.{Audits, Helps, IsRejection, IsFileUnreadable, requested_by, has_rows, output, message};
 ghost use Rattle.robots_audit.specs.Internal.{audit_value};
@@ -14,7 +14,7 @@ use robots_warnings::warning::Warning;
 use std::alloc::{AllocError, Global};
 use std::io::{Read, Write};
 
-/// Whether something is warned of.
+/// Whether there are warnings.
 fn is_warned(warnings: &[Warning<'_>]) -> bool
     ensures { result ≡ not (length warnings.now == 0) }
 {
@@ -28,7 +28,7 @@ fn shows_rows(request: &Request<'_>) -> bool
     !request.is_quiet && request.agent.is_some()
 }
 
-/// What is written of an audit.
+/// The report on an audit, as lines or as JSON.
 fn output(alloc: Global, request: &Request<'_>, audit: &Audit<'_, '_>) -> Result<String, AllocError>
     ensures { IfOk result (λ text. string_bytes text ≡ output (requested_by request.now) (audit_value audit.now)) }
 {
@@ -40,7 +40,7 @@ fn output(alloc: Global, request: &Request<'_>, audit: &Audit<'_, '_>) -> Result
     }
 }
 
-/// What is said of it on standard error.
+/// The message on standard error after an audit: the warnings, unless they are in the JSON.
 fn message(
     alloc: Global,
     request: &Request<'_>,
@@ -55,12 +55,16 @@ fn message(
     }
 }
 
-/// Reads a file to its end, audits it, and then writes what was found out.
+/// Reads a file to its end, audits it, and then writes the report.
 ///
-/// The clauses are about a reader and a writer that tell their bytes; of standard input and output nothing is claimed.
+/// The contract applies to a reader and a writer whose bytes the specification can observe; it claims nothing about the
+/// bytes of standard input and output.
 ///
-/// `Fault::Read` tells of a read that failed or of reads that ran out, `Fault::Write` of a write or a flush that failed or
-/// a write that took nothing, and `Fault::Memory` of memory that was refused; no clause says when.
+/// # Errors
+///
+/// `Fault::Read` if a read failed or too many would be needed, `Fault::Write` if a write or a flush failed or a write
+/// accepted no bytes, `Fault::Memory` if an allocation failed or a URL is too long for `url`, and `Fault::InvalidRule`
+/// if the file is rejected for a crawler. The contract doesn't state when the first three occur.
 pub fn run<R: Read, W: Write>(
     alloc: Global,
     request: &Request<'_>,
@@ -86,7 +90,7 @@ pub fn run<R: Read, W: Write>(
     })
 }
 
-/// Writes help or the version.
+/// Writes the help or the version, which `clap` returned as `text`.
 pub fn help<W: Write>(alloc: Global, text: &str, writer: &mut W) -> Result<Outcome, Fault>
     ensures { Helps text.now (W.contents writer.old) (W.contents writer.new) result }
 {
@@ -99,7 +103,8 @@ pub fn help<W: Write>(alloc: Global, text: &str, writer: &mut W) -> Result<Outco
     })
 }
 
-/// The fault of words of which `clap` says this. It may repeat a word, so it is shown as texts of others are.
+/// The error for arguments that `clap` rejects with this message. The message is sanitized, as it may repeat an
+/// argument.
 pub fn rejected(alloc: Global, text: &str) -> Fault
     ensures { IsRejection text.now result }
 {
@@ -110,7 +115,7 @@ pub fn rejected(alloc: Global, text: &str) -> Fault
     }
 }
 
-/// The fault of a file with this name that can't be read.
+/// The error for a file with this name that can't be opened or read.
 pub fn unread(alloc: Global, name: &str) -> Fault
     ensures { IsFileUnreadable name.now result }
 {

@@ -1,4 +1,4 @@
-//! What is found out about a file, as lines of text.
+//! The audit as lines of text.
 ghost use Rattle.std.specs.Prelude.{◌≡◌, ◌++◌, ◌∷◌, [], IfOk, OnOk, flat_map, map, string_bytes};
 ghost use Rattle.robots_io.specs.Lines.{ended};
 ghost use Rattle.robots_audit.specs.Report.{agent_lines, group_line, group_text, nobody_text, report_lines, message_line, verdict_line, warning_lines};
@@ -16,7 +16,7 @@ use robots_io::verdicts::push_decision;
 use robots_warnings::warning::{Warning, push_warning};
 use std::alloc::{AllocError, Global};
 
-/// Adds text as it is shown, and ends the line.
+/// Appends the sanitized bytes and a line end.
 pub(crate) fn push_sanitized_line(text: &mut String, bytes: &[u8]) -> Result<(), AllocError>
     ensures { OnOk result (string_bytes text.new ≡ string_bytes text.old ++ ended (sanitized bytes.now ∷ [])) }
 {
@@ -24,7 +24,7 @@ pub(crate) fn push_sanitized_line(text: &mut String, bytes: &[u8]) -> Result<(),
     text.push('\n')
 }
 
-/// Adds the name of a crawler between two texts.
+/// Appends the sanitized name of a crawler between two strings.
 fn push_around(text: &mut String, before: &str, agent: &str, after: &str) -> Result<(), AllocError>
     ensures { OnOk result (string_bytes text.new ≡ string_bytes text.old
         ++ (before.now ++ sanitized agent.now ++ after.now)) }
@@ -34,7 +34,7 @@ fn push_around(text: &mut String, before: &str, agent: &str, after: &str) -> Res
     text.push_str(after)
 }
 
-/// Adds that neither the crawler nor `*` has a group.
+/// Appends that no group applies, as the file names neither the crawler nor `*`.
 fn push_nobody(text: &mut String, agent: &str) -> Result<(), AllocError>
     ensures { OnOk result (string_bytes text.new ≡ string_bytes text.old ++ nobody_text agent.now) }
 {
@@ -45,7 +45,7 @@ fn push_nobody(text: &mut String, agent: &str) -> Result<(), AllocError>
     push_around(text, "none (no group for ", agent, after)
 }
 
-/// Adds the group of a crawler, and why it is that one.
+/// Appends the group that applies to a crawler, and the reason if it isn't the crawler's own group.
 fn push_group_text(text: &mut String, agent: &str, group: Group) -> Result<(), AllocError>
     ensures { OnOk result (string_bytes text.new ≡ string_bytes text.old ++ group_text agent.now group) }
 {
@@ -59,7 +59,7 @@ fn push_group_text(text: &mut String, agent: &str, group: Group) -> Result<(), A
     }
 }
 
-/// Adds the line of the group that an agent gets.
+/// Appends the line with the group that applies to a crawler.
 fn push_group(text: &mut String, agent: &str, group: Group) -> Result<(), AllocError>
     ensures { OnOk result (string_bytes text.new ≡ string_bytes text.old
         ++ ended (group_line agent.now group ∷ [])) }
@@ -69,7 +69,7 @@ fn push_group(text: &mut String, agent: &str, group: Group) -> Result<(), AllocE
     text.push('\n')
 }
 
-/// Adds the line of the verdict on a URL.
+/// Appends the line with the verdict on a URL.
 fn push_verdict(text: &mut String, verdict: &Verdict<'_>) -> Result<(), AllocError>
     ensures { OnOk result (string_bytes text.new ≡ string_bytes text.old
         ++ ended (verdict_line (verdict_value verdict.now) ∷ [])) }
@@ -78,7 +78,7 @@ fn push_verdict(text: &mut String, verdict: &Verdict<'_>) -> Result<(), AllocErr
     push_sanitized_line(text, verdict.url.as_bytes())
 }
 
-/// Adds the lines of the verdicts.
+/// Appends a line for each verdict.
 fn push_verdicts(text: &mut String, verdicts: &[Verdict<'_>]) -> Result<(), AllocError>
     ensures { OnOk result (string_bytes text.new ≡ string_bytes text.old
         ++ ended (map verdict_line (map verdict_value verdicts.now))) }
@@ -89,7 +89,7 @@ fn push_verdicts(text: &mut String, verdicts: &[Verdict<'_>]) -> Result<(), Allo
     Ok(())
 }
 
-/// Adds the lines of an agent.
+/// Appends the lines about a crawler: its group, its delay and its verdicts.
 fn push_agent(text: &mut String, agent: &AgentAudit<'_>) -> Result<(), AllocError>
     ensures { OnOk result (string_bytes text.new ≡ string_bytes text.old
         ++ ended (agent_lines (agent_value agent.now))) }
@@ -99,7 +99,7 @@ fn push_agent(text: &mut String, agent: &AgentAudit<'_>) -> Result<(), AllocErro
     push_verdicts(text, &agent.verdicts)
 }
 
-/// Adds the lines of all agents.
+/// Appends the lines about each crawler.
 fn push_agents(text: &mut String, agents: &[AgentAudit<'_>]) -> Result<(), AllocError>
     ensures { OnOk result (string_bytes text.new ≡ string_bytes text.old
         ++ ended (flat_map agent_lines (map agent_value agents.now))) }
@@ -110,7 +110,7 @@ fn push_agents(text: &mut String, agents: &[AgentAudit<'_>]) -> Result<(), Alloc
     Ok(())
 }
 
-/// The lines of an audit, with rows or without.
+/// The report on an audit, with or without rows.
 pub(crate) fn report_text(
     alloc: Global,
     has_rows: bool,
@@ -126,7 +126,7 @@ pub(crate) fn report_text(
     Ok(text)
 }
 
-/// Adds the line of a warning.
+/// Appends the line with a warning.
 fn push_warning_line(text: &mut String, warning: &Warning<'_>) -> Result<(), AllocError>
     ensures { OnOk result (string_bytes text.new ≡ string_bytes text.old
         ++ ended (message_line (warning_value warning.now) ∷ [])) }
@@ -137,7 +137,7 @@ fn push_warning_line(text: &mut String, warning: &Warning<'_>) -> Result<(), All
     Ok(())
 }
 
-/// The lines of warnings.
+/// The warnings, one per line.
 pub(crate) fn warning_lines(alloc: Global, warnings: &[Warning<'_>]) -> Result<String, AllocError>
     ensures { IfOk result (λ text. string_bytes text
         ≡ ended (warning_lines (map warning_value warnings.now))) }

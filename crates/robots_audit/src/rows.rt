@@ -1,4 +1,4 @@
-//! The rows of a report: a line on each line of a file.
+//! The rows of a report: one for each line of the file.
 ghost use Rattle.std.specs.Prelude.{◌≡◌, ◌++◌, ◌∷◌, [], OnOk, codes, decimal, length, map, replicate, string_bytes};
 ghost use Rattle.texting_robots.specs.Callers.{by_value, label_by_value};
 ghost use Rattle.robots_io.specs.Lines.{ended};
@@ -13,10 +13,10 @@ use std::alloc::AllocError;
 use texting_robots::labels::{LabeledLine, Membership};
 use texting_robots::parser::Line;
 
-/// How wide the column of the words is, with a blank behind the longest.
+/// The width of the column with the directives; the longest one is followed by a space.
 const WORD_WIDTH: usize = 12;
 
-/// Adds so many blanks.
+/// Appends this many spaces.
 #[tactic(auto, using(crate::proofs::RowLemmas::blanks_more))]
 fn push_blanks(text: &mut String, count: usize) -> Result<(), AllocError>
     ensures { OnOk result (string_bytes text.new ≡ string_bytes text.old ++ replicate count space) }
@@ -27,7 +27,7 @@ fn push_blanks(text: &mut String, count: usize) -> Result<(), AllocError>
     Ok(())
 }
 
-/// Adds a text behind as many blanks as fill the width.
+/// Appends a string, right-aligned within the width.
 fn push_right(text: &mut String, width: usize, added: &str) -> Result<(), AllocError>
     ensures { OnOk result (string_bytes text.new ≡ string_bytes text.old ++ right_aligned width added.now) }
 {
@@ -35,7 +35,7 @@ fn push_right(text: &mut String, width: usize, added: &str) -> Result<(), AllocE
     text.push_str(added)
 }
 
-/// The mark of a line.
+/// The label of a line: `+` in the crawler's group, `-` in another, a space in none.
 fn label_text(membership: Membership) -> &'static str
     ensures { result.now ≡ label_text membership }
 {
@@ -46,7 +46,7 @@ fn label_text(membership: Membership) -> &'static str
     }
 }
 
-/// What a line was read as.
+/// The name of the line's directive, or `empty` or `ignored`.
 pub(crate) fn kind_text(line: Line<'_>) -> &'static str
     ensures { result.now ≡ kind_text (by_value line.entry) }
 {
@@ -61,7 +61,7 @@ pub(crate) fn kind_text(line: Line<'_>) -> &'static str
     }
 }
 
-/// Whether a line has a value to show.
+/// Whether a line has a value that is shown.
 pub(crate) fn has_value(line: Line<'_>) -> bool
     ensures { result ≡ has_value (by_value line.entry) }
 {
@@ -75,7 +75,7 @@ pub(crate) fn has_value(line: Line<'_>) -> bool
     }
 }
 
-/// Adds the value of a line, as it is shown, or how a delay is shown.
+/// Appends the value of a line: a delay in seconds, any other value sanitized.
 pub(crate) fn push_value(text: &mut String, line: Line<'_>) -> Result<(), AllocError>
     ensures { OnOk result (string_bytes text.new ≡ string_bytes text.old ++ value_text (by_value line.entry)) }
 {
@@ -90,7 +90,7 @@ pub(crate) fn push_value(text: &mut String, line: Line<'_>) -> Result<(), AllocE
     }
 }
 
-/// Adds what a line was read as, and its value in a column behind it, if there is one.
+/// Appends the line's directive, and if the line has a value, spaces up to the next column and the value.
 fn push_word_and_value(text: &mut String, line: Line<'_>) -> Result<(), AllocError>
     ensures { OnOk result (string_bytes text.new ≡ string_bytes text.old ++ word_and_value (by_value line.entry)) }
 {
@@ -103,7 +103,7 @@ fn push_word_and_value(text: &mut String, line: Line<'_>) -> Result<(), AllocErr
     Ok(())
 }
 
-/// Adds the number and the mark of a line.
+/// Appends the number and the label of a line.
 fn push_front(text: &mut String, width: usize, labeled: &LabeledLine<'_>) -> Result<(), AllocError>
     ensures { OnOk result (string_bytes text.new ≡ string_bytes text.old
         ++ (right_aligned width (decimal labeled.now.number) ++ codes " "
@@ -115,7 +115,7 @@ fn push_front(text: &mut String, width: usize, labeled: &LabeledLine<'_>) -> Res
     text.push(' ')
 }
 
-/// Adds the row of a line.
+/// Appends the row of a line.
 fn push_row(text: &mut String, width: usize, labeled: &LabeledLine<'_>) -> Result<(), AllocError>
     ensures { OnOk result (string_bytes text.new ≡ string_bytes text.old
         ++ ended (row width (label_by_value labeled.now) ∷ [])) }
@@ -125,14 +125,14 @@ fn push_row(text: &mut String, width: usize, labeled: &LabeledLine<'_>) -> Resul
     text.push('\n')
 }
 
-/// How many digits a number has.
+/// The number of decimal digits of a number.
 fn digits(number: usize) -> usize
     ensures { result ≡ length (decimal number) }
 {
     Buffer::new().format(number).len()
 }
 
-/// Adds a row for each line.
+/// Appends a row for each line.
 pub(crate) fn push_rows(text: &mut String, labels: &[LabeledLine<'_>]) -> Result<(), AllocError>
     ensures { OnOk result (string_bytes text.new ≡ string_bytes text.old
         ++ ended (rows (map label_by_value labels.now))) }

@@ -1,4 +1,4 @@
--- What is at a pointer that C keeps.
+-- Ownership of what C keeps between calls, at its pointers.
 use Rattle.std.specs.Prelude.{Option, Some, None}
 use mir.Syntax.{Ty}
 use base.Fml.{Fml, ftrue, fex}
@@ -11,14 +11,14 @@ use Rattle.std_alloc.specs.Box.Ownership.{box_owns}
 use Rattle.texting_robots.specs.contracts.robot.Robot as Robot-type
 use Rattle.texting_robots.specs.contracts.site.Site as Site-type
 
--- the types that C keeps
+-- the types of which C keeps values
 abbrev pub Robots : RattleType
 Robots = Robot-type.the_row
 
 abbrev pub Sites : RattleType
 Sites = Site-type.the_row
 
--- a handle of the heap: it carries nothing, so this is each of them
+-- a handle of the heap; handles have no content, so all are equal to this one
 abbrev pub heap : Global
 heap = record { memory = record { seal = tt } }
 
@@ -26,19 +26,19 @@ heap = record { memory = record { seal = tt } }
 abbrev pub frees : Ty → Ptr → Fml
 frees = ghosts.dealloc_token heap
 
--- ownership of this value at the pointer, with the right to free its block
+-- ownership of this value at the pointer, and the right to free its block
 abbrev pub owned_at : (R : RattleType) → Ptr → R.Denot → Fml
 owned_at R at value = box_owns frees R at value
 
--- the same, or ownership of nothing
+-- the same for a value, and nothing for `None`
 abbrev pub kept_at : (R : RattleType) → Ptr → Option R.Denot → Fml
 kept_at R at None = ftrue
 kept_at R at (Some value) = owned_at R at value
 
--- the same, or ownership of nothing where the pointer is null
+-- the same, or nothing if the pointer is null
 abbrev pub owned_or_null : (R : RattleType) → Ptr → R.Denot → Fml
 owned_or_null R at value = if_non_null at (owned_at R at value)
 
--- ownership of a value of which P holds
+-- ownership of a value with the property P
 abbrev pub opened_at : (R : RattleType) → (R.Denot → Type 0) → Ptr → Fml
 opened_at R P at = fex R.Denot (λ value. fex (P value) (λ _. owned_at R at value))

@@ -1,4 +1,4 @@
-//! Why a call has no result.
+//! The errors of the C functions.
 use std::alloc::{AllocError, AllocFailed};
 
 /// Why a call has no result.
@@ -6,15 +6,15 @@ use std::alloc::{AllocError, AllocFailed};
 pub(crate) enum Fault {
     /// The crawler's name or a URL isn't UTF-8.
     NotUtf8,
-    /// An allocation failed, or a URL has more bytes than `url` can count.
+    /// An allocation failed, or a URL is too long for the crate `url`.
     Memory,
     /// The caller's buffer is too small.
     BufferTooSmall,
     /// The file has no delay for the crawler.
     NoDelay,
-    /// The URL has no address of a robots.txt file.
+    /// The URL has no robots.txt address.
     NoAddress,
-    /// The rule in the line with this number is overlong: the file can't be used for the crawler.
+    /// The file is rejected for the crawler, as the rule in this line is too long.
     Overlong(usize),
 }
 
@@ -22,7 +22,7 @@ impl Fault {
     ghost use Rattle.std.specs.Prelude.{◌≡◌};
     ghost use Rattle.robots_c.specs.Status.{line_after, status_of};
 
-    /// The status that C gets for it.
+    /// The status that the call returns.
     pub(crate) fn status(&self) -> i32
         ensures { result ≡ status_of self.now }
     {
@@ -36,7 +36,7 @@ impl Fault {
         }
     }
 
-    /// The status that C gets for it, after the line of an overlong rule is written.
+    /// The status that the call returns. For a rule that is too long, its line is written first.
     pub(crate) fn status_at(&self, line: &mut usize) -> i32
         ensures status { result ≡ status_of self.now }
         ensures line { line.new ≡ line_after self.now line.old }

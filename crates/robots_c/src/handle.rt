@@ -9,15 +9,15 @@ use crate::kept::{Handle, Kept};
 use std::alloc::Global;
 use texting_robots::Robot;
 
-/// Frees a robot that C gives back.
+/// Frees a robot that C returns.
 pub(crate) fn close(robot: Handle<Robot>) {
     drop(robot.into_box());
 }
 
-/// Only for a type whose values may go from thread to thread, and be read by several threads at once.
+/// Compiles only for a type whose values can be sent to other threads and shared between them.
 pub(crate) fn for_any_thread<T: Send + Sync>(_: &T) {}
 
-/// The robot of a file, in a box. It may go from thread to thread, and queries on several threads may read it.
+/// The robot of a file, in a box. It can be sent to other threads, and queried by several threads at once.
 fn open(alloc: Global, agent: &[u8], file: &[u8]) -> Result<Box<Robot>, Fault>
     ensures ok { IfOk result (λ robot. IsRobotFor agent.now (bytes_read file.now) robot.value) }
     ensures fault { IfErr result (IsWhyNoRobot agent.now (bytes_read file.now)) }
@@ -27,7 +27,8 @@ fn open(alloc: Global, agent: &[u8], file: &[u8]) -> Result<Box<Robot>, Fault>
     Ok(Box::new(alloc, robot)?)
 }
 
-/// Opens the robot of a file for C. If there is none, the pointer is `at`, and the line of an overlong rule is written.
+/// Opens the robot of a file for C. If that fails, the pointer is `at`, and the line of a rule that is too long is
+/// written.
 pub(crate) fn opened(
     alloc: Global,
     agent: &[u8],
@@ -46,7 +47,7 @@ pub(crate) fn opened(
     }
 }
 
-/// Writes the delay of a robot. It allocates nothing.
+/// Writes the delay of a robot. It doesn't allocate.
 pub(crate) fn query_delay(robot: &Robot, out: &mut u64) -> i32
     ensures written { result ≡ pos 0 → robot.now.delay ≡ Some out.new }
     ensures kept { result ≢ pos 0 → out.new ≡ out.old }

@@ -5,7 +5,7 @@ ghost use Rattle.robots_c.specs.Kept.{kept_at, owned_at};
 use std::alloc::Global;
 use std::marker::Model;
 
-/// The status of a call, and the place of the value that C owns from then on, if it owns one.
+/// The status of a call, and a pointer. If `value` is a value, C owns it from then on, and the pointer is its address.
 pub(crate) struct Kept<T> {
     pub(crate) status: i32,
     pub(crate) at: *mut T,
@@ -28,7 +28,7 @@ impl<T: Drop> Kept<T> {
 }
 
 impl<T> Kept<T> {
-    /// C owns nothing, and the pointer is one of its own.
+    /// C gets nothing to own, and the pointer is one that it passed.
     pub(crate) fn nothing(status: i32, at: *mut T) -> Kept<T>
         ensures status { result.status ≡ status }
         ensures at { result.at ≡ at }
@@ -37,7 +37,7 @@ impl<T> Kept<T> {
     }
 }
 
-/// A value that C gives back: the handle owns the block that `at` points to.
+/// A value that C returns: the handle owns the block at `at`.
 pub(crate) struct Handle<T> {
     pub(crate) at: *mut T,
     pub(crate) alloc: Global,

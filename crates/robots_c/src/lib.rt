@@ -1,7 +1,9 @@
-//! The calls of `robots.h`, next to `src/`: what a robots.txt file says to a crawler, for C and every language that calls C.
+//! The functions of `robots.h`, next to `src/`: what a robots.txt file means for a crawler, for C and every language
+//! that calls C.
 //!
-//! Each call returns a status, which is 0 or the negative number of a fault. Only at 0 is a result written. The one call that writes
-//! none, `robots_site_is_named`, returns its result.
+//! A function that can fail returns a status: 0, or the negative number of an error. It writes its result only if the
+//! status is 0. Some also write the length that they need, or the line of a rule that is too long, if they fail for
+//! this reason. `robots_site_is_named` writes nothing and returns its result.
 #![tactic(auto)]
 
 ghost use Rattle.std.specs.Prelude.{◌≡◌, ◌≢◌, ◌⊎◌, ℕ, List, Some, length, pos};
@@ -46,8 +48,8 @@ pub extern "C" fn robots_version() -> u32
     100
 }
 
-/// Writes a number for each URL: 0 if the crawler may fetch it and no line says so, n if line n of the file allows it, -n if
-/// line n denies it. The URLs are one text, with an LF between one and the next.
+/// Writes a number for each URL: 0 if the crawler may fetch it and no line decides, n if line n of the file allows it,
+/// -n if line n denies it. The URLs are one string, separated by LF.
 #[unsafe(no_mangle)]
 pub extern "C" fn robots_decide(
     alloc: Global,
@@ -71,9 +73,9 @@ pub extern "C" fn robots_decide(
     }
 }
 
-/// Writes a matrix of numbers: a row for each crawler, and in it a number for each URL, as `robots_decide` does. The crawlers are
-/// one text, and so are the URLs, with an LF between one and the next. In the row of a crawler that can't use the file, because a
-/// rule is too long, each number is the least one.
+/// Writes a matrix of numbers: a row for each crawler with a number for each URL, as `robots_decide` does. The crawlers
+/// are one string, and the URLs another, separated by LF. In the row of a crawler for which the file is rejected, each
+/// number is the least `i64`.
 #[unsafe(no_mangle)]
 pub extern "C" fn robots_matrix(
     alloc: Global,
@@ -95,7 +97,7 @@ pub extern "C" fn robots_matrix(
     }
 }
 
-/// Writes how many microseconds the crawler waits between two requests.
+/// Writes the crawler's delay in microseconds.
 #[unsafe(no_mangle)]
 pub extern "C" fn robots_delay(alloc: Global, agent: &[u8], file: &[u8], out: &mut u64) -> i32
     ensures written { result ≡ pos 0 → HasDelay agent.now (bytes_read file.now) (Some out.new) }
@@ -111,7 +113,8 @@ pub extern "C" fn robots_delay(alloc: Global, agent: &[u8], file: &[u8], out: &m
     }
 }
 
-/// Writes the sitemaps that the file lists, each ended by LF, and their length; the length also where the buffer is too small.
+/// Writes the sitemaps that the file lists, each followed by LF, and their total length. If the buffer is too small, it
+/// writes only the length.
 #[unsafe(no_mangle)]
 pub extern "C" fn robots_sitemaps(
     alloc: Global,
@@ -131,8 +134,8 @@ pub extern "C" fn robots_sitemaps(
     }
 }
 
-/// Writes the names of the crawlers that the file has groups for, each once and ended by LF, and their length; the length also
-/// where the buffer is too small.
+/// Writes the names in the file's user-agent lines, each once and followed by LF, and their total length. If the buffer
+/// is too small, it writes only the length.
 #[unsafe(no_mangle)]
 pub extern "C" fn robots_agents(alloc: Global, file: &[u8], out: &mut [u8], len: &mut usize) -> i32
     ensures written { result ≡ pos 0 → IsWritten (AreAgents (bytes_read file.now)) out.old out.new len.new }
@@ -148,8 +151,8 @@ pub extern "C" fn robots_agents(alloc: Global, file: &[u8], out: &mut [u8], len:
     }
 }
 
-/// Writes the address of the robots.txt file of the site that a URL is on, and its length; the length also where the buffer is too
-/// small.
+/// Writes the address of robots.txt for the site of a URL, and its length. If the buffer is too small, it writes only
+/// the length.
 #[unsafe(no_mangle)]
 pub extern "C" fn robots_address(alloc: Global, url: &[u8], out: &mut [u8], len: &mut usize) -> i32
     ensures written { result ≡ pos 0 → IsWritten (IsAddress url.now) out.old out.new len.new }
@@ -164,7 +167,7 @@ pub extern "C" fn robots_address(alloc: Global, url: &[u8], out: &mut [u8], len:
     }
 }
 
-/// Reads a file for a crawler, and writes a pointer to the robot that it gives, which C owns from then on.
+/// Reads a file for a crawler, and writes a pointer to the crawler's robot, which C owns from then on.
 #[unsafe(no_mangle)]
 pub extern "C" fn robots_open(
     alloc: Global,
@@ -182,7 +185,8 @@ pub extern "C" fn robots_open(
     status
 }
 
-/// Writes the result for one URL, as `robots_decide` does. The robot is lent, so any number of calls may read it at once.
+/// Writes the result for one URL, as `robots_decide` does. The robot is borrowed, so any number of calls may read it at
+/// once.
 #[unsafe(no_mangle)]
 pub unsafe extern "C" fn robots_query(
     alloc: Global,
@@ -201,7 +205,7 @@ pub unsafe extern "C" fn robots_query(
     query(alloc, &*(robot as *const Robot), url, out)
 }
 
-/// Writes the results for many URLs, as `robots_decide` does. The robot is lent, as by `robots_query`.
+/// Writes the results for many URLs, as `robots_decide` does. The robot is borrowed, as in `robots_query`.
 #[unsafe(no_mangle)]
 pub unsafe extern "C" fn robots_query_many(
     alloc: Global,
@@ -220,7 +224,7 @@ pub unsafe extern "C" fn robots_query_many(
     query_many(alloc, &*(robot as *const Robot), urls, out)
 }
 
-/// Writes a robot's delay, as `robots_delay` does. The robot is lent, as by `robots_query`. It allocates nothing.
+/// Writes a robot's delay, as `robots_delay` does. The robot is borrowed, as in `robots_query`. It doesn't allocate.
 #[unsafe(no_mangle)]
 pub unsafe extern "C" fn robots_query_delay(robot: *const u8, out: &mut u64) -> i32
     ghost g: { Lft × Share × RobotValue }
@@ -248,7 +252,7 @@ pub unsafe extern "C" fn robots_close(alloc: Global, robot: *mut u8)
     })
 }
 
-/// Reads a file for all crawlers, and writes a pointer to the site that it gives, which C owns from then on. It fails only if an
+/// Reads a file for all crawlers, and writes a pointer to its site, which C owns from then on. It fails only if an
 /// allocation fails.
 #[unsafe(no_mangle)]
 pub extern "C" fn robots_site_open(alloc: Global, file: &[u8], out: &mut *mut u8) -> i32
@@ -261,7 +265,8 @@ pub extern "C" fn robots_site_open(alloc: Global, file: &[u8], out: &mut *mut u8
     status
 }
 
-/// Writes a pointer to a crawler's robot, as `robots_open` does. The site is lent, so any number of calls may read it at once.
+/// Writes a pointer to a crawler's robot, as `robots_open` does. The site is borrowed, so any number of calls may read
+/// it at once.
 #[unsafe(no_mangle)]
 pub unsafe extern "C" fn robots_site_robot(
     alloc: Global,
@@ -288,7 +293,7 @@ pub unsafe extern "C" fn robots_site_robot(
     status
 }
 
-/// Writes a matrix of numbers, as `robots_matrix` does. The site is lent, as by `robots_site_robot`.
+/// Writes a matrix of numbers, as `robots_matrix` does. The site is borrowed, as in `robots_site_robot`.
 #[unsafe(no_mangle)]
 pub unsafe extern "C" fn robots_site_matrix(
     alloc: Global,
@@ -308,7 +313,8 @@ pub unsafe extern "C" fn robots_site_matrix(
     matrix_by(alloc, &*(site as *const Site), agents, urls, out)
 }
 
-/// Writes a crawler's delay, as `robots_delay` does. The site is lent, as by `robots_site_robot`. It allocates nothing.
+/// Writes a crawler's delay, as `robots_delay` does. The site is borrowed, as in `robots_site_robot`. It doesn't
+/// allocate.
 #[unsafe(no_mangle)]
 pub unsafe extern "C" fn robots_site_delay(site: *const u8, agent: &[u8], out: &mut u64) -> i32
     ghost g: { Lft × Share × List ℕ }
@@ -321,7 +327,7 @@ pub unsafe extern "C" fn robots_site_delay(site: *const u8, agent: &[u8], out: &
     site::delay(&*(site as *const Site), agent, out)
 }
 
-/// Writes the sitemaps, as `robots_sitemaps` does. The site is lent, as by `robots_site_robot`.
+/// Writes the sitemaps, as `robots_sitemaps` does. The site is borrowed, as in `robots_site_robot`.
 #[unsafe(no_mangle)]
 pub unsafe extern "C" fn robots_site_sitemaps(
     alloc: Global,
@@ -341,7 +347,7 @@ pub unsafe extern "C" fn robots_site_sitemaps(
     site::sitemaps(alloc, &*(site as *const Site), out, len)
 }
 
-/// Writes the names of crawlers, as `robots_agents` does. The site is lent, as by `robots_site_robot`.
+/// Writes the names in user-agent lines, as `robots_agents` does. The site is borrowed, as in `robots_site_robot`.
 #[unsafe(no_mangle)]
 pub unsafe extern "C" fn robots_site_agents(
     alloc: Global,
@@ -361,8 +367,8 @@ pub unsafe extern "C" fn robots_site_agents(
     site::agents(alloc, &*(site as *const Site), out, len)
 }
 
-/// Whether the file names a crawler: 1 if it does, 0 if it doesn't, so that the crawler gets what `*` gets, and -1 if the crawler's
-/// name isn't UTF-8. The site is lent, as by `robots_site_robot`. It allocates nothing.
+/// Whether a user-agent line names the crawler: 1 if one does, 0 if none does, so that the crawler has the robot of
+/// `*`, and -1 if the crawler's name isn't UTF-8. The site is borrowed, as in `robots_site_robot`. It doesn't allocate.
 #[unsafe(no_mangle)]
 pub unsafe extern "C" fn robots_site_is_named(site: *const u8, agent: &[u8]) -> i32
     ghost g: { Lft × Share × List ℕ }

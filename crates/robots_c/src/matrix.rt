@@ -12,10 +12,10 @@ use crate::urls::number_on;
 use std::alloc::{AllocError, Global};
 use texting_robots::{Error, Robot, Site};
 
-/// The number in the row of a crawler that can't use the file.
+/// The number in the row of a crawler for which the file is rejected.
 const NO_RESULT: i64 = i64::MIN;
 
-/// The prepared text of a URL.
+/// The match target of a URL.
 fn target_of(alloc: Global, url: &str) -> Result<String, AllocError>
     ensures { IfOk result (λ target. string_bytes target ≡ prepared url.now) }
 {
@@ -25,7 +25,7 @@ fn target_of(alloc: Global, url: &str) -> Result<String, AllocError>
     }
 }
 
-/// The prepared texts of the URLs in a text.
+/// The match targets of the URLs in a string.
 fn targets_of(alloc: Global, urls: &str) -> Result<Vec<String>, AllocError>
     ensures { IfOk result (λ targets. map string_bytes targets.items ≡ map prepared (items_in urls.now)) }
 {
@@ -36,7 +36,7 @@ fn targets_of(alloc: Global, urls: &str) -> Result<Vec<String>, AllocError>
     Ok(targets)
 }
 
-/// The results of a robot for prepared texts.
+/// The robot's results for the match targets.
 fn results_on(alloc: Global, robot: &Robot, targets: &[String]) -> Result<Vec<i64>, AllocError>
     requires { LinesFit robot.now.rules }
     ensures { IfOk result (λ row. AllZip (IsResultOn robot.now.rules) (map string_bytes targets.now) row.items) }
@@ -68,7 +68,7 @@ fn row_of(
     }
 }
 
-/// The row of all crawlers that the file doesn't name, which is that of `*`: the one that is there, or a new one.
+/// The row of `*`, which all crawlers share that the file doesn't name: `shared`, or else a new one.
 fn shared_row(
     alloc: Global,
     site: &Site,
@@ -85,7 +85,8 @@ fn shared_row(
     }
 }
 
-/// The rows of the crawlers in a text, one after the other. All crawlers that the file doesn't name have one row, that of `*`.
+/// The rows of the crawlers in a string, one after another. All crawlers that the file doesn't name share the row of
+/// `*`.
 fn rows_of(
     alloc: Global,
     site: &Site,
@@ -110,7 +111,7 @@ fn rows_of(
     Ok(numbers)
 }
 
-/// The matrix of the crawlers and the URLs in two texts, if there is room for so many numbers.
+/// The matrix of the crawlers and URLs in two strings, if there is capacity for it.
 fn matrix(
     alloc: Global,
     site: &Site,
@@ -133,7 +134,7 @@ fn matrix(
     Ok(numbers)
 }
 
-/// The matrix of the crawlers and the URLs in two texts, by a file.
+/// The matrix of the crawlers and URLs in two strings, from a file.
 pub(crate) fn matrix_of(
     alloc: Global,
     agents: &[u8],
@@ -152,7 +153,7 @@ pub(crate) fn matrix_of(
     Ok(numbers)
 }
 
-/// Writes the matrix of the crawlers and the URLs in two texts, by a site.
+/// Writes the matrix of the crawlers and URLs in two strings, from a site.
 pub(crate) fn matrix_by(
     alloc: Global,
     site: &Site,

@@ -1,4 +1,4 @@
-//! The line that makes a file unusable for a crawler.
+//! The line for which a file is rejected.
 ghost use Rattle.std.specs.Prelude.{IfOk};
 ghost use Rattle.texting_robots.specs.Callers.{IsFileRejected};
 ghost use Rattle.robots_c.specs.Status.{IsOverlongLine};
@@ -6,7 +6,7 @@ ghost use Rattle.robots_c.specs.Status.{IsOverlongLine};
 use std::alloc::{AllocError, Global};
 use texting_robots::labels;
 
-/// The number of the first line with an overlong rule of the crawler's, in the bytes of a file that count.
+/// The number of the first line with a rule that applies to the crawler and is too long.
 pub(crate) fn first_overlong_line(
     alloc: Global,
     agent: &str,

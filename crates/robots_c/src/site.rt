@@ -14,12 +14,12 @@ use crate::texts::{agents_in, put, sitemaps_in};
 use std::alloc::Global;
 use texting_robots::{Error, Robot, Site};
 
-/// Frees a site that C gives back.
+/// Frees a site that C returns.
 pub(crate) fn close(site: Handle<Site>) {
     drop(site.into_box());
 }
 
-/// The site of a file, in a box. It may go from thread to thread, and queries on several threads may read it.
+/// The site of a file, in a box. It can be sent to other threads, and queried by several threads at once.
 fn open(alloc: Global, file: &[u8]) -> Result<Box<Site>, Fault>
     ensures ok { IfOk result (λ site. site.value ≡ bytes_read file.now) }
     ensures fault { IfErr result IsWhyNoSite }
@@ -29,7 +29,7 @@ fn open(alloc: Global, file: &[u8]) -> Result<Box<Site>, Fault>
     Ok(Box::new(alloc, site)?)
 }
 
-/// Opens the site of a file for C. If there is none, the pointer is `at`.
+/// Opens the site of a file for C. If that fails, the pointer is `at`.
 pub(crate) fn opened(alloc: Global, file: &[u8], at: *mut Site) -> Kept<Site>
     ensures opened { result.status ≡ pos 0 → result.value ≡ Some (bytes_read file.now) }
     ensures kept { result.status ≢ pos 0 → result.at ≡ at }
@@ -41,7 +41,7 @@ pub(crate) fn opened(alloc: Global, file: &[u8], at: *mut Site) -> Kept<Site>
     }
 }
 
-/// What a crawler gets of a site, in a box, or why it can't use it.
+/// A crawler's robot, in a box. If the file is rejected, the error has the line of the rule that is too long.
 fn robot(alloc: Global, site: &Site, agent: &[u8]) -> Result<Box<Robot>, Fault>
     ensures ok { IfOk result (λ robot. IsRobotFor agent.now site.now robot.value) }
     ensures fault { IfErr result (IsWhyNoRobot agent.now site.now) }
@@ -58,7 +58,8 @@ fn robot(alloc: Global, site: &Site, agent: &[u8]) -> Result<Box<Robot>, Fault>
     }
 }
 
-/// Opens a crawler's robot for C. If there is none, the pointer is `at`, and the line of an overlong rule is written.
+/// Opens a crawler's robot for C. If that fails, the pointer is `at`, and the line of a rule that is too long is
+/// written.
 pub(crate) fn robot_opened(
     alloc: Global,
     site: &Site,
@@ -76,7 +77,7 @@ pub(crate) fn robot_opened(
     }
 }
 
-/// Writes a crawler's delay. It allocates nothing.
+/// Writes a crawler's delay. It doesn't allocate.
 pub(crate) fn delay(site: &Site, agent: &[u8], out: &mut u64) -> i32
     ensures written { result ≡ pos 0 → HasDelay agent.now site.now (Some out.new) }
     ensures kept { result ≢ pos 0 → out.new ≡ out.old }
@@ -105,7 +106,7 @@ pub(crate) fn sitemaps(alloc: Global, site: &Site, out: &mut [u8], len: &mut usi
     }
 }
 
-/// Writes the names of crawlers, as `robots_agents` does.
+/// Writes the names in user-agent lines, as `robots_agents` does.
 pub(crate) fn agents(alloc: Global, site: &Site, out: &mut [u8], len: &mut usize) -> i32
     ensures written { result ≡ pos 0 → IsWritten (AreAgents site.now) out.old out.new len.new }
     ensures buffer_too_small { result ≡ status_of Fault.BufferTooSmall → IsTooLong (AreAgents site.now) (length out.old) len.new }
@@ -119,7 +120,7 @@ pub(crate) fn agents(alloc: Global, site: &Site, out: &mut [u8], len: &mut usize
     }
 }
 
-/// 1 if the file names the crawler, 0 if it doesn't, and -1 if the crawler's name isn't UTF-8.
+/// 1 if a user-agent line names the crawler, 0 if none does, and -1 if the crawler's name isn't UTF-8.
 pub(crate) fn is_named(site: &Site, agent: &[u8]) -> i32
     ensures { SaysNamed agent.now site.now result }
 {

@@ -1,4 +1,4 @@
-//! Texts for C: the sitemaps and the crawlers of a site, and the address of a robots.txt file.
+//! Strings for C: the sitemaps and the crawlers of a site, and the address of robots.txt.
 ghost use Rattle.std.specs.Prelude.{◌≡◌, ◌≢◌, ◌<◌, ◌⊎◌, IfErr, IfOk, length, map, pos, string_bytes};
 ghost use Rattle.robots_io.specs.Lines.{ended};
 ghost use Rattle.robots_c.specs.File.{AreAgents, AreSitemaps, bytes_read};
@@ -12,7 +12,7 @@ use std::alloc::{AllocError, Global};
 use texting_robots::{Site, get_robots_url};
 use url::ParseError;
 
-/// The lines with these texts.
+/// The strings, each followed by LF.
 fn lines_of(alloc: Global, texts: &[String]) -> Result<String, AllocError>
     ensures { IfOk result (λ lines. string_bytes lines ≡ ended (map string_bytes texts.now)) }
 {
@@ -23,7 +23,7 @@ fn lines_of(alloc: Global, texts: &[String]) -> Result<String, AllocError>
     Ok(lines)
 }
 
-/// The lines with these names.
+/// The names, each followed by LF.
 fn lines_of_names(alloc: Global, names: &[&str]) -> Result<String, AllocError>
     ensures { IfOk result (λ lines. string_bytes lines ≡ ended (map (λ name. name.now) names.now)) }
 {
@@ -34,7 +34,7 @@ fn lines_of_names(alloc: Global, names: &[&str]) -> Result<String, AllocError>
     Ok(lines)
 }
 
-/// The sitemaps that a site lists, each ended by LF.
+/// The sitemaps that a site lists, each followed by LF.
 pub(crate) fn sitemaps_in(alloc: Global, site: &Site) -> Result<String, AllocError>
     ensures { IfOk result (λ text. AreSitemaps site.now (string_bytes text)) }
 {
@@ -42,7 +42,7 @@ pub(crate) fn sitemaps_in(alloc: Global, site: &Site) -> Result<String, AllocErr
     lines_of(alloc, &sitemaps)
 }
 
-/// The sitemaps that a file lists, each ended by LF. No rule of the file matters.
+/// The sitemaps that a file lists, each followed by LF. Rules that are too long don't matter.
 pub(crate) fn sitemaps_of(alloc: Global, file: &[u8]) -> Result<String, AllocError>
     ensures { IfOk result (λ text. AreSitemaps (bytes_read file.now) (string_bytes text)) }
 {
@@ -50,7 +50,7 @@ pub(crate) fn sitemaps_of(alloc: Global, file: &[u8]) -> Result<String, AllocErr
     sitemaps_in(alloc, &site)
 }
 
-/// The crawlers that a site names, each once and ended by LF.
+/// The names in a site's user-agent lines, each once and followed by LF.
 pub(crate) fn agents_in(alloc: Global, site: &Site) -> Result<String, AllocError>
     ensures { IfOk result (λ text. AreAgents site.now (string_bytes text)) }
 {
@@ -58,7 +58,7 @@ pub(crate) fn agents_in(alloc: Global, site: &Site) -> Result<String, AllocError
     lines_of_names(alloc, &agents)
 }
 
-/// The crawlers that a file names, each once and ended by LF.
+/// The names in a file's user-agent lines, each once and followed by LF.
 pub(crate) fn agents_of(alloc: Global, file: &[u8]) -> Result<String, AllocError>
     ensures { IfOk result (λ text. AreAgents (bytes_read file.now) (string_bytes text)) }
 {
@@ -66,7 +66,7 @@ pub(crate) fn agents_of(alloc: Global, file: &[u8]) -> Result<String, AllocError
     agents_in(alloc, &site)
 }
 
-/// The address of the robots.txt file of the site that a URL is on.
+/// The address of robots.txt for the site of a URL.
 pub(crate) fn address(alloc: Global, url: &[u8]) -> Result<String, Fault>
     ensures ok { IfOk result (λ text. IsAddress url.now (string_bytes text)) }
     ensures fault { IfErr result (IsWhyNoAddress url.now) }
@@ -78,7 +78,7 @@ pub(crate) fn address(alloc: Global, url: &[u8]) -> Result<String, Fault>
     }
 }
 
-/// Puts a text at the front of `out`, if there is room for it, and writes its length in any case.
+/// Copies the string to the start of `out` if that is long enough, and writes the string's length in any case.
 pub(crate) fn put(text: &str, out: &mut [u8], len: &mut usize) -> i32
     ensures put { result ≡ pos 0 → IsPutIn out.old out.new text.now }
     ensures buffer_too_small { result ≡ status_of Fault.BufferTooSmall → length out.old < length text.now }

@@ -11,7 +11,8 @@ use crate::file::{robot_of, text_of};
 use std::alloc::{AllocError, Global};
 use texting_robots::{Decision, Robot};
 
-/// A decision as one number: the deciding line's, negative where the crawler may not fetch, and 0 where no line decides.
+/// A decision as a number: that of the deciding line, negative if the crawler may not fetch the URL, and 0 if no line
+/// decides.
 fn number_of(decision: Decision) -> i64
     requires { IfSome decision.line (λ line. line < 2 ^ 63) }
     ensures { result ≡ number_of decision.allowed decision.line }
@@ -23,7 +24,7 @@ fn number_of(decision: Decision) -> i64
     }
 }
 
-/// The number for the prepared text of a URL.
+/// The result for a match target.
 pub(crate) fn number_on(robot: &Robot, target: &str) -> i64
     requires { LinesFit robot.now.rules }
     ensures { IsResultOn robot.now.rules target.now result }
@@ -31,7 +32,7 @@ pub(crate) fn number_on(robot: &Robot, target: &str) -> i64
     number_of(robot.decision_prepared(target))
 }
 
-/// The number for one URL.
+/// The result for a URL. It fails only if the URL isn't allocation-free.
 fn number_for(alloc: Global, robot: &Robot, url: &str) -> Result<i64, AllocError>
     requires { LinesFit robot.now.rules }
     ensures number { IfOk result (IsResult robot.now.rules url.now) }
@@ -43,7 +44,7 @@ fn number_for(alloc: Global, robot: &Robot, url: &str) -> Result<i64, AllocError
     }
 }
 
-/// The result for one URL.
+/// The result for the bytes of a URL.
 pub(crate) fn result_for(alloc: Global, robot: &Robot, url: &[u8]) -> Result<i64, Fault>
     requires { IsRobotOfSomeFile robot.now }
     ensures ok { IfOk result (HasResult robot.now.rules url.now) }
@@ -56,7 +57,7 @@ pub(crate) fn result_for(alloc: Global, robot: &Robot, url: &[u8]) -> Result<i64
     }
 }
 
-/// The numbers for the URLs in a text, in their order.
+/// The results for the URLs in a string, in order.
 fn numbers_for(alloc: Global, robot: &Robot, urls: &str) -> Result<Vec<i64>, AllocError>
     requires { LinesFit robot.now.rules }
     ensures { IfOk result (λ numbers. AllZip (IsResult robot.now.rules) (items_in urls.now) numbers.items) }
@@ -68,7 +69,7 @@ fn numbers_for(alloc: Global, robot: &Robot, urls: &str) -> Result<Vec<i64>, All
     Ok(numbers)
 }
 
-/// The results for the URLs in a text, if there is room for so many.
+/// The results for the URLs in a string, if there is capacity for them.
 fn results_for(alloc: Global, robot: &Robot, urls: &str, capacity: usize) -> Result<Vec<i64>, Fault>
     requires { IsRobotOfSomeFile robot.now }
     ensures ok { IfOk result (λ numbers. AllZip (IsResult robot.now.rules) (items_in urls.now) numbers.items) }
@@ -83,7 +84,7 @@ fn results_for(alloc: Global, robot: &Robot, urls: &str, capacity: usize) -> Res
     Ok(numbers)
 }
 
-/// The results of a file for the URLs in a text, if there is room for so many.
+/// The results of a file for the URLs in a string, if there is capacity for them.
 pub(crate) fn decide(
     alloc: Global,
     agent: &[u8],
@@ -102,7 +103,7 @@ pub(crate) fn decide(
     Ok(numbers)
 }
 
-/// The results of a robot for the URLs in a text, if there is room for so many.
+/// The results of a robot for the bytes of a string of URLs, if there is capacity for them.
 fn results_of(alloc: Global, robot: &Robot, urls: &[u8], capacity: usize) -> Result<Vec<i64>, Fault>
     requires { IsRobotOfSomeFile robot.now }
     ensures ok { IfOk result (λ numbers. HasResults robot.now.rules urls.now numbers.items) }
@@ -130,7 +131,7 @@ pub(crate) fn query(alloc: Global, robot: &Robot, url: &[u8], out: &mut i64) -> 
     }
 }
 
-/// Writes the results for the URLs in a text.
+/// Writes the results for the URLs in a string.
 pub(crate) fn query_many(alloc: Global, robot: &Robot, urls: &[u8], out: &mut [i64]) -> i32
     requires { IsRobotOfSomeFile robot.now }
     ensures written { result ≡ pos 0 → ArePutIn robot.now.rules urls.now out.old out.new }

@@ -2,7 +2,7 @@
 use Rattle.std.specs.Prelude.{◌≡◌, ℕ, Bool, List, [], ◌∷◌, if◌then◌else◌}
 use Rattle.texting_robots.specs.Callers.{IsVerdict, Rule, prepared}
 
--- the URLs kept are those that the rules allow, each as often, in their order
+-- `kept` are the URLs that the rules allow, in order, each as often as it is given
 abbrev pub AreAllowed : List Rule → List (List ℕ) → List (List ℕ) → Type 0
 AreAllowed rules [] kept = kept ≡ []
 AreAllowed rules (url ∷ urls) kept =

@@ -2,7 +2,7 @@
 use Rattle.std.specs.Prelude.{◌≡◌, ℕ, ◌+◌, Bool, List, [], ◌∷◌, if◌then◌else◌}
 use Rattle.texting_robots.specs.Callers.{IsVerdict, Rule}
 
--- so many of the texts are denied
+-- this many of the match targets are denied
 abbrev pub AreDenied : List Rule → List (List ℕ) → ℕ → Type 0
 AreDenied rules [] count = count ≡ 0
 AreDenied rules (text ∷ texts) count =

@@ -6,18 +6,18 @@ ghost use Rattle.texting_robots.specs.Callers.{by_value, file_lines};
 use std::alloc::{AllocError, Global};
 use texting_robots::parser::{Line, file_lines};
 
-/// What a line is.
+/// The kind of a line.
 #[derive(Clone, Copy, PartialEq, Eq, Debug)]
 pub enum Kind {
-    /// It names a crawler.
+    /// A user-agent line.
     Agent,
-    /// It is a rule.
+    /// An Allow or a Disallow.
     Rule,
-    /// It holds for every crawler.
+    /// A sitemap line, which applies to every crawler.
     Sitemap,
-    /// It says how long a crawler waits.
+    /// A crawl delay.
     Delay,
-    /// It is no statement: an empty line, a comment, or a line that crawlers pass over.
+    /// An ignored line, such as an empty one, a comment, or one that isn't a directive.
     Other,
 }
 
@@ -26,13 +26,13 @@ pub enum Kind {
 pub struct Row<'a> {
     /// The line's number, counted from 1, as in `texting_robots::Decision`.
     pub number: usize,
-    /// What the line is.
+    /// The kind of the line.
     pub kind: Kind,
     /// The line.
     pub line: Line<'a>,
 }
 
-/// What a line is.
+/// The kind of a line.
 fn kind_of(line: Line<'_>) -> Kind
     ensures { result ≡ kind_of (by_value line.entry) }
 {
@@ -45,7 +45,7 @@ fn kind_of(line: Line<'_>) -> Kind
     }
 }
 
-/// A row for each line of a file, in the file's order.
+/// A row for each line of a file, in order.
 pub fn audit<'a>(alloc: Global, file: &'a [u8]) -> Result<Vec<Row<'a>>, AllocError>
     ensures { IfOk result (λ rows. map row_value rows.items ≡ rows_from 1 (file_lines file.now)) }
 {

@@ -1,4 +1,4 @@
-//! A cache of robots, by the addresses of their files.
+//! A cache of robots, by the addresses of their robots.txt files.
 ghost use Rattle.std.specs.Prelude.{◌≡◌, ◌+◌, ◌-◌, ◌≤◌, ℕ, if◌then◌else◌, is_some, IfErr, IfOk, IsSomeAnd, List, None, Ok, OnErr, OnOk, Some, option_copied, remove, string_bytes, take};
 ghost use Rattle.std.specs.String.{string_eq};
 ghost use Rattle.indexmap.specs.IndexMap.{get_by_text, index_map_len, insert_entry};
@@ -12,19 +12,19 @@ use texting_robots::{Robot, get_robots_url};
 use thiserror::Error;
 use url::ParseError;
 
-/// How many robots are kept at most.
+/// The maximum number of robots in a cache.
 pub const MAX_ROBOTS: usize = 64;
 
-/// Why a robot isn't kept. Its cause stands in the variant and in the text.
+/// Why no robot was stored. The variant and the message have the cause.
 #[derive(Debug, Drop, Error)]
 pub enum CacheError {
-    /// The URL has no address of a robots.txt file, or memory for it was refused.
+    /// The URL has no robots.txt address, an allocation failed, or the URL is too long for `url`.
     #[error("No address of a robots.txt file: {0}")]
     Url(ParseError),
-    /// The file is refused for the agent, or memory for the robot was.
+    /// The file is rejected for the crawler, or an allocation failed.
     #[error("No robot: {0}")]
     File(texting_robots::Error),
-    /// Memory for one more entry was refused.
+    /// An allocation failed while the robot was inserted.
     #[error("Out of memory")]
     Memory,
 }
@@ -51,14 +51,14 @@ impl From<texting_robots::Error> for CacheError {
     }
 }
 
-/// Takes the robot of the site that came first out, if there is one.
+/// Removes the robot of the oldest site, if there is one.
 fn forget_oldest(robots: &mut IndexMap<String, Robot>)
     ensures { robots.new.entries ≡ remove robots.old.entries 0 }
 {
     robots.shift_remove_index(0);
 }
 
-/// Makes room for the robot of an address.
+/// Makes sure that there is capacity for the robot of this address.
 fn evict_one(robots: &mut IndexMap<String, Robot>, address: &str)
     requires { index_map_len robots.old ≤ most_robots }
     ensures room { index_map_len robots.new + (if is_some (get_by_text robots.new address.now) then 0 else 1) ≤ most_robots }
@@ -71,7 +71,7 @@ fn evict_one(robots: &mut IndexMap<String, Robot>, address: &str)
     forget_oldest(robots);
 }
 
-/// Keeps a robot at an address, for which there is room.
+/// Stores a robot for an address, for which there is capacity.
 fn add(
     robots: &mut IndexMap<String, Robot>,
     address: String,
@@ -92,17 +92,18 @@ fn add(
     }
 }
 
-/// The robots of at most [`MAX_ROBOTS`] sites for one crawler, whose name each call is given. Where one more comes, the site that came
-/// first goes; a robot that is put again keeps its site's place.
+/// The robots of at most [`MAX_ROBOTS`] sites for one crawler, whose product token is passed to each call. A new site
+/// replaces the oldest one if the cache is full. A robot for a site that has one replaces it, and doesn't change the
+/// site's age.
 #[derive(Drop)]
 pub struct Cache {
-    /// By the address of the file.
+    /// The robots, by the address of the file.
     pub robots: IndexMap<String, Robot>,
     ghost bounded: { index_map_len robots ≤ most_robots },
 }
 
 impl Cache {
-    /// A cache with no robot.
+    /// An empty cache.
     pub fn new(alloc: Global) -> Self
         ensures { index_map_len result.robots ≡ 0 }
     {
@@ -111,9 +112,13 @@ impl Cache {
         }
     }
 
-    /// Keeps the robot that this file gives the agent, for the site that a URL is on, in place of one that is kept for it. For a
-    /// new site, where [`MAX_ROBOTS`] are kept, the site that came first goes. After `Memory` it may be gone; after any other error all
-    /// is as before.
+    /// Stores the robot that this file has for the crawler, for the site of a URL, and replaces the site's previous
+    /// robot. If the site is new and there are [`MAX_ROBOTS`] sites, the oldest one is removed.
+    ///
+    /// # Errors
+    ///
+    /// After `Memory` the oldest site has been removed if the cache was full. After any other error the cache is
+    /// unchanged.
     pub fn put(
         &mut self,
         alloc: Global,
@@ -138,7 +143,7 @@ impl Cache {
         Ok(())
     }
 
-    /// The robot that is kept for the site that a URL is on.
+    /// The robot that is stored for the site of a URL.
     pub fn find(&self, alloc: Global, url: &str) -> Result<Option<&Robot>, ParseError>
         ensures found { IfOk result (λ found. (address : List ℕ) × (robots_address url.now ≡ Ok address)
             × (option_copied found ≡ get_by_text self.now.robots address)) }

@@ -10,22 +10,22 @@ use texting_robots::{Error, Robot};
 /// How long a crawler waits between two requests, in microseconds.
 #[derive(Clone, Copy, PartialEq, Eq, Debug)]
 pub struct DelayPolicy {
-    /// The wait where the file names none.
+    /// The wait if the file has no delay for the crawler.
     pub usual: u64,
-    /// The longest wait, whatever the file says: a file may ask for `u64::MAX` microseconds.
+    /// The longest wait, whatever the file demands: its delay can be `u64::MAX` microseconds.
     pub longest: u64,
 }
 
 /// What a crawler does at a site.
 #[derive(Debug, Drop)]
 pub struct Plan<'a> {
-    /// The URLs that it fetches, in the order in which they came.
+    /// The URLs that it fetches, in the given order.
     pub urls: Vec<&'a str>,
-    /// How many microseconds it waits between two requests.
+    /// The wait between two requests, in microseconds.
     pub wait: u64,
 }
 
-/// Those of the URLs that a robot allows.
+/// Those of the URLs that the robot allows.
 fn allowed_of<'a>(alloc: Global, robot: &Robot, urls: &[&'a str]) -> Result<Vec<&'a str>, Error>
     ensures urls { IfOk result (λ allowed. AreAllowed (unplaced robot.now.rules)
         (map (λ url. url.now) urls.now) (map (λ url. url.now) allowed.items)) }
@@ -40,7 +40,7 @@ fn allowed_of<'a>(alloc: Global, robot: &Robot, urls: &[&'a str]) -> Result<Vec<
     Ok(allowed)
 }
 
-/// What the crawler that calls itself `agent` does with these URLs of the site with this robots.txt file.
+/// The plan of the crawler with the product token `agent` for these URLs of the site with this robots.txt file.
 pub fn plan_for<'a>(
     alloc: Global,
     agent: &str,

@@ -7,15 +7,16 @@ ghost use Rattle.texting_robots.specs.Callers.{LooksForRules, seen_of, unplaced}
 use texting_robots::Robot;
 use texting_robots::view::View;
 
-/// How many links are denied, and how many looks their views have taken in all, those before the call too: `u64::MAX` where
-/// there were more.
+/// How many links are denied, and how many byte comparisons (looks) their views have counted in all, including those
+/// before the call; at most `u64::MAX`.
 #[derive(Clone, Copy, PartialEq, Eq, Debug)]
 pub struct Denied {
     pub count: usize,
     pub looks: u64,
 }
 
-/// Counts the links that a robot denies, by views of their prepared texts, and the looks of these views. It takes no memory.
+/// Counts the links that a robot denies, and the looks of their views. Each view is over the match target of a link. It
+/// doesn't allocate.
 pub fn count_denied(robot: &Robot, links: &mut [View<'_>]) -> Denied
     ensures count { AreDenied (unplaced robot.now.rules) (map (λ link. link.text) links.old) result.count }
     ensures views { AllZip (LooksForRules robot.now.rules) links.old links.new }

@@ -1,4 +1,4 @@
-//! Calls on large inputs of what stands over the library: the ends and lines of programs, and the callers.
+//! Calls on large inputs: what the programs share, and the examples of callers.
 use crate::large::{LONG, MANY, long, many_lines};
 use robots_examples::audit::audit;
 use robots_examples::cache::Cache;
@@ -25,7 +25,7 @@ pub(crate) enum Call {
     MayFetch,
 }
 
-/// The calls by their names, in the order in which they are made.
+/// The calls with their names, in order.
 pub(crate) const CALLS: &[(&str, Call)] = &[
     ("robots_io: read_all on large inputs", Call::ReadAll),
     ("robots_io: write_out on large inputs", Call::WriteOut),
@@ -40,7 +40,7 @@ pub(crate) const CALLS: &[(&str, Call)] = &[
     ("robots_callers: may_fetch on large inputs", Call::MayFetch),
 ];
 
-/// Makes a call.
+/// Makes a call, and returns whether its result is right.
 pub(crate) fn answer(alloc: Global, call: &Call) -> Result<bool, Error> {
     match call {
         Call::ReadAll => reads(alloc),
@@ -54,7 +54,7 @@ pub(crate) fn answer(alloc: Global, call: &Call) -> Result<bool, Error> {
     }
 }
 
-/// An input of one byte more than 64 MiB.
+/// An input of 64 MiB and one byte.
 fn reads(alloc: Global) -> Result<bool, Error> {
     let input = long(alloc, &[("a", 67_108_865)])?;
     match read_all(alloc, &mut Source::new(input.as_bytes(), usize::MAX)) {
@@ -63,10 +63,10 @@ fn reads(alloc: Global) -> Result<bool, Error> {
     }
 }
 
-/// How long reports are: a byte, 64 KiB, 8 MiB, and one more.
+/// The lengths of reports: 1 byte, 64 KiB and 8 MiB, and for the last two one more byte.
 const REPORTS: &[usize] = &[1, 65_536, 65_537, 8_388_608, 8_388_609];
 
-/// Each report goes to a writer that takes all that it is asked to.
+/// Each report is written to a sink that accepts all bytes of a write.
 fn writes(alloc: Global) -> Result<bool, Error> {
     for length in REPORTS {
         let report = long(alloc, &[("a", *length)])?;
@@ -103,7 +103,7 @@ fn pushes_lines(alloc: Global) -> Result<bool, Error> {
     Ok(text == want)
 }
 
-/// A file of more bytes than are read, and many long URLs.
+/// A file above the size limit, and many long URLs.
 fn plans(alloc: Global) -> Result<bool, Error> {
     let file = many_lines(alloc)?;
     let url = long(alloc, &[("https://example.com/", 1), ("b", 10_000)])?;
@@ -121,7 +121,7 @@ fn plans(alloc: Global) -> Result<bool, Error> {
     Ok(plan.urls.len() == 1_001)
 }
 
-/// Links that the first rule denies, for four looks each.
+/// Links that the first rule denies, with four looks each.
 fn counts_denied(alloc: Global) -> Result<bool, Error> {
     let robot = Robot::new(alloc, "Bot", b"Disallow: /abc\n")?;
     let mut links = Vec::new(alloc);
@@ -140,7 +140,7 @@ fn audits(alloc: Global) -> Result<bool, Error> {
     Ok(audit(alloc, file.as_bytes())?.len() == MANY)
 }
 
-/// Keeps the robots of so many sites.
+/// Stores the robots of this many sites.
 fn put_sites(alloc: Global, cache: &mut Cache, count: usize) -> Result<(), Error> {
     for site in 1..=count {
         let url = format!(in alloc; "https://s{site}.example.com/")?;
@@ -159,8 +159,8 @@ fn has_site(alloc: Global, cache: &Cache, page: &str) -> Result<bool, Error> {
     }
 }
 
-/// Robots of 65 sites, of which the last has a large file and a long URL. The first site's robot makes room for it, and an unknown
-/// site has none.
+/// Robots of 65 sites, of which the last has a large file and a long URL. The first site's robot is removed for it, and
+/// an unknown site has none.
 fn fills_cache(alloc: Global) -> Result<bool, Error> {
     let file = many_lines(alloc)?;
     let page = long(alloc, &[("https://example.com/", 1), ("b", LONG)])?;

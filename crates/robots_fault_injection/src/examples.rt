@@ -1,7 +1,7 @@
-//! Worked examples of the callers: an audit, a cache of robots, a crawler's plans, a link checker, and one
-//! question about one file.
+//! Worked examples of the callers: an audit, a cache of robots, a crawler's plans, a link checker, and a single query
+//! of one file.
 use robots_examples::audit::{Kind, Row, audit};
-use robots_examples::cache::{Cache, CacheError, MOST};
+use robots_examples::cache::{Cache, CacheError, MAX_ROBOTS};
 use robots_examples::crawler::{DelayPolicy, plan_for};
 use robots_examples::link_check::{Denied, count_denied};
 use robots_examples::single_query::may_fetch;
@@ -11,7 +11,7 @@ use texting_robots::view::View;
 use texting_robots::{Error, Robot};
 use url::ParseError;
 
-/// A call of a caller.
+/// A call of one of the examples.
 pub(crate) enum Call {
     Audit,
     OneSite,
@@ -22,7 +22,7 @@ pub(crate) enum Call {
     MayFetch,
 }
 
-/// The calls by their names, in the order in which they are made.
+/// The calls with their names, in order.
 pub(crate) const CALLS: &[(&str, Call)] = &[
     ("robots_callers: audit", Call::Audit),
     ("robots_callers: a cache of one site", Call::OneSite),
@@ -36,7 +36,7 @@ pub(crate) const CALLS: &[(&str, Call)] = &[
     ("robots_callers: may_fetch", Call::MayFetch),
 ];
 
-/// Makes a call.
+/// Makes a call, and returns whether its result is right.
 pub(crate) fn answer(alloc: Global, call: &Call) -> Result<bool, Error> {
     match call {
         Call::Audit => Ok(are_rows(&audit(alloc, AUDITED)?)),
@@ -53,7 +53,7 @@ pub(crate) fn answer(alloc: Global, call: &Call) -> Result<bool, Error> {
 const AUDITED: &[u8] =
     b"# hello\nUser-agent: *\nDisallow: /a # no\n\nNoindex: /x\nCrawl-delay: 1\nSitemap: s";
 
-/// What its lines are.
+/// The kinds of its lines.
 const KINDS: &[Kind] = &[
     Kind::Other,
     Kind::Agent,
@@ -64,7 +64,7 @@ const KINDS: &[Kind] = &[
     Kind::Sitemap,
 ];
 
-/// Whether each line of the audited file has its row, and the third is the rule without its comment.
+/// Whether each line of the audited file has its row, and the third one is the rule without its comment.
 fn are_rows(rows: &[Row<'_>]) -> bool {
     for (position, row) in rows.iter().enumerate() {
         if position.checked_add(1) != Some(row.number) || KINDS.get(position) != Some(&row.kind) {
@@ -77,7 +77,7 @@ fn are_rows(rows: &[Row<'_>]) -> bool {
 /// The file of example.com, whose robot is cached.
 const CACHED: &[u8] = b"User-agent: *\nDisallow: /a\n";
 
-/// Whether it is for want of memory that a robot isn't kept.
+/// Whether no robot was stored because an allocation failed or a URL was too long.
 fn is_memory(error: &CacheError) -> bool {
     matches!(
         error,
@@ -87,7 +87,7 @@ fn is_memory(error: &CacheError) -> bool {
     )
 }
 
-/// Whether a cache keeps the robot of a file, for the site of a URL.
+/// Whether a cache stores the robot of a file, for the site of a URL.
 fn keeps(alloc: Global, cache: &mut Cache, url: &str, file: &[u8]) -> Result<bool, Error> {
     match cache.put(alloc, "Bot", url, file) {
         Ok(()) => Ok(true),
@@ -96,7 +96,7 @@ fn keeps(alloc: Global, cache: &mut Cache, url: &str, file: &[u8]) -> Result<boo
     }
 }
 
-/// Whether a cache refuses a URL that is on no site.
+/// Whether a cache rejects a URL that isn't on a site.
 fn rejects_mail(alloc: Global, cache: &mut Cache) -> Result<bool, Error> {
     match cache.put(alloc, "Bot", "mailto:a@example.com", b"") {
         Err(error) if is_memory(&error) => Err(Error::Memory),
@@ -105,7 +105,8 @@ fn rejects_mail(alloc: Global, cache: &mut Cache) -> Result<bool, Error> {
     }
 }
 
-/// Whether the robot that is kept for the site of a page says this of a URL: nothing where none is kept.
+/// Whether the robot that is stored for the site of a page has this verdict on a URL; `None` means that no robot is
+/// stored.
 fn says(
     alloc: Global,
     cache: &Cache,
@@ -121,7 +122,7 @@ fn says(
     }
 }
 
-/// Pages, URLs, and what a cache with the robot of example.com alone says of them.
+/// Pages, URLs, and the verdicts of a cache that has only the robot of example.com.
 const SAID: &[(&str, &str, Option<bool>)] = &[
     (
         "https://example.com/c?d",
@@ -149,18 +150,18 @@ fn keeps_one_site(alloc: Global) -> Result<bool, Error> {
     rejects_mail(alloc, &mut cache)
 }
 
-/// Whether a cache keeps the robots of as many sites as it can.
+/// Whether a cache stores the robots of the maximum number of sites.
 fn keeps_most(alloc: Global, cache: &mut Cache) -> Result<bool, Error> {
-    for site in 0..MOST {
+    for site in 0..MAX_ROBOTS {
         let url = format!(in alloc; "https://s{site}.example.com/")?;
         if !keeps(alloc, cache, &url, b"")? {
             return Ok(false);
         }
     }
-    Ok(cache.robots.len() == MOST)
+    Ok(cache.robots.len() == MAX_ROBOTS)
 }
 
-/// The robot of example.com came first, and goes.
+/// The robot of example.com is the oldest, so it is removed.
 fn forgets_oldest(alloc: Global) -> Result<bool, Error> {
     let mut cache = Cache::new(alloc);
     Ok(
@@ -208,7 +209,7 @@ fn plans(alloc: Global) -> Result<bool, Error> {
     Ok(true)
 }
 
-/// A delay without an end is cut to the longest wait.
+/// An infinite delay is capped at the longest wait.
 fn caps_delay(alloc: Global) -> Result<bool, Error> {
     let plan = plan_for(alloc, "Ferris", b"Crawl-delay: inf", &[], WAITS)?;
     Ok(plan.wait == 60_000_000)
@@ -219,7 +220,8 @@ fn counts_denied(alloc: Global) -> Result<bool, Error> {
     Ok(denies_two(&Robot::new(alloc, "LinkBot", file)?))
 }
 
-/// Whether a robot denies two links, of two rules and 31 bytes in all, and none where there is no link.
+/// Whether a robot with two rules denies two of five links, which have 31 bytes in all, within the bound on looks; and
+/// denies none of no links.
 fn denies_two(robot: &Robot) -> bool {
     let links = &mut [
         View::new("/a/b"),
@@ -238,8 +240,8 @@ fn counts_looks(alloc: Global) -> Result<bool, Error> {
     Ok(looks_twice(&robot) && looks_little(&robot))
 }
 
-/// That `/abc` stands there takes a look at each of its four bytes; that it doesn't, one look at the first.
-/// The same links take as many looks again.
+/// A link that starts with `/abc` takes four looks, one at each of these bytes, and `?abc` takes one look at its first
+/// byte. A second call takes as many looks again.
 fn looks_twice(robot: &Robot) -> bool {
     let links = &mut [View::new("/abc"), View::new("?abc"), View::new("/abc/d")];
     let once = Denied {
@@ -253,13 +255,13 @@ fn looks_twice(robot: &Robot) -> bool {
     count_denied(robot, links) == once && count_denied(robot, links) == twice
 }
 
-/// The first two bytes are the same, and the third is not; `/robots.txt` is always allowed, and no look.
+/// The first two bytes are equal, and the third differs. `/robots.txt` is always allowed, without a look.
 fn looks_little(robot: &Robot) -> bool {
     let links = &mut [View::new("/axc"), View::new("/robots.txt")];
     count_denied(robot, links) == Denied { count: 0, looks: 3 }
 }
 
-/// Agents, URLs, and whether each may fetch its own where `FerrisBot` may not fetch `/a`.
+/// Crawlers, URLs, and whether each may fetch its URL if `FerrisBot` may not fetch `/a`.
 const FIXTURE: &[(&str, &str, bool)] = &[
     ("ferrisbot", "https://example.com/a?b", false),
     ("FerrisBot", "https://example.com/b", true),

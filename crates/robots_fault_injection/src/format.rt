@@ -1,4 +1,4 @@
-//! Printed texts. Printing takes memory.
+//! Printed patterns, robots and errors. Printing to a string allocates.
 use robots_examples::cache::CacheError;
 use std::alloc::Global;
 use texting_robots::minregex::MinRegex;
@@ -12,14 +12,14 @@ pub(crate) enum Call {
     CacheErrors,
 }
 
-/// The calls by their names, in the order in which they are made.
+/// The calls with their names, in order.
 pub(crate) const CALLS: &[(&str, Call)] = &[
     ("a pattern as printed", Call::Pattern),
     ("a robot as printed", Call::Robot),
     ("errors of a cache as printed", Call::CacheErrors),
 ];
 
-/// Makes a call.
+/// Makes a call, and returns whether its result is right.
 pub(crate) fn answer(alloc: Global, call: &Call) -> Result<bool, Error> {
     match call {
         Call::Pattern => prints_pattern(alloc),
@@ -28,15 +28,15 @@ pub(crate) fn answer(alloc: Global, call: &Call) -> Result<bool, Error> {
     }
 }
 
-/// A pattern is printed as it was given.
+/// A pattern is printed unchanged.
 fn prints_pattern(alloc: Global) -> Result<bool, Error> {
     let pattern = MinRegex::new(alloc, "/a**b")?;
     let text = format!(in alloc; "{pattern:?}")?;
     Ok(text.as_str() == "MinRegex(\"/a**b\")")
 }
 
-/// A robot is printed with all of its rules, 101 that are as long and stand in the order of their lines: each with fifteen bytes and
-/// its number, with a comma and a blank behind each but the last.
+/// A robot is printed with all of its 101 rules, which are equally long and so in the order of their lines. Each takes
+/// fifteen bytes and its number, and a comma and a space follow it, except for the last.
 fn prints_robot(alloc: Global) -> Result<bool, Error> {
     let file = "Disallow: /a\n".repeat(alloc, 101)?;
     let robot = Robot::new(alloc, "Bot", file.as_bytes())?;
@@ -52,7 +52,7 @@ fn is_robot_of_101(text: &str) -> bool {
         && text.len() == 43 + (101 * 15 + numbers + 100 * 2) + 3
 }
 
-/// The errors of a cache, and what each says.
+/// The errors of a cache, and their messages.
 const ERRORS: &[(CacheError, &str)] = &[
     (
         CacheError::Url(ParseError::EmptyHost),

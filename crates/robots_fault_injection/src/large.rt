@@ -1,4 +1,5 @@
-//! The library's calls on large inputs. Where there is memory each is right: no length and no number is want of it.
+//! The library's calls on large inputs. With enough memory each result is right: no length and no number leads to
+//! `Error::Memory`.
 use std::alloc::Global;
 use texting_robots::labels::{is_named, labeled_lines};
 use texting_robots::minregex::MinRegex;
@@ -26,7 +27,7 @@ pub(crate) enum Call {
     PushEscapedBytes,
 }
 
-/// The calls by their names, in the order in which they are made.
+/// The calls with their names, in order.
 pub(crate) const CALLS: &[(&str, Call)] = &[
     ("get_robots_url on large inputs", Call::Addresses),
     ("robots_txt_parse on large inputs", Call::ParseLines),
@@ -47,16 +48,16 @@ pub(crate) const CALLS: &[(&str, Call)] = &[
     ("push_escaped_bytes on large inputs", Call::PushEscapedBytes),
 ];
 
-/// How many lines a file has, or rules, or links a page.
+/// The number of lines or rules in a file, or of links in a page.
 pub(crate) const MANY: usize = 200_001;
 
-/// How often a part stands in a long text.
+/// The number of repetitions of a part in a long text.
 pub(crate) const LONG: usize = 1_000_001;
 
-/// The parts of a text, each with how often it stands.
+/// The parts of a text, each with the number of its repetitions.
 pub(crate) type Parts<'a> = &'a [(&'a str, usize)];
 
-/// A text by its parts.
+/// The parts with their repetitions, one after another.
 pub(crate) fn long(alloc: Global, parts: Parts<'_>) -> Result<String, Error> {
     let mut text = String::new(alloc);
     for (part, count) in parts {
@@ -65,7 +66,7 @@ pub(crate) fn long(alloc: Global, parts: Parts<'_>) -> Result<String, Error> {
     Ok(text)
 }
 
-/// Makes a call.
+/// Makes a call, and returns whether its result is right.
 pub(crate) fn answer(alloc: Global, call: &Call) -> Result<bool, Error> {
     match call {
         Call::Addresses => addresses(alloc),
@@ -85,7 +86,7 @@ pub(crate) fn answer(alloc: Global, call: &Call) -> Result<bool, Error> {
     }
 }
 
-/// Pages, the first on a site with a host of 254 bytes, and the addresses of their sites' files.
+/// Pages, of which the first is on a site with a host of 254 bytes, and their robots.txt addresses.
 const ADDRESSES: &[(Parts<'static>, Parts<'static>)] = &[
     (
         &[("http://", 1), ("ab.", 84), ("de/a?b", 1)],
@@ -111,7 +112,7 @@ fn addresses(alloc: Global) -> Result<bool, Error> {
     Ok(true)
 }
 
-/// A file of many lines, which are the same.
+/// A file of many equal lines.
 pub(crate) fn many_lines(alloc: Global) -> Result<String, Error> {
     long(alloc, &[("Disallow: /a\n", MANY)])
 }
@@ -136,7 +137,7 @@ fn labels_all(file: &[u8]) -> bool {
     labeled_lines("b", file).count() == MANY + 1 && is_named("b", file) && !is_named("c", file)
 }
 
-/// Texts, and the delays that they name.
+/// Texts, and their values as delays.
 const DELAYS: &[(Parts<'static>, u64)] = &[
     (&[("9", 1_000_000)], u64::MAX),
     (&[("0", 1_000_000), ("1", 1)], 1_000_000),
@@ -166,8 +167,8 @@ fn patterns(alloc: Global) -> Result<bool, Error> {
     Ok(copy == made && copy.as_str() == pattern.as_str() && matches_all(&copy, &text))
 }
 
-/// Whether a pattern of many stars matches what stands between them. Each of its pieces stands right where it is looked for, so each
-/// byte of the text is looked at once.
+/// Whether a pattern of many stars matches the text of its segments. Each segment occurs where the search for it
+/// starts, so each byte of the text takes one look.
 fn matches_all(pattern: &MinRegex, text: &str) -> bool {
     let mut view = View::new(text);
     pattern.is_match(text)
@@ -176,13 +177,13 @@ fn matches_all(pattern: &MinRegex, text: &str) -> bool {
         && view.seen() == 1 + 1_000_001
 }
 
-/// Whether the deciding line is this one, after exactly so many looks.
+/// Whether this line decides, after exactly this many looks.
 fn decides_after(robot: &Robot, text: &str, line: Option<usize>, looks: u64) -> bool {
     let mut view = View::new(text);
     robot.decision(&mut view).line == line && view.seen() == looks
 }
 
-/// A file of 511,996 bytes. The last rule is the longest, so it is asked first, and then the first.
+/// A file of 511,996 bytes. The last rule is the longest, so it is tried first, and then the first rule.
 fn many_rules(alloc: Global) -> Result<bool, Error> {
     let file = long(alloc, &[("Allow:/\n", 63_998), ("Disallow:/a\n", 1)])?;
     let robot = Robot::new(alloc, "Bot", file.as_bytes())?;
@@ -196,14 +197,14 @@ fn many_sitemaps(alloc: Global) -> Result<bool, Error> {
     Ok(robot.sitemaps.len() == 51_200)
 }
 
-/// The first text is denied by the first rule, and with the second each rule is compared for two looks.
+/// The first rule denies the first target. On the second target each rule takes two looks.
 fn with_limit(alloc: Global) -> Result<bool, Error> {
     let file = many_lines(alloc)?;
     let robot = Robot::with_limit(alloc, "Bot", file.as_bytes(), usize::MAX)?;
     Ok(decides_after(&robot, "/ab", Some(1), 2) && decides_after(&robot, "/b", None, 400_002))
 }
 
-/// Paths and URLs, and whether a crawler may fetch them where a `z` at the end and `/a%00` are denied.
+/// Paths and URLs, and whether a crawler may fetch them if `/*z$` and `/a%00` are disallowed.
 const VERDICTS: &[(Parts<'static>, bool)] = &[
     (&[("/", 1), ("ab", LONG)], true),
     (&[("/", 1), ("ab", LONG), ("z", 1)], false),
@@ -236,7 +237,7 @@ fn allows(alloc: Global) -> Result<bool, Error> {
     Ok(true)
 }
 
-/// Paths and URLs, and their texts.
+/// Paths and URLs, and their match targets.
 const PREPARED: &[(Parts<'static>, Parts<'static>)] = &[
     (&[("/", 1), ("é", LONG)], &[("/", 1), ("%C3%A9", LONG)]),
     (&[("/", 1), ("a", LONG)], &[("/", 1), ("a", LONG)]),
@@ -261,7 +262,7 @@ fn decides(alloc: Global) -> Result<bool, Error> {
     Ok(denies_by_star(&robot, &text))
 }
 
-/// Whether a text is denied by a rule with a star, for which each byte up to the `z` is looked at once.
+/// Whether a rule with a star denies a target. It takes one look at each byte up to the `z`.
 fn denies_by_star(robot: &Robot, text: &str) -> bool {
     let mut view = View::new(text);
     decides_after(robot, text, Some(1), 1 + 1_000_001 + 1)
@@ -269,7 +270,7 @@ fn denies_by_star(robot: &Robot, text: &str) -> bool {
         && !robot.allowed_prepared(text)
 }
 
-/// Each rule is compared with the text's first two bytes.
+/// Each rule is compared with the first two bytes of the target.
 fn one_agent(alloc: Global) -> Result<bool, Error> {
     let file = long(alloc, &[("Disallow:/b\n", 40_000)])?;
     let text = long(alloc, &[("/", 1), ("a", LONG)])?;

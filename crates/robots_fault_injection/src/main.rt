@@ -1,9 +1,9 @@
-//! Makes the calls of the libraries one after the other, on small inputs and on large ones, and prints for each whether its answer
-//! is right.
+//! Calls the functions of the libraries one after another, on small and on large inputs, and prints for each call
+//! whether its result is right.
 //!
-//! With memory for all, each line says `right`, whatever the length of an input and the number of its parts. The tests
-//! `tests/test_allocation_failures.py` run this program while allocations fail; then a call that allocates may also say
-//! `out of memory`. A name on standard input chooses one call.
+//! With enough memory, each line reads `right`, whatever the length of an input and the number of its parts. The tests
+//! in `tests/test_allocation_failures.py` run this program while allocations fail; then a call that allocates can also
+//! print `out of memory`. A name on standard input chooses one call.
 #![tactic(auto)]
 
 mod callers;
@@ -19,7 +19,7 @@ use std::io::Read;
 use std::process::ExitCode;
 use texting_robots::Error;
 
-/// Prints what came of a call, and tells whether that may be.
+/// Prints the outcome of a call, and returns whether it is an acceptable one.
 fn print_verdict(rt: &HostRuntime, name: &str, answer: Result<bool, Error>) -> bool {
     let (word, may_be) = match answer {
         Ok(true) => ("right", true),
@@ -30,12 +30,12 @@ fn print_verdict(rt: &HostRuntime, name: &str, answer: Result<bool, Error>) -> b
     println!(rt; "{name}: {word}").is_ok() && may_be
 }
 
-/// Whether the line on standard input chooses the call of this name. Where there is none, all are chosen.
+/// Whether the line on standard input chooses the call with this name. An empty input chooses all.
 fn is_chosen(line: &[u8], name: &str) -> bool {
     line.is_empty() || line.strip_suffix(b"\n") == Some(name.as_bytes())
 }
 
-/// Makes those calls of a module that the line on standard input chooses, and clears `well` where what came of one may not be.
+/// Makes the chosen calls of a module, and clears `well` if an outcome isn't acceptable.
 macro_rules! make_calls {
     ($rt:expr, $line:expr, $well:ident, $module:ident) => {
         for (name, call) in $module::CALLS {
@@ -46,17 +46,17 @@ macro_rules! make_calls {
     };
 }
 
-/// Makes the calls that the line on standard input chooses, and tells whether what came of each may be.
+/// Makes the chosen calls, and returns whether all outcomes are acceptable.
 fn makes_calls(rt: &HostRuntime, line: &[u8]) -> bool {
     let mut well = true;
     make_calls!(rt, line, well, calls);
-    make_calls!(rt, line, well, printed);
-    make_calls!(rt, line, well, quiet);
+    make_calls!(rt, line, well, format);
+    make_calls!(rt, line, well, no_alloc);
     make_calls!(rt, line, well, large);
     make_calls!(rt, line, well, sites);
     make_calls!(rt, line, well, callers);
-    make_calls!(rt, line, well, ends);
-    make_calls!(rt, line, well, worked);
+    make_calls!(rt, line, well, streams);
+    make_calls!(rt, line, well, examples);
     well
 }
 

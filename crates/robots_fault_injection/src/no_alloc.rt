@@ -1,4 +1,4 @@
-//! Calls that take no memory. Each is asked of a robot, two patterns and a URL that were made before it.
+//! Calls that don't allocate. Each is made on a robot, two patterns, a site and a URL that were made before it.
 use crate::calls::{PAGE, PAGE_LINES, PATTERN, ferris, is_right_robot, parsed};
 use std::alloc::Global;
 use std::cmp::Ordering;
@@ -9,9 +9,9 @@ use texting_robots::view::View;
 use texting_robots::{Decision, Error, Robot, Site};
 use url::Url;
 
-/// A call that takes no memory.
+/// A call that doesn't allocate.
 pub(crate) enum Call {
-    /// None but those that make what is asked, which take memory.
+    /// No call other than those that make the fixture, which allocate.
     MakeFixture,
     AllowedPrepared,
     AllowedUrl,
@@ -36,11 +36,11 @@ pub(crate) enum Call {
     ReadDelay,
     LabeledLines,
     IsNamed,
-    /// It makes a robot of a file of line ends alone.
+    /// Makes a robot of a file that consists of line ends.
     NewRobot,
 }
 
-/// The calls by their names, in the order in which they are made.
+/// The calls with their names, in order.
 pub(crate) const CALLS: &[(&str, Call)] = &[
     ("a robot, two patterns and a URL", Call::MakeFixture),
     (
@@ -87,17 +87,17 @@ pub(crate) const CALLS: &[(&str, Call)] = &[
     ("Robot::new on line ends without memory", Call::NewRobot),
 ];
 
-/// What the calls are asked of.
+/// What the calls are made on.
 #[derive(Drop)]
 struct Fixture<'a> {
     robot: &'a Robot,
     patterns: &'a Patterns,
     url: &'a Url,
-    /// A site, which the call of the others' name makes too.
+    /// The site of the file `NAMES`.
     site: &'a Site,
 }
 
-/// Two patterns, of which the longer comes first in their order.
+/// Two patterns, of which the longer is first in their order.
 #[derive(Drop)]
 struct Patterns {
     longer: MinRegex,
@@ -111,17 +111,17 @@ fn make_patterns(alloc: Global) -> Result<Patterns, Error> {
     })
 }
 
-/// Makes the robot, the patterns and the URL that are asked, and then a call.
+/// Makes the fixture, and then a call.
 pub(crate) fn answer(alloc: Global, call: &Call) -> Result<bool, Error> {
     answer_of(alloc, &ferris(alloc)?, call)
 }
 
-/// Makes the patterns and the URL, and then a call.
+/// Makes the rest of the fixture for this robot, and then a call.
 fn answer_of(alloc: Global, robot: &Robot, call: &Call) -> Result<bool, Error> {
     answer_with(alloc, robot, &make_patterns(alloc)?, call)
 }
 
-/// Makes the site and the URL, and then a call.
+/// Makes the rest of the fixture for this robot and these patterns, and then a call.
 fn answer_with(
     alloc: Global,
     robot: &Robot,
@@ -131,7 +131,7 @@ fn answer_with(
     answer_at(alloc, robot, patterns, &Site::new(alloc, NAMES)?, call)
 }
 
-/// Makes the URL, and then a call.
+/// Makes the rest of the fixture, which is the URL, and then a call.
 fn answer_at(
     alloc: Global,
     robot: &Robot,
@@ -149,7 +149,7 @@ fn answer_at(
     asks(alloc, &fixture, call)
 }
 
-/// Makes a call. Only five are passed the allocator.
+/// Makes a call. Only five get the allocator.
 fn asks(alloc: Global, fixture: &Fixture, call: &Call) -> Result<bool, Error> {
     match call {
         Call::AllowedPath => asks_paths(alloc, fixture.robot),
@@ -161,7 +161,7 @@ fn asks(alloc: Global, fixture: &Fixture, call: &Call) -> Result<bool, Error> {
     }
 }
 
-/// Whether the answer to a call is right that isn't passed the allocator.
+/// Whether the result of a call that doesn't get the allocator is right.
 fn is_right(fixture: &Fixture, call: &Call) -> bool {
     match call {
         Call::MakeFixture => is_right_robot(fixture.robot),
@@ -199,12 +199,12 @@ fn asks_prepared(robot: &Robot) -> bool {
         && !robot.allowed_prepared("/forest/tree/snake.py")
 }
 
-/// Asks for paths of which nothing is escaped.
+/// Queries paths in which nothing has to be escaped.
 fn asks_paths(alloc: Global, robot: &Robot) -> Result<bool, Error> {
     Ok(robot.allowed(alloc, "/ocean/reef.html")? && !robot.allowed(alloc, "/rust")?)
 }
 
-/// Asks for URLs that stand as they are.
+/// Queries URLs in normal form.
 fn asks_whole_urls(alloc: Global, robot: &Robot) -> Result<bool, Error> {
     Ok(
         robot.allowed(alloc, "https://www.rust-lang.org/ocean/reef.html?a#b")?
@@ -233,18 +233,18 @@ fn asks_decision(robot: &Robot) -> bool {
         && robot.decision(&mut View::new("/robots.txt")).line.is_none()
 }
 
-/// The deciding line, with no comparison counted.
+/// The deciding line, without counted comparisons.
 fn asks_decision_prepared(robot: &Robot) -> bool {
     robot.decision_prepared("/forest/tree/snake.py").line == Some(4)
         && robot.decision_prepared("/robots.txt").line.is_none()
 }
 
-/// Decides on a path of which nothing is escaped.
+/// Decides on a path in which nothing has to be escaped.
 fn decides_path(alloc: Global, robot: &Robot) -> Result<bool, Error> {
     Ok(robot.decide(alloc, "/ocean/reef.html")?.line == Some(2))
 }
 
-/// A site's file: one crawler's rule, and a delay for all others.
+/// The file of a site: a delay and a rule for one crawler, and a delay for all others.
 const NAMES: &[u8] = b"Crawl-delay: 2\nUser-agent: SmerBot\nCrawl-delay: 3\nDisallow: /a";
 
 fn gives_delays(site: &Site) -> bool {
@@ -292,20 +292,20 @@ fn looks() -> bool {
         && !view.is_robots_file()
 }
 
-/// Whether a pattern gives this answer about a text, after exactly so many looks.
+/// Whether a pattern has this result for a text, after exactly this many looks.
 fn matches_after(pattern: &MinRegex, text: &str, want: bool, looks: u64) -> bool {
     let mut view = View::new(text);
     pattern.matches_view(&mut view) == want && view.seen() == looks
 }
 
-/// Whether a robot gives this answer about a text, after exactly so many looks.
+/// Whether a robot has this verdict on a text, after exactly this many looks.
 fn allows_after(robot: &Robot, text: &str, want: bool, looks: u64) -> bool {
     let mut view = View::new(text);
     robot.allowed_view(&mut view) == want && view.seen() == looks
 }
 
-/// A byte that a pattern names takes a look, also the one that differs; what a last star stands for takes none. A robot's rules are
-/// asked in the order of their lengths: `/forest*.py`, `/ocean` and `/rust`.
+/// Each comparison with a byte of a pattern takes a look, also with the byte that differs. What a final star matches
+/// takes none. A robot's rules are tried in the order of their lengths: `/forest*.py`, `/ocean` and `/rust`.
 fn takes_looks(fixture: &Fixture) -> bool {
     let Patterns { longer, shorter } = fixture.patterns;
     matches_after(shorter, "/abc", true, 1)
@@ -328,7 +328,7 @@ fn gives_page(mut given: LineIter<'_>) -> bool {
     given.next().is_none() && given.next().is_none()
 }
 
-/// Whether the page's lines are marked for the agent that it names.
+/// Whether the page's lines are labeled correctly for the crawler that it names.
 fn labels_page() -> bool {
     let mut labeled = labeled_lines("SmerBot", PAGE);
     let _ = labeled.next();

@@ -1,4 +1,4 @@
-//! Calls of a site that allocate. The calls of a site that don't are in `quiet`.
+//! Calls on a site that allocate. Those that don't are in `no_alloc`.
 use crate::calls::{FILE, is_right_robot};
 use crate::large::{MANY, long};
 use std::alloc::Global;
@@ -15,7 +15,7 @@ pub(crate) enum Call {
     LargeFile,
 }
 
-/// The calls by their names, in the order in which they are made.
+/// The calls with their names, in order.
 pub(crate) const CALLS: &[(&str, Call)] = &[
     ("Site::new", Call::New),
     ("Site::robot", Call::Robot),
@@ -29,7 +29,7 @@ pub(crate) const CALLS: &[(&str, Call)] = &[
     ("Site on large inputs", Call::LargeFile),
 ];
 
-/// Makes a call.
+/// Makes a call, and returns whether its result is right.
 pub(crate) fn answer(alloc: Global, call: &Call) -> Result<bool, Error> {
     match call {
         Call::RejectedRobot => rejects_robot(alloc),
@@ -38,7 +38,7 @@ pub(crate) fn answer(alloc: Global, call: &Call) -> Result<bool, Error> {
     }
 }
 
-/// Makes a call of the site of the crawlers' file.
+/// Makes a call on the site of `FILE`.
 fn answer_of(alloc: Global, site: &Site, call: &Call) -> Result<bool, Error> {
     match call {
         Call::New => Ok(
@@ -52,7 +52,7 @@ fn answer_of(alloc: Global, site: &Site, call: &Call) -> Result<bool, Error> {
     }
 }
 
-/// A robot; if an allocation fails, the site is the same after it.
+/// Makes a robot. The site is unchanged also if an allocation fails.
 fn gives_robot(alloc: Global, site: &Site) -> Result<bool, Error> {
     let robot = site.robot(alloc, "FerrisCrawler");
     let is_kept = site.is_named("*") && !site.is_named("BobBot");
@@ -72,7 +72,7 @@ fn lists_sitemaps(alloc: Global, site: &Site) -> Result<bool, Error> {
     )
 }
 
-/// A URL of which something is escaped.
+/// A URL in which something has to be escaped.
 fn decides(alloc: Global, site: &Site) -> Result<bool, Error> {
     let robot = site.robot(alloc, "FerrisCrawler")?;
     let wanted = Decision {
@@ -82,7 +82,7 @@ fn decides(alloc: Global, site: &Site) -> Result<bool, Error> {
     Ok(robot.decide(alloc, "https://www.rust-lang.org/rust/\u{e1}")? == wanted)
 }
 
-/// A crawler whose rule is too long has no robot, and another one does.
+/// A crawler with a rule that is too long has no robot, but another crawler has one.
 fn rejects_robot(alloc: Global) -> Result<bool, Error> {
     let file = long(
         alloc,
@@ -104,7 +104,7 @@ fn rejects_robot_of(alloc: Global, site: &Site) -> Result<bool, Error> {
     }
 }
 
-/// Many lines with one name, and many group lines.
+/// Many user-agent lines with the same name, and many rules.
 fn reads_large_file(alloc: Global) -> Result<bool, Error> {
     let file = long(
         alloc,

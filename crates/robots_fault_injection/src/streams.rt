@@ -1,11 +1,11 @@
-//! The two ends of programs. A text is read and written a few bytes at a time, and each read and each write
-//! fails in turn.
+//! Input and output of programs. Bytes are read and written in small chunks, and each read and each write fails in
+//! turn.
 use robots_io::fakes::{Sink, Source};
 use robots_io::streams::{ReadFault, WriteFault, read_all, write_out};
 use std::alloc::Global;
 use texting_robots::Error;
 
-/// A call on one end of a program.
+/// A call that reads or writes.
 pub(crate) enum Call {
     ReadChunks,
     ReadWithoutEnd,
@@ -14,7 +14,7 @@ pub(crate) enum Call {
     FlushFailing,
 }
 
-/// The calls by their names, in the order in which they are made.
+/// The calls with their names, in order.
 pub(crate) const CALLS: &[(&str, Call)] = &[
     ("robots_io: read_all in pieces", Call::ReadChunks),
     ("robots_io: read_all without an end", Call::ReadWithoutEnd),
@@ -29,13 +29,13 @@ pub(crate) const CALLS: &[(&str, Call)] = &[
     ),
 ];
 
-/// What is read, and what is written.
+/// The bytes that are read, or written.
 const TEXT: &[u8] = b"User-agent: *\nDisallow: /\n";
 
-/// How many bytes a read gives at most, or a write takes.
+/// The maximum number of bytes per read or write.
 const CHUNKS: &[usize] = &[1, 7, 65_536];
 
-/// Makes a call.
+/// Makes a call, and returns whether its result is right.
 pub(crate) fn answer(alloc: Global, call: &Call) -> Result<bool, Error> {
     match call {
         Call::ReadChunks => read_chunks(alloc),
@@ -46,7 +46,7 @@ pub(crate) fn answer(alloc: Global, call: &Call) -> Result<bool, Error> {
     }
 }
 
-/// Whether a source gives the whole text.
+/// Whether the source returns all bytes.
 fn gives_text(alloc: Global, source: &mut Source<'_>) -> Result<bool, Error> {
     match read_all(alloc, source) {
         Ok(all) => Ok(all.as_slice() == TEXT),
@@ -55,7 +55,7 @@ fn gives_text(alloc: Global, source: &mut Source<'_>) -> Result<bool, Error> {
     }
 }
 
-/// Whether it is a fault of a read that a source can't be read to its end.
+/// Whether reading the source to its end fails with a read error.
 fn fails_to_read(alloc: Global, source: &mut Source<'_>) -> Result<bool, Error> {
     match read_all(alloc, source) {
         Err(ReadFault::Read) => Ok(true),
@@ -64,7 +64,7 @@ fn fails_to_read(alloc: Global, source: &mut Source<'_>) -> Result<bool, Error> 
     }
 }
 
-/// Whether the text is read in pieces of so many bytes, and no longer where one of these reads fails.
+/// Whether the bytes are read in chunks of at most this length, and reading fails if one of these reads does.
 fn reads_in_chunks(alloc: Global, chunk: usize) -> Result<bool, Error> {
     let mut source = Source::new(TEXT, chunk);
     if !gives_text(alloc, &mut source)? {
@@ -89,27 +89,28 @@ fn read_chunks(alloc: Global) -> Result<bool, Error> {
     Ok(true)
 }
 
-/// A source without an end is read 1,048,576 times and no more, and never asked for more than 65,536 bytes.
+/// An endless source is read exactly 1,048,576 times, with a buffer of at most 65,536 bytes.
 fn reads_run_out(alloc: Global) -> Result<bool, Error> {
     let mut endless = Source::new(TEXT, 1);
     endless.endless = true;
     let fails = fails_to_read(alloc, &mut endless)?;
-    Ok(fails && endless.calls == 1_048_576 && endless.most_fixture <= 65_536)
+    Ok(fails && endless.calls == 1_048_576 && endless.longest_read <= 65_536)
 }
 
-/// A sink that takes so many bytes at a time. It has room for the text, so no write of it is want of memory.
+/// A sink that accepts at most this many bytes per write. It has capacity for all bytes, so that no write has to
+/// allocate.
 fn sink(alloc: Global, chunk: usize) -> Result<Sink, Error> {
     let mut sink = Sink::new(alloc, chunk);
     sink.held.reserve(TEXT.len())?;
     Ok(sink)
 }
 
-/// Whether a sink doesn't take all of the text, or can't be flushed, and holds a beginning.
+/// Whether writing fails, and the sink contains a prefix of the bytes.
 fn fails_to_write(sink: &mut Sink) -> bool {
     write_out(sink, TEXT) == Err(WriteFault) && TEXT.starts_with(&sink.held)
 }
 
-/// Whether the text is written in pieces of so many bytes, and no longer where one of these writes fails.
+/// Whether the bytes are written in chunks of at most this length, and writing fails if one of these writes does.
 fn writes_in_chunks(alloc: Global, chunk: usize) -> Result<bool, Error> {
     let mut good = sink(alloc, chunk)?;
     if write_out(&mut good, TEXT).is_err() || good.held.as_slice() != TEXT {

@@ -1,9 +1,9 @@
--- The lines that reports have in common.
+-- Lines that several reports contain.
 use Rattle.std.specs.Prelude.{ℕ, List, [], ◌∷◌, ◌++◌, flat_map}
 
 abbrev pub lf : ℕ
 lf = 10
 
--- the lines, each ended by LF
+-- the lines, each followed by LF
 abbrev pub ended : List (List ℕ) → List ℕ
 ended lines = flat_map (λ line. line ++ lf ∷ []) lines

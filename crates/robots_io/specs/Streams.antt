@@ -1,8 +1,8 @@
--- What a writer holds after a write.
+-- The content of a writer after a write.
 use Rattle.std.specs.Prelude.{◌≡◌, ℕ, List, ◌++◌, Option}
 use Rattle.std.specs.Io.KnownBytes.{Appends}
 
--- the writer holds what it held, and then a beginning of the text
+-- the writer contains its previous content and then a prefix of the text
 abbrev pub AppendsBeginning : Option (List ℕ) → Option (List ℕ) → List ℕ → Type 0
 AppendsBeginning old new text = (front : List ℕ) × (back : List ℕ) × (text ≡ front ++ back)
     × Appends old new front

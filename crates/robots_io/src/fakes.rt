@@ -1,30 +1,29 @@
-//! A reader and a writer for tests: they give and take a few bytes at a time, and fail where they are told to.
+//! A reader and a writer for tests. They transfer a few bytes at a time, and can be made to fail.
 use std::alloc::Global;
 use std::io;
 use std::io::{ErrorKind, Read, Write};
 
-/// Gives a text piece by piece, over and over if it is endless, and fails once, after so many good calls, if it is told
-/// to.
+/// Returns its bytes in chunks, and repeats them if `endless` is set. One call fails if `good_calls` is set.
 #[derive(Drop)]
 pub struct Source<'a> {
-    /// The whole text.
+    /// All the bytes.
     pub text: &'a [u8],
-    /// What of it is left.
+    /// The bytes that are left.
     pub rest: &'a [u8],
-    /// How many bytes a read gives at most.
+    /// The maximum number of bytes per read.
     pub chunk: usize,
-    /// Whether the text begins again where it ends.
+    /// Whether the bytes start over after their end.
     pub endless: bool,
-    /// After how many good calls one fails.
+    /// The number of successful calls before the one that fails; `None` if none fails.
     pub good_calls: Option<u32>,
-    /// How often it was read.
+    /// How many reads there were.
     pub calls: u32,
-    /// The longest buffer that it was handed.
-    pub most_asked: usize,
+    /// The length of the longest buffer that was passed.
+    pub longest_read: usize,
 }
 
 impl<'a> Source<'a> {
-    /// A text, in pieces of so many bytes.
+    /// A source of these bytes in chunks of at most this length, which never fails.
     pub fn new(text: &'a [u8], chunk: usize) -> Self {
         Source {
             text,
@@ -33,7 +32,7 @@ impl<'a> Source<'a> {
             endless: false,
             good_calls: None,
             calls: 0,
-            most_asked: 0,
+            longest_read: 0,
         }
     }
 }
@@ -42,7 +41,7 @@ impl<'a> Read for Source<'a> {
     fn read(&mut self, buf: &mut [u8]) -> io::Result<usize> {
         let call = self.calls;
         self.calls = call.saturating_add(1);
-        self.most_asked = self.most_asked.max(buf.len());
+        self.longest_read = self.longest_read.max(buf.len());
         if self.good_calls == Some(call) {
             return Err(io::Error::from(ErrorKind::BrokenPipe));
         }
@@ -57,23 +56,23 @@ impl<'a> Read for Source<'a> {
     }
 }
 
-/// Takes a text piece by piece, and fails once, after so many good calls, or at the flush, if it is told to.
+/// Accepts bytes in chunks. One write fails if `good_calls` is set, and each flush if `flush_fails` is.
 #[derive(Drop)]
 pub struct Sink {
-    /// What it took.
+    /// The bytes that were accepted.
     pub held: Vec<u8>,
-    /// How many bytes a write takes at most.
+    /// The maximum number of bytes per write.
     pub chunk: usize,
-    /// After how many good calls one fails.
+    /// The number of successful writes before the one that fails; `None` if none fails.
     pub good_calls: Option<u32>,
     /// Whether a flush fails.
     pub flush_fails: bool,
-    /// How often it was written to.
+    /// How many writes there were.
     pub calls: u32,
 }
 
 impl Sink {
-    /// Nothing yet, in pieces of so many bytes.
+    /// An empty sink with chunks of at most this length, which never fails.
     pub fn new(alloc: Global, chunk: usize) -> Self {
         Sink {
             held: Vec::new(alloc),

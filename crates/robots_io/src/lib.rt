@@ -1,5 +1,5 @@
-//! What the programs over `texting_robots` share: reading all of an input, writing all of a report, the lines that their reports have
-//! in common, and untrusted text as it is shown.
+//! What the programs that use `texting_robots` share: reading a complete input, writing a complete report, the lines
+//! that several reports contain, and sanitizing untrusted text.
 #![tactic(auto)]
 
 pub mod fakes;

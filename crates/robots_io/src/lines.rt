@@ -1,11 +1,11 @@
-//! The lines that reports have in common.
+//! Lines that several reports contain.
 ghost use Rattle.std.specs.Prelude.{◌≡◌, ◌++◌, ◌∷◌, [], OnOk, string_bytes};
 ghost use Rattle.robots_io.specs.Lines.{ended};
 
 use itoa::{Buffer, Integer};
 use std::alloc::AllocError;
 
-/// Adds a line made of two parts.
+/// Appends a line that consists of two parts.
 pub fn push_line(text: &mut String, front: &str, back: &str) -> Result<(), AllocError>
     ensures { OnOk result (string_bytes text.new ≡ string_bytes text.old
         ++ ended ((front.now ++ back.now) ∷ [])) }
@@ -15,7 +15,7 @@ pub fn push_line(text: &mut String, front: &str, back: &str) -> Result<(), Alloc
     text.push('\n')
 }
 
-/// Adds a number in decimal digits.
+/// Appends a number in decimal digits.
 pub fn push_number<I: Integer>(text: &mut String, number: I) -> Result<(), AllocError>
     ensures { OnOk result (string_bytes text.new ≡ string_bytes text.old ++ I.text number) }
 {

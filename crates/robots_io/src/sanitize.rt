@@ -1,4 +1,4 @@
-//! Texts of others as they are shown.
+//! Sanitizes untrusted text: escapes invalid UTF-8 and characters that are unsafe to display.
 ghost use Rattle.std.specs.Prelude.{◌≡◌, ◌++◌, OnOk, string_bytes};
 ghost use Rattle.std.specs.List.{list_all};
 ghost use Rattle.robots_io.specs.Sanitize.{is_printable, is_printable_byte, sanitized, sanitized_in, sanitized_lines, sanitized_chunk, turns_text};
@@ -8,14 +8,14 @@ use std::alloc::AllocError;
 use std::str::from_utf8;
 use texting_robots::push_escaped_bytes;
 
-/// Whether a character is a mark that turns the direction of text.
+/// Whether a character is a bidirectional control character.
 fn turns_text(char: char) -> bool
     ensures { result ≡ turns_text char }
 {
     matches!(char, '\u{61C}' | '\u{200E}'..='\u{200F}' | '\u{202A}'..='\u{202E}' | '\u{2066}'..='\u{2069}')
 }
 
-/// Whether a character is shown as it is.
+/// Whether a character is shown unchanged.
 fn is_printable(char: char, has_lines: bool) -> bool
     ensures { result ≡ is_printable has_lines char }
 {
@@ -26,14 +26,14 @@ fn is_printable(char: char, has_lines: bool) -> bool
     }
 }
 
-/// Whether a byte is a character that is shown as it is.
+/// Whether a byte is an ASCII character that is shown unchanged.
 fn is_printable_byte(byte: u8, has_lines: bool) -> bool
     ensures { result ≡ is_printable_byte has_lines byte }
 {
     ((byte >= b' ') & (byte <= b'~')) | (has_lines & (byte == b'\n'))
 }
 
-/// Whether each byte is one. All are tested: where most are, stopping early costs more than it saves.
+/// Whether all bytes are such characters. The loop doesn't stop at the first that isn't, since usually all are.
 fn are_printable_bytes(bytes: &[u8], has_lines: bool) -> bool
     ensures { result ≡ list_all (is_printable_byte has_lines) bytes.now }
 {
@@ -44,7 +44,8 @@ fn are_printable_bytes(bytes: &[u8], has_lines: bool) -> bool
     all
 }
 
-/// Adds a character, or bytes that are none, as they are shown.
+/// Appends a character, or bytes that aren't valid UTF-8 if `char` is `None`: unchanged if it is printable, else
+/// escaped.
 fn push_chunk(
     text: &mut String,
     char: Option<char>,
@@ -59,7 +60,7 @@ fn push_chunk(
     }
 }
 
-/// Adds the bytes as they are shown, one character after another.
+/// Appends the sanitized bytes, one UTF-8 unit after another.
 fn push_chunks(text: &mut String, bytes: &[u8], has_lines: bool) -> Result<(), AllocError>
     ensures { OnOk result (string_bytes text.new ≡ string_bytes text.old ++ sanitized_in has_lines bytes.now) }
 {
@@ -73,7 +74,7 @@ fn push_chunks(text: &mut String, bytes: &[u8], has_lines: bool) -> Result<(), A
     Ok(())
 }
 
-/// Adds the bytes as they are shown. Most are ASCII without control characters, and are copied whole.
+/// Appends the sanitized bytes. Bytes that are all printable ASCII are copied at once.
 fn push_sanitized_in(text: &mut String, bytes: &[u8], has_lines: bool) -> Result<(), AllocError>
     ensures { OnOk result (string_bytes text.new ≡ string_bytes text.old ++ sanitized_in has_lines bytes.now) }
 {
@@ -85,14 +86,14 @@ fn push_sanitized_in(text: &mut String, bytes: &[u8], has_lines: bool) -> Result
     push_chunks(text, bytes, has_lines)
 }
 
-/// Adds a value, a name or a URL as it is shown, which takes no second line.
+/// Appends a sanitized value, name or URL. The result contains no line end.
 pub fn push_sanitized(text: &mut String, bytes: &[u8]) -> Result<(), AllocError>
     ensures { OnOk result (string_bytes text.new ≡ string_bytes text.old ++ sanitized bytes.now) }
 {
     push_sanitized_in(text, bytes, false)
 }
 
-/// Adds a text that may have several lines as it is shown.
+/// Appends a sanitized text that may have several lines.
 pub fn push_sanitized_lines(text: &mut String, bytes: &[u8]) -> Result<(), AllocError>
     ensures { OnOk result (string_bytes text.new ≡ string_bytes text.old ++ sanitized_lines bytes.now) }
 {

@@ -1,4 +1,4 @@
-//! The two ends of a program: reading all of an input, and writing all of a report.
+//! Input and output: reading a complete input, and writing a complete report.
 ghost use Rattle.std.specs.Prelude.{◌≡◌, ◌+◌, IfErr, IfOk, IfSome, OnOk};
 ghost use Rattle.std.specs.Io.{ReadsAtMost};
 ghost use Rattle.std.specs.Io.KnownBytes.{Appends, ReadConsumes};
@@ -7,22 +7,22 @@ ghost use Rattle.robots_io.specs.Streams.{AppendsBeginning};
 use std::alloc::{AllocError, Global};
 use std::io::{Read, Write};
 
-/// How many bytes one read takes at most.
+/// The maximum number of bytes per read.
 const CHUNK_LEN: usize = 65_536;
 
-/// How many reads are made at most.
+/// The maximum number of reads.
 const MOST_READS: u32 = 1_048_576;
 
-/// Why an input wasn't read to its end.
+/// Why an input couldn't be read to its end.
 #[derive(Debug, PartialEq, Eq, Drop)]
 pub enum ReadFault {
-    /// A read failed, or the input didn't end within the reads that are made.
+    /// A read failed, or the input didn't end within the maximum number of reads.
     Read,
-    /// Memory was refused.
+    /// An allocation failed.
     Memory,
 }
 
-/// A write failed, or took nothing.
+/// A write or a flush failed, or a write accepted no bytes.
 #[derive(Debug, PartialEq, Eq, Drop)]
 pub struct WriteFault;
 
@@ -37,7 +37,7 @@ impl From<AllocError> for ReadFault {
     }
 }
 
-/// Makes one more read, if one is left. A read that fails is `ReadFault::Read`, and so is the lack of one that is left.
+/// Makes one more read. Returns `ReadFault::Read` if it fails, or if none is left.
 fn read_chunk<R: Read>(reader: &mut R, left: &mut u32, chunk: &mut [u8]) -> Result<usize, ReadFault>
     ensures counted { OnOk result (left.new + 1 ≡ left.old) }
     ensures bound { ReadsAtMost result chunk.new }
@@ -58,8 +58,7 @@ fn read_chunk<R: Read>(reader: &mut R, left: &mut u32, chunk: &mut [u8]) -> Resu
 ///
 /// # Errors
 ///
-/// `ReadFault::Read` where a read fails or more than 1,048,576 would be made, and `ReadFault::Memory` where memory is
-/// refused.
+/// `ReadFault::Read` if a read fails or more than 1,048,576 are needed, and `ReadFault::Memory` if an allocation fails.
 pub fn read_all<R: Read>(alloc: Global, reader: &mut R) -> Result<Vec<u8>, ReadFault>
     ensures { IfOk result (λ all. IfSome (R.remaining reader.old) (λ input. all.items ≡ input)) }
 {
@@ -75,11 +74,12 @@ pub fn read_all<R: Read>(alloc: Global, reader: &mut R) -> Result<Vec<u8>, ReadF
     }
 }
 
-/// Writes the whole text and flushes.
+/// Writes all bytes and flushes.
 ///
 /// # Errors
 ///
-/// `WriteFault` where a write fails or takes nothing, or the flush fails. A beginning of the text is written then.
+/// `WriteFault` if a write fails or accepts no bytes, or if the flush fails. Then a prefix of the bytes has been
+/// written, possibly all.
 pub fn write_out<W: Write>(writer: &mut W, text: &[u8]) -> Result<(), WriteFault>
     ensures ok { OnOk result (Appends (W.contents writer.old) (W.contents writer.new) text.now) }
     ensures beginning { AppendsBeginning (W.contents writer.old) (W.contents writer.new) text.now }

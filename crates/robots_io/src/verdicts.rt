@@ -1,4 +1,4 @@
-//! Verdicts on URLs, as the programs show them.
+//! Verdicts on URLs, and how the programs print them.
 ghost use Rattle.std.specs.Prelude.{◌≡◌, ◌++◌, IfErr, IfOk, OnOk, string_bytes};
 ghost use Rattle.robots_io.specs.Verdicts.{IsDecisionOn, line_text, verdict_front, verdict_word};
 
@@ -8,11 +8,11 @@ use texting_robots::robot::Decision;
 use texting_robots::view::View;
 use texting_robots::{Error, Robot};
 
-/// What a robot decides on a URL.
+/// The robot's decision on a URL.
 ///
 /// # Errors
 ///
-/// `Error::Memory` if an allocation fails, or the URL has more bytes than `url` can count.
+/// `Error::Memory` if an allocation fails or the URL is too long for `url`.
 pub fn decision_on(alloc: Global, robot: &Robot, url: &str) -> Result<Decision, Error>
     ensures ok { IfOk result (IsDecisionOn robot.now.rules url.now) }
     ensures memory { IfErr result (λ error. error ≡ Error.Memory) }
@@ -20,11 +20,12 @@ pub fn decision_on(alloc: Global, robot: &Robot, url: &str) -> Result<Decision, 
     robot.decide(alloc, url)
 }
 
-/// The same decision, found by counted looks at the text: slower on many rules, and within the bound that [`Robot::decision`] states.
+/// The same decision by counted byte comparisons, within the bound that [`Robot::decision`] states. There is no
+/// prefilter, so this is usually slower for a file with many rules.
 ///
 /// # Errors
 ///
-/// As [`decision_on`].
+/// As for [`decision_on`].
 pub fn counted_decision_on(alloc: Global, robot: &Robot, url: &str) -> Result<Decision, Error>
     ensures ok { IfOk result (IsDecisionOn robot.now.rules url.now) }
     ensures memory { IfErr result (λ error. error ≡ Error.Memory) }
@@ -33,14 +34,14 @@ pub fn counted_decision_on(alloc: Global, robot: &Robot, url: &str) -> Result<De
     Ok(robot.decision(&mut View::new(&prepared)))
 }
 
-/// The word of a verdict, with the space behind it.
+/// The label of a verdict, followed by a space.
 fn verdict_word(allowed: bool) -> &'static str
     ensures { result.now ≡ verdict_word allowed }
 {
     if allowed { "allow " } else { "deny " }
 }
 
-/// Adds the number of the deciding line, or `-` where there is none.
+/// Appends the number of the deciding line, or `-` if there is none.
 fn push_line_number(text: &mut String, line: Option<usize>) -> Result<(), AllocError>
     ensures { OnOk result (string_bytes text.new ≡ string_bytes text.old ++ line_text line) }
 {
@@ -50,7 +51,7 @@ fn push_line_number(text: &mut String, line: Option<usize>) -> Result<(), AllocE
     }
 }
 
-/// Adds what stands before the URL in the line of a verdict.
+/// Appends the part of a verdict's line that precedes the URL.
 pub fn push_decision(text: &mut String, decision: &Decision) -> Result<(), AllocError>
     ensures { OnOk result (string_bytes text.new ≡ string_bytes text.old
         ++ verdict_front decision.now.allowed decision.now.line) }

@@ -1,12 +1,12 @@
--- What a rule of the standard's syntax becomes when this library reads it.
+-- What this library makes of a rule in a file that follows the standard's grammar.
 use Rattle.std.specs.Prelude.{◌≡◌, ℕ, true, false, List, [], ◌∷◌, codes}
 use Rattle.robots_rfc9309.specs.Rfc9309 as rfc
 use Rattle.texting_robots.specs.Escape.{escaped}
 use Rattle.texting_robots.specs.Rules.{Rule}
 use Rattle.texting_robots.specs.Trim.{IsTrimOf}
 
--- What a rule that a file of the standard's syntax spells becomes: its pattern, without the Unicode white
--- space at its end, escaped. An empty Disallow is an Allow of `/`.
+-- The library's rule for a rule of the grammar: its pattern is trimmed of Unicode white space and escaped.
+-- An empty Disallow becomes an Allow of `/`.
 abbrev pub IsReadAs : rfc.Member → Rule → Type 0
 IsReadAs (rfc.Allow pattern) rule =
     (value : List ℕ) × IsTrimOf value pattern × (rule ≡ (escaped value, true))

@@ -1,25 +1,24 @@
--- The formal syntax of a robots.txt file, as RFC 9309 has it in section 2.2, and what a file of that syntax
--- spells. The names are those of its productions; what a production spells stands before the bytes. Nothing
--- here is a word of the definitions by which this library reads.
+-- The grammar of a robots.txt file in RFC 9309, section 2.2, as relations between the bytes of a production
+-- and the items that they contain, such as groups. The names are those of the productions; the items come
+-- before the bytes. Nothing here refers to the specification of this library.
 --
--- `IsRobotstxt` is the standard's syntax and nothing more. `IsFile` goes further in four things, which stand
--- behind the standard's own productions: a byte order mark in front, a last line without its end, a pattern
--- that begins with a star, and the lines that the standard leaves to implementers.
+-- `IsRobotstxt` is exactly the standard's grammar. `IsFile` extends it by four things, which come after the
+-- standard's own productions: a leading byte order mark, a last line without a line end, a pattern that
+-- begins with a star, and the lines that the standard leaves to implementers.
 use Rattle.std.specs.Prelude.{◌≡◌, ◌⊎◌, ℕ, ◌≤◌, Bool, true, false, List, [], ◌∷◌}
 use Rattle.std.specs.Prelude.{◌++◌, map, codes, bytes_eq, filter, Contains, if◌then◌else◌}
 use Rattle.std.specs.List.{flat_map, list_any, AllByRecursion as Each}
 use Rattle.std.specs.Char.{to_ascii_lowercase}
 
--- ---- what is spelled
+-- ---- items
 
--- what stands behind a group's product tokens: a rule with its pattern, or a delay with its number, as
--- written
+-- a line after a group's product tokens: a rule with its pattern, or a delay with its number, as written
 pub data Member : Type 0 where
   Allow : List ℕ → Member
   Disallow : List ℕ → Member
   Delay : List ℕ → Member
 
--- a group's product tokens, and the lines behind them
+-- a group's product tokens, and the lines after them
 pub record Group : Type 0 where
   pub tokens : List (List ℕ)
   pub members : List Member
@@ -30,18 +29,18 @@ pub record Group : Type 0 where
 abbrev pub IsBetween : ℕ → ℕ → ℕ → Type 0
 IsBetween low high byte = (low ≤ byte) × (byte ≤ high)
 
--- `*P`, where P spells nothing
+-- `*P`, where P has no items
 pub record IsMany (P : List ℕ → Type 0) (text : List ℕ) : Type 0 where
   pub units : List (List ℕ)
   pub each : Each P units
   pub whole : text ≡ flat_map (λ unit. unit) units
 
--- a piece of a text, and the items that it spells
+-- a chunk of the text, and its items
 pub record Utf8Unit (X : Type 0) : Type 0 where
   pub items : List X
   pub bytes : List ℕ
 
--- `*P`, where each piece of the text spells some items: all spell theirs, in order
+-- `*P`, where each chunk of the text has some items; the result is all of them, in order
 pub record Repeats {X : Type 0} (P : List X → List ℕ → Type 0) (items : List X)
     (text : List ℕ) : Type 0 where
   pub units : List (Utf8Unit X)
@@ -49,13 +48,13 @@ pub record Repeats {X : Type 0} (P : List X → List ℕ → Type 0) (items : Li
   pub written : items ≡ flat_map (λ unit. unit.items) units
   pub whole : text ≡ flat_map (λ unit. unit.bytes) units
 
--- P / Q, where P spells one item and Q none
+-- P / Q, where P has one item and Q none
 abbrev pub IsOneOr : {X : Type 0} → (X → List ℕ → Type 0) → (List ℕ → Type 0)
     → List X → List ℕ → Type 0
 IsOneOr {X} P Q items text =
     ((item : X) × P item text × (items ≡ item ∷ [])) ⊎ (Q text × (items ≡ []))
 
--- a literal string, which stands for itself whatever the case of its ASCII letters; it is given in small ones
+-- a literal string, which is given in lower case; the case of ASCII letters doesn't matter
 abbrev pub IsLiteral : List ℕ → List ℕ → Type 0
 IsLiteral letters bytes = map to_ascii_lowercase bytes ≡ letters
 
@@ -107,9 +106,15 @@ IsWs byte = (byte ≡ 0x20) ⊎ (byte ≡ 0x09)
 abbrev pub IsNl : List ℕ → Type 0
 IsNl bytes = (bytes ≡ 0x0D ∷ []) ⊎ ((bytes ≡ 0x0A ∷ []) ⊎ (bytes ≡ 0x0D ∷ 0x0A ∷ []))
 
+<<<<<<< HEAD
 -- a piece of a comment: UTF8-char-noctl / WS / "#"
 abbrev pub IsCommentUnit : List ℕ → Type 0
 IsCommentUnit bytes =
+=======
+-- a part of a comment: UTF8-char-noctl / WS / "#"
+abbrev pub IsCommentSegment : List ℕ → Type 0
+IsCommentSegment bytes =
+>>>>>>> 475b6ded452492babd65b006aec677d2ad9ee0a6
     IsUtf8CharNoctl bytes
     ⊎ (((byte : ℕ) × IsWs byte × (bytes ≡ byte ∷ [])) ⊎ (bytes ≡ codes "#"))
 
@@ -133,7 +138,7 @@ pub record IsEol (bytes : List ℕ) : Type 0 where
 abbrev pub IsEmptyLine : List ℕ → Type 0
 IsEmptyLine bytes = IsEol bytes
 
--- ---- what lines hold
+-- ---- parts of a line
 
 -- a byte of an identifier: %x2D / %x41-5A / %x5F / %x61-7A
 abbrev pub IsIdentifierByte : ℕ → Type 0
@@ -163,7 +168,7 @@ IsPathPattern bytes = IsPatternWith (codes "/") bytes
 abbrev pub IsEmptyPattern : List ℕ → Type 0
 IsEmptyPattern bytes = Each IsWs bytes
 
--- path-pattern / empty-pattern: it spells the path pattern, or no byte
+-- path-pattern / empty-pattern: the item is the path pattern, or the empty string
 abbrev pub IsPattern : List ℕ → List ℕ → Type 0
 IsPattern pattern bytes =
     (IsPathPattern bytes × (pattern ≡ bytes)) ⊎ (IsEmptyPattern bytes × (pattern ≡ []))
@@ -202,7 +207,7 @@ IsRule (Delay number) text = ⊥
 
 -- ---- groups and files
 
--- startgroupline *( startgroupline / Gap ) *( Line / Gap ), where Line spells a member and Gap nothing
+-- startgroupline *( startgroupline / Gap ) *( Line / Gap ), where Line has one member and Gap none
 pub record IsGroupOf (Line : Member → List ℕ → Type 0) (Gap : List ℕ → Type 0)
     (group : Group) (text : List ℕ) : Type 0 where
   pub token : List ℕ
@@ -257,15 +262,16 @@ IsDelayLine (Delay number) text = IsNumber number × IsKeyed (codes "crawl-delay
 abbrev pub IsSitemapLine : List ℕ → List ℕ → Type 0
 IsSitemapLine address text = IsMany IsUtf8CharNoctl address × IsKeyed (codes "sitemap") address text
 
--- the names of records that this library reads, in small letters; keys with a blank aren't among them, since
--- no identifier has one
+-- the field names that this library recognizes, in lower case; those with a space are left out, since no
+-- identifier contains one
 abbrev pub names_read : List (List ℕ)
 names_read =
     codes "user-agent" ∷ codes "useragent" ∷ codes "allow" ∷ codes "disallow" ∷ codes "dissallow"
     ∷ codes "dissalow" ∷ codes "disalow" ∷ codes "diasllow" ∷ codes "disallaw" ∷ codes "sitemap"
     ∷ codes "site-map" ∷ codes "crawl-delay" ∷ codes "crawldelay" ∷ []
 
--- otherline = *WS identifier *WS ":" *( UTF8-char-noctl / WS / "#" ) NL, where the identifier isn't read
+-- otherline = *WS identifier *WS ":" *( UTF8-char-noctl / WS / "#" ) NL, where the identifier isn't
+-- recognized
 pub record IsOtherLine (text : List ℕ) : Type 0 where
   pub margin : List ℕ
   pub name : List ℕ
@@ -280,7 +286,7 @@ pub record IsOtherLine (text : List ℕ) : Type 0 where
   pub is_value : IsMany IsCommentUnit value
   pub is_nl : IsNl nl
 
--- starpattern = "*" *UTF8-char-noctl, which the syntax lacks and the standard's own first example has
+-- starpattern = "*" *UTF8-char-noctl, which isn't in the standard's grammar, but in its first example
 abbrev pub IsStarPattern : List ℕ → Type 0
 IsStarPattern bytes = IsPatternWith (codes "*") bytes
 
@@ -292,12 +298,12 @@ IsStarRule (Delay number) text = ⊥
 
 -- ---- groups and files with these
 
--- skipped = emptyline / sitemapline / otherline; the standard has an emptyline alone here
+-- skipped = emptyline / sitemapline / otherline; in the standard: emptyline
 abbrev pub IsSkipped : List ℕ → Type 0
 IsSkipped text =
     IsEmptyLine text ⊎ (((address : List ℕ) × IsSitemapLine address text) ⊎ IsOtherLine text)
 
--- memberline = rule / starrule / delayline; the standard has a rule alone here
+-- memberline = rule / starrule / delayline; in the standard: rule
 abbrev pub IsMemberLine : Member → List ℕ → Type 0
 IsMemberLine member text = IsRule member text ⊎ (IsStarRule member text ⊎ IsDelayLine member text)
 
@@ -317,15 +323,15 @@ pub record IsWideFile (groups : List Group) (text : List ℕ) : Type 0 where
   pub is_front : IsMany IsLeadUnit front
   pub are_groups : Repeats (IsOneOr IsWideGroup IsSkipped) groups rest
 
--- a byte order mark in UTF-8, which the syntax lacks, or nothing
+-- a byte order mark in UTF-8, which the standard's grammar doesn't have, or nothing
 abbrev pub IsBom : List ℕ → Type 0
 IsBom bytes = (bytes ≡ []) ⊎ (bytes ≡ 0xEF ∷ 0xBB ∷ 0xBF ∷ [])
 
--- NL, or nothing, which the syntax lacks
+-- NL, or nothing, which the standard's grammar doesn't have
 abbrev pub IsLastNl : List ℕ → Type 0
 IsLastNl bytes = (bytes ≡ []) ⊎ IsNl bytes
 
--- such a content, behind a byte order mark or not, whose last NL may be missing
+-- such a content, possibly after a byte order mark, and possibly without the last NL
 pub record IsFileOf (Content : List ℕ → Type 0) (text : List ℕ) : Type 0 where
   pub bom : List ℕ
   pub rest : List ℕ
@@ -346,15 +352,14 @@ IsUnlisted text =
     ((token : List ℕ) × IsStartGroupLine token text)
     ⊎ (((member : Member) × IsMemberLine member text) ⊎ (IsEmptyLine text ⊎ IsOtherLine text))
 
--- a file as nothing but lines, whatever groups they make: the addresses of its sitemaplines, in order
+-- a file as a list of lines, regardless of groups: the addresses of its sitemaplines, in order
 abbrev pub ListsSitemaps : List (List ℕ) → List ℕ → Type 0
 ListsSitemaps addresses text = IsFileOf (Repeats (IsOneOr IsSitemapLine IsUnlisted) addresses) text
 
--- ---- what an agent gets of groups
+-- ---- the rules for a crawler
 
--- A group without members and the next one are one group. A file can be taken apart in several ways where
--- lines of tokens follow one another: as one group, or as groups without members and a group. Merged, these
--- are the same.
+-- A group without members is merged with the next one. Consecutive startgrouplines can be parsed in several
+-- ways: as one group, or as groups without members and a group. After merging, these are the same.
 abbrev pub put_before : List (List ℕ) → List Member → List Group → List Group
 put_before tokens [] (next ∷ later) =
     record { tokens = tokens ++ next.tokens; members = next.members } ∷ later
@@ -364,15 +369,15 @@ abbrev pub merged : List Group → List Group
 merged [] = []
 merged (group ∷ later) = put_before group.tokens group.members (merged later)
 
--- the product token is the agent, whatever the case of their ASCII letters
+-- the product token is that of the crawler, compared without regard to the case of ASCII letters
 abbrev pub is_token : List ℕ → List ℕ → Bool
 is_token agent token = bytes_eq (map to_ascii_lowercase token) (map to_ascii_lowercase agent)
 
--- one of the group's product tokens is the agent
+-- one of the group's product tokens is that of the crawler
 abbrev pub has_token : List ℕ → Group → Bool
 has_token agent group = list_any (is_token agent) group.tokens
 
--- the groups of the agent, or those of `*` where it has none
+-- the groups of the crawler, or those of `*` if it has none
 abbrev pub groups_for : List ℕ → List Group → List Group
 groups_for agent groups =
     if list_any (has_token agent) groups then filter (has_token agent) groups

@@ -1,6 +1,6 @@
--- Two small files, and what they spell by the relations of `specs/Rfc9309.antt`: one of the standard's own
--- syntax, and one that has what goes further in front of the same lines. The law
--- `standard_samples_are_files` shows that they are such files.
+-- Two small files, and what they contain by the relations of `specs/Rfc9309.antt`. One follows the
+-- standard's own grammar. The other has lines of the extended grammar before the same lines. The theorem
+-- `standard_samples_are_files` shows that they follow these grammars.
 use Rattle.std.specs.Prelude.{ℕ, List, [], ◌∷◌, ◌++◌, codes}
 use Rattle.robots_rfc9309.specs.Rfc9309.{Allow, Delay, Disallow, Group, Member}
 
@@ -15,7 +15,7 @@ cr = 0x0D ∷ []
 abbrev pub cr_lf : List ℕ
 cr_lf = 0x0D ∷ 0x0A ∷ []
 
--- ---- a file of the standard's syntax
+-- ---- a file of the standard's own grammar
 
 -- characters of one, two, three and four bytes
 abbrev pub path : List ℕ
@@ -45,7 +45,7 @@ bare_groups =
     ∷ record { tokens = codes "*" ∷ []; members = Disallow (codes "/") ∷ [] }
     ∷ []
 
--- ---- a file that goes further
+-- ---- a file of the extended grammar
 
 abbrev pub wide_text : List ℕ
 wide_text =
@@ -67,6 +67,6 @@ wide_groups =
 abbrev pub wide_sitemaps : List (List ℕ)
 wide_sitemaps = codes "https://a/s" ∷ []
 
--- what the second file spells for the agent `BOT`
+-- the rules of the second file for the crawler `BOT`
 abbrev pub wide_rules : List Member
 wide_rules = Disallow (codes "*.gif$") ∷ Allow path ∷ Disallow [] ∷ []

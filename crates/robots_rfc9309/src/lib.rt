@@ -1,5 +1,5 @@
-//! What a file of the standard's syntax (RFC 9309, section 2.2) comes to when this library reads it: laws over the definitions
-//! alone, each the contract of a function that computes nothing.
+//! What this library does with a file that follows the grammar of RFC 9309, section 2.2: theorems about the
+//! specification, each written as the contract of an empty function.
 #![tactic(auto)]
 
 ghost use Rattle.std.specs.Prelude.{◌≡◌, ℕ, List, codes};
@@ -10,11 +10,15 @@ ghost use Rattle.robots_rfc9309.specs.Sample as sample;
 ghost use Rattle.texting_robots.specs.Executable.{file_lines, rules_for, sitemaps_in};
 ghost use Rattle.texting_robots.specs.Trim.{IsTrimOf};
 
-/// Of a file of the standard's syntax an agent gets, in order and each as often, the rules that the file spells for it, each
-/// as `IsReadAs` says: its pattern trimmed and escaped, and an empty Disallow an Allow of `/`. However such a file is taken
-/// apart, it spells the same groups once they are merged. The sitemaps are, in order, the addresses of the file's sitemap lines,
-/// trimmed. The syntax as the standard has it is part of the wider one that these speak of.
-/// A site owner who writes by the standard relies on it.
+/// Theorems about files that follow the extended grammar `IsFile`, used by site owners who write to the standard:
+///
+/// - `read`: the rules that this library finds for a crawler are, in order, those that the grammar's groups have for
+///   it, each changed as `IsReadAs` states: the pattern is trimmed and escaped, and an empty Disallow becomes an Allow
+///   of `/`.
+/// - `once`: all ways to parse a file result in the same groups after merging.
+/// - `sitemaps`: the library's sitemaps are, in order, the addresses of the sitemap lines, trimmed.
+/// - `listed`: the grammar yields exactly one list of sitemap addresses for a file.
+/// - `bare`: a file that follows the standard's own grammar follows the extended one.
 pub fn standard_files_are_read_so()
     ensures read { (text : List ℕ) (groups : List rfc.Group) (agent : List ℕ) → rfc.IsFile groups text
         → AllZip IsReadAs (rfc.rules_for agent (rfc.merged groups)) (rules_for agent (file_lines text)) }
@@ -29,8 +33,8 @@ pub fn standard_files_are_read_so()
         → rfc.IsFile groups text }
 {}
 
-/// The two samples are files of the syntax that `standard_files_are_read_so` speaks of, and between them they use every production.
-/// Whoever reads that law relies on it: what it asks of a file can be met.
+/// The two samples follow the grammars of `standard_files_are_read_so`, and between them they use every production. So
+/// there are files to which that theorem applies.
 pub fn standard_samples_are_files()
     ensures bare { rfc.IsRobotstxt sample.bare_groups sample.bare_text }
     ensures wide { rfc.IsFile sample.wide_groups sample.wide_text }

@@ -1,4 +1,4 @@
-//! The small calls of a line and a view, and the example of the library's documentation.
+//! Small functions of a line and a view, and the example in the library's documentation.
 use crate::helpers::{check, check_equal};
 use std::alloc::Global;
 use texting_robots::parser::{Line, lines};
@@ -8,7 +8,7 @@ use texting_robots::{Error, Robot, allowed_in_file};
 const LINES: &[u8] =
     b"User-agent: A\nAllow: /b\nDisallow: /c\nDisallow:\nSitemap: d\nCrawl-delay: 1\nNoindex: /e";
 
-/// What each of the lines holds.
+/// The value of each line.
 const VALUES: &[Option<&[u8]>] = &[
     Some(b"A"),
     Some(b"/b"),
@@ -37,11 +37,11 @@ fn an_empty_text_has_an_empty_view(rt: HostRuntime) {
     check(&rt, "slash", !view.is_empty() && view.seen() == 0);
 }
 
-/// Whether the crawler `FerrisBot` may fetch a page, and how many microseconds it waits before the next.
+/// The wait in microseconds before the crawler `FerrisBot` fetches a page, or `None` if it may not fetch it.
 fn may_fetch(alloc: Global, file: &[u8], page: &str) -> Result<Option<u64>, Error> {
     let robot = Robot::new(alloc, "FerrisBot", file)?;
     if robot.allowed(alloc, page)? {
-        // a file may ask for any delay, so it is capped at a minute
+        // a file can demand any delay, so it is capped at a minute
         Ok(Some(robot.delay.unwrap_or(1_000_000).min(60_000_000)))
     } else {
         Ok(None)
@@ -50,7 +50,7 @@ fn may_fetch(alloc: Global, file: &[u8], page: &str) -> Result<Option<u64>, Erro
 
 const REEF: &[u8] = b"User-agent: FerrisBot\nDisallow: /reef\nCrawl-delay: inf";
 
-/// A file, a page, and when it may be fetched.
+/// A file, a page, and the wait if it may be fetched.
 const PAGES: &[(&[u8], &str, Option<u64>)] = &[
     (REEF, "https://example.com/reef", None),
     (REEF, "https://example.com/open", Some(60_000_000)),
@@ -65,7 +65,7 @@ fn the_documented_example_answers(rt: HostRuntime) {
     }
 }
 
-/// A file, a prepared text, and whether it may be fetched.
+/// A file, a match target, and whether it may be fetched.
 const TEXTS: &[(&[u8], &str, bool)] = &[
     (REEF, "/reef", false),
     (REEF, "/open", true),

@@ -1,8 +1,8 @@
-//! Which line of a file decides on a text.
+//! Which line of a file decides on a URL.
 use crate::helpers::{BOB, Decisions, check_decisions, indented, robot_of};
 use std::process::Abort;
 
-/// A file, and what decides for an agent. Its lines are counted from 1, empty ones too.
+/// A file, and the decisions for a crawler. Lines count from 1, including empty ones.
 struct DecisionCase {
     name: &'static str,
     agent: &'static str,
@@ -15,7 +15,7 @@ const CRAWLER_EXAMPLE: &[u8] =
     b"User-Agent: FerrisCrawler\nAllow: /ocean\nDisallow: /rust\nDisallow: /forest*.py\n\
     Crawl-Delay: 10\nUser-Agent: *\nDisallow: /\nSitemap: https://www.example.com/site.xml";
 
-/// Three agents, one of them in two groups, with empty lines between them.
+/// Three crawlers, one of them in two groups, with empty lines between them.
 const MERGED_GROUPS: &[u8] =
     b"allow: /foo/bar/\nuser-agent: FooBot\ndisallow: /\nallow: /x/\nuser-agent: BarBot\n\
     disallow: /\nallow: /y/\n\n\nallow: /w/\nuser-agent: BazBot\n\nuser-agent: FooBot\nallow: /z/\ndisallow: /";
@@ -108,13 +108,13 @@ const RULES: &[DecisionCase] = &[
     },
 ];
 
-/// Asks for the lines that decide in a form of the case's file.
+/// Checks the decisions of a file, which is that of the case or the same indented.
 fn check_form(rt: &(impl Abort + AllocGlobal), case: &DecisionCase, file: &[u8]) {
     let robot = robot_of(rt, case.name, case.agent, file);
     check_decisions(rt, case.name, &robot, case.decisions);
 }
 
-/// Asks for the lines that decide in each case's file, as it stands and indented.
+/// Checks the decisions of each case's file, unchanged and indented.
 fn check_cases(rt: &(impl Abort + AllocGlobal), cases: &[DecisionCase]) {
     for case in cases {
         check_form(rt, case, case.file);

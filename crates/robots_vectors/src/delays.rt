@@ -1,8 +1,8 @@
-//! What a delay text says.
+//! The values of delays.
 use crate::helpers::check_equal;
 use texting_robots::parser::read_delay;
 
-/// A delay text, and how many microseconds it says.
+/// The value of a Crawl-delay line, and the delay in microseconds.
 const NUMBERS: &[(&str, u64)] = &[
     ("3.14", 3_140_000),
     (".5", 500_000),
@@ -27,7 +27,7 @@ const NUMBERS: &[(&str, u64)] = &[
     ("INFINITY", u64::MAX),
 ];
 
-/// Texts that say no delay.
+/// Values that aren't delays.
 const NO_DELAYS: &[&str] = &[
     "", ".", "nan", "1e", " 5", "-inf", "-1e-99", "+", "e5", ".e5", "1_0", "infin", "-nan", "-.5",
 ];

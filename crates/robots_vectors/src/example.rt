@@ -1,4 +1,4 @@
-//! The README's example: what a crawler asks before it fetches a page.
+//! An example: what a crawler does before it fetches a page.
 use crate::helpers::{check, check_equal, check_text};
 use std::alloc::Global;
 use std::process::Abort;
@@ -10,13 +10,13 @@ use url::ParseError;
 enum Plan {
     /// Fetch it, after this many microseconds.
     Fetch(u64),
-    /// Leave it: the file denies it.
+    /// Don't fetch it, as the file denies it.
     Leave,
-    /// The file can't be used: a rule for this crawler is too long.
+    /// The file is rejected: a rule for this crawler is too long.
     Unusable,
 }
 
-/// Where the robots.txt file of a page's site stands, if the page's address is one of a site.
+/// The robots.txt address for a page, or `None` if the page isn't on a site.
 fn file_address(alloc: Global, page: &str) -> Result<Option<String>, Error> {
     match get_robots_url(alloc, page) {
         Ok(address) => Ok(Some(address)),
@@ -35,7 +35,7 @@ fn visit(alloc: Global, file: &[u8], page: &str) -> Result<Plan, Error> {
     if !robot.allowed(alloc, page)? {
         return Ok(Plan::Leave);
     }
-    // a file may ask for any delay, so it is capped at a minute; where it names none, a second will do
+    // a file can demand any delay, so it is capped at a minute; without one, a second suffices
     let delay = robot.delay.unwrap_or(1_000_000).min(60_000_000);
     Ok(Plan::Fetch(delay))
 }
@@ -44,7 +44,7 @@ const PAGE: &str = "https://example.com/ocean/reef.html";
 
 const FILE: &[u8] = b"User-agent: FerrisBot\nDisallow: /forest\nCrawl-delay: 2.5\n";
 
-/// The crawler does this about the page.
+/// Checks what the crawler does about the page.
 fn check_visit(rt: &(impl Abort + AllocGlobal), file: &[u8], page: &str, want: &Plan) {
     let plan = visit(rt.alloc(), file, page).expect(rt, page);
     check_equal(rt, page, &plan, want);

@@ -1,20 +1,19 @@
-//! What the tests share: assertions, calls that succeed, the forms of a file, long texts, and the questions that a robot is
-//! asked.
+//! What the tests share: assertions, calls that have to succeed, indented files, long texts, and checks of a robot.
 use std::fmt::Debug;
 use std::process::Abort;
 use texting_robots::view::View;
 use texting_robots::{Decision, Robot};
 
-/// The agent of the cases that name none.
+/// The crawler of the cases that don't name one.
 pub const BOB: &str = "BobBot";
 
-/// A text by its parts, each with how often it stands.
+/// The parts of a text, each with the number of its repetitions.
 pub type TextParts = &'static [(&'static str, usize)];
 
-/// Texts, whether each may be fetched, and the number of the line that says so.
+/// URLs, whether each may be fetched, and the number of the line that decides.
 pub type Decisions = &'static [(&'static str, bool, Option<usize>)];
 
-/// Texts of each kind.
+/// URLs of each kind.
 const TEXTS: &[&str] = &[
     "",
     "/",
@@ -24,27 +23,27 @@ const TEXTS: &[&str] = &[
     "https://example.com/a?b#c",
 ];
 
-/// The case's question has the answer yes.
+/// Checks that the condition holds.
 pub fn check(rt: &impl Abort, name: &str, holds: bool) {
     assert!(rt; holds, "{name}");
 }
 
-/// The case's answer is the wanted one.
+/// Checks that the result is the expected one.
 pub fn check_equal<T: PartialEq + Debug>(rt: &impl Abort, name: &str, answer: &T, want: &T) {
     assert!(rt; *answer == *want, "{name}: {answer:?}");
 }
 
-/// The case's text is the wanted one.
+/// Checks that the text is the expected one.
 pub fn check_text(rt: &impl Abort, name: &str, text: &str, want: &str) {
     assert!(rt; text == want, "{name}: {text:.60}");
 }
 
-/// The verdict on the text is the wanted one.
+/// Checks that the verdict on the text is the expected one.
 pub fn check_verdict(rt: &impl Abort, name: &str, text: &str, answer: bool, want: bool) {
     assert!(rt; answer == want, "{name}: {text:.60}: {answer}");
 }
 
-/// The file with eight spaces before each line after the first, or as it stands if a CR spells its lines.
+/// The file with eight spaces before each line after the first; unchanged if it contains a CR.
 pub fn indented(rt: &(impl Abort + AllocGlobal), name: &str, file: &[u8]) -> Vec<u8> {
     let is_written_by_cr = file.contains(&b'\r');
     let mut text = Vec::new(rt.alloc());
@@ -57,7 +56,7 @@ pub fn indented(rt: &(impl Abort + AllocGlobal), name: &str, file: &[u8]) -> Vec
     text
 }
 
-/// Each part as often as its number says, one after the other.
+/// The parts with their repetitions, one after another.
 pub fn long_text(rt: &(impl Abort + AllocGlobal), name: &str, parts: &[(&str, usize)]) -> String {
     let mut text = String::new(rt.alloc());
     for (part, count) in parts {
@@ -67,27 +66,27 @@ pub fn long_text(rt: &(impl Abort + AllocGlobal), name: &str, parts: &[(&str, us
     text
 }
 
-/// The robot of a file that is accepted.
+/// The robot of a file, which has to be accepted.
 pub fn robot_of(rt: &(impl Abort + AllocGlobal), name: &str, agent: &str, file: &[u8]) -> Robot {
     Robot::new(rt.alloc(), agent, file).expect(rt, name)
 }
 
-/// The robot of a long file that is accepted.
+/// The robot of a long file, which has to be accepted.
 pub fn long_robot(rt: &(impl Abort + AllocGlobal), name: &str, parts: &[(&str, usize)]) -> Robot {
     robot_of(rt, name, BOB, long_text(rt, name, parts).as_bytes())
 }
 
-/// The text that the URL is prepared to.
+/// The match target of the URL.
 pub fn prepared(rt: &(impl Abort + AllocGlobal), name: &str, url: &str) -> String {
     Robot::prepare_url(rt.alloc(), url).expect(rt, name)
 }
 
-/// The Debug text of the robot.
+/// The robot as `Debug` prints it.
 pub fn shown(rt: &(impl Abort + AllocGlobal), name: &str, robot: &Robot) -> String {
     format!(in rt.alloc(); "{robot:?}").expect(rt, name)
 }
 
-/// The robot's answers for a prepared text: by itself, by a view, and with its line.
+/// The robot's verdicts on a match target: without counting, by a view, and by the decision.
 fn answers(robot: &Robot, text: &str) -> [bool; 3] {
     [
         robot.allowed_prepared(text),
@@ -96,13 +95,13 @@ fn answers(robot: &Robot, text: &str) -> [bool; 3] {
     ]
 }
 
-/// Asks the robot for a prepared text by each of its calls.
+/// Checks the verdicts on a match target by all of the robot's functions.
 pub fn check_prepared(rt: &impl Abort, name: &str, robot: &Robot, text: &str, want: bool) {
     let answers = answers(robot, text);
     assert!(rt; answers == [want; 3], "{name}: {text:.60}: {answers:?}");
 }
 
-/// Asks the robot for a URL, and for its prepared text.
+/// Checks the verdicts on a URL and on its match target.
 pub fn check_url(
     rt: &(impl Abort + AllocGlobal),
     name: &str,
@@ -115,7 +114,7 @@ pub fn check_url(
     check_prepared(rt, name, robot, prepared(rt, name, url).as_str(), want);
 }
 
-/// The line of the file that decides on a URL's prepared text.
+/// Checks the decision on a URL's match target.
 fn check_decision(
     rt: &(impl Abort + AllocGlobal),
     name: &str,
@@ -128,7 +127,7 @@ fn check_decision(
     check_equal(rt, name, &(url, decision), &(url, want));
 }
 
-/// Asks the robot for each URL, and for the line that decides on its prepared text.
+/// Checks the verdict on each URL, and the line that decides.
 pub fn check_decisions(
     rt: &(impl Abort + AllocGlobal),
     name: &str,
@@ -145,7 +144,7 @@ pub fn check_decisions(
     }
 }
 
-/// The robot has no rule, no delay and no sitemap: it shows as that of an empty file does, and allows every text.
+/// Checks that the robot has no rule, delay or sitemap: it is printed as that of an empty file, and allows every URL.
 pub fn check_nothing(rt: &(impl Abort + AllocGlobal), name: &str, robot: &Robot) {
     let empty = shown(rt, name, &robot_of(rt, name, BOB, b""));
     check_text(rt, name, shown(rt, name, robot).as_str(), empty.as_str());
@@ -154,7 +153,7 @@ pub fn check_nothing(rt: &(impl Abort + AllocGlobal), name: &str, robot: &Robot)
     }
 }
 
-/// The robot has no delay and no sitemap.
+/// Checks that the robot has no delay and no sitemap.
 pub fn check_no_delay_or_sitemap(rt: &impl Abort, name: &str, robot: &Robot) {
     check_equal(rt, name, &robot.delay, &None);
     check(rt, name, robot.sitemaps.is_empty());

@@ -1,4 +1,4 @@
-//! The marked lines of a file, whether it names an agent, and any bytes escaped as rules are.
+//! Labeled lines, whether a file names a crawler, the first rule that is too long, and escaped bytes.
 use crate::helpers::{check, check_equal, check_text};
 use std::process::Abort;
 use texting_robots::labels::{
@@ -7,11 +7,11 @@ use texting_robots::labels::{
 use texting_robots::parser::Line;
 use texting_robots::push_escaped_bytes;
 
-/// A rule before any agent, a group of two agents, and one of another.
+/// A rule before the first user-agent line, a group of two crawlers, and a group of another one.
 const FILE: &[u8] =
     b"Disallow: /x\nUser-agent: a\nUser-agent: B\nDisallow: /y\nUser-agent: c\nAllow: /z";
 
-/// Its lines as the agent `b` gets them.
+/// Its lines, labeled for the crawler `b`.
 const LABELED: &[LabeledLine<'static>] = &[
     LabeledLine {
         number: 1,
@@ -54,20 +54,20 @@ fn lines_are_labeled_for_an_agent(rt: HostRuntime) {
     check_equal(&rt, "end", &lines.next(), &None);
 }
 
-/// An agent, a file, and a sign for each line: `+` in the agent's group, `-` in another, a blank in none.
+/// A crawler, a file, and a character for each line: `+` in the crawler's group, `-` in another, a space in none.
 const GROUPS: &[(&str, &[u8], &[u8])] = &[
-    // a group of several agents, seen from each of its names and from others
+    // a group of several crawlers, for each of its names and for others
     ("a", FILE, b" +++--"),
     ("c", FILE, b" ---++"),
     ("d", FILE, b" -----"),
-    // the star's group is that of every agent that no line names
+    // the group of `*` applies to every crawler that no line names
     ("d", b"User-agent: a\nUser-agent: *\nDisallow: /x", b"+++"),
     (
         "a",
         b"User-agent: a\nAllow: /\nUser-agent: *\nAllow: /",
         b"++--",
     ),
-    // lines of other kinds stand in no group, and part none
+    // other lines belong to no group, and end none
     (
         "a",
         b"Sitemap: s\nUser-agent: b\n\nSitemap: s\nUser-agent: a\nx\nDisallow: /x\n# y\nAllow: /y",
@@ -76,7 +76,7 @@ const GROUPS: &[(&str, &[u8], &[u8])] = &[
 ];
 
 const DELAYS: &[(&str, &[u8], &[u8])] = &[
-    // a delay parts two groups as a rule does
+    // a delay ends a run of user-agent lines, as a rule does
     (
         "a",
         b"User-agent: a\nCrawl-delay: 1\nUser-agent: b\nAllow: /",
@@ -87,7 +87,7 @@ const DELAYS: &[(&str, &[u8], &[u8])] = &[
         b"User-agent: a\nCrawl-delay: 1\nUser-agent: b\nAllow: /",
         b"--++",
     ),
-    // an agent's groups may be several
+    // a crawler can have several groups
     (
         "a",
         b"User-agent: a\nAllow: /x\nUser-agent: b\nAllow: /y\nUser-agent: b\nUser-agent: a\nAllow: /z",
@@ -96,7 +96,7 @@ const DELAYS: &[(&str, &[u8], &[u8])] = &[
 ];
 
 const ENDS: &[(&str, &[u8], &[u8])] = &[
-    // agents at the end, with no rule behind them
+    // user-agent lines at the end, with no rule after them
     (
         "a",
         b"User-agent: b\nAllow: /\nUser-agent: c\nUser-agent: a\n",
@@ -108,13 +108,13 @@ const ENDS: &[(&str, &[u8], &[u8])] = &[
         b"--+ + ",
     ),
     ("d", b"User-agent: a\nAllow: /\nUser-agent: b\n", b"---"),
-    // a delay or a rule before the first agent
+    // a delay or a rule before the first user-agent line
     (
         "a",
         b"Crawl-delay: 1\nAllow: /\nUser-agent: a\nAllow: /",
         b"  ++",
     ),
-    // a file that names no agent is for all
+    // without a user-agent line all lines apply to every crawler
     (
         "a",
         b"Allow: /\nSitemap: s\nCrawl-delay: 1\n\nDisallow: /x",
@@ -123,7 +123,7 @@ const ENDS: &[(&str, &[u8], &[u8])] = &[
     ("a", b"", b""),
 ];
 
-/// The sign that tells where a line stands.
+/// The character for a membership.
 fn mask(membership: Membership) -> u8 {
     match membership {
         Membership::Own => b'+',
@@ -132,7 +132,7 @@ fn mask(membership: Membership) -> u8 {
     }
 }
 
-/// The lines of the file stand where the signs tell.
+/// Checks the membership of each line.
 fn check_masks(rt: &impl Abort, agent: &str, file: &[u8], masks: &[u8]) {
     let mut lines = labeled_lines(agent, file);
     for told in masks {
@@ -142,7 +142,7 @@ fn check_masks(rt: &impl Abort, agent: &str, file: &[u8], masks: &[u8]) {
     check(rt, agent, lines.next().is_none());
 }
 
-/// The same of several files.
+/// Checks several files.
 fn check_files(rt: &impl Abort, cases: &[(&str, &[u8], &[u8])]) {
     for (agent, file, masks) in cases {
         check_masks(rt, agent, file, masks);
@@ -164,7 +164,7 @@ fn a_file_names_its_agents(rt: HostRuntime) {
     check(&rt, "*", !is_named("*", FILE));
 }
 
-/// The file's first overlong rule for the agent stands in this line.
+/// Checks the line of the first rule that applies to the crawler and is too long.
 fn check_overlong(rt: &(impl Abort + AllocGlobal), agent: &str, file: &[u8], line: Option<usize>) {
     let answer = first_overlong_line(rt.alloc(), agent, file).expect(rt, agent);
     check_equal(rt, agent, &answer, &line);
@@ -178,7 +178,7 @@ fn the_first_overlong_rule_is_reported(rt: HostRuntime) {
     for _ in 0..4095 {
         file.push('x').expect(&rt, "a byte");
     }
-    // with the slash 4,096 bytes, and then `$`
+    // 4,096 bytes with the slash, and then `$`
     file.push_str("$\nDisallow: /$\nUser-agent: b\nAllow: /$")
         .expect(&rt, "lines");
     check_overlong(&rt, "a", file.as_bytes(), Some(3));

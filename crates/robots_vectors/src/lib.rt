@@ -1,6 +1,7 @@
-//! Test cases on the public calls of the library `texting_robots`: worked examples, and those of its forerunner's tests. Each
-//! case is data, with a name that a failure tells. This crate has tests alone. What an agent gets of a whole file, its verdicts,
-//! delay, sitemaps or refusal, is told by `robots_verdict`, so such cases are stored runs of that program.
+//! Test cases for the public functions of the library `texting_robots`: worked examples, and the cases of the original
+//! crate's tests. Each case is data, with a name that is printed if it fails. This crate contains only tests. The
+//! program `robots_verdict` prints what a file means for a crawler (its verdicts, delay and sitemaps, or an error), so
+//! such cases are golden tests of that program.
 #![tactic(auto)]
 
 #[cfg(test)]

@@ -1,4 +1,4 @@
-//! How many bytes of a file are read.
+//! The size limit of a file.
 use crate::helpers::{
     BOB, Decisions, TextParts, check, check_decisions, check_equal, check_nothing, check_text,
     long_robot, long_text,
@@ -7,7 +7,7 @@ use std::process::Abort;
 use texting_robots::robot::FILE_LIMIT;
 use texting_robots::{Error, Robot};
 
-/// A file, how many bytes of it are read, and what decides then.
+/// A file, its size limit, and the decisions with this limit.
 struct LimitCase {
     name: &'static str,
     file: TextParts,
@@ -61,14 +61,14 @@ const CUT: &[LimitCase] = &[
     },
 ];
 
-/// A name, a file, and a limit before which it gives nothing.
+/// A name, a file, and a limit with which the file has no rule, delay or sitemap.
 const NOTHING: &[(&str, &str, usize)] = &[
     ("in_the_key", "Disallow: /abc", 8),
     ("at_the_beginning", "Disallow: /abc", 0),
     ("in_a_character", "Disallow: /é", 12),
 ];
 
-/// Files whose first 512,000 bytes are a comment and its LF.
+/// Files whose first 512,000 bytes are a comment and LF.
 const RULE_AFTER: TextParts = &[("#", 511_999), ("\nDisallow: /a", 1)];
 
 const OVERLONG_RULE_AFTER: TextParts = &[
@@ -80,14 +80,14 @@ const OVERLONG_RULE_AFTER: TextParts = &[
 
 const SITEMAP_AFTER: TextParts = &[("#", 511_999), ("\nSitemap: /s", 1)];
 
-/// A name, and a file that gives nothing in its first 512,000 bytes.
+/// A name, and a file with no rule, delay or sitemap in its first 512,000 bytes.
 const AFTER: &[(&str, TextParts)] = &[
     ("rule", RULE_AFTER),
     ("overlong_rule", OVERLONG_RULE_AFTER),
     ("sitemap", SITEMAP_AFTER),
 ];
 
-/// The robot of the file's beginning.
+/// The robot of the file with this size limit.
 fn limited(
     rt: &(impl Abort + AllocGlobal),
     name: &str,
@@ -98,7 +98,7 @@ fn limited(
     Robot::with_limit(rt.alloc(), BOB, file.as_bytes(), limit).expect(rt, name)
 }
 
-/// These are the wanted sitemaps.
+/// Checks the sitemaps.
 fn check_sitemaps(rt: &impl Abort, name: &str, sitemaps: &[String], want: &[&str]) {
     check_equal(rt, name, &sitemaps.len(), &want.len());
     for (sitemap, want) in sitemaps.iter().zip(want) {

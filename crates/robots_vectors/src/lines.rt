@@ -1,4 +1,4 @@
-//! How a text is cut into lines, and what each line is.
+//! How a text is split into lines, and the kind of each line.
 use crate::helpers::{check_equal, indented};
 use std::process::Abort;
 use texting_robots::parser::{
@@ -29,7 +29,7 @@ const NUL_AS_LF: &[u8] =
 
 const CR_NUL: &[u8] = b"Disallow: /a\r\0Allow: /b";
 
-/// What ends a line.
+/// Line terminators.
 const ENDS: &[LinesCase] = &[
     LinesCase {
         name: "line_ends",
@@ -63,7 +63,7 @@ const ENDS: &[LinesCase] = &[
     },
 ];
 
-/// The same lines with several ends.
+/// The same lines with various terminators.
 const SIX_LINES: &[LinesCase] = &[
     LinesCase {
         name: "six_lines",
@@ -87,7 +87,7 @@ const SIX_LINES: &[LinesCase] = &[
     },
 ];
 
-/// A byte order mark, whole or in part.
+/// A complete or partial byte order mark.
 const LABELS: &[LinesCase] = &[
     LinesCase {
         name: "partial_front",
@@ -124,7 +124,7 @@ const LABELS: &[LinesCase] = &[
     },
 ];
 
-/// Lines of each kind, and keys without a value.
+/// Lines of each kind, and field names without a value.
 const KEYS: &[LinesCase] = &[
     LinesCase {
         name: "slow_delay",
@@ -166,7 +166,7 @@ const KEYS: &[LinesCase] = &[
     },
 ];
 
-/// The misspelled keys that are read; the fifth stands among the values.
+/// The misspelled field names that are accepted; the fifth, `disallaw`, is in `VALUES`.
 const NONSTANDARD: &[LinesCase] = &[
     LinesCase {
         name: "dissallow",
@@ -190,7 +190,7 @@ const NONSTANDARD: &[LinesCase] = &[
     },
 ];
 
-/// What is no part of a value.
+/// What doesn't belong to a value.
 const VALUES: &[LinesCase] = &[
     LinesCase {
         name: "tabs_and_capitals",
@@ -279,14 +279,14 @@ const NUL_TEXTS: &[LinesCase] = &[
     },
 ];
 
-/// A file and the bodies of its lines.
+/// A file and the contents of its lines.
 struct BodiesCase {
     name: &'static str,
     file: &'static [u8],
     bodies: &'static [&'static [u8]],
 }
 
-/// Files whose lines end in several ways.
+/// Files with various line terminators.
 const BODIES: &[BodiesCase] = &[
     BodiesCase {
         name: "bodies_as_they_stand",
@@ -320,7 +320,7 @@ const BODIES: &[BodiesCase] = &[
     },
 ];
 
-/// The line is the wanted one, with these blanks before it if it is raw.
+/// Checks a line. If it is ignored, it has these spaces before the expected content.
 fn check_line(rt: &impl Abort, name: &str, line: Line<'_>, want: Line<'_>, blanks: &[u8]) {
     let is_wanted = match (line, want) {
         (Line::Raw(body), Line::Raw(want)) => body.strip_prefix(blanks) == Some(want),
@@ -329,7 +329,7 @@ fn check_line(rt: &impl Abort, name: &str, line: Line<'_>, want: Line<'_>, blank
     assert!(rt; is_wanted, "{name}: {line:?}");
 }
 
-/// The iterator gives these lines, and then nothing more.
+/// The iterator returns these lines, and then `None`.
 fn check_each<'a>(rt: &impl Abort, name: &str, lines: LineIter<'a>, want: &[Line<'a>]) {
     let mut lines = lines;
     for line in want {
@@ -339,7 +339,7 @@ fn check_each<'a>(rt: &impl Abort, name: &str, lines: LineIter<'a>, want: &[Line
     check_equal(rt, name, &lines.next(), &None);
 }
 
-/// The iterator gives these bodies, and then nothing more.
+/// The iterator returns these line contents, and then `None`.
 fn check_bodies(rt: &impl Abort, name: &str, bodies: BodyIter<'_>, want: &[&[u8]]) {
     let mut bodies = bodies;
     for body in want {
@@ -349,7 +349,8 @@ fn check_bodies(rt: &impl Abort, name: &str, bodies: BodyIter<'_>, want: &[&[u8]
     check_equal(rt, name, &bodies.next(), &None);
 }
 
-/// The vector of the text's lines, and the lines one by one. Where no NUL is in the text, those of the file are the same.
+/// Checks the lines of the text, as a vector and by iterator. Without NUL, the lines of a file with this text are the
+/// same.
 pub fn check_lines<'a>(
     rt: &(impl Abort + AllocGlobal),
     name: &str,
@@ -364,7 +365,7 @@ pub fn check_lines<'a>(
     }
 }
 
-/// The lines are the wanted ones, with these blanks before each raw one after the first.
+/// Checks the lines. Each ignored one after the first has these spaces before the expected content.
 fn check_shifted(
     rt: &impl Abort,
     name: &str,
@@ -380,7 +381,7 @@ fn check_shifted(
     }
 }
 
-/// The lines of the case's text when it is indented, where only raw lines differ.
+/// Checks the lines of the indented text. Only ignored lines differ.
 fn check_indented(rt: &(impl Abort + AllocGlobal), case: &LinesCase) {
     let text = indented(rt, case.name, case.text);
     let is_longer = text.len() > case.text.len();
@@ -389,7 +390,7 @@ fn check_indented(rt: &(impl Abort + AllocGlobal), case: &LinesCase) {
     check_shifted(rt, case.name, &lines, case.lines, blanks);
 }
 
-/// The lines of each case's text, as it stands and indented.
+/// Checks the lines of each text, unchanged and indented.
 fn check_texts(rt: &(impl Abort + AllocGlobal), cases: &[LinesCase]) {
     for case in cases {
         check_lines(rt, case.name, case.text, case.lines);
@@ -422,7 +423,7 @@ fn lines_have_their_bodies(rt: HostRuntime) {
     }
 }
 
-/// How the field names of each kind are spelled.
+/// The accepted field names of each kind.
 const FIELD_NAMES: &[(Kind, &[&str])] = &[
     (Kind::UserAgent, &["User-agent", "user agent", "useragent"]),
     (Kind::Allow, &["Allow"]),

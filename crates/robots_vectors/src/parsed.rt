@@ -1,10 +1,10 @@
-//! Calls that take a URL that is parsed already.
+//! Functions that take a parsed URL.
 use crate::helpers::{BOB, check_equal, check_text, check_verdict, robot_of};
 use std::process::Abort;
 use texting_robots::{Robot, robots_url_of};
 use url::{ParseError, Url};
 
-/// A name, a file, and its answers for URLs.
+/// A name, a file, and its verdicts on URLs.
 const VERDICTS: &[(&str, &[u8], &[(&str, bool)])] = &[
     (
         "fragment_stays",
@@ -40,7 +40,7 @@ const VERDICTS: &[(&str, &[u8], &[(&str, bool)])] = &[
     ),
 ];
 
-/// A name, a URL, and the address of its robots file.
+/// A name, a URL, and its robots.txt address.
 const ADDRESSES: &[(&str, &str, &str)] = &[
     (
         "host_alone",
@@ -54,12 +54,12 @@ const ADDRESSES: &[(&str, &str, &str)] = &[
     ),
 ];
 
-/// The URL, which can be parsed.
+/// The parsed URL, which has to be valid.
 fn parsed(rt: &(impl Abort + AllocGlobal), name: &str, url: &str) -> Url {
     Url::parse(rt.alloc(), url).expect(rt, name)
 }
 
-/// Asks the robot for each parsed URL.
+/// Checks the robot's verdict on each parsed URL.
 fn check_answers(
     rt: &(impl Abort + AllocGlobal),
     name: &str,

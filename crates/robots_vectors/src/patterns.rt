@@ -1,4 +1,4 @@
-//! What a pattern matches, with how many looks, how patterns are ordered, and which are too long.
+//! What a pattern matches, with how many looks; how patterns are ordered; and which are too long.
 use crate::helpers::{check, check_equal, check_text, long_text};
 use std::cmp::Ordering;
 use std::process::Abort;
@@ -28,14 +28,14 @@ const MATCHES: &[(&str, &str, &str, bool)] = &[
     ("few_looks", "/*aab", "/aaab", true),
 ];
 
-/// A name, a pattern, a text, and whether it matches with `$` as an ordinary byte.
+/// A name, a pattern, a text, and whether it matches if `$` is an ordinary byte.
 const STARS: &[(&str, &[u8], &[u8], bool)] = &[
     ("dollar_stands_for_itself", b"/a$", b"/a$b", true),
     ("dollar_is_no_end", b"/a$", b"/a", false),
     ("first_piece_is_anchored", b"b*c", b"*abc", false),
 ];
 
-/// A name, a pattern, and its text with each run of stars as one star.
+/// A name, a pattern, and the pattern with each run of stars as one star.
 const COLLAPSED: &[(&str, &str, &str)] = &[
     ("three_stars", "/x***y/", "/x*y/"),
     ("stars_alone", "**", "*"),
@@ -45,7 +45,7 @@ const COLLAPSED: &[(&str, &str, &str)] = &[
     ("one_star_at_the_end", "/a*", "/a*"),
 ];
 
-/// A name, a pattern, another, and how the first compares with it.
+/// A name, a pattern, another one, and how the first compares with it.
 const ORDERS: &[(&str, &str, &str, Ordering)] = &[
     ("longer_first", "/ab", "/a", Ordering::Less),
     ("by_bytes", "/a", "/b", Ordering::Less),
@@ -54,7 +54,7 @@ const ORDERS: &[(&str, &str, &str, Ordering)] = &[
     ("equal", "/a", "/a", Ordering::Equal),
 ];
 
-/// The pattern, which isn't refused.
+/// The compiled pattern, which has to be accepted.
 pub fn regex_of(rt: &(impl Abort + AllocGlobal), name: &str, pattern: &str) -> MinRegex {
     MinRegex::new(rt.alloc(), pattern).expect(rt, name)
 }
@@ -64,19 +64,19 @@ fn copy_of(rt: &(impl Abort + AllocGlobal), name: &str, regex: &MinRegex) -> Min
     regex.clone(rt.alloc()).expect(rt, name)
 }
 
-/// The pattern's copy is equal to it, and shows as it does.
+/// Checks that a copy of the pattern is equal to it and has the same text.
 pub fn check_copy(rt: &(impl Abort + AllocGlobal), name: &str, regex: &MinRegex) {
     let copy = copy_of(rt, name, regex);
     check(rt, name, copy == *regex);
     check_text(rt, name, copy.as_str(), regex.as_str());
 }
 
-/// The text was looked at so often at most.
+/// Checks that there were at most this many looks.
 pub fn check_looks(rt: &impl Abort, name: &str, seen: u64, most: u64) {
     assert!(rt; seen <= most, "{name}: {seen} looks");
 }
 
-/// Matches a text by itself and by a view, and counts the looks.
+/// Matches the text with and without a view, and counts the looks.
 pub fn check_match(rt: &impl Abort, name: &str, regex: &MinRegex, text: &str, want: bool) {
     let mut view = View::new(text);
     let answers = [regex.is_match(text), regex.matches_view(&mut view)];
@@ -85,7 +85,7 @@ pub fn check_match(rt: &impl Abort, name: &str, regex: &MinRegex, text: &str, wa
     check_looks(rt, name, view.seen(), most);
 }
 
-/// Matches each text by its pattern and by the pattern's copy.
+/// Matches each text with the pattern and with a copy of it.
 fn check_matches(rt: &(impl Abort + AllocGlobal), cases: &[(&str, &str, &str, bool)]) {
     for (name, pattern, text, want) in cases {
         let regex = regex_of(rt, name, pattern);
@@ -126,7 +126,7 @@ fn each_run_of_stars_shows_as_one(rt: HostRuntime) {
     }
 }
 
-/// How the first pattern compares with the other one, and the other with it.
+/// Checks how the first pattern compares with the other one, and the other with it.
 fn check_order(rt: &impl Abort, name: &str, left: &MinRegex, right: &MinRegex, want: Ordering) {
     check_equal(
         rt,

@@ -1,4 +1,4 @@
-//! Printed texts.
+//! Printed robots, patterns and errors.
 use crate::helpers::{BOB, check, check_text, indented, long_text, robot_of, shown};
 use crate::patterns::regex_of;
 use std::process::Abort;
@@ -18,17 +18,17 @@ fn errors_have_their_texts(rt: HostRuntime) {
     }
 }
 
-/// Whether the text holds the part.
+/// Checks whether the text contains the part.
 fn check_holds(rt: &impl Abort, text: &str, part: &str, want: bool) {
     assert!(rt; text.contains(part) == want, "{part}: {text}");
 }
 
-/// The text of the file's robot.
+/// The file's robot, as printed.
 fn text_of(rt: &(impl Abort + AllocGlobal), file: &[u8]) -> String {
     shown(rt, "text", &robot_of(rt, "robot", BOB, file))
 }
 
-/// The robot shows its rule and its delay.
+/// Checks that the printed robot has its rule and its delay.
 fn check_rule_and_delay(rt: &(impl Abort + AllocGlobal), file: &[u8]) {
     let text = text_of(rt, file);
     check_holds(rt, text.as_str(), "/allow/", true);
@@ -65,14 +65,14 @@ fn a_robot_shows_a_longer_rule_first_with_all_its_stars(rt: HostRuntime) {
     );
 }
 
-/// The text holds the pattern. With a table, which has a number for each byte of a searched piece, it were more than twice
-/// as long.
+/// Checks that the printed text has the pattern, but no failure table. That has a number for each byte of a segment, so
+/// the text would be more than twice as long.
 fn check_without_table(rt: &impl Abort, text: &str, pattern: &str) {
     check_holds(rt, text, pattern, true);
     check(rt, text, text.len() < 2 * pattern.len());
 }
 
-/// The rule of the pattern shows without a table.
+/// Checks that a rule with the pattern is printed without a table.
 fn check_rule(rt: &(impl Abort + AllocGlobal), pattern: &str) {
     let file = format!(in rt.alloc(); "Disallow: {pattern}").expect(rt, "rule");
     check_without_table(rt, text_of(rt, file.as_bytes()).as_str(), pattern);

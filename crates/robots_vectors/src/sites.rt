@@ -1,16 +1,16 @@
-//! A file that is read once for all crawlers, and what each crawler gets of it.
+//! A file that is read once for all crawlers, and what it means for each crawler.
 use crate::helpers::{check, check_equal, long_text};
 use std::process::Abort;
 use texting_robots::{Decision, Error, Robot, Site};
 
-/// Two runs that share a name, a group for all others, a name that isn't UTF-8, and a name in two runs. Its first two lines
-/// are above all user-agent lines.
+/// Two runs of user-agent lines with a common name, a group for all others, a name that isn't UTF-8, and a name in two
+/// runs. The first two lines are above all user-agent lines.
 const FILE: &[u8] =
     b"Crawl-delay: 7\nDisallow: /nobody\nUser-agent: Alpha\nUser-agent: BETA\nDisallow: /a\nCrawl-delay: 2\n\
     User-agent: beta\nAllow: /b\nSitemap: https://example.com/s.xml\nUser-agent: *\nDisallow: /\nSitemap: /\xff\n\
     User-agent: caf\xe9\nDisallow: /e\nuser-agent: ALPHA\nDisallow: /c\nSitemap: /t";
 
-/// A crawler, its delay, and texts with what decides on them.
+/// A crawler, its group, its delay, and the decisions on some targets.
 struct CrawlerCase {
     agent: &'static str,
     is_named: bool,
@@ -60,7 +60,7 @@ fn site_of(rt: &(impl Abort + AllocGlobal), name: &str, file: &[u8]) -> Site {
     Site::new(rt.alloc(), file).expect(rt, name)
 }
 
-/// The sitemaps are these.
+/// Checks the sitemaps.
 fn check_sitemaps(rt: &impl Abort, name: &str, sitemaps: &[String], wanted: &[&str]) {
     check_equal(rt, name, &sitemaps.len(), &wanted.len());
     for (position, sitemap) in sitemaps.iter().enumerate() {
@@ -128,7 +128,7 @@ fn a_site_lists_names_and_sitemaps(rt: HostRuntime) {
     check_sitemaps(&rt, "sitemaps", &sitemaps, SITEMAPS);
 }
 
-/// The first 68 bytes of the file are its first four lines, so no rule below the names is read.
+/// The first 68 bytes of the file are its first four lines. So no rule comes after a user-agent line.
 #[test]
 fn a_limit_cuts_the_file(rt: HostRuntime) {
     let site = Site::with_limit(rt.alloc(), FILE, 68).expect(&rt, "site");
@@ -154,7 +154,7 @@ fn a_file_without_names_is_for_everyone(rt: HostRuntime) {
     check_equal(&rt, "line", &robot.decision_prepared("/x").line, &Some(1));
 }
 
-/// A rule that is too long is an error for its own crawler alone, and of its robot alone.
+/// A rule that is too long is an error only for the crawler that it applies to, and only when its robot is made.
 #[test]
 fn a_rule_that_is_too_long_is_its_own_crawlers(rt: HostRuntime) {
     let file = long_text(

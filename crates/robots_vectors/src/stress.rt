@@ -1,4 +1,4 @@
-//! Long files and long texts: each is answered, and no call wants memory.
+//! Long files and long texts: each call succeeds, and none returns `Error::Memory`.
 use crate::helpers::{
     BOB, TextParts, check, check_equal, check_no_delay_or_sitemap, check_nothing, check_prepared,
     check_text, check_url, indented, long_robot, long_text, robot_of,
@@ -11,7 +11,7 @@ use texting_robots::Robot;
 use texting_robots::parser::{Line, robots_txt_parse};
 use texting_robots::view::View;
 
-/// A file and a text, whether it may be fetched, and how many looks at most say so.
+/// A file and a match target, whether it may be fetched, and the maximum number of looks for the verdict.
 struct LookCase {
     name: &'static str,
     file: TextParts,
@@ -66,31 +66,31 @@ const LOOKS: &[LookCase] = &[
     },
 ];
 
-/// Texts that stars match.
+/// Texts that a pattern of stars matches.
 const STARRED: &[&str] = &["", "/", "/x", "$", "/robots.txt"];
 
-/// A file, and whether it lets a URL of 100,000 bytes be fetched.
+/// A file, and whether it allows a URL of 100,000 bytes.
 const LONG_URL: &[(&str, bool)] = &[
     ("Disallow: /*a$", false),
     ("Disallow: /*a$\nAllow: /aaaaaa", true),
     ("Disallow: /*ab", true),
 ];
 
-/// How many looks at the text the robot's verdict takes.
+/// The number of looks that the robot's verdict takes.
 fn looks_of_verdict(robot: &Robot, text: &str) -> u64 {
     let mut view = View::new(text);
     robot.allowed_view(&mut view);
     view.seen()
 }
 
-/// How many looks at the text the verdict with its line takes.
+/// The number of looks that the robot's decision takes.
 fn looks_of_decision(robot: &Robot, text: &str) -> u64 {
     let mut view = View::new(text);
     robot.decision(&mut view);
     view.seen()
 }
 
-/// Asks the robot of a form of the case's file, and counts the looks.
+/// Checks the verdict of a robot for this file, and counts the looks.
 fn check_case(rt: &(impl Abort + AllocGlobal), case: &LookCase, text: &str, file: &[u8]) {
     let robot = robot_of(rt, case.name, BOB, file);
     check_prepared(rt, case.name, &robot, text, case.allowed);
@@ -113,7 +113,7 @@ fn long_texts_have_their_lines(rt: HostRuntime) {
     );
 }
 
-/// The text has as many lines, each of them this one.
+/// Checks that the text has this many lines, all equal to this one.
 fn check_all_lines(rt: &(impl Abort + AllocGlobal), text: &[u8], count: usize, want: Line<'_>) {
     let lines = robots_txt_parse(rt.alloc(), text).expect(rt, "lines");
     check_equal(rt, "lines", &lines.len(), &count);
@@ -138,7 +138,7 @@ fn five_megabytes(rt: HostRuntime) {
     check_url(&rt, "allowed", &robot, "/public", true);
 }
 
-/// Asks the robots of some files for the URL.
+/// Checks the verdicts of some files on the URL.
 fn check_long_url(rt: &(impl Abort + AllocGlobal), url: &str) {
     for (file, want) in LONG_URL {
         let robot = robot_of(rt, file, BOB, file.as_bytes());
@@ -193,7 +193,7 @@ fn a_million_nul_give_nothing(rt: HostRuntime) {
     check_nothing(&rt, "many_nul", &robot);
 }
 
-/// Nothing here asks for memory, so it passes in `rt try --test --fail-alloc 1` too, where the first request is refused.
+/// Nothing here allocates, so the test also passes in `rt try --test --fail-alloc 1`, where the first allocation fails.
 #[test]
 fn many_lf_give_nothing(rt: HostRuntime) {
     let robot = robot_of(&rt, "many_lf", BOB, &[b'\n'; 65_536]);

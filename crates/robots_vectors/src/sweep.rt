@@ -1,4 +1,4 @@
-//! Every small text and every small input: with ample memory each call answers, and no call for want of it.
+//! Every small text and every small input. With enough memory each call succeeds.
 use crate::helpers::{BOB, check, check_no_delay_or_sitemap, check_text, robot_of};
 use crate::lines::check_lines;
 use crate::patterns::{check_copy, regex_of};
@@ -6,13 +6,13 @@ use crate::urls::{check_address, check_prepared_text};
 use std::process::Abort;
 use texting_robots::parser::{Line, robots_txt_parse};
 
-/// How many texts of at most six bytes there are out of `/`, `a`, `*` and `$`.
+/// The number of texts with at most six bytes, each of them `/`, `a`, `*` or `$`.
 const SMALL_TEXTS: u32 = 5_461;
 
-/// How many inputs of at most two bytes there are.
+/// The number of inputs with at most two bytes.
 const SMALL_INPUTS: u32 = 65_793;
 
-/// The text with this number out of `/`, `a`, `*` and `$`: the empty one is 0, and shorter ones come first.
+/// The text with this index. Index 0 is the empty text, and shorter texts come first.
 fn small_text(rt: &(impl Abort + AllocGlobal), number: u32) -> String {
     let mut text = String::new(rt.alloc());
     let mut left = number;
@@ -33,7 +33,7 @@ fn small_text(rt: &(impl Abort + AllocGlobal), number: u32) -> String {
     text
 }
 
-/// The input with this number, in the same order.
+/// The input with this index, in the same order.
 fn small_input(rt: &(impl Abort + AllocGlobal), number: u32) -> Vec<u8> {
     let mut input = Vec::new(rt.alloc());
     let mut left = number;
@@ -48,32 +48,32 @@ fn small_input(rt: &(impl Abort + AllocGlobal), number: u32) -> Vec<u8> {
     input
 }
 
-/// The text as a URL, which it isn't by itself.
+/// Checks the match target of the text, which isn't a URL, and the robots.txt address of a URL with it.
 fn check_url(rt: &(impl Abort + AllocGlobal), text: &str) {
     check_prepared_text(rt, text, text, if text.is_empty() { "/" } else { text });
     let url = format!(in rt.alloc(); "http://a/{text}").expect(rt, text);
     check_address(rt, text, url.as_str(), "http://a/robots.txt");
 }
 
-/// The text as a file.
+/// Checks the text as a file.
 fn check_file(rt: &(impl Abort + AllocGlobal), text: &str) {
     let lines = [Line::Raw(text.as_bytes())];
     let count = if text.is_empty() { 0 } else { 1 };
     check_lines(rt, text, text.as_bytes(), &lines[..count]);
 }
 
-/// The text as the value of a file's one rule.
+/// Checks the text as the value of the only rule in a file.
 fn check_rule(rt: &(impl Abort + AllocGlobal), text: &str) {
     let file = format!(in rt.alloc(); "Disallow: {text}").expect(rt, text);
     let robot = robot_of(rt, text, BOB, file.as_bytes());
     check_no_delay_or_sitemap(rt, text, &robot);
     let answer = robot.allowed(rt.alloc(), text).expect(rt, text);
-    // a pattern without `$` matches itself, since its stars may stand for stars; one of no bytes allows
+    // a pattern without `$` matches itself, since a star matches a star; an empty Disallow allows
     let is_sure = !text.contains('$');
     check(rt, text, !is_sure || answer == text.is_empty());
 }
 
-/// The text in each of these places.
+/// Checks the text as a pattern, a URL, a file and a rule.
 fn check_small(rt: &(impl Abort + AllocGlobal), text: &str) {
     check_copy(rt, text, &regex_of(rt, text, text));
     check_url(rt, text);
@@ -90,7 +90,7 @@ fn small_texts(rt: HostRuntime) {
     check_text(&rt, "last", last.as_str(), "$$$$$$");
 }
 
-/// Whether each line is raw.
+/// Whether all lines are ignored.
 fn are_raw(lines: &[Line<'_>]) -> bool {
     for line in lines {
         if !matches!(line, Line::Raw(_)) {
@@ -100,7 +100,7 @@ fn are_raw(lines: &[Line<'_>]) -> bool {
     true
 }
 
-/// The input as a file: its lines are raw, and its robot has nothing.
+/// Checks the input as a file: all lines are ignored, and the robot has no rule, delay or sitemap.
 fn check_input(rt: &(impl Abort + AllocGlobal), input: &[u8]) {
     let lines = robots_txt_parse(rt.alloc(), input).expect(rt, "lines");
     let robot = robot_of(rt, "robot", BOB, input);

@@ -1,10 +1,10 @@
-//! Prepared texts, and the addresses of robots files.
+//! Match targets and robots.txt addresses.
 use crate::helpers::{check_equal, check_text, prepared};
 use std::process::Abort;
 use texting_robots::get_robots_url;
 use url::{ParseError, Url};
 
-/// A name, a URL or a path, and its prepared text.
+/// A name, a URL or a path, and its match target.
 const PREPARED: &[(&str, &str, &str)] = &[
     ("empty_text", "", "/"),
     ("host_alone", "https://example.com", "/"),
@@ -94,7 +94,7 @@ const PREPARED: &[(&str, &str, &str)] = &[
     ("fragment_behind_the_host", "https://example.com#a", "/#a"),
 ];
 
-/// A name, a URL, and the address of its robots file.
+/// A name, a URL, and its robots.txt address.
 const ADDRESSES: &[(&str, &str, &str)] = &[
     (
         "path",
@@ -148,7 +148,7 @@ const ADDRESSES: &[(&str, &str, &str)] = &[
     ),
 ];
 
-/// A name, a URL that has no robots file, and why.
+/// A name, a URL without a robots.txt address, and the error.
 const NO_ADDRESS: &[(&str, &str, ParseError)] = &[
     (
         "other_scheme",
@@ -166,7 +166,7 @@ const NO_ADDRESS: &[(&str, &str, ParseError)] = &[
     ),
 ];
 
-/// A name, a text that is no URL, its prepared text, and why it is none.
+/// A name, a string that isn't a URL, its match target, and the error of `url`.
 const NO_URLS: &[(&str, &str, &str, ParseError)] = &[
     (
         "path_alone",
@@ -261,24 +261,24 @@ const NO_URLS: &[(&str, &str, &str, ParseError)] = &[
     ),
 ];
 
-/// The URL or path has this prepared text.
+/// Checks the match target of the URL or path.
 pub fn check_prepared_text(rt: &(impl Abort + AllocGlobal), name: &str, url: &str, want: &str) {
     check_text(rt, name, prepared(rt, name, url).as_str(), want);
 }
 
-/// The URL's robots file has this address.
+/// Checks the robots.txt address of the URL.
 pub fn check_address(rt: &(impl Abort + AllocGlobal), name: &str, url: &str, want: &str) {
     let address = get_robots_url(rt.alloc(), url).expect(rt, name);
     check_text(rt, name, address.as_str(), want);
 }
 
-/// The URL has no robots file, for this cause.
+/// Checks the error for a URL without a robots.txt address.
 fn check_no_address(rt: &(impl Abort + AllocGlobal), name: &str, url: &str, want: ParseError) {
     let error = get_robots_url(rt.alloc(), url).expect_err(rt, name);
     check_equal(rt, name, &error, &want);
 }
 
-/// The text is no URL, for this cause.
+/// Checks that the string isn't a URL, and the error.
 fn check_no_url(rt: &(impl Abort + AllocGlobal), name: &str, text: &str, want: ParseError) {
     let error = Url::parse(rt.alloc(), text).expect_err(rt, name);
     check_equal(rt, name, &error, &want);

@@ -1,8 +1,8 @@
-//! What no stored run of `robots_verdict` tells: verdicts on the empty text, which its input can't name, and that a group without
-//! lines gives nothing.
+//! What no golden test of `robots_verdict` can check: verdicts on the empty string, which its input can't contain, and
+//! that a group without rules has no effect.
 use crate::helpers::{BOB, check_nothing, check_prepared, check_url, robot_of};
 
-/// A name, a file, and whether it lets the empty text be fetched.
+/// A name, a file, and whether it allows the empty string.
 const EMPTY: &[(&str, &str, bool)] = &[
     ("empty_file", "", true),
     ("empty_rules", "Disallow:\nAllow:", true),
@@ -27,7 +27,7 @@ fn dollar_alone_denies_empty_target(rt: HostRuntime) {
     check_prepared(&rt, name, &robot, "/", true);
 }
 
-/// The agent of a group, and another.
+/// The crawler of a group, and another one.
 const AGENTS: &[&str] = &["A", BOB];
 
 #[test]

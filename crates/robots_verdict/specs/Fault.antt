@@ -1,4 +1,4 @@
--- What the program says where it stops, and the status that it ends with.
+-- The message for each error, and the exit status.
 use Rattle.std.specs.Prelude.{ℕ, List, Option, None, Some, Result, Ok, Err, codes}
 use Rattle.texting_robots.specs.declared.error.Error.{Error}
 use Rattle.texting_robots.specs.declared.error.Error.TheVariants as error
@@ -24,23 +24,23 @@ status_of HeaderNotUtf8 = 2
 status_of InvalidRule = 3
 status_of Memory = 4
 
--- the status that the process ends with
+-- the exit status of the process
 abbrev pub status_after : Result (Unit {0}) Fault → ℕ
 status_after (Ok _) = 0
 status_after (Err fault) = status_of fault
 
--- what it says before on standard error
+-- the message on standard error
 abbrev pub message_after : Result (Unit {0}) Fault → Option (List ℕ)
 message_after (Ok _) = None
 message_after (Err fault) = Some (text_of fault)
 
--- what an error of the library comes to; the library never answers InvalidRobots
+-- the error of the program for an error of the library, which never returns `InvalidRobots`
 abbrev pub fault_of : Error → Fault
 fault_of error.InvalidRobots = Memory
 fault_of error.InvalidRule = InvalidRule
 fault_of error.Memory = Memory
 
--- what a fault of reading comes to
+-- the error of the program for a failed read
 abbrev pub fault_of_read : ReadFault → Fault
 fault_of_read read.Read = Read
 fault_of_read read.Memory = Memory

@@ -1,4 +1,4 @@
--- What an input of the program is made of.
+-- The parts of an input.
 use Rattle.std.specs.Prelude.{◌≡◌, ◌≢◌, ◌⊎◌, ℕ, List, [], ◌∷◌, ◌++◌, Any}
 use Rattle.std.specs.{Prelude.IsUtf8, List.AllByRecursion as Each, Io.BufRead.strip_last}
 use Rattle.robots_io.specs.Lines.{lf}
@@ -6,33 +6,33 @@ use Rattle.robots_io.specs.Lines.{lf}
 abbrev pub cr : ℕ
 cr = 13
 
--- the line holds no LF
+-- the line contains no LF
 abbrev pub IsOneLine : List ℕ → Type 0
 IsOneLine line = Each (λ byte. byte ≢ lf) line
 
--- the input is a line, its LF and the rest; the text of the line is all of it but one CR at its end
+-- the input is a line, its LF and the rest; `text` is the content of the line, without a CR at its end
 pub record BeginsWithLine (input text rest : List ℕ) : Type 0 where
   pub line : List ℕ
   pub whole : input ≡ line ++ lf ∷ rest
   pub one : IsOneLine line
   pub text_of : text ≡ strip_last cr line
 
--- the input is a line for each URL, none with an empty text, then a line with an empty text, and the file
+-- the input is a line for each URL, none of them empty, then an empty line, and the file
 abbrev pub AreUrlLines : List ℕ → List (List ℕ) → List ℕ → Type 0
 AreUrlLines input [] file = BeginsWithLine input [] file
 AreUrlLines input (url ∷ urls) file =
     (rest : List ℕ) × BeginsWithLine input url rest × (url ≢ []) × AreUrlLines rest urls file
 
--- the input is the agent's line, and then the lines of the URLs and the file
+-- the input is the line with the crawler's name, and then the lines of the URLs and the file
 pub record IsInput (input agent : List ℕ) (urls : List (List ℕ)) (file : List ℕ) : Type 0 where
   pub rest : List ℕ
   pub agent_line : BeginsWithLine input agent rest
   pub url_lines : AreUrlLines rest urls file
 
--- the agent and each URL are UTF-8
+-- the crawler's name and each URL are UTF-8
 abbrev pub AreUtf8 : List ℕ → List (List ℕ) → Type 0
 AreUtf8 agent urls = IsUtf8 agent × Each IsUtf8 urls
 
--- the agent isn't UTF-8, or some URL isn't
+-- the crawler's name or some URL isn't UTF-8
 abbrev pub HoldNotUtf8 : List ℕ → List (List ℕ) → Type 0
 HoldNotUtf8 agent urls = (¬ IsUtf8 agent) ⊎ Any (λ url. ¬ IsUtf8 url) urls

@@ -1,8 +1,8 @@
--- What the steps of the program do.
+-- Internal specifications, which follow the code.
 use Rattle.std.specs.Prelude.{◌≡◌, ◌≢◌, ℕ, ◌<◌, List, length, slice_index}
 use Rattle.robots_io.specs.Lines.{lf}
 
--- the first LF of the input stands at this place
+-- this is the index of the input's first LF
 pub record IsFirstLf (input : List ℕ) (place : ℕ) : Type 0 where
   pub within : place < length input
   pub feed : slice_index input place ≡ lf

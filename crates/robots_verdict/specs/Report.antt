@@ -1,4 +1,4 @@
--- What the program writes of what it reads.
+-- The report on an input.
 use Rattle.std.specs.Prelude.{◌≡◌, ℕ, List, ◌∷◌}
 use Rattle.std.specs.Prelude.{◌++◌, Option, Some, None, Result, Ok, Err, codes, decimal, map, take}
 use Rattle.std.specs.List.{AllZip}
@@ -22,20 +22,21 @@ delay_line (Some micros) = codes "delay " ++ decimal micros
 abbrev pub sitemap_line : List ℕ → List ℕ
 sitemap_line sitemap = codes "sitemap " ++ sitemap
 
--- a URL is shown as it is
+-- the URL is printed unchanged
 abbrev pub as_is : List ℕ → List ℕ
 as_is url = url
 
--- the text is the agent's delay, the file's sitemaps and the verdict on each URL, a line each
+-- the text has a line with the crawler's delay, one for each sitemap of the file, and one with the verdict
+-- on each URL
 pub record IsReportText (agent : List ℕ) (urls : List (List ℕ)) (file text : List ℕ) : Type 0 where
   pub verdict_lines : List (List ℕ)
   pub verdicts : AllZip (IsVerdictLine as_is (placed_rules agent (lines_read file))) urls verdict_lines
   pub whole : text ≡ ended (delay_line (delay_for agent (lines_read file))
       ∷ (map sitemap_line (sitemaps_in (lines_read file)) ++ verdict_lines))
 
--- ---- the report of an input
+-- ---- the report on an input
 
--- the input has this fault
+-- the input is the cause of this error
 abbrev pub HasFault : List ℕ → Fault → Type 0
 HasFault input Read = ⊥
 HasFault input Write = ⊥
@@ -48,7 +49,7 @@ HasFault input InvalidRule =
     × AreUtf8 agent urls × IsFileRejected agent (take file_limit file)
 HasFault input Memory = ⊥
 
--- the text of the report, or the fault of the input
+-- the report, or the error that the input causes
 abbrev pub IsReport : List ℕ → Result (List ℕ) Fault → Type 0
 IsReport input (Ok text) =
     (agent : List ℕ) × (urls : List (List ℕ)) × (file : List ℕ)
@@ -56,13 +57,13 @@ IsReport input (Ok text) =
     × IsReportText agent urls file text
 IsReport input (Err fault) = HasFault input fault
 
--- ---- what is written of it
+-- ---- what is written
 
--- the writer holds what it held, and then the report of the input
+-- the writer contains its previous content and then the report on the input
 abbrev pub AppendsReport : Option (List ℕ) → Option (List ℕ) → List ℕ → Type 0
 AppendsReport old new input = (text : List ℕ) × IsReport input (Ok text) × Appends old new text
 
--- the writer holds what it held, and then a beginning of the report of the input
+-- the writer contains its previous content and then a prefix of the report on the input
 abbrev pub AppendsReportBeginning : Option (List ℕ) → Option (List ℕ) → List ℕ → Type 0
 AppendsReportBeginning old new input = (text : List ℕ) × IsReport input (Ok text)
     × AppendsBeginning old new text

@@ -1,19 +1,19 @@
-//! How the process ends.
+//! The exit status and the message of the process.
 ghost use Rattle.std.specs.Prelude.{◌≡◌};
 ghost use Rattle.std.specs.Option.{option_map};
 ghost use Rattle.robots_verdict.specs.Fault.{message_after, status_after};
 
 use crate::fault::Fault;
 
-/// What the process ends with.
+/// How the process ends.
 #[derive(Drop)]
 pub struct Exit {
     pub status: u8,
-    /// What is said on standard error, if something is.
+    /// The message on standard error, if there is one.
     pub text: Option<&'static str>,
 }
 
-/// What the process ends with after a run that answered this.
+/// How the process ends after a run with this result.
 pub fn exit_of(outcome: &Result<(), Fault>) -> Exit
     ensures status { result.status ≡ status_after outcome.now }
     ensures text { option_map (λ text. text.now) result.text ≡ message_after outcome.now }

@@ -1,22 +1,22 @@
-//! Why the program stopped.
+//! The errors that end a run.
 use robots_io::streams::{ReadFault, WriteFault};
 use std::alloc::{AllocError, AllocFailed};
 use texting_robots::Error;
 
-/// Why the program stopped.
+/// The error that ended a run.
 #[derive(Drop)]
 pub enum Fault {
-    /// A read failed, or the input didn't end within the reads that are made.
+    /// A read failed, or the input didn't end within the maximum number of reads.
     Read,
-    /// A write or a flush failed, or a write took nothing.
+    /// A write or a flush failed, or a write accepted no bytes.
     Write,
-    /// No line after the first one has an empty text.
+    /// The input has no empty line after its first line.
     NoEmptyLine,
     /// The crawler's name or a URL isn't UTF-8.
     HeaderNotUtf8,
-    /// A rule of the crawler's holds `$` and is too long.
+    /// A rule that applies to the crawler contains `$` and is too long.
     InvalidRule,
-    /// Memory was refused, or a URL came to more bytes than `url` can count.
+    /// An allocation failed, or a URL is too long for the crate `url`.
     Memory,
 }
 
@@ -24,7 +24,7 @@ impl Fault {
     ghost use Rattle.std.specs.Prelude.{◌≡◌};
     ghost use Rattle.robots_verdict.specs.Fault.{status_of, text_of};
 
-    /// What is printed of it.
+    /// The message on standard error.
     pub fn text(&self) -> &'static str
         ensures { result.now ≡ text_of self.now }
     {
@@ -38,7 +38,7 @@ impl Fault {
         }
     }
 
-    /// The status that the process ends with.
+    /// The exit status of the process.
     pub fn status(&self) -> u8
         ensures { result ≡ status_of self.now }
     {

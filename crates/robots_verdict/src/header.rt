@@ -9,7 +9,7 @@ ghost use Rattle.robots_verdict.specs.Internal.{IsFirstLf};
 use crate::fault::Fault;
 use std::alloc::Global;
 
-/// What an input is made of.
+/// The parts of an input.
 #[derive(Drop)]
 pub struct Header<'a> {
     pub agent: &'a str,
@@ -17,7 +17,7 @@ pub struct Header<'a> {
     pub file: &'a [u8],
 }
 
-/// The same, before anything is known of its bytes.
+/// The parts of an input, before the header is known to be UTF-8.
 #[derive(Drop)]
 struct RawInput<'a> {
     agent: &'a [u8],
@@ -25,7 +25,7 @@ struct RawInput<'a> {
     file: &'a [u8],
 }
 
-/// A line without one CR at its end.
+/// The line without a CR at its end.
 #[tactic(auto, using(crate::proofs::InputLemmas::text_taken, crate::proofs::InputLemmas::text_kept))]
 fn without_cr<'a>(line: &'a [u8]) -> &'a [u8]
     ensures { result.now ≡ strip_last cr line.now }
@@ -36,14 +36,14 @@ fn without_cr<'a>(line: &'a [u8]) -> &'a [u8]
     if *last == b'\r' { text } else { line }
 }
 
-/// Where the first LF stands, if there is one.
+/// The index of the first LF.
 fn find_lf(input: &[u8]) -> Option<usize>
     ensures { MatchOption result (IsOneLine input.now) (λ place. IsFirstLf input.now place) }
 {
     input.iter().position(|byte| *byte == b'\n')
 }
 
-/// The text of the first line and what follows its LF, if there is an LF.
+/// The content of the first line, and the bytes after its LF; `None` if there is no LF.
 fn first_line<'a>(input: &'a [u8]) -> Option<(&'a [u8], &'a [u8])>
     ensures { MatchOption result (IsOneLine input.now)
         (λ found. BeginsWithLine input.now found.0.now found.1.now) }
@@ -52,7 +52,7 @@ fn first_line<'a>(input: &'a [u8]) -> Option<(&'a [u8], &'a [u8])>
     Some((without_cr(&input[..end]), &input[end + 1..]))
 }
 
-/// Splits an input at its first empty line after the first line.
+/// Splits an input at its first empty line after the line with the crawler's name.
 fn split<'a>(alloc: Global, input: &'a [u8]) -> Result<RawInput<'a>, Fault>
     ensures ok { IfOk result (λ parts. IsInput input.now parts.agent.now
         (map (λ url. url.now) parts.urls.items) parts.file.now) }
@@ -76,7 +76,7 @@ fn split<'a>(alloc: Global, input: &'a [u8]) -> Result<RawInput<'a>, Fault>
     Err(Fault::NoEmptyLine)
 }
 
-/// The bytes as a text.
+/// The bytes as a string.
 fn text_of<'a>(bytes: &'a [u8]) -> Result<&'a str, Fault>
     ensures ok { IfOk result (λ text. (text.now ≡ bytes.now) × IsUtf8 bytes.now) }
     ensures fault { IfErr result (λ fault. (fault ≡ Fault.HeaderNotUtf8) × ¬ IsUtf8 bytes.now) }
@@ -87,7 +87,7 @@ fn text_of<'a>(bytes: &'a [u8]) -> Result<&'a str, Fault>
     }
 }
 
-/// The bytes of each URL as a text.
+/// Each URL as a string.
 fn texts_of<'a>(alloc: Global, urls: &[&'a [u8]]) -> Result<Vec<&'a str>, Fault>
     ensures ok { IfOk result (λ texts. (map (λ url. url.now) texts.items ≡ map (λ url. url.now) urls.now)
         × Each IsUtf8 (map (λ url. url.now) urls.now)) }
@@ -101,7 +101,7 @@ fn texts_of<'a>(alloc: Global, urls: &[&'a [u8]]) -> Result<Vec<&'a str>, Fault>
     Ok(texts)
 }
 
-/// Reads the header of an input. Where both faults could be answered, it is `NoEmptyLine`.
+/// Parses the header of an input. If both errors apply, it returns `NoEmptyLine`.
 pub(crate) fn read_header<'a>(alloc: Global, input: &'a [u8]) -> Result<Header<'a>, Fault>
     ensures input { IfOk result (λ header. IsInput input.now header.agent.now
         (map (λ url. url.now) header.urls.items) header.file.now) }

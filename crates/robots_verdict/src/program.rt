@@ -1,4 +1,4 @@
-//! The program over a reader and a writer.
+//! The program for any reader and writer.
 ghost use Rattle.std.specs.Prelude.{◌≢◌, Err, IfErr, IfSome, IsErrOf, OnOk};
 ghost use Rattle.std.specs.Io.KnownBytes.{Keeps};
 ghost use Rattle.robots_verdict.specs.Report.{AppendsReport, AppendsReportBeginning, IsReport};
@@ -9,12 +9,16 @@ use robots_io::streams::{read_all, write_out};
 use std::alloc::Global;
 use std::io::{Read, Write};
 
-/// Reads an input to its end, makes its report, and then writes that.
+/// Reads an input to its end, and then writes its report.
 ///
-/// The clauses are about a reader and a writer that tell their bytes; of standard input and output nothing is claimed.
+/// The contract applies to a reader and a writer whose bytes the specification can observe; it claims nothing about the
+/// bytes of standard input and output.
 ///
-/// `Fault::Read` tells of a read that failed or of reads that ran out, `Fault::Write` of a write or a flush that failed or a
-/// write that took nothing, and `Fault::Memory` of memory that was refused; no clause says when.
+/// # Errors
+///
+/// `Fault::Read` if a read failed or too many would be needed, `Fault::Write` if a write or a flush failed or a write
+/// accepted no bytes, and `Fault::Memory` if an allocation failed or a URL is too long for `url`. The contract doesn't
+/// state when these occur. The other errors are those of the input.
 pub fn run<R: Read, W: Write>(alloc: Global, reader: &mut R, writer: &mut W) -> Result<(), Fault>
     ensures ok { OnOk result (IfSome (R.remaining reader.old) (AppendsReport (W.contents writer.old) (W.contents writer.new))) }
     ensures no_empty_line { IsErrOf result Fault.NoEmptyLine

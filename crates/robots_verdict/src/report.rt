@@ -1,4 +1,4 @@
-//! The report of an input.
+//! The report on an input.
 ghost use Rattle.std.specs.Prelude.{◌≡◌, ◌≢◌, ◌++◌, ◌∷◌, [], IfErr, IfOk, OnOk, Ok, map, string_bytes};
 ghost use Rattle.robots_io.specs.Lines.{ended};
 ghost use Rattle.robots_io.specs.Verdicts.{AddsVerdict, AddsVerdicts};
@@ -12,7 +12,7 @@ use robots_io::verdicts::{counted_decision_on, push_decision};
 use std::alloc::{AllocError, Global};
 use texting_robots::{Error, Robot};
 
-/// Adds the line of the delay, in microseconds.
+/// Appends the line with the delay in microseconds.
 fn push_delay(text: &mut String, delay: Option<u64>) -> Result<(), AllocError>
     ensures { OnOk result (string_bytes text.new ≡ string_bytes text.old
         ++ ended (delay_line delay ∷ [])) }
@@ -23,7 +23,7 @@ fn push_delay(text: &mut String, delay: Option<u64>) -> Result<(), AllocError>
     }
 }
 
-/// Adds the lines of the sitemaps.
+/// Appends a line for each sitemap.
 fn push_sitemaps(text: &mut String, sitemaps: &[String]) -> Result<(), AllocError>
     ensures { OnOk result (string_bytes text.new ≡ string_bytes text.old
         ++ ended (map sitemap_line (map string_bytes sitemaps.now))) }
@@ -34,7 +34,7 @@ fn push_sitemaps(text: &mut String, sitemaps: &[String]) -> Result<(), AllocErro
     Ok(())
 }
 
-/// Adds the line of the robot's verdict on a URL.
+/// Appends the line with the robot's verdict on a URL.
 fn push_verdict(alloc: Global, text: &mut String, robot: &Robot, url: &str) -> Result<(), Error>
     ensures ok { OnOk result (AddsVerdict as_is robot.now.rules url.now (string_bytes text.old) (string_bytes text.new)) }
     ensures memory { IfErr result (λ error. error ≡ Error.Memory) }
@@ -44,7 +44,7 @@ fn push_verdict(alloc: Global, text: &mut String, robot: &Robot, url: &str) -> R
     Ok(push_line(text, "", url)?)
 }
 
-/// Adds the lines of the robot's verdicts on the URLs.
+/// Appends a line with the robot's verdict for each URL.
 fn push_verdicts(
     alloc: Global,
     text: &mut String,
@@ -61,7 +61,7 @@ fn push_verdicts(
     Ok(())
 }
 
-/// The report of an input.
+/// The report on an input.
 pub(crate) fn report_of(alloc: Global, input: &[u8]) -> Result<String, Fault>
     ensures ok { IfOk result (λ text. IsReport input.now (Ok (string_bytes text))) }
     ensures fault { IfErr result (λ fault. fault ≢ Fault.Memory → HasFault input.now fault) }

@@ -1,4 +1,4 @@
-//! What no run of the process shows: its output can't fail at the flush alone.
+//! A case that no run of the process can test: only the flush fails.
 use crate::fault::Fault;
 use crate::program::run;
 use robots_io::fakes::Sink;

@@ -16,7 +16,7 @@ use Rattle.robots_warnings.specs.Rules.{holds_otherwise, is_expression, is_quote
 use Rattle.robots_warnings.specs.Tokens.{has_slash, has_space_around, is_product_token}
 use Rattle.robots_warnings.specs.Urls.{begins_as_url, is_absolute_url, is_invalid_url, is_url_or_path}
 
--- a warning, and whether it is given
+-- a warning, and whether its condition holds
 abbrev pub Check : Type 0
 Check = Cause × Bool
 
@@ -29,25 +29,25 @@ file_checks facts =
     ∷ (cause.NoUserAgent, facts.kinds.rule && not facts.kinds.user_agent)
     ∷ []
 
--- the crawler that is asked about
+-- the product token that the user passed
 abbrev pub agent_checks : List ℕ → List Check
 agent_checks agent =
     (cause.SpaceAroundAgent, has_space_around agent)
     ∷ (cause.VersionInAgent, has_slash agent)
     ∷ []
 
--- a URL that is asked about
+-- a URL that the user passed
 abbrev pub url_checks : List ℕ → List Check
 url_checks url =
     (cause.NotAUrlOrPath, not (is_url_or_path url))
     ∷ (cause.InvalidUrl, is_invalid_url url)
     ∷ []
 
--- a line with this body that is neither a directive nor empty nor a comment
+-- the content of an ignored line that is neither empty nor a comment
 abbrev pub ignored_checks : List ℕ → List Check
 ignored_checks body = (meant_by body, true) ∷ []
 
--- the field name of a directive with this body
+-- the field name in the content of a directive
 abbrev pub field_checks : List ℕ → List Check
 field_checks body =
     (cause.NonstandardField, is_misspelled body)
@@ -72,7 +72,7 @@ rule_checks value =
     ∷ (cause.DotSegment, has_dot_segment value)
     ∷ []
 
--- a day, in microseconds
+-- microseconds per day
 abbrev pub day : ℕ
 day = 86400000000
 
@@ -84,7 +84,7 @@ delay_checks micros = (cause.DelayOverADay, nat_lt day micros) ∷ []
 abbrev pub sitemap_checks : List ℕ → List Check
 sitemap_checks value = (cause.SitemapNotAbsolute, not (is_absolute_url value)) ∷ []
 
--- a line, by the number of the last rule or delay and by what is above the line
+-- the position of a line, determined by the number of the last rule or delay and by what precedes the line
 abbrev pub position_checks : Option ℕ → Preceding → Label → List Check
 position_checks last preceding label =
     (cause.RuleBeforeUserAgent, is_above_agents label)
@@ -94,12 +94,12 @@ position_checks last preceding label =
 
 -- ---- a line
 
--- any line but one that is ignored
+-- any line that isn't ignored
 abbrev pub is_directive : LineValue → Bool
 is_directive (Raw body) = false
 is_directive _ = true
 
--- what a line holds; rules are checked where `is_asked` says so
+-- the value of a line; rules are only checked if `is_asked` is true
 abbrev pub value_checks : Bool → LineValue → List Check
 value_checks is_asked (UserAgent value) = user_agent_checks value
 value_checks is_asked (Allow value) = if is_asked then rule_checks value else []
@@ -109,7 +109,7 @@ value_checks is_asked (CrawlDelay (Some micros)) = delay_checks micros
 value_checks is_asked (Sitemap value) = sitemap_checks value
 value_checks is_asked (Raw body) = if is_blank body then [] else ignored_checks body
 
--- a line with this body
+-- a line with this content
 abbrev pub line_checks : Bool → LineValue → List ℕ → List Check
 line_checks is_asked line body =
     (if is_directive line then field_checks body else []) ++ value_checks is_asked line

@@ -1,4 +1,4 @@
--- What is found out about a whole file, once.
+-- What the warnings have to know about a file as a whole.
 use Rattle.std.specs.Prelude.{ℕ, ◌==◌, Bool, true, false, nat_eq, nat_le, nat_lt, not, ◌||◌}
 use Rattle.std.specs.Prelude.{◌&&◌, List, [], ◌∷◌, codes, length, take}
 use Rattle.std.specs.List.{list_any, starts_with}
@@ -11,7 +11,7 @@ use Rattle.robots_warnings.specs.File.{is_blank, lines_of}
 
 -- ---- the lines
 
--- neither empty nor a comment
+-- the line is neither empty nor a comment
 abbrev pub has_text : LineValue → Bool
 has_text (Raw body) = not (is_blank body)
 has_text _ = true
@@ -28,7 +28,7 @@ is_extra (CrawlDelay delay) = true
 is_extra (Sitemap value) = true
 is_extra _ = false
 
--- which kinds of lines are among these
+-- the kinds of these lines
 abbrev pub kinds_of : List LineValue → LineKinds
 kinds_of lines = record {
   text = list_any has_text lines;
@@ -39,33 +39,34 @@ kinds_of lines = record {
 
 -- ---- the bytes
 
--- every other byte is a NUL: the first, the third and so on, or else the second and so on
+-- every other byte is NUL: the first, the third and so on if `here`, else the second, the fourth and so on
 abbrev pub nul_at_every_other : Bool → List ℕ → Bool
 nul_at_every_other here [] = true
 nul_at_every_other here (b ∷ bytes) = (not here || b == 0) && nul_at_every_other (not here) bytes
 
--- a byte order mark of UTF-16 comes first, or every other byte of the first 64 is a NUL
+-- the file starts with a byte order mark of UTF-16, or has at least 4 bytes and every other one of the
+-- first 64 is NUL
 abbrev pub seems_utf_16 : List ℕ → Bool
 seems_utf_16 file =
     starts_with nat_eq file (255 ∷ 254 ∷ []) || (starts_with nat_eq file (254 ∷ 255 ∷ [])
     || (nat_le 4 (length file)
     && (nul_at_every_other true (take 64 file) || nul_at_every_other false (take 64 file))))
 
--- it begins as a page does
+-- the file starts with `<`, as HTML does
 abbrev pub seems_html : List ℕ → Bool
 seems_html file = starts_with nat_eq file (codes "<")
 
 -- ---- the file
 
--- it has text, and no directive
+-- the file has no directive, but some line that isn't empty or a comment
 abbrev pub is_unknown : LineKinds → Bool
 is_unknown kinds = kinds.text && not (kinds.user_agent || kinds.rule || kinds.extra)
 
--- more bytes than are read
+-- the file is larger than the size limit
 abbrev pub is_too_large : List ℕ → Bool
 is_too_large file = nat_lt file_limit (length file)
 
--- by its bytes and the kinds of its lines
+-- the facts about a file with these kinds of lines
 abbrev pub facts_by : List ℕ → LineKinds → FileFacts
 facts_by file kinds = record {
   kinds = kinds;
@@ -75,10 +76,11 @@ facts_by file kinds = record {
   is_too_large = is_too_large file;
 }
 
--- by its bytes and its lines
+-- the facts about a file with these lines
 abbrev pub facts_of : List ℕ → List Label → FileFacts
 facts_of file labels = facts_by file (kinds_of (lines_of labels))
 
--- the file seems to be something else, so that each of its lines would be warned of
+-- the file seems to be something else than a robots.txt file, so that each of its lines would cause a
+-- warning
 abbrev pub suppresses_line_warnings : FileFacts → Bool
 suppresses_line_warnings facts = facts.is_html || facts.is_utf_16

@@ -1,4 +1,5 @@
--- What a line's field name may be, where the line is ignored, and what is unusual in it, where the line is a directive.
+-- Field names: which one was probably intended in an ignored line, and what is unusual about that of a
+-- directive.
 use Rattle.std.specs.Prelude.{ℕ, ◌+◌, ◌==◌, nat_eq, nat_le, Bool, not, ◌||◌, ◌&&◌}
 use Rattle.std.specs.Prelude.{List, [], ◌∷◌, Option, bytes_eq, find, if◌then◌else◌, length, map, option_map}
 use Rattle.std.specs.Prelude.{reverse, take, unwrap_or}
@@ -15,107 +16,109 @@ use Rattle.robots_warnings.specs.declared.field_names.TheConstants.{DIRECTIVES, 
 use Rattle.robots_warnings.specs.declared.table.Cause.{Cause}
 use Rattle.robots_warnings.specs.declared.table.Cause.TheVariants.{InvalidDelay, UnrecognizedLine}
 
--- ---- the words of a body
+-- ---- the tokens of a line
 
 abbrev pub is_space_or_tab : ℕ → Bool
 is_space_or_tab b = b == space || b == tab
 
--- the text without spaces and tabs at the start
+-- the text without leading spaces and tabs
 abbrev pub without_front : List ℕ → List ℕ
 without_front [] = []
 without_front (b ∷ text) = if is_space_or_tab b then without_front text else b ∷ text
 
--- the text without spaces and tabs at its end
+-- the text without trailing spaces and tabs
 abbrev pub without_end : List ℕ → List ℕ
 without_end text = reverse (without_front (reverse text))
 
--- what is before the first colon, or all where there is none, without the spaces and tabs around it
+-- the field name: the text before the first colon, or all of it if there is none, without spaces and tabs
+-- at both ends
 abbrev pub name_in : List ℕ → List ℕ
 name_in body = without_end (without_front (before_byte (byte ":") body))
 
--- what is between the spaces and tabs at the start and the next
+-- the first token: the text up to the next space or tab, without leading ones
 abbrev pub first_word : List ℕ → List ℕ
 first_word body = before_first is_space_or_tab (without_front body)
 
 -- ---- names
 
--- the word is the name, ASCII letters in any case
+-- the token is the name, compared without regard to the case of ASCII letters
 abbrev pub is_name : List ℕ → List ℕ → Bool
 is_name name word = bytes_eq (str_to_ascii_lowercase word) (str_to_ascii_lowercase name)
 
--- the word begins with the name, ASCII letters in any case
+-- the token starts with the name, compared without regard to the case of ASCII letters
 unfoldable pub begins_with : List ℕ → List ℕ → Bool
 begins_with name word = is_name name (take (length name) word)
 
--- the word is one of the accepted names of this kind of directive
+-- the token is one of the accepted names of this kind of directive
 abbrev pub is_accepted : Kind → List ℕ → Bool
 is_accepted kind word = list_any (bytes_eq (str_to_ascii_lowercase word)) (field_names kind)
 
--- the lengths differ by two at most
+-- the lengths differ by at most 2
 abbrev pub is_as_long : List ℕ → List ℕ → Bool
 is_as_long name word = nat_le (length word) (length name + 2) && nat_le (length name) (length word + 2)
 
--- two edits at most, each of one byte, make the name of the word in small letters
+-- the token, in lower case, has an edit distance of at most 2 from the name
 abbrev pub is_near : List ℕ → List ℕ → Bool
 is_near name word =
     is_as_long name word && nat_le (levenshtein_row nat_eq (str_to_ascii_lowercase word) name (length name)) 2
 
--- the name may be meant by the word
+-- the token starts with the name or is similar to it
 abbrev pub may_mean : List ℕ → List ℕ → Bool
 may_mean name word = begins_with name word || is_near name word
 
--- ---- what a line that is ignored may be, by its name and its first word
+-- ---- what an ignored line probably intends, by its field name and its first token
 
 -- a name with its warning
 abbrev pub Row : Type 0
 Row = List ℕ × Cause
 
--- the usual names of directives, and those that other crawlers know
+-- the usual field names, and those that other crawlers support or supported
 abbrev pub directives : List Row
 directives = map (λ row. (row.0.now, row.1)) DIRECTIVES
 
 abbrev pub unsupported : List Row
 unsupported = map (λ row. (row.0.now, row.1)) UNSUPPORTED
 
--- the warning of the first of these names that passes a test
+-- the warning for the first of these names that passes the test
 abbrev pub first_that : (List ℕ → Bool) → List Row → Option Cause
 first_that test rows = option_map (λ (row : Row). row.1) (find (λ (row : Row). test row.0) rows)
 
--- one of the two words is the name, or may mean it
+-- one of the two tokens is the name; one of them starts with it or is similar to it
 unfoldable pub is_either : List ℕ → List ℕ → List ℕ → Bool
 is_either name word known = is_name known name || is_name known word
 
 unfoldable pub may_either_mean : List ℕ → List ℕ → List ℕ → Bool
 may_either_mean name word known = may_mean known name || may_mean known word
 
--- a name that other crawlers know
+-- the warning for a name that other crawlers support or supported, if one of the tokens is such a name
 abbrev pub unsupported_in : List ℕ → List ℕ → Option Cause
 unsupported_in name word = first_that (is_either name word) unsupported
 
--- the usual name of a directive
+-- the warning for a directive, if one of the tokens starts with a usual field name or is similar to it
 abbrev pub directive_in : List ℕ → List ℕ → Option Cause
 directive_in name word = first_that (may_either_mean name word) directives
 
--- the warning of a delay, of a name that other crawlers know, or of a directive
+-- the warning for an invalid delay, for a name that other crawlers support or supported, for a directive,
+-- or else for an unrecognized line
 abbrev pub meant_among : List ℕ → List ℕ → Cause
 meant_among name word =
     if is_accepted kind.CrawlDelay name || is_accepted kind.CrawlDelay word then InvalidDelay
     else unwrap_or (option_or (unsupported_in name word) (directive_in name word)) UnrecognizedLine
 
--- the warning of a line with this body
+-- the warning for an ignored line with this content
 abbrev pub meant_by : List ℕ → Cause
 meant_by body = meant_among (name_in body) (first_word body)
 
 -- ---- what is unusual in a directive
 
--- it begins with none of the usual names
+-- the line starts with none of the usual names
 abbrev pub is_misspelled : List ℕ → Bool
 is_misspelled body = not (list_any (λ row. begins_with row.0.now (without_front body)) DIRECTIVES)
 
--- the word is an accepted name of a directive
+-- the token is an accepted name of a directive
 abbrev pub is_any_accepted : List ℕ → Bool
 is_any_accepted word = list_any (λ kind. is_accepted kind word) KINDS
 
--- no colon is after the field name
+-- there is no colon after the field name
 abbrev pub is_without_colon : List ℕ → Bool
 is_without_colon body = not (list_any (λ b. b == byte ":") body && is_any_accepted (name_in body))

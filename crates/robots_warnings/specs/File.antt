@@ -1,4 +1,4 @@
--- The lines of a file, of the bytes that count.
+-- The lines within the size limit of a file.
 use Rattle.std.specs.Prelude.{ℕ, ◌==◌, Bool, true, ◌||◌, ◌&&◌, List, [], ◌∷◌, map}
 use Rattle.texting_robots.specs.Callers.{LineValue, Label, group_name, labels_of}
 
@@ -11,15 +11,15 @@ tab = 9
 abbrev pub hash : ℕ
 hash = 35
 
--- nothing but blanks, or blanks and a comment
+-- only spaces and tabs, possibly followed by a comment
 abbrev pub is_blank : List ℕ → Bool
 is_blank [] = true
 is_blank (byte ∷ body) = byte == hash || ((byte == space || byte == tab) && is_blank body)
 
--- the marks for an agent
+-- the lines, labeled for a crawler
 abbrev pub labels_for : List ℕ → List LineValue → List Label
 labels_for agent lines = labels_of (group_name agent lines) lines
 
--- the lines of the marks
+-- the lines of the labels
 abbrev pub lines_of : List Label → List LineValue
 lines_of labels = map (λ (label : Label). label.line) labels

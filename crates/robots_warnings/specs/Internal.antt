@@ -1,4 +1,4 @@
--- What is kept, by value, and how it grows.
+-- The code's own types by value, and how lists of warnings grow.
 pub mod Conflicts
 pub mod Names
 use Rattle.std.specs.Prelude.{◌≡◌, ℕ, ◌||◌, ◌++◌, List, Some, map, option_map, slice_get}
@@ -15,11 +15,11 @@ abbrev pub warning_value : Warning → WarningValue
 warning_value warning =
     record { line = warning.line; cause = warning.cause; about = option_map (λ url. url.now) warning.about }
 
--- the found warnings are the old ones and these
+-- these warnings are appended
 abbrev pub Adds : List Warning → List Warning → List WarningValue → Type 0
 Adds old found more = map warning_value found ≡ map warning_value old ++ more
 
--- the kinds of some lines and of one more
+-- the kinds so far, and that of one more line
 abbrev pub kinds_with : LineKinds → LineValue → LineKinds
 kinds_with kinds line = record {
   text = kinds.text || has_text line;
@@ -28,7 +28,7 @@ kinds_with kinds line = record {
   extra = kinds.extra || is_extra line;
 }
 
--- a name with its warning
+-- a name with its warning, by value
 abbrev pub name_value : Bor (List ℕ) × Cause → List ℕ × Cause
 name_value row = (row.0.now, row.1)
 
@@ -36,6 +36,6 @@ name_value row = (row.0.now, row.1)
 abbrev pub Row : Type 0
 Row = Cause × Bor (List ℕ) × Bor (List ℕ)
 
--- the row has this number among these
+-- the row is at this index
 pub record IsRowAt (rows : List Row) (number : ℕ) (row : Row) : Type 0 where
   pub found : slice_get rows number ≡ Some row

@@ -1,15 +1,16 @@
--- Names that are in a file only past the size limit.
+-- Crawlers that a file names only past the size limit.
 use Rattle.std.specs.Prelude.{ℕ, ◌+◌, Bool, false, filter, map, not, List, ◌++◌, take}
 use Rattle.std.specs.List.{enumerate_from}
 use Rattle.texting_robots.specs.Callers.{LineValue, UserAgent, file_lines, is_named}
 
--- a user-agent line whose name none of these lines has, ASCII letters in any case
+-- a user-agent line with a name that none of these lines has, compared without regard to the case of ASCII
+-- letters
 abbrev pub has_new_name : List LineValue → LineValue → Bool
 has_new_name lines (UserAgent value) = not (is_named value lines)
 has_new_name lines _ = false
 
--- a line of the file, given with its index: it has a name that none of the lines that were read has, and none
--- of the lines before it
+-- a line of the file, given with its index, whose name is neither in the lines within the size limit nor in
+-- an earlier line of the file
 abbrev pub is_past_limit : List LineValue → List ℕ → ℕ × LineValue → Bool
 is_past_limit read file p = has_new_name (read ++ take p.0 (file_lines file)) p.1
 

@@ -1,4 +1,4 @@
--- Where lines are among others.
+-- Conditions on the position of a line.
 use Rattle.std.specs.Prelude.{ℕ, Bool, true, false, nat_lt, ◌&&◌, List, [], ◌∷◌, Option, None, Some}
 use Rattle.std.specs.Prelude.{if◌then◌else◌}
 use Rattle.std.specs.Option.{option_or}
@@ -11,10 +11,10 @@ use Rattle.robots_warnings.specs.declared.positions.Preceding.{Preceding}
 use Rattle.robots_warnings.specs.declared.positions.Preceding.TheVariants.{Agent, Delay, Other}
 use Rattle.robots_warnings.specs.Facts.{is_rule}
 
--- ---- what is above a line
+-- ---- what precedes a line
 
--- what is above the next line, by what is above this one: nothing that matters, a user-agent line, or a
--- user-agent line and after it delays alone
+-- what precedes the next line, determined by this line and what precedes it: a user-agent line with no rule
+-- or delay after it, a user-agent line with only delays after it, or neither
 abbrev pub preceding_with : Preceding → LineValue → Preceding
 preceding_with preceding (UserAgent value) = Agent
 preceding_with preceding (Allow value) = Other
@@ -25,14 +25,14 @@ preceding_with Delay (CrawlDelay delay) = Delay
 preceding_with preceding (Sitemap value) = preceding
 preceding_with preceding (Raw body) = preceding
 
--- a user-agent line, and after it delays alone
+-- a user-agent line with only delays after it
 abbrev pub is_delay : Preceding → Bool
 is_delay Delay = true
 is_delay _ = false
 
--- ---- what is below it
+-- ---- what follows a line
 
--- the number of a rule or a delay
+-- the number of the line, if it is a rule or a delay
 abbrev pub group_number : Label → Option ℕ
 group_number label = if is_group label.line then Some label.number else None
 
@@ -41,26 +41,26 @@ abbrev pub last_group : List Label → Option ℕ
 last_group [] = None
 last_group (label ∷ labels) = option_or (last_group labels) (group_number label)
 
--- the last rule or delay, if there is one, is above the line with this number
+-- the line with this number comes after the last rule or delay, or there is none
 abbrev pub is_after : Option ℕ → ℕ → Bool
 is_after None number = true
 is_after (Some last) number = nat_lt last number
 
 -- ---- conditions on a line
 
--- in no group
+-- the line belongs to no group
 abbrev pub is_outside : Membership → Bool
 is_outside Ungrouped = true
 is_outside _ = false
 
--- a rule in no group: it is above the first user-agent line
+-- the line is a rule that belongs to no group
 abbrev pub is_above_agents : Label → Bool
 is_above_agents label = is_rule label.line && is_outside label.membership
 
--- a user-agent line after the last rule and the last delay
+-- the line is a user-agent line with no rule or delay after it
 abbrev pub is_empty_group : Option ℕ → Label → Bool
 is_empty_group last label = is_agent label.line && is_after last label.number
 
--- a user-agent line that delays split from a user-agent line above it
+-- the line is a user-agent line that delays separate from one above it
 abbrev pub is_split : Preceding → Label → Bool
 is_split preceding label = is_agent label.line && is_delay preceding

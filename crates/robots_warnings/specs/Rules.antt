@@ -9,41 +9,41 @@ use Rattle.robots_warnings.specs.Urls.{begins_as_url}
 
 -- ---- texts
 
--- the byte is in the text
+-- the text contains the byte
 abbrev pub has : ℕ → List ℕ → Bool
 has b text = list_any (λ c. c == b) text
 
--- what is before the first such byte, or all if there is none
+-- the text before the first such byte, or all of it if there is none
 abbrev pub before_byte : ℕ → List ℕ → List ℕ
 before_byte b text = before_first (λ c. c == b) text
 
--- what is after the first such byte, or nothing if there is none
+-- the text after the first such byte; empty if there is none
 abbrev pub after_byte : ℕ → List ℕ → List ℕ
 after_byte b text = after_first (λ c. c == b) text
 
--- the test holds of the text from some byte on
+-- the test holds for the rest of the text from some byte on
 abbrev pub somewhere : (List ℕ → Bool) → List ℕ → Bool
 somewhere test [] = false
 somewhere test (b ∷ text) = test (b ∷ text) || somewhere test text
 
--- ---- how a rule begins
+-- ---- the start of a rule
 
--- it isn't empty, and begins with neither a slash nor a star
+-- the value isn't empty and doesn't start with a slash or a star
 abbrev pub begins_oddly : List ℕ → Bool
 begins_oddly [] = false
 begins_oddly (b ∷ value) = not (b == byte "/" || b == byte "*")
 
--- ---- bytes that a whole URL has otherwise
+-- ---- bytes that parsed URLs contain in another form
 
--- a byte that, inside a rule, a URL of a site has otherwise: escaped in only one of the two, taken for `/`,
--- or taken out
+-- a byte that a parsed URL contains in a form other than an escaped rule does: it is escaped in only one of
+-- them, or the URL has `/` for it, or nothing
 abbrev pub is_written_otherwise : Bool → ℕ → Bool
 is_written_otherwise in_query b =
     if in_query then (b == byte "\t" || (b == byte "'" || b == byte "`"))
     else (b == byte "\t" || (b == byte "\\" || (b == byte "^" || (b == byte "{" || b == byte "}"))))
 
--- the value holds such a byte; what follows a `?` is a query, and that a star may reach into one isn't
--- looked at
+-- the value contains such a byte; the query starts at the first `?`, although a star may match a `?` before
+-- it
 abbrev pub holds_otherwise : Bool → List ℕ → Bool
 holds_otherwise in_query [] = false
 holds_otherwise in_query (b ∷ value) =
@@ -51,7 +51,7 @@ holds_otherwise in_query (b ∷ value) =
 
 -- ---- quotes
 
--- the byte is first and last, and these are two
+-- the byte is both the first and the last of at least two bytes
 abbrev pub stands_around : ℕ → List ℕ → Bool
 stands_around b value =
     nat_lt 1 (length value)
@@ -60,37 +60,37 @@ stands_around b value =
 abbrev pub is_quoted : List ℕ → Bool
 is_quoted value = stands_around (byte "\"") value || stands_around (byte "'") value
 
--- it begins oddly, and neither as a URL nor as a text in quotes
+-- the value has another first byte than a slash or a star, and isn't an absolute URL or in quotes
 abbrev pub has_odd_start : List ℕ → Bool
 has_odd_start value = begins_oddly value && not (begins_as_url value || is_quoted value)
 
 -- ---- regular expressions
 
--- a choice, as `(a|b)`: a `)` after a `|` after a `(`
+-- an alternative, such as `(a|b)`: a `)` after a `|` after a `(`
 abbrev pub has_choice : List ℕ → Bool
 has_choice value = has (byte ")") (after_byte (byte "|") (after_byte (byte "(") value))
 
--- it begins with a range, as `[0-9]` does
+-- the text starts with a range, such as `[0-9]`
 abbrev pub begins_range : List ℕ → Bool
 begins_range text =
     nat_lt 3 (length text) && (slice_index text 0 == byte "[" && slice_index text 2 == byte "-")
 
--- it begins with a class, as `\d`
+-- the text starts with a character class, such as `\d`
 abbrev pub begins_class : List ℕ → Bool
 begins_class text = slice_index text 0 == byte "\\" && is_ascii_alphanumeric (slice_index text 1)
 
--- it begins with a range, `.*` or a class
+-- the text starts with a range, `.*` or a character class
 abbrev pub begins_sign : List ℕ → Bool
 begins_sign text = begins_range text || (starts_with nat_eq text (codes ".*") || begins_class text)
 
--- it holds a choice or one of these signs, or ends with a `+`
+-- the value has an alternative, contains a range, `.*` or a character class, or ends with `+`
 abbrev pub is_expression : List ℕ → Bool
 is_expression value =
     has_choice value || (somewhere begins_sign value || ends_with nat_eq value (codes "+"))
 
 -- ---- dollars
 
--- something other than stars and `$` is after its first `$`
+-- a byte other than a star or `$` occurs after the first `$`
 abbrev pub has_dollar_inside : List ℕ → Bool
 has_dollar_inside value =
     list_any (λ b. not (b == byte "*" || b == byte "$")) (after_byte (byte "$") value)
@@ -101,13 +101,13 @@ has_dollar_inside value =
 abbrev pub needs_no_escape : ℕ → Bool
 needs_no_escape b = is_ascii_alphanumeric b || has b (codes "-._~")
 
--- hex digits of which one is a small letter, or which are those of a byte that needs no escape
+-- one of the hexadecimal digits is lowercase, or the byte that they mean needs no escape
 abbrev pub are_odd_digits : ℕ → ℕ → Bool
 are_odd_digits high low =
     (is_ascii_lowercase high || is_ascii_lowercase low)
     || needs_no_escape (digit_value high * 16 + digit_value low)
 
--- it begins with an escape that has such digits
+-- the text starts with a percent escape that has such digits
 abbrev pub begins_odd_escape : List ℕ → Bool
 begins_odd_escape text =
     let high = slice_index text 1 in
@@ -117,12 +117,12 @@ begins_odd_escape text =
 
 -- ---- dot segments
 
--- it begins with a slash and a segment of one dot or two, which a slash or the end of URLs follows
+-- the text starts with a path segment `.` or `..`, which a slash or the end of the URL follows
 abbrev pub begins_dot_segment : List ℕ → Bool
 begins_dot_segment text =
     starts_with nat_eq text (codes "/./") || starts_with nat_eq text (codes "/../")
     || bytes_eq text (codes "/.$") || bytes_eq text (codes "/..$")
 
--- it has such a segment before its first `?`
+-- the value contains such a segment before its first `?`
 abbrev pub has_dot_segment : List ℕ → Bool
 has_dot_segment value = somewhere begins_dot_segment (before_byte (byte "?") value)

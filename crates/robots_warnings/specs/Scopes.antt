@@ -1,4 +1,4 @@
--- Whom a rule is for.
+-- The scopes of rules, which determine what rules are compared with each other.
 use Rattle.std.specs.Prelude.{ℕ, Bool, true, false, ◌||◌, List, [], ◌∷◌, ◌++◌}
 use Rattle.std.specs.Prelude.{if◌then◌else◌}
 use Rattle.texting_robots.specs.Callers.{Allow, CrawlDelay, Disallow, LineValue, Label, Raw, Sitemap}
@@ -6,8 +6,8 @@ use Rattle.texting_robots.specs.Callers.{UserAgent, is_own}
 use Rattle.robots_warnings.specs.declared.scopes.Run.{Run}
 use Rattle.robots_warnings.specs.Conflicts.{Scoped}
 
--- the run of user-agent lines after a line, by the run before it: the number of its first line, and whether
--- the next user-agent line belongs to it
+-- the run of user-agent lines after this line, given the run before it; a run has the number of its first
+-- line, and whether the next user-agent line belongs to it
 abbrev pub run_with : Run → ℕ → LineValue → Run
 run_with run number (UserAgent value) =
     if run.is_open then run else record { first = number; is_open = true }
@@ -17,17 +17,17 @@ run_with run number (CrawlDelay delay) = record { first = run.first; is_open = f
 run_with run number (Sitemap value) = run
 run_with run number (Raw body) = run
 
--- whom a rule is for: everywhere the agents of its run, else the one agent that is asked for
+-- the scope of a rule after this run: the number of the run's first line if `everywhere`, else 0
 abbrev pub scope_in : Bool → Run → ℕ
 scope_in everywhere run = if everywhere then run.first else 0
 
--- the rule, if it is asked about
+-- the rule, if it is checked
 abbrev pub rule_if : Bool → ℕ → ℕ → Bool → List ℕ → List Scoped
 rule_if is_asked scope number is_allow value =
     if is_asked then record { scope = scope; number = number; is_allow = is_allow; value = value } ∷ []
     else []
 
--- the rule of a line, if it has one that is asked about: everywhere each, else those of the agent
+-- the rule of a line, if it has one that is checked: all if `everywhere`, else those of the crawler's group
 abbrev pub rule_of : Bool → Run → Label → List Scoped
 rule_of everywhere run label = of_value (everywhere || is_own label.membership) label.line
   where
@@ -36,12 +36,12 @@ rule_of everywhere run label = of_value (everywhere || is_own label.membership) 
     of_value is_asked (Disallow value) = rule_if is_asked (scope_in everywhere run) label.number false value
     of_value is_asked _ = []
 
--- those of lines, by the run before them
+-- the rules of these lines, given the run before them
 abbrev pub rules_from : Bool → Run → List Label → List Scoped
 rules_from everywhere run [] = []
 rules_from everywhere run (label ∷ labels) =
     rule_of everywhere run label ++ rules_from everywhere (run_with run label.number label.line) labels
 
--- those of all lines
+-- the rules of all lines
 abbrev pub scoped_rules : Bool → List Label → List Scoped
 scoped_rules everywhere labels = rules_from everywhere (record { first = 0; is_open = false }) labels

@@ -1,4 +1,4 @@
--- Every warning, with its name and its text. The texts are those of the table in src/table.rt.
+-- Every warning, with its name and its message, as in the table of src/table.rt.
 use Rattle.std.specs.Prelude.{ℕ, Bool, List, [], bytes_eq, map, slice_index_or}
 use Rattle.std.specs.List.{list_any}
 use denote.Enum.Declared.{tag_of}
@@ -6,15 +6,15 @@ use Rattle.robots_warnings.specs.contracts.table.Cause.{the_type}
 use Rattle.robots_warnings.specs.declared.table.Cause.{Cause}
 use Rattle.robots_warnings.specs.declared.table.TheConstants.{WARNINGS}
 
--- the number of a warning, counted from 0 in the order of the table
+-- the index of a warning in the table
 abbrev pub number_of : Cause → ℕ
 number_of cause = tag_of the_type cause
 
--- its name, as in `[..]`
+-- the name of a warning, as in `[..]`
 unfoldable pub name_of : Cause → List ℕ
 name_of cause = slice_index_or (map (λ row. row.1.now) WARNINGS) (number_of cause) []
 
--- its text
+-- the message of a warning
 unfoldable pub text_of : Cause → List ℕ
 text_of cause = slice_index_or (map (λ row. row.2.now) WARNINGS) (number_of cause) []
 

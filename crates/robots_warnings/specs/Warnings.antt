@@ -1,4 +1,4 @@
--- What is warned of: what is valid but probably isn't what the owner meant.
+-- All warnings about a file and a request: what is valid but probably not intended.
 use Rattle.std.specs.Prelude.{ℕ, Bool, true, false, List, [], ◌∷◌, ◌++◌, Option, Some, None}
 use Rattle.std.specs.Prelude.{codes, decimal, flat_map, if◌then◌else◌, map, not, ◌||◌}
 use Rattle.texting_robots.specs.Callers.{Label, bodies_read, is_own}
@@ -19,7 +19,7 @@ use Rattle.robots_warnings.specs.Scopes.{scoped_rules}
 use Rattle.robots_io.specs.Sanitize.{sanitized}
 use Rattle.robots_warnings.specs.Table.{name_of, text_of}
 
--- a warning: the number of its line, where it has one; why; and the URL, where it is about one
+-- a warning: the number of its line, if it is about one; the reason; and the URL, if it is about one
 pub record WarningValue : Type 0 where
   pub line : Option ℕ
   pub cause : Cause
@@ -31,7 +31,7 @@ abbrev pub place_text : Option ℕ → List ℕ
 place_text None = []
 place_text (Some number) = codes "line " ++ decimal number ++ codes ": "
 
--- the URL before the text
+-- the URL that a warning is about
 abbrev pub about_text : Option (List ℕ) → List ℕ
 about_text None = []
 about_text (Some url) = codes "URL '" ++ sanitized url ++ codes "': "
@@ -39,30 +39,30 @@ about_text (Some url) = codes "URL '" ++ sanitized url ++ codes "': "
 abbrev pub name_text : Cause → List ℕ
 name_text cause = codes " [" ++ name_of cause ++ codes "]"
 
--- its text, after the URL
+-- the message, preceded by the URL
 abbrev pub warning_text : WarningValue → List ℕ
 warning_text warning = about_text warning.about ++ text_of warning.cause
 
--- the number of its line, its text, and its name
+-- the line number, the message and the name
 unfoldable pub warning_line : WarningValue → List ℕ
 warning_line warning = place_text warning.line ++ (warning_text warning ++ name_text warning.cause)
 
--- ---- of what was checked
+-- ---- warnings from checks
 
 -- the warning, if its condition holds
 abbrev pub warning_of : Option ℕ → Option (List ℕ) → Check → List WarningValue
 warning_of line about check =
     if check.1 then record { line = line; cause = check.0; about = about } ∷ [] else []
 
--- those whose conditions hold
+-- the warnings whose conditions hold
 abbrev pub warned : Option ℕ → Option (List ℕ) → List Check → List WarningValue
 warned line about checks = flat_map (warning_of line about) checks
 
--- the same warning of each line with one of these numbers
+-- this warning for each line with one of these numbers
 abbrev pub warned_at : Cause → List ℕ → List WarningValue
 warned_at cause numbers = map (λ number. record { line = Some number; cause = cause; about = None }) numbers
 
--- ---- of the parts of a file and of a request
+-- ---- warnings about a part of a file or of a request
 
 abbrev pub agent_warnings : Option (List ℕ) → List WarningValue
 agent_warnings None = []
@@ -71,62 +71,64 @@ agent_warnings (Some agent) = warned None None (agent_checks agent)
 abbrev pub url_warnings : List ℕ → List WarningValue
 url_warnings url = warned None (Some url) (url_checks url)
 
--- rules are checked where they are the crawler's, or everywhere
+-- the rules that are checked: all if `everywhere`, else those of the crawler's group
 abbrev pub is_in_scope_of : Bool → Membership → Bool
 is_in_scope_of everywhere membership = if everywhere then true else is_own membership
 
--- of a line with this body
+-- warnings about a line with this content
 abbrev pub line_warnings : Bool → Label → List ℕ → List WarningValue
 line_warnings everywhere label body =
     warned (Some label.number) None (line_checks (is_in_scope_of everywhere label.membership) label.line body)
 
--- of lines, each with its body
+-- warnings about lines, each with its content
 abbrev pub lines_warnings : Bool → List (List ℕ) → List Label → List WarningValue
 lines_warnings everywhere [] labels = []
 lines_warnings everywhere (body ∷ bodies) [] = []
 lines_warnings everywhere (body ∷ bodies) (label ∷ labels) =
     line_warnings everywhere label body ++ lines_warnings everywhere bodies labels
 
--- of the lines of a file, unless it seems to be something else
+-- warnings about each line of a file, unless it seems to be something else than a robots.txt file
 abbrev pub file_lines_warnings : FileFacts → Bool → List Label → List (List ℕ) → List WarningValue
 file_lines_warnings facts everywhere labels bodies =
     if suppresses_line_warnings facts then [] else lines_warnings everywhere bodies labels
 
--- of where lines are, by the number of the last rule or delay and by what is above the first of them
+-- warnings about the positions of these lines; `last` is the number of the last rule or delay, and
+-- `preceding` is what precedes the first of them
 abbrev pub positions_from : Option ℕ → Preceding → List Label → List WarningValue
 positions_from last preceding [] = []
 positions_from last preceding (label ∷ labels) =
     warned (Some label.number) None (position_checks last preceding label)
     ++ positions_from last (preceding_with preceding label.line) labels
 
--- of where all lines are
+-- warnings about the positions of all lines
 abbrev pub position_warnings : List Label → List WarningValue
 position_warnings labels = positions_from (last_group labels) Other labels
 
--- of names past the size limit, unless the file seems to be something else
+-- warnings about names past the size limit, unless the file seems to be something else than a robots.txt
+-- file
 abbrev pub past_limit_warnings : FileFacts → List ℕ → List Label → List WarningValue
 past_limit_warnings facts file labels =
     if not facts.is_too_large || suppresses_line_warnings facts then []
     else warned_at GroupPastSizeLimit (names_past_limit (lines_of labels) file)
 
--- of rules that are allowed and disallowed at once
+-- warnings about values that are both allowed and disallowed
 abbrev pub both_ways_warnings : Bool → List Label → List WarningValue
 both_ways_warnings everywhere labels =
     warned_at AllowedAndDisallowed (conflicts (scoped_rules everywhere labels))
 
 -- ---- all
 
--- where no one crawler is asked about, rules are checked everywhere
+-- the rules of all groups are checked if the request isn't about a single crawler
 abbrev pub covers_all_crawlers : Option (List ℕ) → Bool
 covers_all_crawlers None = true
 covers_all_crawlers (Some agent) = false
 
--- of the file, the crawler and the URLs
+-- warnings about the file, the product token and the URLs
 abbrev pub general_warnings : FileFacts → Option (List ℕ) → List (List ℕ) → List WarningValue
 general_warnings facts agent urls =
     warned None None (file_checks facts) ++ (agent_warnings agent ++ flat_map url_warnings urls)
 
--- of the file, the crawler, the URLs, each line by itself, and where lines are
+-- warnings about the file, the product token, the URLs, each line, and the positions of lines
 abbrev pub warnings : Option (List ℕ) → List (List ℕ) → List ℕ → FileFacts → List Label → List WarningValue
 warnings agent urls file facts labels =
     let everywhere = covers_all_crawlers agent in

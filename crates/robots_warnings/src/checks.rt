@@ -17,13 +17,13 @@ use crate::urls::{begins_as_url, is_absolute_url, is_invalid_url, is_url_or_path
 use std::alloc::{AllocError, Global};
 use texting_robots::labels::LabeledLine;
 
-/// A warning, and whether it is given.
+/// A warning, and whether its condition holds.
 pub(crate) type Check = (Cause, bool);
 
-/// How many microseconds a day has.
+/// Microseconds per day.
 const DAY: u64 = 86_400_000_000;
 
-/// Those of a file.
+/// Checks of a file.
 pub(crate) fn file_checks(facts: FileFacts) -> [Check; 5]
     ensures { result ≡ file_checks facts }
 {
@@ -39,7 +39,7 @@ pub(crate) fn file_checks(facts: FileFacts) -> [Check; 5]
     ]
 }
 
-/// Those of the crawler that is asked about.
+/// Checks of the product token that the user passed.
 pub(crate) fn agent_checks(agent: &str) -> [Check; 2]
     ensures { result ≡ agent_checks agent.now }
 {
@@ -49,7 +49,7 @@ pub(crate) fn agent_checks(agent: &str) -> [Check; 2]
     ]
 }
 
-/// Those of a URL that is asked about.
+/// Checks of a URL that the user passed.
 pub(crate) fn url_checks(alloc: Global, url: &str) -> Result<[Check; 2], AllocError>
     ensures { IfOk result (λ checks. checks ≡ url_checks url.now) }
 {
@@ -59,14 +59,14 @@ pub(crate) fn url_checks(alloc: Global, url: &str) -> Result<[Check; 2], AllocEr
     ])
 }
 
-/// Those of a line with this body that is neither a directive nor empty nor a comment.
+/// Checks of the content of an ignored line that is neither empty nor a comment.
 pub(crate) fn ignored_checks(alloc: Global, body: &[u8]) -> Result<[Check; 1], AllocError>
     ensures { IfOk result (λ checks. checks ≡ ignored_checks body.now) }
 {
     Ok([(meant_by(alloc, body)?, true)])
 }
 
-/// Those of the field name of a directive with this body.
+/// Checks of the field name in the content of a directive.
 pub(crate) fn field_checks(body: &[u8]) -> [Check; 2]
     ensures { result ≡ field_checks body.now }
 {
@@ -76,14 +76,14 @@ pub(crate) fn field_checks(body: &[u8]) -> [Check; 2]
     ]
 }
 
-/// Those of the value of a user-agent line.
+/// Checks of the value of a user-agent line.
 pub(crate) fn user_agent_checks(value: &[u8]) -> [Check; 1]
     ensures { result ≡ user_agent_checks value.now }
 {
     [(Cause::InvalidProductToken, !is_product_token(value))]
 }
 
-/// Those of the value of an Allow or a Disallow.
+/// Checks of the value of an Allow or a Disallow.
 pub(crate) fn rule_checks(value: &[u8]) -> [Check; 9]
     ensures { result ≡ rule_checks value.now }
 {
@@ -100,21 +100,22 @@ pub(crate) fn rule_checks(value: &[u8]) -> [Check; 9]
     ]
 }
 
-/// Those of a delay, in microseconds.
+/// Checks of a delay in microseconds.
 pub(crate) fn delay_checks(micros: u64) -> [Check; 1]
     ensures { result ≡ delay_checks micros }
 {
     [(Cause::DelayOverADay, micros > DAY)]
 }
 
-/// Those of the value of a sitemap line.
+/// Checks of the value of a sitemap line.
 pub(crate) fn sitemap_checks(alloc: Global, value: &[u8]) -> Result<[Check; 1], AllocError>
     ensures { IfOk result (λ checks. checks ≡ sitemap_checks value.now) }
 {
     Ok([(Cause::SitemapNotAbsolute, !is_absolute_url(alloc, value)?)])
 }
 
-/// Those of a line, by the number of the last rule or delay and by what is above the line.
+/// Checks of the position of a line; `last` is the number of the last rule or delay, and `preceding` is what precedes
+/// the line.
 pub(crate) fn position_checks(
     last: Option<usize>,
     preceding: Preceding,

@@ -1,4 +1,4 @@
-//! Which rules are allowed and disallowed at once.
+//! Finds values that are both allowed and disallowed.
 ghost use Rattle.std.specs.Prelude.{◌≡◌, ◌++◌, ◌∷◌, [], ◌&&◌, IfOk, OnOk, if◌then◌else◌, map, not};
 ghost use Rattle.std.specs.BTreeSet.{contains};
 ghost use Rattle.robots_warnings.specs.Conflicts.{conflicts, scoped_by_value};
@@ -7,20 +7,20 @@ ghost use Rattle.robots_warnings.specs.Internal.Conflicts.{AddsAllowed, HasAllow
 use std::alloc::{AllocError, Global};
 use std::collections::BTreeSet;
 
-/// A rule, and whom it is for.
+/// A rule with its scope.
 #[derive(Clone, Copy)]
 pub struct ScopedRule<'a> {
-    /// Whom it is for: rules for the same crawlers have the same number here, and others have others.
+    /// The rule's scope. Only rules with equal scopes are compared.
     pub scope: usize,
-    /// The number of its line.
+    /// The number of the rule's line.
     pub number: usize,
-    /// Whether it is an Allow.
+    /// Whether the rule is an Allow.
     pub is_allow: bool,
-    /// Its value.
+    /// The rule's value.
     pub value: &'a [u8],
 }
 
-/// Adds the value of an Allow, with its scope.
+/// Inserts the scope and the value of the rule if it is an Allow.
 fn add_allowed<'a>(
     allowed: &mut BTreeSet<(usize, &'a [u8])>,
     rule: &ScopedRule<'a>,
@@ -33,7 +33,7 @@ fn add_allowed<'a>(
     Ok(())
 }
 
-/// The values of the Allows, each with its scope.
+/// The scopes and values of all Allows.
 fn allowed_values<'a>(
     alloc: Global,
     rules: &[ScopedRule<'a>],
@@ -47,14 +47,14 @@ fn allowed_values<'a>(
     Ok(allowed)
 }
 
-/// Whether the rule is a Disallow whose value is among those that are allowed.
+/// Whether the rule is a Disallow, and an Allow has the same scope and value.
 fn is_allowed_too<'a>(allowed: &BTreeSet<(usize, &'a [u8])>, rule: &ScopedRule<'a>) -> bool
     ensures { result ≡ (not rule.now.is_allow && contains key_cmp allowed.now (rule.now.scope, rule.now.value)) }
 {
     !rule.is_allow && allowed.contains(&(rule.scope, rule.value))
 }
 
-/// Adds a number, if there is cause for it.
+/// Appends the number if `cause` is true.
 pub(crate) fn add(found: &mut Vec<usize>, cause: bool, number: usize) -> Result<(), AllocError>
     ensures { OnOk result (found.new.items ≡ found.old.items ++ (if cause then number ∷ [] else [])) }
 {
@@ -64,7 +64,7 @@ pub(crate) fn add(found: &mut Vec<usize>, cause: bool, number: usize) -> Result<
     Ok(())
 }
 
-/// The numbers of the Disallows whose value is that of an Allow for the same crawlers, too.
+/// The line numbers of the Disallows for which an Allow has the same scope and value.
 pub fn conflicts<'a>(alloc: Global, rules: &[ScopedRule<'a>]) -> Result<Vec<usize>, AllocError>
     ensures { IfOk result (λ found. found.items ≡ conflicts (map scoped_by_value rules.now)) }
 {

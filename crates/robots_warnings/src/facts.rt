@@ -1,4 +1,4 @@
-//! What is found out about a whole file, once.
+//! What the warnings have to know about a file as a whole.
 ghost use Rattle.std.specs.Prelude.{◌≡◌, ◌==◌, ◌||◌, map, not, take};
 ghost use Rattle.texting_robots.specs.Callers.{by_value, label_by_value};
 ghost use Rattle.robots_warnings.specs.Facts.{facts_by, facts_of, has_text, suppresses_line_warnings, is_too_large, is_unknown};
@@ -11,7 +11,7 @@ use texting_robots::labels::LabeledLine;
 use texting_robots::parser::Line;
 use texting_robots::robot::FILE_LIMIT;
 
-/// How many bytes of a file are looked at for what it is saved as.
+/// How many bytes at the start of a file are examined to detect UTF-16.
 const FIRST: usize = 64;
 
 /// Which kinds of lines a file has.
@@ -27,17 +27,17 @@ pub struct LineKinds {
     pub extra: bool,
 }
 
-/// What is found out about a whole file.
+/// What the warnings have to know about a file as a whole.
 #[derive(Clone, Copy, PartialEq, Eq)]
 pub struct FileFacts {
     pub kinds: LineKinds,
-    /// It has text and no directive, and begins as a page does.
+    /// The file has no directive, but some line that isn't empty or a comment, and looks like HTML.
     pub is_html: bool,
-    /// It has text and no directive, and seems to be saved as UTF-16.
+    /// The same, but it looks like UTF-16 and not like HTML.
     pub is_utf_16: bool,
-    /// It has text and no directive, and is neither of these.
+    /// The same, but it looks like neither.
     pub is_other_text: bool,
-    /// It has more bytes than are read.
+    /// The file is larger than the size limit.
     pub is_too_large: bool,
 }
 
@@ -51,7 +51,7 @@ fn has_text(line: Line<'_>) -> bool
     }
 }
 
-/// The kinds of some lines and of one more.
+/// The kinds so far, and that of one more line.
 fn kinds_with(kinds: LineKinds, line: Line<'_>) -> LineKinds
     ensures { result ≡ kinds_with kinds (by_value line.entry) }
 {
@@ -63,7 +63,7 @@ fn kinds_with(kinds: LineKinds, line: Line<'_>) -> LineKinds
     }
 }
 
-/// The kinds of lines.
+/// The kinds of the lines.
 #[tactic(auto, using(crate::proofs::FactLemmas::kinds_next))]
 fn kinds_of(labels: &[LabeledLine<'_>]) -> LineKinds
     ensures { result ≡ kinds_of (lines_of (map label_by_value labels.now)) }
@@ -80,14 +80,14 @@ fn kinds_of(labels: &[LabeledLine<'_>]) -> LineKinds
     kinds
 }
 
-/// Whether the byte is a NUL, where one is due.
+/// Whether the byte is NUL, if it has to be.
 fn is_as_due(is_due: bool, byte: u8) -> bool
     ensures { result ≡ (not is_due || byte == 0) }
 {
     !is_due || byte == 0
 }
 
-/// Whether every other byte is a NUL: the first, the third and so on where `here`, else the second and so on.
+/// Whether every other byte is NUL: the first, the third and so on if `here`, else the second, the fourth and so on.
 #[tactic(auto, using(crate::proofs::FactLemmas::nul_from))]
 fn has_nuls(here: bool, bytes: &[u8]) -> bool
     ensures { result ≡ nul_at_every_other here bytes.now }
@@ -102,14 +102,14 @@ fn has_nuls(here: bool, bytes: &[u8]) -> bool
     true
 }
 
-/// The first bytes of a file, 64 at most.
+/// The first 64 bytes of a file, or all if it is shorter.
 fn first_bytes<'a>(file: &'a [u8]) -> &'a [u8]
     ensures { result.now ≡ take 64 file.now }
 {
     &file[..FIRST.min(file.len())]
 }
 
-/// Whether the file seems to be saved as UTF-16.
+/// Whether the file looks like UTF-16.
 fn seems_utf_16(file: &[u8]) -> bool
     ensures { result ≡ seems_utf_16 file.now }
 {
@@ -119,28 +119,28 @@ fn seems_utf_16(file: &[u8]) -> bool
         || (file.len() >= 4 && (has_nuls(true, first) || has_nuls(false, first)))
 }
 
-/// Whether the file begins as a page does.
+/// Whether the file looks like HTML.
 fn seems_html(file: &[u8]) -> bool
     ensures { result ≡ seems_html file.now }
 {
     file.starts_with(b"<")
 }
 
-/// Whether a file with these kinds of lines has text and no directive.
+/// Whether a file with these kinds of lines has no directive, but some line that isn't empty or a comment.
 fn is_unknown(kinds: LineKinds) -> bool
     ensures { result ≡ is_unknown kinds }
 {
     kinds.text && !(kinds.user_agent || kinds.rule || kinds.extra)
 }
 
-/// Whether the file has more bytes than are read.
+/// Whether the file is larger than the size limit.
 pub(crate) fn is_too_large(file: &[u8]) -> bool
     ensures { result ≡ is_too_large file.now }
 {
     file.len() > FILE_LIMIT
 }
 
-/// What is found out about a file with these kinds of lines.
+/// The facts about a file with these kinds of lines.
 fn facts_by(file: &[u8], kinds: LineKinds) -> FileFacts
     ensures { result ≡ facts_by file.now kinds }
 {
@@ -156,14 +156,14 @@ fn facts_by(file: &[u8], kinds: LineKinds) -> FileFacts
     }
 }
 
-/// What is found out about a file with these lines.
+/// The facts about a file with these lines.
 pub fn facts_of(file: &[u8], labels: &[LabeledLine<'_>]) -> FileFacts
     ensures { result ≡ facts_of file.now (map label_by_value labels.now) }
 {
     facts_by(file, kinds_of(labels))
 }
 
-/// Whether the file seems to be something else, so that each of its lines would be warned of.
+/// Whether the file seems to be something else than a robots.txt file, so that each of its lines would cause a warning.
 pub(crate) fn suppresses_line_warnings(facts: FileFacts) -> bool
     ensures { result ≡ suppresses_line_warnings facts }
 {

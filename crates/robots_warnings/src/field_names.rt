@@ -1,4 +1,4 @@
-//! What the field name of a line may be, where the line is ignored, and what is unusual in it, where the line is a directive.
+//! Field names: which one was probably intended in an ignored line, and what is unusual about that of a directive.
 ghost use Rattle.std.specs.Prelude.{◌≡◌, ◌≤◌, IfOk, length, map};
 ghost use Rattle.std.specs.List.{list_any, position_or_len};
 ghost use Rattle.robots_warnings.specs.FieldNames.{begins_with, directive_in, first_that, first_word, is_accepted, is_either, is_any_accepted, is_misspelled, is_name};
@@ -12,7 +12,7 @@ use std::alloc::{AllocError, Global};
 use strsim::generic_levenshtein;
 use texting_robots::parser::{Kind, field_names};
 
-/// The usual names of directives, in the order in which they are looked for, and the warning where one may be meant.
+/// The usual field names, in the order of the search, and the warning if an ignored line probably intends one of them.
 const DIRECTIVES: [(&str, Cause); 5] = [
     ("user-agent", Cause::LikeUserAgent),
     ("allow", Cause::LikeAllow),
@@ -21,7 +21,7 @@ const DIRECTIVES: [(&str, Cause); 5] = [
     ("crawl-delay", Cause::LikeCrawlDelay),
 ];
 
-/// Names that other crawlers know, or knew, in the order in which they are looked for, and the warning of each.
+/// Field names that other crawlers support or supported, in the order of the search, and the warning for each.
 const UNSUPPORTED: [(&str, Cause); 10] = [
     ("noindex", Cause::NoindexLine),
     ("nofollow", Cause::NofollowLine),
@@ -51,7 +51,7 @@ fn is_space_or_tab(byte: u8) -> bool
     byte == b' ' || byte == b'\t'
 }
 
-/// The text without spaces and tabs at the start.
+/// The text without leading spaces and tabs.
 fn without_front<'a>(text: &'a [u8]) -> &'a [u8]
     ensures { result.now ≡ without_front text.now }
 {
@@ -62,7 +62,7 @@ fn without_front<'a>(text: &'a [u8]) -> &'a [u8]
     rest
 }
 
-/// The text without spaces and tabs at its end.
+/// The text without trailing spaces and tabs.
 fn without_end<'a>(text: &'a [u8]) -> &'a [u8]
     ensures { result.now ≡ without_end text.now }
 {
@@ -73,14 +73,15 @@ fn without_end<'a>(text: &'a [u8]) -> &'a [u8]
     rest
 }
 
-/// What is before the first colon, or all where there is none, without the spaces and tabs around it.
+/// The field name: the text before the first colon, or all of it if there is none, without spaces and tabs at both
+/// ends.
 fn name_in<'a>(body: &'a [u8]) -> &'a [u8]
     ensures { result.now ≡ name_in body.now }
 {
     without_end(without_front(before_byte(b':', body)))
 }
 
-/// The index of the first space or tab, or how long the text is where there is none.
+/// The index of the first space or tab, or the length of the text if there is none.
 fn word_len(text: &[u8]) -> usize
     ensures value { result ≡ position_or_len is_space_or_tab text.now }
     ensures within { result ≤ length text.now }
@@ -90,7 +91,7 @@ fn word_len(text: &[u8]) -> usize
         .count()
 }
 
-/// What is between the spaces and tabs at the start and the next.
+/// The first token: the text up to the next space or tab, without leading ones.
 fn first_word<'a>(body: &'a [u8]) -> &'a [u8]
     ensures { result.now ≡ first_word body.now }
 {
@@ -98,14 +99,14 @@ fn first_word<'a>(body: &'a [u8]) -> &'a [u8]
     &text[..word_len(text)]
 }
 
-/// Whether the word is the name, ASCII letters in any case.
+/// Whether the token is the name, compared without regard to the case of ASCII letters.
 fn is_name(name: &str, word: &[u8]) -> bool
     ensures { result ≡ is_name name.now word.now }
 {
     word.eq_ignore_ascii_case(name.as_bytes())
 }
 
-/// Whether the word begins with the name, ASCII letters in any case.
+/// Whether the token starts with the name, compared without regard to the case of ASCII letters.
 #[tactic(auto, unfolding(crate::specs::FieldNames::begins_with))]
 fn begins_with(name: &str, word: &[u8]) -> bool
     ensures { result ≡ begins_with name.now word.now }
@@ -113,7 +114,7 @@ fn begins_with(name: &str, word: &[u8]) -> bool
     is_name(name, &word[..name.len().min(word.len())])
 }
 
-/// Whether the word is one of the accepted names of this kind of directive.
+/// Whether the token is one of the accepted names of this kind of directive.
 fn is_accepted(kind: Kind, word: &[u8]) -> bool
     ensures { result ≡ is_accepted kind word.now }
 {
@@ -125,7 +126,7 @@ fn is_accepted(kind: Kind, word: &[u8]) -> bool
     false
 }
 
-/// Whether two edits at most, each of one byte, make the name of the word in small letters.
+/// Whether the token, in lower case, has an edit distance of at most 2 from the name.
 fn is_near(alloc: Global, name: &str, word: &[u8]) -> Result<bool, AllocError>
     ensures { IfOk result (λ answer. answer ≡ is_near name.now word.now) }
 {
@@ -136,14 +137,14 @@ fn is_near(alloc: Global, name: &str, word: &[u8]) -> Result<bool, AllocError>
     Ok(generic_levenshtein(alloc, &lowered, name.as_bytes())? <= 2)
 }
 
-/// Whether the name may be meant by the word.
+/// Whether the token starts with the name or is similar to it.
 fn may_mean(alloc: Global, name: &str, word: &[u8]) -> Result<bool, AllocError>
     ensures { IfOk result (λ answer. answer ≡ may_mean name.now word.now) }
 {
     Ok(begins_with(name, word) || is_near(alloc, name, word)?)
 }
 
-/// Whether one of the two words is the name.
+/// Whether one of the two tokens is the name.
 #[tactic(auto, unfolding(crate::specs::FieldNames::is_either))]
 fn is_either(name: &[u8], word: &[u8], known: &str) -> bool
     ensures { result ≡ is_either name.now word.now known.now }
@@ -151,7 +152,7 @@ fn is_either(name: &[u8], word: &[u8], known: &str) -> bool
     is_name(known, name) || is_name(known, word)
 }
 
-/// Whether the name may be meant by one of the two words.
+/// Whether one of the two tokens starts with the name or is similar to it.
 #[tactic(auto, unfolding(crate::specs::FieldNames::may_either_mean))]
 fn may_either_mean(alloc: Global, name: &[u8], word: &[u8], known: &str) -> Result<bool, AllocError>
     ensures { IfOk result (λ answer. answer ≡ may_either_mean name.now word.now known.now) }
@@ -159,7 +160,7 @@ fn may_either_mean(alloc: Global, name: &[u8], word: &[u8], known: &str) -> Resu
     Ok(may_mean(alloc, known, name)? || may_mean(alloc, known, word)?)
 }
 
-/// The warning of the first of these names that is one of the two words.
+/// The warning for the first of these names that is one of the two tokens.
 fn first_in(names: &[(&str, Cause)], name: &[u8], word: &[u8]) -> Option<Cause>
     ensures { result ≡ first_that (is_either name.now word.now) (map name_value names.now) }
 {
@@ -171,7 +172,7 @@ fn first_in(names: &[(&str, Cause)], name: &[u8], word: &[u8]) -> Option<Cause>
     None
 }
 
-/// The warning of the first directive that may be meant by one of the two words.
+/// The warning for the first directive that one of the two tokens starts with or is similar to.
 fn directive_in(alloc: Global, name: &[u8], word: &[u8]) -> Result<Option<Cause>, AllocError>
     ensures { IfOk result (λ cause. cause ≡ directive_in name.now word.now) }
 {
@@ -183,7 +184,7 @@ fn directive_in(alloc: Global, name: &[u8], word: &[u8]) -> Result<Option<Cause>
     Ok(None)
 }
 
-/// The warning of an ignored line with these words.
+/// The warning for an ignored line with these two tokens.
 fn meant_among(alloc: Global, name: &[u8], word: &[u8]) -> Result<Cause, AllocError>
     ensures { IfOk result (λ cause. cause ≡ meant_among name.now word.now) }
 {
@@ -199,35 +200,35 @@ fn meant_among(alloc: Global, name: &[u8], word: &[u8]) -> Result<Cause, AllocEr
     }
 }
 
-/// The warning of an ignored line with this body.
+/// The warning for an ignored line with this content.
 pub(crate) fn meant_by(alloc: Global, body: &[u8]) -> Result<Cause, AllocError>
     ensures { IfOk result (λ cause. cause ≡ meant_by body.now) }
 {
     meant_among(alloc, name_in(body), first_word(body))
 }
 
-/// Whether the text begins with one of these names.
+/// Whether the text starts with one of these names.
 fn begins_with_any(names: &[(&str, Cause)], text: &[u8]) -> bool
     ensures { result ≡ list_any (λ row. begins_with row.0.now text.now) names.now }
 {
     names.iter().any(|row| begins_with(row.0, text))
 }
 
-/// Whether the directive with this body begins with none of the usual names.
+/// Whether a directive with this content starts with none of the usual names.
 pub(crate) fn is_misspelled(body: &[u8]) -> bool
     ensures { result ≡ is_misspelled body.now }
 {
     !begins_with_any(&DIRECTIVES, without_front(body))
 }
 
-/// Whether the word is an accepted name of a directive.
+/// Whether the token is an accepted name of a directive.
 fn is_any_accepted(word: &[u8]) -> bool
     ensures { result ≡ is_any_accepted word.now }
 {
     KINDS.iter().any(|kind| is_accepted(*kind, word))
 }
 
-/// Whether no colon is after the field name of the directive with this body.
+/// Whether a directive with this content has no colon after the field name.
 pub(crate) fn is_without_colon(body: &[u8]) -> bool
     ensures { result ≡ is_without_colon body.now }
 {

@@ -1,4 +1,4 @@
-//! The lines of a file, of the bytes that count.
+//! The lines within the size limit of a file.
 ghost use Rattle.std.specs.Prelude.{◌≡◌, IfOk, map, take};
 ghost use Rattle.texting_robots.specs.Callers.{file_limit, lines_read, label_by_value};
 ghost use Rattle.robots_warnings.specs.File.{is_blank, labels_for};
@@ -7,14 +7,14 @@ use std::alloc::{AllocError, Global};
 use texting_robots::labels::{LabeledLine, labeled_lines};
 use texting_robots::robot::FILE_LIMIT;
 
-/// The first bytes of a file, as many as a robot reads.
+/// The bytes within the size limit, which are those that a robot reads.
 pub fn counted<'a>(file: &'a [u8]) -> &'a [u8]
     ensures { result.now ≡ take file_limit file.now }
 {
     &file[..FILE_LIMIT.min(file.len())]
 }
 
-/// How many lines a file has at most, by the bytes that end one.
+/// The capacity for the lines of a file: 1 more than its bytes LF, CR and NUL, which can end a line.
 fn most_lines(file: &[u8]) -> usize {
     let ends = counted(file)
         .iter()
@@ -22,7 +22,7 @@ fn most_lines(file: &[u8]) -> usize {
     ends.count().saturating_add(1)
 }
 
-/// The lines of a file, each with its number and its standing for the crawler.
+/// The lines of a file, each with its number and its membership in the crawler's group.
 pub fn labels_for<'a>(
     alloc: Global,
     agent: &str,
@@ -37,7 +37,7 @@ pub fn labels_for<'a>(
     Ok(labels)
 }
 
-/// Whether a body is nothing but blanks, or blanks and a comment.
+/// Whether the line content is empty: only spaces and tabs, possibly followed by a comment.
 #[tactic(auto, using(crate::proofs::FileLemmas::blank_at))]
 pub fn is_blank(body: &[u8]) -> bool
     ensures { result ≡ is_blank body.now }

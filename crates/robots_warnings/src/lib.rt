@@ -1,5 +1,5 @@
-//! What is valid in a robots.txt file, and in what is asked about it, but probably isn't what the owner meant: each warning with its
-//! name, the number of its line, and a text that says what to write.
+//! Warnings about what is valid in a robots.txt file or in a request, but probably not intended. Each has a name,
+//! possibly the number of a line, and a message that states what to write instead.
 #![tactic(auto)]
 
 pub mod checks;

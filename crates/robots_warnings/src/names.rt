@@ -1,14 +1,14 @@
-//! Sets of names, ASCII letters in any case.
+//! Sets of names, without regard to the case of ASCII letters.
 ghost use Rattle.std.specs.Prelude.{IfOk};
 ghost use Rattle.robots_warnings.specs.Internal.Names.{AddsName};
 
 use std::alloc::{AllocError, Global};
 use std::collections::BTreeSet;
 
-/// Names, each lowered.
+/// A set of names in lower case.
 pub type Names = BTreeSet<Vec<u8>>;
 
-/// Adds a name; whether it is a new one.
+/// Inserts a name, and returns whether it is a new one.
 pub fn add_name(alloc: Global, names: &mut Names, name: &[u8]) -> Result<bool, AllocError>
     ensures { IfOk result (λ is_new. AddsName names.old names.new name.now is_new) }
 {

@@ -1,4 +1,4 @@
-//! Names that are in a file only past the size limit.
+//! Crawlers that a file names only past the size limit.
 ghost use Rattle.std.specs.Prelude.{◌≡◌, IfOk, map};
 ghost use Rattle.texting_robots.specs.Callers.{by_value, label_by_value};
 ghost use Rattle.robots_warnings.specs.File.{lines_of};
@@ -12,7 +12,7 @@ use std::collections::BTreeSet;
 use texting_robots::labels::LabeledLine;
 use texting_robots::parser::{Line, file_lines};
 
-/// Adds the name of a line to those that were met, if it has one; whether it is a new one.
+/// Inserts the name of a user-agent line, and returns whether it is a new one. For other lines it returns `false`.
 fn insert_name(alloc: Global, met: &mut Names, line: Line<'_>) -> Result<bool, AllocError>
     ensures { IfOk result (λ is_new. MeetsLine met.old met.new (by_value line.entry) is_new) }
 {
@@ -22,7 +22,7 @@ fn insert_name(alloc: Global, met: &mut Names, line: Line<'_>) -> Result<bool, A
     }
 }
 
-/// The names of the lines that were read.
+/// The names in these lines.
 #[tactic(auto, using(crate::proofs::NamesPastLimitLemmas::read_more))]
 fn names_read(alloc: Global, labels: &[LabeledLine<'_>]) -> Result<Names, AllocError>
     ensures { IfOk result (λ met. HasNames met (lines_of (map label_by_value labels.now))) }
@@ -34,7 +34,8 @@ fn names_read(alloc: Global, labels: &[LabeledLine<'_>]) -> Result<Names, AllocE
     Ok(met)
 }
 
-/// The numbers of the lines that are the first to have a name which none of the lines that were read has.
+/// The numbers of the user-agent lines that are the first in the file to have their name, and whose name isn't in
+/// `labels`, the lines within the size limit.
 pub(crate) fn names_past_limit(
     alloc: Global,
     file: &[u8],

@@ -1,4 +1,4 @@
-//! Where lines are among others.
+//! Conditions on the position of a line.
 ghost use Rattle.std.specs.Prelude.{◌≡◌, map};
 ghost use Rattle.texting_robots.specs.Callers.{by_value, label_by_value};
 ghost use Rattle.robots_warnings.specs.Positions.{group_number, is_above_agents, is_after, is_empty_group, is_split};
@@ -7,18 +7,18 @@ ghost use Rattle.robots_warnings.specs.Positions.{last_group, preceding_with};
 use texting_robots::labels::{LabeledLine, Membership};
 use texting_robots::parser::Line;
 
-/// What is above a line, as far as it matters to a user-agent line there.
+/// What precedes a line, as far as it matters to a user-agent line.
 #[derive(Clone, Copy, PartialEq, Eq)]
 pub enum Preceding {
-    /// Neither of the other two.
+    /// Neither of the following.
     Other,
-    /// A user-agent line, with neither a rule nor a delay after it.
+    /// A user-agent line, with no rule or delay after it.
     Agent,
-    /// A user-agent line, with delays after it and no rule.
+    /// A user-agent line, with delays but no rule after it.
     Delay,
 }
 
-/// What is above the next line, by this line and what is above it.
+/// What precedes the next line, determined by this line and what precedes it.
 pub(crate) fn preceding_with(preceding: Preceding, line: Line<'_>) -> Preceding
     ensures { result ≡ preceding_with preceding (by_value line.entry) }
 {
@@ -55,7 +55,7 @@ pub(crate) fn last_group(labels: &[LabeledLine<'_>]) -> Option<usize>
     last
 }
 
-/// Whether the last rule or delay, if there is one, is above the line with this number.
+/// Whether the line with this number comes after the last rule or delay, or there is none.
 fn is_after(last: Option<usize>, number: usize) -> bool
     ensures { result ≡ is_after last number }
 {
@@ -65,7 +65,7 @@ fn is_after(last: Option<usize>, number: usize) -> bool
     }
 }
 
-/// Whether the line is a rule in no group.
+/// Whether the line is a rule that belongs to no group.
 pub(crate) fn is_above_agents(labeled: &LabeledLine<'_>) -> bool
     ensures { result ≡ is_above_agents (label_by_value labeled.now) }
 {
@@ -73,14 +73,14 @@ pub(crate) fn is_above_agents(labeled: &LabeledLine<'_>) -> bool
         && labeled.membership == Membership::Ungrouped
 }
 
-/// Whether the line is a user-agent line after the last rule or delay.
+/// Whether the line is a user-agent line with no rule or delay after it.
 pub(crate) fn is_empty_group(last: Option<usize>, labeled: &LabeledLine<'_>) -> bool
     ensures { result ≡ is_empty_group last (label_by_value labeled.now) }
 {
     matches!(labeled.line, Line::UserAgent(_)) && is_after(last, labeled.number)
 }
 
-/// Whether the line is a user-agent line that delays split from one above it.
+/// Whether the line is a user-agent line that delays separate from one above it.
 pub(crate) fn is_split(preceding: Preceding, labeled: &LabeledLine<'_>) -> bool
     ensures { result ≡ is_split preceding (label_by_value labeled.now) }
 {

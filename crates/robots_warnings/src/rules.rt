@@ -13,14 +13,14 @@ ghost use Rattle.robots_warnings.specs.Rules.{somewhere};
 
 use crate::urls::begins_as_url;
 
-/// Whether the byte is in the text.
+/// Whether the text contains the byte.
 fn has(byte: u8, text: &[u8]) -> bool
     ensures { result ≡ has byte text.now }
 {
     text.iter().any(|other| *other == byte)
 }
 
-/// The index of the first such byte, or how long the text is if there is none.
+/// The index of the first such byte, or the length of the text if there is none.
 fn place(byte: u8, text: &[u8]) -> usize
     ensures value { result ≡ position_or_len (λ b. b == byte) text.now }
     ensures within { result ≤ length text.now }
@@ -28,14 +28,14 @@ fn place(byte: u8, text: &[u8]) -> usize
     text.iter().take_while(|other| **other != byte).count()
 }
 
-/// What is before the first such byte, or all if there is none.
+/// The text before the first such byte, or all of it if there is none.
 pub(crate) fn before_byte(byte: u8, text: &[u8]) -> &[u8]
     ensures { result.now ≡ before_byte byte text.now }
 {
     &text[..place(byte, text)]
 }
 
-/// What is after the first such byte, or nothing if there is none.
+/// The text after the first such byte; empty if there is none.
 fn after_byte(byte: u8, text: &[u8]) -> &[u8]
     ensures { result.now ≡ after_byte byte text.now }
 {
@@ -45,7 +45,7 @@ fn after_byte(byte: u8, text: &[u8]) -> &[u8]
     }
 }
 
-/// Whether the test holds of the text from some byte on.
+/// Whether the test holds for the rest of the text from some byte on.
 #[tactic(auto, using(crate::proofs::RuleLemmas::somewhere_next))]
 fn somewhere<F: Fn(&[u8]) -> bool>(text: &[u8], test: F) -> bool
     requires { F.IsAlwaysCallable test }
@@ -72,14 +72,14 @@ pub(crate) fn is_utf8(value: &[u8]) -> bool
     }
 }
 
-/// Whether the value begins with neither a slash nor a star, and isn't empty.
+/// Whether the value isn't empty and doesn't start with a slash or a star.
 fn begins_oddly(value: &[u8]) -> bool
     ensures { result ≡ begins_oddly value.now }
 {
     !matches!(value, [] | [b'/' | b'*', ..])
 }
 
-/// Whether a whole URL has the byte otherwise than a rule, in its query or in its path.
+/// Whether a parsed URL contains this byte, in its query or its path, in a form other than an escaped rule does.
 fn is_written_otherwise(in_query: bool, byte: u8) -> bool
     ensures { result ≡ is_written_otherwise in_query byte }
 {
@@ -90,7 +90,7 @@ fn is_written_otherwise(in_query: bool, byte: u8) -> bool
     }
 }
 
-/// Whether the value has a byte that a whole URL has otherwise.
+/// Whether the value contains a byte that a parsed URL contains in another form.
 #[tactic(auto, using(crate::proofs::RuleLemmas::otherwise_at))]
 pub(crate) fn holds_otherwise(value: &[u8]) -> bool
     ensures { result ≡ holds_otherwise false value.now }
@@ -105,28 +105,28 @@ pub(crate) fn holds_otherwise(value: &[u8]) -> bool
     false
 }
 
-/// Whether the value is in quotes.
+/// Whether the value is in single or double quotes.
 pub(crate) fn is_quoted(value: &[u8]) -> bool
     ensures { result ≡ is_quoted value.now }
 {
     matches!(value, [b'"', .., b'"'] | [b'\'', .., b'\''])
 }
 
-/// Whether the value has a choice, as `(a|b)`.
+/// Whether the value has an alternative, such as `(a|b)`.
 fn has_choice(value: &[u8]) -> bool
     ensures { result ≡ has_choice value.now }
 {
     has(b')', after_byte(b'|', after_byte(b'(', value)))
 }
 
-/// Whether the text begins with a range, as `[0-9]` does.
+/// Whether the text starts with a range, such as `[0-9]`.
 fn begins_range(text: &[u8]) -> bool
     ensures { result ≡ begins_range text.now }
 {
     matches!(text, [b'[', _, b'-', _, ..])
 }
 
-/// Whether the text begins with a class, as `\d`.
+/// Whether the text starts with a character class, such as `\d`.
 fn begins_class(text: &[u8]) -> bool
     ensures { result ≡ begins_class text.now }
 {
@@ -136,21 +136,21 @@ fn begins_class(text: &[u8]) -> bool
     }
 }
 
-/// Whether the text begins with a range, `.*` or a class.
+/// Whether the text starts with a range, `.*` or a character class.
 fn begins_sign(text: &[u8]) -> bool
     ensures { result ≡ begins_sign text.now }
 {
     begins_range(text) || text.starts_with(b".*") || begins_class(text)
 }
 
-/// Whether the value holds a choice or such a sign, or ends with a `+`.
+/// Whether the value has an alternative, contains a range, `.*` or a character class, or ends with `+`.
 pub(crate) fn is_expression(value: &[u8]) -> bool
     ensures { result ≡ is_expression value.now }
 {
     has_choice(value) || somewhere(value, begins_sign) || value.ends_with(b"+")
 }
 
-/// Whether something other than stars and `$` is after a `$` of the value.
+/// Whether a byte other than a star or `$` occurs after the first `$` of the value.
 pub(crate) fn has_dollar_inside(value: &[u8]) -> bool
     ensures { result ≡ has_dollar_inside value.now }
 {
@@ -166,7 +166,7 @@ fn needs_no_escape(byte: u8) -> bool
     byte.is_ascii_alphanumeric() || has(byte, b"-._~")
 }
 
-/// The value of a hex digit.
+/// The value of a hexadecimal digit.
 fn hex_value(digit: u8) -> u8
     requires { is_ascii_hexdigit digit ≡ true }
     ensures value { result ≡ digit_value digit }
@@ -179,7 +179,7 @@ fn hex_value(digit: u8) -> u8
     }
 }
 
-/// Whether one of two hex digits is a small letter, or they are those of a byte that needs no escape.
+/// Whether one of two hexadecimal digits is lowercase, or the byte that they mean needs no escape.
 fn are_odd_digits(high: u8, low: u8) -> bool
     requires high { is_ascii_hexdigit high ≡ true }
     requires low { is_ascii_hexdigit low ≡ true }
@@ -190,7 +190,7 @@ fn are_odd_digits(high: u8, low: u8) -> bool
         || needs_no_escape(hex_value(high) * 16 + hex_value(low))
 }
 
-/// Whether the text begins with an escape that has such digits.
+/// Whether the text starts with a percent escape that has such digits.
 fn begins_odd_escape(text: &[u8]) -> bool
     ensures { result ≡ begins_odd_escape text.now }
 {
@@ -202,21 +202,21 @@ fn begins_odd_escape(text: &[u8]) -> bool
     }
 }
 
-/// Whether the value has such an escape.
+/// Whether the value contains such an escape.
 pub(crate) fn has_odd_escape(value: &[u8]) -> bool
     ensures { result ≡ somewhere begins_odd_escape value.now }
 {
     somewhere(value, begins_odd_escape)
 }
 
-/// Whether the value begins oddly, and neither as a URL nor as a text in quotes.
+/// Whether the value has another first byte than a slash or a star, and isn't an absolute URL or in quotes.
 pub(crate) fn has_odd_start(value: &[u8]) -> bool
     ensures { result ≡ has_odd_start value.now }
 {
     begins_oddly(value) && !(begins_as_url(value) || is_quoted(value))
 }
 
-/// Whether the text begins with a slash and a segment of one dot or two, which a slash or the end of URLs follows.
+/// Whether the text starts with a path segment `.` or `..`, which a slash or the end of the URL follows.
 fn begins_dot_segment(text: &[u8]) -> bool
     ensures { result ≡ begins_dot_segment text.now }
 {
@@ -226,7 +226,7 @@ fn begins_dot_segment(text: &[u8]) -> bool
         || text == b"/..$".as_slice()
 }
 
-/// Whether the value has such a segment before its first `?`.
+/// Whether the value contains such a segment before its first `?`.
 pub(crate) fn has_dot_segment(value: &[u8]) -> bool
     ensures { result ≡ has_dot_segment value.now }
 {

@@ -1,4 +1,4 @@
-//! Whom a rule is for.
+//! The scopes of rules, which determine what rules are compared with each other.
 ghost use Rattle.std.specs.Prelude.{◌≡◌, ◌++◌, IfOk, OnOk, map};
 ghost use Rattle.texting_robots.specs.Callers.{by_value, label_by_value};
 ghost use Rattle.robots_warnings.specs.Conflicts.{scoped_by_value};
@@ -9,16 +9,16 @@ use std::alloc::{AllocError, Global};
 use texting_robots::labels::{LabeledLine, Membership};
 use texting_robots::parser::Line;
 
-/// A run of user-agent lines, one after the other, which name whom the rules below are for.
+/// A run of consecutive user-agent lines, which name the crawlers that the rules below are for.
 #[derive(Clone, Copy)]
 pub struct Run {
-    /// The number of its first line; 0 if there is none above.
+    /// The number of its first line; 0 before the first user-agent line.
     pub first: usize,
-    /// Whether the next user-agent line belongs to it.
+    /// Whether the next user-agent line belongs to this run.
     pub is_open: bool,
 }
 
-/// The run after a line.
+/// The run after this line.
 fn run_with(run: Run, number: usize, line: Line<'_>) -> Run
     ensures { result ≡ run_with run number (by_value line.entry) }
 {
@@ -36,14 +36,14 @@ fn run_with(run: Run, number: usize, line: Line<'_>) -> Run
     }
 }
 
-/// Whom the rules are for after this run.
+/// The scope of a rule after this run: the number of the run's first line if `everywhere`, else 0.
 fn scope_in(everywhere: bool, run: Run) -> usize
     ensures { result ≡ scope_in everywhere run }
 {
     if everywhere { run.first } else { 0 }
 }
 
-/// Adds the rule of a line, if it has one that is asked about.
+/// Appends the rule of a line, if it has one that is checked.
 fn add_rule<'a>(
     rules: &mut Vec<ScopedRule<'a>>,
     everywhere: bool,
@@ -69,7 +69,7 @@ fn add_rule<'a>(
     })?)
 }
 
-/// The rules that are asked about, each with whom it is for.
+/// The rules that are checked, each with its scope: all if `everywhere`, else those of the crawler's group.
 pub(crate) fn scoped_rules<'a>(
     alloc: Global,
     everywhere: bool,

@@ -1,11 +1,11 @@
-//! Every warning, in the order of output: its name, which is shown in `[..]` and is the `name` in JSON, and its text, which says what
-//! is wrong, what happens, and what to do. `checks` has the condition of each.
+//! Every warning, in the order of output: its name, which is shown in `[..]` and is the `name` in JSON, and its
+//! message, which states what is wrong, what happens, and what to do. `checks` has the condition of each.
 ghost use Rattle.std.specs.Prelude.{◌≡◌, ◌<◌, bytes_eq, length};
 ghost use Rattle.std.specs.List.{list_any};
 ghost use Rattle.robots_warnings.specs.Internal.{IsRowAt};
 ghost use Rattle.robots_warnings.specs.Table.{is_name, name_of, text_of};
 
-/// Why something is warned of. A row of [`WARNINGS`] explains each.
+/// The reason for a warning. Each has a row in [`WARNINGS`].
 #[derive(Clone, Copy, PartialEq, Eq)]
 #[rattlefmt::skip]
 pub enum Cause {
@@ -58,7 +58,7 @@ pub enum Cause {
     DelayOverADay,
     // a sitemap
     SitemapNotAbsolute,
-    // where a line is
+    // the position of a line
     RuleBeforeUserAgent,
     EmptyGroup,
     DelaySplitsGroup,
@@ -66,7 +66,7 @@ pub enum Cause {
     AllowedAndDisallowed,
 }
 
-/// The warnings with their names and texts.
+/// The warnings with their names and messages.
 #[rattlefmt::skip]
 pub static WARNINGS: [(Cause, &str, &str); 45] = [
     // the file
@@ -158,7 +158,7 @@ pub static WARNINGS: [(Cause, &str, &str); 45] = [
     // a sitemap
     (Cause::SitemapNotAbsolute, "sitemap-not-absolute",
         "the sitemap must be an absolute URL; write, for example, https://example.com/sitemap.xml"),
-    // where a line is
+    // the position of a line
     (Cause::RuleBeforeUserAgent, "rule-before-user-agent",
         "the rule comes before the first User-agent line, so it belongs to no group and is ignored; move it below the User-agent line it is meant for"),
     (Cause::EmptyGroup, "empty-group",
@@ -171,7 +171,7 @@ pub static WARNINGS: [(Cause, &str, &str); 45] = [
         "the same crawler has an Allow with this path, so this Disallow has no effect; delete one of them"),
 ];
 
-/// The row with this number.
+/// The row at this index.
 fn row_at(
     rows: &'static [(Cause, &'static str, &'static str)],
     number: usize,
@@ -198,7 +198,7 @@ pub fn is_name(name: &str) -> bool
 }
 
 impl Cause {
-    /// Its row.
+    /// The row of the warning.
     fn row(self) -> &'static (Cause, &'static str, &'static str)
         ensures own { result.now.0 ≡ self }
         ensures name { result.now.1.now ≡ name_of self }
@@ -207,14 +207,14 @@ impl Cause {
         row_at(&WARNINGS, self as usize)
     }
 
-    /// Its name.
+    /// The name of the warning.
     pub fn name(self) -> &'static str
         ensures { result.now ≡ name_of self }
     {
         self.row().1
     }
 
-    /// Its text.
+    /// The message of the warning.
     pub fn text(self) -> &'static str
         ensures { result.now ≡ text_of self }
     {

@@ -1,4 +1,4 @@
-//! What is a URL of a site, and what is a path.
+//! Conditions on URLs and paths.
 ghost use Rattle.std.specs.Prelude.{◌≡◌, ◌&&◌, IfOk, not};
 ghost use Rattle.robots_warnings.specs.Urls.{begins_as_url, begins_in_any_case, is_absolute_url, is_invalid_url};
 ghost use Rattle.robots_warnings.specs.Urls.{is_unparsable, is_url_or_path};
@@ -6,21 +6,21 @@ ghost use Rattle.robots_warnings.specs.Urls.{is_unparsable, is_url_or_path};
 use std::alloc::{AllocError, Global};
 use url::{ParseError, Url};
 
-/// Whether the text begins with the other, ASCII letters in any case.
+/// Whether the text starts with `front`, compared without regard to the case of ASCII letters.
 fn begins_in_any_case(front: &[u8], text: &[u8]) -> bool
     ensures { result ≡ begins_in_any_case front.now text.now }
 {
     text[..front.len().min(text.len())].eq_ignore_ascii_case(front)
 }
 
-/// Whether the text begins as a URL of a site does.
+/// Whether the text starts with `http://` or `https://`.
 pub(crate) fn begins_as_url(text: &[u8]) -> bool
     ensures { result ≡ begins_as_url text.now }
 {
     begins_in_any_case(b"http://", text) || begins_in_any_case(b"https://", text)
 }
 
-/// Whether the text begins as a URL of a site or as a path does.
+/// Whether the text starts like an http(s) URL or a path.
 pub(crate) fn is_url_or_path(text: &str) -> bool
     ensures { result ≡ is_url_or_path text.now }
 {
@@ -38,21 +38,21 @@ fn is_unparsable(alloc: Global, text: &str) -> Result<bool, AllocError>
     }
 }
 
-/// Whether the text begins as a URL of a site does, and can't be parsed.
+/// Whether the text starts like an http(s) URL, but can't be parsed.
 pub(crate) fn is_invalid_url(alloc: Global, text: &str) -> Result<bool, AllocError>
     ensures { IfOk result (λ answer. answer ≡ is_invalid_url text.now) }
 {
     Ok(begins_as_url(text.as_bytes()) && is_unparsable(alloc, text)?)
 }
 
-/// Whether the text begins as a URL of a site does, and can be parsed.
+/// Whether the text starts like an http(s) URL, and can be parsed.
 fn is_parsable_url(alloc: Global, text: &str) -> Result<bool, AllocError>
     ensures { IfOk result (λ answer. answer ≡ (begins_as_url text.now && not (is_unparsable text.now))) }
 {
     Ok(begins_as_url(text.as_bytes()) && !is_unparsable(alloc, text)?)
 }
 
-/// Whether the value is the URL of a site.
+/// Whether the value is an absolute http(s) URL.
 pub(crate) fn is_absolute_url(alloc: Global, value: &[u8]) -> Result<bool, AllocError>
     ensures { IfOk result (λ answer. answer ≡ is_absolute_url value.now) }
 {

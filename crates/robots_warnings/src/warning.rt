@@ -1,4 +1,4 @@
-//! A warning, and how it is written.
+//! A warning, and its text in a report.
 ghost use Rattle.std.specs.Prelude.{◌≡◌, ◌++◌, OnOk, option_map, string_bytes};
 ghost use Rattle.robots_warnings.specs.Internal.{warning_value};
 ghost use Rattle.robots_warnings.specs.Warnings.{about_text, name_text, place_text, warning_line, warning_text};
@@ -11,14 +11,14 @@ use std::alloc::AllocError;
 /// A warning.
 #[derive(Clone, Copy)]
 pub struct Warning<'a> {
-    /// The number of the line that it is about, where it is about one.
+    /// The number of the line that the warning is about, if it is about one.
     pub line: Option<usize>,
     pub cause: Cause,
-    /// The URL that it is about, where it is about one.
+    /// The URL that the warning is about, if it is about one.
     pub about: Option<&'a str>,
 }
 
-/// Adds the number of a line, if there is one.
+/// Appends the number of a line, if there is one.
 fn push_place(text: &mut String, line: Option<usize>) -> Result<(), AllocError>
     ensures { OnOk result (string_bytes text.new ≡ string_bytes text.old ++ place_text line) }
 {
@@ -30,7 +30,7 @@ fn push_place(text: &mut String, line: Option<usize>) -> Result<(), AllocError>
     text.push_str(": ")
 }
 
-/// Adds the URL before the text, if there is one.
+/// Appends the URL that a warning is about, if there is one.
 fn push_about(text: &mut String, about: Option<&str>) -> Result<(), AllocError>
     ensures { OnOk result (string_bytes text.new ≡ string_bytes text.old
         ++ about_text (option_map (λ url. url.now) about.entry)) }
@@ -43,7 +43,7 @@ fn push_about(text: &mut String, about: Option<&str>) -> Result<(), AllocError>
     text.push_str("': ")
 }
 
-/// Adds the text of a warning, after the URL that it is about.
+/// Appends the message of a warning, preceded by the URL that it is about.
 pub fn push_warning_text(text: &mut String, warning: &Warning<'_>) -> Result<(), AllocError>
     ensures { OnOk result (string_bytes text.new ≡ string_bytes text.old
         ++ warning_text (warning_value warning.now)) }
@@ -52,7 +52,7 @@ pub fn push_warning_text(text: &mut String, warning: &Warning<'_>) -> Result<(),
     text.push_str(warning.cause.text())
 }
 
-/// Adds the name of a warning.
+/// Appends the name of a warning in brackets.
 fn push_name(text: &mut String, cause: Cause) -> Result<(), AllocError>
     ensures { OnOk result (string_bytes text.new ≡ string_bytes text.old ++ name_text cause) }
 {
@@ -61,7 +61,7 @@ fn push_name(text: &mut String, cause: Cause) -> Result<(), AllocError>
     text.push(']')
 }
 
-/// Adds the text and the name of a warning.
+/// Appends the message and the name of a warning.
 fn push_reported(text: &mut String, warning: &Warning<'_>) -> Result<(), AllocError>
     ensures { OnOk result (string_bytes text.new ≡ string_bytes text.old
         ++ (warning_text (warning_value warning.now) ++ name_text warning.now.cause)) }
@@ -70,7 +70,7 @@ fn push_reported(text: &mut String, warning: &Warning<'_>) -> Result<(), AllocEr
     push_name(text, warning.cause)
 }
 
-/// Adds the number of a warning's line, its text and its name, without an end of line.
+/// Appends the line number, the message and the name of a warning, without a line end.
 #[tactic(auto, unfolding(crate::specs::Warnings::warning_line))]
 pub fn push_warning(text: &mut String, warning: &Warning<'_>) -> Result<(), AllocError>
     ensures { OnOk result (string_bytes text.new ≡ string_bytes text.old

@@ -1,4 +1,4 @@
-//! What is warned of: what is valid but probably isn't what the owner meant.
+//! All warnings about a file and a request: what is valid but probably not intended.
 ghost use Rattle.std.specs.Prelude.{◌≡◌, ◌++◌, [], IfOk, OnOk, if◌then◌else◌, map, option_map};
 ghost use Rattle.texting_robots.specs.Callers.{bodies_read, by_value, label_by_value};
 ghost use Rattle.robots_warnings.specs.Checks.{field_checks, is_directive, value_checks};
@@ -23,10 +23,10 @@ use std::alloc::{AllocError, Global};
 use texting_robots::labels::{LabeledLine, Membership};
 use texting_robots::parser::{Line, file_bodies};
 
-/// A list of warnings that grows.
+/// The warnings found so far.
 type Found<'a> = Vec<Warning<'a>>;
 
-/// Adds the warnings whose conditions hold.
+/// Appends the warnings whose conditions hold.
 fn warn<'a>(
     found: &mut Found<'a>,
     line: Option<usize>,
@@ -44,7 +44,7 @@ fn warn<'a>(
     Ok(())
 }
 
-/// Adds the same warning of each line with one of these numbers.
+/// Appends this warning for each line with one of these numbers.
 fn warn_at(found: &mut Found<'_>, cause: Cause, numbers: &[usize]) -> Result<(), AllocError>
     ensures { OnOk result (Adds found.old.items found.new.items (warned_at cause numbers.now)) }
 {
@@ -58,7 +58,7 @@ fn warn_at(found: &mut Found<'_>, cause: Cause, numbers: &[usize]) -> Result<(),
     Ok(())
 }
 
-/// Adds the warnings of the crawler that is asked about, if one is.
+/// Appends the warnings about the product token that the user passed, if there is one.
 fn warn_of_agent(found: &mut Found<'_>, agent: Option<&str>) -> Result<(), AllocError>
     ensures { OnOk result (Adds found.old.items found.new.items (agent_warnings (option_map (λ agent. agent.now) agent.entry))) }
 {
@@ -68,7 +68,7 @@ fn warn_of_agent(found: &mut Found<'_>, agent: Option<&str>) -> Result<(), Alloc
     }
 }
 
-/// Adds the warnings of the file, of the crawler and of the URLs.
+/// Appends the warnings about the file, the product token and the URLs.
 fn warn_in_general<'a>(
     alloc: Global,
     found: &mut Found<'a>,
@@ -86,7 +86,7 @@ fn warn_in_general<'a>(
     Ok(())
 }
 
-/// Adds the warnings of what a line holds.
+/// Appends the warnings about the value of a line. Rules are only checked if `is_asked` is true.
 fn warn_of_value(
     alloc: Global,
     found: &mut Found<'_>,
@@ -109,7 +109,7 @@ fn warn_of_value(
     }
 }
 
-/// Adds the warnings of the field name of a line with this body, if it is a directive.
+/// Appends the warnings about the field name of a line with this content, if it is a directive.
 fn warn_of_field(
     found: &mut Found<'_>,
     labeled: &LabeledLine<'_>,
@@ -123,14 +123,14 @@ fn warn_of_field(
     }
 }
 
-/// Whether a rule is checked.
+/// Whether a rule with this membership is checked.
 fn is_in_scope_of(everywhere: bool, membership: Membership) -> bool
     ensures { result ≡ is_in_scope_of everywhere membership }
 {
     everywhere || membership == Membership::Own
 }
 
-/// Adds the warnings of a line with this body.
+/// Appends the warnings about a line with this content.
 fn warn_of_line(
     alloc: Global,
     found: &mut Found<'_>,
@@ -145,7 +145,7 @@ fn warn_of_line(
     warn_of_value(alloc, found, is_asked, labeled.number, labeled.line)
 }
 
-/// Adds the warnings of the lines of a file, given with their marks.
+/// Appends the warnings about the lines of a file, which are given with their labels.
 fn warn_of_lines(
     alloc: Global,
     found: &mut Found<'_>,
@@ -166,7 +166,7 @@ fn warn_of_lines(
     Ok(())
 }
 
-/// Adds the warnings of each line of a file, unless the file seems to be something else.
+/// Appends the warnings about each line of a file, unless the file seems to be something else than a robots.txt file.
 fn warn_of_file_lines(
     alloc: Global,
     found: &mut Found<'_>,
@@ -183,7 +183,7 @@ fn warn_of_file_lines(
     warn_of_lines(alloc, found, everywhere, labels, file)
 }
 
-/// Adds the warnings of where lines are.
+/// Appends the warnings about the positions of lines.
 fn warn_of_positions(found: &mut Found<'_>, labels: &[LabeledLine<'_>]) -> Result<(), AllocError>
     ensures { OnOk result (Adds found.old.items found.new.items (position_warnings (map label_by_value labels.now))) }
 {
@@ -197,7 +197,8 @@ fn warn_of_positions(found: &mut Found<'_>, labels: &[LabeledLine<'_>]) -> Resul
     Ok(())
 }
 
-/// Adds the warnings of names past the size limit, unless the file seems to be something else.
+/// Appends the warnings about names past the size limit, unless the file seems to be something else than a robots.txt
+/// file.
 fn warn_past_limit(
     alloc: Global,
     found: &mut Found<'_>,
@@ -214,7 +215,7 @@ fn warn_past_limit(
     warn_at(found, Cause::GroupPastSizeLimit, &numbers)
 }
 
-/// Adds the warnings of what is allowed and disallowed.
+/// Appends the warnings about values that are both allowed and disallowed.
 fn warn_of_both_ways(
     alloc: Global,
     found: &mut Found<'_>,
@@ -228,7 +229,7 @@ fn warn_of_both_ways(
     warn_at(found, Cause::AllowedAndDisallowed, &numbers)
 }
 
-/// Whether rules are checked everywhere: where no one crawler is asked about.
+/// Whether the rules of all groups are checked: the request isn't about a single crawler.
 fn covers_all_crawlers(agent: Option<&str>) -> bool
     ensures { result ≡ covers_all_crawlers (option_map (λ agent. agent.now) agent.entry) }
 {
@@ -238,7 +239,7 @@ fn covers_all_crawlers(agent: Option<&str>) -> bool
     }
 }
 
-/// All warnings of a file, of which these are the facts and the lines.
+/// All warnings about a file and a request, in the order of output. `facts` and `labels` are those of this file.
 pub fn warnings<'a>(
     alloc: Global,
     agent: Option<&str>,

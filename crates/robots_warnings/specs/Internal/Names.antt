@@ -1,4 +1,4 @@
--- Sets of names, in which each is lowered.
+-- Sets of names in lower case.
 use Rattle.std.specs.Prelude.{◌≡◌, ℕ, ◌+◌, Bool, bytes_eq, filter, length, map, not, ◌||◌}
 use Rattle.std.specs.Prelude.{List, ◌++◌, ◌∷◌, []}
 use Rattle.std.specs.BTreeSet.{BTreeSet, contains}
@@ -11,15 +11,15 @@ use Rattle.std.specs.declared.cmp.Ordering.{Ordering}
 use Rattle.texting_robots.specs.Callers.{LineValue, file_lines, is_agent_named}
 use Rattle.robots_warnings.specs.NamesPastLimit.{has_new_name, is_past_limit, names_past_limit}
 
--- a name, lowered
+-- a name in lower case
 abbrev pub Key : Type 0
 Key = Vec ℕ
 
--- the order of these
+-- the order of such names
 abbrev pub key_cmp : Key → Key → Ordering
 key_cmp one two = slice_cmp nat_cmp one.items two.items
 
--- the name was added to the old set, where it may have been before
+-- the name was inserted into the old set, and is new if the old set didn't contain it
 pub record AddsName (old new : BTreeSet Key) (name : List ℕ) (is_new : Bool) : Type 0 where
   pub lowered : Key
   pub spells : lowered.items ≡ str_to_ascii_lowercase name
@@ -27,24 +27,25 @@ pub record AddsName (old new : BTreeSet Key) (name : List ℕ) (is_new : Bool) :
   pub each : (key : Key) → contains key_cmp new key
       ≡ (contains key_cmp old key || bytes_eq (str_to_ascii_lowercase name) key.items)
 
--- ---- names of lines
+-- ---- the names in user-agent lines
 
--- the set has the names of these lines
+-- the set contains exactly the names in these lines
 pub record HasNames (met : BTreeSet Key) (lines : List LineValue) : Type 0 where
   pub each : (key : Key) → contains key_cmp met key ≡ list_any (is_agent_named key.items) lines
 
--- the set has the name of one line more, which was new or not
+-- the name of one more line was inserted into the set, and `is_new` is true if it was a new one
 pub record MeetsLine (old new : BTreeSet Key) (line : LineValue) (is_new : Bool) : Type 0 where
   pub was : (lines : List LineValue) → HasNames old lines → is_new ≡ has_new_name lines line
   pub has : (lines : List LineValue) → HasNames old lines → HasNames new (lines ++ line ∷ [])
 
--- the numbers of the lines with new names among those of a file that are left from an index on
+-- the numbers of the lines with new names, among the lines of a file from an index on
 abbrev pub past_limit_from : List LineValue → List ℕ → ℕ → List LineValue → List ℕ
 past_limit_from read file index left =
     map (λ p. p.0 + 1) (filter (is_past_limit read file) (enumerate_from index left))
 
--- the set has the names of the lines that were read and of those before an index of a file, from which on
--- these are left; and the numbers that were found, and those among the lines that are left, are all
+-- the search at this index: `left` are the lines of the file from it on, the set contains the names in the
+-- lines within the size limit and in those before the index, and `found` with the numbers among `left` is
+-- the result
 pub record IsFoundUpto (read : List LineValue) (file : List ℕ) (met : BTreeSet Key) (found : List ℕ) (index : ℕ)
     (left : List LineValue) : Type 0 where
   pub before : List LineValue
