@@ -106,15 +106,9 @@ IsWs byte = (byte ≡ 0x20) ⊎ (byte ≡ 0x09)
 abbrev pub IsNl : List ℕ → Type 0
 IsNl bytes = (bytes ≡ 0x0D ∷ []) ⊎ ((bytes ≡ 0x0A ∷ []) ⊎ (bytes ≡ 0x0D ∷ 0x0A ∷ []))
 
-<<<<<<< HEAD
--- a piece of a comment: UTF8-char-noctl / WS / "#"
+-- a part of a comment: UTF8-char-noctl / WS / "#"
 abbrev pub IsCommentUnit : List ℕ → Type 0
 IsCommentUnit bytes =
-=======
--- a part of a comment: UTF8-char-noctl / WS / "#"
-abbrev pub IsCommentSegment : List ℕ → Type 0
-IsCommentSegment bytes =
->>>>>>> 475b6ded452492babd65b006aec677d2ad9ee0a6
     IsUtf8CharNoctl bytes
     ⊎ (((byte : ℕ) × IsWs byte × (bytes ≡ byte ∷ [])) ⊎ (bytes ≡ codes "#"))
 
