@@ -31,7 +31,7 @@ zip_push R (_ ∷ _) [] item next are is = absurd are
 zip_push R (_ ∷ items) (_ ∷ found) item next (first, later) is =
     (first, zip_push R items found item next later is)
 
--- the loop step: one more item, and the result for it
+-- loop step: one more item, and the result for it
 pub zip_next : {A B C V : Type 0} (R : B → V → Type 0) (f : A → B) (g : C → V) (items : List A)
     (place : ℕ) (item : A) (found : List C) (next : C) → place < length items
     → AllZip R (map f (take place items)) (map g found) → R (f (slice_index_or items place item)) (g next)

@@ -12,7 +12,7 @@ next_digit (suc digits) rest some more =
     let same : suc digits - 1 ≡ digits = omega arith in
     rw (ne_eqb rest 0 (λ none. omega arith), same) refl
 
--- the loop step: a digit was appended, and the remaining digits follow
+-- loop step: a digit was appended, and the remaining digits follow
 pub digit_added : (old new all : List ℕ) (digits rest : ℕ) → 0 < rest → 0 < digits
     → new ≡ old ++ decimal (rest * 10 / million) → old ++ fraction digits rest ≡ all
     → new ++ fraction (digits - 1) (rest * 10 % million) ≡ all

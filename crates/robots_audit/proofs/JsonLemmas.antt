@@ -1,5 +1,5 @@
--- The JSON of an audit contains no floating-point number and no control or bidirectional-formatting
--- character.
+-- The JSON of an audit contains no floating-point number, and no control or bidirectional-formatting
+-- characters other than LF.
 use Rattle.std.proofs.Common.{◌≡◌, ℕ, suc, ◌+◌, ◌<◌, ◌≤◌, Bool, true, false, List}
 use Rattle.std.proofs.Common.{[], ◌∷◌, ◌++◌, Option, Some, None, ap, ap₂, append-nil, arith}
 use Rattle.std.proofs.Common.{drop, flat_map, get_or, inl, inr, length, map, refl, slice_index_or}

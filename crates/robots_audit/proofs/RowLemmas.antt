@@ -4,7 +4,7 @@ use Rattle.std.proofs.Common.{ap, append_assoc, replicate}
 use Rattle.std.proofs.lemmas.List.{replicate-append-replicate}
 use Rattle.robots_warnings.specs.File.{space}
 
--- the loop step: one more space
+-- loop step: one more space
 pub blanks_more : (n : ℕ) (old mid new : List ℕ) → new ≡ mid ++ space ∷ []
     → mid ≡ old ++ replicate n space
     → new ≡ old ++ replicate (n + 1) space

@@ -95,7 +95,7 @@ module _ (R : RattleType) where
         (dealloc_token-Testable 𝓛 heap τ at))
         (guard_i 𝓤 (Testable at) (sem 𝓛 F))) $ learn t (λ may. some' b o refl may)
 
-  -- on success, the kept value is one of which `P` holds, and C owns it from then on
+  -- if `A` holds, the kept value is one of which `P` holds, and C owns it from then on
   module _ {M : Type 1} {𝓤 : Ura M} (𝓛 : Logic 𝓤) (P : R.Denot → Type 0) (at : Ptr) where
     pub owned_then : (kept : Option R.Denot) (A : Type 0) → (A
         → (x : R.Denot) × P x × (kept ≡ Some x))

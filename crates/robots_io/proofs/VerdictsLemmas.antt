@@ -34,7 +34,7 @@ module _ (sanitized : List ℕ → List ℕ) (rules : List PlacedRule) where
         whole = rw (back, front) (simp (append_assoc, append-nil));
       }
 
-  -- the loop step for the next URL of a list
+  -- loop step for the next URL of a list
   pub adds_next : {A : Type 0} (f : A → List ℕ) (items : List A) (place : ℕ) (item : A)
       (old mid new : List ℕ)
       → place < length items → AddsVerdicts sanitized rules (map f (take place items)) old mid

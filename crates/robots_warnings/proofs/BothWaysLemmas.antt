@@ -36,7 +36,7 @@ allowed_added old new rule is updates = record {
       ∙ either has same ∙ ap (λ (t : Bool). has || (t && same)) (sym is);
 }
 
--- the loop step: the set covers one more rule
+-- loop step: the set covers one more rule
 pub has_more : (rules : List ScopedRule) (at : ℕ) (rule : ScopedRule) (old new : BTreeSet Key)
     → at < length rules → HasAllowed old (take at rules)
     → AddsAllowed old new (slice_index_or rules at rule) → HasAllowed new (take (at + 1) rules)
@@ -81,7 +81,7 @@ both_from all rules at rule below =
     (is_allowed_too all (scoped_by_value (slice_index_or rules at rule))) _
     (filter (is_allowed_too all) (map scoped_by_value (drop (at + 1) rules))))
 
--- the loop step: after one more rule, the numbers found so far and the remaining ones are the same list
+-- loop step: after one more rule, the numbers found so far and the remaining ones are the same list
 pub numbers_more : (rules : List ScopedRule) (at : ℕ) (rule : ScopedRule) (allowed : BTreeSet Key)
     (old new whole : List ℕ) (cause : Bool) → at < length rules → HasAllowed allowed rules
     → cause ≡ (not (slice_index_or rules at rule).is_allow && contains key_cmp allowed

@@ -1,4 +1,4 @@
--- Warnings contain no control or bidirectional-formatting characters.
+-- Warnings contain no control or bidirectional-formatting characters other than LF.
 use Rattle.std.proofs.Common.{◌≡◌, ℕ, zero, suc, true, List, [], ◌∷◌, ◌++◌, Option, Some, None, Bool, map, refl}
 use Rattle.std.{specs.List.list_all, specs.Prelude.slice_index_or, proofs.lemmas.Bool.and_parts}
 use Rattle.robots_warnings.specs.declared.table.Cause.{Cause}

@@ -167,7 +167,7 @@ module _ (name : List ℕ) (lines : List LineValue) (position : ℕ) (line : Lin
       Decides-like _ (run_named name lines position next is agent)
       (named_captures name lines position next is agent) captured))))
 
-  -- a group line is in a group if a user-agent line is before it
+  -- a group line is in a group exactly if a user-agent line is before it
   in_group_decides : Decides ((is_agent line || is_group line) && list_any is_agent (take (position + 1) lines))
       (IsInGroup lines position)
   in_group_decides = Decides-at _ _
