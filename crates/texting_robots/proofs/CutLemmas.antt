@@ -135,7 +135,7 @@ cut_occurs (pair ∷ later) text is = (
 
 -- ---- `cut` computes a cut
 
--- these are such pairs, and their bytes are those of the others after one more byte
+-- `more` are such pairs, and their bytes are the byte `b` and those of `pairs`
 abbrev Adds : ℕ → List Pair → List Pair → Type 0
 Adds b pairs more = ArePairs more × (joined more ≡ b ∷ joined pairs)
 
