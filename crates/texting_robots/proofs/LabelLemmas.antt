@@ -145,8 +145,8 @@ module _ (name : List ℕ) (lines : List LineValue) (position : ℕ) (line : Lin
   abbrev next : ℕ
   next = next_group lines position
 
-  -- a rule or delay is in the own group if it is captured, and a user-agent line is if the next rule or delay
-  -- is
+  -- a rule or delay is in the crawler's own group if it is captured, and a user-agent line is if the next
+  -- rule or delay is captured, or one at the end of the file would be
   own_decides : Decides ((is_agent line || is_group line) && is_captured name lines next)
       (IsInOwnGroup name lines position)
   own_decides =

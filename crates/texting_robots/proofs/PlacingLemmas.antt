@@ -49,7 +49,8 @@ module _ (t : List ℕ) where
         (record { fits = omega arith; reads = at_reads 0 t segment at rest e }, following)
 
     module _ (from : ℕ) (within : from ≤ length t) where
-      -- the first occurrence from `from` on leaves the rest after the first occurrence in the text
+      -- if the search from `from` on finds `at`, then what follows that occurrence is the rest after the
+      -- first one
       pub after_found : (at : ℕ) → FindsNeedle t segment from (Some at)
           → IsRestAfterFirst segment (drop from t) (drop (at + length segment) t)
       after_found at (none, here) =
