@@ -10,7 +10,7 @@ import os
 import threading
 from ctypes import POINTER, byref, c_char_p, c_int32, c_int64, c_size_t, c_uint64, c_void_p
 
-OK, NOT_UTF8, NO_MEMORY, NO_ROOM, NO_DELAY, NO_ADDRESS, OVERLONG_RULE = range(0, -7, -1)
+OK, NOT_UTF8, OUT_OF_MEMORY, BUFFER_TOO_SMALL, NO_DELAY, NO_ADDRESS, OVERLONG_RULE = range(0, -7, -1)
 TEXTS = ["no error", "the agent or a URL isn't UTF-8", "out of memory", "the buffer is too small"]
 TEXTS += ["the file has no delay for this crawler", "the URL has no robots.txt file"]
 
@@ -54,7 +54,7 @@ class RobotsError(Exception):
 
 
 def check(status, line=0):
-    if status == NO_MEMORY:
+    if status == OUT_OF_MEMORY:
         raise MemoryError
     if status != OK:
         raise RobotsError(status, line)
@@ -77,7 +77,7 @@ def written(call, *words):
     while True:
         out = ctypes.create_string_buffer(room)
         status = call(*words, out, room, byref(length))
-        if status != NO_ROOM:
+        if status != BUFFER_TOO_SMALL:
             check(status)
             return out.raw[: length.value].decode()
         room = length.value

@@ -118,7 +118,7 @@ static struct outcome delay(void) {
 static struct outcome text_is(int32_t status, const char *out, size_t len, const char *wanted, size_t room) {
     size_t length = strlen(wanted);
     bool right = status == ROBOTS_OK && len == length && memcmp(out, wanted, length) == 0 && all_are(out + length, 99 - length, 77);
-    bool counted = status == ROBOTS_NO_ROOM ? len == length && room < length : len == 7;
+    bool counted = status == ROBOTS_BUFFER_TOO_SMALL ? len == length && room < length : len == 7;
     return (struct outcome){status, right, counted && all_are(out, 99, 77)};
 }
 
@@ -209,7 +209,7 @@ static struct outcome keep_site(void) {
     struct outcome all = {ROBOTS_OK, known, known};
     for (size_t i = 0; i < sizeof each / sizeof *each; i++) {
         all.right &= each[i].right;
-        all.untouched &= is(each[i], ROBOTS_OK) || is(each[i], ROBOTS_NO_MEMORY);
+        all.untouched &= is(each[i], ROBOTS_OK) || is(each[i], ROBOTS_OUT_OF_MEMORY);
         all.status = all.status == ROBOTS_OK ? each[i].status : all.status;
     }
     return all;
@@ -237,10 +237,10 @@ static void try_site(void) {
     robots_site_close(site);
     site = NULL;
     bool opened = robots_site_open(FILE_OF(file), &site) == ROBOTS_OK;
-    tell("a matrix of a site with a number too little room", opened && is(matrix_with(site, "Bot\nOther", 2 * COUNT - 1), ROBOTS_NO_ROOM));
+    tell("a matrix of a site with a number too little room", opened && is(matrix_with(site, "Bot\nOther", 2 * COUNT - 1), ROBOTS_BUFFER_TOO_SMALL));
     tell("a matrix of a site, a crawler that isn't UTF-8", opened && is(matrix_with(site, "Bot\n\xFF", 2 * COUNT), ROBOTS_NOT_UTF8));
-    tell("sitemaps of a site with a byte too little room", opened && is(list_sitemaps(site, sizeof sitemaps - 2), ROBOTS_NO_ROOM));
-    tell("crawlers of a site with a byte too little room", opened && is(list_agents(site, 3), ROBOTS_NO_ROOM));
+    tell("sitemaps of a site with a byte too little room", opened && is(list_sitemaps(site, sizeof sitemaps - 2), ROBOTS_BUFFER_TOO_SMALL));
+    tell("crawlers of a site with a byte too little room", opened && is(list_agents(site, 3), ROBOTS_BUFFER_TOO_SMALL));
     robots_site_close(site);
     robots_site_close(NULL);
 }
@@ -251,25 +251,25 @@ static void try_examples(void) {
     size_t length = 7;
     robots *robot = NULL;
     tell("verdicts with their lines", is(decide(), ROBOTS_OK));
-    tell("verdicts with a number too little room", is(decide_with("Bot", urls, COUNT - 1), ROBOTS_NO_ROOM));
+    tell("verdicts with a number too little room", is(decide_with("Bot", urls, COUNT - 1), ROBOTS_BUFFER_TOO_SMALL));
     tell("verdicts, an agent that isn't UTF-8", is(decide_with("\xFF", urls, COUNT), ROBOTS_NOT_UTF8));
     tell("verdicts, a URL that isn't UTF-8", is(decide_with("Bot", "/a\n\xFF", COUNT), ROBOTS_NOT_UTF8));
     tell("NULL is an empty text", robots_decide(NULL, 0, NULL, 0, NULL, 0, &out, 1, &length) == ROBOTS_OK && out == 0);
-    tell("NULL is an empty buffer", robots_decide(NULL, 0, NULL, 0, NULL, 0, NULL, 0, &length) == ROBOTS_NO_ROOM && length == 7);
+    tell("NULL is an empty buffer", robots_decide(NULL, 0, NULL, 0, NULL, 0, NULL, 0, &length) == ROBOTS_BUFFER_TOO_SMALL && length == 7);
     tell("a delay", is(delay(), ROBOTS_OK));
     tell("no delay", robots_delay("Bot", 3, "Disallow: /", 11, &wait) == ROBOTS_NO_DELAY && wait == 77);
     tell("sitemaps", is(all_sitemaps(), ROBOTS_OK));
-    tell("sitemaps with a byte too little room", is(list_sitemaps(NULL, sizeof sitemaps - 2), ROBOTS_NO_ROOM));
-    tell("the length of sitemaps", robots_sitemaps(FILE_OF(file), NULL, 0, &length) == ROBOTS_NO_ROOM && length == sizeof sitemaps - 1);
+    tell("sitemaps with a byte too little room", is(list_sitemaps(NULL, sizeof sitemaps - 2), ROBOTS_BUFFER_TOO_SMALL));
+    tell("the length of sitemaps", robots_sitemaps(FILE_OF(file), NULL, 0, &length) == ROBOTS_BUFFER_TOO_SMALL && length == sizeof sitemaps - 1);
     tell("crawlers", is(all_agents(), ROBOTS_OK));
-    tell("crawlers with a byte too little room", is(list_agents(NULL, 3), ROBOTS_NO_ROOM));
+    tell("crawlers with a byte too little room", is(list_agents(NULL, 3), ROBOTS_BUFFER_TOO_SMALL));
     tell("a matrix", is(matrix(), ROBOTS_OK));
-    tell("a matrix with a number too little room", is(matrix_with(NULL, "Bot\nOther", 2 * COUNT - 1), ROBOTS_NO_ROOM));
+    tell("a matrix with a number too little room", is(matrix_with(NULL, "Bot\nOther", 2 * COUNT - 1), ROBOTS_BUFFER_TOO_SMALL));
     tell("a matrix, a crawler that isn't UTF-8", is(matrix_with(NULL, "Bot\n\xFF", 2 * COUNT), ROBOTS_NOT_UTF8));
     tell("a matrix of empty texts", robots_matrix(NULL, 0, NULL, 0, NULL, 0, &out, 1) == ROBOTS_OK && out == 0);
     tell("no result", !robots_may_fetch(ROBOTS_NO_RESULT) && robots_line(ROBOTS_NO_RESULT) == 0);
     tell("an address", is(whole_address(), ROBOTS_OK));
-    tell("an address with a byte too little room", is(find_address(page, sizeof address - 2), ROBOTS_NO_ROOM));
+    tell("an address with a byte too little room", is(find_address(page, sizeof address - 2), ROBOTS_BUFFER_TOO_SMALL));
     static const char *const none[] = {"mailto:a@example.com", "example.com/a", "", "https://example.com:port/", "https://"};
     for (size_t i = 0; i < sizeof none / sizeof *none; i++)
         tell("no address", is(find_address(none[i], 99), ROBOTS_NO_ADDRESS));
@@ -278,7 +278,7 @@ static void try_examples(void) {
     bool opened = robots_open("Bot", 3, "Disallow: /", 11, &robot, &length) == ROBOTS_OK;
     tell("no delay of a robot", opened && robots_query_delay(robot, &wait) == ROBOTS_NO_DELAY && wait == 77);
     tell("a query that isn't UTF-8", opened && robots_query(robot, "\xFF", 1, &out) == ROBOTS_NOT_UTF8 && out == 0);
-    tell("queries with too little room", opened && is(query_with(robot, COUNT - 1), ROBOTS_NO_ROOM));
+    tell("queries with too little room", opened && is(query_with(robot, COUNT - 1), ROBOTS_BUFFER_TOO_SMALL));
     robots_close(robot);
     robots_close(NULL);
     tell("a site", is(keep_site(), ROBOTS_OK));
@@ -294,7 +294,7 @@ static void fail_each(const char *name, struct outcome (*call)(void), bool all_l
     for (fail_at = 1; well && !ends; fail_at++) {
         allocations = failures = 0;
         struct outcome outcome = call();
-        bool wants = outcome.status == ROBOTS_NO_MEMORY && outcome.untouched && failures > 0;
+        bool wants = outcome.status == ROBOTS_OUT_OF_MEMORY && outcome.untouched && failures > 0;
         ends = failures == 0;
         reported += wants;
         well = blocks == 0 && (wants || is(outcome, ROBOTS_OK));

@@ -356,11 +356,11 @@ def test_nothing_outside_of_the_texts_is_read(robots, at_end):
         assert robots.library.robots_site_is_named(site, *agent_text) in (0, 1)
         robots.library.robots_close(robot)
         robots.library.robots_site_close(site)
-        assert robots.library.robots_sitemaps(*file_text, None, 0, line) in (robots.OK, robots.NO_ROOM)
-        assert robots.library.robots_agents(*file_text, None, 0, line) in (robots.OK, robots.NO_ROOM)
+        assert robots.library.robots_sitemaps(*file_text, None, 0, line) in (robots.OK, robots.BUFFER_TOO_SMALL)
+        assert robots.library.robots_agents(*file_text, None, 0, line) in (robots.OK, robots.BUFFER_TOO_SMALL)
         assert robots.library.robots_matrix(*agent_text, *file_text, *urls_text, out, 9) == robots.OK
         *url_text, u = guarded(urls[0].encode(), at_end)
-        assert robots.library.robots_address(*url_text, None, 0, line) in (robots.NO_ROOM, robots.NO_ADDRESS)
+        assert robots.library.robots_address(*url_text, None, 0, line) in (robots.BUFFER_TOO_SMALL, robots.NO_ADDRESS)
 
 
 # What the example programs write on the same arguments and files. robots_audit names what it can't do otherwise.

@@ -1,4 +1,4 @@
-/* robots.h: what a robots.txt file says to a crawler: the URLs that it may fetch, its delay, and the sitemaps.
+/* robots.h: what a robots.txt file means for a crawler: the URLs that it may fetch, its delay, and the sitemaps.
  *
  *     robots *robot = NULL;
  *     size_t line;
@@ -23,15 +23,16 @@
  * TEXTS. Each text is a pointer and a length in bytes; no NUL is needed at the end, and one inside is a byte like any other. NULL with
  * length 0 is the empty text. `agent` is the crawler's product token without a version ("MyBot", not "MyBot/1.0"), in UTF-8; ASCII
  * letters match in any case. `file` is the body of the response, any bytes; only the first ROBOTS_FILE_LIMIT count. A URL is UTF-8:
- * a whole URL (https://example.com/a?b) or a path (/a?b). Any other text, as example.com/a, is no error: it is compared with the rules
- * as it is, mostly matches none, and then may be fetched. Check URLs before you query them.
+ * an absolute URL (https://example.com/a?b) or a path (/a?b). Any other text, as example.com/a, isn't an error: it is compared with the
+ * rules unchanged, usually matches none, and then may be fetched. Check URLs before you query them.
  *
  * STATUS. Each call returns 0 (ROBOTS_OK) or a negative status; robots_site_is_named returns 1 too. Where the status isn't 0, nothing is
- * written, except for what the call says, and nothing stays allocated. Of two causes either may be the status. ROBOTS_NO_MEMORY can come
- * in place of every other status, but not for text that isn't UTF-8, and not from a call that says that it needs no memory.
+ * written, except where the call's comment says so, and nothing stays allocated. If two errors apply, either may be the status.
+ * ROBOTS_OUT_OF_MEMORY can replace every other status, but not for text that isn't UTF-8, and not from a call that is documented not to
+ * allocate.
  *
- * RESULT. The result for a URL is a number: 0 if the crawler may fetch it and no line says so, n if line n of the file allows it, and -n
- * if line n denies it. Lines count from 1. Don't write `if (result)`: use robots_may_fetch(result) and robots_line(result).
+ * RESULT. The result for a URL is a number: 0 if the crawler may fetch it and no line decides, n if line n of the file allows it, and -n if
+ * line n denies it. Lines count from 1. Don't write `if (result)`: use robots_may_fetch(result) and robots_line(result).
  *
  * MEMORY comes from malloc, realloc and free. A call frees what it allocates, except for a robot or a site that it opens. Another
  * allocator: define rattle_alloc, rattle_realloc and rattle_dealloc in your program, before the archive (docs/GUIDE.md).
@@ -42,8 +43,8 @@
  * helgrind). The toolchain's rule for C, which is stricter: one call at a time for one robot or site, with a lock, a thread's start or
  * its end between calls on two threads. A lock around the calls with it keeps that rule.
  *
- * THE CALLER'S PART, which nothing checks: each pointer is valid for its length; the places that a call writes overlap nothing else that
- * it is given; nobody writes to the texts during a call; a robot is one that robots_open or robots_site_robot opened, and a site one
+ * PRECONDITIONS, which nothing checks: each pointer is valid for its length; the buffers that a call writes overlap none of its
+ * other arguments; nobody writes to the texts during a call; a robot is one that robots_open or robots_site_robot opened, and a site one
  * that robots_site_open opened; each is closed once, when no call uses it. Robots and sites don't need each other, nor the texts that
  * they were opened with. No call keeps a pointer to a text.
  *
@@ -75,19 +76,19 @@ extern "C" {
 
 enum robots_status {
     ROBOTS_OK = 0,
-    ROBOTS_NOT_UTF8 = -1,     /* the agent or a URL isn't UTF-8 */
-    ROBOTS_NO_MEMORY = -2,    /* an allocation failed, or a URL has 4 GiB or more; the call may be repeated */
-    ROBOTS_NO_ROOM = -3,      /* the buffer is too small */
-    ROBOTS_NO_DELAY = -4,     /* the file has no delay for this crawler */
-    ROBOTS_NO_ADDRESS = -5,   /* the text is no URL of http or https with a host */
-    ROBOTS_OVERLONG_RULE = -6 /* a rule for this crawler holds '$' and has more than 4,096 bytes escaped, each run of stars counted as
-                               * one: the file can't be used for this crawler, and what that means is its policy. */
+    ROBOTS_NOT_UTF8 = -1,         /* the agent or a URL isn't UTF-8 */
+    ROBOTS_OUT_OF_MEMORY = -2,    /* an allocation failed, or a URL has 4 GiB or more; the call may be repeated */
+    ROBOTS_BUFFER_TOO_SMALL = -3, /* the results don't fit into the buffer */
+    ROBOTS_NO_DELAY = -4,         /* the file has no delay for this crawler */
+    ROBOTS_NO_ADDRESS = -5,       /* the text isn't a URL of http or https with a host */
+    ROBOTS_OVERLONG_RULE = -6     /* a rule for this crawler contains '$' and has more than 4,096 bytes when escaped, each run of
+                                   * stars counted as one: the file can't be used for this crawler. What to do then is its policy. */
 };
 
-/* What a file says to one crawler. */
+/* A file as one crawler reads it: its rules and delay. */
 typedef struct robots robots;
 
-/* What a file says to every crawler. */
+/* A file that is read once for all crawlers. */
 typedef struct robots_site robots_site;
 
 /* In the matrix of robots_matrix and robots_site_matrix: a rule for this crawler is too long. No result is this number. */
@@ -103,16 +104,16 @@ uint32_t robots_version(void);
  * written: the number of the first line with such a rule. */
 ROBOTS_CHECK int32_t robots_open(const char *agent, size_t agent_len, const void *file, size_t file_len, robots **robot, size_t *line);
 
-/* Writes the result for one URL. It needs no memory for the empty text, a path of which nothing has to be escaped, and most usual URLs. */
+/* Writes the result for one URL. It doesn't allocate for the empty text, a path in which nothing has to be escaped, and most URLs. */
 ROBOTS_CHECK int32_t robots_query(const robots *robot, const char *url, size_t url_len, int64_t *result);
 
 /* Writes the results for many URLs, in their order. `urls` has one '\n' between one URL and the next, so n of them are n + 1 URLs, and the
  * empty text is one empty URL; a URL that holds '\n' itself takes robots_query. If there are more URLs than `results_len`, the status is
- * ROBOTS_NO_ROOM. What is in `results` after the last result isn't touched. */
+ * ROBOTS_BUFFER_TOO_SMALL. What is in `results` after the last result isn't touched. */
 ROBOTS_CHECK int32_t robots_query_many(const robots *robot, const char *urls, size_t urls_len, int64_t *results, size_t results_len);
 
 /* Writes how many microseconds the crawler waits between two requests. A file may ask for UINT64_MAX: limit the number before you add
- * it to a time. It needs no memory: the status is ROBOTS_OK or ROBOTS_NO_DELAY. */
+ * it to a time. It doesn't allocate: the status is ROBOTS_OK or ROBOTS_NO_DELAY. */
 ROBOTS_CHECK int32_t robots_query_delay(const robots *robot, uint64_t *microseconds);
 
 /* Frees a robot, or does nothing if `robot` is NULL. */
@@ -126,7 +127,7 @@ ROBOTS_CHECK int32_t robots_decide(const char *agent, size_t agent_len, const vo
  * that the result of crawler i for URL j is results[i * URLs + j], counted from 0. `agents` and `urls` have one '\n' between one item and
  * the next, as in robots_query_many. The results are those of robots_decide; but in the row of a crawler with a rule that is too long
  * each is ROBOTS_NO_RESULT, which robots_may_fetch doesn't allow. If there are more results than `results_len`, the status is
- * ROBOTS_NO_ROOM. All crawlers that the file doesn't name cost little more than one. */
+ * ROBOTS_BUFFER_TOO_SMALL. All crawlers that the file doesn't name cost little more than one. */
 ROBOTS_CHECK int32_t robots_matrix(const char *agents, size_t agents_len, const void *file, size_t file_len, const char *urls,
                                    size_t urls_len, int64_t *results, size_t results_len);
 
@@ -134,15 +135,15 @@ ROBOTS_CHECK int32_t robots_matrix(const char *agents, size_t agents_len, const 
 ROBOTS_CHECK int32_t robots_delay(const char *agent, size_t agent_len, const void *file, size_t file_len, uint64_t *microseconds);
 
 /* Writes the sitemaps, which are the same for every crawler, each with '\n' at its end, and their length in bytes to *len. At
- * ROBOTS_NO_ROOM *len is the length that is needed: call with (NULL, 0, &len) to get it. A buffer of file_len bytes is always large
- * enough. No rule of the file matters. */
+ * ROBOTS_BUFFER_TOO_SMALL *len is the length that is needed: call with (NULL, 0, &len) to get it. A buffer of file_len bytes is
+ * always large enough. No rule of the file matters. */
 ROBOTS_CHECK int32_t robots_sitemaps(const void *file, size_t file_len, char *out, size_t out_len, size_t *len);
 
 /* Writes the names in the file's user-agent lines, as robots_sitemaps writes sitemaps: in the file's order, `*` like any other, and of
  * names that differ only in the case of ASCII letters the first. A name that isn't UTF-8 is left out. */
 ROBOTS_CHECK int32_t robots_agents(const void *file, size_t file_len, char *out, size_t out_len, size_t *len);
 
-/* Reads a file for all crawlers, and writes a new site to *site, for robots_site_close. The status is ROBOTS_OK or ROBOTS_NO_MEMORY: a
+/* Reads a file for all crawlers, and writes a new site to *site, for robots_site_close. The status is ROBOTS_OK or ROBOTS_OUT_OF_MEMORY: a
  * rule that is too long is an error only for the crawlers that it is for. */
 ROBOTS_CHECK int32_t robots_site_open(const void *file, size_t file_len, robots_site **site);
 
@@ -153,7 +154,7 @@ ROBOTS_CHECK int32_t robots_site_robot(const robots_site *site, const char *agen
 ROBOTS_CHECK int32_t robots_site_matrix(const robots_site *site, const char *agents, size_t agents_len, const char *urls,
                                         size_t urls_len, int64_t *results, size_t results_len);
 
-/* robots_delay for a site. It needs no memory. */
+/* robots_delay for a site. It doesn't allocate. */
 ROBOTS_CHECK int32_t robots_site_delay(const robots_site *site, const char *agent, size_t agent_len, uint64_t *microseconds);
 
 /* robots_sitemaps for a site. */
@@ -163,14 +164,14 @@ ROBOTS_CHECK int32_t robots_site_sitemaps(const robots_site *site, char *out, si
 ROBOTS_CHECK int32_t robots_site_agents(const robots_site *site, char *out, size_t out_len, size_t *len);
 
 /* Returns 1 if a user-agent line names the crawler, 0 if none does, or ROBOTS_NOT_UTF8. All crawlers that none names have the robot of
- * `*`, so they can share it. It needs no memory. */
+ * `*`, so they can share it. It doesn't allocate. */
 ROBOTS_CHECK int32_t robots_site_is_named(const robots_site *site, const char *agent, size_t agent_len);
 
 /* Frees a site, or does nothing if `site` is NULL. */
 void robots_site_close(robots_site *site);
 
 /* Writes the address of the robots.txt file of the site of an http or https URL, in ASCII with no NUL at its end, and its length to *len.
- * At ROBOTS_NO_ROOM *len is the length that is needed. */
+ * At ROBOTS_BUFFER_TOO_SMALL *len is the length that is needed. */
 ROBOTS_CHECK int32_t robots_address(const char *url, size_t url_len, char *out, size_t out_len, size_t *len);
 
 /* Whether the crawler may fetch the URL with this result. */
@@ -186,8 +187,8 @@ static inline const char *robots_status_text(int32_t status) {
     switch (status) {
     case ROBOTS_OK: return "no error";
     case ROBOTS_NOT_UTF8: return "the agent or a URL isn't UTF-8";
-    case ROBOTS_NO_MEMORY: return "out of memory";
-    case ROBOTS_NO_ROOM: return "the buffer is too small";
+    case ROBOTS_OUT_OF_MEMORY: return "out of memory";
+    case ROBOTS_BUFFER_TOO_SMALL: return "the buffer is too small";
     case ROBOTS_NO_DELAY: return "the file has no delay for this crawler";
     case ROBOTS_NO_ADDRESS: return "the URL has no robots.txt file";
     case ROBOTS_OVERLONG_RULE: return "a rule is too long: the file can't be used for this crawler";

@@ -10,7 +10,8 @@ use Rattle.robots_audit.specs.declared.audit.AgentAudit.{AgentAudit}
 use Rattle.robots_audit.specs.declared.audit.Verdict.{Verdict}
 use Rattle.robots_audit.specs.declared.fault.Fault.{Fault}
 use Rattle.robots_audit.specs.declared.fault.Fault.TheVariants.{File, InvalidRule, Memory}
-use Rattle.robots_audit.specs.declared.fault.Fault.TheVariants.{NotUtf8, Read, UnknownWarning, Usage, Words, Write}
+use Rattle.robots_audit.specs.declared.fault.Fault.TheVariants.{NotUtf8, Read, UnknownWarning, Usage, Words}
+use Rattle.robots_audit.specs.declared.fault.Fault.TheVariants.{Write}
 use Rattle.texting_robots.specs.Callers.{LineValue, group_name}
 use Rattle.texting_robots.specs.Labels.{label_at}
 use Rattle.robots_warnings.specs.File.{lines_of, labels_for}

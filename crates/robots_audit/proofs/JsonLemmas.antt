@@ -38,7 +38,8 @@ use Rattle.robots_audit.specs.Rows.{kind_text}
 use Rattle.robots_io.specs.Sanitize.{IsPrintable, is_printable, is_printable_byte}
 use Rattle.robots_warnings.specs.Warnings.{WarningValue}
 use Rattle.robots_warnings.proofs.PrintableLemmas.{names_printable, text_printable}
-use Rattle.robots_io.proofs.SanitizeLemmas.{append_printable, ascii_printable, char_printable, decimal_printable}
+use Rattle.robots_io.proofs.SanitizeLemmas.{append_printable, ascii_printable, char_printable}
+use Rattle.robots_io.proofs.SanitizeLemmas.{decimal_printable}
 use Rattle.robots_io.proofs.SanitizeLemmas.{nil_printable}
 use Rattle.robots_io.proofs.SanitizeLemmas.{sanitized_printable}
 
@@ -259,7 +260,7 @@ agent_has agent = (
 membership_printable : (membership : Membership) → IsPrintable (membership_word membership)
 membership_printable Own = ascii_printable true (codes "own") refl
 membership_printable Other = ascii_printable true (codes "other") refl
-membership_printable Ungrouped = ascii_printable true (codes "outside") refl
+membership_printable Ungrouped = ascii_printable true (codes "ungrouped") refl
 
 pub kind_printable : (line : LineValue) → IsPrintable (kind_text line)
 kind_printable (UserAgent value) = ascii_printable true (codes "user-agent") refl
@@ -291,8 +292,8 @@ line_has label = (
   kind_printable label.line,
   (
     refl,
-    decimal_printable true label.number,
-    (refl, membership_printable label.membership, (refl, value_has label.line, tt)),
+    membership_printable label.membership,
+    (refl, decimal_printable true label.number, (refl, value_has label.line, tt)),
   ),
 )
 

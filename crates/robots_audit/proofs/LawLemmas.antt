@@ -8,8 +8,10 @@ use Rattle.texting_robots.specs.declared.decision.Decision.{Decision}
 use Rattle.texting_robots.proofs.BestLemmas.{each_text_answered}
 use Rattle.texting_robots.proofs.VerdictLemmas.{one_line_decides, one_verdict}
 use Rattle.robots_io.specs.Verdicts.{IsDecisionOn}
-use Rattle.robots_audit.specs.Audit.{AgentValue, RequestValue, AuditValue, IsAgentAudit, IsAuditOf, IsVerdictOn}
-use Rattle.robots_audit.specs.Audit.{VerdictValue, agents_requested, group_of, labels_requested, warnings_requested}
+use Rattle.robots_audit.specs.Audit.{AgentValue, RequestValue, AuditValue, IsAgentAudit, IsAuditOf}
+use Rattle.robots_audit.specs.Audit.{IsVerdictOn}
+use Rattle.robots_audit.specs.Audit.{VerdictValue, agents_requested, group_of, labels_requested}
+use Rattle.robots_audit.specs.Audit.{warnings_requested}
 
 -- ---- uniqueness
 

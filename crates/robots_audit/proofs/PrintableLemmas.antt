@@ -18,7 +18,8 @@ use Rattle.robots_audit.specs.Answer.{has_rows, output, message}
 use Rattle.robots_audit.specs.Audit.{AgentValue, RequestValue, AuditValue, VerdictValue}
 use Rattle.robots_audit.specs.Delay.{delay_line, delay_text, fraction, million, seconds}
 use Rattle.robots_audit.specs.Json.{json_text}
-use Rattle.robots_audit.specs.Report.{agent_lines, group_line, nobody_text, report_lines, message_line, verdict_line}
+use Rattle.robots_audit.specs.Report.{agent_lines, group_line, nobody_text, report_lines, message_line}
+use Rattle.robots_audit.specs.Report.{verdict_line}
 use Rattle.robots_audit.specs.Report.{warning_lines}
 use Rattle.robots_warnings.specs.File.{space}
 use Rattle.robots_audit.specs.Rows.{has_value, kind_text, label_text, right_aligned, row, rows}
@@ -27,7 +28,8 @@ use Rattle.robots_io.specs.Sanitize.{IsPrintable}
 use Rattle.robots_warnings.specs.Warnings.{WarningValue, warning_line}
 use Rattle.robots_audit.proofs.JsonLemmas.{json_printable, kind_printable}
 use Rattle.robots_warnings.proofs.PrintableLemmas.{line_printable}
-use Rattle.robots_io.proofs.SanitizeLemmas.{append_printable, ascii_printable, blanks_printable, decimal_printable}
+use Rattle.robots_io.proofs.SanitizeLemmas.{append_printable, ascii_printable, blanks_printable}
+use Rattle.robots_io.proofs.SanitizeLemmas.{decimal_printable}
 use Rattle.robots_io.proofs.SanitizeLemmas.{ended_printable, nil_printable, sanitized_printable}
 
 -- ---- lists and cases

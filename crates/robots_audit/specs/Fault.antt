@@ -7,7 +7,8 @@ use Rattle.robots_io.specs.declared.streams.ReadFault.{ReadFault}
 use Rattle.robots_io.specs.declared.streams.ReadFault.TheVariants as read
 use Rattle.robots_audit.specs.declared.fault.Fault.{Fault}
 use Rattle.robots_audit.specs.declared.fault.Fault.TheVariants.{File, InvalidRule, Memory}
-use Rattle.robots_audit.specs.declared.fault.Fault.TheVariants.{NotUtf8, Read, UnknownWarning, Usage, Words, Write}
+use Rattle.robots_audit.specs.declared.fault.Fault.TheVariants.{NotUtf8, Read, UnknownWarning, Usage, Words}
+use Rattle.robots_audit.specs.declared.fault.Fault.TheVariants.{Write}
 use Rattle.robots_audit.specs.declared.fault.Outcome.{Outcome}
 
 -- why the program stopped

@@ -61,7 +61,7 @@ agent_json agent = object
 abbrev pub membership_word : Membership → List ℕ
 membership_word Own = codes "own"
 membership_word Other = codes "other"
-membership_word Ungrouped = codes "outside"
+membership_word Ungrouped = codes "ungrouped"
 
 -- a delay in microseconds, and else the value as it is shown, or null where there is none
 abbrev pub value_json : LineValue → Data
@@ -72,8 +72,8 @@ value_json line = if has_value line then string (value_text line) else null
 abbrev pub line_json : Label → Data
 line_json label = object
     (member (codes "kind") (string (kind_text label.line))
+    (member (codes "membership") (string (membership_word label.membership))
     (member (codes "number") (number (unsigned label.number))
-    (member (codes "standing") (string (membership_word label.membership))
     (member (codes "value") (value_json label.line) no_members))))
 
 -- ---- the audit

@@ -108,7 +108,7 @@ fn membership_word(membership: Membership) -> &'static str
     match membership {
         Membership::Own => "own",
         Membership::Other => "other",
-        Membership::Ungrouped => "outside",
+        Membership::Ungrouped => "ungrouped",
     }
 }
 
@@ -137,8 +137,8 @@ impl<'a> Json for LabeledLine<'a> {
         let value = value_json(alloc, self.line)?;
         json!(in alloc; {
             "kind": kind_text(self.line),
+            "membership": membership_word(self.membership),
             "number": self.number,
-            "standing": membership_word(self.membership),
             "value": value,
         })
     }

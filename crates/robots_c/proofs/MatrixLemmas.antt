@@ -1,6 +1,8 @@
 -- The rows of the results of many crawlers.
-use Rattle.std.proofs.Common.{◌≡◌, ◌<◌, ◌+◌, ◌*◌, ℕ, ℤ, Bool, true, false, List, [], ◌∷◌, ◌++◌, ◌∙◌, ap, arith}
-use Rattle.std.proofs.Common.{append-nil, codes, cond, inl, inr, length, map, refl, slice_index_or, subst, sym, take}
+use Rattle.std.proofs.Common.{◌≡◌, ◌<◌, ◌+◌, ◌*◌, ℕ, ℤ, Bool, true, false, List, [], ◌∷◌, ◌++◌, ◌∙◌, ap}
+use Rattle.std.proofs.Common.{arith}
+use Rattle.std.proofs.Common.{append-nil, codes, cond, inl, inr, length, map, refl, slice_index_or, subst}
+use Rattle.std.proofs.Common.{sym, take}
 use Rattle.std.specs.List.{AllZip, list_any}
 use Rattle.std.specs.Str.{str_to_ascii_lowercase}
 use Rattle.std.proofs.lemmas.List.{append_assoc, length-append, length-map, length-replicate, map_push}

@@ -7,7 +7,8 @@ use Rattle.url.specs.declared.error.ParseError.{ParseError}
 use Rattle.robots_c.specs.File.{HasDelay}
 use Rattle.robots_c.specs.Results.{items_in}
 use Rattle.robots_c.specs.declared.fault.Fault.{Fault}
-use Rattle.robots_c.specs.declared.fault.Fault.TheVariants.{Memory, NoAddress, NoDelay, BufferTooSmall, NotUtf8}
+use Rattle.robots_c.specs.declared.fault.Fault.TheVariants.{Memory, NoAddress, NoDelay, BufferTooSmall}
+use Rattle.robots_c.specs.declared.fault.Fault.TheVariants.{NotUtf8}
 use Rattle.robots_c.specs.declared.fault.Fault.TheVariants.{Overlong}
 
 -- ---- statuses

@@ -22,7 +22,8 @@ use Rattle.bstr.proofs.lemmas.PieceLemmas.{pieces-nil, pieces-step}
 use Rattle.bstr.proofs.lemmas.SoundLemmas.{SpellsChar-decoded}
 use Rattle.texting_robots.specs.Escape.{escape_byte, is_escaped}
 use Rattle.robots_io.specs.Lines.{ended, lf}
-use Rattle.robots_io.specs.Sanitize.{IsPrintable, IsPrintableIn, is_printable, is_printable_byte, sanitized, sanitized_in}
+use Rattle.robots_io.specs.Sanitize.{IsPrintable, IsPrintableIn, is_printable, is_printable_byte, sanitized}
+use Rattle.robots_io.specs.Sanitize.{sanitized_in}
 use Rattle.robots_io.specs.Sanitize.{sanitized_lines, sanitized_chunk, sanitized_chunks}
 use lib.Utf8.{scalar}
 

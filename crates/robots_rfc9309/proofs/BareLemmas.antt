@@ -10,11 +10,11 @@ IsWeaker {X} P Q = (x : X) (text : List ℕ) → P x text → Q x text
 pub repeats_weaker : {X : Type 0} (P Q : X → List ℕ → Type 0) → IsWeaker P Q
     → IsWeaker (rfc.Repeats (rfc.IsOneOr P rfc.IsEmptyLine)) (rfc.Repeats (rfc.IsOneOr Q rfc.IsSkipped))
 repeats_weaker P Q weaker items text is = record {
-  pieces = is.pieces;
+  units = is.units;
   each =
-      each_weaker (λ segment. rfc.IsOneOr P rfc.IsEmptyLine segment.items segment.bytes)
-      (λ segment. rfc.IsOneOr Q rfc.IsSkipped segment.items segment.bytes)
-      (λ segment. one_or segment.items segment.bytes) is.pieces is.each;
+      each_weaker (λ unit. rfc.IsOneOr P rfc.IsEmptyLine unit.items unit.bytes)
+      (λ unit. rfc.IsOneOr Q rfc.IsSkipped unit.items unit.bytes)
+      (λ unit. one_or unit.items unit.bytes) is.units is.each;
   written = is.written;
   whole = is.whole;
 }
@@ -54,7 +54,7 @@ robotstxt_is_file text groups is = record {
     front = [];
     rest = text;
     whole = refl;
-    is_front = record { pieces = []; each = tt; whole = refl };
+    is_front = record { units = []; each = tt; whole = refl };
     are_groups = repeats_weaker rfc.IsGroup rfc.IsWideGroup group_is_wide groups text is;
   });
 }

@@ -55,18 +55,18 @@ group_made group text is =
       listing = all.listing;
     })
 
-front_made : (pieces : List (List ℕ)) → Each rfc.IsFrontSegment pieces
-    → (numbers : List (List ℕ)) × Writes (onto with_delay numbers) (flat_map (λ segment. segment) pieces)
+front_made : (units : List (List ℕ)) → Each rfc.IsLeadUnit units
+    → (numbers : List (List ℕ)) × Writes (onto with_delay numbers) (flat_map (λ unit. unit) units)
 front_made [] all = ([], nothing_makes)
-front_made (segment ∷ pieces) (inr is, all) =
-    let (numbers, rest) = front_made pieces all in
-    (numbers, both_make (skipped segment is) rest)
-front_made (segment ∷ pieces) (inl (rfc.Allow pattern, is), all) = absurd is
-front_made (segment ∷ pieces) (inl (rfc.Disallow pattern, is), all) = absurd is
-front_made (segment ∷ pieces) (inl (rfc.Delay number, is), all) =
-    let (numbers, rest) = front_made pieces all in (
+front_made (unit ∷ units) (inr is, all) =
+    let (numbers, rest) = front_made units all in
+    (numbers, both_make (skipped unit is) rest)
+front_made (unit ∷ units) (inl (rfc.Allow pattern, is), all) = absurd is
+front_made (unit ∷ units) (inl (rfc.Disallow pattern, is), all) = absurd is
+front_made (unit ∷ units) (inl (rfc.Delay number, is), all) =
+    let (numbers, rest) = front_made units all in (
       number ∷ numbers,
-      both_make (member_made (rfc.Delay number) segment (inr (inr is))) rest,
+      both_make (member_made (rfc.Delay number) unit (inr (inr is))) rest,
     )
 
 -- ---- the file
@@ -83,7 +83,7 @@ pub file_read : (text : List ℕ) (groups : List rfc.Group) → rfc.IsFile group
     → FileRead groups text
 file_read text groups file =
     let content = file.is_content in
-    let (numbers, front) = front_made content.is_front.pieces content.is_front.each in
+    let (numbers, front) = front_made content.is_front.units content.is_front.each in
     let make : Parts → Parts = λ parts. onto with_delay numbers (onto with_group groups parts) in
     let all : Writes make (file.rest ++ file.nl) =
     rw (content.whole, content.is_front.whole) (

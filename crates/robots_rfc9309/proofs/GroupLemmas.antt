@@ -6,7 +6,8 @@ use Rattle.std.specs.{List.AllZip, List.AllByRecursion as Each, List.list_any, L
 use Rattle.std.specs.Str.{str_to_ascii_lowercase}
 use Rattle.std.proofs.{Math.Bool.or-false, Math.Bool.or_assoc, Math.Bool.or_comm}
 use Rattle.std.proofs.{lemmas.List.Elements.filter-append}
-use Rattle.texting_robots.specs.{declared.groups.GroupTracker.GroupTracker, Executable.rule_in, Executable.rules_for, Rules.Rule}
+use Rattle.texting_robots.specs.{declared.groups.GroupTracker.GroupTracker, Executable.rule_in}
+use Rattle.texting_robots.specs.{Executable.rules_for, Rules.Rule}
 use Rattle.texting_robots.specs.Line.{LineValue, UserAgent, Sitemap, Raw}
 use Rattle.texting_robots.specs.Group.{group_name, is_agent, is_agent_named}
 use Rattle.texting_robots.specs.Internal.Group.{start_of}

@@ -90,14 +90,14 @@ reads_colon source front rest nl same all bare =
 
 -- ---- the end of a line
 
-comment_segment : (bytes : List ℕ) → rfc.IsCommentSegment bytes → Each IsBare bytes
-comment_segment bytes (inl is) =
+comment_unit : (bytes : List ℕ) → rfc.IsCommentUnit bytes → Each IsBare bytes
+comment_unit bytes (inl is) =
     each_weaker IsCharByte IsBare (λ b is. (char_value b is).0) bytes (char_text bytes is).bytes
-comment_segment bytes (inr (inl (b, is, whole))) = rw whole ((blank_value b is).0, tt)
-comment_segment bytes (inr (inr is)) = rw is (inr (omega arith), tt)
+comment_unit bytes (inr (inl (b, is, whole))) = rw whole ((blank_value b is).0, tt)
+comment_unit bytes (inr (inr is)) = rw is (inr (omega arith), tt)
 
-pub comment_text : (text : List ℕ) → rfc.IsMany rfc.IsCommentSegment text → Each IsBare text
-comment_text = many tt (each_append IsBare) comment_segment
+pub comment_text : (text : List ℕ) → rfc.IsMany rfc.IsCommentUnit text → Each IsBare text
+comment_text = many tt (each_append IsBare) comment_unit
 
 comment_bare : (comment : List ℕ) → (comment ≡ []) ⊎ rfc.IsComment comment → Each IsBare comment
 comment_bare comment (inl none) = rw none tt

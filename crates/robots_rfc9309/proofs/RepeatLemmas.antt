@@ -81,14 +81,14 @@ module _ {A : Type 0} {put : Source → A → A} where
       → {items : List X} {text : List ℕ} → rfc.Repeats (rfc.IsOneOr P Q) items text
       → Makes put (onto act items) text
   items_make {X} act P Q one other is =
-      rw (is.written, is.whole) (segments_make is.pieces is.each)
+      rw (is.written, is.whole) (units_make is.units is.each)
     where
-      segments_make : (pieces : List (rfc.Utf8Unit X))
-          → Each (λ segment. rfc.IsOneOr P Q segment.items segment.bytes) pieces
-          → Makes put (onto act (flat_map (λ segment. segment.items) pieces))
-          (flat_map (λ segment. segment.bytes) pieces)
-      segments_make [] all = nothing_makes
-      segments_make (segment ∷ pieces) (inl (item, is, same), all) =
-          rw same (both_make (one item segment.bytes is) (segments_make pieces all))
-      segments_make (segment ∷ pieces) (inr (is, none), all) =
-          rw none (both_make (other segment.bytes is) (segments_make pieces all))
+      units_make : (units : List (rfc.Utf8Unit X))
+          → Each (λ unit. rfc.IsOneOr P Q unit.items unit.bytes) units
+          → Makes put (onto act (flat_map (λ unit. unit.items) units))
+          (flat_map (λ unit. unit.bytes) units)
+      units_make [] all = nothing_makes
+      units_make (unit ∷ units) (inl (item, is, same), all) =
+          rw same (both_make (one item unit.bytes is) (units_make units all))
+      units_make (unit ∷ units) (inr (is, none), all) =
+          rw none (both_make (other unit.bytes is) (units_make units all))

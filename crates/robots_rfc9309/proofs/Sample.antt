@@ -17,11 +17,11 @@ use Rattle.robots_rfc9309.specs.Sample as sample
 
 -- a text split into parts of one byte each
 singles : (P : List ℕ → Type 0) (text : List ℕ) → Each (λ b. P (b ∷ [])) text → rfc.IsMany P text
-singles P [] all = record { pieces = []; each = tt; whole = refl }
+singles P [] all = record { units = []; each = tt; whole = refl }
 singles P (b ∷ text) all =
     let rest = singles P text all.1 in
     record {
-      pieces = (b ∷ []) ∷ rest.pieces;
+      units = (b ∷ []) ∷ rest.units;
       each = (all.0, rest.each);
       whole = ap (λ t. b ∷ t) rest.whole;
     }
@@ -39,7 +39,7 @@ ones text all = singles rfc.IsUtf8CharNoctl text (passing _ is_one one text all)
 abbrev is_remark : ℕ → Bool
 is_remark b = is_one b || ((b == 0x20 || b == 0x09) || b == 0x23)
 
-remark : (b : ℕ) → is_remark b ≡ true → rfc.IsCommentSegment (b ∷ [])
+remark : (b : ℕ) → is_remark b ≡ true → rfc.IsCommentUnit (b ∷ [])
 remark b is = elim (at b is) [
   | inl e ↦ inl (one b e)
   | inr (inl blank) ↦ inr (inl (b, blank, refl))
@@ -49,8 +49,8 @@ remark b is = elim (at b is) [
     at : (b : ℕ) → is_remark b ≡ true → (is_one b ≡ true) ⊎ (rfc.IsWs b ⊎ (b ≡ 0x23))
     at b is = grind (arith, nat_tests)
 
-remarks : (text : List ℕ) → list_all is_remark text ≡ true → rfc.IsMany rfc.IsCommentSegment text
-remarks text all = singles rfc.IsCommentSegment text (passing _ is_remark remark text all)
+remarks : (text : List ℕ) → list_all is_remark text ≡ true → rfc.IsMany rfc.IsCommentUnit text
+remarks text all = singles rfc.IsCommentUnit text (passing _ is_remark remark text all)
 
 -- ---- the parts of lines
 
@@ -149,7 +149,7 @@ is_path = record {
   text = codes "a!\"*$"
       ++ 0xC3 ∷ 0xB6 ∷ 0xE3 ∷ 0x83 ∷ 0x84 ∷ 0xF0 ∷ 0x9F ∷ 0xA4 ∷ 0x96 ∷ [];
   is_text = record {
-    pieces =
+    units =
         codes "a" ∷ codes "!" ∷ codes "\"" ∷ codes "*" ∷ codes "$" ∷ (0xC3 ∷ 0xB6 ∷ [])
         ∷ (0xE3 ∷ 0x83 ∷ 0x84 ∷ []) ∷ (0xF0 ∷ 0x9F ∷ 0xA4 ∷ 0x96 ∷ []) ∷ [];
     each = (
@@ -353,7 +353,7 @@ is_file =
       rest = _;
       whole = refl;
       is_front = record {
-        pieces = _ ∷ _ ∷ [];
+        units = _ ∷ _ ∷ [];
         each = (inr (inl front), (inl (rfc.Delay (codes "2"), delay), tt));
         whole = refl;
       };

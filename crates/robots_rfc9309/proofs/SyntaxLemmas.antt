@@ -7,11 +7,11 @@ use Rattle.texting_robots.proofs.TrimLemmas.{each_append}
 
 module _ {X : Type 0} (P : List X → List ℕ → Type 0) where
   pub repeats_none : Repeats P [] []
-  repeats_none = record { pieces = []; each = tt; written = refl; whole = refl }
+  repeats_none = record { units = []; each = tt; written = refl; whole = refl }
 
   pub repeats_one : (items : List X) (text : List ℕ) → P items text → Repeats P items text
   repeats_one items text is = record {
-    pieces = record { items = items; bytes = text } ∷ [];
+    units = record { items = items; bytes = text } ∷ [];
     each = (is, tt);
     written = sym (append-nil items);
     whole = sym (append-nil text);
@@ -22,11 +22,11 @@ pub repeats_both : {X : Type 0} {P : List X → List ℕ → Type 0} {items more
     → Repeats P items text → Repeats P more later
     → Repeats P (items ++ more) (text ++ later)
 repeats_both {X} is also =
-    let written = flat_map-append (λ (segment : Utf8Unit X). segment.items) is.pieces also.pieces in
-    let whole = flat_map-append (λ (segment : Utf8Unit X). segment.bytes) is.pieces also.pieces in
+    let written = flat_map-append (λ (unit : Utf8Unit X). unit.items) is.units also.units in
+    let whole = flat_map-append (λ (unit : Utf8Unit X). unit.bytes) is.units also.units in
     record {
-      pieces = is.pieces ++ also.pieces;
-      each = each_append _ is.pieces also.pieces is.each also.each;
+      units = is.units ++ also.units;
+      each = each_append _ is.units also.units is.each also.each;
       written = cc;
       whole = cc;
     }
@@ -34,11 +34,11 @@ repeats_both {X} is also =
 -- a property of the parts that concatenation preserves holds for the complete text
 pub many : {P Q : List ℕ → Type 0} → Q []
     → ((text later : List ℕ) → Q text → Q later → Q (text ++ later))
-    → ((segment : List ℕ) → P segment → Q segment) → (text : List ℕ) → IsMany P text
+    → ((unit : List ℕ) → P unit → Q unit) → (text : List ℕ) → IsMany P text
     → Q text
-many {P} {Q} none both one text is = rw is.whole (joined is.pieces is.each)
+many {P} {Q} none both one text is = rw is.whole (joined is.units is.each)
   where
-    joined : (pieces : List (List ℕ)) → Each P pieces
-        → Q (flat_map (λ (segment : List ℕ). segment) pieces)
+    joined : (units : List (List ℕ)) → Each P units
+        → Q (flat_map (λ (unit : List ℕ). unit) units)
     joined [] all = none
-    joined (segment ∷ pieces) all = both segment _ (one segment all.0) (joined pieces all.1)
+    joined (unit ∷ units) all = both unit _ (one unit all.0) (joined units all.1)

@@ -32,9 +32,9 @@ IsBetween low high byte = (low ≤ byte) × (byte ≤ high)
 
 -- `*P`, where P spells nothing
 pub record IsMany (P : List ℕ → Type 0) (text : List ℕ) : Type 0 where
-  pub pieces : List (List ℕ)
-  pub each : Each P pieces
-  pub whole : text ≡ flat_map (λ segment. segment) pieces
+  pub units : List (List ℕ)
+  pub each : Each P units
+  pub whole : text ≡ flat_map (λ unit. unit) units
 
 -- a piece of a text, and the items that it spells
 pub record Utf8Unit (X : Type 0) : Type 0 where
@@ -44,10 +44,10 @@ pub record Utf8Unit (X : Type 0) : Type 0 where
 -- `*P`, where each piece of the text spells some items: all spell theirs, in order
 pub record Repeats {X : Type 0} (P : List X → List ℕ → Type 0) (items : List X)
     (text : List ℕ) : Type 0 where
-  pub pieces : List (Utf8Unit X)
-  pub each : Each (λ segment. P segment.items segment.bytes) pieces
-  pub written : items ≡ flat_map (λ segment. segment.items) pieces
-  pub whole : text ≡ flat_map (λ segment. segment.bytes) pieces
+  pub units : List (Utf8Unit X)
+  pub each : Each (λ unit. P unit.items unit.bytes) units
+  pub written : items ≡ flat_map (λ unit. unit.items) units
+  pub whole : text ≡ flat_map (λ unit. unit.bytes) units
 
 -- P / Q, where P spells one item and Q none
 abbrev pub IsOneOr : {X : Type 0} → (X → List ℕ → Type 0) → (List ℕ → Type 0)
@@ -108,15 +108,15 @@ abbrev pub IsNl : List ℕ → Type 0
 IsNl bytes = (bytes ≡ 0x0D ∷ []) ⊎ ((bytes ≡ 0x0A ∷ []) ⊎ (bytes ≡ 0x0D ∷ 0x0A ∷ []))
 
 -- a piece of a comment: UTF8-char-noctl / WS / "#"
-abbrev pub IsCommentSegment : List ℕ → Type 0
-IsCommentSegment bytes =
+abbrev pub IsCommentUnit : List ℕ → Type 0
+IsCommentUnit bytes =
     IsUtf8CharNoctl bytes
     ⊎ (((byte : ℕ) × IsWs byte × (bytes ≡ byte ∷ [])) ⊎ (bytes ≡ codes "#"))
 
 -- comment = "#" *( UTF8-char-noctl / WS / "#" )
 pub record IsComment (bytes : List ℕ) : Type 0 where
   pub text : List ℕ
-  pub is_text : IsMany IsCommentSegment text
+  pub is_text : IsMany IsCommentUnit text
   pub whole : bytes ≡ codes "#" ++ text
 
 -- EOL = *WS [ comment ] NL
@@ -277,7 +277,7 @@ pub record IsOtherLine (text : List ℕ) : Type 0 where
   pub is_name : IsIdentifier name
   pub is_other : ¬ Contains names_read (map to_ascii_lowercase name)
   pub blanks_blank : Each IsWs blanks
-  pub is_value : IsMany IsCommentSegment value
+  pub is_value : IsMany IsCommentUnit value
   pub is_nl : IsNl nl
 
 -- starpattern = "*" *UTF8-char-noctl, which the syntax lacks and the standard's own first example has
@@ -306,15 +306,15 @@ abbrev pub IsWideGroup : Group → List ℕ → Type 0
 IsWideGroup group text = IsGroupOf IsMemberLine IsSkipped group text
 
 -- delayline / skipped
-abbrev pub IsFrontSegment : List ℕ → Type 0
-IsFrontSegment text = ((member : Member) × IsDelayLine member text) ⊎ IsSkipped text
+abbrev pub IsLeadUnit : List ℕ → Type 0
+IsLeadUnit text = ((member : Member) × IsDelayLine member text) ⊎ IsSkipped text
 
 -- widefile = *( delayline / skipped ) *( widegroup / skipped )
 pub record IsWideFile (groups : List Group) (text : List ℕ) : Type 0 where
   pub front : List ℕ
   pub rest : List ℕ
   pub whole : text ≡ front ++ rest
-  pub is_front : IsMany IsFrontSegment front
+  pub is_front : IsMany IsLeadUnit front
   pub are_groups : Repeats (IsOneOr IsWideGroup IsSkipped) groups rest
 
 -- a byte order mark in UTF-8, which the syntax lacks, or nothing

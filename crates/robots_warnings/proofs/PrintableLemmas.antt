@@ -1,5 +1,6 @@
 -- Warnings contain no control or bidirectional-formatting characters other than LF.
-use Rattle.std.proofs.Common.{◌≡◌, ℕ, zero, suc, true, List, [], ◌∷◌, ◌++◌, Option, Some, None, Bool, map, refl}
+use Rattle.std.proofs.Common.{◌≡◌, ℕ, zero, suc, true, List, [], ◌∷◌, ◌++◌, Option, Some, None, Bool, map}
+use Rattle.std.proofs.Common.{refl}
 use Rattle.std.{specs.List.list_all, specs.Prelude.slice_index_or, proofs.lemmas.Bool.and_parts}
 use Rattle.robots_warnings.specs.declared.table.Cause.{Cause}
 use Rattle.robots_warnings.specs.declared.table.TheConstants.{WARNINGS}
@@ -7,7 +8,8 @@ use Rattle.robots_warnings.specs.Table.{name_of, number_of, text_of}
 use Rattle.robots_io.specs.Sanitize.{IsPrintable, is_printable_byte}
 use Rattle.robots_warnings.specs.Warnings.{WarningValue, about_text, name_text, place_text, warning_line}
 use Rattle.robots_warnings.specs.Warnings.{warning_text}
-use Rattle.robots_io.proofs.SanitizeLemmas.{append_printable, ascii_printable, decimal_printable, nil_printable}
+use Rattle.robots_io.proofs.SanitizeLemmas.{append_printable, ascii_printable, decimal_printable}
+use Rattle.robots_io.proofs.SanitizeLemmas.{nil_printable}
 use Rattle.robots_io.proofs.SanitizeLemmas.{sanitized_printable}
 
 -- ---- the table

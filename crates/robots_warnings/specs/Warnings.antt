@@ -9,7 +9,8 @@ use Rattle.robots_warnings.specs.declared.positions.Preceding.TheVariants.{Other
 use Rattle.robots_warnings.specs.declared.table.Cause.{Cause}
 use Rattle.robots_warnings.specs.declared.table.Cause.TheVariants.{AllowedAndDisallowed, GroupPastSizeLimit}
 use Rattle.robots_warnings.specs.Conflicts.{conflicts}
-use Rattle.robots_warnings.specs.Checks.{Check, agent_checks, file_checks, line_checks, position_checks, url_checks}
+use Rattle.robots_warnings.specs.Checks.{Check, agent_checks, file_checks, line_checks, position_checks}
+use Rattle.robots_warnings.specs.Checks.{url_checks}
 use Rattle.robots_warnings.specs.Facts.{suppresses_line_warnings}
 use Rattle.robots_warnings.specs.File.{lines_of}
 use Rattle.robots_warnings.specs.NamesPastLimit.{names_past_limit}

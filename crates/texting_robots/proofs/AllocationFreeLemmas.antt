@@ -35,8 +35,10 @@ use Rattle.url.proofs.RoundTrip.{special_body, split_own_scheme}
 use Rattle.texting_robots.specs.Prepared.{with_delimiter, prepared, target_of}
 use Rattle.texting_robots.specs.declared.normalized.TheConstants.{FRAGMENT as TAIL, QUERY}
 use Rattle.texting_robots.specs.AllocationFree.{IsAuthority, IsDelimited, IsName, IsPath, IsSite, IsTarget}
-use Rattle.texting_robots.specs.Internal.Normalized.{EndsPath, Leaves, after_delimited, kept_prefix, past_path, is_kept}
-use Rattle.texting_robots.proofs.NormalizedLemmas.{after_at, kept_all, kept_but, not_ended, path_left, occurs_all}
+use Rattle.texting_robots.specs.Internal.Normalized.{EndsPath, Leaves, after_delimited, kept_prefix}
+use Rattle.texting_robots.specs.Internal.Normalized.{past_path, is_kept}
+use Rattle.texting_robots.proofs.NormalizedLemmas.{after_at, kept_all, kept_but, not_ended, path_left}
+use Rattle.texting_robots.proofs.NormalizedLemmas.{occurs_all}
 
 -- ---- the query and the fragment
 

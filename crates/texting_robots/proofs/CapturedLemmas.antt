@@ -10,7 +10,8 @@ use Rattle.std.proofs.lemmas.Bool.{Decides.Decides-below_or, Decides.Decides-and
 use Rattle.std.proofs.lemmas.Bool.{Decides.Decides-not, Decides.Decides-ltb, Decides.Decides-like, cases_Bool}
 use Rattle.std.proofs.lemmas.Bool.{and_left, and_right, le-ltb, lt-ltb}
 use Rattle.std.proofs.lemmas.List.{take_all}
-use Rattle.texting_robots.specs.{declared.groups.GroupTracker.GroupTracker, Rules.PlacedRule, Rules.Rule, Rules.unplaced}
+use Rattle.texting_robots.specs.{declared.groups.GroupTracker.GroupTracker, Rules.PlacedRule, Rules.Rule}
+use Rattle.texting_robots.specs.{Rules.unplaced}
 use Rattle.texting_robots.specs.Line.{LineValue, UserAgent, delay_in}
 use Rattle.texting_robots.specs.Group.{IsCaptured, group_name, is_agent, is_agent_named, is_group, passes_at}
 use Rattle.texting_robots.specs.Internal.Captured.{is_captured, some_below}

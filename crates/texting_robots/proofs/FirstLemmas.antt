@@ -6,7 +6,7 @@ use Rattle.std.proofs.{Math.Nat.mul-le-mul_left, lemmas.List.Elements.All-map, l
 use Rattle.std.proofs.lemmas.Bool.{cases_lt, cases_order, le-leb}
 use Rattle.std.proofs.lemmas.List.{get_or-map, get_or_default, length-drop}
 use Rattle.std.proofs.lemmas.List.{length-map, length-take}
-use Rattle.texting_robots.specs.declared.{pieces.Span.Span, rules.Entry.Entry, rules.Unsorted.Unsorted}
+use Rattle.texting_robots.specs.declared.{segments.Span.Span, rules.Entry.Entry, rules.Unsorted.Unsorted}
 use Rattle.texting_robots.specs.Internal.Entries.{AreEntries, HaveMasks, GoesBefore, IsEntryOf, IsFirstMatch}
 use Rattle.texting_robots.specs.Internal.Entries.{MatchesAt, NoneMatches, no_entry, pattern_of, placed_at}
 use Rattle.texting_robots.specs.Internal.Entries.{rules_in, mask_in}

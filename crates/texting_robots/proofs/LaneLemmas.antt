@@ -3,7 +3,8 @@ use Rattle.std.proofs.Common.{◌≡◌, ℕ, zero, suc, ◌+◌, ◌-◌, ◌*�
 use Rattle.std.proofs.Common.{◌==◌, ◌||◌, Bool, true, false, not, List, [], ◌∷◌, length, take, drop, map}
 use Rattle.std.proofs.Common.{sym, refl, ap, ◌∙◌, arith, cond}
 use Rattle.std.proofs.Common.{if◌then◌else◌, bit_or, inl, inr, Option, Some, None}
-use Rattle.std.specs.{List.list_all, List.list_any, List.position_or_len, List.prefix_len, Int.trailing_zeros, Int.w64}
+use Rattle.std.specs.{List.list_all, List.list_any, List.position_or_len, List.prefix_len, Int.trailing_zeros}
+use Rattle.std.specs.{Int.w64}
 use Rattle.std.proofs.lemmas.Bool.{cases_Bool, cases_lt, cond-true, cond-false, eq-eqb, ne_eqb}
 use lib.Dec.{ltb}
 use Rattle.std.proofs.lemmas.List.{length-drop, length-map, length-take, length-take-le}

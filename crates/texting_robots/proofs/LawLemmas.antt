@@ -5,7 +5,8 @@ use Rattle.std.proofs.Common.{cond, codes, zero-add, add-zero, arith, sym, refl,
 use Rattle.std.specs.{List.Any, List.cons_option, List.filter_map, List.list_any, Str.str_to_ascii_lowercase}
 use Rattle.std.proofs.lemmas.Bool.{cases_Bool, false≢true, false_from_ne_true}
 use Rattle.std.proofs.lemmas.List.{Elements.filter_map-append, Folds.list_any-append}
-use Rattle.texting_robots.specs.{declared.groups.GroupTracker.GroupTracker, Rules.Rule, Pattern.IsOverlong, Verdict.IsVerdict}
+use Rattle.texting_robots.specs.{declared.groups.GroupTracker.GroupTracker, Rules.Rule, Pattern.IsOverlong}
+use Rattle.texting_robots.specs.{Verdict.IsVerdict}
 use Rattle.texting_robots.specs.Line.{LineValue, Allow, Disallow, Sitemap, CrawlDelay, Raw, delay_in, is_raw}
 use Rattle.texting_robots.specs.Line.{is_sitemap}
 use Rattle.texting_robots.specs.Group.{group_name, is_agent, is_agent_named, is_group, IsCaptured}

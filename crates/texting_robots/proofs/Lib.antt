@@ -28,7 +28,7 @@ pub mod NormalizedLemmas
 pub mod AllocationFreeLemmas
 pub mod PatternLemmas
 pub mod StarLemmas
-pub mod PieceLemmas
+pub mod SegmentLemmas
 pub mod PrefilterLemmas
 pub mod PlacingLemmas
 pub mod BorderLemmas

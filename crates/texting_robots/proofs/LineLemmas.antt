@@ -4,11 +4,13 @@ use Rattle.std.proofs.Common.{sym, refl, ap, ◌∙◌, append_assoc, append-nil
 use Rattle.std.proofs.Common.{◌==◌, ◌≢◌, arith, subst, ◌↔◌}
 use Rattle.std.specs.List.{AllZip}
 use Rattle.std.proofs.lemmas.Bool.{cases_Bool, cond-true, cond-false, ne_eqb, Decides.eqb_tells}
-use Rattle.texting_robots.specs.{declared.parser.statement.Kind.Kind, Cut.Pair, Cut.lf, Group.is_agent, Delay.IsDelay}
+use Rattle.texting_robots.specs.{declared.parser.statement.Kind.Kind, Cut.Pair, Cut.lf, Group.is_agent}
+use Rattle.texting_robots.specs.{Delay.IsDelay}
 use Rattle.texting_robots.specs.Executable.{file_bodies, file_lines, parsed}
 use Rattle.texting_robots.specs.Internal.{Cut.bodies_of, Cut.cut, Delay.delay_of}
 use Rattle.texting_robots.specs.Statement.{IsAfterBlanks, IsAfterColon, IsStatement}
-use Rattle.texting_robots.specs.Internal.Statement.{colon, kind_by, skip_blanks, statement_of, tail_as, value_of}
+use Rattle.texting_robots.specs.Internal.Statement.{colon, kind_by, skip_blanks, statement_of, tail_as}
+use Rattle.texting_robots.specs.Internal.Statement.{value_of}
 use Rattle.texting_robots.specs.Line.{AreFileBodiesOf, AreLinesOf, HoldRangesOf, HoldsRangeOf, IsLineOf}
 use Rattle.texting_robots.specs.Line.{IsLineWith, IsRangeOf}
 use Rattle.texting_robots.specs.Line.{LineValue, Raw, CrawlDelay, Sitemap, UserAgent, delay_in, is_sitemap}

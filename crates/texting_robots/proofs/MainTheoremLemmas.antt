@@ -8,16 +8,19 @@ use Rattle.std.proofs.lemmas.List.Sorted.{IsPermutation-sym, length_permutation,
 use Rattle.texting_robots.specs.declared.error.Error.{Error}
 use Rattle.texting_robots.specs.Executable.{file_lines, lines_read, placed_rules, sitemaps_in}
 use Rattle.texting_robots.specs.Decision.{IsDecidingLine, IsDecidingRule, LooksForRules, as_long_as}
-use Rattle.texting_robots.specs.{Error.IsMemoryErrorOr, MainTheorem.IsAnswerOf, Internal.Robot.IsComputedRobot}
+use Rattle.texting_robots.specs.{Error.IsMemoryErrorOr, MainTheorem.IsAnswerOf}
+use Rattle.texting_robots.specs.{Internal.Robot.IsComputedRobot}
 use Rattle.texting_robots.specs.{Verdict.IsVerdict, View.LooksAtMost, View.ViewValue}
 use Rattle.texting_robots.specs.Line.{AreFileLinesOf, HasLines, LineValue, Allow, Disallow, nul_as_lf}
 use Rattle.texting_robots.specs.Robot.{AnswerAlike, IsFileRejected, IsRobotOf, IsRobotOfFile, RobotValue}
 use Rattle.texting_robots.specs.Robot.{file_limit}
-use Rattle.texting_robots.specs.Rules.{AreRulesFor, HasNoRulesOrSitemaps, HoldsRule, IsFirstOverlong, IsRejected}
+use Rattle.texting_robots.specs.Rules.{AreRulesFor, HasNoRulesOrSitemaps, HoldsRule, IsFirstOverlong}
+use Rattle.texting_robots.specs.Rules.{IsRejected}
 use Rattle.texting_robots.specs.Rules.{PlacedRule, Rule, unplaced}
 use Rattle.texting_robots.proofs.BestLemmas.{none_denies, verdict_by}
 use Rattle.texting_robots.proofs.GivenLemmas.{delay_is_computed, sitemaps_are_computed}
-use Rattle.texting_robots.proofs.HeldLemmas.{computed_are, one_list, rejection_is_computed, rules_are_computed}
+use Rattle.texting_robots.proofs.HeldLemmas.{computed_are, one_list, rejection_is_computed}
+use Rattle.texting_robots.proofs.HeldLemmas.{rules_are_computed}
 use Rattle.texting_robots.proofs.LineLemmas.{each_text_has_its_lines}
 use Rattle.texting_robots.proofs.RulesLemmas.{rejected_wider, some_overlong}
 use Rattle.texting_robots.proofs.VerdictLemmas.{longest_permuted, same_lines, same_verdicts}

@@ -6,7 +6,8 @@ use Rattle.std.specs.List.{enumerate_from, filter_map, list_any, position_or_len
 use Rattle.std.specs.{Bool.then_some, Option.IfSome}
 use Rattle.std.proofs.lemmas.Bool.{cases_Bool}
 use Rattle.std.proofs.Math.{Bool.or_comm, Nat.add-zero}
-use Rattle.texting_robots.specs.{declared.groups.GroupTracker.GroupTracker, Group.group_name, Group.is_agent, Group.is_group}
+use Rattle.texting_robots.specs.{declared.groups.GroupTracker.GroupTracker, Group.group_name, Group.is_agent}
+use Rattle.texting_robots.specs.{Group.is_group}
 use Rattle.texting_robots.specs.{Line.Allow, Line.Disallow, Line.LineValue, Labels.is_own, Labels.label_at}
 use Rattle.texting_robots.specs.{Labels.labels_of, Rules.Rule, Internal.Captured.is_captured}
 use Rattle.texting_robots.specs.declared.labels.Membership.TheVariants.{Own, Other, Ungrouped}

@@ -24,9 +24,12 @@ use Rattle.url.specs.{Scheme.is_slash, Input.rsplit_once, Path.IsSegment, Path.d
 use Rattle.url.proofs.{HostRoundTrip.All-decimal, PathLemmas.push_valid, InputLemmas.prefix_len_at}
 use Rattle.url.proofs.InputLemmas.{Passes, StopsAt, All-take-prefix_len, StopsAt-drop-prefix_len}
 use Rattle.texting_robots.specs.declared.normalized.TheConstants.{NAME, NUMBER, OPEN, SEGMENT, UPPER}
-use Rattle.texting_robots.specs.{AllocationFree.EndsSite, AllocationFree.IsAuthority, AllocationFree.IsName, AllocationFree.IsPath, AllocationFree.IsPort}
-use Rattle.texting_robots.specs.{Prepared.with_delimiter, Internal.Normalized.IsOther, Internal.Normalized.Leaves}
-use Rattle.texting_robots.specs.Internal.Normalized.{EndsPath, after, begins_dotted, begins_plainly, kept_prefix}
+use Rattle.texting_robots.specs.{AllocationFree.EndsSite, AllocationFree.IsAuthority, AllocationFree.IsName}
+use Rattle.texting_robots.specs.{AllocationFree.IsPath, AllocationFree.IsPort}
+use Rattle.texting_robots.specs.{Prepared.with_delimiter, Internal.Normalized.IsOther}
+use Rattle.texting_robots.specs.{Internal.Normalized.Leaves}
+use Rattle.texting_robots.specs.Internal.Normalized.{EndsPath, after, begins_dotted, begins_plainly}
+use Rattle.texting_robots.specs.Internal.Normalized.{kept_prefix}
 use Rattle.texting_robots.specs.Internal.Normalized.{past_path, past_segment, is_kept}
 
 -- ---- bytes that are kept

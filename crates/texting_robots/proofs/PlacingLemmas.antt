@@ -5,7 +5,8 @@ use Rattle.std.proofs.Common.{append-nil, take-append-drop, drop-drop, length-ap
 use Rattle.std.proofs.lemmas.Bool.{cases_lt}
 use Rattle.std.proofs.lemmas.List.{drop_all, Prefix.at_from_reads, Prefix.at_reads, Prefix.front_rest}
 use Rattle.memchr.specs.Find.{FindsNeedle, OccursAt}
-use Rattle.texting_robots.specs.{Pattern.IsSuffix, Internal.Stars.IsRestAfterFirst, Internal.Stars.OccursNowhere}
+use Rattle.texting_robots.specs.{Pattern.IsSuffix, Internal.Stars.IsRestAfterFirst}
+use Rattle.texting_robots.specs.{Internal.Stars.OccursNowhere}
 
 -- if `R` holds for a text whenever it holds for a suffix of it, the first occurrence of the segment is enough
 pub first_is_enough : (R : List ℕ → Type 0) (segment t : List ℕ)

@@ -6,9 +6,10 @@ use Rattle.std.specs.Int.{RustNames.bit_and, RustNames.bit_or, Bits.or_self, Bit
 use Rattle.std.proofs.lemmas.List.{take-take}
 use Rattle.std.proofs.lemmas.Nat.{and_mask, or_comm, Bits.bit_at_or, Bits.same_from_bits}
 use Rattle.texting_robots.specs.declared.prefilter.{Prefilter.Prefilter, head.Head.Head}
-use Rattle.texting_robots.specs.declared.pieces.{Ending.Ending, Ends.Ends, Segment.Segment}
-use Rattle.texting_robots.specs.declared.pieces.Ending.TheVariants.{Last}
-use Rattle.texting_robots.specs.Internal.Prefilter.{ArePrefilter, AreWithin, Fits, IsHeadOf, ending_pairs, front_bit}
+use Rattle.texting_robots.specs.declared.segments.{Ending.Ending, Ends.Ends, Segment.Segment}
+use Rattle.texting_robots.specs.declared.segments.Ending.TheVariants.{Last}
+use Rattle.texting_robots.specs.Internal.Prefilter.{ArePrefilter, AreWithin, Fits, IsHeadOf, ending_pairs}
+use Rattle.texting_robots.specs.Internal.Prefilter.{front_bit}
 use Rattle.texting_robots.specs.Internal.Prefilter.{first_eight, ones_below, pair_bit, pair_set}
 use Rattle.texting_robots.specs.Internal.Segments.{AreLeft, AreSegments, EndsAs, part_of}
 use Rattle.texting_robots.specs.Pattern.{Matches}
@@ -108,8 +109,8 @@ no_pairs (b ∷ c ∷ rest) short = absurd (omega arith)
 -- the bigrams of all segments, and those of the ending
 abbrev pub segment_pairs : List ℕ → Ending → List Segment → ℕ
 segment_pairs pattern ending [] = ending_pairs pattern ending
-segment_pairs pattern ending (segment ∷ pieces) =
-    bit_or (pair_set (part_of pattern segment.span)) (segment_pairs pattern ending pieces)
+segment_pairs pattern ending (segment ∷ segments) =
+    bit_or (pair_set (part_of pattern segment.span)) (segment_pairs pattern ending segments)
 
 ending_within : (pattern : List ℕ) (ending : Ending) (t : List ℕ) → EndsAs pattern ending t
     → AreWithin (ending_pairs pattern ending) (pair_set t)
@@ -118,30 +119,30 @@ ending_within pattern (Last span) t (front, e) =
 ending_within pattern ending t ends = or_zero_l (pair_set t)
 
 -- the rest of a pattern matches only texts with the bigrams of the remaining segments
-left_within : (pattern : List ℕ) (ending : Ending) (pieces : List Segment) (left : List ℕ)
-    → AreLeft pattern ending pieces left → (t : List ℕ) → Matches left t
-    → AreWithin (segment_pairs pattern ending pieces) (pair_set t)
+left_within : (pattern : List ℕ) (ending : Ending) (segments : List Segment) (left : List ℕ)
+    → AreLeft pattern ending segments left → (t : List ℕ) → Matches left t
+    → AreWithin (segment_pairs pattern ending segments) (pair_set t)
 left_within pattern ending [] left are t m = ending_within pattern ending t ((are t).0 m)
-left_within pattern ending (segment ∷ pieces) left (rest, is, more) t m =
+left_within pattern ending (segment ∷ segments) left (rest, is, more) t m =
     let (after, (front, e), n) = (is.decides t).0 m in
     let part = part_of pattern segment.span in
-    let pairs = segment_pairs pattern ending (segment ∷ pieces) in
-    let later = segment_pairs pattern ending pieces in
+    let pairs = segment_pairs pattern ending (segment ∷ segments) in
+    let later = segment_pairs pattern ending segments in
     let following = within_through later (pair_set after) (pair_set (part ++ after))
-    (left_within pattern ending pieces rest more after n) (end_within part after) in
+    (left_within pattern ending segments rest more after n) (end_within part after) in
     let both = within_both _ later (pair_set (part ++ after)) (front_within part after) following in
     rw e (within_through pairs (pair_set (part ++ after)) _ both (end_within front (part ++ after)))
 
 -- a text that a pattern matches passes its prefilter
-pub are_prefilter : {pattern : List ℕ} {ends : Ends} {pieces : List Segment} {borders : List ℕ} (prefilter : Prefilter)
-    → AreSegments pattern ends pieces borders → IsHeadOf (take ends.first_len pattern) prefilter.head
-    → prefilter.pairs.bits ≡ segment_pairs pattern ends.ending pieces → ArePrefilter pattern prefilter
-are_prefilter {pattern} {ends} {pieces} prefilter are head pairs text m =
+pub are_prefilter : {pattern : List ℕ} {ends : Ends} {segments : List Segment} {borders : List ℕ} (prefilter : Prefilter)
+    → AreSegments pattern ends segments borders → IsHeadOf (take ends.first_len pattern) prefilter.head
+    → prefilter.pairs.bits ≡ segment_pairs pattern ends.ending segments → ArePrefilter pattern prefilter
+are_prefilter {pattern} {ends} {segments} prefilter are head pairs text m =
     let first = take ends.first_len pattern in
     let (rest, e, n) = (are.decides text).0 m in
-    let pairs_of = segment_pairs pattern ends.ending pieces in
+    let pairs_of = segment_pairs pattern ends.ending segments in
     let within = within_through pairs_of (pair_set rest) (pair_set (first ++ rest))
-    (left_within pattern ends.ending pieces are.rest are.left rest n) (end_within first rest) in
+    (left_within pattern ends.ending segments are.rest are.left rest n) (end_within first rest) in
     rw (e, pairs) (record { head = beginning_fits first rest prefilter.head head; pairs = within })
 
 -- a text that begins with a segment has the bigrams of the segment's first bytes

@@ -11,7 +11,8 @@ use Rattle.std.proofs.lemmas.List.Elements.{All-push}
 use Rattle.std.proofs.lemmas.Str.{IsUtf8-from_is_utf8, is_utf8-from_IsUtf8}
 use Rattle.texting_robots.specs.declared.error.Error.{Error}
 use Rattle.texting_robots.specs.Line.{LineValue, Sitemap, delay_in, is_sitemap}
-use Rattle.texting_robots.specs.{Executable.sitemap_in, Pattern.IsOverlong, Error.IsMemoryErrorOr, Group.is_agent}
+use Rattle.texting_robots.specs.{Executable.sitemap_in, Pattern.IsOverlong, Error.IsMemoryErrorOr}
+use Rattle.texting_robots.specs.{Group.is_agent}
 use Rattle.texting_robots.specs.Rules.{IsFirstOverlong, PlacedRule, Rule, unplaced}
 use Rattle.texting_robots.specs.Internal.{Group.placed, Robot.IsRejectionOf, Robot.rejection_at}
 use Rattle.texting_robots.proofs.BestLemmas.{placed_of}

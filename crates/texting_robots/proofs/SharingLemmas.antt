@@ -4,9 +4,10 @@ use Rattle.std.proofs.Common.{drop, map, slice_range, take, refl, sym, ap, ◌�
 use Rattle.std.proofs.lemmas.List.{drop-append-le, drop_at, length-append, length-drop, map_push}
 use Rattle.std.proofs.lemmas.List.{take-append-le, take_all}
 use Rattle.std.proofs.lemmas.List.Elements.{All-head, All-push, All-tail, All-weaker}
-use Rattle.texting_robots.specs.declared.pieces.{Ends.Ends, Segment.Segment, Span.Span}
+use Rattle.texting_robots.specs.declared.segments.{Ends.Ends, Segment.Segment, Span.Span}
 use Rattle.texting_robots.specs.declared.rules.Entry.{Entry}
-use Rattle.texting_robots.specs.Internal.{Entries.IsEntry, Entries.placed_at, Entries.rank, Prefilter.ArePrefilter}
+use Rattle.texting_robots.specs.Internal.{Entries.IsEntry, Entries.placed_at, Entries.rank}
+use Rattle.texting_robots.specs.Internal.{Prefilter.ArePrefilter}
 use Rattle.texting_robots.specs.Internal.Segments.{AreSegments, IsSegment, IsSpan, part_of}
 
 -- the range of the items that were added
@@ -44,7 +45,7 @@ pub after_old : {X : Type 0} (xs more : List X) (start : ℕ) → start ≡ leng
 after_old xs more start is =
     part_new xs more (record { start = start; end = length (xs ++ more) }) (record { start = is; end = refl })
 
-module _ (p : List ℕ) (ends : Ends) (pieces : List Segment) (borders more : List ℕ) where
+module _ (p : List ℕ) (ends : Ends) (segments : List Segment) (borders more : List ℕ) where
   segment_kept : (segment : Segment) → IsSegment p borders segment → IsSegment p (borders ++ more) segment
   segment_kept segment is =
       let len = length (part_of p segment.span) - 1 in
@@ -54,30 +55,30 @@ module _ (p : List ℕ) (ends : Ends) (pieces : List Segment) (borders more : Li
       let sizes = length-append borders more in
       record { span = is.span; fits = omega arith; table = rw stays is.table }
 
-  tables_kept : AreSegments p ends pieces borders → AreSegments p ends pieces (borders ++ more)
+  tables_kept : AreSegments p ends segments borders → AreSegments p ends segments (borders ++ more)
   tables_kept are = record {
     first = are.first;
-    known = All-weaker (IsSegment p borders) (IsSegment p (borders ++ more)) segment_kept pieces are.known;
+    known = All-weaker (IsSegment p borders) (IsSegment p (borders ++ more)) segment_kept segments are.known;
     ending = are.ending;
     rest = are.rest;
     decides = are.decides;
     left = are.left;
   }
 
-module _ (text more_text : List ℕ) (pieces more_segments : List Segment) (borders more_borders : List ℕ) where
+module _ (text more_text : List ℕ) (segments more_segments : List Segment) (borders more_borders : List ℕ) where
   abbrev IsOld : Entry → Type 0
-  IsOld = IsEntry text pieces borders
+  IsOld = IsEntry text segments borders
 
   abbrev IsNow : Entry → Type 0
-  IsNow = IsEntry (text ++ more_text) (pieces ++ more_segments) (borders ++ more_borders)
+  IsNow = IsEntry (text ++ more_text) (segments ++ more_segments) (borders ++ more_borders)
 
   entry_kept : (entry : Entry) → IsOld entry → IsNow entry
   entry_kept entry h =
       let one = part_kept text more_text entry.pattern h.pattern in
-      let two = part_kept pieces more_segments entry.pieces h.searched in
+      let two = part_kept segments more_segments entry.segments h.searched in
       record {
         pattern = span_kept text more_text entry.pattern h.pattern;
-        searched = span_kept pieces more_segments entry.pieces h.searched;
+        searched = span_kept segments more_segments entry.segments h.searched;
         is_cut = rw (one, two) (tables_kept _ _ _ borders more_borders h.is_cut);
         needed = rw one h.needed;
         ranked = h.ranked;
@@ -89,39 +90,39 @@ module _ (text more_text : List ℕ) (pieces more_segments : List Segment) (bord
       All-push IsNow entries entry (All-weaker IsOld IsNow entry_kept entries known) is
 
 -- the pattern, its other segments and the tables were pushed
-module _ (text pattern : List ℕ) (pieces searched : List Segment) (borders : List ℕ) (entry : Entry) where
+module _ (text pattern : List ℕ) (segments searched : List Segment) (borders : List ℕ) (entry : Entry) where
   pub record IsPushed : Type 0 where
     pub pattern_span : IsNew text (text ++ pattern) entry.pattern
-    pub searched_span : IsNew pieces (pieces ++ searched) entry.pieces
+    pub searched_span : IsNew segments (segments ++ searched) entry.segments
     pub is_cut : AreSegments pattern entry.ends searched borders
     pub needed : ArePrefilter pattern entry.prefilter
     pub ranked : entry.rank ≡ rank (length pattern) entry.is_allow
 
-  pub entry_new : IsPushed → IsEntry (text ++ pattern) (pieces ++ searched) borders entry
+  pub entry_new : IsPushed → IsEntry (text ++ pattern) (segments ++ searched) borders entry
   entry_new is =
       let one = part_new text pattern entry.pattern is.pattern_span in
-      let two = part_new pieces searched entry.pieces is.searched_span in
+      let two = part_new segments searched entry.segments is.searched_span in
       let sizes = length-append text pattern in
       let len : entry.pattern.end - entry.pattern.start ≡ length pattern = omega arith in
       record {
         pattern = span_new text pattern entry.pattern is.pattern_span;
-        searched = span_new pieces searched entry.pieces is.searched_span;
+        searched = span_new segments searched entry.segments is.searched_span;
         is_cut = rw (one, two) is.is_cut;
         needed = rw one is.needed;
         ranked = rw len is.ranked;
       }
 
-module _ (text more : List ℕ) (pieces : List Segment) (borders : List ℕ) where
-  rules_kept : (entries : List Entry) → All (IsEntry text pieces borders) entries
+module _ (text more : List ℕ) (segments : List Segment) (borders : List ℕ) where
+  rules_kept : (entries : List Entry) → All (IsEntry text segments borders) entries
       → map (placed_at (text ++ more)) entries ≡ map (placed_at text) entries
   rules_kept [] known = refl
   rules_kept (entry ∷ entries) known =
-      let own = All-head (IsEntry text pieces borders) entry entries known in
+      let own = All-head (IsEntry text segments borders) entry entries known in
       let one = part_kept text more entry.pattern own.pattern in
-      let rest = rules_kept entries (All-tail (IsEntry text pieces borders) entry entries known) in
+      let rest = rules_kept entries (All-tail (IsEntry text segments borders) entry entries known) in
       rw (one, rest) refl
 
-  pub rules_pushed : (entries : List Entry) (entry : Entry) → All (IsEntry text pieces borders) entries
+  pub rules_pushed : (entries : List Entry) (entry : Entry) → All (IsEntry text segments borders) entries
       → IsNew text (text ++ more) entry.pattern
       → map (placed_at (text ++ more)) (entries ++ entry ∷ [])
       ≡ map (placed_at text) entries ++ record { rule = (more, entry.is_allow); line = entry.line } ∷ []

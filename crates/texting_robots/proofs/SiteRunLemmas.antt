@@ -9,7 +9,8 @@ use Rattle.std.proofs.lemmas.{Bool.ne_eqb, Bool.Decides.eqb_tells}
 use Rattle.std.proofs.lemmas.List.{Elements.filter-append}
 use Rattle.texting_robots.specs.Line.{LineValue, UserAgent, Allow, Disallow, Sitemap, CrawlDelay, Raw}
 use Rattle.texting_robots.specs.Group.{is_agent, is_agent_named}
-use Rattle.texting_robots.specs.Internal.Site.{Named, Tagged, has_name, in_front, named, named_from, run_after}
+use Rattle.texting_robots.specs.Internal.Site.{Named, Tagged, has_name, in_front, named, named_from}
+use Rattle.texting_robots.specs.Internal.Site.{run_after}
 use Rattle.texting_robots.specs.Internal.Site.{tagged, tagged_from}
 
 -- the lines of a run

@@ -31,10 +31,10 @@ abbrev following : List ℕ → List ℕ
 following bytes = drop (decoded bytes).size bytes
 
 -- induction over UTF-8 units
-by_segments : (P : List ℕ → Type 0) → P []
+by_units : (P : List ℕ → Type 0) → P []
     → ((bytes : List ℕ) → 0 < length bytes → P (following bytes) → P bytes)
     → (bytes : List ℕ) → P bytes
-by_segments P none more bytes = at (length bytes) bytes (omega arith)
+by_units P none more bytes = at (length bytes) bytes (omega arith)
   where
     at : (n : ℕ) (bytes : List ℕ) → length bytes ≤ n → P bytes
     at n [] le = none
@@ -126,7 +126,7 @@ abbrev Started : List ℕ → Type 0
 Started bytes = (chars : List ℕ) × AllWhite chars × (bytes ≡ encode_utf8_all chars ++ from_start bytes)
 
 started : (bytes : List ℕ) → Started bytes
-started = by_segments Started ([], tt, sym (drop-nil _)) (λ bytes some (chars, all, whole).
+started = by_units Started ([], tt, sym (drop-nil _)) (λ bytes some (chars, all, whole).
     let c = first_char bytes in
     let step = start_step bytes some in
     elim (cases_Bool (is_whitespace c)) [
@@ -186,21 +186,21 @@ ended_next : (bytes text : List ℕ) (end : ℕ) → 0 < length bytes → Ended 
 ended_next bytes text end some (within, (chars, all, spaces)) =
     let c = first_char bytes in
     let n = (decoded bytes).size in
-    let segment = take n bytes in
+    let unit = take n bytes in
     let bounds = piece-bounds bytes some in
-    let long : length (text ++ segment) ≡ length text + n = simp (length-append, length-take) (omega arith) in
+    let long : length (text ++ unit) ≡ length text + n = simp (length-append, length-take) (omega arith) in
     elim (cases_Bool (is_whitespace c)) [
       | inr other ↦
-          rw other (omega arith, ([], tt, drop_all (length text + n) (text ++ segment) (omega arith)))
+          rw other (omega arith, ([], tt, drop_all (length text + n) (text ++ unit) (omega arith)))
       | inl white ↦
-          let same : segment ≡ encode_utf8 c
+          let same : unit ≡ encode_utf8 c
           = append_cancel_right _ _ (following bytes) (take-append-drop n bytes ∙ written bytes white) in
           rw white (
             omega arith,
             (
               chars ++ c ∷ [],
               each_append (λ char. IsTrue (is_whitespace char)) chars (c ∷ []) all (white, tt),
-              rw (drop-append-le end text segment within, spaces, encodes-append, append-nil, same) refl,
+              rw (drop-append-le end text unit within, spaces, encodes-append, append-nil, same) refl,
             ),
           )
     ]
@@ -208,7 +208,7 @@ ended_next bytes text end some (within, (chars, all, spaces)) =
 ended : (bytes text : List ℕ) (end : ℕ) → Ended text end
     → Ended (text ++ bytes) (kept_end is_whitespace end (spans_from (length text) (pieces bytes)))
 unfolding kept_end
-ended = by_segments (λ bytes. (text : List ℕ) (end : ℕ) → Ended text end
+ended = by_units (λ bytes. (text : List ℕ) (end : ℕ) → Ended text end
     → Ended (text ++ bytes) (kept_end is_whitespace end (spans_from (length text) (pieces bytes))))
     (λ text end e. rw (append-nil, spans-nil [] (length text) refl) e)
     (λ bytes some later text end e.

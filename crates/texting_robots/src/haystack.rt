@@ -8,7 +8,7 @@ ghost use Rattle.texting_robots.specs.Internal.Stars.{IsRestAfterFirst, OccursNo
 ghost use Rattle.texting_robots.specs.Pattern.{IsSuffix};
 ghost use Rattle.texting_robots.specs.Internal.Haystack.{PassesTo};
 
-use crate::pieces::Span;
+use crate::segments::Span;
 use crate::prefilter::bigrams::BigramSet;
 use crate::prefilter::head::front;
 use crate::prefilter::{Prefilter, first_near};

@@ -42,7 +42,7 @@ pub mod minregex;
 mod normalized;
 mod one_agent;
 pub mod parser;
-mod pieces;
+mod segments;
 mod prefilter;
 mod prepared;
 mod reading;

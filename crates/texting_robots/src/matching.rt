@@ -6,7 +6,7 @@ ghost use Rattle.texting_robots.specs.Internal.Segments.{EndsAs, IsEnding};
 ghost use Rattle.texting_robots.specs.View.{LooksAtMost};
 
 use crate::haystack::Haystack;
-use crate::pieces::{Ending, Pattern};
+use crate::segments::{Ending, Pattern};
 
 impl<'a> Pattern<'a> {
     /// Whether the pattern matches the text, or a beginning of it.
@@ -17,7 +17,7 @@ impl<'a> Pattern<'a> {
         let Some(mut rest) = haystack.begins_with(&self.bytes[..self.ends.first_len]) else {
             return false;
         };
-        for segment in self.pieces {
+        for segment in self.segments {
             let bytes = &self.bytes[segment.span.start..segment.span.end];
             let table = &self.borders[segment.table..segment.table + bytes.len().saturating_sub(1)];
             let Some(following) = haystack.find(rest, bytes, table) else {

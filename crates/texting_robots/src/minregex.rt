@@ -13,7 +13,7 @@ ghost use Rattle.texting_robots.specs.View.{LooksAtMost};
 
 use crate::error::Error;
 use crate::haystack::{Uncounted, after_first};
-use crate::pieces::{Ends, Pattern, STAR, Segment, is_overlong, push_segments};
+use crate::segments::{Ends, Pattern, STAR, Segment, is_overlong, push_segments};
 use crate::view::View;
 use memchr::memchr;
 use std::alloc::{AllocError, Global};
@@ -27,7 +27,7 @@ pub struct MinRegex {
     pattern: String,
     collapsed_text: String,
     ends: Ends,
-    pieces: Vec<Segment>,
+    segments: Vec<Segment>,
     borders: Vec<usize>,
 }
 
@@ -41,7 +41,7 @@ impl Model for MinRegex {
     ghost view = { λ r. string_bytes r.pattern };
 
     ghost invariant = { λ r. (string_bytes r.collapsed_text ≡ collapsed (string_bytes r.pattern))
-        × AreSegments (string_bytes r.pattern) r.ends r.pieces.items r.borders.items };
+        × AreSegments (string_bytes r.pattern) r.ends r.segments.items r.borders.items };
 }
 
 impl MinRegex {
@@ -60,15 +60,15 @@ impl MinRegex {
             return Err(Error::InvalidRule);
         }
         let collapsed_text = collapse_stars(alloc, pattern)?;
-        let mut pieces = Vec::new(alloc);
+        let mut segments = Vec::new(alloc);
         let mut borders = Vec::new(alloc);
-        let ends = push_segments(pattern.as_bytes(), &mut pieces, &mut borders)?;
+        let ends = push_segments(pattern.as_bytes(), &mut segments, &mut borders)?;
         let pattern = String::from_str(alloc, pattern)?;
         Ok(MinRegex {
             pattern,
             collapsed_text,
             ends,
-            pieces,
+            segments,
             borders,
         })
     }
@@ -86,7 +86,7 @@ impl MinRegex {
             pattern: String::from_str(alloc, self.pattern.as_str())?,
             collapsed_text: String::from_str(alloc, self.collapsed_text.as_str())?,
             ends: self.ends,
-            pieces: self.pieces.to_vec(alloc)?,
+            segments: self.segments.to_vec(alloc)?,
             borders: self.borders.to_vec(alloc)?,
         })
     }
@@ -107,7 +107,7 @@ impl MinRegex {
         Pattern::new(
             self.pattern.as_bytes(),
             self.ends,
-            &self.pieces,
+            &self.segments,
             &self.borders,
         )
     }

@@ -6,7 +6,7 @@ ghost use Rattle.texting_robots.specs.Internal.Segments.{IsEnding};
 pub(crate) mod bigrams;
 pub(crate) mod head;
 
-use crate::pieces::{Ending, Pattern};
+use crate::segments::{Ending, Pattern};
 use bigrams::BigramSet;
 use head::Head;
 
@@ -24,7 +24,7 @@ impl Prefilter {
     {
         let head = Head::of(pattern.bytes, pattern.ends.first_len);
         let mut pairs = BigramSet::none();
-        for segment in pattern.pieces {
+        for segment in pattern.segments {
             pairs = pairs.and(BigramSet::of(&pattern.bytes[segment.span.start..segment.span.end]));
         }
         Prefilter {

@@ -5,9 +5,9 @@ use Rattle.std.specs.Prelude.{bit_or, map, min, slice_index, slice_index_or, tak
 use Rattle.std.specs.Prelude.{if◌then◌else◌}
 use Rattle.std.specs.Ordering.{flip_args, nat_cmp, on, then_cmp}
 use Rattle.std.specs.declared.cmp.Ordering.{Ordering}
-use Rattle.texting_robots.specs.declared.pieces.Span.{Span}
-use Rattle.texting_robots.specs.declared.pieces.Segment.{Segment}
-use Rattle.texting_robots.specs.declared.pieces.Ending.TheVariants.{Open}
+use Rattle.texting_robots.specs.declared.segments.Span.{Span}
+use Rattle.texting_robots.specs.declared.segments.Segment.{Segment}
+use Rattle.texting_robots.specs.declared.segments.Ending.TheVariants.{Open}
 use Rattle.texting_robots.specs.declared.rules.Entry.{Entry}
 use Rattle.texting_robots.specs.declared.rules.Unsorted.{Unsorted}
 use Rattle.texting_robots.specs.Internal.Prefilter.{ArePrefilter, pair_set}
@@ -24,15 +24,15 @@ abbrev pub rank : ℕ → Bool → ℕ
 rank len allows = 2 * len + (if allows then 1 else 0)
 
 -- the ranges hold a pattern and its pieces, whose tables are among all, and what it matches meets the needs
-pub record IsEntry (text : List ℕ) (pieces : List Segment) (borders : List ℕ) (entry : Entry) : Type 0 where
+pub record IsEntry (text : List ℕ) (segments : List Segment) (borders : List ℕ) (entry : Entry) : Type 0 where
   pub pattern : IsSpan text entry.pattern
-  pub searched : IsSpan pieces entry.pieces
-  pub is_cut : AreSegments (part_of text entry.pattern) entry.ends (part_of pieces entry.pieces) borders
+  pub searched : IsSpan segments entry.segments
+  pub is_cut : AreSegments (part_of text entry.pattern) entry.ends (part_of segments entry.segments) borders
   pub needed : ArePrefilter (part_of text entry.pattern) entry.prefilter
   pub ranked : entry.rank ≡ rank (len_of entry) entry.is_allow
 
 abbrev pub IsEntryOf : Unsorted → Entry → Type 0
-IsEntryOf all entry = IsEntry (string_bytes all.text) all.pieces.items all.borders.items entry
+IsEntryOf all entry = IsEntry (string_bytes all.text) all.segments.items all.borders.items entry
 
 -- there are no more signs
 pub record AreEntries (all : Unsorted) : Type 0 where
@@ -75,7 +75,7 @@ no_entry =
     record {
       prefilter = record { head = record { bytes = 0; mask = 0 }; pairs = record { bits = 0 } };
       pattern = none;
-      pieces = none;
+      segments = none;
       ends = record { first_len = 0; ending = Open };
       is_allow = false;
       rank = 0;

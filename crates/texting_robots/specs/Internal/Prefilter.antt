@@ -5,8 +5,8 @@ use Rattle.std.specs.Int.{w64, from_le_bytes}
 use Rattle.texting_robots.specs.declared.prefilter.Prefilter.{Prefilter}
 use Rattle.texting_robots.specs.declared.prefilter.head.Head.{Head}
 use Rattle.texting_robots.specs.declared.prefilter.bigrams.BigramSet.{BigramSet}
-use Rattle.texting_robots.specs.declared.pieces.Ending.{Ending}
-use Rattle.texting_robots.specs.declared.pieces.Ending.TheVariants.{Open, Closed, Last, Never}
+use Rattle.texting_robots.specs.declared.segments.Ending.{Ending}
+use Rattle.texting_robots.specs.declared.segments.Ending.TheVariants.{Open, Closed, Last, Never}
 use Rattle.texting_robots.specs.Pattern.{Matches}
 use Rattle.texting_robots.specs.Internal.Segments.{part_of}
 

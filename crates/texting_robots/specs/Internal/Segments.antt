@@ -3,11 +3,11 @@ use Rattle.std.specs.Prelude.{◌≡◌, ◌↔◌, ℕ, ◌+◌, ◌-◌, ◌�
 use Rattle.std.specs.Prelude.{◌==◌, ◌||◌, Bool, true, false, List, []}
 use Rattle.std.specs.Prelude.{◌∷◌, ◌++◌, All, drop, length, slice_range, take}
 use Rattle.std.specs.List.{prefix_len}
-use Rattle.texting_robots.specs.declared.pieces.Span.{Span}
-use Rattle.texting_robots.specs.declared.pieces.Segment.{Segment}
-use Rattle.texting_robots.specs.declared.pieces.Ending.{Ending}
-use Rattle.texting_robots.specs.declared.pieces.Ending.TheVariants.{Open, Closed, Last, Never}
-use Rattle.texting_robots.specs.declared.pieces.Ends.{Ends}
+use Rattle.texting_robots.specs.declared.segments.Span.{Span}
+use Rattle.texting_robots.specs.declared.segments.Segment.{Segment}
+use Rattle.texting_robots.specs.declared.segments.Ending.{Ending}
+use Rattle.texting_robots.specs.declared.segments.Ending.TheVariants.{Open, Closed, Last, Never}
+use Rattle.texting_robots.specs.declared.segments.Ends.{Ends}
 use Rattle.texting_robots.specs.Internal.Border.{IsTable}
 use Rattle.texting_robots.specs.Pattern.{dollar, IsSuffix, Matches, star}
 
@@ -90,24 +90,24 @@ pub record IsLeft (left segment rest : List ℕ) : Type 0 where
 -- what is left of the pattern is these pieces, one after the other, and then the ending
 abbrev pub AreLeft : List ℕ → Ending → List Segment → List ℕ → Type 0
 AreLeft pattern ending [] left = (text : List ℕ) → Matches left text ↔ EndsAs pattern ending text
-AreLeft pattern ending (segment ∷ pieces) left =
-    (rest : List ℕ) × IsLeft left (part_of pattern segment.span) rest × AreLeft pattern ending pieces rest
+AreLeft pattern ending (segment ∷ segments) left =
+    (rest : List ℕ) × IsLeft left (part_of pattern segment.span) rest × AreLeft pattern ending segments rest
 
 -- the pattern is its first piece, these pieces with their tables, and its ending
-pub record AreSegments (pattern : List ℕ) (ends : Ends) (pieces : List Segment)
+pub record AreSegments (pattern : List ℕ) (ends : Ends) (segments : List Segment)
     (borders : List ℕ) : Type 0 where
   pub first : ends.first_len ≤ length pattern
-  pub known : All (IsSegment pattern borders) pieces
+  pub known : All (IsSegment pattern borders) segments
   pub ending : IsEnding pattern ends.ending
   pub rest : List ℕ
   pub decides : (text : List ℕ) → Matches pattern text ↔ InFront (take ends.first_len pattern) rest text
-  pub left : AreLeft pattern ends.ending pieces rest
+  pub left : AreLeft pattern ends.ending segments rest
 
 -- the pieces were added, and their tables behind the others
 pub record AddsSegments (pattern : List ℕ) (ends : Ends) (old_segments new_segments : List Segment)
     (old_borders new_borders : List ℕ) : Type 0 where
-  pub pieces : List Segment
+  pub segments : List Segment
   pub tables : List ℕ
-  pub put_segments : new_segments ≡ old_segments ++ pieces
+  pub put_segments : new_segments ≡ old_segments ++ segments
   pub put_tables : new_borders ≡ old_borders ++ tables
-  pub are_segments : AreSegments pattern ends pieces new_borders
+  pub are_segments : AreSegments pattern ends segments new_borders

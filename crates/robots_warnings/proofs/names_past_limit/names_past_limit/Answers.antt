@@ -22,4 +22,4 @@ pub loop-index-preserved : goal.loop-index-preserved
 loop-index-preserved c =
     let (next, here, further, _) = c.in-Some.ensures.steps in
     let added = rw here at c.in_ok-add.ensures in
-    rw further (found_more (rw next at c.loop-index.invariant) c.in_ok-meet.ensures added)
+    rw further (found_more (rw next at c.loop-index.invariant) c.in_ok-insert_name.ensures added)

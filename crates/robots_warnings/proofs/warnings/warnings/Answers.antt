@@ -10,5 +10,5 @@ returns c =
       c.in_ok-warn_of_file_lines.ensures,
       c.in_ok-warn_in_general.ensures,
       c.new-found.ensures.items,
-      c.is_everywhere-everywhere.ensures,
+      c.covers_all_crawlers-everywhere.ensures,
     ) (simp (append_assoc))

@@ -1,12 +1,13 @@
 use Rattle.std.proofs.{Common.refl, lemmas.List.length-map, lemmas.List.FromFn.length-enumerate_from}
-use Rattle.texting_robots.{specs.Group.group_name, specs.Executable.file_lines, proofs.MembershipLemmas.labels_are}
+use Rattle.texting_robots.{specs.Group.group_name, specs.Executable.file_lines}
+use Rattle.texting_robots.{proofs.MembershipLemmas.labels_are}
 use Rattle.texting_robots.proofs.labels.labeled_lines.Goals as goal
 
 pub returns : goal.returns
 returns c =
     let lines = file_lines c.args.txt.now in
     let name = group_name c.args.agent.now lines in
-    let read = c.unread_file_lines-2.ensures in
+    let read = c.lazy_file_lines-2.ensures in
     let group =
     rw (c.lazy_file_lines.ensures.value, c.as_bytes.ensures.value) at c.group_for-group.ensures in
     rw (read.value, group.name, group.start, ← labels_are name lines)

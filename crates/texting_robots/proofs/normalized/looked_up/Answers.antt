@@ -5,7 +5,7 @@ use Rattle.std.proofs.lemmas.Simd.{Each1-get_or, SwzOk-from_below, get_or-swz_l_
 use Rattle.texting_robots.proofs.normalized.looked_up.Goals as goal
 
 pub swizzle : goal.swizzle
-swizzle c = SwzOk-from_below w8 16 1 16 0 c.args.places refl (omega (arith, c.fits-positions.0)) c.requires
+swizzle c = SwzOk-from_below w8 16 1 16 0 c.args.places refl (omega (arith, c.fits-places.0)) c.requires
 
 pub returns : goal.returns
 returns c =
@@ -15,7 +15,7 @@ returns c =
     (λ i inside.
     let within : i < length places = omega (arith, length-swz_l w8 16 table 0 places) in
     let position = get_or places i 0 in
-    let same : 16 * ((0 + i) / 16) + position ≡ position = omega (arith, c.fits-positions.0) in
+    let same : 16 * ((0 + i) / 16) + position ≡ position = omega (arith, c.fits-places.0) in
     get_or-swz_l_below w8 16 table 0 places i within
     (Each1-get_or (λ k. k < 16) places i 0 within c.requires)
     ∙ ap (slice_index table) same ∙ sym (get_or-map (slice_index table) places i 0 0 within))

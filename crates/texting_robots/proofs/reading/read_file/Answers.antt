@@ -29,7 +29,7 @@ loop-position-init c =
     let name = group_name c.args.agent.now lines in
     let start = rw c.lazy_file_lines.ensures.value at c.group_for-group.ensures.start in
     let items = c.enumerate-position-items.ensures in
-    let source = items.source ∙ c.unread_file_lines-2.ensures.value in
+    let source = items.source ∙ c.lazy_file_lines-2.ensures.value in
     let empty = c.new-reading.ensures in
     rw (
       c.into_iter-position-iterator.ensures.into_iter_gives,

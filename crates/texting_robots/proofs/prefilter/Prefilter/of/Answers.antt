@@ -7,15 +7,15 @@ use Rattle.texting_robots.proofs.prefilter.Prefilter.of.Goals as goal
 pub loop-segment-preserved : goal.loop-segment-preserved
 loop-segment-preserved c =
     let next =
-    drop_more c.pattern.inside.pieces.now c.loop-segment.segment-index no_segment c.loop-segment-test.true in
+    drop_more c.pattern.inside.segments.now c.loop-segment.segment-index no_segment c.loop-segment-test.true in
     rw (c.and-pairs.ensures, c.of.ensures, or_assoc) (rw next at c.loop-segment.invariant)
 
 pub returns : goal.returns
 returns c =
     let pattern = c.pattern.inside.bytes.now in
-    let pieces = c.pattern.inside.pieces.now in
+    let segments = c.pattern.inside.segments.now in
     let ending = c.pattern.inside.ends.ending in
-    let none = drop_all c.loop-segment.segment-index pieces c.loop-segment-test.false in
-    let all : c.and.result.bits ≡ segment_pairs pattern ending pieces =
+    let none = drop_all c.loop-segment.segment-index segments c.loop-segment-test.false in
+    let all : c.and.result.bits ≡ segment_pairs pattern ending segments =
     rw (c.and.ensures, c.ending_pairs.ensures) (rw none at c.loop-segment.invariant) in
     rw (← c.pattern.view_is) (are_prefilter _ c.pattern.invariant c.of-head.ensures all)

@@ -7,5 +7,5 @@ abbrev pub invariant-loop-segment : goal.invariant-loop-segment
 invariant-loop-segment l =
     let inside = l.pattern-inside in
     let bytes = inside.bytes.now in
-    bit_or l.pairs.bits (segment_pairs bytes inside.ends.ending (drop l.segment-index inside.pieces.now))
-    ≡ segment_pairs bytes inside.ends.ending inside.pieces.now
+    bit_or l.pairs.bits (segment_pairs bytes inside.ends.ending (drop l.segment-index inside.segments.now))
+    ≡ segment_pairs bytes inside.ends.ending inside.segments.now

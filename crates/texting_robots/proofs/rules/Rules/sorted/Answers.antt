@@ -7,7 +7,7 @@ pub put_masks-requires : goal.put_masks-requires
 put_masks-requires c =
     let all = c.args.unsorted in
     let order = c.sort_entries.ensures.permutation in
-    let is = IsEntry (string_bytes all.text) all.pieces.items all.borders.items in
+    let is = IsEntry (string_bytes all.text) all.segments.items all.borders.items in
     let known = All-permutation is _ _ order c.requires.known in
     let size = length_permutation _ _ order in
     rw (c.deref.ensures.value, c.as_bytes.ensures.value) (record {
@@ -20,7 +20,7 @@ pub invariant_of-result : goal.invariant_of-result
 invariant_of-result c =
     let all = c.args.unsorted in
     let order = c.sort_entries.ensures in
-    let is = IsEntry (string_bytes all.text) all.pieces.items all.borders.items in
+    let is = IsEntry (string_bytes all.text) all.segments.items all.borders.items in
     let known = All-permutation is _ _ order.permutation c.requires.known in
     let put = rw (c.deref.ensures.value, c.as_bytes.ensures.value) at c.put_masks.ensures in
     (record { known = known; masks = put.as_many }, order.sorted, put.masked)

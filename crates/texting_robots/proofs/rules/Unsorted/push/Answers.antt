@@ -1,6 +1,7 @@
 use Rattle.std.proofs.Common.{◌≡◌, ℕ, ◌-◌, List, length, slice_range, string_bytes, ap}
 use Rattle.std.proofs.Common.{subst, ◌∙◌, arith, length-append}
-use Rattle.texting_robots.specs.{Internal.Prefilter.ArePrefilter, Internal.Segments.AreSegments, Escape.escaped}
+use Rattle.texting_robots.specs.{Internal.Prefilter.ArePrefilter, Internal.Segments.AreSegments}
+use Rattle.texting_robots.specs.{Escape.escaped}
 use Rattle.texting_robots.proofs.SharingLemmas.{after_old, entries_pushed, entry_new, rules_pushed}
 use Rattle.texting_robots.proofs.rules.Unsorted.push.Goals as goal
 
@@ -8,12 +9,12 @@ pub new-requires : goal.new-requires
 new-requires c =
     let added = c.in_ok-ends.ensures in
     let old = c.args.self.now in
-    let pieces = after_old old.pieces.items added.pieces c.len-first_segment.result (omega arith) in
-    rw (c.deref.ensures.value, c.deref-2.ensures.value, added.put_segments, pieces) added.are_segments
+    let segments = after_old old.segments.items added.segments c.len-first_segment.result (omega arith) in
+    rw (c.deref.ensures.value, c.deref-2.ensures.value, added.put_segments, segments) added.are_segments
 
 pub returns-clause-known : goal.returns-clause-known
 returns-clause-known c =
-    let room = c.in_ok-make_first_room.ensures in
+    let room = c.in_ok-reserve_first.ensures in
     let text = rw room.text at c.in_ok-push_escaped.ensures in
     let added = c.in_ok-ends.ensures in
     let old = c.args.self.now in
@@ -26,29 +27,29 @@ returns-clause-known c =
     let same = ap (λ (t : List ℕ). slice_range t c.len-first_byte.result (length t))
     (c.as_bytes.ensures.value ∙ text)
     ∙ after_old old_text more c.len-first_byte.result (omega arith) in
-    let cut = subst (λ p. AreSegments p c.in_ok-ends.ends added.pieces c.push_segments.new.borders.items)
+    let cut = subst (λ p. AreSegments p c.in_ok-ends.ends added.segments c.push_segments.new.borders.items)
     same added.are_segments in
     let needed = subst (λ (p : List ℕ). ArePrefilter p c.of-prefilter.result)
     (c.new.ensures ∙ same) c.of-prefilter.ensures in
-    let pieces = ap length added.put_segments in
+    let segments = ap length added.put_segments in
     let as_many = ap length room.entries in
     record {
       known = rw (c.in_ok-push.ensures.items, room.entries, text, added.put_segments, added.put_tables)
-          (entries_pushed old_text more old.pieces.items added.pieces old.borders.items added.tables
+          (entries_pushed old_text more old.segments.items added.segments old.borders.items added.tables
           old.entries.items _ c.requires.known
-          (rw (← added.put_tables) (entry_new old_text more old.pieces.items added.pieces _ _ (record {
+          (rw (← added.put_tables) (entry_new old_text more old.segments.items added.segments _ _ (record {
             pattern_span = record { start = omega arith; end = omega arith };
             searched_span = record { start = omega arith; end = omega arith };
             is_cut = cut;
             needed = needed;
             ranked = rw (← len) c.rank_of.ensures;
           }))));
-      masks = omega (arith, c.in_ok-make_room.ensures, c.len.ensures);
+      masks = omega (arith, c.in_ok-reserve_one.ensures, c.len.ensures);
     }
 
 pub returns-clause-added : goal.returns-clause-added
 returns-clause-added c =
-    let room = c.in_ok-make_first_room.ensures in
+    let room = c.in_ok-reserve_first.ensures in
     let text = rw room.text at c.in_ok-push_escaped.ensures in
     let old = c.args.self.now in
     let old_text = string_bytes old.text in
@@ -56,5 +57,5 @@ returns-clause-added c =
     let size = ap length text in
     let before = ap length room.text in
     rw (c.in_ok-push.ensures.items, room.entries, text)
-    (rules_pushed old_text more old.pieces.items old.borders.items old.entries.items _ c.requires.known
+    (rules_pushed old_text more old.segments.items old.borders.items old.entries.items _ c.requires.known
     (record { start = omega arith; end = omega arith }))

@@ -31,8 +31,8 @@ returns-in_err-named c =
     ∙ at_end name c.loop-line.run c.loop-line.name_index c.args.names.now tags (drop c.loop-line.at tags) none
     c.in_default.ensures)
 
-pub after-position-requires-clause-here : goal.after-position-requires-clause-here
-after-position-requires-clause-here c = c.loop-line.invariant.first
+pub after-name_index-requires-clause-here : goal.after-name_index-requires-clause-here
+after-name_index-requires-clause-here c = c.loop-line.invariant.first
 
 pub loop-line-preserved-then-named-run : goal.loop-line-preserved-then-named-run
 loop-line-preserved-then-named-run c =
@@ -41,10 +41,10 @@ loop-line-preserved-then-named-run c =
     let (_, is, _, (within, _), _) = c.in_ok-named.ensures.lookup in
     let at = agent_at c.lines.result.now c.args.names.now c.loop-line.name_index _ c.lines.ensures within is in
     record {
-      left = next_run name c.loop-line.run c.loop-line.name_index c.after-position.result c.args.names.now tags
+      left = next_run name c.loop-line.run c.loop-line.name_index c.after-name_index.result c.args.names.now tags
           (drop c.loop-line.at tags) _ at c.loop-line.invariant.first c.requires.1 c.if-named-run.true
-          c.in_default.ensures c.after-position.ensures ∙ c.loop-line.invariant.left;
-      first = first_kept name c.loop-line.name_index c.after-position.result c.args.names.now c.after-position.ensures;
+          c.in_default.ensures c.after-name_index.ensures ∙ c.loop-line.invariant.left;
+      first = first_kept name c.loop-line.name_index c.after-name_index.result c.args.names.now c.after-name_index.ensures;
     }
 
 pub loop-line-preserved : goal.loop-line-preserved
@@ -54,8 +54,8 @@ loop-line-preserved c =
     let (_, is, _, (within, _), _) = c.in_ok-named.ensures.lookup in
     let at = agent_at c.lines.result.now c.args.names.now c.loop-line.name_index _ c.lines.ensures within is in
     record {
-      left = same_run name c.loop-line.run c.loop-line.name_index c.after-position.result c.args.names.now tags
-          (drop c.loop-line.at tags) _ at c.if-named-run.false c.after-position.ensures
+      left = same_run name c.loop-line.run c.loop-line.name_index c.after-name_index.result c.args.names.now tags
+          (drop c.loop-line.at tags) _ at c.if-named-run.false c.after-name_index.ensures
           ∙ c.loop-line.invariant.left;
-      first = first_kept name c.loop-line.name_index c.after-position.result c.args.names.now c.after-position.ensures;
+      first = first_kept name c.loop-line.name_index c.after-name_index.result c.args.names.now c.after-name_index.ensures;
     }

@@ -3,7 +3,7 @@ use Rattle.std.proofs.lemmas.Simd.{length-chunk, zip2_of_maps, zip2_splat}
 use lib.Lanes.{chunk}
 use Rattle.texting_robots.specs.Pattern.{dollar, star}
 use Rattle.texting_robots.proofs.LaneLemmas.{first_wildcard_lane}
-use Rattle.texting_robots.proofs.pieces.wildcard_in_sixteen.Goals as goal
+use Rattle.texting_robots.proofs.segments.wildcard_in_sixteen.Goals as goal
 
 pub returns : goal.returns
 returns c =

@@ -7,11 +7,13 @@ use Rattle.std.specs.List.{position_or_len, prefix_len}
 use Rattle.std.proofs.lemmas.List.{drop_at, take_at, Prefix.end_rest, Prefix.front_rest}
 use Rattle.std.proofs.lemmas.List.Elements.{All-cons, All-nil, All-weaker}
 use Rattle.url.proofs.InputLemmas.{All-take-prefix_len, Passes, StopsAt, StopsAt-drop-prefix_len}
-use Rattle.texting_robots.specs.declared.pieces.{Ends.Ends, Ending.Ending, Segment.Segment, Span.Span}
-use Rattle.texting_robots.specs.declared.pieces.Ending.TheVariants.{Open, Closed, Last, Never}
+use Rattle.texting_robots.specs.declared.segments.{Ends.Ends, Ending.Ending, Segment.Segment, Span.Span}
+use Rattle.texting_robots.specs.declared.segments.Ending.TheVariants.{Open, Closed, Last, Never}
 use Rattle.texting_robots.specs.Internal.Border.{IsTable}
-use Rattle.texting_robots.specs.Internal.Segments.{AddsSegments, AreLeft, AreSegments, after_stars, part_of, Closes}
-use Rattle.texting_robots.specs.Internal.Segments.{EndsAs, IsAtWildcard, IsCutAtWildcard, IsEnding, IsLeft, IsSegment}
+use Rattle.texting_robots.specs.Internal.Segments.{AddsSegments, AreLeft, AreSegments, after_stars, part_of}
+use Rattle.texting_robots.specs.Internal.Segments.{Closes}
+use Rattle.texting_robots.specs.Internal.Segments.{EndsAs, IsAtWildcard, IsCutAtWildcard, IsEnding, IsLeft}
+use Rattle.texting_robots.specs.Internal.Segments.{IsSegment}
 use Rattle.texting_robots.specs.Internal.Segments.{is_wildcard}
 use Rattle.texting_robots.specs.Internal.Segments.{IsSpan, Somewhere}
 use Rattle.texting_robots.specs.Pattern.{IsSuffix, Matches, star}
@@ -21,8 +23,8 @@ use Rattle.texting_robots.proofs.PatternLemmas.{suffix_trans}
 
 -- ---- what segments decide
 
-module _ {p : List ℕ} {ends : Ends} {pieces : List Segment} {borders : List ℕ}
-    (are : AreSegments p ends pieces borders) (t : List ℕ) where
+module _ {p : List ℕ} {ends : Ends} {segments : List Segment} {borders : List ℕ}
+    (are : AreSegments p ends segments borders) (t : List ℕ) where
   abbrev first : List ℕ
   first = take ends.first_len p
 
@@ -135,26 +137,26 @@ segment_put p tables table more span is_span is_table =
 -- ---- the steps of cutting
 
 -- the rest of the pattern consists of these segments and this ending
-pub record IsRest (pattern borders left : List ℕ) (pieces : List Segment) (ending : Ending) : Type 0 where
-  pub known : All (IsSegment pattern borders) pieces
+pub record IsRest (pattern borders left : List ℕ) (segments : List Segment) (ending : Ending) : Type 0 where
+  pub known : All (IsSegment pattern borders) segments
   pub is_ending : IsEnding pattern ending
-  pub in_order : AreLeft pattern ending pieces left
+  pub in_order : AreLeft pattern ending segments left
 
 -- The pattern is cut up to here: any cut of the rest extends to a cut of the complete pattern.
-pub record IsCutUpto (pattern : List ℕ) (first_len : ℕ) (old_segments pieces : List Segment)
+pub record IsCutUpto (pattern : List ℕ) (first_len : ℕ) (old_segments segments : List Segment)
     (old_borders borders left : List ℕ) : Type 0 where
   pub left_in : IsSuffix left pattern
   pub at_wildcard : IsAtWildcard left
   pub completes : (more : List Segment) (table : List ℕ) (ending : Ending)
       → IsRest pattern (borders ++ table) left more ending
-      → AddsSegments pattern (record { first_len = first_len; ending = ending }) old_segments (pieces ++ more)
+      → AddsSegments pattern (record { first_len = first_len; ending = ending }) old_segments (segments ++ more)
       old_borders (borders ++ table)
 
 -- the first segment is before the first star or dollar
-pub cut_first : (p segment left : List ℕ) (pieces : List Segment) (borders : List ℕ)
+pub cut_first : (p segment left : List ℕ) (segments : List Segment) (borders : List ℕ)
     → IsCutAtWildcard p segment left
-    → IsCutUpto p (length segment) pieces pieces borders borders left
-cut_first p segment left pieces borders cut =
+    → IsCutUpto p (length segment) segments segments borders borders left
+cut_first p segment left segments borders cut =
     let e = cut.parts in
     let sizes = ap length e ∙ length-append segment left in
     let first : take (length segment) p ≡ segment = ap (take (length segment)) e ∙ take_at segment left _ refl in
@@ -162,7 +164,7 @@ cut_first p segment left pieces borders cut =
       left_in = (segment, e);
       at_wildcard = cut.at_wildcard;
       completes = λ more table ending rest. record {
-        pieces = more;
+        segments = more;
         tables = table;
         put_segments = refl;
         put_tables = refl;
@@ -177,12 +179,12 @@ cut_first p segment left pieces borders cut =
       };
     }
 
-module _ {p : List ℕ} {first_len : ℕ} {old_segments pieces : List Segment}
+module _ {p : List ℕ} {first_len : ℕ} {old_segments segments : List Segment}
     {old_borders borders left : List ℕ}
-    (upto : IsCutUpto p first_len old_segments pieces old_borders borders left) where
+    (upto : IsCutUpto p first_len old_segments segments old_borders borders left) where
   abbrev AddsWith : Ending → Type 0
   AddsWith ending =
-      AddsSegments p (record { first_len = first_len; ending = ending }) old_segments pieces old_borders borders
+      AddsSegments p (record { first_len = first_len; ending = ending }) old_segments segments old_borders borders
 
   -- if the rest of the pattern matches as this ending does, the cut is complete
   done : (ending : Ending) → IsEnding p ending → ((t : List ℕ) → Matches left t ↔ EndsAs p ending t)
@@ -191,7 +193,7 @@ module _ {p : List ℕ} {first_len : ℕ} {old_segments pieces : List Segment}
       let none = All-nil (IsSegment p (borders ++ [])) in
       let rest : IsRest p (borders ++ []) left [] ending =
       record { known = none; is_ending = is_ending; in_order = decides } in
-      rw (← append-nil pieces, ← append-nil borders) (upto.completes [] [] ending rest)
+      rw (← append-nil segments, ← append-nil borders) (upto.completes [] [] ending rest)
 
   -- the rest is empty
   pub cut_open : left ≡ [] → AddsWith Open
@@ -224,7 +226,7 @@ module _ {p : List ℕ} {first_len : ℕ} {old_segments pieces : List Segment}
     -- the segment and its table were added
     pub cut_more : (at : ℕ) (table : List ℕ) → at ≡ length borders → ¬ Closes rest
         → IsTable segment table
-        → IsCutUpto p first_len old_segments (pieces ++ record { span = span; table = at } ∷ [])
+        → IsCutUpto p first_len old_segments (segments ++ record { span = span; table = at } ∷ [])
         old_borders (borders ++ table) rest
     cut_more at table there other is_table =
         let added : Segment = record { span = span; table = at } in
@@ -244,5 +246,5 @@ module _ {p : List ℕ} {first_len : ℕ} {old_segments pieces : List Segment}
                 in_order = (rest, is_left, h.in_order);
               } in
               let adds = upto.completes (added ∷ more) (table ++ tables) ending whole in
-              rw (append_assoc pieces, append_assoc borders) adds;
+              rw (append_assoc segments, append_assoc borders) adds;
         }

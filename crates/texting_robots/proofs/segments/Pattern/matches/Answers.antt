@@ -1,5 +1,5 @@
-use Rattle.texting_robots.proofs.PieceLemmas.{first_in_front}
-use Rattle.texting_robots.proofs.pieces.Pattern.matches.Goals as goal
+use Rattle.texting_robots.proofs.SegmentLemmas.{first_in_front}
+use Rattle.texting_robots.proofs.segments.Pattern.matches.Goals as goal
 
 pub loop-segment-init : goal.loop-segment-init
 loop-segment-init g c =
@@ -7,7 +7,7 @@ loop-segment-init g c =
     record {
       is_rest = is_rest;
       left = c.self.invariant.rest;
-      pieces = c.self.invariant.left;
+      segments = c.self.invariant.left;
       decides = rw (← c.self.view_is) (first_in_front c.self.invariant _ _ split);
       cost = c.in-Some.ensures.cost;
     }

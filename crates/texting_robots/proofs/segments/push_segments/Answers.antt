@@ -2,55 +2,55 @@ use Rattle.std.proofs.Common.{◌≡◌, ◌∷◌, [], Some, None, drop, length
 use Rattle.std.proofs.lemmas.Bool.{eqb-true, false≢true, iff_false, Decides.Decides-eqb}
 use Rattle.std.proofs.lemmas.{List.take_all, Slice.Eq.strip_prefix_is}
 use Rattle.texting_robots.specs.Pattern.{star}
-use Rattle.texting_robots.proofs.PieceLemmas.{cut_closed, cut_first, cut_last, cut_more, cut_never, cut_open}
-use Rattle.texting_robots.proofs.PieceLemmas.{IsFromStar}
-use Rattle.texting_robots.proofs.pieces.push_segments.Goals as goal
+use Rattle.texting_robots.proofs.SegmentLemmas.{cut_closed, cut_first, cut_last, cut_more, cut_never, cut_open}
+use Rattle.texting_robots.proofs.SegmentLemmas.{IsFromStar}
+use Rattle.texting_robots.proofs.segments.push_segments.Goals as goal
 
-pub loop-after-init : goal.loop-after-init
-loop-after-init c = cut_first _ _ _ _ _ c.cut_at_wildcard.ensures
+pub loop-following-init : goal.loop-following-init
+loop-following-init c = cut_first _ _ _ _ _ c.cut_at_wildcard.ensures
 
 pub returns-then-closes : goal.returns-then-closes
 returns-then-closes c =
-    let left = c.loop-after.left.now in
+    let left = c.loop-following.left.now in
     let following = c.in-Some.following in
     let is : IsFromStar left _ _ _ = record {
       following = following.now;
       star_first = strip_prefix_is Decides-eqb left (star ∷ []) (Some following) c.in-Some.ensures.cases;
       skips = c.split_at.ensures.back ∙ ap (λ n. drop n following.now) c.stars_len.ensures.value;
-      cut = c.cut_at_label-in-Some.ensures;
+      cut = c.cut_at_wildcard-in-Some.ensures;
     } in
-    cut_last c.loop-after.invariant is (c.closes.ensures.0 c.if-closes.true)
+    cut_last c.loop-following.invariant is (c.closes.ensures.0 c.if-closes.true)
 
-pub loop-after-preserved : goal.loop-after-preserved
-loop-after-preserved c =
-    let i = c.loop-after.invariant in
-    let left = c.loop-after.left.now in
+pub loop-following-preserved : goal.loop-following-preserved
+loop-following-preserved c =
+    let i = c.loop-following.invariant in
+    let left = c.loop-following.left.now in
     let following = c.in-Some.following in
     let is : IsFromStar left _ _ _ = record {
       following = following.now;
       star_first = strip_prefix_is Decides-eqb left (star ∷ []) (Some following) c.in-Some.ensures.cases;
       skips = c.split_at.ensures.back ∙ ap (λ n. drop n following.now) c.stars_len.ensures.value;
-      cut = c.cut_at_label-in-Some.ensures;
+      cut = c.cut_at_wildcard-in-Some.ensures;
     } in
     let (table, put, is_table) = c.in_ok-push_borders.ensures in
-    let at : c.len-table.result ≡ length c.loop-after.borders.items = omega arith in
+    let at : c.len-table.result ≡ length c.loop-following.borders.items = omega arith in
     let next = cut_more i is _ table at (iff_false c.closes.ensures c.if-closes.false) is_table in
     rw (c.in_ok-push.ensures.items, put) next
 
 pub returns-then-is_empty : goal.returns-then-is_empty
 returns-then-is_empty c =
-    let left = c.loop-after.left.now in
+    let left = c.loop-following.left.now in
     let none : length left ≡ 0 = eqb-true (length left) 0 (sym c.if-is_empty.ensures) in
-    cut_open c.loop-after.invariant (sym (take_all 0 left (omega arith)))
+    cut_open c.loop-following.invariant (sym (take_all 0 left (omega arith)))
 
 pub returns-then-closes-2 : goal.returns-then-closes-2
 returns-then-closes-2 c =
-    cut_closed c.loop-after.invariant (c.closes-else-is_empty.ensures.0 c.if-closes-2.true)
+    cut_closed c.loop-following.invariant (c.closes-else-is_empty.ensures.0 c.if-closes-2.true)
 
 pub returns-else-closes-2 : goal.returns-else-closes-2
 returns-else-closes-2 c =
-    let left = c.loop-after.left.now in
+    let left = c.loop-following.left.now in
     let some = λ (none : left ≡ []). false≢true (rw none at c.if-is_empty.ensures) in
     let no_star = strip_prefix_is Decides-eqb left (star ∷ []) None c.in_default.ensures.cases in
     let other = iff_false c.closes-else-is_empty.ensures c.if-closes-2.false in
-    cut_never c.loop-after.invariant some no_star other
+    cut_never c.loop-following.invariant some no_star other

@@ -1,6 +1,6 @@
 use Rattle.std.proofs.Common.{◌≡◌, ◌+◌, ◌-◌, ◌*◌, ◌≤◌, length}
 use Rattle.texting_robots.proofs.BorderLemmas.{AddsBorders, IsFirstOpen}
-use Rattle.texting_robots.proofs.pieces.push_borders.Given as goal
+use Rattle.texting_robots.proofs.segments.push_borders.Given as goal
 
 -- the segment is searched for in itself, and the borders of its first `position` bytes were appended
 abbrev pub invariant-loop-position : goal.invariant-loop-position

@@ -1,7 +1,7 @@
 use Rattle.std.proofs.Common.{◌≡◌, ◌≤◌, ◌+◌, ◌-◌, ◌==◌, length}
 use Rattle.std.specs.List.{prefix_len}
 use Rattle.texting_robots.specs.Pattern.{star}
-use Rattle.texting_robots.proofs.pieces.stars_len.Given as goal
+use Rattle.texting_robots.proofs.segments.stars_len.Given as goal
 
 -- the bytes that were skipped are stars
 abbrev pub invariant-loop-rest : goal.invariant-loop-rest

@@ -1,7 +1,7 @@
 use Rattle.std.proofs.Common.{◌-◌, ◌+◌, length, take, drop, ◌∙◌, arith, ap, sym}
 use Rattle.texting_robots.specs.Internal.Segments.{is_wildcard}
 use Rattle.texting_robots.proofs.LaneLemmas.{first_seen, found_or_end, last_seen, within_front}
-use Rattle.texting_robots.proofs.pieces.first_wildcard.Goals as goal
+use Rattle.texting_robots.proofs.segments.first_wildcard.Goals as goal
 
 pub returns-then-len-lt8 : goal.returns-then-len-lt8
 returns-then-len-lt8 c =
@@ -11,20 +11,20 @@ pub returns-then-first-lt8 : goal.returns-then-first-lt8
 returns-then-first-lt8 c =
     let pattern = c.args.pattern.now in
     let seen = first_seen is_wildcard pattern 8 (omega arith) in
-    c.label_in_eight-first.ensures ∙ sym (seen.0 (omega (arith, c.label_in_eight-first.ensures)))
+    c.wildcard_in_eight-first.ensures ∙ sym (seen.0 (omega (arith, c.wildcard_in_eight-first.ensures)))
 
 pub returns-then-len-lt16 : goal.returns-then-len-lt16
 returns-then-len-lt16 c =
     let pattern = c.args.pattern.now in
     ap (λ k. length pattern - 8 + k) c.wildcard_in_eight.ensures
     ∙ sym (last_seen is_wildcard pattern 8 (omega arith) (omega arith)
-    (omega (arith, c.label_in_eight-first.ensures)))
+    (omega (arith, c.wildcard_in_eight-first.ensures)))
 
 pub returns-then-first-lt16 : goal.returns-then-first-lt16
 returns-then-first-lt16 c =
     let pattern = c.args.pattern.now in
     let seen = first_seen is_wildcard pattern 16 (omega arith) in
-    c.label_in_sixteen-first.ensures ∙ sym (seen.0 (omega (arith, c.label_in_sixteen-first.ensures)))
+    c.wildcard_in_sixteen-first.ensures ∙ sym (seen.0 (omega (arith, c.wildcard_in_sixteen-first.ensures)))
 
 pub overflow_add-result-2 : goal.overflow_add-result-2
 overflow_add-result-2 c =
@@ -38,4 +38,4 @@ returns c =
     let pattern = c.args.pattern.now in
     ap (λ k. length pattern - 16 + k) c.wildcard_in_sixteen.ensures
     ∙ sym (last_seen is_wildcard pattern 16 (omega arith) (omega arith)
-    (omega (arith, c.label_in_sixteen-first.ensures)))
+    (omega (arith, c.wildcard_in_sixteen-first.ensures)))

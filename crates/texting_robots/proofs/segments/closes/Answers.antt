@@ -1,7 +1,8 @@
 use Rattle.std.proofs.Common.{◌≡◌, ◌∷◌, [], Some, sym, subst, ◌∙◌}
 use Rattle.std.proofs.lemmas.{Bool.Decides.Decides-eqb, Slice.Eq.strip_prefix_is}
-use Rattle.texting_robots.{specs.Pattern.dollar, specs.Pattern.Matches, proofs.PatternLemmas.only_wildcards_match}
-use Rattle.texting_robots.proofs.pieces.closes.Goals as goal
+use Rattle.texting_robots.{specs.Pattern.dollar, specs.Pattern.Matches}
+use Rattle.texting_robots.{proofs.PatternLemmas.only_wildcards_match}
+use Rattle.texting_robots.proofs.segments.closes.Goals as goal
 
 pub returns-in-Some : goal.returns-in-Some
 returns-in-Some c =

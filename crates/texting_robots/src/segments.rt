@@ -68,7 +68,7 @@ pub(crate) struct Ends {
 pub(crate) struct Pattern<'a> {
     pub(crate) bytes: &'a [u8],
     pub(crate) ends: Ends,
-    pub(crate) pieces: &'a [Segment],
+    pub(crate) segments: &'a [Segment],
     pub(crate) borders: &'a [usize],
 }
 
@@ -80,7 +80,7 @@ impl<'a> Model for Pattern<'a> {
 
     ghost view = { λ p. p.bytes.now };
 
-    ghost invariant = { λ p. AreSegments p.bytes.now p.ends p.pieces.now p.borders.now };
+    ghost invariant = { λ p. AreSegments p.bytes.now p.ends p.segments.now p.borders.now };
 }
 
 impl<'a> Pattern<'a> {
@@ -88,16 +88,16 @@ impl<'a> Pattern<'a> {
     pub(crate) fn new(
         bytes: &'a [u8],
         ends: Ends,
-        pieces: &'a [Segment],
+        segments: &'a [Segment],
         borders: &'a [usize],
     ) -> Self
-        requires { AreSegments bytes.now ends pieces.now borders.now }
+        requires { AreSegments bytes.now ends segments.now borders.now }
         ensures { result ≡ bytes.now }
     {
         Pattern {
             bytes,
             ends,
-            pieces,
+            segments,
             borders,
         }
     }
@@ -149,7 +149,7 @@ fn first_wildcard(pattern: &[u8]) -> usize
 }
 
 /// What stands before the first star or dollar, and the rest from there on.
-#[tactic(auto, using(crate::proofs::PieceLemmas::cut_at_first))]
+#[tactic(auto, using(crate::proofs::SegmentLemmas::cut_at_first))]
 fn cut_at_wildcard(pattern: &[u8]) -> (&[u8], &[u8])
     ensures { IsCutAtWildcard pattern.now result.0.now result.1.now }
 {
@@ -247,10 +247,10 @@ fn push_borders(borders: &mut Vec<usize>, segment: &[u8]) -> Result<(), AllocErr
 /// Cuts a pattern, and adds its searched pieces and their tables at the end.
 pub(crate) fn push_segments(
     pattern: &[u8],
-    pieces: &mut Vec<Segment>,
+    segments: &mut Vec<Segment>,
     borders: &mut Vec<usize>,
 ) -> Result<Ends, AllocError>
-    ensures { IfOk result (λ ends. AddsSegments pattern.now ends pieces.old.items pieces.new.items
+    ensures { IfOk result (λ ends. AddsSegments pattern.now ends segments.old.items segments.new.items
         borders.old.items borders.new.items) }
 {
     let (segment, mut left) = cut_at_wildcard(pattern);
@@ -268,7 +268,7 @@ pub(crate) fn push_segments(
         }
         let table = borders.len();
         push_borders(borders, segment)?;
-        pieces.push(Segment { span, table })?;
+        segments.push(Segment { span, table })?;
         left = rest;
     }
     let ending = if left.is_empty() {

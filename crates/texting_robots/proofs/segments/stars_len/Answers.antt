@@ -1,7 +1,7 @@
 use Rattle.std.proofs.Common.{◌∙◌, ◌==◌, length-drop, arith, sym}
 use Rattle.texting_robots.specs.Pattern.{star}
 use Rattle.texting_robots.proofs.LaneLemmas.{all_seen}
-use Rattle.texting_robots.proofs.pieces.stars_len.Goals as goal
+use Rattle.texting_robots.proofs.segments.stars_len.Goals as goal
 
 pub loop-rest-preserved : goal.loop-rest-preserved
 loop-rest-preserved c =

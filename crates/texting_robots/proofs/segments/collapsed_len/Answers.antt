@@ -2,8 +2,8 @@ use Rattle.std.proofs.Common.{◌≡◌, suc, ◌∷◌, length, sym, ap, ◌∙
 use Rattle.texting_robots.specs.Pattern.{collapsed}
 use Rattle.texting_robots.proofs.CollapseLemmas.{length_last, length_merged}
 use Rattle.texting_robots.proofs.CollapseLemmas.{length_none, length_plain, star_starts}
-use Rattle.texting_robots.proofs.pieces.collapsed_len.Goals as goal
-use Rattle.texting_robots.proofs.pieces.collapsed_len.Goals.{
+use Rattle.texting_robots.proofs.segments.collapsed_len.Goals as goal
+use Rattle.texting_robots.proofs.segments.collapsed_len.Goals.{
   then-byte-ne-STAR-via-then-byte-ne-STAR as plain,
   then-byte-ne-STAR-via-else-byte-ne-STAR+then-not-starts_with as last,
 }

@@ -1,6 +1,6 @@
 use Rattle.std.proofs.Common.{◌↔◌, List, ℕ, drop}
 use Rattle.texting_robots.specs.{Internal.Haystack.PassesTo, Internal.Segments.AreLeft, Pattern.Matches}
-use Rattle.texting_robots.proofs.pieces.Pattern.matches.Given as goal
+use Rattle.texting_robots.proofs.segments.Pattern.matches.Given as goal
 
 -- the rest of the pattern decides about the rest of the text
 abbrev pub invariant-loop-segment : goal.invariant-loop-segment
@@ -11,7 +11,7 @@ invariant-loop-segment g l =
     record {
       is_rest : g.A.Haystack.is_rest l.rest old.text;
       left : List ℕ;
-      pieces : AreLeft inside.bytes.now inside.ends.ending (drop l.segment-index inside.pieces.now) left;
+      segments : AreLeft inside.bytes.now inside.ends.ending (drop l.segment-index inside.segments.now) left;
       decides : Matches l.self old.text ↔ Matches left rest;
       cost : PassesTo old (g.A.Haystack.seen l.haystack) old.text rest;
     }
