@@ -1,4 +1,4 @@
--- Which agents a file names.
+-- Which crawlers a file names.
 use Rattle.std.proofs.Common.{◌≡◌, ℕ, ◌||◌, Bool, true, false, List, [], ◌∷◌, ◌++◌, ap}
 use Rattle.std.proofs.Common.{bytes_eq, if◌then◌else◌, not, refl, subst, sym, ⊎_elim, ◌∙◌}
 use Rattle.std.specs.BTreeSet.{BTreeSet}
@@ -13,7 +13,7 @@ use Rattle.robots_warnings.specs.Internal.Names.{AddsName, Key}
 use Rattle.robots_audit.specs.Internal.Agents.{AddsAgent, HasAgents, has_lowered}
 use Rattle.robots_warnings.proofs.NameLemmas.{any_last}
 
--- a name that is among the others adds nothing to them
+-- adding a name that is already among the names changes nothing
 absorbed : (names : List (List ℕ)) (name key : List ℕ) → is_among name names ≡ true
     → (has_lowered key names || bytes_eq (str_to_ascii_lowercase name) key) ≡ has_lowered key names
 absorbed names name key is =
@@ -26,7 +26,7 @@ absorbed names name key is =
     (λ other. rw other (or-false (has_lowered key names)))
     (cases_Bool (bytes_eq lowered key))
 
--- what names and one more have, which is put behind them unless it is among them
+-- membership after a name is appended, unless it is already among the names
 one_more : (names : List (List ℕ)) (name key : List ℕ) (among : Bool) → among ≡ is_among name names
     → (has_lowered key names || bytes_eq (str_to_ascii_lowercase name) key)
     ≡ has_lowered key (if among then names else names ++ name ∷ [])
@@ -39,7 +39,7 @@ kept : (names : List (List ℕ)) (name : List ℕ) (among : Bool)
 kept names name true = append-nil names
 kept names name false = refl
 
--- the name of a line was added, if it was a new one
+-- the name of a user-agent line was added, if it is new
 pub agent_added : {old_met new_met : BTreeSet Key} {old new : List (List ℕ)} {name : List ℕ}
     {is_new : Bool} → is_utf8 name ≡ true → AddsName old_met new_met name is_new
     → new ≡ old ++ (if is_new then name ∷ [] else [])

@@ -1,4 +1,4 @@
--- What comes of a run.
+-- The results of a run.
 use Rattle.std.proofs.Common.{◌≡◌, ◌≢◌, ◌∙◌, ℕ, List, IfSome, Option, None, Some}
 use Rattle.std.proofs.Common.{Result, Ok, Err, IsErrOf}
 use Rattle.std.proofs.Common.{subst, sym}
@@ -13,13 +13,13 @@ use Rattle.robots_audit.specs.Answer.{Audits, AuditsFile, Ends, HasAudit, reques
 use Rattle.robots_audit.specs.Audit.{agents_requested}
 use Rattle.robots_audit.specs.Fault.{MayFail}
 
--- what holds of what was read holds of the reader's bytes, if they are known
+-- a property of the bytes that were read holds for the reader's bytes, if they are known
 pub for_left : (left : Option (List ℕ)) (items : List ℕ) (P : List ℕ → Type 0)
     → IfSome left (λ file. items ≡ file) → P items → IfSome left P
 for_left None items P read is = tt
 for_left (Some file) items P read is = subst P read is
 
--- a run that read these bytes and failed before it wrote
+-- a run that read these bytes and failed before it wrote anything
 pub failed : (request : Request) (ends : Ends) (result : Result Outcome Fault) (read file : List ℕ)
     (fault : Fault) → IsErrOf result fault → IfSome ends.left (λ file. read ≡ file) → file ≡ read
     → (fault ≢ Write) × MayFail (agents_requested (requested_by request).agent (lines_read file)) fault file
@@ -39,7 +39,7 @@ failed request ends (Err other) read file fault is all alike may kept =
       nothing_written = λ _. kept;
     }
 
--- a run that read these bytes, and whose write failed behind a beginning of what was to be written
+-- a run that read these bytes, and whose write failed after a prefix of the output
 pub broken_off : (request : Request) (ends : Ends) (result : Result Outcome Fault) (read : List ℕ)
     → IsErrOf result Write → IfSome ends.left (λ file. read ≡ file)
     → HasAudit (requested_by request) read

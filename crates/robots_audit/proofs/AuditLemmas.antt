@@ -1,4 +1,4 @@
--- How an audit is made.
+-- How an audit is built.
 use Rattle.std.proofs.Common.{◌≡◌, ◌≢◌, ℕ, List, [], ◌∷◌, ◌++◌, ◌+◌, ◌<◌}
 use Rattle.std.proofs.Common.{Contains, ap, arith, ◌&&◌, drop, length, ◌∙◌}
 use Rattle.std.proofs.Common.{Err, IfErr, IsErrOf, Ok, Result, inl, inr, map, refl, slice_index_or, subst}
@@ -32,7 +32,7 @@ zip_push R (_ ∷ _) [] item next are is = absurd are
 zip_push R (_ ∷ items) (_ ∷ found) item next (first, later) is =
     (first, zip_push R items found item next later is)
 
--- one item more, and what was found of it
+-- loop step: one more item, and the result for it
 pub zip_next : {A B C V : Type 0} (R : B → V → Type 0) (f : A → B) (g : C → V) (items : List A)
     (place : ℕ) (item : A) (found : List C) (next : C) → place < length items
     → AllZip R (map f (take place items)) (map g found) → R (f (slice_index_or items place item)) (g next)
@@ -42,7 +42,7 @@ zip_next R f g items place item found next below are is =
     (zip_push R (map f (take place items)) (map g found) (f (slice_index_or items place item)) (g next)
     are is)
 
--- whether all allow from one place on, by the one there
+-- whether all verdicts allow from index `at` on, in terms of the verdict there
 pub allows_next : (verdicts : List Verdict) (at : ℕ) (verdict : Verdict) → at < length verdicts
     → allows_all (map verdict_value (drop at verdicts))
     ≡ ((slice_index_or verdicts at verdict).decision.allowed
@@ -58,7 +58,7 @@ allowed_next agents at agent below = rw (drop_more agents at agent below) refl
 none_in : (x : List ℕ) → ¬ Contains [] x
 none_in x (k, below, here) = absurd (omega arith)
 
--- what may fail for one of the agents may fail for all
+-- an error that can occur for one of the crawlers can occur for all of them
 pub may_fail : (agents : List (List ℕ)) (agent : List ℕ) (fault : Fault) (file : List ℕ)
     → Contains agents agent → MayFail (agent ∷ []) fault file → MayFail agents fault file
 may_fail agents agent (Words text) file has may = may
@@ -78,7 +78,7 @@ may_fail agents agent (InvalidRule line) file has (other, among, is) =
     ]
 may_fail agents agent Memory file has may = tt
 
--- a fault that is passed on
+-- an error of one crawler's audit that is returned by the audit of all
 pub passed_on : {X : Type 0} (result : Result X Fault) (agents : List (List ℕ)) (agent : List ℕ)
     (fault : Fault) (file : List ℕ) → IsErrOf result fault → Contains agents agent
     → (fault ≢ Write) × MayFail (agent ∷ []) fault file
@@ -89,7 +89,7 @@ passed_on (Err other) agents agent fault file is has may =
     subst (λ fault. (fault ≢ Write) × MayFail agents fault file) same
     (may.0, may_fail agents agent fault file has may.1)
 
--- a mapped item is among those that are mapped
+-- the image of an item is among the images of all items
 pub among_mapped : {A B : Type 0} (f : A → B) (items : List A) (place : ℕ) (item : A)
     → place < length items → Contains (map f items) (f (slice_index_or items place item))
 among_mapped f items place item below = (place, rw length-map below, get_or-map f items place item _ below)
@@ -99,11 +99,11 @@ lines_from : (name : List ℕ) (all lines : List LineValue) (n : ℕ)
 lines_from name all [] n = refl
 lines_from name all (line ∷ lines) n = ap (λ t. line ∷ t) (lines_from name all lines (n + 1))
 
--- the lines of the marks are the lines
+-- the lines of the labels are the original lines
 pub lines_labeled : (agent : List ℕ) (lines : List LineValue) → lines_of (labels_for agent lines) ≡ lines
 lines_labeled agent lines = lines_from (group_name agent lines) lines lines 0
 
--- ---- what an agent gets
+-- ---- the audit for a crawler
 
 verdicts_like : (rules others : List PlacedRule) → AnswerAlike rules others
     → (urls : List (List ℕ)) (verdicts : List VerdictValue) → AllZip (IsVerdictOn rules) urls verdicts
@@ -123,7 +123,7 @@ verdicts_like rules others alike (url ∷ urls) (verdict ∷ verdicts) (first, l
       verdicts_like rules others alike urls verdicts later,
     )
 
--- what a robot of the file has is what the agent gets
+-- the values of a robot made from the file are those of the crawler's audit
 pub agent_made : (urls : List (List ℕ)) (file agent : List ℕ) (value : AgentValue) (robot : RobotValue)
     → IsRobotOfFile agent (take file_limit file) robot → value.agent ≡ agent
     → value.group ≡ group_of agent (lines_read file) → value.delay ≡ robot.delay

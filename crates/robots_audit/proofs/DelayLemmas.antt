@@ -12,7 +12,7 @@ next_digit (suc digits) rest some more =
     let same : suc digits - 1 ≡ digits = omega arith in
     rw (ne_eqb rest 0 (λ none. omega arith), same) refl
 
--- a digit was added, and the others are still to come
+-- loop step: a digit was appended, and the remaining digits follow
 pub digit_added : (old new all : List ℕ) (digits rest : ℕ) → 0 < rest → 0 < digits
     → new ≡ old ++ decimal (rest * 10 / million) → old ++ fraction digits rest ≡ all
     → new ++ fraction (digits - 1) (rest * 10 % million) ≡ all
@@ -22,7 +22,7 @@ digit_added old new all digits rest some more added whole =
     ap (λ (t : List ℕ). t ++ later) added ∙ append_assoc old digit later
     ∙ ap (λ (t : List ℕ). old ++ t) (sym (next_digit digits rest some more)) ∙ whole
 
--- ---- a text, part by part
+-- ---- strings built in parts
 
 pub added : (old mid new a b : List ℕ) → mid ≡ old ++ a → new ≡ mid ++ b → new ≡ old ++ (a ++ b)
 added old mid new a b one two = two ∙ ap (λ (t : List ℕ). t ++ b) one ∙ append_assoc old a b

@@ -1,4 +1,5 @@
--- The JSON of an audit has no float and steers no terminal.
+-- The JSON of an audit contains no floating-point number, and no control or bidirectional-formatting
+-- characters other than LF.
 use Rattle.std.proofs.Common.{◌≡◌, ℕ, suc, ◌+◌, ◌<◌, ◌≤◌, Bool, true, false, List}
 use Rattle.std.proofs.Common.{[], ◌∷◌, ◌++◌, Option, Some, None, ap, ap₂, append-nil, arith}
 use Rattle.std.proofs.Common.{drop, flat_map, get_or, inl, inr, length, map, refl, slice_index_or}
@@ -44,7 +45,7 @@ use Rattle.robots_io.proofs.SanitizeLemmas.{sanitized_printable}
 
 -- ---- sitemaps
 
--- the sitemaps from one place on, by the line there
+-- the sitemaps from index `at` on, in terms of the line there
 pub sitemaps_next : (labels : List LabeledLine) (at : ℕ) (labeled : LabeledLine) → at < length labels
     → sitemaps_in (lines_of (map label_by_value (drop at labels)))
     ≡ sitemaps_in (by_value (slice_index_or labels at labeled).line ∷ [])
@@ -57,7 +58,7 @@ sitemaps_next labels at labeled below =
 
 -- ---- lists
 
--- a list of what is written by its value
+-- the JSON of a list is that of the list of its items' values
 pub listed : {X Y : Type 0} (json : Y → Data) (value : X → Y) (xs : List X)
     → list_json (λ x. json (value x)) xs ≡ list_json json (map value xs)
 listed json value xs = ap (λ (values : List Data). array (items_of values)) (sym (map-map json value xs))
@@ -109,13 +110,14 @@ no_float has_rows audit = rw (
   list_without_float warning_json warning_without_float audit.warnings,
 )
 
--- ---- a plain text in quotes
+-- ---- a printable string in quotes
 
--- the byte isn't plain, or what stands for it is plain too
+-- if the byte is printable, then so is its escaped form
 abbrev stays_printable : (ℕ → List ℕ) → ℕ → Bool
 stays_printable escape byte = not (is_printable true byte) || list_all (is_printable_byte true) (escape byte)
 
--- what stands in quotes for a byte: something plain for a plain byte of ASCII, and any byte beyond for itself
+-- `escape` is how a byte is written within quotes: a printable ASCII byte as printable bytes, and a non-ASCII
+-- byte unchanged
 module _ (escape : ℕ → List ℕ) (stay : agree_below (stays_printable escape) (λ _. true) 128 ≡ true)
     (high_stay : (byte : ℕ) → 128 ≤ byte → escape byte ≡ byte ∷ []) where
   beyond_kept : (bytes : List ℕ) → ((k : ℕ) → k < length bytes → 128 ≤ get_or bytes k 0)
@@ -165,9 +167,9 @@ quoted_printable : (text : List ℕ) → IsPrintable text → IsPrintable (compa
 unfolding serde_json_on_literals
 quoted_printable text is = in_quotes _ refl (λ byte high. grind (arith, nat_tests)) text is
 
--- ---- JSON of plain texts
+-- ---- JSON of printable strings
 
--- the texts in it are plain, and its names of members plain ASCII
+-- all strings in the value are printable, and the names of its members are printable ASCII
 abbrev mutual
   HasPrintable : Data → Type 0
   HasPrintable null = Unit {0}
@@ -223,7 +225,7 @@ mutual
       (byte_then 58 refl rest (append_printable true (compact_text value) (members_text true members)
       (data_printable value are.1) (members_printable true members are.2))))
 
--- ---- the texts of an audit
+-- ---- the strings of an audit
 
 list_has : {X : Type 0} (value : X → Data) → ((x : X) → HasPrintable (value x)) → (xs : List X)
     → HasPrintable (list_json value xs)

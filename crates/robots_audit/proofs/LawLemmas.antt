@@ -1,4 +1,4 @@
--- A file has an audit, and no other.
+-- Every file has exactly one audit.
 use Rattle.std.proofs.Common.{◌≡◌, ℕ, suc, List, [], ◌∷◌, Contains, ap, ap₂, arith, refl, sym}
 use Rattle.std.proofs.Common.{◌∙◌}
 use Rattle.std.specs.List.{AllZip}
@@ -13,7 +13,7 @@ use Rattle.robots_audit.specs.Audit.{IsVerdictOn}
 use Rattle.robots_audit.specs.Audit.{VerdictValue, agents_requested, group_of, labels_requested}
 use Rattle.robots_audit.specs.Audit.{warnings_requested}
 
--- ---- one at most
+-- ---- uniqueness
 
 zip_once : {A B : Type 0} (R : A → B → Type 0) → ((x : A) (y z : B) → R x y → R x z → y ≡ z)
     → (xs : List A) (ys zs : List B) → AllZip R xs ys → AllZip R xs zs → ys ≡ zs
@@ -70,7 +70,7 @@ one_audit requested file audit other is too =
     (is.labels_are ∙ sym too.labels_are) (is.warnings_are ∙ sym too.warnings_are)
     ∙ ap (λ agents. record { labels = other.labels; agents = agents; warnings = other.warnings }) agents
 
--- ---- there is one
+-- ---- existence
 
 zip_some : {A B : Type 0} (R : A → B → Type 0) (xs : List A)
     → ((x : A) → Contains xs x → (y : B) × R x y) → (ys : List B) × AllZip R xs ys

@@ -1,4 +1,5 @@
--- What is written of an audit steers no terminal, nor what is said of it.
+-- The output of an audit, and its messages on standard error, contain no control or bidirectional-formatting
+-- characters other than LF.
 use Rattle.std.proofs.Common.{ℕ, zero, suc, ◌*◌, ◌-◌, ◌/◌, ◌%◌, ◌==◌, Bool, true, false}
 use Rattle.std.proofs.Common.{List, [], ◌∷◌, ◌++◌, Option, Some, None, bytes_eq, codes, decimal, flat_map}
 use Rattle.std.proofs.Common.{length, map, refl, replicate}
@@ -114,7 +115,7 @@ row_printable width label =
     search (append_printable true, ascii_printable true, aligned_printable, decimal_printable true, label_printable, column_printable)
     depth 9
 
--- ---- what each agent gets
+-- ---- the part for a crawler
 
 group_printable : (agent : List ℕ) (group : Group) → IsPrintable (group_line agent group)
 group_printable agent Named = search (append_printable true, ascii_printable true, sanitized_printable)
@@ -146,7 +147,7 @@ agent_printable agent = (
   (delay_line_printable agent.delay, each_map verdict_line verdict_printable agent.verdicts),
 )
 
--- ---- all
+-- ---- the complete output
 
 report_printable : (has_rows : Bool) (audit : AuditValue) → Each IsPrintable (report_lines has_rows audit)
 report_printable true audit =

@@ -1,10 +1,10 @@
--- How a row is made.
+-- How a row is built.
 use Rattle.std.proofs.Common.{◌≡◌, ℕ, ◌+◌, List, [], ◌∷◌, ◌++◌, ◌∙◌}
 use Rattle.std.proofs.Common.{ap, append_assoc, replicate}
 use Rattle.std.proofs.lemmas.List.{replicate-append-replicate}
 use Rattle.robots_warnings.specs.File.{space}
 
--- one blank more
+-- loop step: one more space
 pub blanks_more : (n : ℕ) (old mid new : List ℕ) → new ≡ mid ++ space ∷ []
     → mid ≡ old ++ replicate n space
     → new ≡ old ++ replicate (n + 1) space

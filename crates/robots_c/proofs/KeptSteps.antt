@@ -1,4 +1,5 @@
--- What C keeps: the machine values of a `Kept` and a `Handle`, and what they own.
+-- The machine values of a `Kept` and a `Handle`, through which C keeps values between calls, and the
+-- resources that they own.
 use Rattle.std.proofs.Common.{◌≡◌, ◌<◌, ◌^◌, ℕ, ℤ, List, [], ◌∷◌, ◌++◌, Option, Some, refl, subst, sym}
 use seplogic.Ra.Ura.{Ura}
 use base.Fml.{fall, fex}
@@ -33,7 +34,7 @@ word z v = vstruct (vcons (vint w32 (of_z w32 z)) (vcons v vnil))
 abbrev pub Fits : ℤ → Type 0
 Fits z = mag z < 2 ^ hbits w32
 
--- the pointer of a handle, and its handle of the heap
+-- the machine value of a `Handle`: its pointer and its allocator
 abbrev pub handle_word : ℕ → ℕ → Val → Val
 handle_word b o h = vstruct (vcons (vptr b o) (vcons h vnil))
 
@@ -80,7 +81,8 @@ module _ (R : RattleType) where
           (((tt, tt), tt), tt),
         ) (w ∷ [])) (vptr b o ∷ [], (h ∷ [], tt)) $ fjoin t $ s)
 
-    -- the pointer is null and nothing is owned, or it points to a value, and may be compared with null
+    -- either the pointer is null and nothing is owned, or it points to an owned value and may be compared
+    -- with null
     pub null_or_owned : K → (p : Ptr) (x : R.Denot) → (p ≡ null_ptr → Seq K 𝓛 Γ G)
         → ((b o : ℕ) → p ≡ block_ptr b o → Testable (block_ptr b o)
         → Seq K 𝓛 (‵ (owned_at R (block_ptr b o) x) ∷ Γ) G)
@@ -93,7 +95,7 @@ module _ (R : RattleType) where
         (dealloc_token-Testable 𝓛 heap τ at))
         (guard_i 𝓤 (Testable at) (sem 𝓛 F))) $ learn t (λ may. some' b o refl may)
 
-  -- a value that C owns from then on
+  -- if `A` holds, the kept value is one of which `P` holds, and C owns it from then on
   module _ {M : Type 1} {𝓤 : Ura M} (𝓛 : Logic 𝓤) (P : R.Denot → Type 0) (at : Ptr) where
     pub owned_then : (kept : Option R.Denot) (A : Type 0) → (A
         → (x : R.Denot) × P x × (kept ≡ Some x))

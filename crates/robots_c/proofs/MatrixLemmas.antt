@@ -1,4 +1,4 @@
--- The rows of many agents.
+-- The rows of the results of many crawlers.
 use Rattle.std.proofs.Common.{◌≡◌, ◌<◌, ◌+◌, ◌*◌, ℕ, ℤ, Bool, true, false, List, [], ◌∷◌, ◌++◌, ◌∙◌, ap}
 use Rattle.std.proofs.Common.{arith}
 use Rattle.std.proofs.Common.{append-nil, codes, cond, inl, inr, length, map, refl, slice_index_or, subst}
@@ -14,7 +14,7 @@ use Rattle.texting_robots.proofs.SiteOwnLemmas.{same_robot}
 use Rattle.robots_c.specs.Results.{AreRows, IsResultOn, IsRow, items_in, no_result}
 use Rattle.robots_c.proofs.NumberLemmas.{as_many, by_lines, zip_append}
 
--- ---- one target more
+-- ---- adding a target
 
 pub one_more_mapped : {A B C : Type 0} (f : A → C) (g : B → C) (xs : List A) (at : ℕ) (x : A) (ys : List B)
     (y : B) → (at < length xs) × (x ≡ slice_index_or xs at x) → map g ys ≡ map f (take at xs) → g y ≡ f x
@@ -32,7 +32,7 @@ one_more_target R f xs at x ys y (below, here) are is =
     rw (take_more xs at x below, map_push f (take at xs) (slice_index_or xs at x))
     (zip_append R _ _ ys (y ∷ []) are (subst (λ z. R (f z) y) here is, tt))
 
--- ---- one row more
+-- ---- adding a row
 
 rows_append : (site : List ℕ) (targets : List (List ℕ)) (agents more : List (List ℕ)) (rows others : List ℤ)
     → AreRows site targets agents rows → AreRows site targets more others
@@ -60,7 +60,7 @@ one_more_row site targets agents at agent rows row (below, here) are is =
       sym (append-nil row),
     ))
 
--- ---- how many numbers there are
+-- ---- the number of results
 
 row_length : (site : List ℕ) (targets : List (List ℕ)) (agent : List ℕ) (row : List ℤ)
     → IsRow site targets agent row → length row ≡ length targets
@@ -88,7 +88,7 @@ as_many_rows site targets agents' agents urls' urls numbers are prepared_are age
     ∙ ap (λ n. length (items_in agents) * n) (ap length prepared_are ∙ length-map (items_in urls') prepared
     ∙ ap (λ text. length (items_in text)) urls_are)
 
--- ---- agents that the site doesn't name
+-- ---- crawlers that the site doesn't name
 
 abbrev star : List ℕ
 star = codes "*"
@@ -97,7 +97,7 @@ same_if : (b : Bool) (name : List ℕ) → cond b name name ≡ name
 same_if true name = refl
 same_if false name = refl
 
--- such an agent gets the group of `*`
+-- such a crawler has the group name of `*`
 starred : (agent : List ℕ) (lines : List LineValue) → is_named agent lines ≡ false
     → group_name star lines ≡ group_name agent lines
 starred agent lines unnamed =
@@ -118,7 +118,7 @@ same_rejected agent other lines same (place, rule, holds, overlong) = (
   overlong,
 )
 
--- the row of `*` is the row of each agent that the site doesn't name
+-- the row of `*` is also the row of each crawler that the site doesn't name
 pub shared_row : (site : List ℕ) (targets : List (List ℕ)) (agent : List ℕ) (row : List ℤ)
     → is_named agent (file_lines site) ≡ false → IsRow site targets star row → IsRow site targets agent row
 shared_row site targets agent row unnamed (inl (robot, of, are)) =

@@ -1,4 +1,4 @@
--- That a number says a decision, and that the number fits.
+-- A number encodes a verdict and its deciding line, and it fits in an `i64`.
 use Rattle.std.proofs.Common.{◌≡◌, ℕ, zero, suc, ◌+◌, ◌<◌, ◌≤◌, ◌^◌, Bool}
 use Rattle.std.proofs.Common.{true, false}
 use Rattle.std.proofs.Common.{List, [], ◌∷◌, ◌++◌, Option, Some, None, IfSome}
@@ -16,7 +16,7 @@ use Rattle.texting_robots.proofs.LineLemmas.{each_text_has_its_lines}
 use Rattle.robots_c.specs.File.{IsSiteOfSomeFile, bytes_read}
 use Rattle.robots_c.specs.Results.{IsResultOn, LinesFit, number_of}
 
--- ---- one item more
+-- ---- adding an item
 
 pub zip_append : {A B : Type 0} (R : A → B → Type 0) (xs more : List A) (ys others : List B)
     → AllZip R xs ys → AllZip R more others → AllZip R (xs ++ more) (ys ++ others)
@@ -45,7 +45,7 @@ pub by_lines : (site : List ℕ) (P : List LineValue → Type 0) → HasLines si
 by_lines site P is =
     of_lines site P is (file_lines site) ((each_text_has_its_lines (map nul_as_lf site) _).1 refl)
 
--- ---- lines have numbers that fit
+-- ---- line numbers fit
 
 lines_counted : (text : List ℕ) → length (file_lines text) ≤ length text
 lines_counted text = omega (arith, lines_within (map nul_as_lf text), length-map text nul_as_lf)
@@ -63,13 +63,13 @@ lines_fit agent file robot of text line decides =
     let below : place < length lines = slice_get_within lines place _ held.line.0 in
     (omega (arith, number), omega (arith, number, below, few_lines file))
 
--- of a site
+-- the same for a robot made from a site
 pub site_lines_fit : (site agent : List ℕ) (robot : RobotValue) → IsSiteOfSomeFile site
     → IsRobotOfFile agent site robot → LinesFit robot.rules
 site_lines_fit site agent robot (file, is) of =
     lines_fit agent file robot (subst (λ site. IsRobotOfFile agent site robot) is of)
 
--- ---- a number says a decision
+-- ---- the number encodes the decision
 
 line_says : (rules : List PlacedRule) (target : List ℕ) (allowed : Bool) (line : ℕ) → 0 < line
     → IsVerdict (unplaced rules) target allowed

@@ -1,4 +1,7 @@
--- What the walks of the calls have in common.
+-- Steps that the proofs of the C functions share. Such a proof executes the function's code symbolically. In
+-- it, a comment in brackets lists the entries of the separation-logic context at that point, in order. There,
+-- a parameter's name is what the argument owns, a Greek letter is the token of that lifetime, and `true` is
+-- an entry that owns nothing.
 use Rattle.std.proofs.Common.{◌≡◌, ◌≢◌, ◌⊎◌, ◌<◌, ◌^◌, ℕ, ℤ, pos, List, [], ◌∷◌, length, refl, ap}
 use seplogic.Ra.Ura.{Ura}
 use lib.Dec.{T as IsT}
@@ -31,7 +34,7 @@ use Rattle.robots_c.specs.declared.fault.Fault.TheVariants.{Memory, BufferTooSma
 abbrev pub Good : Ty → Val → Type 0
 Good τ v = IsT (has_ty τ v) × WT v
 
--- a handle of the heap
+-- the allocator, as the logic describes one
 abbrev pub Heap : Al
 Heap = record {
   row = Global.the_row;
@@ -48,19 +51,19 @@ abbrev pub slice_good : (ℓ : Lifetime) (m : Mutability) (w : Width) (p : ℕ �
     → Good (slice_ty (ty_ref ℓ m (ty_int w))) (slice_val p n)
 slice_good ℓ m w p n fits = (tt, (tt, (record { fits = fits }, tt)))
 
--- the parameters that are no reference, in a signature with so many lifetimes
+-- the parameters that aren't references, in a signature with `n` lifetimes
 abbrev pub heap_slot : (n : ℕ) → Slot n
 heap_slot n = plain (λ _. Global.the_row)
 
 abbrev pub pointer_slot : (n : ℕ) → Slot n
 pointer_slot n = plain (λ _. RawPtr)
 
--- an `i32`
+-- the machine value of an `i32`
 abbrev pub status_val : ℤ → Val
 status_val n = vint w32 (of_z w32 n)
 
--- what is said of a call that writes a text of which P holds: of its status, and of the buffer and the length
--- before and after it
+-- the facts about a call that writes bytes of which `P` holds: about its status `r`, and about the buffer and
+-- the length before and after the call
 abbrev pub text_said : {M : Type 1} (𝓤 : Ura M) → (List ℕ → Type 0) → ℤ → List ℕ → List ℕ → ℕ → ℕ → Item 𝓤
 text_said 𝓤 P r old new was len =
     raw (fact 𝓤 (r ≡ pos 0 → IsWritten P old new len))
@@ -70,7 +73,7 @@ text_said 𝓤 P r old new was len =
     ⊛ raw (fact 𝓤 ((r ≡ pos 0) ⊎ ((r ≡ status_of BufferTooSmall) ⊎ (r ≡ status_of Memory))))
 
 module _ {M : Type 1} {𝓤 : Ura M} {𝓛 : Logic 𝓤} {K : Type 0} {Γ : List (Item 𝓤)} {G : Goal 𝓤 𝓛.H} where
-  -- the pointer of what is lent isn't null, and there is a reference to it
+  -- the pointer to a borrowed value isn't null, and gives a shared reference
   pub lent : K → (R : RattleType) (at : Ptr) (x : R.Denot) (κ : Lft) (q : Share)
       → ((b o : ℕ) → at ≡ block_ptr b o
       → Seq K 𝓛 (‵ ((ShrRef (named 0) κ R).own_val (record { ref_ptr = (b, o); now = x }) (vptr b o ∷ []))
@@ -81,23 +84,23 @@ module _ {M : Type 1} {𝓤 : Ura M} {𝓛 : Logic 𝓤} {K : Type 0} {Γ : List
       (λ b o e. fsplit t $ drop t $ use1 𝓛 (‵ (hidden_shr R κ x b o)) (id⊢ 𝓤 _) $
       feq_i t (List Val) (vptr b o ∷ []) (vptr b o ∷ []) refl $ fjoin t $ k b o e)
 
-  -- the first of some facts
+  -- takes the first fact out of a conjunction, and uses it
   pub hears : K → (A : Type 0) {P : Item 𝓤} → (A → Seq K 𝓛 (P ∷ Γ) G)
       → Seq K 𝓛 ((raw (fact 𝓤 A) ⊛ P) ∷ Γ) G
   hears t A k = split t $ heard t A k
 
-  -- a fact before some
+  -- adds a proved fact as the first one of a conjunction
   pub tells : K → {A : Type 0} {P : Item 𝓤} → A → Step K 𝓛 ((raw (fact 𝓤 A) ⊛ P) ∷ Γ) G (P ∷ Γ) G
   tells t {A} {P} a = step (λ s. use0 𝓛 (raw (fact 𝓤 A)) (fact_i 𝓤 A (emp 𝓤) a) $ join t $ s)
 
-  -- what is said of a call that writes a text, before what is handed back
+  -- separates the facts of `text_said` from the resource that follows them
   pub tells_text : K → {A B C D E L : Item 𝓤}
       → Step K 𝓛 ((A ⊛ B ⊛ C ⊛ D ⊛ E ⊛ L) ∷ Γ) G ((A ⊛ B ⊛ C ⊛ D ⊛ E) ∷ L ∷ Γ) G
   tells_text t = step (λ s. split t $ move t (1 ∷ []) $ split t $ move t (1 ∷ []) $ split t $
       move t (1 ∷ []) $ split t $ move t (1 ∷ 5 ∷ []) $ join t $ move t (1 ∷ 0 ∷ []) $ join t $
       move t (1 ∷ 0 ∷ []) $ join t $ move t (1 ∷ 0 ∷ []) $ join t $ move t (1 ∷ 0 ∷ []) $ join t $ s)
 
-  -- a call's status
+  -- the machine value of a call's `i32` result is that of its status
   pub status : K → (n : ℤ) (u : Val) → (u ≡ status_val n → Good (ty_int w32) (status_val n)
       → Seq K 𝓛 (‵ (i32.own_val n (status_val n ∷ [])) ∷ Γ) G)
       → Seq K 𝓛 (‵ (i32.own_val n (u ∷ [])) ∷ Γ) G

@@ -1,4 +1,4 @@
--- What is shown steers no terminal, and what steers none is shown as it is.
+-- Sanitized bytes are printable, and printable bytes are unchanged by sanitizing.
 use Rattle.std.proofs.Common.{◌≡◌, ℕ, zero, suc, ◌<◌, ◌/◌, ◌%◌, ◌==◌, nat_lt, Bool}
 use Rattle.std.proofs.Common.{true, false, List, [], ◌∷◌, ◌++◌, Option, Some, None, ap}
 use Rattle.std.proofs.Common.{append_assoc, arith, decimal, drop, flat_map, inl, inr, length, length-append}
@@ -28,7 +28,7 @@ use Rattle.robots_io.specs.Sanitize.{sanitized_lines, sanitized_chunk, sanitized
 use lib.Utf8.{scalar}
 
 module _ (has_lines : Bool) where
-  -- ---- plain texts
+  -- ---- printable strings
 
   pub nil_printable : IsPrintableIn has_lines []
   nil_printable = record { utf8 = IsUtf8-nil; all = rw chars-nil refl }
@@ -40,7 +40,7 @@ module _ (has_lines : Bool) where
     all = rw (chars-append one two is.utf8, list_all-append, is.all) too.all;
   }
 
-  -- a text by its characters
+  -- a string is printable if all its characters are
   pub chars_printable : (cs : List ℕ) → all_scalars cs ≡ true → IsTrue (list_all (is_printable has_lines) cs)
       → IsPrintableIn has_lines (encode_utf8_all cs)
   chars_printable cs scalars are =
@@ -56,7 +56,7 @@ module _ (has_lines : Bool) where
       let low : byte < 128 = grind (arith, nat_tests) in
       (IsAscii-cons byte text low later.0, rw first.1 later.1)
 
-  -- ASCII; of a literal `refl` shows the test
+  -- a string is printable if all its bytes are printable ASCII; for a literal, `refl` proves the premise
   pub ascii_printable : (text : List ℕ) → IsTrue (list_all (is_printable_byte has_lines) text)
       → IsPrintableIn has_lines text
   ascii_printable text are =
@@ -75,7 +75,7 @@ module _ (has_lines : Bool) where
       blanks zero = refl
       blanks (suc n) = blanks n
 
-  -- a digit of base 16 or less
+  -- a hexadecimal digit is printable
   glyph : (upper : Bool) (digit : ℕ) → digit < 16
       → is_printable_byte has_lines (digit_glyph upper digit) ≡ true
   glyph upper digit below = grind (arith, nat_tests)
@@ -95,7 +95,7 @@ module _ (has_lines : Bool) where
             | inr other ↦ rw other (onto k (n / 10) (digit_glyph false (n % 10) ∷ text) more)
           ]
 
-  -- ---- what is shown, piece by piece
+  -- ---- sanitizing, one UTF-8 unit at a time
 
   sanitized_nil : sanitized_in has_lines [] ≡ []
   sanitized_nil = rw pieces-nil refl
@@ -105,7 +105,8 @@ module _ (has_lines : Bool) where
       ++ sanitized_in has_lines (drop (decoded bytes).size bytes)
   sanitized_step bytes some = ap (λ ps. sanitized_chunks has_lines ps bytes) (pieces-step bytes some)
 
-  -- in a loop: one piece more was added, and at the end there is none left
+  -- loop step: after one more UTF-8 unit is appended, the appended bytes followed by the sanitized rest are
+  -- the same as before
   pub chunk_added : (rest old mid new : List ℕ) → 0 < length rest
       → new ≡ mid ++ sanitized_chunk has_lines (decoded rest).char (take (decoded rest).size rest)
       → mid ++ sanitized_in has_lines rest ≡ old
@@ -118,7 +119,7 @@ module _ (has_lines : Bool) where
   all_added [] old mid none before = rw (sanitized_nil, append-nil) at before
   all_added (byte ∷ rest) old mid none before = absurd (omega arith)
 
-  -- ---- what is plain is shown as it is
+  -- ---- printable strings are unchanged
 
   after : (front rest : List ℕ) → drop (length front) (front ++ rest) ≡ rest
   after [] rest = refl
@@ -146,7 +147,7 @@ module _ (has_lines : Bool) where
       subst (λ t. sanitized_in has_lines t ≡ t) (encodes-chars text is.utf8)
       (all_kept (chars text) (scalars-chars text is.utf8) is.all)
 
-  -- ---- what is shown is plain
+  -- ---- sanitized bytes are printable
 
   escaped_printable : (byte : ℕ) → IsPrintableIn has_lines (escape_byte byte)
   escaped_printable byte = ascii_printable (escape_byte byte) (elim (cases_Bool (is_escaped byte)) [
@@ -189,7 +190,7 @@ module _ (has_lines : Bool) where
           (chunk_printable char (take size bytes) (λ c is. (SpellsChar-decoded bytes c is).scalar))
           (from n (drop size bytes))
 
--- ---- what steers no terminal
+-- ---- printable text of several lines
 
 pub ended_printable : (lines : List (List ℕ)) → Each IsPrintable lines → IsPrintable (ended lines)
 ended_printable [] are = nil_printable true
@@ -197,7 +198,7 @@ ended_printable (line ∷ lines) (first, later) =
     append_printable true (line ++ lf ∷ []) (ended lines)
     (append_printable true line (lf ∷ []) first (ascii_printable true (lf ∷ []) refl)) (ended_printable lines later)
 
--- a plain line is a plain text
+-- a printable string without LF is also printable as text of several lines
 pub line_printable : (text : List ℕ) → IsPrintableIn false text → IsPrintable text
 line_printable text is = record { utf8 = is.utf8; all = with_lines (chars text) is.all }
   where

@@ -1,4 +1,4 @@
--- What reads and writes in a row do to known bytes.
+-- Consecutive writes to a writer whose bytes are known.
 use Rattle.std.proofs.Common.{ℕ, ◌+◌, ◌-◌, List, ◌++◌, length, take, drop}
 use Rattle.std.proofs.Common.{Option, Some, None, sym, ap, ◌∙◌, append_assoc}
 use Rattle.std.specs.Io.KnownBytes.{Appends, Keeps}
@@ -23,7 +23,7 @@ appends_kept (Some a) None new xs one two = absurd one
 appends_kept (Some a) (Some b) None xs one two = absurd two
 appends_kept (Some a) (Some b) (Some d) xs one two = two ∙ one
 
--- the first n bytes of a text were written, and then m bytes of the rest
+-- writing the first n bytes and then the next m writes the first n + m
 pub appends_next : (old mid new : Option (List ℕ)) (n m : ℕ) (text : List ℕ)
     → Appends old mid (take n text) → Appends mid new (take m (take (length text - n) (drop n text)))
     → Appends old new (take (n + m) text)

@@ -1,5 +1,5 @@
--- Lines of verdicts: how they are added one after another, that URLs have them in one way, and that rules
--- which answer alike have the same.
+-- Verdict lines: how they are appended one by one, that the URLs determine them, and that rules which decide
+-- alike have the same lines.
 use Rattle.std.proofs.Common.{◌≡◌, ℕ, ◌+◌, ◌<◌, List, [], ◌∷◌, ◌++◌}
 use Rattle.std.proofs.Common.{length, map, take}
 use Rattle.std.proofs.Common.{append_assoc, slice_index_or, refl, sym, ap, ◌∙◌}
@@ -15,12 +15,13 @@ use Rattle.robots_io.specs.Verdicts.{AddsVerdict, AddsVerdicts, IsDecisionOn, Is
 use Rattle.robots_io.proofs.LinesLemmas.{lines_added}
 
 module _ (sanitized : List ℕ → List ℕ) (rules : List PlacedRule) where
-  -- ---- one after another
+  -- ---- appending verdict lines
 
   pub adds_nothing : (text : List ℕ) → AddsVerdicts sanitized rules [] text text
   adds_nothing text = record { lines = []; verdicts = tt; whole = sym (append-nil text) }
 
-  -- what stands before a URL, and then the URL and a line end
+  -- appending the front of the line (the verdict and the line number), then the URL and LF, appends a verdict
+  -- line
   pub adds_one : (decision : Decision) (url old mid new : List ℕ) → IsDecisionOn rules url decision
       → mid ≡ old ++ verdict_front decision.allowed decision.line
       → new ≡ mid ++ ended (sanitized url ∷ [])
@@ -33,7 +34,7 @@ module _ (sanitized : List ℕ → List ℕ) (rules : List PlacedRule) where
         whole = rw (back, front) (simp (append_assoc, append-nil));
       }
 
-  -- one URL more of a list
+  -- loop step for the next URL of a list
   pub adds_next : {A : Type 0} (f : A → List ℕ) (items : List A) (place : ℕ) (item : A)
       (old mid new : List ℕ)
       → place < length items → AddsVerdicts sanitized rules (map f (take place items)) old mid
@@ -47,7 +48,7 @@ module _ (sanitized : List ℕ → List ℕ) (rules : List PlacedRule) where
     whole = lines_added old mid new first.lines (then.line ∷ []) first.whole then.whole;
   }
 
-  -- ---- in one way
+  -- ---- uniqueness
 
   line_once : (url line other : List ℕ) → IsVerdictLine sanitized rules url line
       → IsVerdictLine sanitized rules url other → line ≡ other
@@ -74,7 +75,7 @@ module _ (sanitized : List ℕ → List ℕ) (rules : List PlacedRule) where
       let later = lines_once urls lines others more rest in
       cc
 
-  -- each URL has a line
+  -- every URL has a verdict line
   pub some_lines : (urls : List (List ℕ))
       → (lines : List (List ℕ)) × AllZip (IsVerdictLine sanitized rules) urls lines
   some_lines [] = ([], tt)
@@ -93,7 +94,7 @@ module _ (sanitized : List ℕ → List ℕ) (rules : List PlacedRule) where
         ),
       )
 
--- ---- of rules that answer alike
+-- ---- rules that decide alike
 
 pub lines_like : (sanitized : List ℕ → List ℕ) (rules others : List PlacedRule) → AnswerAlike rules others
     → (urls lines : List (List ℕ)) → AllZip (IsVerdictLine sanitized rules) urls lines

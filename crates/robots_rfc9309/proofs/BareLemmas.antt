@@ -1,9 +1,9 @@
--- A file of the standard's syntax is one of the wider syntax.
+-- A file in the standard's own grammar is also a file in the extended grammar.
 use Rattle.std.proofs.Common.{inl, inr, ℕ, List, [], refl, sym, subst, append-nil}
 use Rattle.robots_rfc9309.proofs.EachLemmas.{each_weaker}
 use Rattle.robots_rfc9309.specs.Rfc9309 as rfc
 
--- each P is a Q
+-- P implies Q
 abbrev pub IsWeaker : {X : Type 0} → (X → List ℕ → Type 0) → (X → List ℕ → Type 0) → Type 0
 IsWeaker {X} P Q = (x : X) (text : List ℕ) → P x text → Q x text
 

@@ -1,4 +1,5 @@
--- The characters of the standard's syntax are UTF-8, and none of their bytes is a control, a space or a hash.
+-- The characters of the standard's grammar are UTF-8, and none of their bytes is `#`, a space or lower than
+-- that.
 use Rattle.std.proofs.Common.{◌≡◌, ◌≢◌, inl, inr, ℕ, ◌≤◌, true, List, []}
 use Rattle.std.proofs.Common.{◌∷◌, ◌++◌, length, drop, sym, ap, ◌∙◌, subst}
 use Rattle.std.proofs.Common.{append-nil, arith}
@@ -12,11 +13,11 @@ use Rattle.texting_robots.proofs.TrimLemmas.{each_append}
 use Rattle.robots_rfc9309.proofs.SyntaxLemmas.{many}
 use Rattle.robots_rfc9309.specs.Rfc9309 as rfc
 
--- no control, no space and no hash
+-- above the space, and not `#`
 abbrev pub IsCharByte : ℕ → Type 0
 IsCharByte byte = (33 ≤ byte) × (byte ≢ 35)
 
--- a text of such characters
+-- a sequence of such characters
 pub record IsCharText (text : List ℕ) : Type 0 where
   pub bytes : Each IsCharByte text
   pub utf8 : IsUtf8 text
@@ -24,7 +25,7 @@ pub record IsCharText (text : List ℕ) : Type 0 where
 high : (byte : ℕ) → 128 ≤ byte → IsCharByte byte
 high byte low = (omega arith, λ e. omega arith)
 
--- all of the bytes are read as one character
+-- if all the bytes decode to one character, they are UTF-8
 read_whole : (bytes : List ℕ) (c : ℕ) → decoded bytes ≡ good c (length bytes) → IsUtf8 bytes
 read_whole bytes c e =
     let s = SpellsChar-decoded bytes c (ap (λ p. p.char) e) in

@@ -1,4 +1,4 @@
--- What holds of each item of a list.
+-- Properties of each item of a list.
 use Rattle.std.proofs.Common.{◌≡◌, Bool, true, List, [], ◌∷◌, ◌++◌}
 use Rattle.std.specs.{List.AllByRecursion as Each, List.list_all}
 use Rattle.std.proofs.lemmas.Bool.{and_parts}
@@ -12,7 +12,7 @@ pub each_front : {X : Type 0} (P : X → Type 0) (xs ys : List X) → Each P (xs
 each_front P [] ys all = tt
 each_front P (x ∷ xs) ys all = (all.0, each_front P xs ys all.1)
 
--- items that pass a test, as is computed
+-- from a computed test of all items to a property of each item
 pub passing : {X : Type 0} (P : X → Type 0) (test : X → Bool) → ((x : X) → test x ≡ true → P x)
     → (xs : List X) → list_all test xs ≡ true
     → Each P xs

@@ -1,4 +1,4 @@
--- A file: its last line may lack its end, and a byte order mark may stand in front.
+-- A complete file: its last line may lack a terminator, and a byte order mark may come first.
 use Rattle.std.proofs.Common.{◌≡◌, ◌≢◌, inl, inr, ℕ, Bool, not, List, [], ◌∷◌}
 use Rattle.std.proofs.Common.{◌++◌, map, filter, sym, refl, ap, ◌∙◌, append-nil, arith}
 use Rattle.std.specs.List.{AllByRecursion as Each}
@@ -37,11 +37,11 @@ low_of_front : (text more : List ℕ) → BeginsLow (text ++ more) → BeginsLow
 low_of_front [] more low = tt
 low_of_front (b ∷ text) more low = low
 
--- the source lines of a file, its front taken off
+-- the source lines of a file without its byte order mark
 abbrev pub file_sources : List ℕ → List Source
 file_sources text = sources_in (file_bodies text)
 
--- the lines of source lines
+-- the lines as the library reads them, without the values as written
 abbrev pub lines_in : List Source → List LineValue
 lines_in sources = map (λ source. source.0) sources
 
@@ -56,7 +56,7 @@ lines_kept (body ∷ bodies) = elim (cases_Bool (is_kept (line_of body))) [
   | inr dropped ↦ rw dropped (lines_kept bodies)
 ]
 
--- an agent gets the same of a file and of its source lines
+-- a crawler gets the same from a file as from its source lines
 pub file_same : (text agent : List ℕ)
     → Same agent (file_lines text) agent (lines_in (file_sources text))
 file_same text agent =

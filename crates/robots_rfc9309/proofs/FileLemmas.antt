@@ -1,4 +1,4 @@
--- A file of the standard's syntax is made of the lines of its groups.
+-- A file in the standard's grammar consists of the lines of its groups.
 use Rattle.std.proofs.Common.{◌≡◌, inl, inr, ℕ, List, [], ◌∷◌, ◌++◌, filter, flat_map, sym}
 use Rattle.std.proofs.Common.{refl, ap, ◌∙◌}
 use Rattle.std.proofs.Common.{subst}
@@ -13,7 +13,7 @@ use Rattle.robots_rfc9309.proofs.Sources.{IsRead, Parts, onto, parts_in, parts_o
 use Rattle.robots_rfc9309.proofs.Sources.{with_token}
 use Rattle.robots_rfc9309.specs.Rfc9309 as rfc
 
--- the text's source lines make this of parts
+-- adding the text's source lines at the start of some `Parts` has the effect of `make`
 abbrev Writes : (Parts → Parts) → List ℕ → Type 0
 Writes make text = Makes with_source make text
 
@@ -38,7 +38,7 @@ member_made member text is =
     let read = member_line member text is in
     line_makes read.is_line read.written (listed [] (inr (inr (inl (member, is)), refl)))
 
--- ---- groups, and delays in front of them
+-- ---- groups, and delays before them
 
 group_made : (group : rfc.Group) (text : List ℕ) → rfc.IsWideGroup group text
     → Writes (with_group group) text
@@ -71,7 +71,8 @@ front_made (unit ∷ units) (inl (rfc.Delay number, is), all) =
 
 -- ---- the file
 
--- a file's source lines are read and spell its groups, with no rule in front of them; and it lists sitemaps
+-- the file's source lines are read correctly and define its groups, with no rule before these; and the file
+-- lists some sitemaps
 pub record FileRead (groups : List rfc.Group) (text : List ℕ) : Type 0 where
   pub read : Each IsRead (file_sources text)
   pub written : (parts_in (file_sources text)).groups ≡ rfc.merged groups

@@ -1,4 +1,4 @@
--- Of source lines an agent gets the rules that they spell for it.
+-- A crawler gets the rules that the source lines define for it.
 use Rattle.std.proofs.Common.{◌≡◌, ℕ, Bool, true, false, not, ◌||◌, List, [], ◌∷◌, ◌++◌}
 use Rattle.std.proofs.Common.{Option, Some, None}
 use Rattle.std.proofs.Common.{flat_map, filter, cond, bytes_eq, sym, refl, ap, ◌∙◌, subst}
@@ -18,7 +18,8 @@ use Rattle.robots_rfc9309.proofs.EndLemmas.{lines_in}
 use Rattle.robots_rfc9309.proofs.Sources.{GivesRuleOf, IsRead, Source, member_in, parts_in}
 use Rattle.robots_rfc9309.specs.Rfc9309 as rfc
 
--- the state in which a run of agent lines has the name, or not, and that behind a member's line
+-- the states within a run of user-agent lines, with the name among them or not, and (`closed`) after the line
+-- of a member
 abbrev run : Bool → GroupTracker
 run named = record { captured = named; named = named }
 
@@ -28,7 +29,7 @@ closed captured = record { captured = captured; named = false }
 or_swapped : (a b c : Bool) → (a || (b || c)) ≡ ((b || a) || c)
 or_swapped a b c = sym (or_assoc a b c) ∙ ap (λ d. d || c) (or_comm a b)
 
--- a member, and the rule that is found for it
+-- adding a member, and the rule that its line gives
 rule_given : (member : Member) (found : Option Rule) (members : List Member) (rules : List Rule)
     → GivesRuleOf member found → AllZip IsReadAs (filter is_rule members) rules
     → AllZip IsReadAs (filter is_rule (member ∷ members)) (cons_option found rules)
@@ -58,12 +59,12 @@ module _ (name : List ℕ) where
   abbrev theirs : List Group → List Member
   theirs groups = members_in (filter has groups)
 
-  -- the rules that the walk finds
+  -- the rules that the `GroupTracker` finds
   abbrev found : GroupTracker → List Source → List Rule
   found walk sources = given_captured rule_in name walk (lines_in sources)
 
-  -- the members that the walk captures: those before any token if it captures here, and those of the
-  -- first group also if the run in which the walk stands has the name
+  -- the members that apply from this state on: those before any token if the state captures them, and those
+  -- of the first group also if the current run of user-agent lines has the name
   abbrev captured : GroupTracker → List Member → List Group → List Member
   captured walk [] [] = []
   captured walk [] (next ∷ later) = cond (walk.named || has next) next.members [] ++ theirs later
@@ -76,7 +77,7 @@ module _ (name : List ℕ) where
       rw (cond_same {X = List Member} is []) (first_if (has next) next (filter has later))
   captured_closed is (member ∷ members) groups = refl
 
-  -- behind a token more groups may be captured
+  -- after a user-agent line, the first group also counts as the name's if its token is the name
   captured_after : (walk : GroupTracker) (token : List ℕ) (members : List Member) (groups : List Group)
       → captured walk [] (put_before (token ∷ []) members groups)
       ≡ captured (run (is_named token || walk.named)) members groups
@@ -102,7 +103,7 @@ module _ (name : List ℕ) where
       at true all = rule_given member o (members ++ theirs groups) rules gives all
       at false all = all
 
-  -- the walk finds the rules of the members that it captures
+  -- the `GroupTracker` finds the rules of the members that apply
   walk_finds : (walk : GroupTracker) (sources : List Source) → Each IsRead sources
       → AllZip IsReadAs
       (filter is_rule (captured walk (parts_in sources).ungrouped (parts_in sources).groups))
@@ -124,7 +125,7 @@ module _ (name : List ℕ) where
       member_found walk.captured (member_in line text) (rule_in line) parts.ungrouped parts.groups
       (found (closed walk.captured) sources) is (walk_finds (closed walk.captured) sources all)
 
-  -- ---- whose groups they are
+  -- ---- which groups have the name
 
   any_put : (token : List ℕ) (members : List Member) (groups : List Group)
       → (is_named token || list_any has groups)
@@ -141,7 +142,7 @@ module _ (name : List ℕ) where
       ∙ any_put token (parts_in sources).ungrouped (parts_in sources).groups
   any_named (_ ∷ sources) = any_named sources
 
--- the agent's groups by the name that is captured
+-- the groups with the group name are the groups for the crawler
 named_groups : (agent : List ℕ) (groups : List Group) (lines : List LineValue) (some : Bool)
     → list_any (is_agent_named (str_to_ascii_lowercase agent)) lines ≡ some
     → list_any (has_token agent) groups ≡ some
@@ -149,7 +150,7 @@ named_groups : (agent : List ℕ) (groups : List Group) (lines : List LineValue)
 named_groups agent groups lines true named has = rw (named, has) refl
 named_groups agent groups lines false named has = rw (named, has) refl
 
--- with no rule before any token an agent gets the rules that the groups spell for it
+-- if no rule comes before the first token, a crawler gets the rules that the groups define for it
 pub rules_written : (agent : List ℕ) (sources : List Source) → Each IsRead sources
     → filter is_rule (parts_in sources).ungrouped ≡ []
     → AllZip IsReadAs (rfc.rules_for agent (parts_in sources).groups)

@@ -1,4 +1,4 @@
--- A line with a key, a colon and a value is a statement.
+-- A line with a field name, a colon and a value is a directive.
 use Rattle.std.proofs.Common.{◌≡◌, ◌≢◌, ◌⊎◌, inl, inr, ℕ, ◌<◌, List, [], ◌∷◌}
 use Rattle.std.proofs.Common.{◌++◌, map, get_or, codes, sym, refl, ap, ◌∙◌, subst}
 use Rattle.std.proofs.Common.{append_assoc, arith, filter, true}
@@ -22,7 +22,7 @@ use Rattle.robots_rfc9309.specs.Rfc9309 as rfc
 
 -- ---- bytes
 
--- a byte of a value: bare, and no hash
+-- a byte of a value: a bare byte that isn't `#`
 abbrev IsValueByte : ℕ → Type 0
 IsValueByte byte = IsBare byte × (byte ≢ hash)
 
@@ -38,7 +38,7 @@ blanks_value = each_weaker IsBlank IsValueByte blank_value
 values_bare : (bytes : List ℕ) → Each IsValueByte bytes → Each IsBare bytes
 values_bare = each_weaker IsValueByte IsBare (λ b is. is.0)
 
--- a byte before a colon: bare, of ASCII, and no colon
+-- a byte before the colon: a bare ASCII byte that isn't a colon
 abbrev IsFrontByte : ℕ → Type 0
 IsFrontByte byte = IsBare byte × (byte < 128) × (byte ≢ colon)
 
@@ -49,7 +49,7 @@ pub identifier_front : (word : List ℕ) → Each rfc.IsIdentifierByte word → 
 identifier_front = each_weaker rfc.IsIdentifierByte IsFrontByte (λ b is.
     let bounds = identifier_bounds b is in (inr (omega arith), omega arith, bounds.2))
 
--- a key in small letters and in any
+-- a byte whose lower case is an identifier byte may occur before the colon
 key_letter : (b : ℕ) → rfc.IsIdentifierByte (to_ascii_lowercase b) → IsFrontByte b
 key_letter b is =
     let bounds = identifier_bounds (to_ascii_lowercase b) is in (
@@ -78,7 +78,7 @@ low_body : (front rest : List ℕ) → Each IsFrontByte front → BeginsLow (fro
 low_body [] rest all = omega arith
 low_body (b ∷ front) rest all = all.0.1
 
--- a body with a colon, and its end
+-- a line with a colon, and its terminator
 pub reads_colon : (source : Source) (front rest nl : List ℕ)
     → source_of (front ++ colon ∷ rest) ≡ source → Each IsFrontByte front → Each IsBare rest
     → rfc.IsNl nl
@@ -108,16 +108,16 @@ pub comment_is : (comment : List ℕ) → (comment ≡ []) ⊎ rfc.IsComment com
 comment_is comment (inl none) = inl none
 comment_is comment (inr is) = inr (is.text, is.whole)
 
--- values and a comment behind them
+-- a value, and possibly a comment after it
 pub end_bare : (values comment : List ℕ) → Each IsValueByte values
     → (comment ≡ []) ⊎ rfc.IsComment comment
     → Each IsBare (values ++ comment)
 end_bare values comment all is =
     each_append IsBare values comment (values_bare values all) (comment_bare comment is)
 
--- ---- the statement
+-- ---- the directive
 
--- the spelling of a kind that the standard has
+-- the standard's field name for the kind, which is the first accepted one
 abbrev pub word_of : Kind → List ℕ
 word_of kind = get_or (spellings kind) 0 []
 
@@ -129,7 +129,7 @@ word_written : (kind : Kind) → Contains (spellings kind) (word_of kind)
 word_written kind.UserAgent = (0, omega arith, refl)
 word_written _ = (0, omega arith, refl)
 
--- a line with a key of the kind and a value of characters, of which this is left
+-- a line with the kind's field name and a value of characters, whose trimmed value is `read`
 module _ (kind : Kind) (value read text : List ℕ) (line : rfc.IsKeyed (word_of kind) value text)
     (chars : IsCharText value) (trim : IsTrimOf read value) where
   abbrev eol : rfc.IsEol line.eol
@@ -189,7 +189,7 @@ module _ (kind : Kind) (value read text : List ℕ) (line : rfc.IsKeyed (word_of
       ∙ between_gone line.gap value eol.blanks line.gap_blank eol.are_blanks
       ∙ text_kept value (each_weaker IsCharByte (λ b. 32 < b) (λ b is. is.0) value chars.bytes)
 
-  -- is read as such a line, with its value as it is written
+  -- the line is read as `found`, with its value as written
   pub keyed_reads : (found : LineValue) → ((text : List ℕ) → line_with kind read text ≡ found)
       → Reads (filter is_not_raw ((found, value) ∷ [])) text
   keyed_reads found is =

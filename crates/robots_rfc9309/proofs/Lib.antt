@@ -1,7 +1,7 @@
--- Files of the standard's syntax are read as the groups and rules that they spell.
--- Each line of such a file is a source line: the line that is read, and its value as written (`Sources`).
--- Put one before the other, from the last on, source lines make the file's merged groups or its sitemaps
--- (`RepeatLemmas`, `SourceLemmas`), and the walk finds the rules of these groups (`GroupLemmas`).
+-- Files in the standard's grammar are read as the groups and rules that they define. Each line of such a file
+-- is a source line: the line as the library reads it, and its value as written (`Sources`). Adding the source
+-- lines one before the other, from the last one on, gives the file's merged groups or its sitemaps
+-- (`RepeatLemmas`, `SourceLemmas`), and the `GroupTracker` finds the rules of these groups (`GroupLemmas`).
 pub mod GroupLemmas
 pub mod EachLemmas
 pub mod Sources

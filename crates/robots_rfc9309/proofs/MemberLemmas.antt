@@ -28,7 +28,7 @@ record Numbered (number : List ℕ) : Type 0 where
 digit_plain : (b : ℕ) → rfc.IsDigitByte b → IsPlain b
 digit_plain b is = ((omega arith, omega arith), λ e. omega arith)
 
--- a text that begins with a digit has no sign
+-- a number that begins with a digit has no sign, so it denotes a delay
 numbered_by : (d : ℕ) (rest units fraction : List ℕ) → rfc.IsDigitByte d
     → Writes (d ∷ rest) (decimal_of units fraction) → Each IsPlain (d ∷ rest)
     → Numbered (d ∷ rest)

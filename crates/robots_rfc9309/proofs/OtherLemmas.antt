@@ -1,4 +1,4 @@
--- Empty lines, comments and records that aren't read.
+-- Empty lines, comments, and records that the library ignores.
 use Rattle.std.proofs.Common.{◌≡◌, ◌⊎◌, inl, inr, ℕ, List, [], ◌∷◌, ◌++◌}
 use Rattle.std.proofs.Common.{Option, Some, None, map, append-nil, get_or, sym, refl, ap, ◌∙◌, subst}
 use Rattle.std.proofs.Common.{append_assoc}
@@ -46,7 +46,7 @@ empty_line text eol =
     (ap (λ line. (line, written body)) (line_without_kind body _ refl none))
     (end_bare eol.blanks eol.comment (blanks_value eol.blanks eol.are_blanks) eol.is_comment) low eol.is_nl)
 
--- ---- a text in small letters
+-- ---- lower case
 
 abbrev low : List ℕ → List ℕ
 low text = map to_ascii_lowercase text
@@ -62,7 +62,7 @@ pub letters : (word : List ℕ) → rfc.IsIdentifier word → Each rfc.IsIdentif
 letters [] is = absurd is
 letters (b ∷ word) is = is
 
--- the first byte is a letter
+-- the first byte is an identifier byte
 abbrev Begins : List ℕ → Type 0
 Begins [] = ⊥
 Begins (b ∷ text) = rfc.IsIdentifierByte b
@@ -81,17 +81,17 @@ blank_no_letter : (b : ℕ) → IsBlank b → rfc.IsIdentifierByte (to_ascii_low
 blank_no_letter b is letter =
     let bounds = identifier_bounds (to_ascii_lowercase b) letter in grind (arith, nat_tests)
 
--- a word begins with no blank
+-- a string whose lower case begins with an identifier byte begins with neither a space nor a tab
 word_plain : (word rest : List ℕ) → Begins (low word) → NoBlank (word ++ rest)
 word_plain [] rest is = absurd is
 word_plain (b ∷ word) rest is = λ blank. blank_no_letter b blank is
 
--- blanks and a colon stop a word
+-- an identifier ends before spaces or tabs and a colon
 colon_stops : (blanks text : List ℕ) → Each IsBlank blanks → Stops (low (blanks ++ 58 ∷ text))
 colon_stops [] text all = λ letter. (identifier_bounds 58 letter).2 refl
 colon_stops (b ∷ blanks) text all = blank_no_letter b all.0
 
--- what stands behind a key stops it
+-- an identifier ends before what follows a field name
 tail_stops : (tail rest : List ℕ) → IsAfterColon tail rest ⊎ IsAfterBlanks tail rest
     → Stops (low rest)
 tail_stops tail rest (inl (blanks, all, whole)) =
@@ -100,7 +100,7 @@ tail_stops tail rest (inr ([], all, some, whole, plain)) = absurd (some refl)
 tail_stops tail rest (inr (b ∷ blanks, all, some, whole, plain)) =
     subst Stops (sym (ap low whole)) (blank_no_letter b all.0)
 
--- blanks and a colon are no space and a letter
+-- spaces or tabs and a colon aren't a space and an identifier byte
 no_letter : (blanks text more : List ℕ) (b : ℕ) → Each IsBlank blanks → rfc.IsIdentifierByte b
     → low (blanks ++ 58 ∷ text) ≡ 32 ∷ b ∷ more → ⊥
 no_letter [] text more b all letter e =
@@ -124,7 +124,8 @@ module _ (text : List ℕ) (o : rfc.IsOtherLine text) where
   low_name : Each rfc.IsIdentifierByte (low o.name)
   low_name = low_letters o.name (letters o.name o.is_name)
 
-  -- what stands behind the margin begins with the name, and with the key of a statement
+  -- after the leading spaces and tabs, the line begins with the record's name, and with the field name if the
+  -- line is a directive
   same_text : (kind : Kind) (value : List ℕ) (s : IsStatement kind value body)
       → low o.name ++ low after_name ≡ low s.key ++ low s.rest
   same_text kind value s =

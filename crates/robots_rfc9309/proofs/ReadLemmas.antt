@@ -1,4 +1,4 @@
--- The source lines of a text that is made of lines; raw ones are left out.
+-- The source lines of a text that consists of lines. Ignored lines have none.
 use Rattle.std.proofs.Common.{◌≡◌, ◌≢◌, ◌⊎◌, inl, inr, ℕ, ◌<◌, ◌≤◌, List}
 use Rattle.std.proofs.Common.{[], ◌∷◌, ◌++◌, map, filter, cond, not, sym, refl, ap, ◌∙◌}
 use Rattle.std.proofs.Common.{append-nil, append_assoc, arith, subst}
@@ -14,11 +14,11 @@ use Rattle.robots_rfc9309.proofs.Sources.{Source, is_not_raw, source_of, written
 
 -- ---- the source lines of a text
 
--- those of bodies
+-- the source lines of line contents
 abbrev pub sources_in : List (List ℕ) → List Source
 sources_in bodies = filter is_not_raw (map source_of bodies)
 
--- those of a text
+-- the source lines of a text
 abbrev pub sources_of : List ℕ → List Source
 sources_of text = sources_in (bodies_of text)
 
@@ -27,7 +27,7 @@ empty_adds_none bodies =
     ap (λ line. cond (not (is_raw line)) ((line, written []) ∷ sources_in bodies) (sources_in bodies))
     (line_without_kind [] [] refl refl)
 
--- ---- bodies that are alike
+-- ---- lines with the same source lines
 
 abbrev first_of : List (List ℕ) → List ℕ
 first_of [] = []
@@ -37,7 +37,8 @@ abbrev rest_of : List (List ℕ) → List (List ℕ)
 rest_of [] = []
 rest_of (body ∷ bodies) = bodies
 
--- the first bodies are one, and the others have the same source lines, as where an empty body more stands
+-- the first lines are equal, and the others have the same source lines, for example if one list has an empty
+-- line more
 record AreAlike (bodies others : List (List ℕ)) : Type 0 where
   first : first_of bodies ≡ first_of others
   rest : sources_in (rest_of bodies) ≡ sources_in (rest_of others)
@@ -82,7 +83,7 @@ end_alike nl rest (inr (inl is)) = rw (is, step lf rest) (record { first = refl;
 end_alike nl rest (inr (inr is)) =
     rw (is, step cr (lf ∷ rest), step lf rest) (record { first = refl; rest = refl })
 
--- a last line has its end or not
+-- a terminator after the last line changes no source line
 pub last_end_adds_none : (text nl : List ℕ) → IsLastNl nl → sources_of (text ++ nl) ≡ sources_of text
 last_end_adds_none text nl (inl none) = rw (none, append-nil) refl
 last_end_adds_none text nl (inr is) = alike_sources _ _ (at text)
@@ -94,9 +95,9 @@ last_end_adds_none text nl (inr is) = alike_sources _ _ (at text)
         rw bodies_nil (record { first = end.first; rest = end.rest })
     at (b ∷ text) = rw (step b (text ++ nl), step b text) (step_alike b _ _ (at text))
 
--- ---- a line and its end
+-- ---- a line and its terminator
 
--- a tab, or no control
+-- a tab, or a byte from 32 up
 abbrev pub IsBare : ℕ → Type 0
 IsBare byte = (byte ≡ 9) ⊎ (32 ≤ byte)
 
@@ -117,14 +118,14 @@ line_sources body nl rest bare is =
     ∙ alike_sources _ (body ∷ bodies_of rest) (line_alike body nl rest bare is)
     ∙ parted (body ∷ bodies_of rest)
 
--- ---- a text that is made of lines
+-- ---- a text that consists of lines
 
--- the text is empty, or its first byte is of ASCII
+-- the text is empty, or its first byte is ASCII
 abbrev pub BeginsLow : List ℕ → Type 0
 BeginsLow [] = Unit {0}
 BeginsLow (byte ∷ text) = byte < 128
 
--- the text is made of lines, with these source lines, and it holds no NUL
+-- the text consists of complete lines, which have these source lines, and it contains no NUL
 pub record Reads (sources : List Source) (text : List ℕ) : Type 0 where
   pub sources_of : (rest : List ℕ) → sources_of (text ++ rest) ≡ sources ++ sources_of rest
   pub no_nul : Each (λ byte. byte ≢ 0) text
@@ -158,7 +159,7 @@ end_bytes nl (inl is) = rw is (((λ e. cc), tt), omega arith)
 end_bytes nl (inr (inl is)) = rw is (((λ e. cc), tt), omega arith)
 end_bytes nl (inr (inr is)) = rw is (((λ e. cc), ((λ e. cc), tt)), omega arith)
 
--- a body with this source line, and its end
+-- a line with this source line, and its terminator
 pub reads_line : (source : Source) (body nl : List ℕ) → source_of body ≡ source
     → Each IsBare body → BeginsLow body
     → IsNl nl → Reads (filter is_not_raw (source ∷ [])) (body ++ nl)

@@ -1,4 +1,4 @@
--- A text of the standard's productions is made of lines, whose source lines are read.
+-- A text built from the standard's productions consists of lines, whose source lines are read correctly.
 use Rattle.std.proofs.Common.{◌≡◌, inl, inr, ℕ, List, [], ◌∷◌, ◌++◌, flat_map, refl, ap}
 use Rattle.std.proofs.Common.{◌∙◌}
 use Rattle.std.specs.List.{AllByRecursion as Each}
@@ -8,12 +8,12 @@ use Rattle.robots_rfc9309.proofs.{RuleLemmas.IsLineOf, Sources.IsRead, Sources.S
 use Rattle.robots_rfc9309.proofs.SyntaxLemmas.{repeats_both, repeats_none, repeats_one}
 use Rattle.robots_rfc9309.specs.Rfc9309 as rfc
 
--- ---- each text of lines lists sitemaps
+-- ---- each text that consists of lines lists sitemaps
 
 abbrev pub IsAddressLine : List (List ℕ) → List ℕ → Type 0
 IsAddressLine addresses text = rfc.IsOneOr rfc.IsSitemapLine rfc.IsUnlisted addresses text
 
--- the text is lines, which spell some sitemaps
+-- the text consists of lines that list some sitemaps
 abbrev pub IsListing : List ℕ → Type 0
 IsListing text = (addresses : List (List ℕ)) × rfc.Repeats IsAddressLine addresses text
 
@@ -24,9 +24,9 @@ listed {text} addresses is = (addresses, repeats_one IsAddressLine addresses tex
 both_listed : {text later : List ℕ} → IsListing text → IsListing later → IsListing (text ++ later)
 both_listed (addresses, is) (more, also) = (addresses ++ more, repeats_both is also)
 
--- ---- what a text's source lines make
+-- ---- the effect of a text's source lines
 
--- the text's source lines, put before others, make this of what those make
+-- adding the text's source lines before others has the effect of `make` on the result of those others
 pub record Makes {A : Type 0} (put : Source → A → A) (make : A → A) (text : List ℕ) : Type 0 where
   pub sources : List Source
   pub read : Each IsRead sources
@@ -40,7 +40,7 @@ onto_both put [] ys following = refl
 onto_both put (x ∷ xs) ys following = ap (put x) (onto_both put xs ys following)
 
 module _ {A : Type 0} {put : Source → A → A} where
-  -- one source line, or none
+  -- the text is a single source line
   pub line_makes : {make : A → A} {source : Source} {text : List ℕ} → IsLineOf source text
       → ((following : A) → put source following ≡ make following) → IsListing text
       → Makes put make text
@@ -73,7 +73,7 @@ module _ {A : Type 0} {put : Source → A → A} where
     listing = both_listed is.listing also.listing;
   }
 
-  -- a text of one item each, or of none
+  -- a text of parts, each of which has one item or none
   pub items_make : {X : Type 0} (act : X → A → A) (P : X → List ℕ → Type 0)
       (Q : List ℕ → Type 0)
       → ((item : X) (text : List ℕ) → P item text → Makes put (act item) text)

@@ -15,14 +15,14 @@ use Rattle.robots_rfc9309.proofs.Sources.{with_source}
 use Rattle.texting_robots.specs.declared.parser.statement.Kind.TheVariants as kind
 use Rattle.robots_rfc9309.specs.Rfc9309 as rfc
 
--- the text is the source line, which is read
+-- the text is this source line, which is read correctly
 pub record IsLineOf (source : Source) (text : List ℕ) : Type 0 where
   pub read : IsRead source
   pub reads : Reads (source ∷ []) text
 
 -- ---- product tokens
 
--- visible, and no hash
+-- visible, and not `#`
 abbrev pub IsPlain : ℕ → Type 0
 IsPlain byte = IsVisible byte × (byte ≢ 35)
 
@@ -36,7 +36,7 @@ token_plain (b ∷ token) (inl is) =
 token_plain (b ∷ token) (inr is) =
     subst (Each IsPlain) (sym is) (((omega arith, omega arith), λ e. omega arith), tt)
 
--- plain bytes are characters, and their own trim
+-- plain bytes are characters, and trimming leaves them unchanged
 pub plain_text : (bytes : List ℕ) → Each IsPlain bytes → IsCharText bytes × IsTrimOf bytes bytes
 plain_text bytes plain =
     let visible = each_weaker IsPlain IsVisible (λ b is. is.0) bytes plain in (
@@ -58,7 +58,7 @@ token_line token text (is, line) =
 
 -- ---- rules
 
--- a text whose source line is a member's
+-- a text whose source line is that of the member
 pub record MemberRead (member : rfc.Member) (text : List ℕ) : Type 0 where
   pub source : Source
   pub is_line : IsLineOf source text
@@ -69,7 +69,7 @@ disallow_line : (read body : List ℕ) → read ≢ [] → line_with kind.Disall
 disallow_line [] body some = absurd (some refl)
 disallow_line (b ∷ read) body some = refl
 
--- what is left of characters is UTF-8
+-- trimming characters gives UTF-8
 pub trim_is_utf8 : (text : List ℕ) → IsCharText text → is_utf8 (trimmed text) ≡ true
 trim_is_utf8 text chars =
     is_utf8-from_IsUtf8 (trimmed text) (trim_utf8 text (trimmed text) chars.utf8 (trimmed_is_trim text))
@@ -121,7 +121,7 @@ module _ (b : ℕ) (plain : IsPlain b) (pattern text : List ℕ)
         unlisted = λ following. refl;
       })
 
--- a value of blanks is an empty value behind them
+-- a value of spaces and tabs is an empty value after these spaces and tabs
 emptied : (word value text : List ℕ) → Each IsBlank value → rfc.IsKeyed word value text
     → rfc.IsKeyed word [] text
 emptied word value text all line = record {

@@ -1,4 +1,4 @@
--- The samples in `specs/Sample.antt` are files of the syntax, line by line.
+-- The samples in `specs/Sample.antt` are files of the grammar, line by line.
 use Rattle.std.proofs.Common.{◌≡◌, ◌⊎◌, inl, inr, ℕ, Bool, true, not, List, [], ◌∷◌}
 use Rattle.std.proofs.Common.{◌++◌}
 use Rattle.std.proofs.Common.{codes, ◌==◌, ◌||◌, ◌&&◌, bytes_eq, flat_map, drop, nat_le, refl, ap}
@@ -13,9 +13,9 @@ use Rattle.robots_rfc9309.proofs.SyntaxLemmas.{repeats_both, repeats_none, repea
 use Rattle.robots_rfc9309.specs.Rfc9309 as rfc
 use Rattle.robots_rfc9309.specs.Sample as sample
 
--- ---- texts whose parts pass a test, as is computed
+-- ---- texts whose parts pass a computed test
 
--- pieces of one byte each
+-- a text split into parts of one byte each
 singles : (P : List ℕ → Type 0) (text : List ℕ) → Each (λ b. P (b ∷ [])) text → rfc.IsMany P text
 singles P [] all = record { units = []; each = tt; whole = refl }
 singles P (b ∷ text) all =
@@ -32,7 +32,7 @@ is_one b = nat_le 0x21 b && (nat_le b 0x7F && not (b == 0x23))
 one : (b : ℕ) → is_one b ≡ true → rfc.IsUtf8CharNoctl (b ∷ [])
 one b is = inl (grind (arith, nat_tests))
 
--- characters of one byte
+-- characters of one byte each
 ones : (text : List ℕ) → list_all is_one text ≡ true → rfc.IsMany rfc.IsUtf8CharNoctl text
 ones text all = singles rfc.IsUtf8CharNoctl text (passing _ is_one one text all)
 
@@ -80,7 +80,7 @@ lf_end = end [] lf tt feed
 cr_lf_end : rfc.IsEol cr_lf
 cr_lf_end = end [] cr_lf tt (inr (inr refl))
 
--- blanks, a comment and a line feed
+-- spaces or tabs, a comment and a line feed
 comment : (blanks text : List ℕ) → Each rfc.IsWs blanks → list_all is_remark text ≡ true
     → rfc.IsEol (blanks ++ (codes "#" ++ text ++ lf))
 comment blanks text all is = record {
@@ -93,7 +93,7 @@ comment blanks text all is = record {
   is_nl = feed;
 }
 
--- a key, a colon, a space, a value and an end
+-- a field name, a colon, a space, a value and the end of the line
 keyed : {word value : List ℕ} (key eol : List ℕ) → rfc.IsLiteral word key → rfc.IsEol eol
     → rfc.IsKeyed word value (key ++ (codes ": " ++ (value ++ eol)))
 keyed key eol is is_eol = record {
@@ -110,12 +110,12 @@ keyed key eol is is_eol = record {
   is_eol = is_eol;
 }
 
--- the same with a line feed at its end
+-- the same, ended by a line feed
 fed : {word value : List ℕ} (key : List ℕ) → rfc.IsLiteral word key
     → rfc.IsKeyed word value (key ++ (codes ": " ++ (value ++ lf)))
 fed key is = keyed key lf is lf_end
 
--- ---- the lines of the standard's syntax
+-- ---- the lines of the standard's grammar
 
 bot : rfc.IsStartGroupLine (codes "bot") (codes "user-agent: bot" ++ cr_lf)
 bot = (
@@ -199,7 +199,7 @@ disallow_all = record {
   is_line = fed (codes "disallow") refl;
 }
 
--- ---- the further lines
+-- ---- the lines of the extended grammar
 
 front : rfc.IsEmptyLine (codes "# in front" ++ lf)
 front = comment [] (codes " in front") tt refl
@@ -266,7 +266,7 @@ host = record {
 
 -- ---- lines one after another
 
--- a line of an item, or one of none
+-- a line with an item, or a line with none
 record Row {X : Type 0} (P : X → List ℕ → Type 0) (Q : List ℕ → Type 0) : Type 0 where
   items : List X
   text : List ℕ
@@ -328,7 +328,7 @@ is_robotstxt =
     (item (rfc.Disallow (codes "/")) _ disallow_all ∷ []) in
     repeats rfc.IsGroup rfc.IsEmptyLine (item _ _ bots ∷ item _ _ others ∷ [])
 
--- the byte order mark in front, and the last line end that is missing
+-- a byte order mark at the start, and no terminator after the last line
 with_bom : (Content : List ℕ → Type 0) → Content (drop 3 sample.wide_text ++ lf)
     → rfc.IsFileOf Content sample.wide_text
 with_bom Content is = record {
@@ -363,7 +363,7 @@ is_file =
           is_robotstxt);
     })
 
--- a line without a sitemap
+-- a user-agent line, which lists no sitemap
 abbrev named : (token text : List ℕ) → rfc.IsStartGroupLine token text
     → Row rfc.IsSitemapLine rfc.IsUnlisted
 named token text is = gap text (inl (token, is))

@@ -11,7 +11,7 @@ use Rattle.robots_rfc9309.proofs.RepeatLemmas.{IsListing, Makes, items_make, lin
 use Rattle.robots_rfc9309.proofs.Sources.{IsRead, Source, onto, with_address}
 use Rattle.robots_rfc9309.specs.Rfc9309 as rfc
 
--- the text's source lines make this of addresses
+-- adding the text's source lines at the start of a list of addresses has the effect of `make`
 abbrev Lists : (List (List ℕ) → List (List ℕ)) → List ℕ → Type 0
 Lists make text = Makes with_address make text
 
@@ -33,7 +33,7 @@ unlisted text is = at is (listed [] (inr (is, refl)))
     at (inr (inr (inl is))) listing = none_makes (empty_line text is) listing
     at (inr (inr (inr is))) listing = none_makes (other_line text is) listing
 
--- the addresses that source lines hold
+-- the addresses in source lines
 abbrev addresses_in : List Source → List (List ℕ)
 addresses_in sources = onto with_address sources []
 

@@ -1,4 +1,4 @@
--- The source lines of groups make the groups themselves, once these are merged.
+-- The source lines of groups give back the groups, merged.
 use Rattle.std.proofs.Common.{◌≡◌, List, ℕ, [], ◌∷◌, ◌++◌, refl, ap, ◌∙◌, append-nil}
 use Rattle.std.proofs.Common.{filter}
 use Rattle.robots_rfc9309.proofs.Sources.{Parts, onto, parts_of, with_member, with_token, with_tokens}
@@ -16,7 +16,7 @@ members_put : (members : List rfc.Member) (parts : Parts)
 members_put [] parts = refl
 members_put (member ∷ members) parts = ap (with_member member) (members_put members parts)
 
--- tokens put before a group one by one, or at once
+-- adding tokens one by one is the same as adding them at once
 put_twice : (token : List ℕ) (tokens : List (List ℕ)) (members : List rfc.Member) (later : List rfc.Group)
     → rfc.put_before (token ∷ []) [] (rfc.put_before tokens members later)
     ≡ rfc.put_before (token ∷ tokens) members later
@@ -31,7 +31,7 @@ tokens_put token (next ∷ tokens) parts =
     ap (with_token token) (tokens_put next tokens parts)
     ∙ ap (parts_of []) (put_twice token (next ∷ tokens) parts.ungrouped parts.groups)
 
--- a group's tokens and members one by one, or at once
+-- adding a group's tokens and members one by one is the same as adding the group at once
 pub group_put : (token : List ℕ) (tokens : List (List ℕ)) (group : rfc.Group) (parts : Parts)
     → group.tokens ≡ token ∷ tokens
     → onto with_token (token ∷ tokens) (onto with_member group.members parts) ≡ with_group group parts
@@ -46,7 +46,7 @@ groups_put (group ∷ later) =
     ap (with_group group) (groups_put later)
     ∙ ap (λ m. with_tokens group.tokens (parts_of m (rfc.merged later))) (append-nil group.members)
 
--- delays in front change no group, and bring no rule
+-- delays at the start change no group and add no rule
 pub delays_put : (numbers : List (List ℕ)) (parts : Parts)
     → ((onto with_delay numbers parts).groups ≡ parts.groups)
     × (filter rfc.is_rule (onto with_delay numbers parts).ungrouped

@@ -1,4 +1,4 @@
--- Source lines: the line that a body is read as, with the value as it is written.
+-- Source lines: the line as the library reads it, with its value as written.
 use Rattle.std.proofs.Common.{◌≡◌, ◌≢◌, ℕ, ◌<◌, Bool, false, true, not, ◌==◌, ◌||◌}
 use Rattle.std.proofs.Common.{if◌then◌else◌, List, [], ◌∷◌, ◌++◌, filter, refl, ap, ◌∙◌}
 use Rattle.std.proofs.Common.{append-nil, arith, Option, Some, None}
@@ -13,7 +13,7 @@ use Rattle.texting_robots.proofs.StatementLemmas.{region_is}
 use Rattle.robots_rfc9309.specs.ReadAs.{IsReadAs}
 use Rattle.robots_rfc9309.specs.Rfc9309 as rfc
 
--- ---- the value as it is written
+-- ---- the value as written
 
 abbrev pub no_blank : ℕ → Bool
 no_blank b = not (b == space || b == tab)
@@ -22,7 +22,7 @@ abbrev after_colon : List ℕ → List ℕ
 after_colon [] = []
 after_colon (b ∷ text) = if b == colon then text else after_colon text
 
--- what stands between the first colon and the first hash behind it, without blanks
+-- the bytes between the first colon and the next `#`, without spaces and tabs
 unfoldable pub written : List ℕ → List ℕ
 written body = filter no_blank (region_of (after_colon body))
 
@@ -55,7 +55,7 @@ pub text_kept : (text : List ℕ) → Each (λ b. 32 < b) text → filter no_bla
 text_kept [] all = refl
 text_kept (b ∷ text) all = rw (byte_kept b all.0) (ap (λ t. b ∷ t) (text_kept text all.1))
 
--- blanks around a value go
+-- spaces and tabs around a value are dropped
 pub between_gone : (gap value following : List ℕ) → Each IsBlank gap → Each IsBlank following
     → filter no_blank (gap ++ (value ++ following)) ≡ filter no_blank value
 between_gone gap value following before after =
@@ -79,23 +79,23 @@ source_of body = (line_of body, written body)
 abbrev pub token_source : List ℕ → Source
 token_source token = (UserAgent token, token)
 
--- any line but a raw one
+-- the line isn't ignored
 abbrev pub is_not_raw : Source → Bool
 is_not_raw source = not (is_raw source.0)
 
--- the member of an Allow: with nothing written, and yet a value, it was an empty Disallow
+-- the member of an Allow: if nothing is written but the Allow has a value, it was an empty Disallow
 abbrev pub allowed_in : List ℕ → List ℕ → rfc.Member
 allowed_in (b ∷ pattern) value = rfc.Allow (b ∷ pattern)
 allowed_in [] [] = rfc.Allow []
 allowed_in [] (b ∷ value) = rfc.Disallow []
 
--- the member that a line of a group spells
+-- the member that a group line defines
 abbrev pub member_in : LineValue → List ℕ → rfc.Member
 member_in (Allow value) pattern = allowed_in pattern value
 member_in (Disallow value) pattern = rfc.Disallow pattern
 member_in _ number = rfc.Delay number
 
--- what is found is the member's rule, if it is one
+-- the rule is that of the member; without a rule, the member isn't a rule
 abbrev pub GivesRuleOf : rfc.Member → Option Rule → Type 0
 GivesRuleOf member (Some rule) = IsReadAs member rule
 GivesRuleOf member None = rfc.is_rule member ≡ false
@@ -106,18 +106,18 @@ IsReadLine (Sitemap value) text = (sitemap_in (Sitemap value) ≡ Some value) ×
 IsReadLine (Raw body) text = Unit {0}
 IsReadLine line text = GivesRuleOf (member_in line text) (rule_in line)
 
--- the line gives what the text that is written spells
+-- what the library reads in the line is what its value as written defines
 abbrev pub IsRead : Source → Type 0
 IsRead source = IsReadLine source.0 source.1
 
--- ---- what source lines spell
+-- ---- what source lines define
 
--- one item after the other put before what is there, the last one first
+-- adds the items one before the other to what follows them, beginning with the last item
 abbrev pub onto : {X A : Type 0} → (X → A → A) → List X → A → A
 onto put [] following = following
 onto put (x ∷ xs) following = put x (onto put xs following)
 
--- members that stand before any token, and the merged groups behind them
+-- the members before any token, and the merged groups after them
 pub record Parts : Type 0 where
   pub ungrouped : List rfc.Member
   pub groups : List rfc.Group
@@ -150,6 +150,6 @@ abbrev address_before : LineValue → List ℕ → List (List ℕ) → List (Lis
 address_before (Sitemap value) address following = address ∷ following
 address_before line text following = following
 
--- the address of a sitemap, as it is written
+-- adds the address of a sitemap, as written
 abbrev pub with_address : Source → List (List ℕ) → List (List ℕ)
 with_address source following = address_before source.0 source.1 following

@@ -1,4 +1,5 @@
--- The law: a file of the standard's syntax is read as the groups and rules that it spells, in one way.
+-- The main theorem of this crate: a file in the standard's grammar is read as the groups and rules that it
+-- defines, and its groups are unique once they are merged.
 use Rattle.std.proofs.Common.{sym, ◌∙◌, ◌≡◌, ℕ, List}
 use Rattle.std.specs.List.{AllZip}
 use Rattle.texting_robots.specs.Executable.{rules_for, file_lines}
@@ -20,7 +21,7 @@ pub standard_files_spell_once : (text : List ℕ) (groups others : List rfc.Grou
 standard_files_spell_once text groups others file other =
     sym (file_read text groups file).written ∙ (file_read text others other).written
 
--- each file has one list of sitemaps
+-- each file has exactly one list of sitemaps
 pub standard_sitemaps_once : (text : List ℕ) (groups : List rfc.Group) → rfc.IsFile groups text
     → (addresses : List (List ℕ)) × rfc.ListsSitemaps addresses text
     × ((others : List (List ℕ)) → rfc.ListsSitemaps others text → others ≡ addresses)

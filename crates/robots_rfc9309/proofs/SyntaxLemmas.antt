@@ -1,4 +1,4 @@
--- Texts that repeat a production, put together.
+-- Concatenating texts that repeat a production.
 use Rattle.std.proofs.Common.{ℕ, List, [], ◌∷◌, ◌++◌, flat_map, sym, refl, append-nil}
 use Rattle.std.specs.List.{AllByRecursion as Each}
 use Rattle.std.proofs.lemmas.Grind.{flat_map-append}
@@ -31,7 +31,7 @@ repeats_both {X} is also =
       whole = cc;
     }
 
--- what holds of the pieces of a text, and of texts put together, holds of the text
+-- a property of the parts that concatenation preserves holds for the complete text
 pub many : {P Q : List ℕ → Type 0} → Q []
     → ((text later : List ℕ) → Q text → Q later → Q (text ++ later))
     → ((unit : List ℕ) → P unit → Q unit) → (text : List ℕ) → IsMany P text

@@ -1,4 +1,4 @@
--- What is left of a value between blanks.
+-- Trimming a value between spaces and tabs.
 use Rattle.std.proofs.Common.{◌≡◌, ◌≢◌, ℕ, ◌<◌, true, false, List, [], ◌∷◌, ◌++◌}
 use Rattle.std.proofs.Common.{length, IsTrue, sym, refl, ap, ◌∙◌, subst, append_assoc, append-nil}
 use Rattle.std.proofs.Common.{arith}
@@ -12,9 +12,9 @@ use Rattle.texting_robots.specs.{Statement.IsBlank, Trim.IsSpaces, Trim.IsTrimOf
 use Rattle.texting_robots.proofs.TrimLemmas.{trailing_blanks, graphic_trim, same_trim, trimmed_is_trim}
 use Rattle.texting_robots.proofs.TrimLemmas.{white_scalar}
 
--- ---- spaces
+-- ---- white space
 
--- a byte of ASCII that is no control and no space
+-- printable ASCII other than the space
 abbrev pub IsVisible : ℕ → Type 0
 IsVisible byte = (32 < byte) × (byte < 127)
 
@@ -24,7 +24,7 @@ IsWhite char = IsTrue (is_whitespace char)
 visible_graphic : (b : ℕ) → IsVisible b → is_ascii_graphic b ≡ true
 visible_graphic b is = grind (arith, nat_tests)
 
--- no spaces begin with such a byte
+-- a string that begins with such a byte has no leading white space
 spaces_begin : (s rest text : List ℕ) (b : ℕ) → IsVisible b → IsSpaces s → b ∷ text ≡ s ++ rest
     → s ≡ []
 spaces_begin s rest text b visible ([], all, is) e = is
@@ -45,14 +45,14 @@ spaces_utf8 s (chars, all, is) = (chars, (scalar_spaces chars all, sym is))
 
 -- ---- trims
 
--- blanks behind a text change no trim
+-- spaces and tabs after a string don't change its trim
 pub blanks_after : (blanks region value : List ℕ) → Each IsBlank blanks → IsUtf8 region
     → IsTrimOf value region
     → IsTrimOf value (region ++ blanks)
 blanks_after blanks region value all utf8 =
     same_trim (region ++ blanks) region value (trailing_blanks region blanks utf8 all)
 
--- visible bytes are their own trim
+-- trimming leaves visible bytes unchanged
 pub visible_trim : (bytes : List ℕ) → Each IsVisible bytes → IsTrimOf bytes bytes
 visible_trim [] all = rw (drop-nil, take-nil) at (trimmed_is_trim [])
 visible_trim (b ∷ bytes) all =
@@ -60,14 +60,14 @@ visible_trim (b ∷ bytes) all =
     subst (λ v. IsTrimOf v (b ∷ bytes))
     (graphic_trim b bytes (visible_graphic b all.0) (visible_graphic _ last)) (trimmed_is_trim (b ∷ bytes))
 
--- and a text
+-- visible bytes are UTF-8
 pub visible_utf8 : (bytes : List ℕ) → Each IsVisible bytes → IsUtf8 bytes
 visible_utf8 bytes all =
     let each = All-from_recursion IsVisible bytes all in
     IsUtf8-from_ascii bytes
     (IsAscii-from_all bytes (λ i d within. let visible = each i d within in omega arith))
 
--- what stands behind spaces in a text is a text
+-- the rest of a UTF-8 string after leading characters is UTF-8
 after_spaces : (chars text rest : List ℕ) → IsUtf8 text → text ≡ encode_utf8_all chars ++ rest
     → IsUtf8 rest
 after_spaces [] text rest utf8 e = subst IsUtf8 e utf8
@@ -76,7 +76,7 @@ after_spaces (c ∷ cs) text rest utf8 e =
     after_spaces cs (encode_utf8_all cs ++ rest) rest
     (IsUtf8-past_char text (encode_utf8_all cs ++ rest) c utf8 whole) refl
 
--- what is left of a text is a text
+-- trimming UTF-8 gives UTF-8
 pub trim_utf8 : (region value : List ℕ) → IsUtf8 region → IsTrimOf value region → IsUtf8 value
 trim_utf8 region value utf8 t =
     let rest = value ++ t.back in
@@ -85,7 +85,7 @@ trim_utf8 region value utf8 t =
     (IsUtf8-take rest (length value) (after_spaces t.front_spaces.0 region rest utf8 whole)
     (IsCharBoundary-at_seam rest value t.back refl (spaces_utf8 t.back t.back_spaces)))
 
--- what is left of a text that begins with a visible byte holds some byte
+-- trimming a string that begins with a visible byte leaves at least one byte
 pub trim_some : (x : ℕ) (region value : List ℕ) → IsVisible x → IsTrimOf value (x ∷ region)
     → value ≢ []
 trim_some x region value visible t e =

@@ -1,4 +1,4 @@
--- Words of identifier bytes, and the spellings of keys.
+-- Identifiers, and the accepted field names.
 use Rattle.std.proofs.Common.{◌≡◌, ◌≢◌, ◌⊎◌, inl, inr, ℕ, ◌<◌, nat_le, Bool, true}
 use Rattle.std.proofs.Common.{false, ◌==◌, ◌&&◌, ◌||◌, List, [], ◌∷◌, ◌++◌, bytes_eq}
 use Rattle.std.proofs.Common.{codes, refl, subst, arith}
@@ -12,18 +12,18 @@ use Rattle.texting_robots.specs.{declared.parser.statement.Kind.Kind, Statement.
 use Rattle.texting_robots.specs.declared.parser.statement.Kind.TheVariants as kind
 use Rattle.robots_rfc9309.specs.Rfc9309 as rfc
 
--- ---- words of identifier bytes
+-- ---- identifiers
 
--- the text begins with no identifier byte
+-- the text doesn't begin with an identifier byte
 abbrev pub Stops : List ℕ → Type 0
 Stops [] = Unit {0}
 Stops (b ∷ text) = rfc.IsIdentifierByte b → ⊥
 
--- a word of identifier bytes, which ends before the rest
+-- only identifier bytes, and the rest doesn't begin with one
 abbrev pub IsWordBefore : List ℕ → List ℕ → Type 0
 IsWordBefore word rest = Each rfc.IsIdentifierByte word × Stops rest
 
--- two texts that are one begin with one word
+-- equal texts begin with the same identifier
 pub same_word : (word other rest more : List ℕ) → IsWordBefore word rest → IsWordBefore other more
     → word ++ rest ≡ other ++ more → (word ≡ other) × (rest ≡ more)
 same_word [] [] rest more is also e = (refl, e)
@@ -44,7 +44,7 @@ same_word (b ∷ word) [] rest (d ∷ more) is also e =
 pub identifier_bounds : (b : ℕ) → rfc.IsIdentifierByte b → (44 < b) × (b < 123) × (b ≢ 58)
 identifier_bounds b is = (omega arith, omega arith, λ e. omega arith)
 
--- ---- words that are computed
+-- ---- computed tests
 
 abbrev pub is_identifier_byte : ℕ → Bool
 is_identifier_byte b =
@@ -57,9 +57,9 @@ pub identifier : (word : List ℕ) → list_all is_identifier_byte word ≡ true
     → Each rfc.IsIdentifierByte word
 identifier = passing rfc.IsIdentifierByte is_identifier_byte identifier_byte
 
--- ---- the spellings of keys
+-- ---- accepted field names
 
--- a word, a space and a letter, and what stands behind them
+-- an identifier, a space and an identifier byte, and any bytes after them
 pub record IsTwoWords (spelling : List ℕ) : Type 0 where
   pub word : List ℕ
   pub letter : ℕ
@@ -68,7 +68,7 @@ pub record IsTwoWords (spelling : List ℕ) : Type 0 where
   pub is_word : rfc.IsIdentifier word
   pub is_letter : rfc.IsIdentifierByte letter
 
--- one word of those that are read, or two words
+-- an identifier among those that the library reads, or two words
 abbrev pub IsWritten : List ℕ → Type 0
 IsWritten spelling = (rfc.IsIdentifier spelling × Contains rfc.names_read spelling) ⊎ IsTwoWords spelling
 

@@ -1,4 +1,4 @@
--- An input has a report.
+-- Every input has a report.
 use Rattle.std.proofs.Common.{◌≢◌, ◌⊎◌, inl, inr, ℕ, zero, suc}
 use Rattle.std.proofs.Common.{◌<◌, ◌==◌, Any, IsUtf8}
 use Rattle.std.proofs.Common.{Result, Ok, Err, List, [], ◌∷◌, ◌++◌}
@@ -28,7 +28,7 @@ use Rattle.robots_verdict.proofs.InputLemmas.{rest_shorter, split_found}
 
 -- ---- the split
 
--- the first line, if one is ended
+-- an input begins with a line that ends in LF, or it has no LF
 first_line : (input : List ℕ)
     → ((text : List ℕ) × (rest : List ℕ) × BeginsWithLine input text rest) ⊎ IsOneLine input
 first_line [] = inr tt
@@ -58,7 +58,7 @@ first_line (b ∷ input) = elim (cases_Bool (b == lf)) [
   ]
 ]
 
--- the input is made up in some way, or in none
+-- an input has a split into crawler name, URLs and file, or it has none
 abbrev Split : List ℕ → Type 0
 Split input =
     ((agent : List ℕ) × (urls : List (List ℕ)) × (file : List ℕ) × IsInput input agent urls file)
@@ -84,7 +84,7 @@ split_of input = elim (first_line input) [
       split_after (suc (length start)) input agent start start [] (omega arith) line (goes_first start)
 ]
 
--- ---- what is decided of it
+-- ---- decidable properties
 
 utf8_or_not : (text : List ℕ) → Either (IsUtf8 text)
 utf8_or_not text = elim (cases_Bool (is_utf8 text)) [
@@ -92,7 +92,7 @@ utf8_or_not text = elim (cases_Bool (is_utf8 text)) [
   | inr isnt ↦ inr (λ is. false≢true (sym isnt ∙ is_utf8-from_IsUtf8 text is))
 ]
 
--- each has the property, or some lacks it
+-- each of the strings has the property, or some string lacks it
 each_or_any : (P : List ℕ → Type 0) → ((text : List ℕ) → Either (P text))
     → (texts : List (List ℕ))
     → Each P texts ⊎ Any (λ text. ¬ P text) texts

@@ -1,4 +1,4 @@
--- How an input is split, line by line, and that there is one way at most.
+-- How an input is split line by line, and that it has at most one split.
 use Rattle.std.proofs.Common.{◌≡◌, ◌≢◌, inl, inr, ℕ, zero, suc, ◌+◌, ◌-◌, ◌<◌}
 use Rattle.std.proofs.Common.{◌==◌, nat_lt, true, false, slice_index_or, Any, Bor, IfErr, IsUtf8, Result}
 use Rattle.std.proofs.Common.{Ok, Err, List, [], ◌∷◌, ◌++◌, length, map, slice_index, sym}
@@ -18,7 +18,8 @@ use Rattle.robots_verdict.specs.Input.{AreUtf8, HoldNotUtf8}
 use Rattle.robots_verdict.specs.Input.{AreUrlLines, BeginsWithLine, IsInput, IsOneLine, cr}
 use Rattle.robots_verdict.specs.Internal.{IsFirstLf}
 
--- the same splits go on from the rest, behind these URLs
+-- the lines up to `rest` are those of `urls`: the splits of `input` are the splits of `rest` with `urls` at
+-- the start
 pub record GoesOn (input : List ℕ) (urls : List (List ℕ)) (rest : List ℕ) : Type 0 where
   pub from_rest : (later : List (List ℕ)) (file : List ℕ) → AreUrlLines rest later file
       → AreUrlLines input (urls ++ later) file
@@ -154,9 +155,9 @@ same_lines (url ∷ urls) (other ∷ others) input file rest one two =
     same_lines urls others two.0 file rest (subst (λ t. AreUrlLines t urls file) first.1 one.3) two.3 in
     (cc, later.1)
 
--- ---- whole inputs
+-- ---- complete inputs
 
--- the split that was found
+-- an empty line after the URLs completes the split
 pub split_found : (input agent start rest url file : List ℕ) (urls : List (List ℕ))
     → BeginsWithLine input agent start → GoesOn start urls rest → BeginsWithLine rest url file
     → url ≡ [] → IsInput input agent urls file
@@ -168,12 +169,12 @@ split_found input agent start rest url file urls line goes end empty =
           (goes.from_rest [] file (subst (λ t. BeginsWithLine rest t file) empty end));
     }
 
--- there is none: the first line isn't ended
+-- no split if the first line has no LF
 pub no_split_first : (input : List ℕ) → IsOneLine input → (agent : List ℕ) (urls : List (List ℕ))
     (file : List ℕ) → ¬ IsInput input agent urls file
 no_split_first input one agent urls file is = no_line input agent is.rest one is.agent_line
 
--- there is none: a later line isn't ended
+-- no split if a later line has no LF
 pub no_split : (input agent start rest : List ℕ) (urls : List (List ℕ))
     → BeginsWithLine input agent start → GoesOn start urls rest → IsOneLine rest
     → (other : List ℕ) (all : List (List ℕ)) (file : List ℕ) → ¬ IsInput input other all file
@@ -191,7 +192,7 @@ one_split input agent other urls others file rest one two =
     let later = same_lines urls others two.rest file rest url_lines two.url_lines in
     (first.0, later.0, later.1)
 
--- ---- empty and other texts
+-- ---- empty and nonempty strings
 
 pub no_bytes : (text : List ℕ) → (length text == 0) ≡ true → text ≡ []
 no_bytes [] e = refl
@@ -201,7 +202,7 @@ pub some_bytes : (text : List ℕ) → (length text == 0) ≡ false → text ≢
 some_bytes [] e = grind (arith, nat_tests)
 some_bytes (b ∷ text) e = λ is. cc
 
--- ---- texts that are UTF-8
+-- ---- UTF-8 strings
 
 pub each_pushed : (P : List ℕ → Type 0) (texts : List (List ℕ)) (text : List ℕ) → Each P texts
     → P text → Each P (texts ++ text ∷ [])

@@ -1,4 +1,4 @@
--- How a report is made, and that an input has one at most.
+-- How a report is built, and that an input has at most one.
 use Rattle.std.proofs.Common.{◌≡◌, ◌≢◌, ℕ, List, [], ◌∷◌, ◌++◌, Option, Some, None}
 use Rattle.std.proofs.Common.{Result, Ok, Err, IfSome, map, sym, refl, ap, subst, take, ◌∙◌}
 use Rattle.std.specs.Io.KnownBytes.{Appends}
@@ -22,7 +22,7 @@ use Rattle.robots_verdict.proofs.InputLemmas.{not_both, one_split}
 
 -- ---- the report
 
--- what is written line after line is the text of the report
+-- writing the delay line, the sitemap lines and the verdict lines writes the report
 pub text_made : (agent : List ℕ) (urls : List (List ℕ)) (file one two text : List ℕ)
     (robot : RobotValue)
     → IsRobotOf agent (lines_read file) robot → one ≡ ended (delay_line robot.delay ∷ [])
@@ -43,7 +43,7 @@ text_made agent urls file one two text robot is first second last =
           ∙ sym (ended-append delay (sitemaps ++ last.lines));
     }
 
--- ---- one report
+-- ---- uniqueness
 
 text_once : (agent : List ℕ) (urls : List (List ℕ)) (file text other : List ℕ)
     → IsReportText agent urls file text
@@ -57,7 +57,7 @@ text_once agent urls file text other one two =
     two.verdicts)
     ∙ sym two.whole
 
--- a fact of one split holds of the other
+-- a property of one split also holds for any other split of the input, since they are equal
 same_split : (P : List ℕ → List (List ℕ) → List ℕ → Type 0) (input agent other : List ℕ)
     (urls others : List (List ℕ)) (file rest : List ℕ)
     → IsInput input agent urls file → IsInput input other others rest → P other others rest

@@ -1,4 +1,4 @@
--- How values that are allowed are kept and found.
+-- The set of values that an Allow has, and how conflicting rules are found in it.
 use Rattle.std.proofs.Common.{◌≡◌, ℕ, ◌+◌, ◌<◌, ◌==◌, ◌||◌, ◌&&◌, Bool, true}
 use Rattle.std.proofs.Common.{false, cond, List, [], ◌∷◌, ◌++◌, ap, append_assoc, bytes_eq}
 use Rattle.std.proofs.Common.{drop, filter, if◌then◌else◌}
@@ -14,7 +14,7 @@ use Rattle.robots_warnings.specs.declared.conflicts.ScopedRule.{ScopedRule}
 use Rattle.robots_warnings.specs.Conflicts.{Scoped, allows, both_among, is_allowed_too, scoped_by_value}
 use Rattle.robots_warnings.specs.Internal.Conflicts.{AddsAllowed, HasAllowed, Key, key_cmp}
 
--- two keys are tied if their scopes and their values are the same
+-- two keys compare as equal exactly if their scopes and their values are equal
 tied : (one two : Key) → is_eq (key_cmp one two) ≡ (one.0 == two.0 && bytes_eq one.1.now two.1.now)
 tied one two =
     sym (both_tied _ _ _ _ (unsigned_ties one.0 two.0) (sym (is_eq-slice_cmp one.1.now two.1.now)))
@@ -25,7 +25,7 @@ either true false = refl
 either false true = refl
 either false false = refl
 
--- an Allow's scope and value were put into a set
+-- inserting the scope and the value of an Allow makes the set that `AddsAllowed` describes
 pub allowed_added : (old new : BTreeSet Key) (rule : ScopedRule) → rule.is_allow ≡ true
     → Updates key_cmp old new (rule.scope, rule.value) true → AddsAllowed old new rule
 allowed_added old new rule is updates = record {
@@ -36,7 +36,7 @@ allowed_added old new rule is updates = record {
       ∙ either has same ∙ ap (λ (t : Bool). has || (t && same)) (sym is);
 }
 
--- one rule more
+-- loop step: the set covers one more rule
 pub has_more : (rules : List ScopedRule) (at : ℕ) (rule : ScopedRule) (old new : BTreeSet Key)
     → at < length rules → HasAllowed old (take at rules)
     → AddsAllowed old new (slice_index_or rules at rule) → HasAllowed new (take (at + 1) rules)
@@ -52,7 +52,7 @@ any-map : (test : Scoped → Bool) (rules : List ScopedRule)
 any-map test [] = refl
 any-map test (rule ∷ rules) = ap (λ is. test (scoped_by_value rule) || is) (any-map test rules)
 
--- what the set says of a rule is what all rules say
+-- looking up a Disallow in the set finds whether some rule in its scope allows the same value
 pub found_by : (allowed : BTreeSet Key) (rules : List ScopedRule) (rule : ScopedRule)
     → HasAllowed allowed rules
     → (not rule.is_allow && contains key_cmp allowed (rule.scope, rule.value))
@@ -61,14 +61,14 @@ found_by allowed rules rule has =
     ap (λ is. not rule.is_allow && is)
     (has.each (rule.scope, rule.value) ∙ any-map (allows rule.scope rule.value.now) rules)
 
--- the numbers of one item more, if it is taken
+-- the line numbers found in a list whose first item is included only if `cause` holds
 pub picked : {X : Type 0} (number : X → ℕ) (cause : Bool) (x : X) (xs : List X)
     → map number (cond cause (x ∷ xs) xs)
     ≡ (if cause then number x ∷ [] else []) ++ map number xs
 picked number true x xs = refl
 picked number false x xs = refl
 
--- the numbers from one place on, by the rule there
+-- the line numbers from index `at` on, in terms of the rule there
 pub both_from : (all : List Scoped) (rules : List ScopedRule) (at : ℕ) (rule : ScopedRule)
     → at < length rules
     → both_among all (map scoped_by_value (drop at rules))
@@ -81,7 +81,7 @@ both_from all rules at rule below =
     (is_allowed_too all (scoped_by_value (slice_index_or rules at rule))) _
     (filter (is_allowed_too all) (map scoped_by_value (drop (at + 1) rules))))
 
--- a rule was looked at
+-- loop step: after one more rule, the numbers found so far and the remaining ones are the same list
 pub numbers_more : (rules : List ScopedRule) (at : ℕ) (rule : ScopedRule) (allowed : BTreeSet Key)
     (old new whole : List ℕ) (cause : Bool) → at < length rules → HasAllowed allowed rules
     → cause ≡ (not (slice_index_or rules at rule).is_allow && contains key_cmp allowed

@@ -1,10 +1,10 @@
--- The bytes of a line, one after another.
+-- How the bytes of a line are examined.
 use Rattle.std.proofs.Common.{◌≡◌, ℕ, ◌+◌, ◌<◌, ◌==◌, ◌||◌, ◌&&◌, List}
 use Rattle.std.proofs.Common.{drop, length, refl, slice_index_or}
 use Rattle.std.proofs.lemmas.List.{drop_more}
 use Rattle.robots_warnings.specs.File.{hash, is_blank, space, tab}
 
--- whether a body is blank from one place on, by its byte there
+-- whether a line is empty or a comment from index `at` on, in terms of the byte there
 pub blank_at : (body : List ℕ) (at byte : ℕ) → at < length body
     → is_blank (drop at body)
     ≡ (slice_index_or body at byte == hash

@@ -1,4 +1,4 @@
--- Sets of names.
+-- Sets of product tokens.
 use Rattle.std.proofs.Common.{◌≡◌, ◌||◌, Bool, cond, true, ℕ, List, [], ◌∷◌, ◌++◌, ap}
 use Rattle.std.proofs.Common.{bytes_eq, not, ◌∙◌}
 use Rattle.std.specs.BTreeSet.{BTreeSet, Updates, contains}
@@ -10,7 +10,7 @@ use Rattle.std.proofs.lemmas.Map.Text.{is_eq-slice_cmp}
 use Rattle.robots_warnings.specs.Internal.Names.{AddsName, Key, key_cmp}
 use Rattle.robots_warnings.proofs.BothWaysLemmas.{either}
 
--- a name was put into a set
+-- inserting a name in lower case makes the set that `AddsName` describes
 pub name_added : (old new : BTreeSet Key) (lowered : Key) (name : List ℕ) (is_new : Bool)
     → lowered.items ≡ str_to_ascii_lowercase name → is_new ≡ not (contains key_cmp old lowered)
     → Updates key_cmp old new lowered true → AddsName old new name is_new
@@ -26,7 +26,7 @@ name_added old new lowered name is_new spells is updates = record {
       ∙ ap (λ (items : List ℕ). has || bytes_eq items key.items) spells;
 }
 
--- a test of one item more
+-- whether a test holds for some item of a list with one more item
 pub any_last : {X : Type 0} (test : X → Bool) (xs : List X) (x : X)
     → list_any test (xs ++ x ∷ []) ≡ (list_any test xs || test x)
 any_last test xs x =

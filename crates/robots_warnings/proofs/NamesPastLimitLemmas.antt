@@ -13,7 +13,7 @@ use Rattle.robots_warnings.specs.NamesPastLimit.{is_past_limit}
 use Rattle.robots_warnings.specs.Internal.Names.{HasNames, IsFoundUpto, Key, MeetsLine, past_limit_from}
 use Rattle.robots_warnings.proofs.BothWaysLemmas.{picked}
 
--- the names of one line more that was read
+-- loop step: the set has the names of one more line within the size limit
 pub read_more : (labels : List LabeledLine) (at : ℕ) (labeled : LabeledLine) {old new : BTreeSet Key} {is_new : Bool}
     → at < length labels → HasNames old (lines_of (map label_by_value (take at labels)))
     → MeetsLine old new (by_value (slice_index_or labels at labeled).line) is_new
@@ -21,7 +21,7 @@ pub read_more : (labels : List LabeledLine) (at : ℕ) (labeled : LabeledLine) {
 read_more labels at labeled below has meets =
     rw (take_more labels at labeled below) (simp (map-append, map-append) (meets.has _ has))
 
--- a line was passed, and its number taken if its name was new
+-- loop step: one more line was examined, and its number was taken if its name is new
 pub found_more : {read : List LineValue} {file : List ℕ} {index : ℕ} {line : LineValue} {left : List LineValue}
     {met new_met : BTreeSet Key} {old new : List ℕ} {is_new : Bool}
     → IsFoundUpto read file met old index (line ∷ left) → MeetsLine met new_met line is_new

@@ -1,4 +1,4 @@
--- How positions are looked at.
+-- How the positions of lines are examined.
 use Rattle.std.proofs.Common.{◌≡◌, ℕ, ◌+◌, ◌<◌, List, drop, length, map, refl}
 use Rattle.std.proofs.Common.{slice_index_or}
 use Rattle.std.proofs.lemmas.List.{drop_more}
@@ -7,7 +7,7 @@ use Rattle.texting_robots.specs.declared.labels.LabeledLine.{LabeledLine}
 use Rattle.texting_robots.specs.Callers.{label_by_value}
 use Rattle.robots_warnings.specs.Positions.{group_number, last_group}
 
--- the number of the last rule or delay from one place on, by the line there
+-- the number of the last rule or delay from index `at` on, in terms of the line there
 pub last_from : (labels : List LabeledLine) (at : ℕ) (labeled : LabeledLine) → at < length labels
     → last_group (map label_by_value (drop at labels))
     ≡ option_or (last_group (map label_by_value (drop (at + 1) labels)))

@@ -1,4 +1,4 @@
--- Warnings hold nothing that could control a terminal.
+-- Warnings contain no control or bidirectional-formatting characters other than LF.
 use Rattle.std.proofs.Common.{◌≡◌, ℕ, zero, suc, true, List, [], ◌∷◌, ◌++◌, Option, Some, None, Bool, map}
 use Rattle.std.proofs.Common.{refl}
 use Rattle.std.{specs.List.list_all, specs.Prelude.slice_index_or, proofs.lemmas.Bool.and_parts}
@@ -14,11 +14,11 @@ use Rattle.robots_io.proofs.SanitizeLemmas.{sanitized_printable}
 
 -- ---- the table
 
--- printable ASCII
+-- all bytes are printable ASCII (or LF)
 abbrev is_ascii : List ℕ → Bool
 is_ascii text = list_all (is_printable_byte true) text
 
--- each of these texts, and no text in place of one that is missing
+-- if all the strings are printable ASCII, then so is the one at any index (past the end it is empty)
 each_ascii : (texts : List (List ℕ)) (at : ℕ) → list_all is_ascii texts ≡ true
     → is_ascii (slice_index_or texts at []) ≡ true
 each_ascii [] at all = refl

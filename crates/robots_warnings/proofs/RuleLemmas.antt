@@ -1,16 +1,17 @@
--- How a rule is looked through.
+-- How the value of a rule is examined.
 use Rattle.std.proofs.Common.{◌≡◌, ℕ, ◌+◌, ◌<◌, ◌==◌, ◌||◌, Bool, List, [], ◌∷◌}
 use Rattle.std.proofs.Common.{arith, drop, length, refl, slice_index_or}
 use Rattle.std.proofs.lemmas.List.{drop_more}
 use Rattle.robots_warnings.specs.Rules.{holds_otherwise, is_written_otherwise, somewhere}
 
--- whether a test holds somewhere in a text, by the text and what follows its first byte
+-- whether a test holds at some suffix of a string: at the string itself, or at a suffix of all but its first
+-- byte
 pub somewhere_next : (test : List ℕ → Bool) (text : List ℕ) → 0 < length text
     → somewhere test text ≡ (test text || somewhere test (drop 1 text))
 somewhere_next test [] some = absurd (omega arith)
 somewhere_next test (b ∷ text) some = refl
 
--- whether a value holds such a byte from one place on, by its byte there
+-- whether a value has a byte that URLs write otherwise, from index `at` on, in terms of the byte there
 pub otherwise_at : (in_query : Bool) (value : List ℕ) (at byte : ℕ) → at < length value
     → holds_otherwise in_query (drop at value)
     ≡ (is_written_otherwise in_query (slice_index_or value at byte)

@@ -12,7 +12,7 @@ use Rattle.robots_warnings.specs.declared.table.TheConstants.{WARNINGS}
 use Rattle.robots_warnings.specs.Table.{number_of}
 use Rattle.robots_warnings.specs.Internal.{IsRowAt, Row}
 
--- what a row has at its place among what all rows have
+-- a field of the row at an index is at the same index in the list of that field of all rows
 at_place : {X : Type 0} (part : Row → X) (rows : List Row) (at : ℕ) (row : Row) (other : X)
     → slice_get rows at ≡ Some row → slice_index_or (map part rows) at other ≡ part row
 at_place part [] at row other found = cc
@@ -23,7 +23,7 @@ pub part_at : {X : Type 0} (part : Row → X) {rows : List Row} {at : ℕ} {row 
     → IsRowAt rows at row → slice_index_or (map part rows) at other ≡ part row
 part_at part {rows} {at} {row} other is = at_place part rows at row other is.found
 
--- in a table in the order of the numbers, the row at a warning's number is its own
+-- if the rows are in the order of the warnings' numbers, the row at a warning's number is that warning's row
 pub own_row : {rows : List Row} {row : Row} (cause : Cause) → IsRowAt rows (number_of cause) row
     → map (λ (row : Row). number_of row.0) rows ≡ range_with_len 0 (length WARNINGS) → row.0 ≡ cause
 own_row {row} cause is order =

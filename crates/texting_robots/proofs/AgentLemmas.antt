@@ -1,4 +1,4 @@
--- Lines that can't be user-agent lines are told by pairs of neighbouring bytes.
+-- Pairs of adjacent bytes show where no user-agent line can begin, so that the code may skip those bytes.
 use Rattle.std.proofs.Common.{◌≡◌, ◌⊎◌, ℕ, zero, suc, ◌+◌, ◌<◌, Bool, true, false}
 use Rattle.std.proofs.Common.{List, [], ◌∷◌, length, take, drop, map, sym, refl, ap, ◌∙◌, arith}
 use Rattle.std.proofs.Common.{Some, None}
@@ -16,7 +16,7 @@ use Rattle.texting_robots.proofs.CutFromFront.{bodies_nil, first_line, next_body
 use Rattle.texting_robots.proofs.LineLemmas.{agent_or_other, kind_is}
 use Rattle.texting_robots.specs.declared.parser.statement.Kind.TheVariants as kind
 
--- ---- a body that doesn't begin as a user-agent line
+-- ---- line content that doesn't begin as a user-agent line does
 
 abbrev IsOther : List ℕ → Type 0
 IsOther [] = Unit {0}
@@ -42,7 +42,7 @@ pub no_agent : (line : LineValue) (name : List ℕ) → is_agent line ≡ false
 no_agent (UserAgent value) name other = cc
 no_agent _ name other = refl
 
--- what may not begin is neither a blank nor the letter
+-- a byte that can't begin a user-agent line is neither a space, a tab, `U` nor `u`
 begins_no : (b : ℕ) → may_begin b ≡ false
     → ((b == space) ≡ false) × ((b == tab) ≡ false) × ((b == 85) ≡ false) × ((b == 117) ≡ false)
 begins_no b other = parts (b == space) (b == tab) (b == 85) (b == 117) other
@@ -72,7 +72,7 @@ names_none name body other = elim (agent_or_other _ _ (kind_is body)) [
   | inr none ↦ no_agent _ name none
 ]
 
--- ---- a byte in front
+-- ---- adding a byte at the start
 
 abbrev names_in : List ℕ → List Pair → Bool
 names_in name pairs = list_any (is_agent_named name) (map line_of (map (λ (p : Pair). p.body) pairs))
@@ -81,7 +81,8 @@ abbrev names_after : List ℕ → List Pair → Bool
 names_after name pairs =
     list_any (is_agent_named name) (drop 1 (map line_of (map (λ (p : Pair). p.body) pairs)))
 
--- a byte in front of a pair adds no line that names the agent, unless it ends one where the pair may begin
+-- adding a byte at the start of a pair adds no later line that names the crawler, unless the byte is CR or LF
+-- and the pair may begin a user-agent line
 module _ (name : List ℕ) (body ending : List ℕ) (more : List Pair) where
   first_none : IsOther body → names_in name (pair_of body ending ∷ more) ≡ names_in name more
   first_none other = ap (λ x. x || names_in name more) (names_none name body other)
@@ -153,7 +154,7 @@ pub later_lines : (name : List ℕ) (n : Bool) (rest : List ℕ) → 0 < length 
     ≡ is_named_later name n rest)
 later_lines name n rest some = rw (next_body n rest some) refl
 
--- a line and its end aren't empty
+-- a line and its terminator together aren't empty
 pub advances : (n : Bool) (rest : List ℕ) → 0 < length rest
     → (let k = body_len (read_as n rest) in 0 < k + end_len (read_as n (drop k rest)))
 advances n [] some = absurd (omega (arith, some))

@@ -1,4 +1,5 @@
--- What `url` reads of a plain URL, and what is found in one from its front.
+-- How `url` parses an absolute URL in normal form, and what the code finds by reading such a URL from its
+-- start.
 use Rattle.std.proofs.Common.{◌≡◌, ℕ, ◌<◌, ◌&&◌, ◌||◌, ◌==◌, Bool, true, false, not}
 use Rattle.std.proofs.Common.{List, [], ◌∷◌, ◌++◌, All, IfSome, None, Ok, Option, Some, codes}
 use Rattle.std.proofs.Common.{decimal, drop, get_or, length, sym, refl, ap, ◌∙◌, subst, inl, inr}
@@ -70,7 +71,7 @@ module _ (delimiter : ℕ) (part : List ℕ) (set : AsciiSet)
 
 -- ---- the host
 
--- a label that begins with a letter is no number
+-- a label that begins with a letter isn't a number
 no_number : (label : List ℕ) → is_ascii_lowercase (slice_index label 0) ≡ true
     → (not (is_empty label) && list_all is_ascii_digit label || is_number (parse_number label))
     ≡ false
@@ -103,14 +104,14 @@ domain_of (b ∷ host) name =
       omega arith,
     )
 
--- ---- the parts
+-- ---- the parts of a URL
 
 port_text : (port : Option ℕ) → with_delimiter (codes ":") (option_map decimal port)
     ≡ when (is_some port) (codes ":") ++ (unwrap_or (option_map decimal port) [] ++ [])
 port_text None = refl
 port_text (Some n) = sym (append-nil _)
 
--- the parts of a site
+-- the parts of a site (scheme, host and port)
 record SiteOf (site : List ℕ) : Type 0 where
   scheme : List ℕ
   host : List ℕ
@@ -189,7 +190,7 @@ tail_text None (Some fragment) = simp append-nil
 tail_text (Some query) None = simp append-nil
 tail_text (Some query) (Some fragment) = simp append-nil
 
--- the target stands at the end of a URL's text
+-- the match target is the end of a serialized URL
 pub target_last : (u : Parts) → serialize u ≡ text_before u BeforePath ++ target_of u
 target_last u = simp (append_assoc, append-nil, ← tail_text u.query u.fragment)
 
@@ -198,7 +199,7 @@ prepared_parsed : (url : List ℕ) (u : Parts) → 0 < length url → parse_url 
 prepared_parsed [] u some parsed = absurd (omega arith)
 prepared_parsed (b ∷ text) u some parsed = rw (parsed, prepared) refl
 
--- what rules are matched with stands behind the site
+-- the match target of such a URL is what follows the site
 pub prepared_plain : (url target : List ℕ) → Leaves IsSite url target → (is : IsTarget target)
     → 0 < length is.path → prepared url ≡ target
 prepared_plain url target (front, assembled, is_site) is some =
@@ -215,7 +216,7 @@ prepared_plain url target (front, assembled, is_site) is some =
     let parsed = ap (parse_url None) text ∙ parse_url-serialize_special u None is_valid site.kind in
     prepared_parsed url u long parsed ∙ sym written
 
--- ---- a site alone
+-- ---- a site without a path
 
 abbrev is_visible : ℕ → Bool
 is_visible b = nat_lt 32 b && not (b == 35) && not (b == 63)
@@ -223,7 +224,7 @@ is_visible b = nat_lt 32 b && not (b == 35) && not (b == 63)
 abbrev Visible : List ℕ → Type 0
 Visible = All (Passes is_visible)
 
--- the parser takes nothing off such a text
+-- parsing removes no bytes from such a string
 clean : (text : List ℕ) → Visible text
     → strip_tabs_and_new_lines (trim_c0_control_and_space text) ≡ text
 unfolding strip_tabs_and_new_lines trim_c0_control_and_space
@@ -254,7 +255,7 @@ module _ (front : List ℕ) (site : SiteOf front) where
   abbrev authority : List ℕ
   authority = text_between alone BeforeUsername AfterPort
 
-  -- the authority is cut off where a slash or nothing follows
+  -- the authority ends at a slash or at the end
   by_end : (more : List ℕ) → StopsAt (λ b. not (is_slash (kind_of alone) b)) more
       → after_double_slash site.scheme (skip_slashes (47 ∷ 47 ∷ (authority ++ more)))
       ≡ and_then (parse_authority site.scheme authority)
@@ -310,7 +311,7 @@ module _ (front : List ℕ) (site : SiteOf front) where
       ∙ ap (λ (v : Parts). Ok (with_tail v None None))
       (before_special (without_tail alone) None None (ap is_special site.kind))
 
--- only the slash of the path is missing behind a site alone
+-- the match target of a site without a path is `/`, which `url` adds
 pub prepared_alone : (front : List ℕ) → IsSite front → prepared front ≡ codes "/"
 prepared_alone front is_site =
     let site = site_of front is_site in
@@ -355,7 +356,7 @@ module _ (target : List ℕ) (is : IsTarget target) where
       by [] same = absurd (not_ended target slash (subst EndsPath (sym same) tail_ends))
       by (b ∷ path) same = omega arith
 
--- what was read from the front
+-- what was read from the start is a match target in normal form
 pub target_read : (target tail rest end : List ℕ) → Leaves IsPath target tail
     → rest ≡ after_delimited 63 QUERY.now tail → end ≡ after_delimited 35 TAIL.now rest → end ≡ []
     → IsTarget target

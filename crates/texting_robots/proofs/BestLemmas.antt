@@ -1,4 +1,5 @@
--- For each text some rule decides, or none matches; and a pattern matches a text or not. Both are computed.
+-- For each text either some rule decides or no rule matches, and a pattern matches a text or doesn't.
+-- Functions compute both.
 use Rattle.std.proofs.Common.{◌≡◌, ◌≢◌, ◌⊎◌, inl, inr, ℕ, zero, suc, cond, not, nat_lt}
 use Rattle.std.proofs.Common.{◌≤◌, Bool, true, false, ◌==◌, ◌&&◌, ◌||◌, List, [], ◌∷◌}
 use Rattle.std.proofs.Common.{◌++◌, length, Option, Some, None, option_map, refl, sym, ap, subst}
@@ -15,18 +16,19 @@ use Rattle.texting_robots.specs.Rules.{PlacedRule, Rule, unplaced}
 use Rattle.texting_robots.specs.{Internal.Entries.rank, Verdict.IsVerdict, Verdict.robots_file}
 use Rattle.texting_robots.proofs.PatternLemmas.{none_left}
 
--- it holds, or it doesn't
+-- the proposition holds or doesn't
 abbrev pub Either : Type 0 → Type 0
 Either P = P ⊎ (¬ P)
 
 -- ---- matching
 
--- some end of the text passes
+-- some suffix of the text passes
 abbrev some_end : (List ℕ → Bool) → List ℕ → Bool
 some_end test [] = test []
 some_end test (x ∷ t) = test (x ∷ t) || some_end test t
 
--- the text is empty, and this holds; or the byte stands first, and what follows passes
+-- `at_end`: the text is empty, and `passes` is true; `following`: the text begins with the byte, and the rest
+-- passes
 abbrev at_end : Bool → List ℕ → Bool
 at_end passes [] = passes
 at_end passes (x ∷ t) = false
@@ -35,7 +37,7 @@ abbrev following : ℕ → (List ℕ → Bool) → List ℕ → Bool
 following b test [] = false
 following b test (x ∷ t) = (x == b) && test t
 
--- whether the pattern matches the text, computed
+-- whether the pattern matches the text, as a function
 abbrev pub matches : Bool → List ℕ → List ℕ → Bool
 matches anchors [] t = true
 matches anchors (b ∷ q) t =
@@ -87,7 +89,7 @@ matches_decides anchors (b ∷ q) t = elim (cases_Bool (b == star)) [
 
 -- ---- rules with and without their lines
 
--- a rule without its line is that of some rule with one
+-- a rule without its line belongs to some rule with its line
 pub placed_of : (rules : List PlacedRule) (rule : Rule) → Contains (unplaced rules) rule
     → (placed : PlacedRule) × Contains rules placed × (placed.rule ≡ rule)
 placed_of [] rule (k, below, at) = absurd (omega arith)
@@ -107,12 +109,12 @@ unplaced_of rules placed (k, below, at) =
 abbrev pub rank_of : PlacedRule → ℕ
 rank_of placed = rank (length placed.rule.0) placed.rule.1
 
--- the first rule ranks higher, or as high and stands on no later line
+-- the first rule ranks higher; or both rank the same, and its line isn't later
 pub record IsPreferred (first second : PlacedRule) : Type 0 where
   pub higher : rank_of second ≤ rank_of first
   pub earlier : rank_of second ≡ rank_of first → first.line ≤ second.line
 
--- whether the first is preferred, computed; else the second is
+-- whether the first rule is preferred, as a function; if not, the second is
 abbrev prefers : PlacedRule → PlacedRule → Bool
 prefers first second =
     cond (rank_of first == rank_of second) (not (nat_lt second.line first.line))
@@ -139,7 +141,7 @@ preferred_trans first second third one two =
       earlier = λ same. omega (arith, one.earlier (omega arith), two.earlier (omega arith));
     }
 
--- of two rules the one that ranks higher is as long
+-- a rule that ranks at least as high is at least as long
 no_longer : (m n : ℕ) (a b : Bool) → rank n b ≤ rank m a → n ≤ m
 no_longer m n a b h = grind (arith, nat_tests)
 
@@ -154,7 +156,7 @@ better_isnt_after first second is (inr (same, inl (allows, denies))) =
 better_isnt_after first second is (inr (same, inr (kinds, sooner))) =
     let after = is.earlier (rw (same, kinds) refl) in omega arith
 
--- this rule matches, and is preferred to each that matches
+-- if the other rule matches the text, this rule is preferred to it
 abbrev pub IsAbove : List ℕ → PlacedRule → PlacedRule → Type 0
 IsAbove text placed other = Matches other.rule.0 text → IsPreferred placed other
 
@@ -172,7 +174,7 @@ best_decides rules text placed is = record {
       (All-contains (IsAbove text placed) rules other is.best listed matches);
 }
 
--- the rule that decides is as long as each that matches
+-- the deciding rule is at least as long as each rule that matches
 pub deciding_longest : (rules : List PlacedRule) (text : List ℕ) (placed other : PlacedRule)
     → IsDecidingRule rules text placed → Contains rules other → Matches other.rule.0 text
     → length other.rule.0 ≤ length placed.rule.0
@@ -182,7 +184,7 @@ deciding_longest rules text placed other decides listed matches =
       | inr most ↦ most
     ]
 
--- the rule that decides gives the verdict
+-- the deciding rule gives the verdict
 pub verdict_by : (rules : List PlacedRule) (text : List ℕ) (placed : PlacedRule) (answer : Bool)
     → IsDecidingRule rules text placed → placed.rule.1 ≡ answer → text ≢ robots_file
     → IsVerdict (unplaced rules) text answer
@@ -206,7 +208,7 @@ verdict_by rules text placed false decides deny other = (
       ],
 )
 
--- where no rule matches, the answer is yes
+-- no rule matches the text (then the verdict is "allowed")
 abbrev pub NoMatch : List PlacedRule → List ℕ → Type 0
 NoMatch rules text = (placed : PlacedRule) → Contains rules placed → ¬ Matches placed.rule.0 text
 
@@ -216,7 +218,7 @@ none_denies rules text none (other, p, splits, matches, longest) =
     let (found, listed, rule) = placed_of rules (p, false) splits in
     none found listed (rw rule matches)
 
--- the best rule of those that match, computed
+-- the best of the rules that match, as a function
 abbrev before : PlacedRule → Option PlacedRule → PlacedRule
 before rule None = rule
 before rule (Some placed) = cond (prefers rule placed) rule placed
@@ -272,7 +274,7 @@ best_is text (rule ∷ rules) = elim (cases_Bool (matches true rule.rule.0 text)
 
 -- ---- the verdict and the line
 
--- the rule that decides, computed; the verdict that it gives, and its line
+-- the deciding rule as a function, with its verdict and its line
 abbrev pub deciding_rule : List PlacedRule → List ℕ → Option PlacedRule
 deciding_rule rules text = cond (bytes_eq text robots_file) None (best_of text rules)
 
@@ -283,7 +285,7 @@ allowed_by (Some placed) = placed.rule.1
 abbrev pub line_by : Option PlacedRule → Option ℕ
 line_by found = option_map (λ (placed : PlacedRule). placed.line) found
 
--- a verdict, and the line that it comes from
+-- the verdict and the deciding line that follow from this rule, or from none
 abbrev pub IsAnsweredBy : Option PlacedRule → List PlacedRule → List ℕ → Type 0
 IsAnsweredBy found rules text =
     IsVerdict (unplaced rules) text (allowed_by found) × IsDecidingLine rules text (line_by found)
@@ -307,7 +309,7 @@ answered rules text = elim (cases_Bool (bytes_eq text robots_file)) [
         let decides = best_decides rules text placed is in
         (verdict_by rules text placed placed.rule.1 decides refl differs, (differs, placed, decides, refl))
 
--- each text has a verdict and a line that it comes from
+-- each text has a verdict and a deciding line, or no line that decides
 pub record Answered (rules : List PlacedRule) (text : List ℕ) : Type 0 where
   pub allowed : Bool
   pub number : Option ℕ

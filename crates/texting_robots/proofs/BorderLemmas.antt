@@ -1,7 +1,8 @@
--- One search for two tasks: a piece is looked for in a text, and in itself from 1 on, which gives borders.
--- `position` is the next place of the text to look at, and `matched` bytes before it agree with the piece.
--- That the leftmost place of a piece loses no match is `first_is_enough` of PlacingLemmas; how many looks a
--- search takes is in the invariant of `find`.
+-- The Knuth-Morris-Pratt search. It serves two tasks: a segment is searched for in a text, and in itself from
+-- offset 1 on, which gives the borders of its prefixes. `position` is the next offset of the text to compare,
+-- and the `matched` bytes before it agree with the segment. That the leftmost occurrence of a segment loses
+-- no match is `first_is_enough` of PlacingLemmas; how many looks a search takes is in the invariant of
+-- `find`.
 use Rattle.std.proofs.Common.{◌≡◌, ◌≢◌, ◌↔◌, ⊎_elim, ℕ, ◌+◌, ◌-◌, ◌<◌}
 use Rattle.std.proofs.Common.{◌≤◌, Some, None, List, [], ◌∷◌, ◌++◌, length, get_or, sym, ap}
 use Rattle.std.proofs.Common.{subst, subst₂, ◌∙◌, arith, append_assoc}
@@ -10,8 +11,8 @@ use Rattle.std.proofs.lemmas.List.{get_or_append_left, get_or_push, get_or-appen
 use Rattle.memchr.specs.Find.{FindsNeedle, Nowhere, OccursAt}
 use Rattle.texting_robots.specs.Internal.Border.{Agrees, AreBorders, IsLongestBorder}
 
--- From low on, the place `matched` bytes back is the first that is still open: there the piece agrees with
--- the text up to `position`, and at each place before it disagrees with the text before `end`.
+-- The first offset from `low` on where the segment may still occur is `position - matched`. There it agrees
+-- with the text up to `position`, and at each earlier offset it disagrees with the text before `end`.
 pub record IsFirstOpen (text segment : List ℕ) (low end position matched : ℕ) : Type 0 where
   pub following : low + matched ≤ position
   pub agrees : Agrees text segment (position - matched) position
@@ -20,7 +21,8 @@ pub record IsFirstOpen (text segment : List ℕ) (low end position matched : ℕ
 byte_at : (text : List ℕ) {i j : ℕ} → i ≡ j → get_or text i 0 ≡ get_or text j 0
 byte_at text = ap (λ position. get_or text position 0)
 
--- Where len bytes of the piece are read, it agrees farther on just as it agrees with itself.
+-- Where the text agrees with the first `len` bytes of the segment at `at`, the segment agrees with the text
+-- `far` bytes later exactly if it agrees with itself there.
 module _ (text segment : List ℕ) (at far there len end : ℕ) where
   agrees_farther : there ≡ at + far → end ≡ at + len → len ≤ length segment
       → Agrees text segment at end
@@ -36,7 +38,7 @@ module _ (text segment : List ℕ) (at far there len end : ℕ) where
 
 module _ {text segment : List ℕ} where
   module _ {low end position matched : ℕ} (first : IsFirstOpen text segment low end position matched) where
-    -- With more of the text a closed place stays closed.
+    -- An offset that is ruled out stays ruled out when more of the text is considered.
     pub open_farther : (later : ℕ) → end ≤ later → IsFirstOpen text segment low later position matched
     open_farther later le = record {
       following = first.following;
@@ -66,7 +68,7 @@ module _ {text segment : List ℕ} where
           (λ here. differs (byte_at text (omega arith) ∙ agrees matched some (omega arith)))
           (cases_lt at (position - matched))
 
-      -- Nothing was matched: the next place is the first open one.
+      -- Nothing was matched: the next offset is the first one that is still possible.
       pub open_next : matched ≡ 0 → IsFirstOpen text segment low end (position + 1) matched
       open_next none =
           record {
@@ -75,7 +77,7 @@ module _ {text segment : List ℕ} where
             closed = λ at from before. closed_here at from (omega arith);
           }
 
-      -- A fallback to the longest border skips no place where the piece stands.
+      -- Falling back to the longest border skips no offset where the segment occurs.
       pub open_back : {border : ℕ} → IsLongestBorder segment matched border
           → IsFirstOpen text segment low end position border
       open_back {border} longest =
@@ -98,7 +100,7 @@ module _ {text segment : List ℕ} where
     open_before : Nowhere (OccursAt text segment) low (position - matched)
     open_before at from before occurs = first.closed at from before (λ k l m. occurs.reads k l)
 
-    -- All bytes agree, so the piece occurs here, and nowhere before.
+    -- All bytes agree: the segment occurs here, and nowhere before.
     pub open_found : matched ≡ length segment → position ≤ length text
         → FindsNeedle text segment low (Some (position - length segment))
     open_found all within =
@@ -107,14 +109,14 @@ module _ {text segment : List ℕ} where
           record { fits = omega arith; reads = λ k l. first.agrees k (omega arith) (omega arith) },
         )
 
-    -- The text is at its end, so it occurs nowhere.
+    -- The text is at its end: the segment doesn't occur.
     pub open_none : matched < length segment → position ≡ length text → FindsNeedle text segment low None
     open_none some last at from upto occurs =
         ⊎_elim (λ before. open_before at from before occurs) (λ l. omega arith)
         (cases_lt at (position - matched))
 
 module _ {segment : List ℕ} where
-  -- Where the piece is looked for in itself, the bytes matched are the longest proper border of the bytes
+  -- When the segment is searched for in itself, the matched bytes are the longest proper border of the bytes
   -- read.
   pub longest_border : {len border : ℕ} → IsFirstOpen segment segment 1 len len border
       → IsLongestBorder segment len border
@@ -137,7 +139,7 @@ module _ {segment : List ℕ} where
       subst (IsLongestBorder segment len) (sym old) (known len some (omega arith)))
       (cases_eq len (length table + 1))
 
--- The longest borders of the piece's beginnings of up to len bytes were added.
+-- The longest borders of the segment's prefixes of up to `len` bytes were appended.
 pub record AddsBorders (segment old now : List ℕ) (len : ℕ) : Type 0 where
   pub table : List ℕ
   pub added : now ≡ old ++ table
@@ -158,7 +160,7 @@ module _ {segment old now : List ℕ} {len : ℕ} (adds : AddsBorders segment ol
         borders = borders_push adds.table border adds.borders (rw long longest);
       }
 
-  -- Each entry of the table is the longest proper border of a beginning of its piece.
+  -- Each entry of the table is the longest proper border of a prefix of its segment.
   pub adds_entry : (count : ℕ) → 0 < count → count ≤ len → (at : ℕ)
       → at ≡ length old + count - 1
       → (entry : ℕ) → entry ≡ get_or now at entry → IsLongestBorder segment count entry

@@ -1,5 +1,5 @@
--- The longest borders of all beginnings of three pieces, to see what the definition comes to. The whole piece
--- is among them, which a table leaves out.
+-- The longest borders of all prefixes of three segments, as examples of the specification. They include the
+-- border of the complete segment, which a table leaves out.
 use Rattle.std.proofs.Common.{◌≡◌, ℕ, zero, suc, ◌+◌, ◌-◌, ◌<◌, nat_lt, ◌==◌, Bool}
 use Rattle.std.proofs.Common.{true, not, ◌&&◌, ◌||◌, inl, inr, List, [], ◌∷◌, length, codes}
 use Rattle.std.proofs.Common.{refl, arith}
@@ -9,7 +9,7 @@ use Rattle.std.proofs.lemmas.Bool.Decides.{Decides-and, Decides-below_and, Decid
 use Rattle.std.proofs.lemmas.Bool.Decides.{Decides-ltb, Decides-not, Decides-or}
 use Rattle.texting_robots.specs.Internal.Border.{Agrees, AreBorders, IsLongestBorder}
 
--- the test passes for each number below this one
+-- the test passes for each number below `n`
 abbrev all_below : (ℕ → Bool) → ℕ → Bool
 all_below test zero = true
 all_below test (suc n) = test n && all_below test n
@@ -18,7 +18,7 @@ below : (test : ℕ → Bool) (P : ℕ → Type 0) → ((k : ℕ) → Decides (t
     → Decides (all_below test n) ((k : ℕ) → k < n → P k)
 below test P each n = Decides-below_and test P (all_below test) each refl (λ _. refl) n
 
--- where the first holds, the second does
+-- if the first holds, so does the second
 if_then : {P Q : Type 0} (p q : Bool) → Decides p P → Decides q Q → Decides (not p || q) (P → Q)
 if_then p q first second = (
   λ h is. elim ((Decides-or (not p) q (Decides-not p first) second).0 h) [
@@ -61,7 +61,7 @@ longest_decides segment len border =
     (below _ _ (λ longer. if_then _ _ (Decides-ltb border longer)
     (Decides-not _ (agrees_decides segment (len - longer) len))) len)))
 
--- the test of a whole table
+-- the test of a complete table
 abbrev holds_borders : List ℕ → List ℕ → Bool
 holds_borders segment table =
     all_below (λ len. not (nat_lt 0 len) || is_longest segment len (slice_index table (len - 1)))

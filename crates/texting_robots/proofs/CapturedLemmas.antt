@@ -1,4 +1,4 @@
--- The walk along the lines says what the definition by places says.
+-- The code's state machine, `GroupTracker`, agrees with the specification, which uses indices of lines.
 use Rattle.std.proofs.Common.{◌≡◌, ◌↔◌, ◌≤◌, inl, inr, ℕ, zero, suc, ◌+◌, ◌<◌}
 use Rattle.std.proofs.Common.{nat_lt, Bool}
 use Rattle.std.proofs.Common.{true, false, not, ◌&&◌, ◌||◌, List, [], ◌∷◌, Option, Some, None}
@@ -18,25 +18,25 @@ use Rattle.texting_robots.specs.Internal.Captured.{is_captured, some_below}
 use Rattle.texting_robots.specs.Executable.{captured_delays, captured_lines, placed_in, rule_in, rules_for}
 use Rattle.texting_robots.specs.Internal.Group.{from_captured, if_captured, placed, start_of, step}
 
--- ---- tests of places: of agent lines, group lines and agent lines of the name
+-- ---- tests of indices: of user-agent lines, of group lines, and of user-agent lines with the name
 
--- a group line stands behind the first place, before the second
+-- a group line is after index `j` and before index `i`
 abbrev crossed : (ℕ → Bool) → ℕ → ℕ → Bool
 crossed G j i = some_below (λ k. nat_lt j k && G k) i
 
--- and an agent line behind it
+-- and a user-agent line is after that group line and before `i`
 abbrev broken : (ℕ → Bool) → (ℕ → Bool) → ℕ → ℕ → Bool
 broken A G j i = some_below (λ l. A l && crossed G j l) i
 
--- named since the last group line
+-- a line before `i` has the name, and no group line follows it
 abbrev open_at : (ℕ → Bool) → (ℕ → Bool) → ℕ → Bool
 open_at G N i = some_below (λ j. N j && not (crossed G j i)) i
 
--- named by a line that no agent line behind a group line parts from the place
+-- a line before `i` has the name, and no new run of user-agent lines begins after it
 abbrev named_at : (ℕ → Bool) → (ℕ → Bool) → (ℕ → Bool) → ℕ → Bool
 named_at A G N i = some_below (λ j. N j && not (broken A G j i)) i
 
--- ---- the test that computes decides the definition
+-- ---- the computed test decides the specification
 
 below_decides : (test : ℕ → Bool) (P : ℕ → Type 0) → ((k : ℕ) → Decides (test k) (P k))
     → (n : ℕ) → Decides (some_below test n) ((k : ℕ) × (k < n) × P k)
@@ -45,14 +45,14 @@ below_decides test P each n = Decides-below_or test P (some_below test) each ref
 pub itself : (b : Bool) → Decides b (b ≡ true)
 itself b = (λ h. h, λ h. h)
 
--- a place at which a test passes is that of a line
+-- an index at which a test passes is that of a line
 pub within : (test : LineValue → Bool) (lines : List LineValue) (k : ℕ)
     → passes_at test lines k ≡ true → k < length lines
 within test [] k h = cc
 within test (line ∷ lines) zero h = omega arith
 within test (line ∷ lines) (suc k) h = let less = within test lines k h in omega arith
 
--- whether one of the first lines passes, one line further
+-- whether one of the first `n + 1` lines passes, in terms of the first `n`
 pub any_next : (test : LineValue → Bool) (lines : List LineValue) (n : ℕ)
     → list_any test (take (suc n) lines) ≡ (passes_at test lines n || list_any test (take n lines))
 any_next test [] zero = refl
@@ -114,7 +114,7 @@ is_captured_decides name lines i =
     (named_decides (passes_at is_agent lines) (passes_at is_group lines)
     (passes_at (is_agent_named name) lines) i))
 
--- ---- one place further
+-- ---- the next index
 
 below_same : (f g : ℕ → Bool) (n : ℕ) → ((j : ℕ) → j < n → f j ≡ g j)
     → some_below f n ≡ some_below g n
@@ -135,7 +135,7 @@ not_broken : (A G : ℕ → Bool) (j i : ℕ) → i ≤ j + 1 → broken A G j i
 not_broken A G j i near =
     none_below (λ l. A l && crossed G j l) i (λ l less. and_right _ _ (not_crossed G j l (omega arith)))
 
--- what is broken is crossed
+-- a new run of user-agent lines only begins after a group line
 absorbed : (A G : ℕ → Bool) (j i : ℕ) → (crossed G j i || broken A G j i) ≡ crossed G j i
 absorbed A G j zero = refl
 absorbed A G j (suc i) = at (nat_lt j i && G i) (A i) (crossed G j i) (broken A G j i) (absorbed A G j i)
@@ -154,7 +154,7 @@ broken_next A G j i = at (A i)
     at true = absorbed A G j i
     at false = refl
 
--- the last place, or an earlier one
+-- the last index, or an earlier one
 here_or_before : (N : ℕ → Bool) (f g : ℕ → Bool) (i : ℕ) → f i ≡ false
     → ((j : ℕ) → j < i → f j ≡ g j)
     → some_below (λ j. N j && not (f j)) (suc i) ≡ (N i || some_below (λ j. N j && not (g j)) i)
@@ -185,7 +185,7 @@ open_next G N i =
     at true = ap (λ b. N i || b) (none_below _ i (λ j less. and-false (N j)))
     at false = refl
 
--- ---- the walk
+-- ---- the state machine
 
 abbrev pub open_in : List ℕ → List LineValue → ℕ → Bool
 open_in name lines i = open_at (passes_at is_group lines) (passes_at (is_agent_named name) lines) i
@@ -194,7 +194,7 @@ abbrev named_in : List ℕ → List LineValue → ℕ → Bool
 named_in name lines i =
     named_at (passes_at is_agent lines) (passes_at is_group lines) (passes_at (is_agent_named name) lines) i
 
--- the walk's state says what the definition says of this place
+-- the state agrees with the specification at this index
 pub record IsWalkAt (name : List ℕ) (lines : List LineValue) (i : ℕ) (tracker : GroupTracker) : Type 0 where
   pub captured : is_captured name lines i ≡ tracker.captured
   pub named : open_in name lines i ≡ tracker.named
@@ -202,7 +202,7 @@ pub record IsWalkAt (name : List ℕ) (lines : List LineValue) (i : ℕ) (tracke
 pub occurs_first : (name : List ℕ) (lines : List LineValue) → IsWalkAt name lines 0 (start_of lines)
 occurs_first name lines = record { captured = or-false _; named = refl }
 
--- the tests at the place are those of its line
+-- the tests at the next index, in terms of the line at this one
 named_on : (name : List ℕ) (lines : List LineValue) (i : ℕ) (line : LineValue)
     → slice_get lines i ≡ Some line
     → is_captured name lines (i + 1) ≡ (not (list_any is_agent lines)
@@ -266,7 +266,7 @@ pub kept_next : {X Y : Type 0} (keeps : Bool) (given : Y → Option X) (y : Y) (
 kept_next true given y ys = refl
 kept_next false given y ys = refl
 
--- the walk finds what the definition's captured lines give
+-- the state machine finds what the specification's captured lines give
 captured_left : {X : Type 0} (given : ℕ × LineValue → Option X) (name : List ℕ) (all : List LineValue)
     (tracker : GroupTracker) (position : ℕ) (lines : List LineValue)
     → IsWalkAt name all position tracker → drop position all ≡ lines
@@ -286,7 +286,7 @@ pub captured_walked : {X : Type 0} (given : ℕ × LineValue → Option X) (name
 captured_walked given name lines =
     captured_left given name lines (start_of lines) 0 lines (occurs_first name lines) refl
 
--- the same, where the places don't matter
+-- the same without the lines' indices
 abbrev pub given_captured : {X : Type 0} → (LineValue → Option X) → List ℕ → GroupTracker → List LineValue
     → List X
 given_captured given name tracker [] = []

@@ -1,4 +1,4 @@
--- The bodies of a text, byte by byte from its back. A CR LF and a LF end a line alike.
+-- The line contents of a text, computed byte by byte from its end. CR LF and LF end a line in the same way.
 use Rattle.std.proofs.Common.{◌≡◌, ℕ, false, ◌==◌, ◌&&◌, inl, inr, List, [], ◌∷◌}
 use Rattle.std.proofs.Common.{if◌then◌else◌, map, slice_index, arith, sym, refl, ap, ◌∙◌}
 use Rattle.std.proofs.Common.{◌↔◌}
@@ -10,7 +10,7 @@ use Rattle.texting_robots.specs.Internal.Line.{line_of, lines_of}
 use Rattle.texting_robots.proofs.CutLemmas.{byte_cases, cut_cons, pair_of}
 use Rattle.texting_robots.proofs.LineLemmas.{each_text_has_its_lines}
 
--- ---- the bodies of a text, from its back
+-- ---- the line contents of a text, from its end
 
 abbrev bodies_in : List Pair → List (List ℕ)
 bodies_in pairs = map (λ pair. pair.body) pairs
@@ -24,7 +24,7 @@ body_return [] = [] ∷ []
 body_return ([] ∷ bodies) = [] ∷ bodies
 body_return ((b ∷ body) ∷ bodies) = [] ∷ (b ∷ body) ∷ bodies
 
--- the bodies with one more byte in front
+-- the line contents after one more byte is added at the start
 abbrev pub body_step : ℕ → List (List ℕ) → List (List ℕ)
 body_step b bodies =
     if b == lf then [] ∷ bodies else (if b == cr then body_return bodies else body_byte b bodies)
@@ -54,7 +54,7 @@ with_step b pairs = elim (byte_cases b) [
 pub step : (b : ℕ) (text : List ℕ) → bodies_of (b ∷ text) ≡ body_step b (bodies_of text)
 step b text = ap bodies_in (cut_cons b text) ∙ with_step b (cut text)
 
--- a CR before an LF adds no body
+-- a CR before an LF adds no line
 return_before_feed : (b : ℕ) (text : List ℕ) → b ≡ cr → slice_index text 0 ≡ lf
     → bodies_of (b ∷ text) ≡ bodies_of text
 return_before_feed b [] return feed = absurd (omega (arith, feed))
@@ -76,7 +76,7 @@ feed_stays : (byte : ℕ) (text : List ℕ) → (lf == byte) ≡ false → slice
 feed_stays byte [] no_lf feed = refl
 feed_stays byte (c ∷ text) no_lf feed = cond-false _ _ _ (ap (λ x. x == byte) feed ∙ no_lf)
 
--- a byte that ends no line, taken off the front before or after
+-- dropping a leading byte that isn't CR or LF gives the same before and after CR LF is replaced by LF
 without_alone : (byte : ℕ) (text : List ℕ) → (lf == byte) ≡ false → (cr == byte) ≡ false
     → without byte (crlf_to_lf text) ≡ crlf_to_lf (without byte text)
 without_alone byte [] no_lf no_cr = refl

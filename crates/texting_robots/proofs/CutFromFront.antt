@@ -1,4 +1,4 @@
--- The cut read from the front: the first line of a text, and the lines of the rest.
+-- The cut of a text, read from its start: the first line, and the lines of the rest.
 use Rattle.std.proofs.Common.{◌≡◌, ◌≢◌, ℕ, zero, suc, ◌+◌, ◌%◌, ◌^◌, ◌<◌, ◌≤◌}
 use Rattle.std.proofs.Common.{Bool, true, false, ◌==◌, ◌||◌, inl, inr, List, [], ◌∷◌}
 use Rattle.std.proofs.Common.{length, take, drop, get_or, map, sym, refl, ap, ◌∙◌, arith, cond}
@@ -18,7 +18,7 @@ use Rattle.texting_robots.specs.Cut.{Pair, cr, lf}
 use Rattle.texting_robots.specs.Internal.Cut.{bodies_of, cut, body_len, end_len, read_byte, read_as}
 use Rattle.texting_robots.proofs.CutLemmas.{byte_cases, cut_cons, cut_nil, pair_of}
 
--- ---- the first pair
+-- ---- the first line
 
 abbrev pub after_body : List ℕ → List ℕ
 after_body text = drop (body_len text) text
@@ -26,7 +26,7 @@ after_body text = drop (body_len text) text
 abbrev pub after_end : List ℕ → List ℕ
 after_end text = drop (end_len text) text
 
--- what follows the first body and its end
+-- what follows the first line and its terminator
 abbrev pub rest_of : List ℕ → List ℕ
 rest_of text = after_end (after_body text)
 
@@ -69,7 +69,7 @@ bodies_nil = ap (map (λ (p : Pair). p.body)) cut_nil
 pub read_as_is : (text : List ℕ) → read_as false text ≡ text
 read_as_is text = map-id text
 
--- ---- an end, as a loop goes past it
+-- ---- skipping a terminator in a loop
 
 pub past_return : (n : Bool) (after : List ℕ)
     → drop (end_len (read_as n (cr ∷ after))) (cr ∷ after) ≡ drop (end_len (read_as n after)) after
@@ -104,9 +104,9 @@ no_end n b after not_cr not_lf = rw (not_lf, plain n) refl
     plain true = elim (cases_Bool (b == 0)) [ inl z ↦ rw z refl | inr nz ↦ rw nz (ne_eqb b cr not_cr) ]
     plain false = ne_eqb b cr not_cr
 
--- ---- the length of a body, as a search finds it
+-- ---- the length of a line, as a search finds it
 
--- the test passes the bytes that are read as CR or LF
+-- the test passes exactly those bytes that are read as CR or LF
 abbrev Ends : Bool → (ℕ → Bool) → Type 0
 Ends n test = (b : ℕ) → test b ≡ (read_byte n b == lf || read_byte n b == cr)
 
@@ -132,7 +132,7 @@ ends_with_nul b = elim (cases_Bool (b == 0)) [
   | inr other ↦ rw (other, or-false) (or_comm (b == cr) (b == lf))
 ]
 
--- what `memchr` finds
+-- the result of `memchr`
 pub body_found : (n : Bool) (test : ℕ → Bool) (text : List ℕ) (found : Option ℕ) → Ends n test
     → IsFirstByte test text found
     → (let len = body_len (read_as n text) in
@@ -141,7 +141,8 @@ body_found n test text None ends none = sym (body_by n test ends text) ∙ end_i
 body_found n test text (Some k) ends first =
     (sym (body_by n test ends text) ∙ position_is test text k first.0 first.1, first.0.high)
 
--- the front of a text, looked at for an end: there is one, or all of it is passed over
+-- searching only the first `k` bytes of a text: either they contain the end of the line, or they all belong
+-- to it
 pub front_seen : (n : Bool) (text : List ℕ) (k len : ℕ) → k ≤ length text
     → len ≡ body_len (read_as n (take k text))
     → (len < k → body_len (read_as n text) ≡ len)
@@ -157,7 +158,7 @@ front_seen n text k len within len_is =
 
 -- ---- the lanes of a vector that end a line
 
--- a lane is marked where one of three comparisons holds
+-- a lane is flagged if one of three comparisons holds
 abbrev flag : ℕ → ℕ → ℕ
 flag third b =
     bit_or (bit_or (cond (b == cr) 255 0) (cond (b == lf) 255 0)) (cond (b == third) 255 0)
@@ -182,7 +183,7 @@ ends_delimited n third is b = labeled_by (b == cr) (b == lf) (b == third) ∙ rw
     by true = ends_with_nul b
     by false = rw (or_assoc, or_self) (ends_as_is b)
 
--- the first lane that is marked is the first end
+-- the first flagged lane is the end of the line
 pub labeled_first : (n : Bool) (f : ℕ → ℕ) (width : ℕ) (v lanes : List ℕ) → width ≤ 64
     → length v ≡ width → lanes ≡ map f v
     → Ends n (λ b. top 7 (f b))
@@ -191,7 +192,7 @@ pub labeled_first : (n : Bool) (f : ℕ → ℕ) (width : ℕ) (v lanes : List �
 labeled_first n f width v lanes fits long lanes_are ends =
     first_labeled f width v lanes fits long lanes_are ∙ body_by n (λ b. top 7 (f b)) ends v
 
--- a body holds no NUL that is read as LF
+-- reading NUL as LF changes nothing within a line
 body_plain : (n : Bool) (text : List ℕ)
     → take (body_len (read_as n text)) (read_as n text) ≡ take (body_len (read_as n text)) text
 body_plain n text =
@@ -212,7 +213,7 @@ body_plain n text =
       | inr other ↦ cond-false _ _ _ other
     ]
 
--- ---- the next body
+-- ---- the next line
 
 pub next_body : (n : Bool) (rest : List ℕ) → 0 < length rest
     → (let k = body_len (read_as n rest) in

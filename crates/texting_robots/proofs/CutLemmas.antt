@@ -1,4 +1,4 @@
--- Each text has one cut, the one that the walk gives.
+-- Each text has exactly one cut, which `cut` computes.
 use Rattle.std.proofs.Common.{◌≡◌, ◌≢◌, ◌⊎◌, ℕ, zero, suc, ◌+◌, ◌<◌, inl, inr}
 use Rattle.std.proofs.Common.{List, [], ◌∷◌, ◌++◌, All, replicate, length, get_or, take, drop}
 use Rattle.std.proofs.Common.{append_assoc, sym, refl, ap, ◌∙◌, subst, arith}
@@ -33,14 +33,14 @@ byte_cases b = elim (cases_eq b lf) [
 pub at_other : (b : ℕ) (pairs : List Pair) → IsBodyByte b → before_byte b pairs ≡ before_body b pairs
 at_other b pairs other = rw (ne_eqb b lf other.1, ne_eqb b cr other.0) refl
 
--- ---- a pair before the later ones
+-- ---- a pair, and the pairs after it
 
--- the first of these pairs, if there is one, has a body that isn't empty
+-- the first of these pairs, if there is one, has line content that isn't empty
 abbrev BeginWithBody : List Pair → Type 0
 BeginWithBody [] = Unit {0}
 BeginWithBody (next ∷ more) = next.body ≢ []
 
--- how a body ends before the later pairs: as the last one, by CRs, or by an LF
+-- how a line ends before the later pairs: without a terminator as the last one, by CRs, or by an LF
 data EndsBy : List ℕ → List ℕ → List Pair → Type 0 where
   nothing : {b : ℕ} {body : List ℕ} → EndsBy (b ∷ body) [] []
   returns : {body : List ℕ} {later : List Pair} (k : ℕ) → BeginWithBody later
@@ -55,7 +55,7 @@ abbrev ArePairs : List Pair → Type 0
 ArePairs [] = Unit {0}
 ArePairs (pair ∷ later) = IsPairBefore pair later × ArePairs later
 
--- ---- pairs that stand so are a cut
+-- ---- such pairs are a cut
 
 pair_at : (pairs : List Pair) → ArePairs pairs
     → (front back : List Pair) (pair : Pair) → pairs ≡ front ++ pair ∷ back → IsPairBefore pair back
@@ -99,7 +99,7 @@ borrowed_cut pairs are =
           λ front back pair next e. goes_on (pair_at pairs are front (next ∷ back) pair e).ends;
     }
 
--- ---- and the pairs of a cut stand so
+-- ---- the pairs of a cut are such pairs
 
 ends_by : (body ending : List ℕ) (later : List Pair) → IsLineEnd ending
     → (ending ≡ [] → (later ≡ []) × (body ≢ []))
@@ -133,9 +133,9 @@ cut_occurs (pair ∷ later) text is = (
   }),
 )
 
--- ---- the walk gives a cut
+-- ---- `cut` computes a cut
 
--- these pairs stand, and are the others with one byte in front
+-- `more` are such pairs, and their bytes are the byte `b` and those of `pairs`
 abbrev Adds : ℕ → List Pair → List Pair → Type 0
 Adds b pairs more = ArePairs more × (joined more ≡ b ∷ joined pairs)
 
@@ -181,9 +181,9 @@ walked (b ∷ text) =
 pub is_cut : (text : List ℕ) → IsCut (cut text) text
 is_cut text = let (are, whole) = walked text in subst (IsCut (cut text)) whole (borrowed_cut (cut text) are)
 
--- ---- each cut is what the walk gives
+-- ---- each cut is the one that `cut` computes
 
--- a CR is an end by itself where no empty body follows
+-- a CR is a terminator by itself if no empty line follows
 lone_return : (pairs : List Pair) → BeginWithBody pairs
     → before_end pairs ≡ pair_of [] (cr ∷ []) ∷ pairs
 lone_return [] begin = refl

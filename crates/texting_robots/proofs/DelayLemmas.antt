@@ -1,4 +1,4 @@
--- The function gives the delay of a text, and each delay of a text is the one that it gives.
+-- `delay_of` gives the delay of a text, and it is the only one.
 use Rattle.std.proofs.Common.{◌≡◌, inl, inr, ℕ, ◌*◌, ◌/◌, ◌^◌, ◌<◌, ◌≤◌, Bool}
 use Rattle.std.proofs.Common.{true, false, eqb, leb, ltb, List, [], ◌∷◌, ◌++◌, All, Option, Some}
 use Rattle.std.proofs.Common.{None, codes, get_or, length, map, refl, sym, ap, subst, ◌∙◌, arith}
@@ -28,7 +28,7 @@ use Rattle.texting_robots.specs.Internal.Delay.{is_infinite, is_numeral, is_zero
 use Rattle.texting_robots.specs.Internal.Delay.{number_with, rounded}
 use Rattle.texting_robots.proofs.CapturedLemmas.{cond_given}
 
--- ---- what the tests say
+-- ---- the computed tests
 
 digit_decides : (b : ℕ) → Decides (is_ascii_digit b) (IsAsciiDigit b)
 digit_decides b = Decides-and (leb 48 b) (leb b 57) (leb-true 48 b, le-leb 48 b) (leb-true b 57, le-leb b 57)
@@ -53,7 +53,7 @@ infinite_decides text =
     (str_eq_ignore_ascii_case text (codes "infinity"))
     (bytes_decides lowered (codes "inf")) (bytes_decides lowered (codes "infinity"))
 
--- ---- what a text spells is read
+-- ---- a number is parsed as written
 
 abbrev Stops : List ℕ → Type 0
 Stops rest = is_ascii_digit (slice_index rest 0) ≡ false
@@ -73,7 +73,7 @@ digits_read ds rest digits stop =
     let size : length ds ≡ count = sym (digits_front ds rest digits stop) in
     (take_at ds rest count size, drop_at ds rest count size)
 
--- what stands behind digits is read as a fraction and a tail
+-- what follows the digits is parsed as this fraction and this tail
 record IsRead (rest fraction tail : List ℕ) : Type 0 where
   stop : Stops rest
   digits : fraction_in_front rest ≡ fraction
@@ -105,7 +105,7 @@ number_read text n h =
     let some = lt-ltb 0 (length (n.whole ++ n.fraction)) h.some in
     rw (h.is_text, found.0, found.1, is.digits, is.following, last.1, some) refl
 
--- ---- what is read is what the text spells
+-- ---- what is parsed is the number written
 
 digits_are : (text : List ℕ) → All IsAsciiDigit (digits_in_front text)
 digits_are text k d below =
@@ -186,7 +186,7 @@ number_found text n e =
       is_tail = exponent_found tail parts.1.0 parts.1.1;
     })
 
--- a number that is read has its digits
+-- the parts of a parsed number consist of digits
 pub has_digits : (text : List ℕ) (n : Decimal) → number_of text ≡ Some n → length text < 2 ^ 63
     → HasDigits n
 has_digits text n e short =
@@ -225,7 +225,7 @@ rounds_same n d e a b = omega (arith, b.greatest d a.bound a.at_most, a.greatest
 
 -- ---- the delay of a text
 
--- an infinite text begins with a letter
+-- an infinite delay begins with a letter, so it isn't a number
 infinite_number : (text word : List ℕ) → map to_ascii_lowercase text ≡ byte "i" ∷ word
     → number_of text ≡ None
 infinite_number [] word e = cc

@@ -1,4 +1,4 @@
--- The number that digits write: bounded, cut off and rounded.
+-- The number that digits denote: bounded, cut off and rounded.
 use Rattle.std.proofs.Common.{◌≡◌, inl, inr, ℕ, zero, suc, ◌+◌, ◌-◌, ◌*◌, ◌/◌}
 use Rattle.std.proofs.Common.{◌^◌, ◌<◌, ◌≤◌, List, [], ◌∷◌, ◌++◌, All, length}
 use Rattle.std.proofs.Common.{get_or, take, drop, replicate, refl, sym, ap, ◌∙◌, append_assoc, add-one}
@@ -22,7 +22,7 @@ after n ds = digits_value_after 10 n ds
 abbrev value : List ℕ → ℕ
 value ds = digits_value 10 ds
 
--- a bound on what stands in front changes no bounded number
+-- bounding a number before digits are appended doesn't change the bounded result
 bound_first : (n : ℕ) (ds : List ℕ) → bounded (after (bounded n) ds) ≡ bounded (after n ds)
 bound_first n [] = omega arith
 bound_first n (d ∷ ds) =
@@ -54,7 +54,7 @@ all_digits_read n ds i r e end bound =
     let none : bounded (after n []) ≡ r = rw (drop_all i ds end) at e in
     omega arith
 
--- ---- digits behind digits, and zeros
+-- ---- digits after digits, and zeros
 
 after-append : (n : ℕ) (xs ys : List ℕ) → after n (xs ++ ys) ≡ after (after n xs) ys
 after-append n [] ys = refl
@@ -75,7 +75,7 @@ take_parts n xs ys = same_lists _ _ (search (rules, listed)) (λ k d h. grind (a
 
 -- ---- rounding down
 
--- digits that are cut off are divided away
+-- cutting digits off divides by a power of ten
 cut_off : (ds : List ℕ) → All IsAsciiDigit ds → (k : ℕ)
     → value ds / 10 ^ k ≡ value (take (length ds - k) ds)
 cut_off ds digits zero =
@@ -97,7 +97,7 @@ cut_off ds digits (suc k) =
           rw (one, other) refl)
     ]
 
--- the digits up to a place, and zeros for those that are missing, are the number rounded down
+-- the digits up to the position, with zeros for missing ones, are the number rounded down
 at_position : (n : Decimal) → All IsAsciiDigit (n.whole ++ n.fraction) → let ds = n.whole ++ n.fraction in
     value ds * 10 ^ 6 * 10 ^ positive_exponent n / (10 ^ length n.fraction * 10 ^ negative_exponent n)
     ≡ value (take (places n) ds) * 10 ^ (places n - length ds)
@@ -135,7 +135,7 @@ at_position n digits = at (n.whole ++ n.fraction) digits (length n.whole) (lengt
 
 -- ---- twenty zeros
 
--- they are as good as more
+-- more zeros give the same bounded number
 far : (v k : ℕ) → 20 ≤ k → bounded (v * 10 ^ 20) ≡ bounded (v * 10 ^ k)
 far zero k more = omega arith
 far (suc v) k more =
@@ -145,7 +145,7 @@ far (suc v) k more =
     let as_long : 1 * 10 ^ k ≤ suc v * 10 ^ k = mul-le-mul_right (10 ^ k) some in
     omega arith
 
--- a place beyond all digits and twenty zeros may be any other
+-- twenty zeros after the digits are enough, also for a position past them
 twenty : (ds : List ℕ) (p : ℕ) → length ds + 20 ≤ greatest_delay
     → bounded (value (take (bounded p) (ds ++ zeros 20)))
     ≡ bounded (value (take p ds) * 10 ^ (p - length ds))
@@ -165,7 +165,7 @@ twenty ds p room = elim (cases_lt (length ds + 20) p) [
 
 -- ---- what the code computes
 
--- bounded numbers that digits are appended to, list after list
+-- the number of three lists of digits, bounded after each list
 joined : (xs ys zs : List ℕ)
     → bounded (after (bounded (after (bounded (after 0 xs)) ys)) zs) ≡ bounded (value (xs ++ (ys ++ zs)))
 joined xs ys zs =

@@ -1,4 +1,4 @@
--- The set of `escape.rt` escapes what the definition says.
+-- The byte set in `escape.rt` escapes exactly the bytes that the specification escapes.
 use Rattle.std.proofs.Common.{◌≡◌, ℕ, ◌<◌, ◌≤◌, false, List, []}
 use Rattle.std.proofs.Common.{◌∷◌, ◌++◌, refl, ap, inl, inr, arith}
 use Rattle.std.specs.List.{list_any}
@@ -29,7 +29,7 @@ unfolding percent_encode
 same_escape [] = refl
 same_escape (b ∷ bytes) = rw (same_byte b) (ap (λ rest. escape_byte b ++ rest) (same_escape bytes))
 
--- where each byte stands for itself, the escape is the text
+-- if no byte is escaped, escaping changes nothing
 pub plain_stays : (bytes : List ℕ) → list_any is_escaped bytes ≡ false
     → escaped bytes ≡ bytes
 plain_stays [] plain = refl

@@ -1,4 +1,4 @@
--- How the worked examples are closed: by tests that compute.
+-- Lemmas by which computation proves the worked examples.
 use Rattle.std.proofs.Common.{◌≡◌, ◌==◌, ℕ, nat_lt, ◌&&◌, Bool, true, false, List, length}
 use Rattle.std.proofs.Common.{Some, get_or, subst, refl}
 use Rattle.std.specs.{Bool.Decides, List.Any, List.list_any}
@@ -25,9 +25,9 @@ pub answers : (rules : List PlacedRule) (text : List ℕ)
     → Answers rules text (allowed_by (deciding_rule rules text)) (line_by (deciding_rule rules text))
 answers rules text = let is = answered rules text in record { verdict = is.0; deciding = is.1 }
 
--- ---- overlong rules
+-- ---- rules that are too long
 
--- some element passes
+-- some item passes
 any_decides : {X : Type 0} (P : X → Type 0) (test : X → Bool) → ((x : X) → Decides (test x) (P x))
     → (xs : List X) → Decides (list_any test xs) (Any P xs)
 any_decides P test each xs = (
@@ -54,7 +54,7 @@ pub any_overlong_decides : (rules : List Rule)
     (Any (λ (rule : Rule). IsOverlong rule.0) rules)
 any_overlong_decides rules = any_decides _ _ (λ (rule : Rule). overlong_decides rule.0) rules
 
--- ---- what a file gives
+-- ---- what a file gives a crawler
 
 pub gives_rules : (agent file : List ℕ) → GivesRules agent file (placed_rules agent (file_lines file))
 gives_rules agent file =

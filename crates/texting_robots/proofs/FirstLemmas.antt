@@ -1,4 +1,4 @@
--- In sorted rules the first that matches decides.
+-- Among sorted rules, the first that matches decides.
 use Rattle.std.proofs.Common.{◌≡◌, ◌≢◌, inl, inr, ℕ, zero, suc, ◌-◌, ◌+◌, ◌*◌}
 use Rattle.std.proofs.Common.{◌<◌, ◌≤◌, count_by, cond, leb, Bool, true, List, [], ◌∷◌}
 use Rattle.std.proofs.Common.{All, AllPairs, length, get_or, min, string_bytes, refl, sym, arith}
@@ -37,14 +37,15 @@ at_most_more : (old new : ViewValue) (few many : ℕ) → few ≤ many → Looks
 at_most_more old new few many more is =
     record { text = is.text; looks = is.looks; cost = omega arith }
 
--- the rules before this place were tried: none matches, and none took more looks than it may
+-- the rules before this index were tried: none matches, and together they took at most 2 × (text length) ×
+-- `at` looks
 pub record AreTried (all : Unsorted) (old new : ViewValue) (at : ℕ) : Type 0 where
   pub text : new.text ≡ old.text
   pub before : (k : ℕ) → k < at → MatchesAt all k old.text → ⊥
   pub grows : old.looks ≤ new.looks
   pub cost : new.looks ≤ old.looks + 2 * length old.text * at
 
--- what an entry's pattern matches has the entry's sign among its pairs
+-- a text that an entry's pattern matches has all bigrams of the entry's mask
 mask_within : (all : Unsorted) (entry : Entry) → IsEntryOf all entry → (text : List ℕ)
     → Matches (pattern_of all entry) text
     → AreWithin (mask_in (string_bytes all.text) entry) (pair_set text)
@@ -54,7 +55,7 @@ mask_within all entry is text matches =
     within_both _ _ _ (is.needed text matches).pairs
     (beginning_within pattern rest text (min entry.ends.first_len 9) entry.ends.first_len (omega arith) split)
 
--- rules whose signs are apart from the text's needn't be tried
+-- rules whose masks exclude the text needn't be tried
 pub apart_tried : (all : Unsorted) (old new : ViewValue) (from to : ℕ) → AreEntries all
     → HaveMasks (string_bytes all.text) all.entries.items all.masks.items → from ≤ to
     → to ≤ length all.entries.items → AreApart all.masks.items (pair_set new.text) from to
@@ -134,7 +135,8 @@ module _ (all : Unsorted) (known : All (IsEntryOf all) all.entries.items) where
           → IsVerdict (unplaced (rules_in all)) text (entry_at at).is_allow
       first_decides = verdict_by (rules_in all) text (placed at) (entry_at at).is_allow first_line refl
 
-      -- all rules up to the first that matches are as long as the longest that matches
+      -- each rule up to the first that matches is at least as long as the longest one that matches, so the
+      -- bound for `at + 1` rules is within the bound of `as_long_as`
       first_tried : (rule : PlacedRule) → IsLongestMatch (rules_in all) text rule
           → 2 * length text * (at + 1) ≤ 2 * length text * as_long_as rule (rules_in all)
       first_tried rule is =

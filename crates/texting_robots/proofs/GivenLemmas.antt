@@ -1,4 +1,4 @@
--- The delay and the sitemaps that lines give an agent are those that are computed of them.
+-- The delay and the sitemaps of a crawler in the specification are those that the functions compute.
 use Rattle.std.proofs.Common.{◌≡◌, ◌↔◌, inl, inr, ℕ, zero, suc, ◌+◌, ◌<◌, ◌≤◌}
 use Rattle.std.proofs.Common.{Bool, true, false, cond, List, [], ◌∷◌, Option, Some, None, slice_get}
 use Rattle.std.proofs.Common.{refl, sym, ap, ◌∙◌, arith, add-zero, zero-add}
@@ -16,19 +16,19 @@ use Rattle.texting_robots.specs.Internal.Captured.{is_captured}
 use Rattle.texting_robots.proofs.CapturedLemmas.{cond_given, is_captured_decides, kept_next, some_passes}
 use Rattle.texting_robots.proofs.RulesLemmas.{before_agent, before_agents, last_more, option_or_none}
 
--- ---- the first and the last place at which a number is found
+-- ---- the first and the last index at which a number is found
 
--- the option is what is found first
+-- the option is the number found first, or `None` if there is none
 abbrev FirstAt : (ℕ → ℕ → Type 0) → Option ℕ → Type 0
 FirstAt P None = Nowhere P
 FirstAt P (Some n) = IsFirst P n
 
--- the option is what is found last
+-- the option is the number found last, or `None` if there is none
 abbrev LastOf : (ℕ → ℕ → Type 0) → Option ℕ → Type 0
 LastOf P None = Nowhere P
 LastOf P (Some n) = IsLast P n
 
--- P finds this first, and then Q, one place on
+-- at index 0, `P` finds `here`; at later indices it finds what `Q` finds one index earlier
 record Step (P Q : ℕ → ℕ → Type 0) (here : Option ℕ) : Type 0 where
   at : (n : ℕ) → P 0 n ↔ here ≡ Some n
   later : (k n : ℕ) → P (suc k) n ↔ Q k n
@@ -76,7 +76,7 @@ a_delay : (line : LineValue) (delay : ℕ) → delay_in line ≡ Some delay
 a_delay (CrawlDelay (Some d)) delay is = ap (λ (o : Option ℕ). CrawlDelay o) is
 a_delay _ delay is = cc
 
--- the line at the place is a delay, and passes a test of places
+-- the line at the index is a delay, and its index in the file passes a test
 abbrev DelayAt : (ℕ → Bool) → ℕ → List LineValue → ℕ → ℕ → Type 0
 DelayAt test n lines k delay = (slice_get lines k ≡ Some (CrawlDelay (Some delay)))
     × (test (n + k) ≡ true)
@@ -147,7 +147,7 @@ before_step line lines isnt = record {
     following none zero less is = cc
     following none (suc j) less is = none j (omega arith) is
 
--- what is last of all, or else before them
+-- the last item of the list, or else the given option
 last_some : (x : ℕ) (xs : List ℕ) → (n : ℕ) × (last_or (Some x) xs ≡ Some n)
 last_some x [] = (x, refl)
 last_some x (y ∷ xs) = last_some y xs
@@ -171,7 +171,7 @@ last_before (line ∷ lines) = elim (cases_Bool (is_agent line)) [
         let other = rw same at agent in cc
     none agent (suc k) delay (is, early) = early 0 (omega arith) agent
 
--- a delay before all agent lines stands before the one at this place
+-- a delay before all user-agent lines is before the one at this index
 early : (lines : List LineValue) (at : ℕ) → passes_at is_agent lines at ≡ true → (k delay : ℕ)
     → BeforeAgents lines k delay → IsEarlyDelay lines k delay
 early lines at agent k delay (is, none) =
@@ -195,7 +195,7 @@ last_early lines = elim (cases_Bool (list_any is_agent lines)) [
       λ other m has. greatest other m (has.0, has.1),
     )
 
--- ---- the agent's delay
+-- ---- the crawler's delay
 
 is_delay_for : (agent : List ℕ) (lines : List LineValue) (first last : Option ℕ)
     → FirstAt (IsCapturedDelay agent lines) first → LastOf (IsEarlyDelay lines) last
@@ -241,7 +241,7 @@ delay_is_computed agent lines delay =
 
 -- ---- sitemaps
 
--- what a line lists
+-- the sitemap that the line lists, or none
 abbrev Lists : LineValue → Option (List ℕ) → Type 0
 Lists line None = (sitemap : List ℕ) → ¬ ListsSitemap line sitemap
 Lists line (Some sitemap) = ListsSitemap line sitemap

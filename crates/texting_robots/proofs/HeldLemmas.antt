@@ -19,12 +19,12 @@ use Rattle.texting_robots.proofs.{PlacedLemmas.placed_held, PlacedLemmas.rules_c
 use Rattle.texting_robots.proofs.{RulesLemmas.any_unplaced, BestLemmas.placed_of}
 use Rattle.texting_robots.proofs.VerdictLemmas.{after_first, same_elements}
 
--- ---- lists in which no line stands twice
+-- ---- lists in which no line occurs twice
 
 abbrev pub AreApart : List PlacedRule → Type 0
 AreApart rules = AllPairs (λ (one other : PlacedRule). one.line ≢ other.line) rules
 
--- rules on one line stand at one place
+-- rules with the same line are at the same index
 one_position : (rules : List PlacedRule) → AreApart rules → (i j : ℕ) (d : PlacedRule) → i < length rules
     → j < length rules → (get_or rules i d).line ≡ (get_or rules j d).line → i ≡ j
 one_position rules apart i j d p q same =
@@ -32,7 +32,7 @@ one_position rules apart i j d p q same =
     let not_above : j < i → ⊥ = λ less. apart j i d less p (sym same) in
     omega arith
 
--- where a swap of a and b took what is at m from
+-- `k` is the index from which swapping `a` and `b` moved the item at `m`
 abbrev From : ℕ → ℕ → ℕ → ℕ → Type 0
 From a b m k =
     ((m ≡ a) × (k ≡ b)) ⊎ (((m ≡ b) × (k ≡ a)) ⊎ ((m ≢ a) × (m ≢ b) × (k ≡ m)))
@@ -84,7 +84,7 @@ following first rules apart placed = (
   λ (has, other). after_first first rules placed other has,
 )
 
--- lists with the same members, each once, are one list in two orders
+-- lists with the same members, each once, are permutations of each other
 pub same_members : (rules others : List PlacedRule) → AreApart rules → AreApart others
     → ((placed : PlacedRule) → Contains rules placed ↔ Contains others placed)
     → IsPermutation rules others
@@ -110,7 +110,7 @@ same_members (first ∷ rules) others one two same =
 
 -- ---- each list of lines has its rules
 
--- the number of the line that gives a rule
+-- the line number of a rule is the index of its line plus one
 given_number : (passes : Bool) (position : ℕ) (line : LineValue) (found : PlacedRule)
     → cond passes (placed_in (position, line)) None ≡ Some found → found.line ≡ position + 1
 given_number passes position line found is = at (rule_in line) ((cond_given passes _ found).0 is).1
@@ -119,7 +119,7 @@ given_number passes position line found is = at (rule_in line) ((cond_given pass
     at None is = cc
     at (Some rule) is = cc
 
--- a rule of a line that gives none of the others
+-- adding a rule whose line differs from those of the others
 apart_with : (first : Option PlacedRule) (rules : List PlacedRule)
     → ((found : PlacedRule) → first ≡ Some found
     → All (λ (other : PlacedRule). found.line ≢ other.line) rules)
@@ -129,7 +129,7 @@ apart_with (Some found) rules differs apart =
     AllPairs-cons (λ (one other : PlacedRule). one.line ≢ other.line) found rules
     (differs found refl) apart
 
--- each line gives one rule at most
+-- each line gives at most one rule
 rules_apart : (test : ℕ → Bool) (n : ℕ) (lines : List LineValue) → AreApart (rules_from test n lines)
 rules_apart test n [] = λ i j d less within. absurd (omega arith)
 rules_apart test n (line ∷ lines) =
@@ -165,7 +165,7 @@ permuted_are agent lines rules others moved are = record {
   once = apart_permuted rules others moved are.once;
 }
 
--- the rules that the lines hold are those that are computed, in any order
+-- the rules that the lines hold are the computed ones, in any order
 pub rules_are_computed : (agent : List ℕ) (lines : List LineValue) (rules : List PlacedRule)
     → AreRulesFor agent lines rules ↔ IsPermutation (placed_rules agent lines) rules
 rules_are_computed agent lines rules = (
@@ -173,7 +173,7 @@ rules_are_computed agent lines rules = (
   λ moved. permuted_are agent lines _ rules moved (computed_are agent lines),
 )
 
--- a file is refused where one of these is overlong
+-- a file is rejected exactly if one of the computed rules is too long
 pub rejection_is_computed : (agent : List ℕ) (lines : List LineValue)
     → IsRejected agent lines ↔ Any (λ (rule : Rule). IsOverlong rule.0) (rules_for agent lines)
 rejection_is_computed agent lines = (

@@ -1,4 +1,4 @@
--- A key against a spelling.
+-- Comparing a field name with an accepted name.
 use Rattle.std.proofs.Common.{◌≡◌, ℕ, true, false, List, length, take, map, sym, ap, ◌∙◌}
 use Rattle.std.specs.Char.{to_ascii_lowercase}
 use Rattle.std.proofs.lemmas.{Bool.false_from_ne_true, Slice.Eq.bytes_eq-Decides, List.length-map}

@@ -1,4 +1,4 @@
--- Each line stands where the definition by places has it.
+-- Each line has the membership that the specification states by indices of lines.
 use Rattle.std.proofs.Common.{◌≡◌, ◌⊎◌, inl, inr, ℕ, zero, suc, ◌+◌, ◌<◌, ◌≤◌}
 use Rattle.std.proofs.Common.{◌↔◌, Bool, true, false, not, ◌&&◌, ◌||◌, List, [], ◌∷◌}
 use Rattle.std.proofs.Common.{Some, slice_get, ◌-◌, length, length-drop, cond}
@@ -21,7 +21,7 @@ use Rattle.texting_robots.specs.Labels.{label_at, labels_of, next_group, members
 use Rattle.texting_robots.proofs.CapturedLemmas.{any_next, at_front, is_captured_decides, itself}
 use Rattle.texting_robots.proofs.CapturedLemmas.{taken_decides, within}
 
--- ---- tests of places
+-- ---- tests of indices
 
 not_both : (lines : List LineValue) (k : ℕ) → passes_at is_agent lines k ≡ true
     → ¬ (passes_at is_group lines k ≡ true)
@@ -37,7 +37,7 @@ named_agent name (UserAgent value ∷ lines) zero h = refl
 named_agent name (line ∷ lines) zero h = h
 named_agent name (line ∷ lines) (suc k) h = named_agent name lines k h
 
--- a test decides with another one, which decides where the first passes
+-- decides a conjunction whose second test only decides if the first proposition holds
 and_given : {P Q : Type 0} (x y : Bool) → Decides x P → (P → Decides y Q) → Decides (x && y) (P × Q)
 and_given true y first second = (λ h. (first.0 refl, (second (first.0 refl)).0 h), λ (p, q). (second p).1 q)
 and_given false y first second = (λ h. cc, λ (p, q). first.1 p)
@@ -138,14 +138,15 @@ module _ (name : List ℕ) (lines : List LineValue) (position next : ℕ) (is : 
     | inr more ↦ let from = is.from in omega arith
   ]
 
--- ---- where a line stands
+-- ---- the membership of a line
 
 module _ (name : List ℕ) (lines : List LineValue) (position : ℕ) (line : LineValue)
     (at : slice_get lines position ≡ Some line) where
   abbrev next : ℕ
   next = next_group lines position
 
-  -- a rule or delay is in its own group where it is captured, a user-agent line where the next of these is
+  -- a rule or delay is in the crawler's own group if it is captured, and a user-agent line is if the next
+  -- rule or delay is captured, or one at the end of the file would be
   own_decides : Decides ((is_agent line || is_group line) && is_captured name lines next)
       (IsInOwnGroup name lines position)
   own_decides =
@@ -166,7 +167,7 @@ module _ (name : List ℕ) (lines : List LineValue) (position : ℕ) (line : Lin
       Decides-like _ (run_named name lines position next is agent)
       (named_captures name lines position next is agent) captured))))
 
-  -- a group line is in a group where a user-agent line stands before it
+  -- a group line is in a group exactly if a user-agent line is before it
   in_group_decides : Decides ((is_agent line || is_group line) && list_any is_agent (take (position + 1) lines))
       (IsInGroup lines position)
   in_group_decides = Decides-at _ _
@@ -177,7 +178,7 @@ module _ (name : List ℕ) (lines : List LineValue) (position : ℕ) (line : Lin
       (λ (group, j, less, agent). (group, (j, less, agent)))
       (Decides-and _ _ (itself (passes_at is_group lines position)) (taken_decides is_agent lines position))))
 
-  -- by tests of its own group and of all groups a line stands in one way
+  -- a line's membership, by the tests of its own group and of all groups
   occurs_by : (own some : Bool) → Decides own (IsInOwnGroup name lines position)
       → Decides some (IsInGroup lines position)
       → HasMembership name lines position (cond own Own (cond some Other Ungrouped))
@@ -194,7 +195,7 @@ module _ (name : List ℕ) (lines : List LineValue) (position : ℕ) (line : Lin
   only_by own some Ungrouped is begun (isnt, none) =
       rw (false_from_ne_true own (λ h. isnt (is.0 h)), false_from_ne_true some (λ h. none (begun.0 h))) refl
 
-  -- and these tests are the definition's
+  -- these tests are those of `membership_of`
   by_tests : (kind captured begun : Bool)
       → cond (not kind) Ungrouped (cond captured Own (cond begun Other Ungrouped))
       ≡ cond (kind && captured) Own (cond (kind && begun) Other Ungrouped)
@@ -209,7 +210,7 @@ module _ (name : List ℕ) (lines : List LineValue) (position : ℕ) (line : Lin
   occurs_only membership splits =
       only_by _ _ membership own_decides in_group_decides splits ∙ sym (by_tests _ _ _)
 
--- ---- the marks of all lines
+-- ---- the labels of all lines
 
 abbrev IsWildcardAt : List ℕ → List LineValue → ℕ → Label → Type 0
 IsWildcardAt name lines position label = (label.number ≡ position + 1) × HasMembership name lines position label.membership

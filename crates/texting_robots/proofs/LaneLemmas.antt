@@ -1,4 +1,4 @@
--- Where the first byte that passes a test stands, as vectors find it.
+-- The index of the first byte that passes a test, as vectors find it.
 use Rattle.std.proofs.Common.{◌≡◌, ℕ, zero, suc, ◌+◌, ◌-◌, ◌*◌, ◌%◌, ◌^◌, ◌<◌, ◌≤◌}
 use Rattle.std.proofs.Common.{◌==◌, ◌||◌, Bool, true, false, not, List, [], ◌∷◌, length, take, drop, map}
 use Rattle.std.proofs.Common.{sym, refl, ap, ◌∙◌, arith, cond}
@@ -20,7 +20,7 @@ use Rattle.texting_robots.specs.Pattern.{dollar, star}
 use Rattle.texting_robots.specs.Internal.Segments.{is_wildcard}
 use Rattle.texting_robots.proofs.RegionLemmas.{position_is, end_is}
 
--- the first lane that is marked is the first byte that passes
+-- the first flagged lane is the first byte that passes
 pub first_labeled : (f : ℕ → ℕ) (width : ℕ) (v lanes : List ℕ) → width ≤ 64
     → length v ≡ width → lanes ≡ map f v
     → (let mask = mask_l (map (top 7) lanes) % 2 ^ 64 in
@@ -34,7 +34,8 @@ first_labeled f width v lanes fits long lanes_are =
     ∙ first_set_mask_l test v width long (omega arith)
 
 module _ (test : ℕ → Bool) (text : List ℕ) where
-  -- the first k bytes, looked at alone: one of them passes, or all are passed over
+  -- searching only the first `k` bytes: either one of them is the first that passes, or the search goes on
+  -- after them
   pub first_seen : (k : ℕ) → k ≤ length text
       → (let here = position_or_len test (take k text) in
       (here < k → position_or_len test text ≡ here)
@@ -52,7 +53,8 @@ module _ (test : ℕ → Bool) (text : List ℕ) where
         λ all. seen ∙ cond-true _ _ _ (eq-eqb here k (omega arith)),
       )
 
-  -- where none of the first k passes, the first one is found among the last k, if the two meet
+  -- if none of the first `k` bytes passes, the first that does is among the last `k`, provided that both
+  -- cover the text
   pub last_seen : (k : ℕ) → k ≤ length text → length text ≤ k + k
       → k ≤ position_or_len test (take k text)
       → (let n = length text - k in
@@ -75,13 +77,13 @@ module _ (test : ℕ → Bool) (text : List ℕ) where
       let most = prefix_len-le-length (λ b. not (test b)) (take k text) in
       omega (arith, length-take k text)
 
-  -- what `memchr` finds
+  -- the result of `memchr`
   pub found_or_end : (found : Option ℕ) → IsFirstByte test text found
       → unwrap_or found (length text) ≡ position_or_len test text
   found_or_end None none = sym (end_is test text none)
   found_or_end (Some k) first = sym (position_is test text k first.0 first.1)
 
--- the first k bytes pass, so the rest tells how many pass in front
+-- if the first `k` bytes pass, the rest determines the length of the leading bytes that pass
 pub all_seen : (test : ℕ → Bool) (k : ℕ) (text : List ℕ) → k ≤ length text
     → list_all test (take k text) ≡ true → prefix_len test text ≡ k + prefix_len test (drop k text)
 all_seen test zero text within all = omega arith
@@ -91,7 +93,7 @@ all_seen test (suc k) (b ∷ text) within all = elim (cases_Bool (test b)) [
   | inr other ↦ let wrong = rw other at all in cc
 ]
 
--- ---- the lanes that hold a star or a dollar
+-- ---- the lanes with a star or a dollar
 
 abbrev flag : ℕ → ℕ
 flag b = bit_or (cond (b == star) 255 0) (cond (b == dollar) 255 0)
@@ -112,9 +114,9 @@ pub first_wildcard_lane : (width : ℕ) (v lanes : List ℕ) → width ≤ 64 �
 first_wildcard_lane width v lanes fits long lanes_are = first_labeled flag width v lanes fits long lanes_are
     ∙ ap (λ test. position_or_len test v) (fun_ext label_is)
 
--- ---- the lanes that hold an escaped byte
+-- ---- the lanes with an escaped byte
 
--- some lane is marked just if some byte passes
+-- some lane is flagged exactly if some byte passes
 pub any_flagged : (f : ℕ → ℕ) (v lanes : List ℕ) → length v ≤ 64 → lanes ≡ map f v
     → not (mask_l (map (top 7) lanes) % 2 ^ 64 == 0) ≡ list_any (λ b. top 7 (f b)) v
 any_flagged f v lanes fits lanes_are =

@@ -1,4 +1,4 @@
--- What a change of the lines leaves as it was.
+-- Which changes of the lines have no effect.
 use Rattle.std.proofs.Common.{◌≡◌, ◌↔◌, inl, inr, ℕ, suc, ◌+◌, Bool, false, not}
 use Rattle.std.proofs.Common.{◌||◌, List, [], ◌∷◌, ◌++◌, Option, None, length, drop, filter}
 use Rattle.std.proofs.Common.{cond, codes, zero-add, add-zero, arith, sym, refl, ap, ◌∙◌, subst}
@@ -19,7 +19,7 @@ use Rattle.texting_robots.proofs.CapturedLemmas.{occurs_next}
 use Rattle.texting_robots.proofs.RulesLemmas.{before_agent, before_agents}
 use Rattle.texting_robots.proofs.HeldLemmas.{rejection_is_computed}
 
--- ---- lists that give the same
+-- ---- lists of lines with the same effect
 
 along : {X : Type 0} (P : X → Type 0) (x y : X) → x ≡ y → P x ↔ P y
 along P x y e = (subst P e, subst P (sym e))
@@ -38,7 +38,7 @@ same_from agent lines other others rules delay = record {
       (λ is. two.1 (same.0 (one.0 is)), λ is. one.1 (same.1 (two.0 is)));
 }
 
--- the same agents are named, and the captured lines give the same
+-- the same crawlers are named, and the captured lines give the same
 record AreAlike (agent : List ℕ) (lines others : List LineValue) : Type 0 where
   agents : list_any is_agent lines ≡ list_any is_agent others
   named : (name : List ℕ) → list_any (is_agent_named name) lines ≡ list_any (is_agent_named name) others
@@ -188,7 +188,7 @@ pub sitemaps_change_nothing_else : (agent : List ℕ) (lines others : List LineV
     → SameButSitemaps agent lines agent others
 sitemaps_change_nothing_else = same_kept (λ line. not (is_sitemap line)) sitemap_neutral
 
--- ---- agents in another case
+-- ---- crawlers' names in another case
 
 pub agent_case : (agent other : List ℕ) (lines : List LineValue)
     → str_to_ascii_lowercase agent ≡ str_to_ascii_lowercase other → Same agent lines other lines
@@ -210,7 +210,7 @@ same_kind (Disallow value) (Disallow other) same =
     record { agent = refl; named = λ name. refl; group = refl; delay = refl; sitemap = refl }
 same_kind line other differ = absurd differ
 
--- the walk after these lines
+-- the state after these lines
 abbrev walked : List ℕ → GroupTracker → List LineValue → GroupTracker
 walked name tracker [] = tracker
 walked name tracker (line ∷ lines) = walked name (step name tracker line) lines
@@ -226,7 +226,7 @@ occurs_walked name all tracker position (line ∷ front) back splits left =
     let sum : position + suc (length front) ≡ (position + 1) + length front = omega arith in
     rw sum (occurs_walked name all (step name tracker line) (position + 1) front back here next)
 
--- what is the same behind these lines is the same with them
+-- lines that give the same after these lines also give the same together with them
 captured_after : {X : Type 0} (given : LineValue → Option X) (name : List ℕ) (tracker : GroupTracker)
     (front back others : List LineValue)
     → given_captured given name (walked name tracker front) back

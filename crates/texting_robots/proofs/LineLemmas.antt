@@ -1,4 +1,4 @@
--- The lines that the walk gives are those of the text, and hold ranges of it.
+-- The computed lines are those of the text, and their values are ranges of it.
 use Rattle.std.proofs.Common.{◌≡◌, ◌⊎◌, ℕ, false, inl, inr, List, [], ◌∷◌, ◌++◌, map}
 use Rattle.std.proofs.Common.{sym, refl, ap, ◌∙◌, append_assoc, append-nil, Option, Some, None}
 use Rattle.std.proofs.Common.{◌==◌, ◌≢◌, arith, subst, ◌↔◌}
@@ -21,7 +21,7 @@ use Rattle.texting_robots.proofs.CutLemmas.{is_cut, only_cut}
 use Rattle.texting_robots.proofs.StatementLemmas.{statement_found, found_statement, unstated}
 use Rattle.texting_robots.specs.declared.parser.statement.Kind.TheVariants as kind
 
--- ---- the line of a body
+-- ---- from line content to a line
 
 pub line_stated : (body : List ℕ) (kind : Kind) (value : List ℕ)
     → statement_of body ≡ Some (kind, value) → line_of body ≡ line_with kind value body
@@ -101,7 +101,7 @@ each_text_has_its_lines text lines = (
   λ same. subst (λ all. AreLinesOf all text) (sym same) (parsed_are_lines text),
 )
 
--- ---- the bodies of a file
+-- ---- the line contents of a file
 
 pub file_bodies_are : (text : List ℕ) (bodies : List (List ℕ)) → bodies ≡ file_bodies text
     → AreFileBodiesOf bodies text
@@ -113,7 +113,7 @@ pub lines_of_file_bodies : (text : List ℕ) (bodies : List (List ℕ)) → bodi
 lines_of_file_bodies text bodies same =
     subst (AllZip IsLineOf (file_lines text)) (sym same) (are_lines (file_bodies text))
 
--- ---- a line that is read by its kind
+-- ---- a line that is parsed by its directive
 
 module _ (body text : List ℕ) (is : text ≡ skip_blanks body) where
   pub line_without_kind : kind_by text ≡ None → line_of body ≡ Raw body
@@ -131,14 +131,14 @@ module _ (body text : List ℕ) (is : text ≡ skip_blanks body) where
   unfolding line_of statement_of
   line_read kind tail by found = rw (← is, by, found) refl
 
--- the kind of an agent line, a sitemap or a delay
+-- the directive of a user-agent line, a sitemap or a delay
 abbrev kind_in : LineValue → Option Kind
 kind_in (UserAgent value) = Some kind.UserAgent
 kind_in (Sitemap value) = Some kind.Sitemap
 kind_in (CrawlDelay delay) = Some kind.CrawlDelay
 kind_in _ = None
 
--- a line of one of these kinds has the kind of its first letter
+-- if the line is one of these directives, it is the one that its first letter selects
 abbrev IsKindOf : Option Kind → LineValue → Type 0
 IsKindOf kind line = (kind_in line ≡ kind) ⊎ (kind_in line ≡ None)
 
@@ -236,7 +236,7 @@ taken_off byte (b ∷ text) = elim (cases_Bool (b == byte)) [
   | inr isnt ↦ ([], sym (cond-false _ _ _ isnt))
 ]
 
--- a byte that is neither NUL nor LF is read as it is, and no other byte is read as it
+-- a byte other than NUL and LF is read unchanged, and no other byte is read as that byte
 read_other : (byte b : ℕ) → byte ≢ 0 → byte ≢ lf → (nul_as_lf b == byte) ≡ (b == byte)
 read_other byte b some other = elim (eqb_tells b 0) [
   | inl (is, same) ↦ rw is (ne_eqb lf byte (λ s. other (sym s))
@@ -252,7 +252,7 @@ without_read byte (b ∷ text) some other = elim (cases_Bool (b == byte)) [
   | inr isnt ↦ rw (isnt, read_other byte b some other, isnt) refl
 ]
 
--- the front is the same where NUL is read as LF
+-- dropping the byte order mark gives the same before and after NUL is read as LF
 pub front_read : (text : List ℕ) → map nul_as_lf (without_front text) ≡ without_front (map nul_as_lf text)
 front_read text =
     let one = without 0xEF text in

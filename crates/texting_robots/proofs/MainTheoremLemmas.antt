@@ -1,4 +1,4 @@
--- What the rules that lines hold answer, in whatever order they are listed.
+-- What follows from the rules that lines hold, in whatever order they are listed.
 use Rattle.std.proofs.Common.{◌≡◌, inl, inr, ℕ, ◌+◌, ◌*◌, Bool, true, false, cond, List}
 use Rattle.std.proofs.Common.{Option, Some, [], None, IsPermutation, Result, Ok, Err, length, map}
 use Rattle.std.proofs.Common.{refl, sym, subst, take, ◌∙◌, arith}
@@ -25,7 +25,7 @@ use Rattle.texting_robots.proofs.LineLemmas.{each_text_has_its_lines}
 use Rattle.texting_robots.proofs.RulesLemmas.{rejected_wider, some_overlong}
 use Rattle.texting_robots.proofs.VerdictLemmas.{longest_permuted, same_lines, same_verdicts}
 
--- ---- in whatever order
+-- ---- in any order
 
 looks_permuted : (rules others : List PlacedRule) (old new : ViewValue) → IsPermutation rules others
     → LooksForRules rules old new → LooksForRules others old new
@@ -57,25 +57,25 @@ pub answer_alike : (agent : List ℕ) (lines : List LineValue) (rules others : L
 answer_alike agent lines rules others are have =
     permuted_alike rules others (one_list agent lines rules others are have)
 
--- they answer as the rules that are computed
+-- these rules decide as the computed rules do
 pub answers_computed : (agent : List ℕ) (lines : List LineValue) (rules : List PlacedRule)
     → AreRulesFor agent lines rules → AnswerAlike rules (placed_rules agent lines)
 answers_computed agent lines rules are =
     answer_alike agent lines rules (placed_rules agent lines) are (computed_are agent lines)
 
--- ---- a robot of a file
+-- ---- the robot of a file
 
 pub lines_are_read : (file : List ℕ) → AreFileLinesOf (lines_read file) (take file_limit file)
 lines_are_read file = (each_text_has_its_lines (map nul_as_lf (take file_limit file)) _).1 refl
 
--- what holds of the lines that a file has holds of these
+-- a property of the lines that a file has holds for these lines, since they are unique
 pub of_lines : (file : List ℕ) (P : List LineValue → Type 0) → HasLines file P
     → (lines : List LineValue) → AreFileLinesOf lines file → P lines
 of_lines file P (all, have, is) lines are =
     let each = each_text_has_its_lines (map nul_as_lf file) in
     subst P ((each all).0 have ∙ sym ((each lines).0 are)) is
 
--- by the lines that are computed
+-- the robot is that of the computed lines
 pub read_robot : (agent file : List ℕ) (robot : RobotValue)
     → IsRobotOfFile agent (take file_limit file) robot
     → IsRobotOf agent (lines_read file) robot
@@ -100,7 +100,7 @@ robot_of agent file robot is =
       accepted = λ rejected. is.accepted ((rejection_is_computed agent lines).0 rejected);
     })
 
--- a file that gives a robot isn't refused
+-- a file that gives a robot isn't rejected
 pub not_rejected : (agent file : List ℕ) (robot : RobotValue) → IsRobotOfFile agent file robot
     → ¬ IsFileRejected agent file
 not_rejected agent file robot (lines, are, is) rejected =
@@ -112,7 +112,7 @@ rejected_of agent file number is =
     has_lines file (IsRejected agent)
     ((rejection_is_computed agent (file_lines file)).1 (some_overlong _ number is))
 
--- a file that gives nothing has no rule and no sitemap that are computed
+-- if a file gives a crawler nothing, no rule and no sitemap is computed for it
 pub nothing_of : (agent file : List ℕ) → HasLines file (HasNoRulesOrSitemaps agent)
     → (placed_rules agent (file_lines file) ≡ []) × (sitemaps_in (file_lines file) ≡ [])
 nothing_of agent file (lines, are, (rules, sitemaps)) =
@@ -121,7 +121,7 @@ nothing_of agent file (lines, are, (rules, sitemaps)) =
     let none = nil_from_length (placed_rules agent lines) (sym (length_permutation _ _ moved)) in
     (rw same at none, rw same at (sym ((sitemaps_are_computed lines []).0 sitemaps)))
 
--- ---- an answer
+-- ---- a result
 
 no_looks : (view : ViewValue) (n : ℕ) → LooksAtMost view view n
 no_looks view n = record { text = refl; looks = omega arith; cost = omega arith }
@@ -164,7 +164,7 @@ deciding_line_holds_its_rule agent lines rules text number are (differs, found, 
     let (position, is, holds) = (are.held found).0 decides.listed in
     (found, decides, at, position, sym at ∙ is, holds)
 
--- a line holds rules of one kind
+-- all rules that a line holds are of the same kind
 one_kind : (agent : List ℕ) (lines : List LineValue) (position : ℕ) (rule other : Rule)
     → HoldsRule agent lines position rule → HoldsRule agent lines position other → rule.1 ≡ other.1
 one_kind agent lines position rule other one two = kinds rule.1 other.1 (sym one.line.0 ∙ two.line.0)

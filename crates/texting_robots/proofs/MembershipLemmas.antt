@@ -1,4 +1,4 @@
--- Where the lines stand, as the iterator says it and as the definition does.
+-- The membership of lines, as the iterator computes it and as the specification states it.
 use Rattle.std.proofs.Common.{◌≡◌, ℕ, ◌+◌, Bool, true, false, not, ◌||◌, inl, inr}
 use Rattle.std.proofs.Common.{List, [], ◌∷◌, Option, Some, None, slice_get, cond, take, drop, map}
 use Rattle.std.proofs.Common.{arith, ap, refl, sym, add-one, ◌∙◌}
@@ -18,9 +18,9 @@ use Rattle.texting_robots.proofs.CapturedLemmas.{IsWalkAt, any_next, at_front, c
 use Rattle.texting_robots.proofs.CapturedLemmas.{occurs_first}
 use Rattle.texting_robots.proofs.CapturedLemmas.{occurs_next}
 
--- ---- the marks of the definition
+-- ---- the labels of the specification
 
--- what the walk finds ahead is what the test says of the next group line's place, or of the end
+-- `captured_ahead` is the test at the index of the next group line, or at the end if there is none
 ahead_is : (name : List ℕ) (all : List LineValue) (tracker : GroupTracker) (position : ℕ) (lines : List LineValue)
     → IsWalkAt name all position tracker → drop position all ≡ lines
     → captured_ahead name tracker lines ≡ is_captured name all (position + position_or_len is_group lines)
@@ -36,7 +36,7 @@ ahead_is name all tracker position (line ∷ lines) splits left = elim (cases_Bo
       rw (isnt, there) (rw isnt at ahead)
 ]
 
--- what is known ahead is known behind a line that is no group line
+-- what is known about the next group line is still known after a line that isn't one
 pub known_next : (name : List ℕ) (tracker : GroupTracker) (line : LineValue) (lines rest : List LineValue)
     (known : Bool)
     → lines ≡ line ∷ rest → captured_ahead name tracker lines ≡ known
@@ -47,7 +47,7 @@ known_next name tracker line lines rest known next is = elim (cases_Bool (is_gro
   | inr other ↦ rw other (rw (next, other) at is)
 ]
 
--- whether a user-agent line stands before the next place
+-- whether a user-agent line is before the next index
 begun_next : (all : List LineValue) (position : ℕ) (line : LineValue) → slice_get all position ≡ Some line
     → list_any is_agent (take (position + 1) all) ≡ (list_any is_agent (take position all) || is_agent line)
 begun_next all position line at =
@@ -70,7 +70,7 @@ pub labels_are : (name : List ℕ) (lines : List LineValue)
     → labels_of name lines ≡ labels_from name (start_of lines) false 0 lines
 labels_are name lines = labels_left name lines (start_of lines) 0 lines (occurs_first name lines) refl
 
--- ---- the rules of the agent's own lines
+-- ---- the rules of the crawler's own lines
 
 own_if : (number : ℕ) (captured begun : Bool) (found : Option Rule)
     → cond captured (placed number found) None

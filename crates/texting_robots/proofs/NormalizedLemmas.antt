@@ -1,4 +1,4 @@
--- A whole URL that `url` would leave as it is: its parts, from the front.
+-- Reading an absolute URL that `url` would leave unchanged, part by part from its start.
 use Rattle.std.proofs.Common.{◌≡◌, ℕ, ◌<◌, ◌≤◌, Bool, true, false, ◌||◌, ◌==◌, not}
 use Rattle.std.proofs.Common.{List, [], ◌∷◌, ◌++◌, length, get_or, drop, drop_at, take_at, All, sym}
 use Rattle.std.proofs.Common.{refl, ap, ◌∙◌, ◌≢◌, subst, ⊎_elim, inl, inr, arith, append_assoc}
@@ -32,17 +32,17 @@ use Rattle.texting_robots.specs.Internal.Normalized.{EndsPath, after, begins_dot
 use Rattle.texting_robots.specs.Internal.Normalized.{kept_prefix}
 use Rattle.texting_robots.specs.Internal.Normalized.{past_path, past_segment, is_kept}
 
--- ---- bytes that stand
+-- ---- bytes that are kept
 
 none_past : (part : List ℕ) (b : ℕ) → 256 ≤ b → is_kept part b ≡ false
 unfolding is_kept
 none_past part b high = rw (get_or_past UPPER.now (b / 16) 0 (omega arith), and_zero_r) refl
 
--- what a set keeps, without some others
+-- the bytes that a set keeps, except for some
 abbrev pub kept_but : AsciiSet → (ℕ → Bool) → ℕ → Bool
 kept_but set other b = not (should_percent_encode set b) && not (other b)
 
--- a part has such bytes
+-- a part of a URL consists of such bytes
 module _ (part : List ℕ) (set : AsciiSet) (other : ℕ → Bool)
     (same : agree_below (is_kept part) (kept_but set other) 256 ≡ true) where
   same_at : (b : ℕ) → is_kept part b ≡ kept_but set other b
@@ -63,9 +63,10 @@ module _ (part : List ℕ) (set : AsciiSet) (other : ℕ → Bool)
       → All (Passes (is_kept part)) xs
   occurs_all xs kept none k d inside = rw (same_at (get_or xs k d), kept k d inside, none k d inside) refl
 
--- ---- the bytes at the front
+-- ---- the leading bytes
 
--- the bytes at the front by the first `n`: if all these stand, the next ones count too
+-- the leading bytes that are kept, in terms of the first `n`: if all these are kept, the following ones count
+-- too
 module _ (part : List ℕ) (n len : ℕ) (text : List ℕ) (inside : n ≤ length text)
     (front : len ≡ prefix_len (is_kept part) (take n text)) where
   by_front : prefix_len (is_kept part) text
@@ -97,7 +98,7 @@ module _ (part xs ys : List ℕ) (passes : All (Passes (is_kept part)) xs)
 
 -- ---- the path
 
--- from within a segment on, past its end
+-- from within a segment: first skip to the end of the segment
 past_rest : (text : List ℕ) → past_segment text ≡ past_path (after SEGMENT.now text)
 unfolding past_segment is_kept
 past_rest [] = refl
@@ -109,7 +110,7 @@ past_rest (b ∷ text) = elim (cases_eq b 47) [
   ]
 ]
 
--- a first segment that is no dot segment is passed
+-- a first segment that isn't a dot segment is skipped
 pub past_more : (text : List ℕ) → get_or text 0 0 ≡ 47
     → dot_count (kept_prefix SEGMENT.now (drop 1 text)) ≡ 0
     → past_path text ≡ past_path (after SEGMENT.now (drop 1 text))
@@ -138,7 +139,7 @@ two_dots [] one two slash = absurd (omega arith)
 two_dots (a ∷ []) one two slash = absurd (omega arith)
 two_dots (a ∷ b ∷ []) one two slash = absurd (omega arith)
 
--- what is passed is more of a path
+-- a path followed by what is skipped is a path
 pub path_read : (n : ℕ) (path text rest : List ℕ) → IsPath path → length text ≤ n
     → past_path text ≡ Some rest → Leaves IsPath (path ++ text) rest
 unfolding is_kept should_percent_encode
@@ -178,7 +179,7 @@ pub not_ended : (text : List ℕ) → get_or text 0 0 ≡ 47 → ¬ (EndsPath te
 not_ended [] e ends = omega arith
 not_ended (b ∷ text) e ends = ⊎_elim (λ delimiter. omega arith) (λ delimiter. omega arith) ends
 
--- a path is passed
+-- a path is skipped completely
 pub path_left : (text rest : List ℕ) → EndsPath rest → Leaves IsPath text rest
     → past_path text ≡ Some rest
 unfolding is_kept should_percent_encode
@@ -199,7 +200,7 @@ path_left text rest ends (path, assembled, is_path) =
         ∙ ap past_path (after_at SEGMENT.now s later passes stops)
         ∙ by segments (All-tail (IsSegment SpecialNotFile) s segments each)
 
--- ---- segments that begin with no dot and no escape
+-- ---- segments that don't begin with a dot or a percent escape
 
 abbrev is_open : ℕ → Bool
 is_open b = not (b == 46 || b == 37) && (b == 47 || is_kept SEGMENT.now b)
@@ -220,7 +221,7 @@ undotted (b ∷ text) plain = elim (cases_Bool (is_kept SEGMENT.now b)) [
   | inr outside ↦ rw outside refl
 ]
 
--- past a slash or a byte of a segment, where what follows begins with no dot and no escape
+-- skipping a slash or a byte of a segment, if what follows doesn't begin with a dot or a percent escape
 past_one : (b : ℕ) (text : List ℕ) → (b == 47 || is_kept SEGMENT.now b) ≡ true
     → begins_dotted text ≡ false → past_segment (b ∷ text) ≡ past_segment text
 unfolding past_segment
@@ -231,7 +232,7 @@ past_one b text within plain = elim (cases_eq b 47) [
       rw (ne_eqb b 47 other, inside) refl
 ]
 
--- past open bytes: to the last one, and over it
+-- skipping open bytes: up to the last one, and beyond it
 past_open : (n b : ℕ) (text : List ℕ) → n ≤ prefix_len (is_kept OPEN.now) text
     → (b == 47 || is_kept SEGMENT.now b) ≡ true
     → (past_segment (b ∷ text) ≡ past_segment (drop n (b ∷ text)))
@@ -245,7 +246,7 @@ past_open (suc n) b (c ∷ text) few within =
     let more = past_open n c text (omega (arith, rw stand at few)) next in
     (step ∙ more.0, λ last. step ∙ more.1 last)
 
--- what neither is open nor begins like a dot is no part of a path
+-- a byte that isn't open, and is neither a dot nor a percent sign, isn't part of a path
 closed : (text : List ℕ) → StopsAt (is_kept OPEN.now) text → begins_dotted text ≡ false
     → after SEGMENT.now text ≡ text
 closed [] stops plain = refl
@@ -254,7 +255,7 @@ closed (b ∷ text) stops plain =
     let none : is_kept SEGMENT.now b ≡ false = grind (arith, nat_tests) in
     rw none refl
 
--- where the open bytes end, their segment ends, or it goes on
+-- after the open bytes, either their segment ends or it continues
 pub plain_end : (here plain rest : List ℕ) → get_or here 0 0 ≡ 47
     → plain ≡ kept_prefix OPEN.now (drop 1 here) → rest ≡ after OPEN.now (drop 1 here)
     → (past_path here ≡ past_path (after SEGMENT.now (drop (length plain) here)))
@@ -276,7 +277,7 @@ plain_end (b ∷ text) plain rest slash front back =
 
 -- ---- the port
 
--- a site's end is no byte of a name and none of a number
+-- what follows a site begins neither with a byte of a host nor with a digit
 ends_stops : (rest : List ℕ) → EndsSite rest
     → StopsAt (is_kept NAME.now) rest × StopsAt (is_kept NUMBER.now) rest
 unfolding is_kept
@@ -290,7 +291,7 @@ number_occurs b digit =
     (omega arith) in
     rw (le-ltb b 48 (omega arith)) at test
 
--- digits that begin plainly are what their number is written as
+-- digits without a plus sign or a superfluous zero at the start are the decimal form of their number
 pub decimal_read : (digits : List ℕ) (port : ℕ) → begins_plainly digits ≡ true
     → (IsNumeral 10 (without_leading_plus digits)
     × (digits_value 10 (without_leading_plus digits) < 2 ^ 16))
@@ -308,7 +309,7 @@ decimal_plain zero small = rw (decimal_digit 0 (omega arith)) refl
 decimal_plain (suc n) small =
     let first = first_decimal (suc n) (omega arith) (omega arith) in grind (arith, nat_tests)
 
--- what is written as a port is read as one
+-- a port in decimal form is read as such
 pub port_left : (own : ℕ) (text rest : List ℕ) → get_or text 0 0 ≡ 58 → EndsSite rest
     → Leaves (IsPort own) text rest
     → IsOther own (kept_prefix NUMBER.now (drop 1 text)) × (after NUMBER.now (drop 1 text) ≡ rest)

@@ -1,4 +1,4 @@
--- What the order of patterns says in words.
+-- What a comparison of patterns by the order means.
 use Rattle.std.proofs.Common.{◌≡◌, ◌↔◌, ◌⊎◌, ℕ, ◌<◌, inl, inr, suc, arith, List, []}
 use Rattle.std.proofs.Common.{◌∷◌, length, slice_index, take, zero, sym, refl, ap, ◌∙◌, Less}
 use Rattle.std.proofs.Common.{Equal, Greater}
@@ -15,11 +15,11 @@ cmp_less x y h = sym (nat_cmp_is x y Less h)
 pub cmp_same : (x : ℕ) → nat_cmp x x ≡ Equal
 cmp_same x = tied_itself nat_cmp_total x
 
--- alike up to some place, and smaller there
+-- equal up to some index, with a smaller byte there
 abbrev IsSmaller : List ℕ → List ℕ → Type 0
 IsSmaller p q = (k : ℕ) × (take k p ≡ take k q) × (slice_index p k < slice_index q k)
 
--- what an answer on two texts of one length says
+-- what the result of comparing two strings of the same length means
 abbrev Compared : Ordering → List ℕ → List ℕ → Type 0
 Compared o p q = MatchOrdering o (IsSmaller p q) (p ≡ q) (IsSmaller q p)
 
@@ -53,7 +53,7 @@ pattern_total : IsTotalOrder pattern_cmp
 pattern_total =
     then_total (back_total (on_total (λ (p : List ℕ). length p) nat_cmp_total)) nat_list_cmp_total
 
--- what the comparison of two patterns says
+-- what the result of comparing two patterns means
 pattern_compared : (p q : List ℕ)
     → MatchOrdering (pattern_cmp p q) (IsBefore p q) (p ≡ q) (IsBefore q p)
 pattern_compared p q = by_length (nat_cmp (length q) (length p)) (ranked (length q) (length p) _ refl)

@@ -1,4 +1,4 @@
--- What a pattern matches, piece by piece.
+-- What a pattern matches, segment by segment.
 use Rattle.std.proofs.Common.{◌≡◌, ◌≢◌, ◌↔◌, ℕ, suc, ◌+◌, ◌==◌, ◌&&◌, Bool}
 use Rattle.std.proofs.Common.{true, false, inl, inr, List, [], ◌∷◌, ◌++◌, All, get_or, refl}
 use Rattle.std.proofs.Common.{sym, ap, ◌∙◌, append_assoc, arith}
@@ -8,11 +8,11 @@ use Rattle.std.proofs.lemmas.List.Elements.{All-head, All-tail, All-weaker}
 use Rattle.texting_robots.specs.Pattern.{dollar, IsSuffix, Matches, MatchesWith, star}
 use Rattle.texting_robots.specs.Internal.Segments.{after_stars, is_wildcard, IsAtWildcard, Closes, Grows}
 
--- a byte that stands for itself
+-- a byte that matches only itself
 abbrev pub IsPlain : Bool → ℕ → Type 0
 IsPlain anchors b = ((b == star) ≡ false) × ((anchors && (b == dollar)) ≡ false)
 
--- with stars alone, and with dollars too
+-- a segment without stars or dollars, if only stars are wildcards, or both are
 pub plain_stars : (segment : List ℕ) → All (λ b. b ≢ star) segment → All (IsPlain false) segment
 plain_stars = All-weaker (λ b. b ≢ star) (IsPlain false) (λ b other. (ne_eqb b star other, refl))
 
@@ -21,17 +21,17 @@ plain_wildcards =
     All-weaker (λ b. is_wildcard b ≡ false) (IsPlain true)
     (λ b other. or_parts (b == star) (b == dollar) other)
 
--- what holds of the same texts holds of the same texts that something else holds of
+-- if `P` and `Q` are equivalent, then it is also equivalent that they hold for some text with `R`
 under : {R : List ℕ → Type 0} (P Q : List ℕ → Type 0) → ((t : List ℕ) → P t ↔ Q t)
     → ((t : List ℕ) × R t × P t) ↔ ((t : List ℕ) × R t × Q t)
 under P Q same = (λ (t, r, p). (t, r, (same t).0 p), λ (t, r, q). (t, r, (same t).1 q))
 
--- an end of an end
+-- a suffix of a suffix
 pub suffix_trans : {a b c : List ℕ} → IsSuffix a b → IsSuffix b c → IsSuffix a c
 suffix_trans {a} (f, e) (g, h) = (g ++ f, h ∙ ap (λ x. g ++ x) e ∙ sym (append_assoc g f a))
 
 module _ (anchors : Bool) where
-  -- a plain piece stands in front of the text
+  -- a plain segment has to be at the start of the text
   pub in_front : (segment q t : List ℕ) → All (IsPlain anchors) segment → MatchesWith anchors (segment ++ q) t
       ↔ ((after : List ℕ) × (t ≡ segment ++ after) × MatchesWith anchors q after)
   unfolding MatchesWith
@@ -44,7 +44,7 @@ module _ (anchors : Bool) where
         λ (after, e, n). (segment ++ after, e, (later (segment ++ after)).1 (after, refl, n)),
       )
 
-  -- behind a star it stands somewhere in the text
+  -- after a star, it may be anywhere in the text
   pub somewhere : (segment q t : List ℕ) → All (IsPlain anchors) segment
       → MatchesWith anchors (star ∷ (segment ++ q)) t
       ↔ ((after : List ℕ) × IsSuffix (segment ++ after) t × MatchesWith anchors q after)
@@ -54,13 +54,13 @@ module _ (anchors : Bool) where
     λ (after, i, n). (segment ++ after, i, (in_front segment q (segment ++ after) all).1 (after, refl, n)),
   )
 
-  -- behind an earlier place a star matches at least as much
+  -- a pattern that begins with a star matches a text if it matches a suffix of it
   pub star_grows : (q s t : List ℕ) → IsSuffix s t
       → MatchesWith anchors (star ∷ q) s → MatchesWith anchors (star ∷ q) t
   unfolding MatchesWith
   star_grows q s t i (u, j, m) = (u, suffix_trans j i, m)
 
-  -- the first of two stars adds nothing
+  -- the first of two stars has no effect
   pub star_star : (q t : List ℕ) → (get_or q 0 0 == star) ≡ true
       → MatchesWith anchors (star ∷ q) t ↔ MatchesWith anchors q t
   unfolding MatchesWith
@@ -68,7 +68,7 @@ module _ (anchors : Bool) where
   star_star (c ∷ q) t two =
       rw (eqb-true c star two) (λ (s, i, m). star_grows q s t i m, λ m. (t, ([], refl), m))
 
-  -- nor do more stars behind the first
+  -- more stars after the first have no effect either
   pub star_stars : (q t : List ℕ)
       → MatchesWith anchors (star ∷ after_stars q) t ↔ MatchesWith anchors (star ∷ q) t
   star_stars [] t = (λ m. m, λ m. m)
@@ -83,7 +83,7 @@ module _ (anchors : Bool) where
     | inr other ↦ rw other (λ m. m, λ m. m)
   ]
 
-  -- patterns that match the same match the same behind a byte
+  -- patterns that match the same also match the same with one byte before them
   pub after_byte : (b : ℕ) (p q : List ℕ)
       → ((t : List ℕ) → MatchesWith anchors p t ↔ MatchesWith anchors q t)
       → (t : List ℕ) → MatchesWith anchors (b ∷ p) t ↔ MatchesWith anchors (b ∷ q) t
@@ -96,12 +96,12 @@ module _ (anchors : Bool) where
     ]
   ]
 
--- at its end a pattern matches anything
+-- an empty pattern matches any text
 pub end_matches : (anchors : Bool) (t : List ℕ) → MatchesWith anchors [] t
 unfolding MatchesWith
 end_matches anchors t = tt
 
--- the empty text is matched just by stars and dollars
+-- only patterns of stars and dollars match the empty text
 pub none_left : (front s : List ℕ) → [] ≡ front ++ s → s ≡ []
 none_left [] s e = sym e
 none_left (b ∷ front) s e = cc
@@ -123,7 +123,7 @@ only_wildcards_match (b ∷ q) =
       ]
     ]
 
--- a pattern that closes matches the empty text alone, and any other from a dollar on matches nothing
+-- a pattern that closes matches only the empty text; any other that begins with a dollar matches nothing
 pub closes_decides : (q t : List ℕ) → Closes q → Matches q t ↔ (t ≡ [])
 unfolding MatchesWith
 closes_decides q t c = rw c.dollar (λ (s, (e, gone), m). e, λ e. ([], (e, refl), c.empty))
@@ -133,7 +133,7 @@ unfolding MatchesWith
 dollar_matches_none q t other (s, (e, gone), m) =
     other (record { following = q; dollar = refl; empty = rw gone at m })
 
--- what begins with a mark and doesn't close matches more of a text where it matches less
+-- a pattern that begins with a wildcard and doesn't close matches a text if it matches a suffix of it
 pub grows_at_wildcard : (q : List ℕ) → IsAtWildcard q → ¬ Closes q → Grows q
 unfolding MatchesWith
 grows_at_wildcard [] at_wildcard other = λ s t i m. tt
@@ -144,7 +144,7 @@ grows_at_wildcard (b ∷ q) at_wildcard other = elim (or_cases (b == star) (b ==
       rw e (λ s t i m. absurd (dollar_matches_none q s (rw e at other) m))
 ]
 
--- any other pattern that begins with a mark matches nothing
+-- any other pattern that begins with a wildcard matches nothing
 pub wildcard_matches_none : (q t : List ℕ) → IsAtWildcard q → q ≢ []
     → ((rest : List ℕ) → q ≢ star ∷ rest)
     → ¬ Closes q → ¬ Matches q t

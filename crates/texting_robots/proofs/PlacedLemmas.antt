@@ -1,4 +1,4 @@
--- The rules that are computed of lines are those that the lines hold.
+-- The rules that are computed from lines are those that the lines hold.
 use Rattle.std.proofs.Common.{◌≡◌, ◌↔◌, ◌⊎◌, inl, inr, ℕ, zero, suc, ◌+◌}
 use Rattle.std.proofs.Common.{Bool, true, false, cond, List, [], ◌∷◌, Option, Some, None, slice_get}
 use Rattle.std.proofs.Common.{refl, ap, arith}
@@ -12,9 +12,9 @@ use Rattle.texting_robots.specs.Line.{LineValue, Allow, Disallow}
 use Rattle.texting_robots.specs.Executable.{placed_in, placed_rules, rule_in, rule_with}
 use Rattle.texting_robots.proofs.CapturedLemmas.{cond_given, is_captured_decides, kept_next}
 
--- ---- what is computed of lines comes from one of them
+-- ---- a computed rule comes from one of the lines
 
--- the rules of the lines at which a test of places passes, where the first line stands at this place
+-- the rules of the lines whose index passes a test, where the first line has index `n`
 abbrev pub rules_from : (ℕ → Bool) → ℕ → List LineValue → List PlacedRule
 rules_from test n lines = filter_map placed_in (filter (λ p. test p.0) (enumerate_from n lines))
 
@@ -24,7 +24,7 @@ GivesRule test n lines found =
     (k : ℕ) × (position : ℕ) × (line : LineValue) × (position ≡ n + k) × (slice_get lines k ≡ Some line)
     × (cond (test position) (placed_in (position, line)) None ≡ Some found)
 
--- what may stand first in a list, or in the rest
+-- an item is in a list if it is the first one or in the rest
 cons_has : {X : Type 0} (o : Option X) (xs : List X) (x : X)
     → Contains (cons_option o xs) x ↔ ((o ≡ Some x) ⊎ Contains xs x)
 cons_has None xs x = (λ has. inr has, λ either. elim either [ inl is ↦ cc | inr has ↦ has ])
@@ -38,7 +38,7 @@ cons_has {X} (Some y) xs x = (to, from)
     from (inl is) = (0, omega arith, cc)
     from (inr (k, below, at)) = (suc k, omega arith, at)
 
--- the first line gives the rule, or one of the later ones
+-- the rule comes from the first line or from a later one
 module _ (test : ℕ → Bool) (n : ℕ) (line : LineValue) (lines : List LineValue) (found : PlacedRule)
     (later : Contains (rules_from test (n + 1) lines) found ↔ GivesRule test (n + 1) lines found) where
   abbrev ComesNext : Type 0
@@ -69,7 +69,7 @@ rules_come test n (line ∷ lines) found =
       λ gives. from (back test n line lines found later gives),
     )
 
--- ---- and such a line holds it
+-- ---- that line holds the rule
 
 module _ (agent : List ℕ) (lines : List LineValue) (position : ℕ) (found : PlacedRule) where
   -- the rule has the number of this line, which holds it

@@ -1,4 +1,4 @@
--- A piece may be placed where it first stands, and what is found by its place.
+-- The first occurrence of a segment is enough, and what a search finds is that occurrence.
 use Rattle.std.proofs.Common.{◌≡◌, ◌↔◌, ⊎_elim, ℕ, ◌+◌, ◌-◌, ◌≤◌, Some, None}
 use Rattle.std.proofs.Common.{List, [], ◌++◌, length, take, drop, sym, ap, subst, ◌∙◌, arith}
 use Rattle.std.proofs.Common.{append-nil, take-append-drop, drop-drop, length-append, length-drop}
@@ -8,7 +8,7 @@ use Rattle.memchr.specs.Find.{FindsNeedle, OccursAt}
 use Rattle.texting_robots.specs.{Pattern.IsSuffix, Internal.Stars.IsRestAfterFirst}
 use Rattle.texting_robots.specs.{Internal.Stars.OccursNowhere}
 
--- where R holds of a text if it holds of an end of it, the first place of the piece is enough
+-- if `R` holds for a text whenever it holds for a suffix of it, the first occurrence of the segment is enough
 pub first_is_enough : (R : List ℕ → Type 0) (segment t : List ℕ)
     → ((s t : List ℕ) → IsSuffix s t → R s → R t) → (rest : List ℕ)
     → IsRestAfterFirst segment t rest
@@ -19,7 +19,7 @@ first_is_enough R segment t grows rest following = (
 )
 
 module _ (t : List ℕ) where
-  -- what is behind a later place is a suffix
+  -- what follows a later offset is a suffix
   suffix_drop : (i j : ℕ) → i ≤ j → IsSuffix (drop j t) (drop i t)
   suffix_drop i j le =
       let between = take (j - i) (drop i t) in
@@ -27,7 +27,7 @@ module _ (t : List ℕ) where
       let rest = drop-drop (j - i) i t ∙ ap (λ n. drop n t) there in
       (between, sym (take-append-drop (j - i) (drop i t)) ∙ ap (λ x. between ++ x) rest)
 
-  -- a suffix stands behind some later place
+  -- a suffix begins at some later offset
   suffix_position : (i : ℕ) (u : List ℕ) → i ≤ length t → IsSuffix u (drop i t)
       → (j : ℕ) × (i ≤ j) × (j + length u ≡ length t) × (drop j t ≡ u)
   suffix_position i u le (front, e) =
@@ -37,7 +37,7 @@ module _ (t : List ℕ) where
       (i + length front, omega arith, omega arith, is)
 
   module _ (segment : List ℕ) where
-    -- the piece occurs at a place just where what is behind that place begins with it
+    -- if the segment occurs at an offset, then the text begins with it from there on
     pub occurs_here : (at : ℕ) → OccursAt t segment at → drop at t ≡ segment ++ drop (at + length segment) t
     occurs_here at here = at_from_reads 0 t segment at here.fits here.reads
 
@@ -50,7 +50,8 @@ module _ (t : List ℕ) where
         (record { fits = omega arith; reads = at_reads 0 t segment at rest e }, following)
 
     module _ (from : ℕ) (within : from ≤ length t) where
-      -- the first place at which it occurs is the first at which it stands
+      -- if the search from `from` on finds `at`, then what follows that occurrence is the rest after the
+      -- first one
       pub after_found : (at : ℕ) → FindsNeedle t segment from (Some at)
           → IsRestAfterFirst segment (drop from t) (drop (at + length segment) t)
       after_found at (none, here) =
@@ -67,14 +68,14 @@ module _ (t : List ℕ) where
                 subst (λ x. IsSuffix x (drop (at + length segment) t)) rest less;
           }
 
-      -- what occurs nowhere stands nowhere
+      -- if no occurrence is found, there is none
       pub found_nowhere : FindsNeedle t segment from None → OccursNowhere segment (drop from t)
       found_nowhere none other after e =
           let (position, ahead, sizes, is) = suffix_position from (segment ++ after) within (other, e) in
           none position ahead (omega arith) (here_occurs after position (omega arith) is).0
 
     module _ (position : ℕ) where
-      -- what is behind a place ends with it just where it fits there and occurs at the end
+      -- the text from an offset on ends with the segment exactly if the segment fits and occurs at the end
       pub ends_with : position + length segment ≤ length t
           → IsSuffix segment (drop position t) ↔ OccursAt t segment (length t - length segment)
       ends_with fits =
@@ -90,7 +91,7 @@ module _ (t : List ℕ) where
                 subst (λ x. IsSuffix x (drop position t)) e (suffix_drop position last (omega arith)),
           )
 
-      -- where it ends with the piece, the piece fits
+      -- if the text ends with the segment, then the segment fits
       pub ends_short : position ≤ length t → IsSuffix segment (drop position t)
           → position + length segment ≤ length t
       ends_short le i = let (at, ahead, size, is) = suffix_position position segment le i in omega arith

@@ -1,5 +1,4 @@
--- What a pattern matches begins as its first piece, and has the pairs of neighbouring bytes of its searched
--- pieces.
+-- A text that a pattern matches begins as its first segment does, and has the bigrams of its other segments.
 use Rattle.std.proofs.Common.{◌≡◌, ℕ, ◌*◌, ◌^◌, ◌%◌, ◌<◌, ◌≤◌, List}
 use Rattle.std.proofs.Common.{[], ◌∷◌, ◌++◌, length, min, get_or, drop, take, sym, refl, ap}
 use Rattle.std.proofs.Common.{◌∙◌, append_assoc, take-append-drop, arith}
@@ -17,13 +16,13 @@ use Rattle.texting_robots.specs.Pattern.{Matches}
 
 -- ---- the beginning
 
--- the piece's bytes are those of the text, as far as both go
+-- the bytes of the segment are those of the text, as far as both go
 same_below : (segment rest : List ℕ) → first_eight (segment ++ rest) % 2 ^ (8 * min (length segment) 8)
     ≡ first_eight segment % 2 ^ (8 * min (length segment) 8)
 same_below (a ∷ b ∷ c ∷ d ∷ e ∷ f ∷ g ∷ h ∷ segment) rest = refl
 same_below segment rest = omega arith
 
--- and so a mask over the piece hides what stands behind it
+-- so a mask over the segment hides the bytes after it
 pub same_masked : (segment rest : List ℕ) → bit_and (first_eight (segment ++ rest)) (ones_below (length segment))
     ≡ bit_and (first_eight segment) (ones_below (length segment))
 same_masked segment rest =
@@ -31,13 +30,13 @@ same_masked segment rest =
     and_mask (first_eight (segment ++ rest)) size ∙ same_below segment rest
     ∙ sym (and_mask (first_eight segment) size)
 
--- a text that begins with a piece fits the piece's head
+-- a text that begins with a segment fits the segment's head
 beginning_fits : (segment rest : List ℕ) (head : Head) → IsHeadOf segment head
     → Fits head (first_eight (segment ++ rest))
 beginning_fits segment rest head is =
     rw (is.bytes, is.mask) (same_masked segment rest)
 
--- ---- pairs of neighbouring bytes
+-- ---- bigrams: pairs of adjacent bytes
 
 pub or_assoc : (a b c : ℕ) → bit_or (bit_or a b) c ≡ bit_or a (bit_or b c)
 or_assoc a b c =
@@ -59,7 +58,7 @@ within_through : (few some many : ℕ) → AreWithin few some → AreWithin some
 within_through few some many h k =
     ap (bit_or few) (sym k) ∙ sym (or_assoc few some many) ∙ ap (λ x. bit_or x many) h ∙ k
 
--- the front of a text has no pairs but those of the whole
+-- a prefix of a text has no bigrams other than those of the text
 front_within : (front rest : List ℕ) → AreWithin (pair_set front) (pair_set (front ++ rest))
 unfolding pair_set
 front_within [] rest = or_zero_l (pair_set rest)
@@ -71,7 +70,7 @@ front_within (b ∷ c ∷ front) rest =
     within_both bit (pair_set (c ∷ front)) (bit_or bit more) first
     (within_later (pair_set (c ∷ front)) bit more (front_within (c ∷ front) rest))
 
--- and so has its end
+-- nor has a suffix
 end_within : (front rest : List ℕ) → AreWithin (pair_set rest) (pair_set (front ++ rest))
 unfolding pair_set
 end_within [] rest = or_self (pair_set rest)
@@ -79,7 +78,7 @@ end_within (b ∷ front) rest =
     let more = front ++ rest in
     within_later (pair_set rest) (front_bit b more) (pair_set more) (end_within front rest)
 
--- the first pair moves from what is left to what is done
+-- loop step: the first bigram is moved from the remaining text to the bits so far
 pub pairs_step : (bits bit whole : ℕ) (rest : List ℕ) → 2 ≤ length rest
     → bit ≡ pair_bit (get_or rest 0 0) (get_or rest 1 0) → bit_or bits (pair_set rest) ≡ whole
     → bit_or (bit_or bits bit) (pair_set (drop 1 rest)) ≡ whole
@@ -88,7 +87,7 @@ pairs_step bits bit whole (b ∷ c ∷ rest) long is h =
     rw (or_assoc, is) h
 pairs_step bits bit whole rest long is h = absurd (omega arith)
 
--- and so do the first two, one after the other
+-- loop step: the first two bigrams are moved, one after the other
 pub two_pairs : (bits one two whole : ℕ) (rest : List ℕ) → 3 ≤ length rest
     → one ≡ pair_bit (get_or rest 0 0) (get_or rest 1 0)
     → two ≡ pair_bit (get_or rest 1 0) (get_or rest 2 0)
@@ -105,9 +104,9 @@ no_pairs [] short = refl
 no_pairs (b ∷ []) short = refl
 no_pairs (b ∷ c ∷ rest) short = absurd (omega arith)
 
--- ---- over the pieces
+-- ---- all segments
 
--- the pairs of all pieces together, and of the ending
+-- the bigrams of all segments, and those of the ending
 abbrev pub segment_pairs : List ℕ → Ending → List Segment → ℕ
 segment_pairs pattern ending [] = ending_pairs pattern ending
 segment_pairs pattern ending (segment ∷ segments) =
@@ -119,7 +118,7 @@ ending_within pattern (Last span) t (front, e) =
     rw e (end_within front (part_of pattern span))
 ending_within pattern ending t ends = or_zero_l (pair_set t)
 
--- what is left of a pattern matches only texts with the pairs of the pieces that are left
+-- the rest of a pattern matches only texts with the bigrams of the remaining segments
 left_within : (pattern : List ℕ) (ending : Ending) (segments : List Segment) (left : List ℕ)
     → AreLeft pattern ending segments left → (t : List ℕ) → Matches left t
     → AreWithin (segment_pairs pattern ending segments) (pair_set t)
@@ -134,7 +133,7 @@ left_within pattern ending (segment ∷ segments) left (rest, is, more) t m =
     let both = within_both _ later (pair_set (part ++ after)) (front_within part after) following in
     rw e (within_through pairs (pair_set (part ++ after)) _ both (end_within front (part ++ after)))
 
--- what a pattern matches meets its needs
+-- a text that a pattern matches passes its prefilter
 pub are_prefilter : {pattern : List ℕ} {ends : Ends} {segments : List Segment} {borders : List ℕ} (prefilter : Prefilter)
     → AreSegments pattern ends segments borders → IsHeadOf (take ends.first_len pattern) prefilter.head
     → prefilter.pairs.bits ≡ segment_pairs pattern ends.ending segments → ArePrefilter pattern prefilter
@@ -146,7 +145,7 @@ are_prefilter {pattern} {ends} {segments} prefilter are head pairs text m =
     (left_within pattern ends.ending segments are.rest are.left rest n) (end_within first rest) in
     rw (e, pairs) (record { head = beginning_fits first rest prefilter.head head; pairs = within })
 
--- a text that begins with a piece has the pairs of the piece's first bytes
+-- a text that begins with a segment has the bigrams of the segment's first bytes
 pub beginning_within : (pattern rest text : List ℕ) (few first : ℕ) → few ≤ first
     → text ≡ take first pattern ++ rest → AreWithin (pair_set (take few pattern)) (pair_set text)
 beginning_within pattern rest text few first less e =

@@ -1,4 +1,4 @@
--- What the code's loops keep.
+-- What the loops of the code preserve.
 use Rattle.std.proofs.Common.{◌≡◌, ℕ, Bool, true, false, not, cond, List, [], ◌∷◌, ◌++◌}
 use Rattle.std.proofs.Common.{Option, Some, None, length, slice_get, append_assoc, length-append, subst, sym}
 use Rattle.std.proofs.Common.{refl, ap, ◌∙◌, arith, inl, inr}
@@ -24,7 +24,7 @@ pub no_sitemap : (line : LineValue) → is_sitemap line ≡ false → sitemap_in
 no_sitemap (Sitemap value) isnt = cc
 no_sitemap _ isnt = refl
 
--- ---- values that are texts
+-- ---- values that are UTF-8
 
 pub if_text : {X : Type 0} (value : List ℕ) (x : X) → IsUtf8 value
     → cond (is_utf8 value) (Some x) None ≡ Some x
@@ -41,7 +41,7 @@ pub no_text : {X : Type 0} (value : List ℕ) (x : X)
 no_text {X = X} value x none is =
     let wrong : ◌≡◌ {A = Option X} (Some x) None = sym (if_text value x is) ∙ none in cc
 
--- a refusal for one cause is one for a wider cause
+-- an error for one cause is also an error for a weaker one
 pub rejected_wider : (P Q : Type 0) (e : Error) → (P → Q) → IsMemoryErrorOr P e → IsMemoryErrorOr Q e
 rejected_wider P Q mine.InvalidRobots wider is = is
 rejected_wider P Q mine.InvalidRule wider is = wider is
@@ -49,7 +49,7 @@ rejected_wider P Q mine.Memory wider is = is
 
 -- ---- the first pass
 
--- the lines before the first agent line, one by one
+-- the lines before the first user-agent line, one by one
 abbrev pub before_agent : List LineValue → List LineValue
 before_agent [] = []
 before_agent (line ∷ lines) = cond (is_agent line) [] (line ∷ before_agent lines)
@@ -62,7 +62,7 @@ before_agents (line ∷ lines) =
       | inr other ↦ rw other (ap (λ t. line ∷ t) (before_agents lines))
     ]
 
--- the last delay before the first agent line of the lines that are left
+-- the last delay before the first user-agent line among the remaining lines, starting from `last`
 abbrev pub delay_from : Option ℕ → List LineValue → Option ℕ
 delay_from last lines =
     cond (list_any is_agent lines) (last_or last (filter_map delay_in (before_agent lines))) None
@@ -78,19 +78,19 @@ cons_is : {X : Type 0} (o : Option X) (xs : List X) → cons_option o xs ≡ opt
 cons_is None xs = refl
 cons_is (Some x) xs = refl
 
--- what one more item gave was added to what the earlier ones gave; the later ones give these
+-- loop step: the result of one more item was appended to the earlier results, and the later ones give `xs`
 pub given_more : {X : Type 0} (o : Option X) (xs old new : List X) → new ≡ old ++ option_to_list o
     → new ++ xs ≡ old ++ cons_option o xs
 given_more o xs old new added = rw (added, append_assoc, cons_is o xs) refl
 
--- the same of the first
+-- the same for the first result
 pub first_more : {X : Type 0} (o old new : Option X) (xs : List X) → new ≡ option_or old o
     → option_or new (slice_get xs 0) ≡ option_or old (slice_get (cons_option o xs) 0)
 first_more None None new xs added = rw added refl
 first_more (Some x) None new xs added = rw added refl
 first_more o (Some z) new xs added = rw added refl
 
--- an item gives nothing where all of them give nothing
+-- if all items together give nothing, then each of them gives nothing
 pub given_none : {X : Type 0} (o : Option X) (xs old : List X) → old ++ cons_option o xs ≡ []
     → o ≡ None
 given_none None xs old none = refl
@@ -127,9 +127,9 @@ none_unplaced P rules none (k, rule, below, at, is) =
     let (placed, (n, less, here), same) = placed_of rules rule (k, below, at) in
     none n placed less (subst P (sym (rw here same)) is)
 
--- ---- the rule for which a file is refused
+-- ---- the rule for which a file is rejected
 
--- the rules that were taken aren't overlong, and that of this captured line is
+-- the rules collected so far aren't too long, and that of this captured line is
 pub first_overlong : (number : ℕ) (captured : Bool) (rule : Option Rule) (taken left all : List PlacedRule)
     → taken ++ cons_option (cond captured (placed number rule) None) left ≡ all
     → All (λ (other : PlacedRule). ¬ IsOverlong other.rule.0) taken
@@ -158,7 +158,7 @@ some_overlong rules number is =
       is.overlong,
     )
 
--- what an error at a line comes to
+-- the rejection that an error at a line leads to
 pub rejected_at : (number : ℕ) (captured : Bool) (rule : Option Rule) (taken left all : List PlacedRule)
     → (e : Error) → taken ++ cons_option (cond captured (placed number rule) None) left ≡ all
     → All (λ (other : PlacedRule). ¬ IsOverlong other.rule.0) taken

@@ -1,4 +1,4 @@
--- Cutting a pattern from left to right, and what its pieces decide.
+-- Cutting a pattern into segments from left to right, and what the segments decide.
 use Rattle.std.proofs.Common.{◌≡◌, ◌≢◌, ◌↔◌, ◌==◌, ℕ, ◌+◌, ◌-◌, Bool}
 use Rattle.std.proofs.Common.{true, false, not, List, [], ◌∷◌, ◌++◌, All, length, take, drop, refl, sym, ap}
 use Rattle.std.proofs.Common.{subst, ◌∙◌}
@@ -21,14 +21,14 @@ use Rattle.texting_robots.proofs.PatternLemmas.{closes_decides, end_matches, gro
 use Rattle.texting_robots.proofs.PatternLemmas.{wildcard_matches_none, plain_wildcards, somewhere, star_stars}
 use Rattle.texting_robots.proofs.PatternLemmas.{suffix_trans}
 
--- ---- what pieces decide
+-- ---- what segments decide
 
 module _ {p : List ℕ} {ends : Ends} {segments : List Segment} {borders : List ℕ}
     (are : AreSegments p ends segments borders) (t : List ℕ) where
   abbrev first : List ℕ
   first = take ends.first_len p
 
-  -- where the text begins with the first piece, what is left decides
+  -- if the text begins with the first segment, the rest of the pattern decides
   pub first_in_front : (following : List ℕ) → t ≡ first ++ following
       → Matches p t ↔ Matches are.rest following
   first_in_front following split =
@@ -38,9 +38,9 @@ module _ {p : List ℕ} {ends : Ends} {segments : List Segment} {borders : List 
         λ n. from (following, split, n),
       )
 
--- ---- the first mark
+-- ---- the first wildcard
 
--- what stands before the first mark, and the rest from there on
+-- the segment before the first wildcard, and the rest from there on
 pub cut_at_first : (pattern : List ℕ) (k : ℕ) → k ≡ position_or_len is_wildcard pattern
     → IsCutAtWildcard pattern (take k pattern) (drop k pattern)
 cut_at_first pattern k first = record {
@@ -68,7 +68,7 @@ cut_at_first pattern k first = record {
 
 -- ---- from a star on
 
--- what is left is a star, more stars and `next`, which is a piece and the rest
+-- the rest of the pattern is a star, more stars, and `next`, which is a segment and the rest after it
 pub record IsFromStar (left next segment rest : List ℕ) : Type 0 where
   pub following : List ℕ
   pub star_first : left ≡ star ∷ following
@@ -76,14 +76,14 @@ pub record IsFromStar (left next segment rest : List ℕ) : Type 0 where
   pub cut : IsCutAtWildcard next segment rest
 
 module _ {left next segment rest : List ℕ} (is : IsFromStar left next segment rest) where
-  -- `next` is an end of what is left
+  -- `next` is a suffix of the rest
   next_in : IsSuffix next left
   next_in =
       let n = prefix_len (λ b. b == star) is.following in
       let split = sym (take-append-drop n is.following) ∙ ap (λ x. take n is.following ++ x) (sym is.skips) in
       (star ∷ take n is.following, is.star_first ∙ ap (λ x. star ∷ x) split)
 
-  -- the piece may stand anywhere, and then the rest decides
+  -- the segment may be anywhere in the text, and after it the rest decides
   star_decides : (t : List ℕ) → Matches left t ↔ Somewhere segment rest t
   star_decides t =
       let (to, from) = star_stars true is.following t in
@@ -91,11 +91,11 @@ module _ {left next segment rest : List ℕ} (is : IsFromStar left next segment 
       let e = sym is.skips ∙ is.cut.parts in
       rw is.star_first (λ m. parts (rw e at (from m)), λ h. to (rw e (whole h)))
 
-  -- where the rest doesn't close, it matches more of a text where it matches less
+  -- if the rest doesn't close, it matches a text if it matches a suffix of it
   star_is_left : ¬ Closes rest → IsLeft left segment rest
   star_is_left other = record { decides = star_decides; grows = grows_at_wildcard rest is.cut.at_wildcard other }
 
-  -- where the rest closes, the piece is at the end
+  -- if the rest closes, the segment has to be at the end of the text
   star_is_last : Closes rest → (t : List ℕ) → Matches left t ↔ IsSuffix segment t
   star_is_last closes t =
       let (to, from) = star_decides t in
@@ -106,13 +106,13 @@ module _ {left next segment rest : List ℕ} (is : IsFromStar left next segment 
         λ i. from ([], rw append-nil i, (at_end []).1 refl),
       )
 
--- ---- where pieces and tables are put
+-- ---- the ranges of segments and tables
 
--- from where the one begins to where the other does
+-- the range of the pattern from where `next` begins to where `rest` begins
 abbrev pub between : List ℕ → List ℕ → List ℕ → Span
 between p next rest = record { start = length p - length next; end = length p - length rest }
 
--- what stands between two ends of the pattern
+-- the bytes between two suffixes of the pattern
 spanned : (p next segment rest : List ℕ) → IsSuffix next p → next ≡ segment ++ rest
     → IsSpan p (between p next rest) × (part_of p (between p next rest) ≡ segment)
 spanned p next segment rest (front, e) f =
@@ -122,7 +122,7 @@ spanned p next segment rest (front, e) f =
     let bytes = ap (take size) (end_rest p next front e ∙ f) ∙ take_at segment rest size (omega arith) in
     (record { ordered = omega arith; within = omega arith }, bytes)
 
--- a table stands in the tables where it was put
+-- a table is in the list of tables where it was put
 segment_put : (p tables table more : List ℕ) (span : Span) → IsSpan p span
     → IsTable (part_of p span) table
     → IsSegment p (tables ++ (table ++ more)) (record { span = span; table = length tables })
@@ -136,13 +136,13 @@ segment_put p tables table more span is_span is_table =
 
 -- ---- the steps of cutting
 
--- these pieces and this ending are what is left of the pattern
+-- the rest of the pattern consists of these segments and this ending
 pub record IsRest (pattern borders left : List ℕ) (segments : List Segment) (ending : Ending) : Type 0 where
   pub known : All (IsSegment pattern borders) segments
   pub is_ending : IsEnding pattern ending
   pub in_order : AreLeft pattern ending segments left
 
--- The pattern is cut up to here: any cut of what is left completes to a cut of the whole.
+-- The pattern is cut up to here: any cut of the rest extends to a cut of the complete pattern.
 pub record IsCutUpto (pattern : List ℕ) (first_len : ℕ) (old_segments segments : List Segment)
     (old_borders borders left : List ℕ) : Type 0 where
   pub left_in : IsSuffix left pattern
@@ -152,7 +152,7 @@ pub record IsCutUpto (pattern : List ℕ) (first_len : ℕ) (old_segments segmen
       → AddsSegments pattern (record { first_len = first_len; ending = ending }) old_segments (segments ++ more)
       old_borders (borders ++ table)
 
--- before the first star or dollar stands the first piece
+-- the first segment is before the first star or dollar
 pub cut_first : (p segment left : List ℕ) (segments : List Segment) (borders : List ℕ)
     → IsCutAtWildcard p segment left
     → IsCutUpto p (length segment) segments segments borders borders left
@@ -186,7 +186,7 @@ module _ {p : List ℕ} {first_len : ℕ} {old_segments segments : List Segment}
   AddsWith ending =
       AddsSegments p (record { first_len = first_len; ending = ending }) old_segments segments old_borders borders
 
-  -- what is left is this ending
+  -- if the rest of the pattern matches as this ending does, the cut is complete
   done : (ending : Ending) → IsEnding p ending → ((t : List ℕ) → Matches left t ↔ EndsAs p ending t)
       → AddsWith ending
   done ending is_ending decides =
@@ -195,15 +195,15 @@ module _ {p : List ℕ} {first_len : ℕ} {old_segments segments : List Segment}
       record { known = none; is_ending = is_ending; in_order = decides } in
       rw (← append-nil segments, ← append-nil borders) (upto.completes [] [] ending rest)
 
-  -- nothing is left
+  -- the rest is empty
   pub cut_open : left ≡ [] → AddsWith Open
   cut_open none = done Open tt (λ t. rw none (λ _. tt, λ _. end_matches true t))
 
-  -- a dollar that closes is left
+  -- the rest is a dollar that closes
   pub cut_closed : Closes left → AddsWith Closed
   cut_closed closes = done Closed tt (λ t. closes_decides left t closes)
 
-  -- a dollar that doesn't close is left
+  -- the rest begins with a dollar that doesn't close
   pub cut_never : left ≢ [] → ((q : List ℕ) → left ≢ star ∷ q)
       → ¬ Closes left → AddsWith Never
   cut_never some no_star other =
@@ -219,11 +219,11 @@ module _ {p : List ℕ} {first_len : ℕ} {old_segments segments : List Segment}
     is_span : IsSpan p span × (part_of p span ≡ segment)
     is_span = spanned p next segment rest next_in_p is.cut.parts
 
-    -- the piece stands before a dollar that closes
+    -- the segment is before a dollar that closes
     pub cut_last : Closes rest → AddsWith (Last span)
     cut_last closes = done (Last span) is_span.0 (λ t. rw is_span.1 (star_is_last is closes t))
 
-    -- the piece and its table were added
+    -- the segment and its table were added
     pub cut_more : (at : ℕ) (table : List ℕ) → at ≡ length borders → ¬ Closes rest
         → IsTable segment table
         → IsCutUpto p first_len old_segments (segments ++ record { span = span; table = at } ∷ [])

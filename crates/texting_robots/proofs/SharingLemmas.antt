@@ -1,4 +1,4 @@
--- What stands in shared vectors stays there when more is added.
+-- What is in shared vectors stays there when more is added.
 use Rattle.std.proofs.Common.{◌≡◌, ℕ, ◌+◌, ◌-◌, List, [], ◌∷◌, ◌++◌, All, length}
 use Rattle.std.proofs.Common.{drop, map, slice_range, take, refl, sym, ap, ◌∙◌, arith}
 use Rattle.std.proofs.lemmas.List.{drop-append-le, drop_at, length-append, length-drop, map_push}
@@ -10,7 +10,7 @@ use Rattle.texting_robots.specs.Internal.{Entries.IsEntry, Entries.placed_at, En
 use Rattle.texting_robots.specs.Internal.{Prefilter.ArePrefilter}
 use Rattle.texting_robots.specs.Internal.Segments.{AreSegments, IsSegment, IsSpan, part_of}
 
--- the range of what was added
+-- the range of the items that were added
 pub record IsNew {X : Type 0} (old new : List X) (span : Span) : Type 0 where
   pub start : span.start ≡ length old
   pub end : span.end ≡ length new
@@ -39,7 +39,7 @@ module _ {X : Type 0} (xs more : List X) (span : Span) where
       let sizes = length-append xs more in
       record { ordered = omega arith; within = omega arith }
 
--- what stands behind the old elements is what was added
+-- what follows the old items is what was added
 pub after_old : {X : Type 0} (xs more : List X) (start : ℕ) → start ≡ length xs
     → slice_range (xs ++ more) start (length (xs ++ more)) ≡ more
 after_old xs more start is =
@@ -89,7 +89,7 @@ module _ (text more_text : List ℕ) (segments more_segments : List Segment) (bo
   entries_pushed entries entry known is =
       All-push IsNow entries entry (All-weaker IsOld IsNow entry_kept entries known) is
 
--- what was pushed: the pattern, its searched pieces and the tables
+-- the pattern, its other segments and the tables were pushed
 module _ (text pattern : List ℕ) (segments searched : List Segment) (borders : List ℕ) (entry : Entry) where
   pub record IsPushed : Type 0 where
     pub pattern_span : IsNew text (text ++ pattern) entry.pattern

@@ -1,4 +1,4 @@
--- The names of a file, each once.
+-- The names in a file, each once.
 use Rattle.std.proofs.Common.{◌≡◌, ℕ, zero, suc, ◌+◌, ◌==◌, Bool, true, false, not, ◌||◌, cond, inl, inr}
 use Rattle.std.proofs.Common.{List, []}
 use Rattle.std.proofs.Common.{◌∷◌, ◌++◌, None, Some, ap, arith, bytes_eq, drop, filter, length, map, refl}
@@ -42,7 +42,7 @@ same_suc a b = elim (eqb_tells a b) [
   | inr (isnt, other) ↦ ne_eqb (suc a) (suc b) (λ same. other (omega arith)) ∙ sym isnt
 ]
 
--- a line is the first one with its name if no line before it has the name
+-- a line is the first one with its name exactly if no earlier line has the name
 first_if : (name : List ℕ) (names : List Named) (position : ℕ) (n : Named) → slice_get names position ≡ Some n
     → has_name name n ≡ true
     → (first_named name names == position) ≡ not (list_any (has_name name) (take position names))
@@ -62,7 +62,7 @@ any_map : {X Y : Type 0} (p : Y → Bool) (f : X → Y) (xs : List X) → list_a
 any_map p f [] = refl
 any_map p f (x ∷ xs) = ap (λ b. p (f x) || b) (any_map p f xs)
 
--- a name is among those before it if its line isn't the first one with it
+-- a line is the first one with its name exactly if its name isn't among the earlier ones
 among : (names : List Named) (position : ℕ) (n : Named) → slice_get names position ≡ Some n
     → (first_named (str_to_ascii_lowercase n.name) names == position)
     ≡ not (is_among n.name (take position (map name_of names)))
@@ -72,7 +72,7 @@ among names position n at =
     ∙ ap not (sym (ap (is_among n.name) (take-map name_of position names)
     ∙ any_map (λ (other : List ℕ). bytes_eq (str_to_ascii_lowercase other) name) name_of (take position names)))
 
--- the names that are left at a place
+-- the names that remain at an index
 abbrev pub left_at : ℕ → List Named → List (List ℕ)
 left_at position names =
     filter is_utf8 (each_once (take position (map name_of names)) (drop position (map name_of names)))
@@ -94,7 +94,7 @@ value_at : (names : List Named) (position : ℕ) (n : Named) → slice_get names
     → slice_get (map name_of names) position ≡ Some n.name
 value_at names position n at = slice_get-map name_of names position ∙ ap (option_map name_of) at
 
--- it isn't the first line with its name
+-- the line isn't the first one with its name
 pub left_again : (names : List Named) (position : ℕ) (n : Named) → slice_get names position ≡ Some n
     → first_named (str_to_ascii_lowercase n.name) names ≢ position → left_at (position + 1) names
     ≡ left_at position names
@@ -108,7 +108,7 @@ left_again names position n at other =
     dropped true xs ys isnt = refl
     dropped false xs ys isnt = cc
 
--- it is
+-- the line is the first one with its name
 pub left_first : (names : List Named) (position : ℕ) (n : Named) → slice_get names position ≡ Some n
     → first_named (str_to_ascii_lowercase n.name) names ≡ position
     → left_at position names ≡ cons_option (text_from n.name) (left_at (position + 1) names)

@@ -1,4 +1,4 @@
--- The walk along the lines finds for a name what stands in the runs that have it.
+-- What the `GroupTracker` captures for a name is what the runs with that name contain.
 use Rattle.std.proofs.Common.{◌≡◌, ◌≢◌, ℕ, ◌+◌, ◌<◌, ◌≤◌, Bool, true, false, not, ◌&&◌, ◌||◌}
 use Rattle.std.proofs.Common.{List, [], ◌∷◌, ◌++◌, Option, Some, None, cond, refl, ap, sym, ◌∙◌, arith}
 use Rattle.std.proofs.Common.{append_assoc}
@@ -20,7 +20,7 @@ use Rattle.texting_robots.specs.Internal.Site.{early_after}
 use Rattle.texting_robots.proofs.RulesLemmas.{delay_from, last_more}
 use Rattle.texting_robots.proofs.CapturedLemmas.{captured_walked, kept_next}
 
--- ---- names of runs
+-- ---- the names of runs
 
 not_of : (name : List ℕ) (r : ℕ) (n : Named) → n.run ≢ r → is_of name r n ≡ false
 not_of name r n other = rw (ne_eqb n.run r other) (and-false _)
@@ -28,13 +28,13 @@ not_of name r n other = rw (ne_eqb n.run r other) (and-false _)
 here_of : (name : List ℕ) (n : Named) → is_of name n.run n ≡ has_name name n
 here_of name n = rw (eq-eqb n.run n.run refl) (and-true _)
 
--- one more name
+-- adding a name
 one_more : (name : List ℕ) (names : List Named) (n : Named) (r : ℕ)
     → is_run_of name (names ++ n ∷ []) r ≡ (is_run_of name names r || is_of name r n)
 one_more name names n r =
     list_any-append (is_of name r) names (n ∷ []) ∙ ap (λ b. is_run_of name names r || b) (or-false _)
 
--- a run that is closed, or an earlier one, gets no name any more
+-- a run that is closed, and any earlier one, gets no further name
 pub none_later : (name : List ℕ) (r run : ℕ) (joins : Bool) (position count : ℕ) (lines : List LineValue)
     → run ≤ position
     → r ≤ run → (joins ≡ true → r < run) → is_run_of name (named_from run joins position count lines) r ≡ false
@@ -58,15 +58,15 @@ none_later name r run joins position count (Sitemap value ∷ lines) within earl
 none_later name r run joins position count (Raw body ∷ lines) within earlier closed =
     none_later name r run joins (position + 1) count lines (omega arith) earlier closed
 
--- ---- the walk of a name, and the runs
+-- ---- the state for a name, and the runs
 
--- the walk is captured where the run has the name, and no later run has a name yet
+-- the state captures exactly if the current run has the name, and no later run has the name yet
 record BelongsTo (name : List ℕ) (walk : GroupTracker) (run : ℕ) (joins : Bool) (before : List Named) : Type 0 where
   captured : walk.captured ≡ is_run_of name before run
   named : walk.named ≡ (joins && walk.captured)
   first : (r : ℕ) → run < r → is_run_of name before r ≡ false
 
--- behind a user-agent line of an joins run
+-- after a user-agent line that joins the current run
 in_run : (name value : List ℕ) (walk : GroupTracker) (run count : ℕ) (before : List Named)
     → BelongsTo name walk run true before
     → BelongsTo name (step name walk (UserAgent value)) run true
@@ -92,7 +92,7 @@ in_run name value walk run count before splits =
     swapped false true = refl
     swapped false false = refl
 
--- behind one that begins a run
+-- after a user-agent line that begins a run
 in_new_run : (name value : List ℕ) (walk : GroupTracker) (run position count : ℕ) (before : List Named) → run ≤ position
     → BelongsTo name walk run false before
     → BelongsTo name (step name walk (UserAgent value)) (position + 1) true
@@ -114,14 +114,14 @@ in_new_run name value walk run position count before within splits =
       ) refl;
     }
 
--- behind a group line
+-- after a group line
 after_group : (name : List ℕ) (walk : GroupTracker) (run : ℕ) (joins : Bool) (before : List Named)
     → BelongsTo name walk run joins before
     → BelongsTo name (record { captured = walk.captured; named = false }) run false before
 after_group name walk run joins before splits =
     record { captured = splits.captured; named = refl; first = splits.first }
 
--- what a group line gives, by its run
+-- what a group line adds, depending on its run
 group_next : {X : Type 0} (given : Tagged → Option X) (name : List ℕ) (captured : Bool) (tag : Tagged)
     (names : List Named) (tags : List Tagged) (rest : List X) (here : Option X) → given tag ≡ here
     → captured ≡ is_run_of name names tag.run
@@ -145,13 +145,13 @@ named_here name walk run joins position count before all lines within splits are
     )
     (splits.captured ∙ sym (or-false _))
 
--- another line gives nothing
+-- any other line gives nothing
 nothing_here : {X : Type 0} (captured : Bool) (o : Option X) (rest : List X) → o ≡ None
     → cons_option (cond captured o None) rest ≡ rest
 nothing_here true o rest none = rw none refl
 nothing_here false o rest none = refl
 
--- what is found in the captured lines is found in the lines of the runs that have the name
+-- what the captured lines give is what the lines of the runs with the name give
 found_in_runs : {X : Type 0} (given : ℕ × LineValue → Option X) (of_tag : Tagged → Option X)
     → ((position run : ℕ) (line : LineValue)
     → of_tag (record { number = position + 1; line = line; run = run }) ≡ given (position, line))
@@ -223,7 +223,7 @@ found_in_runs given of_tag fits none name walk run joins position count before a
     (omega arith)
     splits are
 
--- of a whole file with user-agent lines
+-- the same for a complete file with user-agent lines
 pub found_in_own : {X : Type 0} (given : ℕ × LineValue → Option X) (of_tag : Tagged → Option X)
     → ((position run : ℕ) (line : LineValue)
     → of_tag (record { number = position + 1; line = line; run = run }) ≡ given (position, line))
@@ -259,7 +259,7 @@ delays_of_runs agent lines some =
     found_in_own (λ p. delay_in p.1) delay_of (λ position run line. refl) delay_of_group
     (group_name agent lines) lines some
 
--- ---- what is kept of a file
+-- ---- the index of a file
 
 pub given_push : {X Y : Type 0} (h : X → Option Y) (xs : List X) (x : X)
     → filter_map h (xs ++ x ∷ []) ≡ filter_map h xs ++ option_to_list (h x)

@@ -1,4 +1,4 @@
--- Lookup by name: the buckets of a hash table, and the names that a walk along one of them passes.
+-- Lookup by name: the buckets of a hash table, and the lines that iterating over a bucket visits.
 use Rattle.std.proofs.Common.{◌≡◌, ◌≢◌, inl, inr, ℕ, zero, suc, ◌+◌, ◌<◌, ◌≤◌, Bool, true, false, List, []}
 use Rattle.std.proofs.Common.{◌∷◌, Some}
 use Rattle.std.proofs.Common.{length, drop, refl, ap, sym, ◌∙◌, arith, add-one, drop-cons, get_or}
@@ -18,7 +18,7 @@ use Rattle.texting_robots.specs.Internal.Site.{Named, has_name, in_front, is_of,
 use Rattle.texting_robots.specs.declared.site.lines.KeptLine.{KeptLine}
 use Rattle.texting_robots.specs.declared.site.lines.AgentLine.{AgentLine}
 
--- ---- first places
+-- ---- first indices
 
 pub drop_is : {X : Type 0} (xs : List X) (i : ℕ) (x : X) → slice_get xs i ≡ Some x
     → drop i xs ≡ x ∷ drop (i + 1) xs
@@ -33,7 +33,8 @@ pub first_later : {X : Type 0} (p : X → Bool) (x : X) (xs : List X) → p x �
     → position_or_len p (x ∷ xs) ≡ suc (position_or_len p xs)
 first_later p x xs isnt = rw isnt (omega arith)
 
--- the first that passes one test, from the first that passes a weaker one on
+-- searching for the first item that passes the weaker test `r`, and from there for the first that passes `p`,
+-- finds the first that passes `p`
 skip : {X : Type 0} (p r : X → Bool) → ((x : X) → r x ≡ false → p x ≡ false) → (xs : List X)
     → position_or_len r xs + position_or_len p (drop (position_or_len r xs) xs) ≡ position_or_len p xs
 skip p r weaker [] = refl
@@ -106,9 +107,9 @@ linked_more names position bucket n heads nexts at its within linked =
       ];
     }
 
--- ---- a walk along a bucket
+-- ---- iterating over a bucket
 
--- a name of another bucket is another name
+-- a name in another bucket is a different name
 pub other_bucket : (name : List ℕ) (count : ℕ) (n : Named) → is_in count (bucket_of count name) n ≡ false
     → has_name name n ≡ false
 other_bucket name count n isnt = elim (cases_Bool (has_name name n)) [
@@ -118,7 +119,7 @@ other_bucket name count n isnt = elim (cases_Bool (has_name name n)) [
   | inr other ↦ other
 ]
 
--- from the head of the bucket, or from any place
+-- searching from the first line of the name's bucket finds the first line with the name
 pub from_bucket : (name : List ℕ) (count : ℕ) (names : List Named)
     → let start = position_or_len (is_in count (bucket_of count name)) names in
     start + first_named name (drop start names) ≡ first_named name names
@@ -129,7 +130,7 @@ pub record IsNext (name : List ℕ) (count position next : ℕ) (names : List Na
   pub here : position_or_len (is_in count (bucket_of count name)) (drop next names) ≡ 0
   pub rest : next + first_named name (drop next names) ≡ position + 1 + first_named name (drop (position + 1) names)
 
--- the next line of a bucket that is the name's
+-- the next line in the name's bucket skips no line with the name
 pub next_in_bucket : (name : List ℕ) (position next bucket : ℕ) (names : List Named)
     → bucket ≡ bucket_of (length names) name
     → next ≡ position + 1 + position_or_len (is_in (length names) bucket) (drop (position + 1) names)
@@ -146,7 +147,7 @@ next_in_bucket name position next bucket names its are =
       rest = let same = from_bucket name N after in rw rest (omega arith);
     }
 
--- the lines that the code reads
+-- the line that the code reads at an index
 pub agent_at : (lines : List AgentLine) (names : List Named) (position : ℕ) (line : AgentLine)
     → map named_of lines ≡ names → position < length lines → line ≡ get_or lines position line
     → slice_get names position ≡ Some (named_of line)
@@ -230,7 +231,7 @@ pub some_at : (names : List Named) (position : ℕ) → position < length names
     → (n : Named) × (slice_get names position ≡ Some n)
 some_at names position within = (get_or names position no_name, slice_get-get_or names position no_name within)
 
--- ---- runs of a name
+-- ---- the runs of a name
 
 pub runs_from_first : (name : List ℕ) (names : List Named) (r : ℕ)
     → is_run_of name (drop (first_named name names) names) r ≡ is_run_of name names r
@@ -281,7 +282,7 @@ pub front_past : (text : List ℕ) (lines : List KeptLine) (at run : ℕ) → le
 front_past text lines at run past =
     ap (in_front run) (past_end (map (tag_at text) lines) at (omega (arith, length-map lines (tag_at text))))
 
--- ---- whether a name is there
+-- ---- whether a name occurs
 
 pub first_within : (name : List ℕ) (names : List Named)
     → ltb (first_named name names) (length names) ≡ list_any (has_name name) names

@@ -1,4 +1,4 @@
--- A walk along the lines of a name: what it gives, and from what it starts.
+-- Iterating over the lines of a name: what this gives, and where it starts.
 use Rattle.std.proofs.Common.{◌≡◌, inl, inr, ℕ, zero, suc, ◌+◌, ◌<◌, ◌≤◌, ◌==◌, Bool, true, false, ◌||◌}
 use Rattle.std.proofs.Common.{not, ◌&&◌, List, [], ◌∷◌, ◌++◌, Option, Some, None, length, drop, refl, ap, sym}
 use Rattle.std.proofs.Common.{◌∙◌, arith, get_or, slice_get, take}
@@ -60,7 +60,7 @@ run_first p r (t ∷ tags) none (first, rest) = elim (eqb_tells t.run r) [
 
 -- ---- later runs
 
--- the next line has the name, and begins a later run
+-- the next line has the name, and belongs to a later run
 later_next : (name : List ℕ) (run : ℕ) (n : Named) (names : List Named) (r : ℕ) → has_name name n ≡ true
     → run < n.run → ((q : ℕ) → q < n.run → is_run_of name names q ≡ false)
     → is_later name run (n ∷ names) r ≡ ((r == n.run) || is_later name n.run names r)
@@ -74,7 +74,7 @@ later_next name run n names r has above none = elim (eqb_tells r n.run) [
       ])
 ]
 
--- it is of a run that was passed
+-- the next line belongs to a run that was visited
 later_same : (name : List ℕ) (run : ℕ) (n : Named) (names : List Named) (r : ℕ) → n.run ≤ run
     → is_later name run (n ∷ names) r ≡ is_later name run names r
 later_same name run n names r least = elim (cases_Bool (ltb run r)) [
@@ -96,9 +96,9 @@ none_below name (n ∷ names) least q above below =
     rw (ne_eqb n.run q (λ same. (let here = above 0 n refl in omega arith)), and-false (has_name name n))
     (none_below name names least q (λ j m at. above (suc j) m at) below)
 
--- ---- the walk
+-- ---- the iteration
 
--- the runs of the lines from the next one with the name on
+-- the runs of the name are the same from the next line with the name on
 runs_after : (name : List ℕ) (names : List Named) (name_index next r : ℕ)
     → next ≡ name_index + 1 + first_named name (drop (name_index + 1) names)
     → is_run_of name (drop next names) r ≡ is_run_of name (drop (name_index + 1) names) r
@@ -116,7 +116,7 @@ first_kept name name_index next names are =
     (name_index + 1) names))
     ∙ first_here (has_name name) (drop (name_index + 1) names)
 
--- it goes on to a later run
+-- the iteration moves on to a later run
 pub next_run : (name : List ℕ) (run name_index next : ℕ) (names : List Named) (tags rest : List Tagged) (n : Named)
     → slice_get names name_index ≡ Some n → first_named name (drop name_index names) ≡ 0 → AreOfFile names tags
     → run < n.run → in_front run rest ≡ []
@@ -150,7 +150,7 @@ next_run name run name_index next names tags rest n at first (lines, named_is, t
     ∙ ap (λ (ns : List Named). filter (λ t. is_later name run ns t.run) tags) (sym left)
     ∙ ap (λ ts. ts ++ filter (λ t. is_later name run (drop name_index names) t.run) tags) (sym gone)
 
--- it passes a line of the same run
+-- the iteration skips a line of the same run
 pub same_run : (name : List ℕ) (run name_index next : ℕ) (names : List Named) (tags rest : List Tagged) (n : Named)
     → slice_get names name_index ≡ Some n → n.run ≤ run
     → next ≡ name_index + 1 + first_named name (drop (name_index + 1) names)
@@ -166,7 +166,7 @@ none_pass : (p : ℕ → Bool) (tags : List Tagged) → ((q : ℕ) → p q ≡ f
 none_pass p [] none = refl
 none_pass p (t ∷ tags) none = rw (none t.run) (none_pass p tags none)
 
--- it ends
+-- the iteration ends
 pub at_end : (name : List ℕ) (run name_index : ℕ) (names : List Named) (tags rest : List Tagged)
     → slice_get names name_index ≡ None → in_front run rest ≡ [] → own_from name run rest
     (drop name_index names) tags ≡ []
@@ -197,7 +197,7 @@ own_named name lines = filter_agree _ _
     (λ (t : Tagged). ap (λ b. ltb 0 t.run && b) (runs_from_first name (named lines) t.run)
     ∙ later_than_none name lines t.run) (tagged lines)
 
--- in a file without
+-- in a file without user-agent lines
 pub own_unnamed : (name : List ℕ) (names : List Named) (tags : List Tagged) (name_index : ℕ) → names ≡ []
     → own_from name 0 tags (drop name_index names) tags ≡ in_front 0 tags
 own_unnamed name names tags name_index none =
@@ -304,7 +304,7 @@ delays_of_all agent lines without =
     (group_name agent lines) lines
     without
 
--- ---- what a whole walk gives
+-- ---- what a complete iteration gives
 
 pub given_whole : {X : Type 0} (given : Tagged → Option X) (all : List X) (name : List ℕ) (names : List Named)
     (tags walk : List Tagged) (lines : List LineValue) → names ≡ named lines → tags ≡ tagged lines
@@ -322,7 +322,7 @@ given_whole given all name (n ∷ names) tags walk lines named_is tagged_is whol
     filled : {n : Named} (names : List Named) → n ∷ names ≡ [] → ⊥
     filled names is = cc
 
--- one of all is what one more line gives
+-- if one more item gives a result with the property, then one of all results has it
 pub any_given : {X : Type 0} (P : X → Type 0) (o : Option X) (xs old all : List X)
     → old ++ cons_option o xs ≡ all
     → IsSomeAnd o P → Any P all
@@ -334,7 +334,7 @@ any_given P (Some x) xs old all are is = subst (Any P) are (after P x xs old is)
     after P x xs (y ∷ old) is = let (k, z, less, at, has) = after P x xs old is in
         (suc k, z, omega arith, at, has)
 
--- ---- one sitemap more
+-- ---- adding a sitemap
 
 pub listed_more : (text : List ℕ) (sitemaps : List Span) (i : ℕ) (d : Span) → i < length sitemaps
     → filter_map (listed text) (take (i + 1) sitemaps)
@@ -343,7 +343,7 @@ listed_more text sitemaps i d within =
     ap (filter_map (listed text)) (take_more sitemaps i d within) ∙ given_push (listed text) (take i sitemaps)
     (get_or sitemaps i d)
 
--- ---- why there is no robot
+-- ---- a file that is rejected
 
 pub file_rejected : (agent file : List ℕ)
     → Any (λ (placed : PlacedRule). IsOverlong placed.rule.0) (placed_rules agent (file_lines file))
@@ -352,7 +352,7 @@ file_rejected agent file some =
     has_lines file (IsRejected agent) ((rejection_is_computed agent (file_lines file)).1
     (any_unplaced (λ (rule : Rule). IsOverlong rule.0) (placed_rules agent (file_lines file)) some))
 
--- ---- where nothing is given, nothing is taken
+-- ---- if nothing is given, each item gives nothing
 
 pub given_nothing : {X Y : Type 0} (h : X → Option Y) (x : X) (xs : List X) → filter_map h (x ∷ xs) ≡ []
     → (h x ≡ None) × (filter_map h xs ≡ [])
@@ -368,7 +368,7 @@ none_at h [] i d within none = absurd (omega arith)
 none_at h (x ∷ xs) zero d within none = (given_nothing h x xs none).0
 none_at h (x ∷ xs) (suc i) d within none = none_at h xs i d (omega arith) (given_nothing h x xs none).1
 
--- ---- agents of one group
+-- ---- crawlers with the same group
 
 pub same_robot : (agent other : List ℕ) (lines : List LineValue) (robot : RobotValue)
     → group_name agent lines ≡ group_name other lines → IsRobotOf agent lines robot

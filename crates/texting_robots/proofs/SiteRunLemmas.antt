@@ -17,7 +17,7 @@ use Rattle.texting_robots.specs.Internal.Site.{tagged, tagged_from}
 abbrev pub of_run : ℕ → List Tagged → List Tagged
 of_run run tags = filter (λ t. t.run == run) tags
 
--- no line is of an earlier run
+-- no line belongs to an earlier run
 abbrev IsAbove : ℕ → List Tagged → Type 0
 IsAbove run [] = Unit {0}
 IsAbove run (t ∷ tags) = (run ≤ t.run) × IsAbove run tags
@@ -74,7 +74,7 @@ ascends_from run joins position (Raw body ∷ lines) within = ascends_from run j
 pub tagged_ascends : (lines : List LineValue) → Ascends (tagged lines)
 tagged_ascends lines = ascends_from 0 false 0 lines (omega arith)
 
--- ---- the lines of a run that ascend stand in front, behind those of earlier runs
+-- ---- if the runs ascend, the lines of a run directly follow those of earlier runs
 
 pub none_above : (r run : ℕ) (tags : List Tagged) → r < run → IsAbove run tags → of_run r tags ≡ []
 none_above r run [] less above = refl

@@ -1,4 +1,4 @@
--- A text with a slash in front is no absolute URL, so it is prepared by escaping it.
+-- A string that begins with a slash isn't an absolute URL, so its match target is the escaped string.
 use Rattle.std.proofs.Common.{◌≡◌, ℕ, ◌+◌, ◌-◌, ◌≤◌, None, Ok, Err, List, [], ◌∷◌}
 use Rattle.std.proofs.Common.{◌++◌, length, take, suc, ap, arith}
 use Rattle.std.specs.{List.prefix_len, List.suffix_len, Prelude.reverse, Prelude.slice_index}
@@ -12,7 +12,7 @@ use Rattle.texting_robots.specs.{Escape.escaped, Prepared.prepared, Prepared.tar
 abbrev slash : ℕ
 slash = 47
 
--- how many bytes the trim takes off the end, by the text turned round
+-- how many bytes trimming removes at the end, given the reversed string
 abbrev trimmed_front : List ℕ → ℕ
 trimmed_front text = prefix_len is_c0_control_or_space text
 
@@ -23,7 +23,7 @@ stops (x ∷ xs) =
     (λ n. n ≤ length (x ∷ xs))
     (λ _. omega (arith, stops xs)) (λ _. omega arith)
 
--- the trim leaves the slash
+-- trimming keeps the leading slash
 trimmed : (rest : List ℕ) → trim_c0_control_and_space (slash ∷ rest)
     ≡ slash ∷ take (length rest - suffix_len is_c0_control_or_space (slash ∷ rest)) rest
 unfolding trim_c0_control_and_space
@@ -35,7 +35,7 @@ trimmed rest =
     let more : length (slash ∷ rest) - taken ≡ suc (length rest - taken) = omega (arith, few) in
     ap (λ n. take n (slash ∷ rest)) more
 
--- what `url` reads of a trimmed text
+-- what `url` parses in a trimmed string
 parsed_from : List ℕ → Parsed Parts
 parsed_from text =
     let hash = split_once 35 (strip_tabs_and_new_lines text) in

@@ -1,4 +1,4 @@
--- What `trim` leaves is the trim of its text, and there is no other.
+-- `trimmed` computes the trim of a raw value, and the trim is unique.
 use Rattle.std.proofs.Common.{◌≡◌, ℕ, zero, suc, ◌+◌, ◌≤◌, ◌<◌, ◌-◌, Bool, true}
 use Rattle.std.proofs.Common.{false, cond, inl, inr, List, [], ◌∷◌, ◌++◌, length, take}
 use Rattle.std.proofs.Common.{drop, sym, refl, ap, ap₂, subst, ◌∙◌, append_assoc, append-nil, arith}
@@ -21,16 +21,16 @@ use Rattle.bstr.proofs.lemmas.{SoundLemmas.SpellsChar-decoded, TrimLemmas.kept_e
 use lib.Utf8.{low_scalar, scalar}
 use Rattle.texting_robots.specs.{Trim.IsSpaces, Trim.IsTrimOf, Statement.IsBlank, Internal.Statement.trimmed}
 
--- ---- pieces
+-- ---- UTF-8 units
 
--- the character that the first piece is read as, and what stands behind that piece
+-- the character that the first UTF-8 unit decodes to, and the bytes after that unit
 abbrev first_char : List ℕ → ℕ
 first_char bytes = or_replacement (decoded bytes).char
 
 abbrev following : List ℕ → List ℕ
 following bytes = drop (decoded bytes).size bytes
 
--- what holds of no bytes, and of bytes if it holds of those behind their first piece
+-- induction over UTF-8 units
 by_units : (P : List ℕ → Type 0) → P []
     → ((bytes : List ℕ) → 0 < length bytes → P (following bytes) → P bytes)
     → (bytes : List ℕ) → P bytes
@@ -43,11 +43,11 @@ by_units P none more bytes = at (length bytes) bytes (omega arith)
         let bounds = piece-bounds (b ∷ rest) (omega arith) in
         more (b ∷ rest) (omega arith) (at n _ (simp length-drop (omega arith)))
 
--- a space is read as itself
+-- a white space character is a Unicode scalar value, so it is decoded as itself
 pub white_scalar : (c : ℕ) → is_whitespace c ≡ true → scalar c ≡ true
 white_scalar c white = low_scalar c (grind (arith, nat_tests))
 
--- and what is read as a space is one
+-- bytes whose first unit decodes to white space begin with the encoding of that character
 written : (bytes : List ℕ) → is_whitespace (first_char bytes) ≡ true
     → bytes ≡ encode_utf8 (first_char bytes) ++ following bytes
 written bytes = at (decoded bytes).char refl
@@ -58,9 +58,9 @@ written bytes = at (decoded bytes).char refl
     at None is white = absurd (grind (arith, nat_tests))
     at (Some c) is white = rw is (SpellsChar-decoded bytes c is).bytes
 
--- ---- the front
+-- ---- the start
 
--- the same spans, further on
+-- shifting all spans shifts the result
 shifted : (k n off n' off' : ℕ) (ps : List Decoded) → n' ≡ k + n → off' ≡ k + off
     → kept_start is_whitespace n' (spans_from off' ps)
     ≡ k + kept_start is_whitespace n (spans_from off ps)
@@ -75,7 +75,7 @@ shifted k n off n' off' (p ∷ ps) long far =
 abbrev from_start : List ℕ → List ℕ
 from_start bytes = trim_start_by is_whitespace bytes
 
--- a space at the front goes, and what is none stays
+-- leading white space is dropped, and anything else is kept
 start_step : (bytes : List ℕ) → 0 < length bytes
     → from_start bytes ≡ cond (is_whitespace (first_char bytes)) (from_start (following bytes)) bytes
 unfolding kept_start
@@ -102,7 +102,7 @@ encode_some : (c : ℕ) → 0 < length (encode_utf8 c)
 unfolding encode_utf8
 encode_some c = grind (arith, nat_tests)
 
--- a character at the front
+-- a character at the start
 start_char : (c : ℕ) (rest : List ℕ) → scalar c ≡ true → from_start (encode_utf8 c ++ rest)
     ≡ cond (is_whitespace c) (from_start rest) (encode_utf8 c ++ rest)
 start_char c rest is =
@@ -121,7 +121,7 @@ start_spaces (c ∷ cs) rest all =
     ∙ start_char c (encode_utf8_all cs ++ rest) (white_scalar c all.0) ∙ cond-true _ _ _ all.0
     ∙ start_spaces cs rest all.1
 
--- what goes is spaces
+-- what is dropped is white space
 abbrev Started : List ℕ → Type 0
 Started bytes = (chars : List ℕ) × AllWhite chars × (bytes ≡ encode_utf8_all chars ++ from_start bytes)
 
@@ -138,13 +138,13 @@ started = by_units Started ([], tt, sym (drop-nil _)) (λ bytes some (chars, all
       )
     ])
 
--- ---- the back
+-- ---- the end
 
--- where the last character that is no space ends
+-- where the last character that isn't white space ends
 abbrev end_of : List ℕ → ℕ
 end_of bytes = kept_end is_whitespace 0 (spans_from 0 (pieces bytes))
 
--- a character at the back
+-- a character at the end
 end_char : (rest : List ℕ) (c : ℕ) → scalar c ≡ true → end_of (rest ++ encode_utf8 c)
     ≡ cond (is_whitespace c) (end_of rest) (length (rest ++ encode_utf8 c))
 end_char rest c is =
@@ -175,11 +175,11 @@ end_spaces (c ∷ cs) rest all =
     ∙ end_spaces cs (rest ++ encode_utf8 c) all.1
     ∙ end_char rest c (white_scalar c all.0) ∙ cond-true _ _ _ all.0
 
--- spaces stand behind the place
+-- only white space follows the offset `end`
 abbrev Ended : List ℕ → ℕ → Type 0
 Ended text end = (end ≤ length text) × IsSpaces (drop end text)
 
--- a piece more
+-- adding a UTF-8 unit
 ended_next : (bytes text : List ℕ) (end : ℕ) → 0 < length bytes → Ended text end
     → (let n = (decoded bytes).size in
     Ended (text ++ take n bytes) (cond (is_whitespace (first_char bytes)) end (length text + n)))
@@ -254,7 +254,7 @@ trimmed_is_trim region =
           omega (arith, same, within, length-drop (end_of rest) rest);
     }
 
--- and there is no other
+-- the trim is unique
 pub is_trimmed : (region value : List ℕ) → IsTrimOf value region → trimmed region ≡ value
 is_trimmed region value u =
     let t = trimmed_is_trim region in
@@ -276,9 +276,9 @@ pub same_trim : (text region value : List ℕ) → trimmed text ≡ trimmed regi
 same_trim text region value same t =
     subst (λ v. IsTrimOf v text) (same ∙ is_trimmed region value t) (trimmed_is_trim text)
 
--- ---- blanks
+-- ---- spaces and tabs
 
--- blanks are spaces
+-- spaces and tabs are white space
 blank_spaces : (blanks : List ℕ) → Each IsBlank blanks
     → AllWhite blanks × (encode_utf8_all blanks ≡ blanks)
 unfolding encode_utf8
@@ -292,7 +292,7 @@ blank_spaces (b ∷ blanks) (is, all) =
     at (inl e) = rw e (refl, refl)
     at (inr e) = rw e (refl, refl)
 
--- at the front they change no trim
+-- leading spaces and tabs don't change the trim
 pub blanks_skipped : (blanks region : List ℕ) → Each IsBlank blanks
     → trimmed (blanks ++ region) ≡ trimmed region
 blanks_skipped blanks region all =
@@ -300,7 +300,7 @@ blanks_skipped blanks region all =
     ap (trim_end_by is_whitespace)
     (ap (λ t. from_start (t ++ region)) (sym same) ∙ start_spaces blanks region white)
 
--- nor at the back
+-- nor do trailing ones
 end_blanks : (left blanks : List ℕ) → Each IsBlank blanks
     → trim_end_by is_whitespace (left ++ blanks) ≡ trim_end_by is_whitespace left
 end_blanks left blanks all =
@@ -328,23 +328,23 @@ pub trailing_blanks : (text blanks : List ℕ) → IsUtf8 text → Each IsBlank 
     → trimmed (text ++ blanks) ≡ trimmed text
 trailing_blanks text blanks (chars, (is, whole)) all = rw (← whole) (blanks_after_chars chars blanks is all)
 
--- ---- visible ends
+-- ---- visible bytes at both ends
 
--- a visible byte is a character that is no space
+-- a visible byte is a character that isn't white space
 graphic_char : (b : ℕ) → is_ascii_graphic b ≡ true
     → (scalar b ≡ true) × (is_whitespace b ≡ false) × (encode_utf8 b ≡ b ∷ [])
 graphic_char b is =
     let low : b < 128 = grind (arith, nat_tests) in
     (low_scalar b (omega arith), grind (arith, nat_tests), encode_ascii b low)
 
--- at the front it stays
+-- a visible byte at the start is kept
 graphic_first : (b : ℕ) (rest : List ℕ) → is_ascii_graphic b ≡ true
     → from_start (b ∷ rest) ≡ b ∷ rest
 graphic_first b rest is =
     let (scalar_b, dark, one) = graphic_char b is in
     (rw one at (start_char b rest scalar_b)) ∙ cond-false _ _ _ dark
 
--- a text whose ends are visible is its own trim
+-- trimming leaves a string unchanged if its first and last bytes are visible
 pub graphic_trim : (b : ℕ) (rest : List ℕ) → is_ascii_graphic b ≡ true
     → is_ascii_graphic (get_or (b ∷ rest) (length rest) 0) ≡ true → trimmed (b ∷ rest) ≡ b
     ∷ rest

@@ -1,4 +1,4 @@
--- The verdict knows members only.
+-- The verdict depends only on which rules are listed, not on their order.
 use Rattle.std.proofs.Common.{◌≡◌, ◌≢◌, ◌<◌, ◌↔◌, ◌⊎◌, inl, inr, ℕ, zero, suc}
 use Rattle.std.proofs.Common.{Bool, true, false, List, [], ◌∷◌, ◌++◌, length, Option, Some, None}
 use Rattle.std.proofs.Common.{IsPermutation, ap, sym, subst, refl, ◌∙◌, arith}
@@ -10,8 +10,8 @@ use Rattle.texting_robots.specs.Decision.{IsBetter, IsDecidingLine, IsLongestMat
 use Rattle.texting_robots.specs.{Pattern.Matches, Rules.PlacedRule, Rules.Rule, Rules.unplaced}
 use Rattle.texting_robots.specs.Verdict.{IsDenied, IsVerdict, robots_file}
 
--- where each Disallow of these is one of the others, and each Allow of the others one of these, the others
--- deny what these deny
+-- if each Disallow of `rules` is among `others`, and each Allow of `others` is among `rules`, then `others`
+-- deny what `rules` deny
 denied_by : (rules others : List Rule) (text : List ℕ)
     → ((p : List ℕ) → Contains rules (p, false) → Contains others (p, false))
     → ((q : List ℕ) → Contains others (q, true) → Contains rules (q, true))
@@ -19,13 +19,13 @@ denied_by : (rules others : List Rule) (text : List ℕ)
 denied_by rules others text denies allows (other, p, has, matches, longest) =
     (other, p, denies p has, matches, λ q splits. longest q (allows q splits))
 
--- a list in another order has the same elements
+-- a permutation has the same members
 pub same_elements : {X : Type 0} (xs ys : List X) → IsPermutation xs ys → (x : X)
     → Contains xs x ↔ Contains ys x
 same_elements xs ys same x =
     (Contains-permutation xs ys x same, Contains-permutation ys xs x (IsPermutation-sym xs ys same))
 
--- what isn't the first stands behind it
+-- a member that isn't the first item is in the rest
 pub after_first : {X : Type 0} (first : X) (rest : List X) (x : X) → ¬ ◌≡◌ {A = X} first x
     → Contains (first ∷ rest) x → Contains rest x
 after_first first rest x other (zero, below, at) = absurd (other at)
@@ -129,7 +129,7 @@ deciding_permuted rules others text (Some line) same (differs, placed, decides, 
       at,
     )
 
--- a robot with the rules of a file, in any order, gives the verdicts of the file, by the same lines
+-- rules in any order give the same verdicts
 pub same_verdicts : (rules others : List PlacedRule) → IsPermutation rules others
     → (text : List ℕ) (answer : Bool)
     → IsVerdict (unplaced others) text answer ↔ IsVerdict (unplaced rules) text answer
@@ -157,7 +157,7 @@ kind_not_better one other same not allows = elim (cases_Bool other.rule.1) [
   | inr denies ↦ absurd (not (inr (same, inl (allows, denies))))
 ]
 
--- of two rules, neither of which is better, one line is given
+-- two rules of which neither is better have the same line
 same_line : (one other : PlacedRule) → ¬ IsBetter one other → ¬ IsBetter other one
     → one.line ≡ other.line
 same_line one other not nor = elim (cases_order (length one.rule.0) (length other.rule.0)) [

@@ -56,7 +56,7 @@ robots_close_spec 𝓤 𝓛 𝓜 𝓡 wired =
     ⊛ ‵ (owns (types_at En.signature.params z.0.0) a vs)) ∷ ‵ (owned_or_null R at x) ∷ []) ∵
     split ! $ move ! (1 ∷ []) $ fsplit ! $ handle_tells Heap ! g vs.0 (λ h eh fits.
     move ! (1 ∷ []) $ fsplit ! $ drop ! $ move ! (3 ∷ []) $
-    -- [what is owned; nothing; the handle of the heap; the tokens]
+    -- [the value, unless the pointer is null; true; the allocator; the lifetime tokens]
     null_or_owned R ! at x
     (λ e. let ep : vs.1.0 ≡ vnull ∷ [] = are.1.0 ∙ ap (λ (p : Ptr). ptr_val p ∷ []) e in
     let ws : List Val = h ∷ vnull ∷ [] in
@@ -85,7 +85,7 @@ robots_close_spec 𝓤 𝓛 𝓜 𝓡 wired =
       (tt, (fits.1, tt)),
     ) $
     move ! (2 ∷ 0 ∷ []) $ handle_in R ! g h b o x $
-    -- [the handle; nothing; the tokens]
+    -- [the `Handle`; true; the lifetime tokens]
     nothing ! $ move ! (1 ∷ 0 ∷ []) $ fjoin ! $ nothing ! $ join ! $ nothing ! $ move ! (1 ∷ 0 ∷ []) $
     join ! $
     let k = triple_of 𝓛 callee.signature (callee.spec 𝓛 𝓜.mem 𝓡.returns) in

@@ -1,4 +1,4 @@
--- `robots_open` writes the place of the robot that C owns.
+-- `robots_open` writes a pointer to a robot, which C owns from then on.
 use Rattle.std.proofs.Common.{◌≡◌, ◌≢◌, ℕ, pos, List, [], ◌∷◌, ◌++◌, Some, length, refl, ap}
 use base.Fraction.{full_share}
 use base.Fml.{Lft, ftrue, flft, fall}
@@ -100,10 +100,10 @@ robots_open_spec 𝓤 𝓛 𝓜 𝓡 wired =
     (λ (ws : List Val). ‵ ((ShrSlice (named 1) β u8).own_val file ws)) e2 refl $
     move ! (1 ∷ []) $ fsplit ! $ move ! (1 ∷ []) $ fsplit ! $
     rewrite ! 0 (λ (ws : List Val). ‵ ((MutRef (named 3) δ usize).own_val line ws)) e4 refl $
-    -- [line; nothing; out; file; agent; the handle; the tokens]
+    -- [`line`; true; `out`; `file`; `agent`; the allocator; the lifetime tokens]
     move ! (6 ∷ []) $ split ! $ move ! (1 ∷ []) $ split ! $ move ! (1 ∷ []) $ split ! $
     move ! (1 ∷ []) $ split ! $ move ! (7 ∷ 2 ∷ 1 ∷ 0 ∷ 3 ∷ 4 ∷ 6 ∷ 8 ∷ 9 ∷ 10 ∷ 5 ∷ []) $
-    -- [out; γ; nothing; δ; β; α; nothing; file; agent; the handle; line]
+    -- [`out`; γ; true; δ; β; α; true; `file`; `agent`; the allocator; `line`]
     let sa : Val = slice_val agent.ref_ptr (length agent.now) in
     let sf : Val = slice_val file.ref_ptr (length file.now) in
     let sl : Val = vptr line.ref_ptr.0 line.ref_ptr.1 in
@@ -123,8 +123,8 @@ robots_open_spec 𝓤 𝓛 𝓜 𝓡 wired =
     ) $
     fsplit3 ! $ move ! (1 ∷ 2 ∷ 3 ∷ []) $ opens ! tt RawPtr b o (λ us. move ! (1 ∷ []) $
     feq_l ! (λ eus. rewrite ! 0 Cell eus refl $
-    -- [the cell; the open borrow, in three entries; the place; nothing; δ; β; α; nothing; file; agent; the
-    -- handle; line]
+    -- [the cell; the open borrow, in three entries; the pointer; true; δ; β; α; true; `file`; `agent`; the
+    -- allocator; `line`]
     sets ! (of_opd ! (load ! (through ! refl (stop !)) (look ! 0 refl))) refl (good_p p) $
     sets ! (of_opd ! (get ! refl)) refl (good_p p) $
     sets ! (addr ! (through ! refl (stop !))) refl (tt, tt) $
@@ -173,8 +173,8 @@ robots_open_spec 𝓤 𝓛 𝓜 𝓡 wired =
     fsplit ! $ drop ! $ fsplit ! $ drop ! $ fsplit ! $ drop ! $ fsplit ! $ drop ! $ fsplit ! $
     move ! (1 ∷ []) $ drop ! $
     move ! (1 ∷ []) $ split ! $ move ! (1 ∷ []) $ kept_out R ! r (u ∷ []) (λ eu small.
-    -- [what is kept; the tokens; what line was given; the cell; the open borrow, in three entries; the
-    -- place; nothing]
+    -- [the kept value; the lifetime tokens; the final `line`; the cell; the open borrow, in three entries;
+    -- the pointer; true]
     let n = r.status in let i : Val = status_val n in
     let good_i : Good (ty_int w32) i = (tt, of_z_fits w32 n (record { sfits = small })) in
     lands_as ! (ap only eu) refl (and_tt _ (good_p r.at).0, (good_i.1, ((good_p r.at).1, tt))) $
@@ -185,15 +185,16 @@ robots_open_spec 𝓤 𝓛 𝓜 𝓡 wired =
     sets ! (of_opd ! (get ! refl)) refl good_i $
     feq_i ! (List Val) (ptr_val r.at ∷ []) (ptr_val r.at ∷ []) refl $ move ! (4 ∷ 0 ∷ 5 ∷ 6 ∷ 7 ∷ []) $
     closes ! tt RawPtr r.at (ptr_val r.at ∷ []) b o $
-    -- [obs; the borrow; γ; what is kept; the tokens; what line was given; the place; nothing]
+    -- [the observation; the borrow; γ; the kept value; the lifetime tokens; the final `line`; the pointer;
+    -- true]
     returns ! (look_at ! 0 refl) $ free_all ! refl $
     fjoin ! $ move ! (5 ∷ 0 ∷ []) $ fjoin ! $
     nothing ! $ move ! (5 ∷ 0 ∷ []) $ fjoin ! $ move ! (1 ∷ 0 ∷ []) $ fjoin ! $ nothing ! $ fjoin ! $
     nothing ! $ fjoin ! $ nothing ! $ fjoin ! $
-    -- [the parameters; γ; what is kept; the tokens; nothing]
+    -- [the parameters; γ; the kept value; the lifetime tokens; true]
     move ! (3 ∷ []) $ split ! $ move ! (1 ∷ []) $ split ! $ move ! (4 ∷ 1 ∷ []) $ join ! $
     move ! (1 ∷ 0 ∷ []) $ join ! $ move ! (1 ∷ 0 ∷ []) $ join ! $
-    -- [the tokens; the parameters; what is kept; nothing]
+    -- [the lifetime tokens; the parameters; the kept value; true]
     move ! (2 ∷ []) $ use1 𝓛 (‵ (fall (n ≡ pos 0)
     (λ _. opened_at Robots (IsRobotFor agent.now (bytes_read file.now)) r.at))) (owned_then Robots 𝓛
     (IsRobotFor agent.now (bytes_read file.now)) r.at r.value (n ≡ pos 0) opened) $

@@ -1,4 +1,4 @@
--- `robots_query_many` reads what is lent to it.
+-- `robots_query_many` reads a borrowed robot.
 use Rattle.std.proofs.Common.{◌≡◌, ◌≢◌, ℕ, ℤ, pos, List, [], ◌∷◌, ◌++◌, length, refl, ap, ◌∙◌}
 use Rattle.std.proofs.Common.{Bor}
 use base.Fml.{Lft, ftrue, flft}
@@ -90,7 +90,7 @@ robots_query_many_spec 𝓤 𝓛 𝓜 𝓡 wired =
     rewrite ! 0 (λ (ws : List Val). ‵ ((ShrSlice (named 0) α u8).own_val url ws)) e1 refl $
     move ! (1 ∷ []) $ fsplit ! $ rewrite ! 0
     (λ (ws : List Val). ‵ ((MutSlice (named 1) β i64).own_val out ws)) e2 refl $
-    -- [out; nothing; url; the handle; the tokens; the reference; κ]
+    -- [`out`; true; `url`; the allocator; the lifetime tokens; the reference; κ]
     let su : Val = slice_val url.ref_ptr (length url.now) in
     let so : Val = slice_val out.ref_ptr (length out.now) in
     let good_o = slice_good (named 1) mut w64 out.ref_ptr (length out.now) are.1.1.1.0.0.1.0 in
@@ -116,7 +116,7 @@ robots_query_many_spec 𝓤 𝓛 𝓜 𝓡 wired =
     (whole !))) (no_more !)))) refl good_o $
     nothing ! $ move ! (1 ∷ 0 ∷ []) $ fjoin ! $ move ! (2 ∷ 0 ∷ []) $ fjoin ! $ move ! (4 ∷ 0 ∷ []) $
     fjoin ! $ move ! (2 ∷ 0 ∷ []) $ fjoin ! $
-    -- [the arguments; nothing; the tokens; κ]
+    -- [the arguments; true; the lifetime tokens; κ]
     move ! (3 ∷ 2 ∷ []) $ join ! $ join ! $
     use0 𝓛 (raw (fact 𝓤 (IsRobotOfSomeFile x))) (fact_i 𝓤 (IsRobotOfSomeFile x) (emp 𝓤) some') $
     move ! (1 ∷ 0 ∷ []) $ join ! $
@@ -148,10 +148,10 @@ robots_query_many_spec 𝓤 𝓛 𝓜 𝓡 wired =
     hears ! (r ≢ pos 0 → w ≡ out.now) (λ kept. heard ! (Why url.now (length out.now) r) (λ why.
     fsplit ! $ drop ! $ fsplit ! $ drop ! $ fsplit ! $ drop ! $ fsplit ! $ move ! (1 ∷ []) $ drop ! $
     fsplit ! $ fsplit ! $ move ! (1 ∷ []) $ feq_l ! (λ long. fjoin ! $
-    -- [what out was given; the tokens with the result; nothing]
+    -- [the final `out`; the lifetime tokens with the result; true]
     move ! (1 ∷ []) $ split ! $ move ! (1 ∷ []) $ status ! r u (λ eu good.
     lands_as ! eu refl good $ returns ! (look_at ! 0 refl) $ free_all ! refl $
-    -- [the result; the tokens; what out was given; nothing]
+    -- [the result; the lifetime tokens; the final `out`; true]
     nothing ! $ move ! (3 ∷ 0 ∷ []) $ fjoin ! $ nothing ! $ fjoin ! $ nothing ! $ fjoin ! $ nothing ! $
     fjoin ! $
     move ! (2 ∷ []) $ split ! $ tells ! why $ tells ! kept $ tells ! written $ keep ! (1 ∷ 2 ∷ 3 ∷ 0 ∷ []) $

@@ -1,4 +1,4 @@
--- `robots_site_delay` reads what is lent to it.
+-- `robots_site_delay` reads a borrowed site.
 use Rattle.std.proofs.Common.{◌≡◌, ◌≢◌, ℕ, ℤ, pos, List, [], ◌∷◌, ◌++◌, Some, length, refl, ap, ◌∙◌}
 use Rattle.std.proofs.Common.{Bor}
 use base.Fml.{Lft, ftrue, flft}
@@ -78,7 +78,7 @@ robots_site_delay_spec 𝓤 𝓛 𝓜 𝓡 wired =
     rewrite ! 0 (λ (ws : List Val). ‵ ((ShrSlice (named 0) α u8).own_val agent ws)) e1 refl $
     move ! (1 ∷ []) $ fsplit ! $ rewrite ! 0
     (λ (ws : List Val). ‵ ((MutRef (named 1) β u64).own_val out ws)) e2 refl $
-    -- [out; nothing; agent; the tokens; the reference; κ]
+    -- [`out`; true; `agent`; the lifetime tokens; the reference; κ]
     let su : Val = slice_val agent.ref_ptr (length agent.now) in
     let so : Val = vptr out.ref_ptr.0 out.ref_ptr.1 in
     let ep : vs.0 ≡ vptr b o ∷ [] = are.0 ∙ ap (λ (p : Ptr). ptr_val p ∷ []) e in
@@ -98,7 +98,7 @@ robots_site_delay_spec 𝓤 𝓛 𝓜 𝓡 wired =
     sets ! (addr ! (through ! refl (stop !))) refl (tt, tt) $
     nothing ! $ move ! (1 ∷ 0 ∷ []) $ fjoin ! $ move ! (2 ∷ 0 ∷ []) $ fjoin ! $ move ! (3 ∷ 0 ∷ []) $
     fjoin ! $
-    -- [the arguments; nothing; the tokens; κ]
+    -- [the arguments; true; the lifetime tokens; κ]
     move ! (3 ∷ 2 ∷ []) $ join ! $ join ! $ nothing ! $ move ! (1 ∷ 0 ∷ []) $ join ! $
     let k = triple_of 𝓛 callee.signature (callee.spec 𝓛 𝓜.mem 𝓡.returns) in
     let rf : Bor (List ℕ) = record { ref_ptr = (b, o); now = x } in
@@ -117,10 +117,10 @@ robots_site_delay_spec 𝓤 𝓛 𝓜 𝓡 wired =
     split ! $ move ! (1 ∷ []) $ hears ! (Written x agent.now r w) (λ written.
     hears ! (r ≢ pos 0 → w ≡ out.now) (λ kept. heard ! (Why x agent.now r) (λ why.
     fsplit ! $ drop ! $ fsplit ! $ drop ! $ fsplit ! $ move ! (1 ∷ []) $ drop ! $
-    -- [what out was given; the tokens with the result; nothing]
+    -- [the final `out`; the lifetime tokens with the result; true]
     move ! (1 ∷ []) $ split ! $ move ! (1 ∷ []) $ status ! r u (λ eu good.
     lands_as ! eu refl good $ returns ! (look_at ! 0 refl) $ free_all ! refl $
-    -- [the result; the tokens; what out was given; nothing]
+    -- [the result; the lifetime tokens; the final `out`; true]
     nothing ! $ move ! (3 ∷ 0 ∷ []) $ fjoin ! $ nothing ! $ fjoin ! $ nothing ! $ fjoin ! $
     move ! (2 ∷ []) $ split ! $ tells ! why $ tells ! kept $ tells ! written $ keep ! (1 ∷ 2 ∷ 3 ∷ 0 ∷ []) $
     by ! (leaves 𝓛 En hs c z _ r (tt, (tt, (w, tt))) (tt, (tt, (tt, tt))))))))))))))

@@ -1,4 +1,4 @@
--- `robots_site_is_named` reads what is lent to it.
+-- `robots_site_is_named` reads a borrowed site.
 use Rattle.std.proofs.Common.{◌≡◌, ℕ, ℤ, List, [], ◌∷◌, ◌++◌, length, refl, ap, ◌∙◌}
 use Rattle.std.proofs.Common.{Bor}
 use base.Fml.{Lft, ftrue, flft}
@@ -61,7 +61,7 @@ robots_site_is_named_spec 𝓤 𝓛 𝓜 𝓡 wired =
     -- [the reference; κ; the rest]
     move ! (2 ∷ []) $ split ! $ move ! (1 ∷ []) $ fsplit ! $ drop ! $ fsplit ! $
     rewrite ! 0 (λ (ws : List Val). ‵ ((ShrSlice (named 0) α u8).own_val agent ws)) e1 refl $
-    -- [agent; nothing; the tokens; the reference; κ]
+    -- [`agent`; true; the lifetime tokens; the reference; κ]
     let su : Val = slice_val agent.ref_ptr (length agent.now) in
     let ep : vs.0 ≡ vptr b o ∷ [] = are.0 ∙ ap (λ (p : Ptr). ptr_val p ∷ []) e in
     let ws : List Val = vptr b o ∷ su ∷ [] in
@@ -71,7 +71,7 @@ robots_site_is_named_spec 𝓤 𝓛 𝓜 𝓡 wired =
     sets ! (of_opd ! (get ! refl)) refl (tt, tt) $
     sets ! (addr ! (through ! refl (stop !))) refl (tt, tt) $
     nothing ! $ move ! (1 ∷ 0 ∷ []) $ fjoin ! $ move ! (3 ∷ 0 ∷ []) $ fjoin ! $
-    -- [the arguments; nothing; the tokens; κ]
+    -- [the arguments; true; the lifetime tokens; κ]
     move ! (3 ∷ 2 ∷ []) $ join ! $ join ! $ nothing ! $ move ! (1 ∷ 0 ∷ []) $ join ! $
     let k = triple_of 𝓛 callee.signature (callee.spec 𝓛 𝓜.mem 𝓡.returns) in
     let rf : Bor (List ℕ) = record { ref_ptr = (b, o); now = x } in
@@ -85,10 +85,10 @@ robots_site_is_named_spec 𝓤 𝓛 𝓜 𝓡 wired =
     ⊛ some (λ (ls : Lasts callee.ended κs args). ‵ (lasts callee.ended κs args ls)
     ⊛ raw (fact 𝓤 (SaysNamed agent.now x r)))))) (id⊢ 𝓤 (k.post y u)) $
     await ! tt $ pick ! (λ r. split ! $ move ! (1 ∷ []) $ pick ! (λ ls. split ! $ drop ! $
-    -- [what is said; the tokens with the result; nothing]
+    -- [the facts; the lifetime tokens with the result; true]
     move ! (1 ∷ []) $ split ! $ move ! (1 ∷ []) $ status ! r u (λ eu good.
     lands_as ! eu refl good $ returns ! (look_at ! 0 refl) $ free_all ! refl $
-    -- [the result; the tokens; what is said; nothing]
+    -- [the result; the lifetime tokens; the facts; true]
     nothing ! $ nothing ! $ fjoin ! $ nothing ! $ fjoin ! $
     move ! (2 ∷ []) $ split ! $ move ! (4 ∷ 0 ∷ []) $ join ! $ keep ! (1 ∷ 2 ∷ 3 ∷ 0 ∷ []) $
     by ! (leaves 𝓛 En hs c z _ r (tt, (tt, tt)) (tt, (tt, tt))))))))))

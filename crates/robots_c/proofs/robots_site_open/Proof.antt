@@ -1,4 +1,4 @@
--- `robots_site_open` writes the place of the site that C owns.
+-- `robots_site_open` writes a pointer to a site, which C owns from then on.
 use Rattle.std.proofs.Common.{◌≡◌, ◌≢◌, ℕ, pos, List, [], ◌∷◌, ◌++◌, Some, length, refl, ap}
 use base.Fraction.{full_share}
 use base.Fml.{Lft, ftrue, flft, fall}
@@ -86,9 +86,9 @@ robots_site_open_spec 𝓤 𝓛 𝓜 𝓡 wired =
     move ! (1 ∷ []) $ fsplit ! $ rewrite ! 0
     (λ (ws : List Val). ‵ ((ShrSlice (named 0) α u8).own_val file ws)) e1 refl $
     move ! (1 ∷ []) $ fsplit ! $
-    -- [out; nothing; file; the handle; the tokens]
+    -- [`out`; true; `file`; the allocator; the lifetime tokens]
     move ! (4 ∷ []) $ split ! $ move ! (1 ∷ []) $ split ! $ move ! (3 ∷ 0 ∷ 1 ∷ 2 ∷ 4 ∷ 5 ∷ 6 ∷ []) $
-    -- [out; γ; nothing; α; nothing; file; the handle]
+    -- [`out`; γ; true; α; true; `file`; the allocator]
     let sf : Val = slice_val file.ref_ptr (length file.now) in
     let ws : List Val = h ∷ sf ∷ vptr b o ∷ [] in
     regoal ! (λ (us : List Val). prop (WpFn 𝓤 H 𝓣.C 𝓣.Λ fn us Post))
@@ -97,7 +97,7 @@ robots_site_open_spec 𝓤 𝓛 𝓜 𝓡 wired =
     (λ l. pass_all ! refl (fits, (slice_good (named 0) imm w8 file.ref_ptr _ are.1.0.0.1.0, ((tt, tt), tt))) $
     fsplit3 ! $ move ! (1 ∷ 2 ∷ 3 ∷ []) $ opens ! tt RawPtr b o (λ us. move ! (1 ∷ []) $
     feq_l ! (λ eus. rewrite ! 0 Cell eus refl $
-    -- [the cell; the open borrow, in three entries; the place; nothing; α; nothing; file; the handle]
+    -- [the cell; the open borrow, in three entries; the pointer; true; α; true; `file`; the allocator]
     sets ! (of_opd ! (load ! (through ! refl (stop !)) (look ! 0 refl))) refl (good_p p) $
     sets ! (of_opd ! (get ! refl)) refl (good_p p) $
     nothing ! $ feq_i ! (List Val) (ptr_val p ∷ []) (ptr_val p ∷ []) refl $ fjoin ! $
@@ -118,7 +118,7 @@ robots_site_open_spec 𝓤 𝓛 𝓜 𝓡 wired =
     await ! tt $ pick ! (λ r. split ! $ move ! (1 ∷ []) $ pick ! (λ ls. split ! $ drop ! $
     hears ! (Opened file.now r) (λ opened. hears ! (r.status ≢ pos 0 → r.at ≡ p) (λ kept.
     heard ! (Why r) (λ why. split ! $ move ! (1 ∷ []) $ kept_out R ! r (u ∷ []) (λ eu small.
-    -- [what is kept; the tokens; the cell; the open borrow, in three entries; the place; nothing]
+    -- [the kept value; the lifetime tokens; the cell; the open borrow, in three entries; the pointer; true]
     let n = r.status in let i : Val = status_val n in
     let good_i : Good (ty_int w32) i = (tt, of_z_fits w32 n (record { sfits = small })) in
     lands_as ! (ap only eu) refl (and_tt _ (good_p r.at).0, (good_i.1, ((good_p r.at).1, tt))) $
@@ -129,13 +129,13 @@ robots_site_open_spec 𝓤 𝓛 𝓜 𝓡 wired =
     sets ! (of_opd ! (get ! refl)) refl good_i $
     feq_i ! (List Val) (ptr_val r.at ∷ []) (ptr_val r.at ∷ []) refl $ move ! (3 ∷ 0 ∷ 4 ∷ 5 ∷ 6 ∷ []) $
     closes ! tt RawPtr r.at (ptr_val r.at ∷ []) b o $
-    -- [obs; the borrow; γ; what is kept; the tokens; the place; nothing]
+    -- [the observation; the borrow; γ; the kept value; the lifetime tokens; the pointer; true]
     returns ! (look_at ! 0 refl) $ free_all ! refl $
     fjoin ! $ move ! (4 ∷ 0 ∷ []) $ fjoin ! $ nothing ! $ move ! (1 ∷ 0 ∷ []) $ fjoin ! $
     nothing ! $ fjoin ! $ nothing ! $ fjoin ! $
-    -- [the parameters; γ; what is kept; the tokens; nothing]
+    -- [the parameters; γ; the kept value; the lifetime tokens; true]
     move ! (3 ∷ []) $ split ! $ move ! (3 ∷ 1 ∷ []) $ join ! $ move ! (1 ∷ 0 ∷ []) $ join ! $
-    -- [the tokens; the parameters; what is kept; nothing]
+    -- [the lifetime tokens; the parameters; the kept value; true]
     move ! (2 ∷ []) $ use1 𝓛 (‵ (fall (n ≡ pos 0)
     (λ _. opened_at R (λ site. site ≡ bytes_read file.now) r.at))) (owned_then R 𝓛
     (λ site. site ≡ bytes_read file.now) r.at r.value (n ≡ pos 0)

@@ -1,4 +1,4 @@
--- `robots_site_robot` writes the place of the robot that C owns, and reads what is lent to it.
+-- `robots_site_robot` reads a borrowed site, and writes a pointer to a robot, which C owns from then on.
 use Rattle.std.proofs.Common.{◌∙◌, Bor, ◌≡◌, ◌≢◌, ℕ, pos, List, [], ◌∷◌, ◌++◌, Some, length, refl, ap}
 use base.Fraction.{full_share}
 use base.Fml.{Lft, ftrue, flft, fall}
@@ -101,10 +101,10 @@ robots_site_robot_spec 𝓤 𝓛 𝓜 𝓡 wired =
     (λ (ws : List Val). ‵ ((ShrSlice (named 0) α u8).own_val agent ws)) e1 refl $
     move ! (1 ∷ []) $ fsplit ! $ move ! (1 ∷ []) $ fsplit ! $
     rewrite ! 0 (λ (ws : List Val). ‵ ((MutRef (named 2) γ usize).own_val line ws)) e3 refl $
-    -- [line; nothing; out; agent; the handle; the tokens; the reference; κ]
+    -- [`line`; true; `out`; `agent`; the allocator; the lifetime tokens; the reference; κ]
     move ! (5 ∷ []) $ split ! $ move ! (1 ∷ []) $ split ! $ move ! (1 ∷ []) $ split ! $
     move ! (6 ∷ 2 ∷ 1 ∷ 0 ∷ 3 ∷ []) $
-    -- [out; β; nothing; γ; α; line; nothing; agent; the handle; the reference; κ]
+    -- [`out`; β; true; γ; α; `line`; true; `agent`; the allocator; the reference; κ]
     let sa : Val = slice_val agent.ref_ptr (length agent.now) in
     let sl : Val = vptr line.ref_ptr.0 line.ref_ptr.1 in
     let ep : vs.1.0 ≡ vptr bs os ∷ [] = are.1.0 ∙ ap (λ (p : Ptr). ptr_val p ∷ []) e in
@@ -126,8 +126,8 @@ robots_site_robot_spec 𝓤 𝓛 𝓜 𝓡 wired =
     sets ! (addr ! (through ! refl (stop !))) refl (tt, tt) $
     fsplit3 ! $ move ! (1 ∷ 2 ∷ 3 ∷ []) $ opens ! tt RawPtr b o (λ us. move ! (1 ∷ []) $
     feq_l ! (λ eus. rewrite ! 0 Cell eus refl $
-    -- [the cell; the open borrow, in three entries; the place; nothing; γ; α; line; nothing; agent; the
-    -- handle; the reference; κ]
+    -- [the cell; the open borrow, in three entries; the pointer; true; γ; α; `line`; true; `agent`; the
+    -- allocator; the reference; κ]
     sets ! (of_opd ! (load ! (through ! refl (stop !)) (look ! 0 refl))) refl (good_p p) $
     sets ! (of_opd ! (get ! refl)) refl (good_p p) $
     sets ! (addr ! (through ! refl (stop !))) refl (tt, tt) $
@@ -165,8 +165,8 @@ robots_site_robot_spec 𝓤 𝓛 𝓜 𝓡 wired =
     fsplit ! $ drop ! $ fsplit ! $ drop ! $ fsplit ! $ drop ! $ fsplit ! $ drop ! $ fsplit ! $
     move ! (1 ∷ []) $ drop ! $
     move ! (1 ∷ []) $ split ! $ move ! (1 ∷ []) $ kept_out R ! r (u ∷ []) (λ eu small.
-    -- [what is kept; the tokens; what line was given; the cell; the open borrow, in three entries; the
-    -- place; nothing]
+    -- [the kept value; the lifetime tokens; the final `line`; the cell; the open borrow, in three entries;
+    -- the pointer; true]
     let n = r.status in let i : Val = status_val n in
     let good_i : Good (ty_int w32) i = (tt, of_z_fits w32 n (record { sfits = small })) in
     lands_as ! (ap only eu) refl (and_tt _ (good_p r.at).0, (good_i.1, ((good_p r.at).1, tt))) $
@@ -177,15 +177,16 @@ robots_site_robot_spec 𝓤 𝓛 𝓜 𝓡 wired =
     sets ! (of_opd ! (get ! refl)) refl good_i $
     feq_i ! (List Val) (ptr_val r.at ∷ []) (ptr_val r.at ∷ []) refl $ move ! (4 ∷ 0 ∷ 5 ∷ 6 ∷ 7 ∷ []) $
     closes ! tt RawPtr r.at (ptr_val r.at ∷ []) b o $
-    -- [obs; the borrow; β; what is kept; the tokens; what line was given; the place; nothing]
+    -- [the observation; the borrow; β; the kept value; the lifetime tokens; the final `line`; the pointer;
+    -- true]
     returns ! (look_at ! 0 refl) $ free_all ! refl $
     fjoin ! $ move ! (5 ∷ 0 ∷ []) $ fjoin ! $
     nothing ! $ move ! (5 ∷ 0 ∷ []) $ fjoin ! $ move ! (1 ∷ 0 ∷ []) $ fjoin ! $ nothing ! $ fjoin ! $
     nothing ! $ fjoin ! $ nothing ! $ fjoin ! $
-    -- [the parameters; β; what is kept; the tokens; nothing]
+    -- [the parameters; β; the kept value; the lifetime tokens; true]
     move ! (3 ∷ []) $ split ! $ move ! (1 ∷ []) $ split ! $ move ! (4 ∷ 1 ∷ []) $ join ! $
     move ! (1 ∷ 0 ∷ []) $ join ! $
-    -- [the tokens; κ; the parameters; what is kept; nothing]
+    -- [the lifetime tokens; κ; the parameters; the kept value; true]
     move ! (3 ∷ []) $ use1 𝓛 (‵ (fall (n ≡ pos 0) (λ _. opened_at R (IsRobotFor agent.now x) r.at)))
     (owned_then R 𝓛 (IsRobotFor agent.now x) r.at r.value (n ≡ pos 0) opened) $
     move ! (0 ∷ 2 ∷ []) $ join ! $ tells ! why $ tells ! kept $

@@ -1,4 +1,4 @@
--- `robots_site_sitemaps` reads what is lent to it.
+-- `robots_site_sitemaps` reads a borrowed site.
 use Rattle.std.proofs.Common.{◌≡◌, ℕ, ℤ, List, [], ◌∷◌, ◌++◌, length, refl, ap, ◌∙◌}
 use Rattle.std.proofs.Common.{Bor}
 use base.Fml.{Lft, ftrue, flft}
@@ -75,7 +75,7 @@ robots_site_sitemaps_spec 𝓤 𝓛 𝓜 𝓡 wired =
     rewrite ! 0 (λ (ws : List Val). ‵ ((MutSlice (named 0) α u8).own_val out ws)) e1 refl $
     move ! (1 ∷ []) $ fsplit ! $
     rewrite ! 0 (λ (ws : List Val). ‵ ((MutRef (named 1) β usize).own_val len ws)) e2 refl $
-    -- [len; nothing; out; the handle; the tokens; the reference; κ]
+    -- [`len`; true; `out`; the allocator; the lifetime tokens; the reference; κ]
     let so : Val = slice_val out.ref_ptr (length out.now) in
     let sl : Val = vptr len.ref_ptr.0 len.ref_ptr.1 in
     let good_o = slice_good (named 0) mut w8 out.ref_ptr (length out.now) are.1.1.0.0.1.0 in
@@ -93,7 +93,7 @@ robots_site_sitemaps_spec 𝓤 𝓛 𝓜 𝓡 wired =
     sets ! (addr ! (through ! refl (stop !))) refl (tt, tt) $
     nothing ! $ move ! (1 ∷ 0 ∷ []) $ fjoin ! $ move ! (2 ∷ 0 ∷ []) $ fjoin ! $ move ! (4 ∷ 0 ∷ []) $
     fjoin ! $ move ! (2 ∷ 0 ∷ []) $ fjoin ! $
-    -- [the arguments; nothing; the tokens; κ]
+    -- [the arguments; true; the lifetime tokens; κ]
     move ! (3 ∷ 2 ∷ []) $ join ! $ join ! $ nothing ! $ move ! (1 ∷ 0 ∷ []) $ join ! $
     let k = triple_of 𝓛 callee.signature (callee.spec 𝓛 𝓜.mem 𝓡.returns) in
     let rf : Bor (List ℕ) = record { ref_ptr = (b, o); now = x } in
@@ -121,12 +121,12 @@ robots_site_sitemaps_spec 𝓤 𝓛 𝓜 𝓡 wired =
     let w = ls.1.1.0 in let n = ls.1.1.1.0 in split ! $
     fsplit ! $ drop ! $ fsplit ! $ drop ! $ fsplit ! $ move ! (1 ∷ []) $ fsplit ! $ move ! (1 ∷ []) $ drop ! $
     move ! (1 ∷ []) $ fsplit ! $ fsplit ! $ move ! (1 ∷ []) $ feq_l ! (λ long. fjoin ! $
-    -- [what out was given; what len was given; what is said; the tokens with the result; nothing]
+    -- [the final `out`; the final `len`; the facts; the lifetime tokens with the result; true]
     move ! (3 ∷ []) $ split ! $ move ! (1 ∷ []) $ status ! r u (λ eu good.
     lands_as ! eu refl good $ returns ! (look_at ! 0 refl) $ free_all ! refl $
-    -- [the result; the tokens; what out was given; what len was given; what is said; nothing]
+    -- [the result; the lifetime tokens; the final `out`; the final `len`; the facts; true]
     nothing ! $ move ! (4 ∷ 0 ∷ []) $ fjoin ! $ move ! (3 ∷ 0 ∷ []) $ fjoin ! $ nothing ! $ fjoin ! $
     nothing ! $ fjoin ! $
-    -- [the parameters; the result; the tokens; what is said; nothing]
+    -- [the parameters; the result; the lifetime tokens; the facts; true]
     move ! (2 ∷ []) $ split ! $ move ! (4 ∷ 0 ∷ []) $ tells_text ! $ keep ! (1 ∷ 2 ∷ 3 ∷ 0 ∷ []) $
     by ! (leaves 𝓛 En hs c z _ r (tt, (tt, (w, (n, tt)))) (tt, (tt, (long, (tt, tt))))))))))))))

@@ -3,7 +3,7 @@ use Rattle.robots_audit.specs.Chosen.{chosen}
 use Rattle.robots_warnings.specs.Internal.{warning_value}
 use Rattle.robots_audit.proofs.chosen.chosen.Given as goal
 
--- the warnings that were taken, and those among the warnings that are left, are all
+-- the warnings chosen so far, and those to choose among the remaining ones, are all the chosen warnings
 abbrev pub invariant-loop-warning : goal.invariant-loop-warning
 invariant-loop-warning l =
     let only = map (λ name. name.now) l.only in

@@ -2,7 +2,7 @@ use Rattle.std.proofs.Common.{◌≡◌, ◌++◌, ◌<◌, string_bytes}
 use Rattle.robots_audit.specs.Delay.{fraction, million}
 use Rattle.robots_audit.proofs.delay.push_fraction.Given as goal
 
--- the digits that were added and those that are still to come are all
+-- the digits appended so far and the remaining ones are all the digits
 abbrev pub invariant-loop-rest : goal.invariant-loop-rest
 invariant-loop-rest l = record {
   less : l.rest < million;

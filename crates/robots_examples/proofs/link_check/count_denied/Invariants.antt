@@ -4,7 +4,7 @@ use Rattle.robots_examples.specs.LinkCheck.{AreDenied}
 use Rattle.texting_robots.specs.Callers.{LooksForRules, seen_of, unplaced}
 use Rattle.robots_examples.proofs.link_check.count_denied.Given as goal
 
--- however many of the links that are left are denied, all that are denied are so many more
+-- `count`: if `rest` of the remaining links are denied, then `count + rest` of all links are denied
 abbrev pub invariant-loop-link : goal.invariant-loop-link
 invariant-loop-link l =
     let rules = l.fn.robot.rules in

@@ -2,7 +2,7 @@ use Rattle.std.proofs.Common.{◌≡◌, ◌++◌, length, string_bytes}
 use Rattle.robots_io.specs.Sanitize.{sanitized_in}
 use Rattle.robots_io.proofs.sanitize.push_chunks.Given as goal
 
--- what was added and what the rest is shown as are the whole
+-- the bytes appended so far and the sanitized rest together are the complete result
 abbrev pub invariant-loop-rest : goal.invariant-loop-rest
 invariant-loop-rest l =
     string_bytes l.text ++ sanitized_in l.has_lines l.rest

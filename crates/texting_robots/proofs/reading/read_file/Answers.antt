@@ -56,7 +56,7 @@ returns-in-Err-clause-rejected c =
     (rejected_at _ c.loop-position.reading.tracker.captured (rule_in c.in-Some.line) _ _ _ c.in-Err.error
     (rw next at so_far.rules) so_far.accepted (rw here at c.in-Err.ensures.rejected))
 
--- a line that takes memory gives a rule or a sitemap
+-- a line that fails gives a rule or a sitemap, so no line fails if the file gives neither
 pub returns-in-Err-clause-without_memory : goal.returns-in-Err-clause-without_memory
 returns-in-Err-clause-without_memory c = λ rules sitemaps.
     let (next, here, _, _) = c.in-Some.ensures.steps in

@@ -6,7 +6,7 @@ use Rattle.texting_robots.specs.Executable.{captured_delays, file_lines, placed_
 use Rattle.texting_robots.specs.{Group.group_name, Line.delay_in, Pattern.IsOverlong, Rules.PlacedRule}
 use Rattle.texting_robots.proofs.reading.read_file.Given as goal
 
--- what was read, and what the lines that are left give, is what the file gives
+-- what was read so far and what the remaining lines give is what the file gives
 abbrev pub invariant-loop-position : goal.invariant-loop-position
 invariant-loop-position l =
     let lines = file_lines l.txt in

@@ -2,7 +2,7 @@ use Rattle.std.proofs.Common.{◌≡◌, ◌+◌, ◌-◌, ◌*◌, ◌≤◌, l
 use Rattle.texting_robots.proofs.BorderLemmas.{AddsBorders, IsFirstOpen}
 use Rattle.texting_robots.proofs.segments.push_borders.Given as goal
 
--- the piece is looked for in itself, and the borders of its first `position` bytes were added
+-- the segment is searched for in itself, and the borders of its first `position` bytes were appended
 abbrev pub invariant-loop-position : goal.invariant-loop-position
 invariant-loop-position l =
     record {

@@ -1,4 +1,4 @@
--- `into_box` makes the box again.
+-- `into_box` builds the box again from the raw pointer.
 use Rattle.std.proofs.Common.{◌≡◌, List, [], ◌∷◌, ◌++◌, refl, sym, ap, subst}
 use lib.Dec.{T as IsT}
 use mathlib.Core.Bool.{true, ◌&&◌}
@@ -97,7 +97,7 @@ into_box_spec {M = M} 𝓤 𝓛 𝓜 𝓡 wired T L dx glue =
     handle_tells E.al ! a vss.1.0 (λ h ea fits. move ! (1 ∷ []) $ drop ! $ move ! (1 ∷ []) $
     in_a_block ! v.at (λ p. box_owns (g.dealloc_token a) R p v.value) (fst∗ 𝓤 (never 𝓤) (sem 𝓛
     (g.dealloc_token a (bare (lone R.mir)) null_ptr))) (λ b o e.
-    -- [the block; the handle of the heap; nothing; the tokens; what is asked]
+    -- [the block; the allocator; true; the lifetime tokens; the precondition]
     let w : Val = vstruct (vcons (vptr b o) (vcons h vnil)) in
     let ws : z.0.4.0 ≡ w ∷ [] = subst (λ (p : Ptr).
     z.0.4.0 ≡ vstruct (of_list (ptr_val p ∷ h ∷ [])) ∷ []) e
@@ -119,7 +119,7 @@ into_box_spec {M = M} 𝓤 𝓛 𝓜 𝓡 wired T L dx glue =
     move ! (1 ∷ 0 ∷ []) $ join ! $ move ! (3 ∷ []) $
     feq_i ! (List Val) (vptr b o ∷ []) (vptr b o ∷ []) refl $ fjoin ! $
     move ! (3 ∷ 0 ∷ []) $ fjoin ! $
-    -- [the arguments; what is asked; nothing; the tokens]
+    -- [the arguments; the precondition; true; the lifetime tokens]
     move ! (3 ∷ []) $ split ! $ move ! (1 ∷ []) $
     use0 𝓛 (‵ (flft [] full_share)) (𝓛.lfts.lft-nil full_share) $ join ! $ move ! (1 ∷ 0 ∷ []) $ join ! $
     join ! $ join ! $ use1 𝓛 (raw (k.pre y)) (id⊢ 𝓤 _) $
@@ -145,7 +145,7 @@ into_box_spec {M = M} 𝓤 𝓛 𝓜 𝓡 wired T L dx glue =
     ⊛ raw (fact 𝓤 (r.alloc ≡ a))))))) (id⊢ 𝓤 (k.post y u)) $
     await ! tt $ pick ! (λ r. split ! $ move ! (1 ∷ []) $ pick ! (λ _. split3 ! $ drop ! $
     move ! (2 ∷ []) $ split ! $ split ! $ move ! (1 ∷ []) $ split ! $ drop ! $ move ! (1 ∷ 0 ∷ []) $ join ! $
-    -- [the tokens; the box; its value; its handle of the heap; nothing]
+    -- [the lifetime tokens; the box; the fact about its value; the fact about its allocator; true]
     move ! (1 ∷ []) $
     box_out E ! r (u ∷ []) (λ b' o' h' e' us fits'. box_in E ! r b' o' r.value e' refl $
     rewrite ! 0 (λ (xs : List Val). ‵ (B.own_val r xs)) (sym us) refl $

@@ -1,4 +1,4 @@
--- `boxed` takes the box apart.
+-- `boxed` turns the box into a raw pointer, whose value C owns.
 use Rattle.std.proofs.Common.{◌≡◌, List, [], ◌∷◌, ◌++◌, Some, refl, sym, ap, ◌∙◌, subst}
 use mir.Syntax.{impl, tcons, tnil, dcons, dnil, a_type, w32, ty_int}
 use mir.Raw.{raw as bare}
@@ -100,7 +100,7 @@ boxed_spec {M = M} 𝓤 𝓛 𝓜 𝓡 wired T L dx glue =
     ⊛ raw (emp 𝓤)) ∷ []) ∵
     split ! $ move ! (1 ∷ []) $ fsplit ! $ drop ! $ fsplit ! $
     box_out E ! v z.0.4.1.0 (λ b o h e ws fits. box_in E ! v b o v.value e refl $
-    -- [the box; nothing; the tokens; what is asked]
+    -- [the box; true; the lifetime tokens; the precondition]
     let w : Val = box.word E h b o in
     let k = triple_of 𝓛 (callee.signature T A g d dd dx) (callee.spec T A g d dd dx 𝓛 𝓜.mem 𝓡.returns) in
     let κs : Lft × (Lft × Unit {0}) = (κ, ([], tt)) in
@@ -136,7 +136,7 @@ boxed_spec {M = M} 𝓤 𝓛 𝓜 𝓡 wired T L dx glue =
     in_a_block ! r (λ p. box_owns (g.dealloc_token a) R p v.value) (fst∗ 𝓤 (never 𝓤) (sem 𝓛
     (g.dealloc_token a (bare (lone R.mir)) null_ptr))) (λ b' o' e'.
     move ! (1 ∷ []) $ split ! $ move ! (1 ∷ []) $ feq_l ! (λ eu.
-    -- [the tokens; the block]
+    -- [the lifetime tokens; the block]
     lands_as ! (ap only (eu ∙ ap (λ (p : Ptr). ptr_val p ∷ []) e')) refl (tt, tt) $
     sets ! (agg ! (and_then ! (get ! refl) (and_then ! (get ! refl) (no_more !)))) refl (
       tt,
@@ -147,7 +147,7 @@ boxed_spec {M = M} 𝓤 𝓛 𝓜 𝓡 wired T L dx glue =
     ) $
     move ! (1 ∷ []) $ kept_in R ! n (block_ptr b' o') (Some v.value) is.1 $
     move ! (1 ∷ []) $ split ! $ move ! (1 ∷ []) $ split ! $ drop ! $ move ! (1 ∷ 0 ∷ []) $ join ! $
-    -- [the tokens; the result]
+    -- [the lifetime tokens; the result]
     use0 𝓛 (raw (fact 𝓤 (Some v.value ≡ Some v.value))) (fact_i 𝓤 (Some v.value ≡ Some v.value)
     (emp 𝓤) refl) $
     use0 𝓛 (raw (fact 𝓤 (n ≡ n))) (fact_i 𝓤 (n ≡ n) (emp 𝓤) refl) $ join ! $

@@ -1,4 +1,4 @@
--- `nothing` puts the two together.
+-- `nothing` combines a status and a pointer, and owns no value.
 use Rattle.std.proofs.Common.{◌≡◌, List, [], ◌∷◌, ◌++◌, None, refl}
 use mir.Syntax.{a_type, dnil, w32, ty_int, ty_ptr}
 use mir.MapTy.{inst_fn}

@@ -3,7 +3,7 @@ use Rattle.std.specs.{Borrow.Bor, Option.IfNone, Option.IfSome}
 use Rattle.std.proofs.lemmas.{Bool.Decides.Decides-eqb, Slice.Eq.strip_prefix_is}
 use Rattle.texting_robots.proofs.haystack.UncountedHaystack.begins_with.Goals as goal
 
--- one fact on both ends as two facts
+-- a statement by cases, as one statement for `None` and one for `Some`
 parted : (text segment : List ℕ) (result : Option (Bor (List ℕ)))
     → MatchOption result ((rest : List ℕ) → text ≢ segment ++ rest)
     (λ rest. text ≡ segment ++ rest.now)

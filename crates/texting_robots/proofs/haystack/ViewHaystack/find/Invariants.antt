@@ -2,7 +2,7 @@ use Rattle.std.proofs.Common.{◌≡◌, ◌+◌, ◌-◌, ◌*◌, ◌≤◌, l
 use Rattle.texting_robots.proofs.BorderLemmas.{IsFirstOpen}
 use Rattle.texting_robots.proofs.haystack.ViewHaystack.find.Given as goal
 
--- the looks are at most twice the places passed, less the bytes matched
+-- the search has taken at most twice as many looks as offsets were passed, less the matched bytes
 abbrev pub invariant-loop-matched : goal.invariant-loop-matched
 invariant-loop-matched l =
     record {

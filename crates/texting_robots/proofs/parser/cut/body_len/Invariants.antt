@@ -2,7 +2,7 @@ use Rattle.std.proofs.Common.{◌≡◌, ◌+◌, ◌≤◌, length}
 use Rattle.texting_robots.specs.Internal.Cut.{body_len, read_as}
 use Rattle.texting_robots.proofs.parser.cut.body_len.Given as goal
 
--- no line ends in what was passed over
+-- no line ends within the bytes that were skipped
 abbrev pub invariant-loop-rest : goal.invariant-loop-rest
 invariant-loop-rest l = record {
   within : length l.rest ≤ length l.text;

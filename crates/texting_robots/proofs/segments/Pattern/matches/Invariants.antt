@@ -2,7 +2,7 @@ use Rattle.std.proofs.Common.{◌↔◌, List, ℕ, drop}
 use Rattle.texting_robots.specs.{Internal.Haystack.PassesTo, Internal.Segments.AreLeft, Pattern.Matches}
 use Rattle.texting_robots.proofs.segments.Pattern.matches.Given as goal
 
--- what is left of the pattern decides on what is left of the text
+-- the rest of the pattern decides about the rest of the text
 abbrev pub invariant-loop-segment : goal.invariant-loop-segment
 invariant-loop-segment g l =
     let inside = l.self-inside in

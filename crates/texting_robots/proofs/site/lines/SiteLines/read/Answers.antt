@@ -73,7 +73,7 @@ loop-rest-preserved c =
           (lines_of (read_as true after)) ∙ rw next at so_far.early;
     })
 
--- nothing is left of an empty rest
+-- an empty rest has no lines
 none_left : (rest : List ℕ) → length rest ≡ 0 → lines_of (read_as true rest) ≡ []
 none_left rest none =
     ap (λ t. lines_of (read_as true t)) (nil_from_length rest none) ∙ ap (map line_of) bodies_nil

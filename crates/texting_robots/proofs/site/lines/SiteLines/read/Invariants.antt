@@ -8,7 +8,7 @@ use Rattle.texting_robots.specs.Internal.Site.{tagged_from}
 use Rattle.texting_robots.proofs.RulesLemmas.{delay_from}
 use Rattle.texting_robots.proofs.site.lines.SiteLines.read.Given as goal
 
--- what was read, and what the lines that are left give, is what the file gives
+-- what was read so far and what the remaining lines give is what the file gives
 abbrev pub invariant-loop-rest : goal.invariant-loop-rest
 invariant-loop-rest l =
     let lines = file_lines l.text in
