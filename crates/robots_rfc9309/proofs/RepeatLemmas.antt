@@ -83,7 +83,7 @@ module _ {A : Type 0} {put : Source → A → A} where
   items_make {X} act P Q one other is =
       rw (is.written, is.whole) (units_make is.units is.each)
     where
-      units_make : (units : List (rfc.Utf8Unit X))
+      units_make : (units : List (rfc.RepeatUnit X))
           → Each (λ unit. rfc.IsOneOr P Q unit.items unit.bytes) units
           → Makes put (onto act (flat_map (λ unit. unit.items) units))
           (flat_map (λ unit. unit.bytes) units)

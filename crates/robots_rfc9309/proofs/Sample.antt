@@ -170,13 +170,13 @@ is_path = record {
     of_four : rfc.IsUtf8CharNoctl (0xF0 ∷ 0x9F ∷ 0xA4 ∷ 0x96 ∷ [])
     of_four = grind arith
 
-allow : rfc.IsRule (rfc.Allow path) (codes "allow: " ++ path ++ codes " # behind" ++ lf)
+allow : rfc.IsRule (rfc.Allow path) (codes "allow: " ++ path ++ codes " # after" ++ lf)
 allow = record {
   value = path;
   is_pattern = inl (is_path, refl);
   is_line =
-      keyed (codes "allow") (codes " # behind" ++ lf) refl
-      (comment (codes " ") (codes " behind") space refl);
+      keyed (codes "allow") (codes " # after" ++ lf) refl
+      (comment (codes " ") (codes " after") space refl);
 }
 
 disallow_none : rfc.IsRule (rfc.Disallow []) (codes "Disallow: " ++ cr_lf)

@@ -2,7 +2,7 @@
 use Rattle.std.proofs.Common.{ℕ, List, [], ◌∷◌, ◌++◌, flat_map, sym, refl, append-nil}
 use Rattle.std.specs.List.{AllByRecursion as Each}
 use Rattle.std.proofs.lemmas.Grind.{flat_map-append}
-use Rattle.robots_rfc9309.specs.Rfc9309.{IsMany, Utf8Unit, Repeats}
+use Rattle.robots_rfc9309.specs.Rfc9309.{IsMany, RepeatUnit, Repeats}
 use Rattle.texting_robots.proofs.TrimLemmas.{each_append}
 
 module _ {X : Type 0} (P : List X → List ℕ → Type 0) where
@@ -22,8 +22,8 @@ pub repeats_both : {X : Type 0} {P : List X → List ℕ → Type 0} {items more
     → Repeats P items text → Repeats P more later
     → Repeats P (items ++ more) (text ++ later)
 repeats_both {X} is also =
-    let written = flat_map-append (λ (unit : Utf8Unit X). unit.items) is.units also.units in
-    let whole = flat_map-append (λ (unit : Utf8Unit X). unit.bytes) is.units also.units in
+    let written = flat_map-append (λ (unit : RepeatUnit X). unit.items) is.units also.units in
+    let whole = flat_map-append (λ (unit : RepeatUnit X). unit.bytes) is.units also.units in
     record {
       units = is.units ++ also.units;
       each = each_append _ is.units also.units is.each also.each;

@@ -36,14 +36,14 @@ pub record IsMany (P : List ℕ → Type 0) (text : List ℕ) : Type 0 where
   pub whole : text ≡ flat_map (λ unit. unit) units
 
 -- a chunk of the text, and its items
-pub record Utf8Unit (X : Type 0) : Type 0 where
+pub record RepeatUnit (X : Type 0) : Type 0 where
   pub items : List X
   pub bytes : List ℕ
 
 -- `*P`, where each chunk of the text has some items; the result is all of them, in order
 pub record Repeats {X : Type 0} (P : List X → List ℕ → Type 0) (items : List X)
     (text : List ℕ) : Type 0 where
-  pub units : List (Utf8Unit X)
+  pub units : List (RepeatUnit X)
   pub each : Each (λ unit. P unit.items unit.bytes) units
   pub written : items ≡ flat_map (λ unit. unit.items) units
   pub whole : text ≡ flat_map (λ unit. unit.bytes) units

@@ -27,7 +27,7 @@ bare_lines =
     codes "user-agent: bot" ++ cr_lf
     ++ codes "\t# more of it # here" ++ lf
     ++ codes " User-Agent\t:\tother-bot_x " ++ cr
-    ++ codes "allow: " ++ path ++ codes " # behind" ++ lf
+    ++ codes "allow: " ++ path ++ codes " # after" ++ lf
     ++ codes "Disallow: " ++ cr_lf
     ++ lf
     ++ codes "USER-AGENT: *" ++ lf

@@ -42,19 +42,19 @@ const CUT: &[LimitCase] = &[
         decisions: &[("/abx", true, None), ("/abc", false, Some(1))],
     },
     LimitCase {
-        name: "behind_a_line_with_a_mark",
+        name: "after_a_line_with_a_bom",
         file: &[("\u{FEFF}Disallow: /a", 1)],
         limit: 15,
         decisions: &[("/a", false, Some(1)), ("/x", true, None)],
     },
     LimitCase {
-        name: "in_a_line_with_a_mark",
+        name: "in_a_line_with_a_bom",
         file: &[("\u{FEFF}Disallow: /a", 1)],
         limit: 14,
         decisions: &[("/x", false, Some(1))],
     },
     LimitCase {
-        name: "behind_the_limit_of_new",
+        name: "after_the_limit_of_new",
         file: RULE_AFTER,
         limit: 600_000,
         decisions: &[("/a", false, Some(2))],

@@ -108,17 +108,17 @@ const LABELS: &[LinesCase] = &[
         ],
     },
     LinesCase {
-        name: "whole_mark",
+        name: "whole_bom",
         text: b"\xEF\xBB\xBFUser-Agent: foo\nAllow: /AnyValue",
         lines: LABELED,
     },
     LinesCase {
-        name: "two_bytes_of_a_mark",
+        name: "two_bytes_of_a_bom",
         text: b"\xEF\xBBUser-Agent: foo\nAllow: /AnyValue",
         lines: LABELED,
     },
     LinesCase {
-        name: "one_byte_of_a_mark",
+        name: "one_byte_of_a_bom",
         text: b"\xEFUser-Agent: foo\nAllow: /AnyValue",
         lines: LABELED,
     },
@@ -198,7 +198,7 @@ const VALUES: &[LinesCase] = &[
         lines: &[Line::Disallow(b"/a")],
     },
     LinesCase {
-        name: "no_break_space_behind",
+        name: "no_break_space_after",
         text: b"Allow: /a\xC2\xA0",
         lines: &[Line::Allow(b"/a")],
     },
@@ -242,7 +242,7 @@ const DELAYS: &[LinesCase] = &[
         lines: &[Line::Raw(b"    crawl-delay  : -1.618")],
     },
     LinesCase {
-        name: "refused_delay",
+        name: "rejected_delay",
         text: b"Crawl-delay: wait # x",
         lines: &[Line::Raw(b"Crawl-delay: wait # x")],
     },
@@ -289,7 +289,7 @@ struct BodiesCase {
 /// Files with various line terminators.
 const BODIES: &[BodiesCase] = &[
     BodiesCase {
-        name: "bodies_as_they_stand",
+        name: "bodies_unchanged",
         file: b"User-agent: * # all\n\n  Disallow /a \nno rule",
         bodies: &[b"User-agent: * # all", b"", b"  Disallow /a ", b"no rule"],
     },
@@ -309,7 +309,7 @@ const BODIES: &[BodiesCase] = &[
         bodies: &[b"Allow: /a", b"b", b"", b"c"],
     },
     BodiesCase {
-        name: "bodies_behind_a_mark",
+        name: "bodies_after_a_bom",
         file: b"\xEF\xBB\xBFAllow: /a\n\xEF\xBB\xBFb",
         bodies: &[b"Allow: /a", b"\xEF\xBB\xBFb"],
     },

@@ -16,23 +16,23 @@ const MATCHES: &[(&str, &str, &str, bool)] = &[
     ("star_and_dollar", "*$", "/x", true),
     ("star_for_nothing", "/a*", "/a", true),
     ("star_for_one_byte", "/fish*$", "/fishy", true),
-    ("first_piece_is_anchored", "/fish*$", "/shark/fish", false),
+    ("first_segment_is_anchored", "/fish*$", "/shark/fish", false),
     ("no_overlap", "a*a", "a", false),
-    ("two_pieces", "a*a", "aba", true),
-    ("last_piece_would_overlap", "/*ab*ba$", "/aba", false),
-    ("last_piece_behind", "/*ab*ba$", "/abba", true),
+    ("two_segments", "a*a", "aba", true),
+    ("last_segment_would_overlap", "/*ab*ba$", "/aba", false),
+    ("last_segment_after", "/*ab*ba$", "/abba", true),
     ("leftmost_place", "/*aa*ab", "/aaab", true),
-    ("last_piece_at_the_end", "/*abab$", "/ababab", true),
-    ("star_behind_dollar", "/a$*", "/a", true),
-    ("byte_behind_dollar", "/a$b", "/a$b", false),
+    ("last_segment_at_the_end", "/*abab$", "/ababab", true),
+    ("star_after_dollar", "/a$*", "/a", true),
+    ("byte_after_dollar", "/a$b", "/a$b", false),
     ("few_looks", "/*aab", "/aaab", true),
 ];
 
 /// A name, a pattern, a text, and whether it matches if `$` is an ordinary byte.
 const STARS: &[(&str, &[u8], &[u8], bool)] = &[
-    ("dollar_stands_for_itself", b"/a$", b"/a$b", true),
+    ("dollar_matches_itself", b"/a$", b"/a$b", true),
     ("dollar_is_no_end", b"/a$", b"/a", false),
-    ("first_piece_is_anchored", b"b*c", b"*abc", false),
+    ("first_segment_is_anchored", b"b*c", b"*abc", false),
 ];
 
 /// A name, a pattern, and the pattern with each run of stars as one star.
@@ -97,7 +97,7 @@ fn check_matches(rt: &(impl Abort + AllocGlobal), cases: &[(&str, &str, &str, bo
 #[test]
 fn patterns_match_with_few_looks(rt: HostRuntime) {
     check_matches(&rt, MATCHES);
-    let name = "two_searched_pieces";
+    let name = "two_searched_segments";
     let regex = regex_of(&rt, name, "/*aab*aab$");
     let parts = &[("/", 1), ("a", 500), ("b", 1), ("a", 500), ("b", 1)];
     check_match(

@@ -44,7 +44,7 @@ const LOOKS: &[LookCase] = &[
         most: 2_002,
     },
     LookCase {
-        name: "long_piece",
+        name: "long_segment",
         file: &[("Disallow: /*", 1), ("a", 2000), ("b", 1)],
         text: &[("/", 1), ("a", 100_000)],
         allowed: true,
@@ -134,7 +134,7 @@ fn five_megabytes(rt: HostRuntime) {
         Line::Disallow(b"/private/folder"),
     );
     let robot = robot_of(&rt, "robot", BOB, file.as_bytes());
-    check_url(&rt, "refused", &robot, "/private/folder/x", false);
+    check_url(&rt, "denied", &robot, "/private/folder/x", false);
     check_url(&rt, "allowed", &robot, "/public", true);
 }
 

@@ -90,8 +90,8 @@ const PREPARED: &[(&str, &str, &str)] = &[
         "/it's?it%27s#it's",
     ),
     ("marks_in_a_query", "https://example.com/?^`{}", "/?^`{}"),
-    ("query_behind_the_host", "https://example.com?a", "/?a"),
-    ("fragment_behind_the_host", "https://example.com#a", "/#a"),
+    ("query_after_the_host", "https://example.com?a", "/?a"),
+    ("fragment_after_the_host", "https://example.com#a", "/#a"),
 ];
 
 /// A name, a URL, and its robots.txt address.
@@ -248,7 +248,7 @@ const NO_URLS: &[(&str, &str, &str, ParseError)] = &[
     ),
     ("at_sign_alone", "x://@", "x://@", ParseError::EmptyHost),
     (
-        "backslash_behind_a_port",
+        "backslash_after_a_port",
         "x://h:1\\",
         "x://h:1\\",
         ParseError::InvalidPort,

@@ -85,8 +85,8 @@ goes_on (returns k begin) none = begin
 goes_on (feed k) none = absurd (none k 0 (simp (length-append, length-replicate) (omega arith))
     (get_or_at (replicate k cr) lf [] 0 k (length-replicate k cr)))
 
-borrowed_cut : (pairs : List Pair) → ArePairs pairs → IsCut pairs (joined pairs)
-borrowed_cut pairs are =
+joined_is_cut : (pairs : List Pair) → ArePairs pairs → IsCut pairs (joined pairs)
+joined_is_cut pairs are =
     let at = λ (k : ℕ) (d : Pair) (below : k < length pairs).
     pair_at pairs are (take k pairs) (drop (k + 1) pairs) (get_or pairs k d)
     (sym (take-append-drop k pairs) ∙ ap (λ t. take k pairs ++ t) (drop_more pairs k d below)) in
@@ -179,7 +179,7 @@ walked (b ∷ text) =
     rw cut_cons (more, adds ∙ ap (λ t. b ∷ t) whole)
 
 pub is_cut : (text : List ℕ) → IsCut (cut text) text
-is_cut text = let (are, whole) = walked text in subst (IsCut (cut text)) whole (borrowed_cut (cut text) are)
+is_cut text = let (are, whole) = walked text in subst (IsCut (cut text)) whole (joined_is_cut (cut text) are)
 
 -- ---- each cut is the one that `cut` computes
 

@@ -212,8 +212,8 @@ module _ (name : List ℕ) (lines : List LineValue) (position : ℕ) (line : Lin
 
 -- ---- the labels of all lines
 
-abbrev IsWildcardAt : List ℕ → List LineValue → ℕ → Label → Type 0
-IsWildcardAt name lines position label = (label.number ≡ position + 1) × HasMembership name lines position label.membership
+abbrev IsLabelAt : List ℕ → List LineValue → ℕ → Label → Type 0
+IsLabelAt name lines position label = (label.number ≡ position + 1) × HasMembership name lines position label.membership
 
 module _ (name : List ℕ) (all : List LineValue) where
   abbrev left_from : ℕ → List LineValue → List Label
@@ -226,7 +226,7 @@ module _ (name : List ℕ) (all : List LineValue) where
       ap (λ (rest : List LineValue). line ∷ rest) (left_lines (position + 1) lines)
 
   left_each : (position : ℕ) (lines : List LineValue) → drop position all ≡ lines → (k : ℕ) (label : Label)
-      → slice_get (left_from position lines) k ≡ Some label → IsWildcardAt name all (position + k) label
+      → slice_get (left_from position lines) k ≡ Some label → IsLabelAt name all (position + k) label
   left_each position [] left k label at = cc
   left_each position (line ∷ lines) left zero label at =
       let same : label_at name all (position, line) ≡ label = cc in
@@ -239,7 +239,7 @@ module _ (name : List ℕ) (all : List LineValue) where
 
   left_only : (position : ℕ) (lines : List LineValue) (labels : List Label) → drop position all ≡ lines
       → map (λ (label : Label). label.line) labels ≡ lines
-      → ((k : ℕ) (label : Label) → slice_get labels k ≡ Some label → IsWildcardAt name all (position + k) label)
+      → ((k : ℕ) (label : Label) → slice_get labels k ≡ Some label → IsLabelAt name all (position + k) label)
       → labels ≡ left_from position lines
   left_only position [] [] left are each = refl
   left_only position [] (label ∷ labels) left are each = cc

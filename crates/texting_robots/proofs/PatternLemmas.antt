@@ -110,15 +110,15 @@ pub only_wildcards_match : (q : List ℕ) → (list_all is_wildcard q ≡ true) 
 unfolding MatchesWith
 only_wildcards_match [] = (λ _. tt, λ _. refl)
 only_wildcards_match (b ∷ q) =
-    let (labels, match) = only_wildcards_match q in
+    let (wildcards, match) = only_wildcards_match q in
     elim (cases_Bool (b == star)) [
       | inl first ↦ rw first (
-        λ m. ([], ([], refl), labels m),
+        λ m. ([], ([], refl), wildcards m),
         λ (s, (front, e), m). match (rw (none_left front s e) at m),
       )
       | inr other ↦ elim (cases_Bool (b == dollar)) [
         | inl end ↦ rw (other, end)
-            (λ m. ([], (refl, refl), labels m), λ (s, (e, gone), m). match (rw gone at m))
+            (λ m. ([], (refl, refl), wildcards m), λ (s, (e, gone), m). match (rw gone at m))
         | inr plain ↦ rw (other, plain) (λ e. cc, λ (s, e, m). cc)
       ]
     ]
