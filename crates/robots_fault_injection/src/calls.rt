@@ -145,11 +145,11 @@ fn new_robot(alloc: Global) -> Result<bool, Error> {
 }
 
 fn allowed(alloc: Global) -> Result<bool, Error> {
-    asks_urls(alloc, &ferris(alloc)?)
+    queries_urls(alloc, &ferris(alloc)?)
 }
 
 /// Queries each URL, even after an allocation failed for an earlier one.
-fn asks_urls(alloc: Global, robot: &Robot) -> Result<bool, Error> {
+fn queries_urls(alloc: Global, robot: &Robot) -> Result<bool, Error> {
     let mut rejected = false;
     for (url, want) in VERDICTS {
         match robot.allowed(alloc, url) {

@@ -16,7 +16,7 @@ pub(crate) enum Call {
     AllowedPrepared,
     AllowedUrl,
     AllowedPath,
-    AllowedWholeUrl,
+    AllowedAbsoluteUrl,
     AllowedView,
     Decision,
     DecisionPrepared,
@@ -54,7 +54,7 @@ pub(crate) const CALLS: &[(&str, Call)] = &[
     ),
     (
         "Robot::allowed of a plain URL without memory",
-        Call::AllowedWholeUrl,
+        Call::AllowedAbsoluteUrl,
     ),
     ("Robot::allowed_view without memory", Call::AllowedView),
     ("Robot::decision without memory", Call::Decision),
@@ -152,8 +152,8 @@ fn answer_at(
 /// Makes a call. Only five get the allocator.
 fn asks(alloc: Global, fixture: &Fixture, call: &Call) -> Result<bool, Error> {
     match call {
-        Call::AllowedPath => asks_paths(alloc, fixture.robot),
-        Call::AllowedWholeUrl => asks_whole_urls(alloc, fixture.robot),
+        Call::AllowedPath => queries_paths(alloc, fixture.robot),
+        Call::AllowedAbsoluteUrl => queries_absolute_urls(alloc, fixture.robot),
         Call::NewRobot => reads_line_ends(alloc),
         Call::DecidePath => decides_path(alloc, fixture.robot),
         Call::SiteRobot => Ok(fixture.site.robot(alloc, "BobBot")?.delay == Some(2_000_000)),
@@ -165,16 +165,16 @@ fn asks(alloc: Global, fixture: &Fixture, call: &Call) -> Result<bool, Error> {
 fn is_right(fixture: &Fixture, call: &Call) -> bool {
     match call {
         Call::MakeFixture => is_right_robot(fixture.robot),
-        Call::AllowedPrepared => asks_prepared(fixture.robot),
+        Call::AllowedPrepared => queries_prepared(fixture.robot),
         Call::AllowedUrl => !fixture.robot.allowed_url(fixture.url),
-        Call::AllowedView => asks_view(fixture.robot),
-        Call::Decision => asks_decision(fixture.robot),
-        Call::DecisionPrepared => asks_decision_prepared(fixture.robot),
+        Call::AllowedView => queries_view(fixture.robot),
+        Call::Decision => queries_decision(fixture.robot),
+        Call::DecisionPrepared => queries_decision_prepared(fixture.robot),
         Call::SiteDelay => gives_delays(fixture.site),
         Call::SiteNames => gives_names(fixture.site),
-        Call::IsMatch => asks_match(&fixture.patterns.longer),
-        Call::MatchesView => asks_match_of_view(&fixture.patterns.longer),
-        Call::MatchStars => asks_match_of_stars(&fixture.patterns.longer),
+        Call::IsMatch => queries_match(&fixture.patterns.longer),
+        Call::MatchesView => queries_match_of_view(&fixture.patterns.longer),
+        Call::MatchStars => queries_match_of_stars(&fixture.patterns.longer),
         Call::AsStr => fixture.patterns.longer.as_str() == "/*ab*ba$",
         Call::Comparisons => compares(fixture.patterns),
         Call::View => looks(),
@@ -185,14 +185,14 @@ fn is_right(fixture: &Fixture, call: &Call) -> bool {
         Call::LabeledLines => labels_page(),
         Call::IsNamed => is_named("smerbot", PAGE) && !is_named("BobBot", PAGE),
         Call::AllowedPath
-        | Call::AllowedWholeUrl
+        | Call::AllowedAbsoluteUrl
         | Call::NewRobot
         | Call::DecidePath
         | Call::SiteRobot => false,
     }
 }
 
-fn asks_prepared(robot: &Robot) -> bool {
+fn queries_prepared(robot: &Robot) -> bool {
     robot.allowed_prepared("/ocean")
         && robot.allowed_prepared("/robots.txt")
         && !robot.allowed_prepared("/rust")
@@ -200,12 +200,12 @@ fn asks_prepared(robot: &Robot) -> bool {
 }
 
 /// Queries paths in which nothing has to be escaped.
-fn asks_paths(alloc: Global, robot: &Robot) -> Result<bool, Error> {
+fn queries_paths(alloc: Global, robot: &Robot) -> Result<bool, Error> {
     Ok(robot.allowed(alloc, "/ocean/reef.html")? && !robot.allowed(alloc, "/rust")?)
 }
 
 /// Queries URLs in normal form.
-fn asks_whole_urls(alloc: Global, robot: &Robot) -> Result<bool, Error> {
+fn queries_absolute_urls(alloc: Global, robot: &Robot) -> Result<bool, Error> {
     Ok(
         robot.allowed(alloc, "https://www.rust-lang.org/ocean/reef.html?a#b")?
             && robot.allowed(alloc, "http://www.rust-lang.org:8080")?
@@ -213,12 +213,12 @@ fn asks_whole_urls(alloc: Global, robot: &Robot) -> Result<bool, Error> {
     )
 }
 
-fn asks_view(robot: &Robot) -> bool {
+fn queries_view(robot: &Robot) -> bool {
     let mut view = View::new("/forest/tree/snake.py");
     !robot.allowed_view(&mut view) && robot.allowed_view(&mut View::new("/ocean"))
 }
 
-fn asks_decision(robot: &Robot) -> bool {
+fn queries_decision(robot: &Robot) -> bool {
     let rejected = Decision {
         allowed: false,
         line: Some(4),
@@ -234,7 +234,7 @@ fn asks_decision(robot: &Robot) -> bool {
 }
 
 /// The deciding line, without counted comparisons.
-fn asks_decision_prepared(robot: &Robot) -> bool {
+fn queries_decision_prepared(robot: &Robot) -> bool {
     robot.decision_prepared("/forest/tree/snake.py").line == Some(4)
         && robot.decision_prepared("/robots.txt").line.is_none()
 }
@@ -255,15 +255,15 @@ fn gives_names(site: &Site) -> bool {
     site.is_named("SMERBOT") && !site.is_named("*") && site.group_name("BobBot") == b"*".as_slice()
 }
 
-fn asks_match(pattern: &MinRegex) -> bool {
+fn queries_match(pattern: &MinRegex) -> bool {
     pattern.is_match("/abba") && !pattern.is_match("/aba")
 }
 
-fn asks_match_of_view(pattern: &MinRegex) -> bool {
+fn queries_match_of_view(pattern: &MinRegex) -> bool {
     pattern.matches_view(&mut View::new("/abba")) && !pattern.matches_view(&mut View::new("/aba"))
 }
 
-fn asks_match_of_stars(pattern: &MinRegex) -> bool {
+fn queries_match_of_stars(pattern: &MinRegex) -> bool {
     pattern.match_stars(b"/a$", b"/a$b")
         && !pattern.match_stars(b"/a$", b"/a")
         && !pattern.match_stars(b"b*c", b"*abc")

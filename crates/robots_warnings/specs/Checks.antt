@@ -99,17 +99,17 @@ abbrev pub is_directive : LineValue → Bool
 is_directive (Raw body) = false
 is_directive _ = true
 
--- the value of a line; rules are only checked if `is_asked` is true
+-- the value of a line; rules are only checked if `is_in_scope` is true
 abbrev pub value_checks : Bool → LineValue → List Check
-value_checks is_asked (UserAgent value) = user_agent_checks value
-value_checks is_asked (Allow value) = if is_asked then rule_checks value else []
-value_checks is_asked (Disallow value) = if is_asked then rule_checks value else []
-value_checks is_asked (CrawlDelay None) = []
-value_checks is_asked (CrawlDelay (Some micros)) = delay_checks micros
-value_checks is_asked (Sitemap value) = sitemap_checks value
-value_checks is_asked (Raw body) = if is_blank body then [] else ignored_checks body
+value_checks is_in_scope (UserAgent value) = user_agent_checks value
+value_checks is_in_scope (Allow value) = if is_in_scope then rule_checks value else []
+value_checks is_in_scope (Disallow value) = if is_in_scope then rule_checks value else []
+value_checks is_in_scope (CrawlDelay None) = []
+value_checks is_in_scope (CrawlDelay (Some micros)) = delay_checks micros
+value_checks is_in_scope (Sitemap value) = sitemap_checks value
+value_checks is_in_scope (Raw body) = if is_blank body then [] else ignored_checks body
 
 -- a line with this content
 abbrev pub line_checks : Bool → LineValue → List ℕ → List Check
-line_checks is_asked line body =
-    (if is_directive line then field_checks body else []) ++ value_checks is_asked line
+line_checks is_in_scope line body =
+    (if is_directive line then field_checks body else []) ++ value_checks is_in_scope line

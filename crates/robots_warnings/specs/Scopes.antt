@@ -23,8 +23,8 @@ scope_in everywhere run = if everywhere then run.first else 0
 
 -- the rule, if it is checked
 abbrev pub rule_if : Bool → ℕ → ℕ → Bool → List ℕ → List Scoped
-rule_if is_asked scope number is_allow value =
-    if is_asked then record { scope = scope; number = number; is_allow = is_allow; value = value } ∷ []
+rule_if is_in_scope scope number is_allow value =
+    if is_in_scope then record { scope = scope; number = number; is_allow = is_allow; value = value } ∷ []
     else []
 
 -- the rule of a line, if it has one that is checked: all if `everywhere`, else those of the crawler's group
@@ -32,9 +32,9 @@ abbrev pub rule_of : Bool → Run → Label → List Scoped
 rule_of everywhere run label = of_value (everywhere || is_own label.membership) label.line
   where
     of_value : Bool → LineValue → List Scoped
-    of_value is_asked (Allow value) = rule_if is_asked (scope_in everywhere run) label.number true value
-    of_value is_asked (Disallow value) = rule_if is_asked (scope_in everywhere run) label.number false value
-    of_value is_asked _ = []
+    of_value is_in_scope (Allow value) = rule_if is_in_scope (scope_in everywhere run) label.number true value
+    of_value is_in_scope (Disallow value) = rule_if is_in_scope (scope_in everywhere run) label.number false value
+    of_value is_in_scope _ = []
 
 -- the rules of these lines, given the run before them
 abbrev pub rules_from : Bool → Run → List Label → List Scoped

@@ -86,20 +86,20 @@ fn warn_in_general<'a>(
     Ok(())
 }
 
-/// Appends the warnings about the value of a line. Rules are only checked if `is_asked` is true.
+/// Appends the warnings about the value of a line. Rules are only checked if `is_in_scope` is true.
 fn warn_of_value(
     alloc: Global,
     found: &mut Found<'_>,
-    is_asked: bool,
+    is_in_scope: bool,
     number: usize,
     line: Line<'_>,
 ) -> Result<(), AllocError>
-    ensures { OnOk result (Adds found.old.items found.new.items (warned (Some number) None (value_checks is_asked (by_value line.entry)))) }
+    ensures { OnOk result (Adds found.old.items found.new.items (warned (Some number) None (value_checks is_in_scope (by_value line.entry)))) }
 {
     let at = Some(number);
     match line {
         Line::UserAgent(value) => warn(found, at, None, &user_agent_checks(value)),
-        Line::Allow(value) | Line::Disallow(value) if is_asked => {
+        Line::Allow(value) | Line::Disallow(value) if is_in_scope => {
             warn(found, at, None, &rule_checks(value))
         }
         Line::CrawlDelay(Some(micros)) => warn(found, at, None, &delay_checks(micros)),
@@ -141,8 +141,8 @@ fn warn_of_line(
     ensures { OnOk result (Adds found.old.items found.new.items (line_warnings everywhere (label_by_value labeled.now) body.now)) }
 {
     warn_of_field(found, labeled, body)?;
-    let is_asked = is_in_scope_of(everywhere, labeled.membership);
-    warn_of_value(alloc, found, is_asked, labeled.number, labeled.line)
+    let is_in_scope = is_in_scope_of(everywhere, labeled.membership);
+    warn_of_value(alloc, found, is_in_scope, labeled.number, labeled.line)
 }
 
 /// Appends the warnings about the lines of a file, which are given with their labels.

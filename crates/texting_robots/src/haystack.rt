@@ -9,10 +9,10 @@ ghost use Rattle.texting_robots.specs.Internal.Stars.{IsRestAfterFirst, OccursNo
 ghost use Rattle.texting_robots.specs.Pattern.{IsSuffix};
 ghost use Rattle.texting_robots.specs.Internal.Haystack.{PassesTo};
 
-use crate::segments::Span;
 use crate::prefilter::bigrams::BigramSet;
 use crate::prefilter::head::front;
 use crate::prefilter::{Prefilter, first_near};
+use crate::segments::Span;
 use crate::view::View;
 use memchr::memmem;
 use std::marker::Model;

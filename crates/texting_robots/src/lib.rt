@@ -43,12 +43,12 @@ pub mod minregex;
 mod normalized;
 mod one_agent;
 pub mod parser;
-mod segments;
 mod prefilter;
 mod prepared;
 mod reading;
 pub mod robot;
 mod rules;
+mod segments;
 pub mod site;
 pub mod view;
 
