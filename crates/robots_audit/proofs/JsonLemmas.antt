@@ -190,7 +190,8 @@ abbrev mutual
 
 byte_then : (byte : ℕ) → IsTrue (list_all (is_printable_byte true) (byte ∷ [])) → (text : List ℕ)
     → IsPrintable text → IsPrintable (byte ∷ text)
-byte_then byte plain text is = append_printable true (byte ∷ []) text (ascii_printable true (byte ∷ []) plain) is
+byte_then byte plain text is = append_printable true (byte ∷ []) text
+    (ascii_printable true (byte ∷ []) plain) is
 
 comma_then : (later : Bool) (text : List ℕ) → IsPrintable text → IsPrintable (comma_if later ++ text)
 comma_then true text is = byte_then 44 refl text is
@@ -203,11 +204,13 @@ mutual
   data_printable (boolean false) are = ascii_printable true (compact_text (boolean false)) refl
   data_printable (number n) are = are
   data_printable (string text) are = quoted_printable text are
-  data_printable (array items) are = byte_then 91 refl (items_text false items) (items_printable false items are)
+  data_printable (array items) are = byte_then 91 refl (items_text false items)
+      (items_printable false items are)
   data_printable (object members) are =
       byte_then 123 refl (members_text false members) (members_printable false members are)
 
-  items_printable : (later : Bool) (items : Items) → ItemsHavePrintable items → IsPrintable (items_text later items)
+  items_printable : (later : Bool) (items : Items) → ItemsHavePrintable items
+      → IsPrintable (items_text later items)
   items_printable later no_items are = ascii_printable true (93 ∷ []) refl
   items_printable later (item value items) are =
       comma_then later (compact_text value ++ items_text true items)

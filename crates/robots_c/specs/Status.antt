@@ -66,7 +66,8 @@ IsWhyNoResults text capacity _ = ⊥
 abbrev pub IsWhyUndecided : List ℕ → List ℕ → List ℕ → ℕ → Fault → Type 0
 IsWhyUndecided agent site text capacity NotUtf8 = (¬ IsUtf8 agent) ⊎ (¬ IsUtf8 text)
 IsWhyUndecided agent site text capacity Memory = IsUtf8 agent × IsUtf8 text
-IsWhyUndecided agent site text capacity BufferTooSmall = IsUtf8 agent × IsWhyNoResults text capacity BufferTooSmall
+IsWhyUndecided agent site text capacity BufferTooSmall = IsUtf8 agent
+    × IsWhyNoResults text capacity BufferTooSmall
 IsWhyUndecided agent site text capacity fault = IsUtf8 text × IsWhyNoRobot agent site fault
 
 -- the results of many crawlers for many URLs; a rule that is too long isn't an error

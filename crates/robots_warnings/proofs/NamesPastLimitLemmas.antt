@@ -14,7 +14,8 @@ use Rattle.robots_warnings.specs.Internal.Names.{HasNames, IsFoundUpto, Key, Mee
 use Rattle.robots_warnings.proofs.BothWaysLemmas.{picked}
 
 -- loop step: the set has the names of one more line within the size limit
-pub read_more : (labels : List LabeledLine) (at : ℕ) (labeled : LabeledLine) {old new : BTreeSet Key} {is_new : Bool}
+pub read_more : (labels : List LabeledLine) (at : ℕ) (labeled : LabeledLine) {old new : BTreeSet Key}
+    {is_new : Bool}
     → at < length labels → HasNames old (lines_of (map label_by_value (take at labels)))
     → MeetsLine old new (by_value (slice_index_or labels at labeled).line) is_new
     → HasNames new (lines_of (map label_by_value (take (at + 1) labels)))
@@ -22,7 +23,8 @@ read_more labels at labeled below has meets =
     rw (take_more labels at labeled below) (simp (map-append, map-append) (meets.has _ has))
 
 -- loop step: one more line was examined, and its number was taken if its name is new
-pub found_more : {read : List LineValue} {file : List ℕ} {index : ℕ} {line : LineValue} {left : List LineValue}
+pub found_more : {read : List LineValue} {file : List ℕ} {index : ℕ} {line : LineValue}
+    {left : List LineValue}
     {met new_met : BTreeSet Key} {old new : List ℕ} {is_new : Bool}
     → IsFoundUpto read file met old index (line ∷ left) → MeetsLine met new_met line is_new
     → new ≡ old ++ (if is_new then (index + 1) ∷ [] else [])
@@ -33,7 +35,8 @@ found_more {read} {file} {index} {line} {left} {old} {is_new} upto meets added =
     let one : Bool → List ℕ = λ is. if is then (index + 1) ∷ [] else [] in
     let so_far : take index (file_lines file) ≡ before =
     rw (← upto.count, ← upto.parts) (take-append_seam before (line ∷ left)) in
-    let is : is_new ≡ is_past_limit read file (index, line) = rw so_far (meets.was (read ++ before) upto.has) in
+    let is : is_new ≡ is_past_limit read file (index, line) = rw so_far
+        (meets.was (read ++ before) upto.has) in
     let taken = picked (λ (p : ℕ × LineValue). p.0 + 1) (is_past_limit read file (index, line)) (index, line)
     (filter (is_past_limit read file) (enumerate_from (index + 1) left)) in
     record {

@@ -33,7 +33,8 @@ rule_of everywhere run label = of_value (everywhere || is_own label.membership) 
   where
     of_value : Bool → LineValue → List Scoped
     of_value is_in_scope (Allow value) = rule_if is_in_scope (scope_in everywhere run) label.number true value
-    of_value is_in_scope (Disallow value) = rule_if is_in_scope (scope_in everywhere run) label.number false value
+    of_value is_in_scope (Disallow value) = rule_if is_in_scope
+        (scope_in everywhere run) label.number false value
     of_value is_in_scope _ = []
 
 -- the rules of these lines, given the run before them

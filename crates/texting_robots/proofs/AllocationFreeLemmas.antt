@@ -60,14 +60,16 @@ module _ (delimiter : ℕ) (part : List ℕ) (set : AsciiSet)
       ))
       (λ (e : (b == delimiter) ≡ false). rw e ([], refl, (None, refl, tt))) (cases_Bool (b == delimiter))
 
-  pub labeled_left : (text rest : List ℕ) → IsDelimited (delimiter ∷ []) set text → StopsAt (is_kept part) rest
+  pub labeled_left : (text rest : List ℕ) → IsDelimited (delimiter ∷ []) set text
+      → StopsAt (is_kept part) rest
       → after_delimited delimiter part rest ≡ rest → after_delimited delimiter part (text ++ rest) ≡ rest
   labeled_left text rest (None, written, kept) stops stays =
       ap (λ t. after_delimited delimiter part (t ++ rest)) written ∙ stays
   labeled_left text rest (Some inside, written, kept) stops stays =
       let stand = occurs_all part set (λ x. false) same inside kept (λ k d below. refl) in
       ap (λ t. after_delimited delimiter part (t ++ rest)) written
-      ∙ cond-true (delimiter == delimiter) _ _ (grind (arith, nat_tests)) ∙ after_at part inside rest stand stops
+      ∙ cond-true (delimiter == delimiter) _ _ (grind (arith, nat_tests))
+          ∙ after_at part inside rest stand stops
 
 -- ---- the host
 
@@ -315,7 +317,8 @@ module _ (front : List ℕ) (site : SiteOf front) where
 pub prepared_alone : (front : List ℕ) → IsSite front → prepared front ≡ codes "/"
 prepared_alone front is_site =
     let site = site_of front is_site in
-    let long : 0 < length front = let whole = simp length-append at (ap length site.assembled) in omega arith in
+    let long : 0 < length front = let whole = simp length-append at
+        (ap length site.assembled) in omega arith in
     prepared_parsed front (alone front site) long (alone_parsed front site)
 
 -- ---- the path, the query and the fragment

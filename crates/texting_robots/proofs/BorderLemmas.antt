@@ -90,13 +90,15 @@ module _ {text segment : List ℕ} where
             agrees = (farther (position - border) border (omega arith)).1 longest.agrees;
             closed = λ at from before agrees.
                 ⊎_elim (λ (skipped : position - matched < at).
-                let border = (farther at (position - at) (omega arith)).0 (λ k l m. agrees k l (omega arith)) in
+                let border = (farther at (position - at) (omega arith)).0
+                    (λ k l m. agrees k l (omega arith)) in
                 longest.longest (position - at) (omega arith) (omega arith) border)
                 (λ upto. closed_here at from (omega arith) agrees)
                 (cases_lt (position - matched) at);
           }
 
-  module _ {low position matched : ℕ} (first : IsFirstOpen text segment low (length text) position matched) where
+  module _ {low position matched : ℕ} (first : IsFirstOpen text segment low
+      (length text) position matched) where
     open_before : Nowhere (OccursAt text segment) low (position - matched)
     open_before at from before occurs = first.closed at from before (λ k l m. occurs.reads k l)
 

@@ -293,11 +293,13 @@ given_captured given name tracker [] = []
 given_captured given name tracker (line ∷ lines) =
     cons_option (if_captured tracker (given line)) (given_captured given name (step name tracker line) lines)
 
-without_positions : {X : Type 0} (given : LineValue → Option X) (name : List ℕ) (tracker : GroupTracker) (position : ℕ)
+without_positions : {X : Type 0} (given : LineValue → Option X) (name : List ℕ) (tracker : GroupTracker)
+    (position : ℕ)
     (lines : List LineValue)
     → from_captured (λ p. given p.1) name tracker position lines ≡ given_captured given name tracker lines
 without_positions given name tracker position [] = refl
-without_positions given name tracker position (line ∷ lines) = ap (cons_option (if_captured tracker (given line)))
+without_positions given name tracker position (line ∷ lines) = ap
+    (cons_option (if_captured tracker (given line)))
     (without_positions given name (step name tracker line) (position + 1) lines)
 
 pub delays_are : (agent : List ℕ) (lines : List LineValue) → captured_delays agent lines
@@ -314,7 +316,8 @@ unplaced_next position true None rest = refl
 unplaced_next position true (Some rule) rest = refl
 
 unplaced_left : (name : List ℕ) (tracker : GroupTracker) (position : ℕ) (lines : List LineValue)
-    → unplaced (from_captured placed_in name tracker position lines) ≡ given_captured rule_in name tracker lines
+    → unplaced (from_captured placed_in name tracker position lines)
+        ≡ given_captured rule_in name tracker lines
 unplaced_left name tracker position [] = refl
 unplaced_left name tracker position (line ∷ lines) = unplaced_next position tracker.captured (rule_in line) _
     ∙ ap (cons_option (if_captured tracker (rule_in line)))

@@ -117,7 +117,8 @@ module _ (name : List ℕ) (lines : List LineValue) (position next : ℕ) (is : 
     named_before j named run = elim is.stop [
       | inl group ↦
           let first = agent_before in
-          elim (run next group) [ inl before ↦ absurd (omega (arith, before.0)) | inr following ↦ following.1 ]
+          elim (run next group) [ inl before ↦ absurd (omega (arith,
+              before.0)) | inr following ↦ following.1 ]
       | inr past ↦ let less = within _ lines j named in omega arith
     ]
 
@@ -168,7 +169,8 @@ module _ (name : List ℕ) (lines : List LineValue) (position : ℕ) (line : Lin
       (named_captures name lines position next is agent) captured))))
 
   -- a group line is in a group exactly if a user-agent line is before it
-  in_group_decides : Decides ((is_agent line || is_group line) && list_any is_agent (take (position + 1) lines))
+  in_group_decides : Decides ((is_agent line || is_group line) && list_any is_agent
+      (take (position + 1) lines))
       (IsInGroup lines position)
   in_group_decides = Decides-at _ _
       (rw (add-one, any_next is_agent lines position, at)
@@ -213,7 +215,8 @@ module _ (name : List ℕ) (lines : List LineValue) (position : ℕ) (line : Lin
 -- ---- the labels of all lines
 
 abbrev IsLabelAt : List ℕ → List LineValue → ℕ → Label → Type 0
-IsLabelAt name lines position label = (label.number ≡ position + 1) × HasMembership name lines position label.membership
+IsLabelAt name lines position label = (label.number ≡ position + 1)
+    × HasMembership name lines position label.membership
 
 module _ (name : List ℕ) (all : List LineValue) where
   abbrev left_from : ℕ → List LineValue → List Label
@@ -249,7 +252,8 @@ module _ (name : List ℕ) (all : List LineValue) where
       let here = rw add-zero at (each 0 label refl) in
       let same = occurs_only name all position line splits label.membership here.1 in
       let later = left_only (position + 1) lines labels next (cc) (λ k other at.
-      let further : (position + 1) + k ≡ position + suc k = omega arith in rw further (each (suc k) other at)) in
+      let further : (position + 1) + k ≡ position + suc k = omega arith in rw further
+          (each (suc k) other at)) in
       let line_is : line ≡ label.line = cc in
       let first : label ≡ label_at name all (position, line) = rw (sym same, sym here.0, line_is) refl in
       rw (first, later) refl

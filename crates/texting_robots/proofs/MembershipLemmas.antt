@@ -21,7 +21,8 @@ use Rattle.texting_robots.proofs.CapturedLemmas.{occurs_next}
 -- ---- the labels of the specification
 
 -- `captured_ahead` is the test at the index of the next group line, or at the end if there is none
-ahead_is : (name : List ℕ) (all : List LineValue) (tracker : GroupTracker) (position : ℕ) (lines : List LineValue)
+ahead_is : (name : List ℕ) (all : List LineValue) (tracker : GroupTracker) (position : ℕ)
+    (lines : List LineValue)
     → IsWalkAt name all position tracker → drop position all ≡ lines
     → captured_ahead name tracker lines ≡ is_captured name all (position + position_or_len is_group lines)
 ahead_is name all tracker position [] splits left = rw add-zero (sym splits.captured)
@@ -54,7 +55,8 @@ begun_next all position line at =
     rw (add-one, any_next is_agent all position, at)
     (or_comm (is_agent line) (list_any is_agent (take position all)))
 
-labels_left : (name : List ℕ) (all : List LineValue) (tracker : GroupTracker) (position : ℕ) (lines : List LineValue)
+labels_left : (name : List ℕ) (all : List LineValue) (tracker : GroupTracker) (position : ℕ)
+    (lines : List LineValue)
     → IsWalkAt name all position tracker → drop position all ≡ lines
     → map (label_at name all) (enumerate_from position lines)
     ≡ labels_from name tracker (list_any is_agent (take position all)) position lines

@@ -16,7 +16,8 @@ IsPlain anchors b = ((b == star) ≡ false) × ((anchors && (b == dollar)) ≡ f
 pub plain_stars : (segment : List ℕ) → All (λ b. b ≢ star) segment → All (IsPlain false) segment
 plain_stars = All-weaker (λ b. b ≢ star) (IsPlain false) (λ b other. (ne_eqb b star other, refl))
 
-pub plain_wildcards : (segment : List ℕ) → All (λ b. is_wildcard b ≡ false) segment → All (IsPlain true) segment
+pub plain_wildcards : (segment : List ℕ) → All (λ b. is_wildcard b ≡ false) segment
+    → All (IsPlain true) segment
 plain_wildcards =
     All-weaker (λ b. is_wildcard b ≡ false) (IsPlain true)
     (λ b other. or_parts (b == star) (b == dollar) other)
@@ -149,7 +150,8 @@ pub wildcard_matches_none : (q t : List ℕ) → IsAtWildcard q → q ≢ []
     → ((rest : List ℕ) → q ≢ star ∷ rest)
     → ¬ Closes q → ¬ Matches q t
 wildcard_matches_none [] t at_wildcard some no_star other = absurd (some refl)
-wildcard_matches_none (b ∷ q) t at_wildcard some no_star other = elim (or_cases (b == star) (b == dollar) at_wildcard) [
+wildcard_matches_none (b ∷ q) t at_wildcard some no_star other = elim
+    (or_cases (b == star) (b == dollar) at_wildcard) [
   | inl first ↦ absurd (no_star q (ap (λ x. x ∷ q) (eqb-true b star first)))
   | inr first ↦ let e = eqb-true b dollar first in rw e (dollar_matches_none q t (rw e at other))
 ]

@@ -23,7 +23,8 @@ same_below (a ∷ b ∷ c ∷ d ∷ e ∷ f ∷ g ∷ h ∷ segment) rest = refl
 same_below segment rest = omega arith
 
 -- so a mask over the segment hides the bytes after it
-pub same_masked : (segment rest : List ℕ) → bit_and (first_eight (segment ++ rest)) (ones_below (length segment))
+pub same_masked : (segment rest : List ℕ)
+    → bit_and (first_eight (segment ++ rest)) (ones_below (length segment))
     ≡ bit_and (first_eight segment) (ones_below (length segment))
 same_masked segment rest =
     let size = 8 * min (length segment) 8 in
@@ -134,7 +135,8 @@ left_within pattern ending (segment ∷ segments) left (rest, is, more) t m =
     rw e (within_through pairs (pair_set (part ++ after)) _ both (end_within front (part ++ after)))
 
 -- a text that a pattern matches passes its prefilter
-pub are_prefilter : {pattern : List ℕ} {ends : Ends} {segments : List Segment} {borders : List ℕ} (prefilter : Prefilter)
+pub are_prefilter : {pattern : List ℕ} {ends : Ends} {segments : List Segment} {borders : List ℕ}
+    (prefilter : Prefilter)
     → AreSegments pattern ends segments borders → IsHeadOf (take ends.first_len pattern) prefilter.head
     → prefilter.pairs.bits ≡ segment_pairs pattern ends.ending segments → ArePrefilter pattern prefilter
 are_prefilter {pattern} {ends} {segments} prefilter are head pairs text m =

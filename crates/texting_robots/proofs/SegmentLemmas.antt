@@ -93,7 +93,8 @@ module _ {left next segment rest : List ℕ} (is : IsFromStar left next segment 
 
   -- if the rest doesn't close, it matches a text if it matches a suffix of it
   star_is_left : ¬ Closes rest → IsLeft left segment rest
-  star_is_left other = record { decides = star_decides; grows = grows_at_wildcard rest is.cut.at_wildcard other }
+  star_is_left other = record
+      { decides = star_decides; grows = grows_at_wildcard rest is.cut.at_wildcard other }
 
   -- if the rest closes, the segment has to be at the end of the text
   star_is_last : Closes rest → (t : List ℕ) → Matches left t ↔ IsSuffix segment t
@@ -149,7 +150,8 @@ pub record IsCutUpto (pattern : List ℕ) (first_len : ℕ) (old_segments segmen
   pub at_wildcard : IsAtWildcard left
   pub completes : (more : List Segment) (table : List ℕ) (ending : Ending)
       → IsRest pattern (borders ++ table) left more ending
-      → AddsSegments pattern (record { first_len = first_len; ending = ending }) old_segments (segments ++ more)
+      → AddsSegments pattern (record { first_len = first_len; ending = ending }) old_segments
+          (segments ++ more)
       old_borders (borders ++ table)
 
 -- the first segment is before the first star or dollar
@@ -159,7 +161,8 @@ pub cut_first : (p segment left : List ℕ) (segments : List Segment) (borders :
 cut_first p segment left segments borders cut =
     let e = cut.parts in
     let sizes = ap length e ∙ length-append segment left in
-    let first : take (length segment) p ≡ segment = ap (take (length segment)) e ∙ take_at segment left _ refl in
+    let first : take (length segment) p ≡ segment = ap (take (length segment)) e
+        ∙ take_at segment left _ refl in
     record {
       left_in = (segment, e);
       at_wildcard = cut.at_wildcard;
@@ -184,7 +187,8 @@ module _ {p : List ℕ} {first_len : ℕ} {old_segments segments : List Segment}
     (upto : IsCutUpto p first_len old_segments segments old_borders borders left) where
   abbrev AddsWith : Ending → Type 0
   AddsWith ending =
-      AddsSegments p (record { first_len = first_len; ending = ending }) old_segments segments old_borders borders
+      AddsSegments p (record { first_len = first_len; ending = ending }) old_segments segments
+          old_borders borders
 
   -- if the rest of the pattern matches as this ending does, the cut is complete
   done : (ending : Ending) → IsEnding p ending → ((t : List ℕ) → Matches left t ↔ EndsAs p ending t)
@@ -207,7 +211,8 @@ module _ {p : List ℕ} {first_len : ℕ} {old_segments segments : List Segment}
   pub cut_never : left ≢ [] → ((q : List ℕ) → left ≢ star ∷ q)
       → ¬ Closes left → AddsWith Never
   cut_never some no_star other =
-      done Never tt (λ t. (wildcard_matches_none left t upto.at_wildcard some no_star other, λ none. absurd none))
+      done Never tt (λ t. (wildcard_matches_none left t upto.at_wildcard some no_star other,
+          λ none. absurd none))
 
   module _ {next segment rest : List ℕ} (is : IsFromStar left next segment rest) where
     next_in_p : IsSuffix next p

@@ -65,7 +65,8 @@ module _ (p : List ℕ) (ends : Ends) (segments : List Segment) (borders more : 
     left = are.left;
   }
 
-module _ (text more_text : List ℕ) (segments more_segments : List Segment) (borders more_borders : List ℕ) where
+module _ (text more_text : List ℕ) (segments more_segments : List Segment)
+    (borders more_borders : List ℕ) where
   abbrev IsOld : Entry → Type 0
   IsOld = IsEntry text segments borders
 

@@ -37,7 +37,8 @@ one_more name names n r =
 -- a run that is closed, and any earlier one, gets no further name
 pub none_later : (name : List ℕ) (r run : ℕ) (joins : Bool) (position count : ℕ) (lines : List LineValue)
     → run ≤ position
-    → r ≤ run → (joins ≡ true → r < run) → is_run_of name (named_from run joins position count lines) r ≡ false
+    → r ≤ run → (joins ≡ true → r < run) → is_run_of name (named_from run joins position count lines) r
+        ≡ false
 none_later name r run joins position count [] within earlier closed = refl
 none_later name r run true position count (UserAgent value ∷ lines) within earlier closed =
     let below : r < run = closed refl in
@@ -61,7 +62,8 @@ none_later name r run joins position count (Raw body ∷ lines) within earlier c
 -- ---- the state for a name, and the runs
 
 -- the state captures exactly if the current run has the name, and no later run has the name yet
-record BelongsTo (name : List ℕ) (walk : GroupTracker) (run : ℕ) (joins : Bool) (before : List Named) : Type 0 where
+record BelongsTo (name : List ℕ) (walk : GroupTracker) (run : ℕ) (joins : Bool)
+    (before : List Named) : Type 0 where
   captured : walk.captured ≡ is_run_of name before run
   named : walk.named ≡ (joins && walk.captured)
   first : (r : ℕ) → run < r → is_run_of name before r ≡ false
@@ -93,7 +95,8 @@ in_run name value walk run count before splits =
     swapped false false = refl
 
 -- after a user-agent line that begins a run
-in_new_run : (name value : List ℕ) (walk : GroupTracker) (run position count : ℕ) (before : List Named) → run ≤ position
+in_new_run : (name value : List ℕ) (walk : GroupTracker) (run position count : ℕ) (before : List Named)
+    → run ≤ position
     → BelongsTo name walk run false before
     → BelongsTo name (step name walk (UserAgent value)) (position + 1) true
     (before ++ record { name = value; run = position + 1; start = count } ∷ [])
@@ -156,7 +159,8 @@ found_in_runs : {X : Type 0} (given : ℕ × LineValue → Option X) (of_tag : T
     → ((position run : ℕ) (line : LineValue)
     → of_tag (record { number = position + 1; line = line; run = run }) ≡ given (position, line))
     → ((position : ℕ) (line : LineValue) → is_group line ≡ false → given (position, line) ≡ None)
-    → (name : List ℕ) (walk : GroupTracker) (run : ℕ) (joins : Bool) (position count : ℕ) (before all : List Named)
+    → (name : List ℕ) (walk : GroupTracker) (run : ℕ) (joins : Bool) (position count : ℕ)
+        (before all : List Named)
     (lines : List LineValue) → run ≤ position → BelongsTo name walk run joins before
     → all ≡ before ++ named_from run joins position count lines
     → from_captured given name walk position lines
@@ -166,7 +170,8 @@ found_in_runs given of_tag fits none name walk run true position count before al
     (UserAgent value ∷ lines) within
     splits are =
     nothing_here walk.captured _ _ (none position (UserAgent value) refl)
-    ∙ found_in_runs given of_tag fits none name (step name walk (UserAgent value)) run true (position + 1) count
+    ∙ found_in_runs given of_tag fits none name (step name walk (UserAgent value)) run true
+        (position + 1) count
     (before ++ record { name = value; run = run; start = count } ∷ []) all lines
     (omega arith) (in_run name value walk run count before splits)
     (are ∙ sym (append_assoc before
@@ -181,9 +186,11 @@ found_in_runs given of_tag fits none name walk run false position count before a
     lines (omega arith) (in_new_run name value walk run position count before within splits)
     (are ∙ sym (append_assoc before
     (record { name = value; run = position + 1; start = count } ∷ []) _))
-found_in_runs given of_tag fits none name walk run joins position count before all (Allow value ∷ lines) within
+found_in_runs given of_tag fits none name walk run joins position count before all
+    (Allow value ∷ lines) within
     splits are =
-    group_next of_tag name walk.captured (record { number = position + 1; line = Allow value; run = run }) all _
+    group_next of_tag name walk.captured
+        (record { number = position + 1; line = Allow value; run = run }) all _
     _ _
     (fits position run (Allow value))
     (named_here name walk run joins (position + 1) (count + 1) before all lines (omega arith) splits are)
@@ -203,14 +210,16 @@ found_in_runs given of_tag fits none name walk run joins position count before a
 found_in_runs given of_tag fits none name walk run joins position count before all
     (CrawlDelay delay ∷ lines) within
     splits are =
-    group_next of_tag name walk.captured (record { number = position + 1; line = CrawlDelay delay; run = run })
+    group_next of_tag name walk.captured
+        (record { number = position + 1; line = CrawlDelay delay; run = run })
     all _ _ _
     (fits position run (CrawlDelay delay))
     (named_here name walk run joins (position + 1) (count + 1) before all lines (omega arith) splits are)
     (found_in_runs given of_tag fits none name (record { captured = walk.captured; named = false }) run false
     (position + 1) (count + 1) before all lines (omega arith)
     (after_group name walk run joins before splits) are)
-found_in_runs given of_tag fits none name walk run joins position count before all (Sitemap value ∷ lines) within
+found_in_runs given of_tag fits none name walk run joins position count before all
+    (Sitemap value ∷ lines) within
     splits are =
     nothing_here walk.captured _ _ (none position (Sitemap value) refl)
     ∙ found_in_runs given of_tag fits none name walk run joins (position + 1) count before all lines
@@ -238,7 +247,8 @@ found_in_own given of_tag fits none name lines some =
 
 -- ---- rules and delays
 
-pub rule_of_group : (position : ℕ) (line : LineValue) → is_group line ≡ false → placed_in (position, line) ≡ None
+pub rule_of_group : (position : ℕ) (line : LineValue) → is_group line ≡ false → placed_in (position, line)
+    ≡ None
 rule_of_group position (Allow value) isnt = cc
 rule_of_group position (Disallow value) isnt = cc
 rule_of_group position _ isnt = refl
@@ -250,7 +260,8 @@ delay_of_group position _ isnt = refl
 pub rules_of_runs : (agent : List ℕ) (lines : List LineValue) → list_any is_agent lines ≡ true
     → placed_rules agent lines ≡ filter_map rule_of (own_tagged (group_name agent lines) lines)
 rules_of_runs agent lines some =
-    found_in_own placed_in rule_of (λ position run line. refl) rule_of_group (group_name agent lines) lines some
+    found_in_own placed_in rule_of (λ position run line. refl) rule_of_group
+        (group_name agent lines) lines some
 
 pub delays_of_runs : (agent : List ℕ) (lines : List LineValue) → list_any is_agent lines ≡ true
     → captured_delays agent lines

@@ -128,7 +128,8 @@ from_bucket name count names =
 
 pub record IsNext (name : List ℕ) (count position next : ℕ) (names : List Named) : Type 0 where
   pub here : position_or_len (is_in count (bucket_of count name)) (drop next names) ≡ 0
-  pub rest : next + first_named name (drop next names) ≡ position + 1 + first_named name (drop (position + 1) names)
+  pub rest : next + first_named name (drop next names)
+      ≡ position + 1 + first_named name (drop (position + 1) names)
 
 -- the next line in the name's bucket skips no line with the name
 pub next_in_bucket : (name : List ℕ) (position next bucket : ℕ) (names : List Named)
@@ -194,14 +195,18 @@ walk_on name names heads nexts position next n linked at is first =
     next_in_bucket name position next (bucket_of N (str_to_ascii_lowercase n.name)) names
     (eqb-true _ _ inside) (next_is names heads nexts position next n linked at is)
 
-pub found : (name : List ℕ) (names : List Named) (position : ℕ) (n : Named) → slice_get names position ≡ Some n
+pub found : (name : List ℕ) (names : List Named) (position : ℕ) (n : Named) → slice_get names position
+    ≡ Some n
     → has_name name n ≡ true → first_named name (drop position names) ≡ 0
 found name names position n at is =
-    ap (first_named name) (drop_is names position n at) ∙ first_now (has_name name) n (drop (position + 1) names) is
+    ap (first_named name) (drop_is names position n at)
+        ∙ first_now (has_name name) n (drop (position + 1) names) is
 
-pub passed : (name : List ℕ) (names : List Named) (position : ℕ) (n : Named) → slice_get names position ≡ Some n
+pub passed : (name : List ℕ) (names : List Named) (position : ℕ) (n : Named) → slice_get names position
+    ≡ Some n
     → has_name name n ≡ false
-    → position + 1 + first_named name (drop (position + 1) names) ≡ position + first_named name (drop position names)
+    → position + 1 + first_named name (drop (position + 1) names)
+        ≡ position + first_named name (drop position names)
 passed name names position n at isnt =
     omega (
       arith,
@@ -229,7 +234,8 @@ no_name = record { name = []; run = 0; start = 0 }
 
 pub some_at : (names : List Named) (position : ℕ) → position < length names
     → (n : Named) × (slice_get names position ≡ Some n)
-some_at names position within = (get_or names position no_name, slice_get-get_or names position no_name within)
+some_at names position within = (get_or names position no_name,
+    slice_get-get_or names position no_name within)
 
 -- ---- the runs of a name
 

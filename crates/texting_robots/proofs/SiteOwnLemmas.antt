@@ -109,7 +109,8 @@ runs_after name names name_index next r are =
     ∙ runs_from_first name (drop (name_index + 1) names) r
 
 pub first_kept : (name : List ℕ) (name_index next : ℕ) (names : List Named)
-    → next ≡ name_index + 1 + first_named name (drop (name_index + 1) names) → first_named name (drop next names) ≡ 0
+    → next ≡ name_index + 1 + first_named name (drop (name_index + 1) names)
+        → first_named name (drop next names) ≡ 0
 first_kept name name_index next names are =
     ap (λ (ns : List Named). first_named name ns)
     (ap (λ k. drop k names) are ∙ sym (drop-drop (first_named name (drop (name_index + 1) names))
@@ -117,8 +118,10 @@ first_kept name name_index next names are =
     ∙ first_here (has_name name) (drop (name_index + 1) names)
 
 -- the iteration moves on to a later run
-pub next_run : (name : List ℕ) (run name_index next : ℕ) (names : List Named) (tags rest : List Tagged) (n : Named)
-    → slice_get names name_index ≡ Some n → first_named name (drop name_index names) ≡ 0 → AreOfFile names tags
+pub next_run : (name : List ℕ) (run name_index next : ℕ) (names : List Named) (tags rest : List Tagged)
+    (n : Named)
+    → slice_get names name_index ≡ Some n → first_named name (drop name_index names) ≡ 0
+        → AreOfFile names tags
     → run < n.run → in_front run rest ≡ []
     → next ≡ name_index + 1 + first_named name (drop (name_index + 1) names)
     → own_from name n.run (drop n.start tags) (drop next names) tags
@@ -127,7 +130,8 @@ next_run name run name_index next names tags rest n at first (lines, named_is, t
     let after = drop (name_index + 1) names in
     let left = drop_is names name_index n at in
     let has : has_name name n ≡ true = here (has_name name) n after (rw left at first) in
-    let there : slice_get (named lines) name_index ≡ Some n = ap (λ (ns : List Named). slice_get ns name_index)
+    let there : slice_get (named lines) name_index
+        ≡ Some n = ap (λ (ns : List Named). slice_get ns name_index)
     (sym named_is) ∙ at in
     let none = λ (q : ℕ) (below : q < n.run). none_below name after n.run q
     (λ j m later. names_ascend lines name_index (name_index + 1 + j) n m (omega arith) there
@@ -151,7 +155,8 @@ next_run name run name_index next names tags rest n at first (lines, named_is, t
     ∙ ap (λ ts. ts ++ filter (λ t. is_later name run (drop name_index names) t.run) tags) (sym gone)
 
 -- the iteration skips a line of the same run
-pub same_run : (name : List ℕ) (run name_index next : ℕ) (names : List Named) (tags rest : List Tagged) (n : Named)
+pub same_run : (name : List ℕ) (run name_index next : ℕ) (names : List Named) (tags rest : List Tagged)
+    (n : Named)
     → slice_get names name_index ≡ Some n → n.run ≤ run
     → next ≡ name_index + 1 + first_named name (drop (name_index + 1) names)
     → own_from name run rest (drop next names) tags ≡ own_from name run rest (drop name_index names) tags
@@ -222,7 +227,8 @@ whole_walk name position [] tags first at_zero unnamed some = λ lines named_is 
 whole_walk name position (n ∷ names) tags first at_zero unnamed some = λ lines named_is tagged_is. (
   λ wrong. cc,
   λ filled.
-      ap (λ (r : ℕ). own_from name r (drop position.at tags) (drop position.name_index (n ∷ names)) tags) at_zero
+      ap (λ (r : ℕ). own_from name r (drop position.at tags) (drop position.name_index
+          (n ∷ names)) tags) at_zero
       ∙ ap (λ (ts : List Tagged). own_from name 0 ts (drop position.name_index (n ∷ names)) tags)
       (past_end tags position.at (some (omega arith)))
       ∙ ap (λ (k : ℕ). own_from name 0 [] (drop k (n ∷ names)) tags) first

@@ -92,7 +92,8 @@ front_is_run run (t ∷ tags) (here, later) (first, rest) = elim (eqb_tells t.ru
 -- ---- names, whatever their runs
 
 names_from : (name : List ℕ) (run : ℕ) (joins : Bool) (position count : ℕ) (lines : List LineValue)
-    → list_any (has_name name) (named_from run joins position count lines) ≡ list_any (is_agent_named name) lines
+    → list_any (has_name name) (named_from run joins position count lines)
+        ≡ list_any (is_agent_named name) lines
 names_from name run joins position count [] = refl
 names_from name run joins position count (UserAgent value ∷ lines) =
     ap (λ b. bytes_eq (str_to_ascii_lowercase value) name || b) (names_from name (run_after run joins
@@ -105,7 +106,8 @@ names_from name run joins position count (CrawlDelay delay ∷ lines) =
     names_from name run false (position + 1) (count + 1) lines
 names_from name run joins position count (Sitemap value ∷ lines) =
     names_from name run joins (position + 1) count lines
-names_from name run joins position count (Raw body ∷ lines) = names_from name run joins (position + 1) count lines
+names_from name run joins position count (Raw body ∷ lines) = names_from name run joins
+    (position + 1) count lines
 
 pub names_any : (name : List ℕ) (lines : List LineValue)
     → list_any (has_name name) (named lines) ≡ list_any (is_agent_named name) lines
@@ -115,9 +117,12 @@ some_from : (run : ℕ) (joins : Bool) (position count : ℕ) (lines : List Line
     → list_any (λ (n : Named). true) (named_from run joins position count lines) ≡ list_any is_agent lines
 some_from run joins position count [] = refl
 some_from run joins position count (UserAgent value ∷ lines) = refl
-some_from run joins position count (Allow value ∷ lines) = some_from run false (position + 1) (count + 1) lines
-some_from run joins position count (Disallow value ∷ lines) = some_from run false (position + 1) (count + 1) lines
-some_from run joins position count (CrawlDelay delay ∷ lines) = some_from run false (position + 1) (count + 1) lines
+some_from run joins position count (Allow value ∷ lines) = some_from run false (position + 1)
+    (count + 1) lines
+some_from run joins position count (Disallow value ∷ lines) = some_from run false (position + 1)
+    (count + 1) lines
+some_from run joins position count (CrawlDelay delay ∷ lines) = some_from run false (position + 1)
+    (count + 1) lines
 some_from run joins position count (Sitemap value ∷ lines) = some_from run joins (position + 1) count lines
 some_from run joins position count (Raw body ∷ lines) = some_from run joins (position + 1) count lines
 
@@ -183,7 +188,8 @@ starts_from run false position count front (UserAgent value ∷ lines) within co
     let same : record { name = value; run = position + 1; start = count } ≡ n = cc in
     subst (IsStart (front ++ tagged_from (position + 1) true (position + 1) lines)) same
     (start_here _ (position + 1) count front _ counted (none (position + 1) (omega arith) (λ _. omega arith))
-    (above_from (position + 1) (position + 1) true (position + 1) lines (le_self (position + 1)) (omega arith))
+    (above_from (position + 1) (position + 1) true (position + 1) lines (le_self (position + 1))
+        (omega arith))
     (ascends_from (position + 1) true (position + 1) lines (omega arith)))
 starts_from run false position count front (UserAgent value ∷ lines) within counted none (suc i) n at =
     starts_from (position + 1) true (position + 1) count front lines (omega arith) counted
@@ -262,15 +268,19 @@ ascend_from run joins position count (UserAgent value ∷ lines) within begun i 
 ascend_from run true position count (UserAgent value ∷ lines) within begun zero (suc j) m n less here there =
     let same : record { name = value; run = run; start = count } ≡ m = cc in
     subst (λ (m : Named). m.run ≤ n.run) same
-    ((named_above run run true (position + 1) count lines (le_self run) (omega arith) begun j n there).following)
-ascend_from run true position count (UserAgent value ∷ lines) within begun (suc i) (suc j) m n less here there =
+    ((named_above run run true (position + 1) count lines (le_self run)
+        (omega arith) begun j n there).following)
+ascend_from run true position count (UserAgent value ∷ lines) within begun (suc i)
+    (suc j) m n less here there =
     ascend_from run true (position + 1) count lines (omega arith) begun i j m n (omega arith) here there
 ascend_from run false position count (UserAgent value ∷ lines) within begun zero (suc j) m n less here there =
     let same : record { name = value; run = position + 1; start = count } ≡ m = cc in
     subst (λ (m : Named). m.run ≤ n.run) same
-    ((named_above (position + 1) (position + 1) true (position + 1) count lines (le_self (position + 1)) (omega arith)
+    ((named_above (position + 1) (position + 1) true (position + 1) count lines (le_self (position + 1))
+        (omega arith)
     (λ _. omega arith) j n there).following)
-ascend_from run false position count (UserAgent value ∷ lines) within begun (suc i) (suc j) m n less here there =
+ascend_from run false position count (UserAgent value ∷ lines) within begun (suc i)
+    (suc j) m n less here there =
     ascend_from (position + 1) true (position + 1) count lines (omega arith) (λ _. omega arith) i j m n
     (omega arith) here
     there

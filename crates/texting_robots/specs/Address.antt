@@ -14,7 +14,8 @@ is_web scheme = bytes_eq scheme (codes "http") || bytes_eq scheme (codes "https"
 abbrev pub address_at : Parts → Option (Host (List ℕ)) → Parsed (List ℕ)
 address_at url None = Err EmptyHost
 address_at url (Some host) =
-    Ok (url.scheme ++ codes "://" ++ host_text host ++ with_delimiter (codes ":") (option_map decimal url.port)
+    Ok (url.scheme ++ codes "://" ++ host_text host ++ with_delimiter (codes ":")
+        (option_map decimal url.port)
     ++ codes "/robots.txt")
 
 -- the address for the parts of a URL

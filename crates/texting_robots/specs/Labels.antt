@@ -43,7 +43,8 @@ IsInGroup lines position =
 abbrev pub HasMembership : List ℕ → List LineValue → ℕ → Membership → Type 0
 HasMembership name lines position Own = IsInOwnGroup name lines position
 HasMembership name lines position Other = (¬ IsInOwnGroup name lines position) × IsInGroup lines position
-HasMembership name lines position Ungrouped = (¬ IsInOwnGroup name lines position) × (¬ IsInGroup lines position)
+HasMembership name lines position Ungrouped = (¬ IsInOwnGroup name lines position)
+    × (¬ IsInGroup lines position)
 
 -- the labels are those of these lines, in order: each has the number of its line, counted from 1, and the
 -- membership of that line

@@ -46,7 +46,8 @@ past_limit_from read file index left =
 -- the search at this index: `left` are the lines of the file from it on, the set contains the names in the
 -- lines within the size limit and in those before the index, and `found` with the numbers among `left` is
 -- the result
-pub record IsFoundUpto (read : List LineValue) (file : List ℕ) (met : BTreeSet Key) (found : List ℕ) (index : ℕ)
+pub record IsFoundUpto (read : List LineValue) (file : List ℕ) (met : BTreeSet Key) (found : List ℕ)
+    (index : ℕ)
     (left : List LineValue) : Type 0 where
   pub before : List LineValue
   pub count : length before ≡ index

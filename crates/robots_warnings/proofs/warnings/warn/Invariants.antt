@@ -6,4 +6,5 @@ use Rattle.robots_warnings.proofs.warnings.warn.Given as goal
 abbrev pub invariant-loop-check : goal.invariant-loop-check
 invariant-loop-check l =
     map warning_value l.found.items
-    ≡ map warning_value l.fn.found.items ++ warned l.line (option_map (λ url. url.now) l.about) (take l.check-index l.checks)
+    ≡ map warning_value l.fn.found.items ++ warned l.line (option_map (λ url. url.now) l.about)
+        (take l.check-index l.checks)

@@ -39,12 +39,15 @@ loop-line-preserved-then-named-run c =
     let name = str_to_ascii_lowercase c.args.name.now in
     let tags = map (tag_at c.args.text.now) c.args.lines.now in
     let (_, is, _, (within, _), _) = c.in_ok-named.ensures.lookup in
-    let at = agent_at c.lines.result.now c.args.names.now c.loop-line.name_index _ c.lines.ensures within is in
+    let at = agent_at c.lines.result.now c.args.names.now c.loop-line.name_index _ c.lines.ensures within
+        is in
     record {
-      left = next_run name c.loop-line.run c.loop-line.name_index c.after-name_index.result c.args.names.now tags
+      left = next_run name c.loop-line.run c.loop-line.name_index c.after-name_index.result
+          c.args.names.now tags
           (drop c.loop-line.at tags) _ at c.loop-line.invariant.first c.requires.1 c.if-named-run.true
           c.in_default.ensures c.after-name_index.ensures ∙ c.loop-line.invariant.left;
-      first = first_kept name c.loop-line.name_index c.after-name_index.result c.args.names.now c.after-name_index.ensures;
+      first = first_kept name c.loop-line.name_index c.after-name_index.result c.args.names.now
+          c.after-name_index.ensures;
     }
 
 pub loop-line-preserved : goal.loop-line-preserved
@@ -52,10 +55,13 @@ loop-line-preserved c =
     let name = str_to_ascii_lowercase c.args.name.now in
     let tags = map (tag_at c.args.text.now) c.args.lines.now in
     let (_, is, _, (within, _), _) = c.in_ok-named.ensures.lookup in
-    let at = agent_at c.lines.result.now c.args.names.now c.loop-line.name_index _ c.lines.ensures within is in
+    let at = agent_at c.lines.result.now c.args.names.now c.loop-line.name_index _ c.lines.ensures within
+        is in
     record {
-      left = same_run name c.loop-line.run c.loop-line.name_index c.after-name_index.result c.args.names.now tags
+      left = same_run name c.loop-line.run c.loop-line.name_index c.after-name_index.result
+          c.args.names.now tags
           (drop c.loop-line.at tags) _ at c.if-named-run.false c.after-name_index.ensures
           ∙ c.loop-line.invariant.left;
-      first = first_kept name c.loop-line.name_index c.after-name_index.result c.args.names.now c.after-name_index.ensures;
+      first = first_kept name c.loop-line.name_index c.after-name_index.result c.args.names.now
+          c.after-name_index.ensures;
     }

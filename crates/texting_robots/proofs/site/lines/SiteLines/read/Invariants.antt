@@ -22,7 +22,8 @@ invariant-loop-rest l =
           ≡ tagged lines;
       names_are : map named_of l.lines.agent_lines.items
           ++ named_from run joins l.number (length l.lines.group_lines.items) left ≡ named lines;
-      sitemaps_are : filter_map (listed l.text) l.lines.sitemaps.items ++ sitemaps_in left ≡ sitemaps_in lines;
+      sitemaps_are : filter_map (listed l.text) l.lines.sitemaps.items ++ sitemaps_in left
+          ≡ sitemaps_in lines;
       agents : (l.lines.begun || list_any is_agent left) ≡ list_any is_agent lines;
       early : cond l.lines.begun l.lines.early (delay_from l.lines.early left) ≡ delay_before_agents lines;
     }
