@@ -76,7 +76,7 @@ fn front_len(part: &[u8; 16], text: &[u8]) -> usize
 }
 
 /// What follows the leading bytes that are in the set.
-#[tactic(auto, using(crate::proofs::WholeLemmas::after_few, crate::proofs::WholeLemmas::after_all))]
+#[tactic(auto, using(crate::proofs::NormalizedLemmas::after_few, crate::proofs::NormalizedLemmas::after_all))]
 fn after<'a>(part: &[u8; 16], text: &'a [u8]) -> &'a [u8]
     ensures { result.now ≡ after part.now text.now }
 {
