@@ -57,13 +57,13 @@ def reached(path):
 
 @pytest.mark.parametrize("module", ["lib", "one_agent", "robot", "decision", "address", "error", "escape"])
 def test_public_contracts_rest_on_specifications(module):
-    assert not [name for name in reached(LIBRARY / f"src/{module}.rt") if re.match(r"(Computed|Steps)\b", name)]
+    assert not [name for name in reached(LIBRARY / f"src/{module}.rt") if re.match(r"(Executable|Internal)\b", name)]
 
 
 @pytest.mark.parametrize("module", ["laws", "parser"])
 def test_imports_that_compute_are_seen(module):
     """These modules name functions that compute: if they didn't show, the test above would see nothing."""
-    assert [name for name in reached(LIBRARY / f"src/{module}.rt") if re.match(r"(Computed|Steps)\b", name)]
+    assert [name for name in reached(LIBRARY / f"src/{module}.rt") if re.match(r"(Executable|Internal)\b", name)]
 
 
 # ---- contracts that documents quote
@@ -111,7 +111,7 @@ def quoted(document):
     return found
 
 
-@pytest.mark.parametrize("document, function", [(PROOFS, "one_agent_allowed"), (CONTRACTS, "Robot::new")], ids=["PROOFS", "CONTRACTS"])
+@pytest.mark.parametrize("document, function", [(PROOFS, "allowed_in_file"), (CONTRACTS, "Robot::new")], ids=["PROOFS", "CONTRACTS"])
 def test_quoted_contracts_are_those_of_the_source(document, function):
     found = set().union(*map(contracts, (LIBRARY / "src").rglob("*.rt")))
     parts = quoted(document)
@@ -169,7 +169,7 @@ def test_documents_use_plain_words(name):
 
 def test_guide_names_the_public_items():
     named = set(re.findall(r"`(\w+)`", "".join(row[1] for row in tables(section(GUIDE, "From Rattle")))))
-    modules = ["robot", "site", "parser", "marks", "minregex", "view", "address"]
+    modules = ["robot", "site", "parser", "labels", "minregex", "view", "address"]
     text = "".join((LIBRARY / f"src/{module}.rt").read_text() for module in ["lib", *modules])
     public = re.findall(r"^pub (?:fn|struct|enum|const) (\w+)", text, re.M)
     public += [name for names in re.findall(r"^pub use [\w:]+::(.*);", text, re.M) for name in re.findall(r"\w+", names)]
