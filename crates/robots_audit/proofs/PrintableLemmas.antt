@@ -55,14 +55,14 @@ message_line_printable : (warning : WarningValue) → IsPrintable (message_line 
 message_line_printable warning =
     let head = codes "robots_audit: warning: " in
     append_printable true head (warning_line warning) (ascii_printable true head refl)
-        (line_printable warning)
+    (line_printable warning)
 
 pub message_printable : (requested : RequestValue) (audit : AuditValue)
     → IsPrintable (message requested audit)
 message_printable requested audit =
     either_printable requested.is_json [] (ended (warning_lines audit.warnings)) (nil_printable true)
     (ended_printable (warning_lines audit.warnings)
-        (each_map message_line message_line_printable audit.warnings))
+    (each_map message_line message_line_printable audit.warnings))
 
 -- ---- rows
 
@@ -72,7 +72,7 @@ fraction_printable (suc digits) millionths =
     either_printable (millionths == 0) [] _ (nil_printable true)
     (append_printable true (decimal (millionths * 10 / million)) (fraction digits (millionths * 10 % million))
     (decimal_printable true (millionths * 10 / million)) (fraction_printable digits
-        (millionths * 10 % million)))
+    (millionths * 10 % million)))
 
 seconds_printable : (micros : ℕ) → IsPrintable (seconds micros)
 seconds_printable micros =
@@ -80,7 +80,7 @@ seconds_printable micros =
     let after = codes "." ++ fraction 6 millionths in
     let point : IsPrintable after =
     append_printable true (codes ".") _ (ascii_printable true (codes ".") refl)
-        (fraction_printable 6 millionths) in
+    (fraction_printable 6 millionths) in
     append_printable true (decimal (micros / million)) _ (decimal_printable true (micros / million))
     (either_printable (millionths == 0) [] after (nil_printable true) point)
 
@@ -108,7 +108,7 @@ column_printable line =
     either_printable (has_value line) (word ++ blanks ++ value_text line) word
     (append_printable true (word ++ blanks) (value_text line)
     (append_printable true word blanks (kind_printable line) (blanks_printable true
-        (word_width - length word)))
+    (word_width - length word)))
     (value_printable line)) (kind_printable line)
 
 aligned_printable : (width : ℕ) (text : List ℕ) → IsPrintable text → IsPrintable (right_aligned width text)
@@ -118,8 +118,14 @@ aligned_printable width text is =
 
 row_printable : (width : ℕ) (label : Label) → IsPrintable (row width label)
 row_printable width label =
-    search (append_printable true, ascii_printable true, aligned_printable, decimal_printable true,
-        label_printable, column_printable)
+    search (
+      append_printable true,
+      ascii_printable true,
+      aligned_printable,
+      decimal_printable true,
+      label_printable,
+      column_printable,
+    )
     depth 9
 
 -- ---- the part for a crawler
@@ -133,7 +139,7 @@ group_printable agent Nobody =
     (ascii_printable true (codes "none (no group for *; everything is allowed)") refl)
     (search (append_printable true, ascii_printable true, sanitized_printable)) in
     append_printable true (codes "group: ") (nobody_text agent)
-        (ascii_printable true (codes "group: ") refl) nobody
+    (ascii_printable true (codes "group: ") refl) nobody
 group_printable agent Everyone = ascii_printable true (group_line agent Everyone) refl
 
 delay_line_printable : (delay : Option ℕ) → IsPrintable (delay_line delay)
@@ -143,10 +149,16 @@ delay_line_printable (Some micros) = search (append_printable true, ascii_printa
 front_printable : (allowed : Bool) (line : Option ℕ) → IsPrintable (verdict_front allowed line)
 front_printable true None = ascii_printable true (verdict_front true None) refl
 front_printable false None = ascii_printable true (verdict_front false None) refl
-front_printable true (Some line) = search (append_printable true, ascii_printable true,
-    decimal_printable true)
-front_printable false (Some line) = search (append_printable true, ascii_printable true,
-    decimal_printable true)
+front_printable true (Some line) = search (
+  append_printable true,
+  ascii_printable true,
+  decimal_printable true,
+)
+front_printable false (Some line) = search (
+  append_printable true,
+  ascii_printable true,
+  decimal_printable true,
+)
 
 verdict_printable : (verdict : VerdictValue) → IsPrintable (verdict_line verdict)
 verdict_printable verdict = search (append_printable true, front_printable, sanitized_printable)

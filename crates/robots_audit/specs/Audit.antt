@@ -106,7 +106,7 @@ labels_requested requested file = labels_for (labeling_agent requested.agent) (l
 abbrev pub warnings_requested : RequestValue → List ℕ → List Label → List WarningValue
 warnings_requested requested file labels =
     chosen requested.only requested.ignored (warnings requested.agent requested.urls file
-        (facts_of file labels) labels)
+    (facts_of file labels) labels)
 
 pub record IsAuditOf (requested : RequestValue) (file : List ℕ) (audit : AuditValue) : Type 0 where
   pub labels_are : audit.labels ≡ labels_requested requested file

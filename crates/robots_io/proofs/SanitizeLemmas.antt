@@ -51,7 +51,7 @@ module _ (has_lines : Bool) where
   as_ascii [] are = (IsAscii-nil, refl)
   as_ascii (byte ∷ text) are =
       let both = and_parts (is_printable_byte has_lines byte)
-          (list_all (is_printable_byte has_lines) text) are in
+      (list_all (is_printable_byte has_lines) text) are in
       let first = and_parts (nat_lt byte 128) (is_printable has_lines byte) both.0 in
       let later = as_ascii text both.1 in
       let low : byte < 128 = grind (arith, nat_tests) in
@@ -198,7 +198,7 @@ ended_printable [] are = nil_printable true
 ended_printable (line ∷ lines) (first, later) =
     append_printable true (line ++ lf ∷ []) (ended lines)
     (append_printable true line (lf ∷ []) first (ascii_printable true (lf ∷ []) refl))
-        (ended_printable lines later)
+    (ended_printable lines later)
 
 -- a printable string without LF is also printable as text of several lines
 pub line_printable : (text : List ℕ) → IsPrintableIn false text → IsPrintable text

@@ -173,7 +173,7 @@ some_report input = elim (split_of input) [
                 let (text, made) = text_of_report agent urls file in
                 let accepted : ¬ IsFileRejected agent (take file_limit file) =
                 λ is. none ((rejection_is_computed agent (lines_read file)).0
-                    (read_rejected agent file is)) in
+                (read_rejected agent file is)) in
                 (Ok text, (agent, urls, file, is, (named, each), accepted, made))
           ]
     ]

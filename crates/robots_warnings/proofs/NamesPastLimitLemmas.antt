@@ -36,7 +36,7 @@ found_more {read} {file} {index} {line} {left} {old} {is_new} upto meets added =
     let so_far : take index (file_lines file) ≡ before =
     rw (← upto.count, ← upto.parts) (take-append_seam before (line ∷ left)) in
     let is : is_new ≡ is_past_limit read file (index, line) = rw so_far
-        (meets.was (read ++ before) upto.has) in
+    (meets.was (read ++ before) upto.has) in
     let taken = picked (λ (p : ℕ × LineValue). p.0 + 1) (is_past_limit read file (index, line)) (index, line)
     (filter (is_past_limit read file) (enumerate_from (index + 1) left)) in
     record {

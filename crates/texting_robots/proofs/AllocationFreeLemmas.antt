@@ -69,7 +69,7 @@ module _ (delimiter : ℕ) (part : List ℕ) (set : AsciiSet)
       let stand = occurs_all part set (λ x. false) same inside kept (λ k d below. refl) in
       ap (λ t. after_delimited delimiter part (t ++ rest)) written
       ∙ cond-true (delimiter == delimiter) _ _ (grind (arith, nat_tests))
-          ∙ after_at part inside rest stand stops
+      ∙ after_at part inside rest stand stops
 
 -- ---- the host
 
@@ -318,7 +318,7 @@ pub prepared_alone : (front : List ℕ) → IsSite front → prepared front ≡ 
 prepared_alone front is_site =
     let site = site_of front is_site in
     let long : 0 < length front = let whole = simp length-append at
-        (ap length site.assembled) in omega arith in
+    (ap length site.assembled) in omega arith in
     prepared_parsed front (alone front site) long (alone_parsed front site)
 
 -- ---- the path, the query and the fragment

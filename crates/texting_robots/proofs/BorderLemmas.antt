@@ -91,7 +91,7 @@ module _ {text segment : List ℕ} where
             closed = λ at from before agrees.
                 ⊎_elim (λ (skipped : position - matched < at).
                 let border = (farther at (position - at) (omega arith)).0
-                    (λ k l m. agrees k l (omega arith)) in
+                (λ k l m. agrees k l (omega arith)) in
                 longest.longest (position - at) (omega arith) (omega arith) border)
                 (λ upto. closed_here at from (omega arith) agrees)
                 (cases_lt (position - matched) at);

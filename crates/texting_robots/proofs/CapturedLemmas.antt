@@ -317,7 +317,7 @@ unplaced_next position true (Some rule) rest = refl
 
 unplaced_left : (name : List ℕ) (tracker : GroupTracker) (position : ℕ) (lines : List LineValue)
     → unplaced (from_captured placed_in name tracker position lines)
-        ≡ given_captured rule_in name tracker lines
+    ≡ given_captured rule_in name tracker lines
 unplaced_left name tracker position [] = refl
 unplaced_left name tracker position (line ∷ lines) = unplaced_next position tracker.captured (rule_in line) _
     ∙ ap (cons_option (if_captured tracker (rule_in line)))

@@ -50,8 +50,11 @@ first_next P Q None (Some n) step (position, is, least) =
 
 last_next : (P Q : ℕ → ℕ → Type 0) (here found : Option ℕ) → Step P Q here → LastOf Q found
     → LastOf P (option_or found here)
-last_next P Q here (Some n) step (position, is, greatest) = (suc position,
-    (step.later position n).1 is, before)
+last_next P Q here (Some n) step (position, is, greatest) = (
+  suc position,
+  (step.later position n).1 is,
+  before,
+)
   where
     before : (other m : ℕ) → P other m → other ≤ suc position
     before zero m has = omega arith

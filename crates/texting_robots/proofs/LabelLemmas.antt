@@ -117,8 +117,13 @@ module _ (name : List ℕ) (lines : List LineValue) (position next : ℕ) (is : 
     named_before j named run = elim is.stop [
       | inl group ↦
           let first = agent_before in
-          elim (run next group) [ inl before ↦ absurd (omega (arith,
-              before.0)) | inr following ↦ following.1 ]
+          elim (run next group) [
+            | inl before ↦ absurd (omega (
+              arith,
+              before.0,
+            ))
+            | inr following ↦ following.1
+          ]
       | inr past ↦ let less = within _ lines j named in omega arith
     ]
 
@@ -253,7 +258,7 @@ module _ (name : List ℕ) (all : List LineValue) where
       let same = occurs_only name all position line splits label.membership here.1 in
       let later = left_only (position + 1) lines labels next (cc) (λ k other at.
       let further : (position + 1) + k ≡ position + suc k = omega arith in rw further
-          (each (suc k) other at)) in
+      (each (suc k) other at)) in
       let line_is : line ≡ label.line = cc in
       let first : label ≡ label_at name all (position, line) = rw (sym same, sym here.0, line_is) refl in
       rw (first, later) refl

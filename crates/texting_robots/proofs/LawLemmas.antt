@@ -73,7 +73,7 @@ same_alike agent lines others are = same_from agent lines agent others
         ap (λ b. cond b low (codes "*")) (are.named low) in
         let start : start_of lines ≡ start_of others =
         ap (λ b. let tracker : GroupTracker = record { captured = not b; named = false } in tracker)
-            are.agents in
+        are.agents in
         same ∙ rw (name, start) refl
 
 -- ---- lines that are left out

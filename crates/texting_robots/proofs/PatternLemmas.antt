@@ -152,6 +152,6 @@ pub wildcard_matches_none : (q t : List ℕ) → IsAtWildcard q → q ≢ []
 wildcard_matches_none [] t at_wildcard some no_star other = absurd (some refl)
 wildcard_matches_none (b ∷ q) t at_wildcard some no_star other = elim
     (or_cases (b == star) (b == dollar) at_wildcard) [
-  | inl first ↦ absurd (no_star q (ap (λ x. x ∷ q) (eqb-true b star first)))
-  | inr first ↦ let e = eqb-true b dollar first in rw e (dollar_matches_none q t (rw e at other))
-]
+      | inl first ↦ absurd (no_star q (ap (λ x. x ∷ q) (eqb-true b star first)))
+      | inr first ↦ let e = eqb-true b dollar first in rw e (dollar_matches_none q t (rw e at other))
+    ]

@@ -61,7 +61,7 @@ module _ (t : List ℕ) where
             splits = e ∙ ap (λ x. front ++ x) (occurs_here at here);
             first = λ other after f.
                 let (position, ahead, sizes, is) = suffix_position from (segment ++ after) within
-                    (other, f) in
+                (other, f) in
                 let (occurs, rest) = here_occurs after position (omega arith) is in
                 let later : at ≤ position =
                 ⊎_elim (λ l. absurd (none.before position ahead l occurs)) (λ l. l) (cases_lt position at) in

@@ -151,7 +151,7 @@ pub record IsCutUpto (pattern : List ℕ) (first_len : ℕ) (old_segments segmen
   pub completes : (more : List Segment) (table : List ℕ) (ending : Ending)
       → IsRest pattern (borders ++ table) left more ending
       → AddsSegments pattern (record { first_len = first_len; ending = ending }) old_segments
-          (segments ++ more)
+      (segments ++ more)
       old_borders (borders ++ table)
 
 -- the first segment is before the first star or dollar
@@ -162,7 +162,7 @@ cut_first p segment left segments borders cut =
     let e = cut.parts in
     let sizes = ap length e ∙ length-append segment left in
     let first : take (length segment) p ≡ segment = ap (take (length segment)) e
-        ∙ take_at segment left _ refl in
+    ∙ take_at segment left _ refl in
     record {
       left_in = (segment, e);
       at_wildcard = cut.at_wildcard;
@@ -188,7 +188,7 @@ module _ {p : List ℕ} {first_len : ℕ} {old_segments segments : List Segment}
   abbrev AddsWith : Ending → Type 0
   AddsWith ending =
       AddsSegments p (record { first_len = first_len; ending = ending }) old_segments segments
-          old_borders borders
+      old_borders borders
 
   -- if the rest of the pattern matches as this ending does, the cut is complete
   done : (ending : Ending) → IsEnding p ending → ((t : List ℕ) → Matches left t ↔ EndsAs p ending t)
@@ -211,8 +211,10 @@ module _ {p : List ℕ} {first_len : ℕ} {old_segments segments : List Segment}
   pub cut_never : left ≢ [] → ((q : List ℕ) → left ≢ star ∷ q)
       → ¬ Closes left → AddsWith Never
   cut_never some no_star other =
-      done Never tt (λ t. (wildcard_matches_none left t upto.at_wildcard some no_star other,
-          λ none. absurd none))
+      done Never tt (λ t. (
+        wildcard_matches_none left t upto.at_wildcard some no_star other,
+        λ none. absurd none,
+      ))
 
   module _ {next segment rest : List ℕ} (is : IsFromStar left next segment rest) where
     next_in_p : IsSuffix next p

@@ -73,7 +73,7 @@ among names position n at =
     first_if name names position n at ((bytes_eq-Decides name name).1 refl)
     ∙ ap not (sym (ap (is_among n.name) (take-map name_of position names)
     ∙ any_map (λ (other : List ℕ). bytes_eq (str_to_ascii_lowercase other) name) name_of
-        (take position names)))
+    (take position names)))
 
 -- the names that remain at an index
 abbrev pub left_at : ℕ → List Named → List (List ℕ)
@@ -83,13 +83,13 @@ left_at position names =
 once_next : (names : List (List ℕ)) (position : ℕ) (name : List ℕ) → slice_get names position ≡ Some name
     → each_once (take position names) (drop position names)
     ≡ cond (is_among name (take position names)) (each_once (take (position + 1) names)
-        (drop (position + 1) names))
+    (drop (position + 1) names))
     (name ∷ each_once (take (position + 1) names) (drop (position + 1) names))
 once_next names position name at =
     let more : take (position + 1) names ≡ take position names ++ name ∷ [] =
     take_more names position name (slice_get_within names position name at)
     ∙ ap (λ (n : List ℕ). take position names ++ n ∷ [])
-        (get_or_from_slice_get names position name name at) in
+    (get_or_from_slice_get names position name name at) in
     ap (each_once (take position names)) (drop_is names position name at)
     ∙ ap (λ (earlier : List (List ℕ)). cond (is_among name (take position names))
     (each_once earlier (drop (position + 1) names)) (name ∷ each_once earlier (drop (position + 1) names)))

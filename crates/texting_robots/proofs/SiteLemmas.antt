@@ -38,7 +38,7 @@ one_more name names n r =
 pub none_later : (name : List ℕ) (r run : ℕ) (joins : Bool) (position count : ℕ) (lines : List LineValue)
     → run ≤ position
     → r ≤ run → (joins ≡ true → r < run) → is_run_of name (named_from run joins position count lines) r
-        ≡ false
+    ≡ false
 none_later name r run joins position count [] within earlier closed = refl
 none_later name r run true position count (UserAgent value ∷ lines) within earlier closed =
     let below : r < run = closed refl in
@@ -160,7 +160,7 @@ found_in_runs : {X : Type 0} (given : ℕ × LineValue → Option X) (of_tag : T
     → of_tag (record { number = position + 1; line = line; run = run }) ≡ given (position, line))
     → ((position : ℕ) (line : LineValue) → is_group line ≡ false → given (position, line) ≡ None)
     → (name : List ℕ) (walk : GroupTracker) (run : ℕ) (joins : Bool) (position count : ℕ)
-        (before all : List Named)
+    (before all : List Named)
     (lines : List LineValue) → run ≤ position → BelongsTo name walk run joins before
     → all ≡ before ++ named_from run joins position count lines
     → from_captured given name walk position lines
@@ -171,7 +171,7 @@ found_in_runs given of_tag fits none name walk run true position count before al
     splits are =
     nothing_here walk.captured _ _ (none position (UserAgent value) refl)
     ∙ found_in_runs given of_tag fits none name (step name walk (UserAgent value)) run true
-        (position + 1) count
+    (position + 1) count
     (before ++ record { name = value; run = run; start = count } ∷ []) all lines
     (omega arith) (in_run name value walk run count before splits)
     (are ∙ sym (append_assoc before
@@ -190,7 +190,7 @@ found_in_runs given of_tag fits none name walk run joins position count before a
     (Allow value ∷ lines) within
     splits are =
     group_next of_tag name walk.captured
-        (record { number = position + 1; line = Allow value; run = run }) all _
+    (record { number = position + 1; line = Allow value; run = run }) all _
     _ _
     (fits position run (Allow value))
     (named_here name walk run joins (position + 1) (count + 1) before all lines (omega arith) splits are)
@@ -211,7 +211,7 @@ found_in_runs given of_tag fits none name walk run joins position count before a
     (CrawlDelay delay ∷ lines) within
     splits are =
     group_next of_tag name walk.captured
-        (record { number = position + 1; line = CrawlDelay delay; run = run })
+    (record { number = position + 1; line = CrawlDelay delay; run = run })
     all _ _ _
     (fits position run (CrawlDelay delay))
     (named_here name walk run joins (position + 1) (count + 1) before all lines (omega arith) splits are)
@@ -261,7 +261,7 @@ pub rules_of_runs : (agent : List ℕ) (lines : List LineValue) → list_any is_
     → placed_rules agent lines ≡ filter_map rule_of (own_tagged (group_name agent lines) lines)
 rules_of_runs agent lines some =
     found_in_own placed_in rule_of (λ position run line. refl) rule_of_group
-        (group_name agent lines) lines some
+    (group_name agent lines) lines some
 
 pub delays_of_runs : (agent : List ℕ) (lines : List LineValue) → list_any is_agent lines ≡ true
     → captured_delays agent lines

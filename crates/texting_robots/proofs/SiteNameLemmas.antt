@@ -200,13 +200,13 @@ pub found : (name : List ℕ) (names : List Named) (position : ℕ) (n : Named) 
     → has_name name n ≡ true → first_named name (drop position names) ≡ 0
 found name names position n at is =
     ap (first_named name) (drop_is names position n at)
-        ∙ first_now (has_name name) n (drop (position + 1) names) is
+    ∙ first_now (has_name name) n (drop (position + 1) names) is
 
 pub passed : (name : List ℕ) (names : List Named) (position : ℕ) (n : Named) → slice_get names position
     ≡ Some n
     → has_name name n ≡ false
     → position + 1 + first_named name (drop (position + 1) names)
-        ≡ position + first_named name (drop position names)
+    ≡ position + first_named name (drop position names)
 passed name names position n at isnt =
     omega (
       arith,
@@ -234,8 +234,10 @@ no_name = record { name = []; run = 0; start = 0 }
 
 pub some_at : (names : List Named) (position : ℕ) → position < length names
     → (n : Named) × (slice_get names position ≡ Some n)
-some_at names position within = (get_or names position no_name,
-    slice_get-get_or names position no_name within)
+some_at names position within = (
+  get_or names position no_name,
+  slice_get-get_or names position no_name within,
+)
 
 -- ---- the runs of a name
 

@@ -110,7 +110,7 @@ runs_after name names name_index next r are =
 
 pub first_kept : (name : List ℕ) (name_index next : ℕ) (names : List Named)
     → next ≡ name_index + 1 + first_named name (drop (name_index + 1) names)
-        → first_named name (drop next names) ≡ 0
+    → first_named name (drop next names) ≡ 0
 first_kept name name_index next names are =
     ap (λ (ns : List Named). first_named name ns)
     (ap (λ k. drop k names) are ∙ sym (drop-drop (first_named name (drop (name_index + 1) names))
@@ -121,7 +121,7 @@ first_kept name name_index next names are =
 pub next_run : (name : List ℕ) (run name_index next : ℕ) (names : List Named) (tags rest : List Tagged)
     (n : Named)
     → slice_get names name_index ≡ Some n → first_named name (drop name_index names) ≡ 0
-        → AreOfFile names tags
+    → AreOfFile names tags
     → run < n.run → in_front run rest ≡ []
     → next ≡ name_index + 1 + first_named name (drop (name_index + 1) names)
     → own_from name n.run (drop n.start tags) (drop next names) tags
@@ -131,7 +131,7 @@ next_run name run name_index next names tags rest n at first (lines, named_is, t
     let left = drop_is names name_index n at in
     let has : has_name name n ≡ true = here (has_name name) n after (rw left at first) in
     let there : slice_get (named lines) name_index
-        ≡ Some n = ap (λ (ns : List Named). slice_get ns name_index)
+    ≡ Some n = ap (λ (ns : List Named). slice_get ns name_index)
     (sym named_is) ∙ at in
     let none = λ (q : ℕ) (below : q < n.run). none_below name after n.run q
     (λ j m later. names_ascend lines name_index (name_index + 1 + j) n m (omega arith) there
@@ -228,7 +228,7 @@ whole_walk name position (n ∷ names) tags first at_zero unnamed some = λ line
   λ wrong. cc,
   λ filled.
       ap (λ (r : ℕ). own_from name r (drop position.at tags) (drop position.name_index
-          (n ∷ names)) tags) at_zero
+      (n ∷ names)) tags) at_zero
       ∙ ap (λ (ts : List Tagged). own_from name 0 ts (drop position.name_index (n ∷ names)) tags)
       (past_end tags position.at (some (omega arith)))
       ∙ ap (λ (k : ℕ). own_from name 0 [] (drop k (n ∷ names)) tags) first

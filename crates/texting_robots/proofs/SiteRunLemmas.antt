@@ -93,7 +93,7 @@ front_is_run run (t ∷ tags) (here, later) (first, rest) = elim (eqb_tells t.ru
 
 names_from : (name : List ℕ) (run : ℕ) (joins : Bool) (position count : ℕ) (lines : List LineValue)
     → list_any (has_name name) (named_from run joins position count lines)
-        ≡ list_any (is_agent_named name) lines
+    ≡ list_any (is_agent_named name) lines
 names_from name run joins position count [] = refl
 names_from name run joins position count (UserAgent value ∷ lines) =
     ap (λ b. bytes_eq (str_to_ascii_lowercase value) name || b) (names_from name (run_after run joins
@@ -189,7 +189,7 @@ starts_from run false position count front (UserAgent value ∷ lines) within co
     subst (IsStart (front ++ tagged_from (position + 1) true (position + 1) lines)) same
     (start_here _ (position + 1) count front _ counted (none (position + 1) (omega arith) (λ _. omega arith))
     (above_from (position + 1) (position + 1) true (position + 1) lines (le_self (position + 1))
-        (omega arith))
+    (omega arith))
     (ascends_from (position + 1) true (position + 1) lines (omega arith)))
 starts_from run false position count front (UserAgent value ∷ lines) within counted none (suc i) n at =
     starts_from (position + 1) true (position + 1) count front lines (omega arith) counted
@@ -269,7 +269,7 @@ ascend_from run true position count (UserAgent value ∷ lines) within begun zer
     let same : record { name = value; run = run; start = count } ≡ m = cc in
     subst (λ (m : Named). m.run ≤ n.run) same
     ((named_above run run true (position + 1) count lines (le_self run)
-        (omega arith) begun j n there).following)
+    (omega arith) begun j n there).following)
 ascend_from run true position count (UserAgent value ∷ lines) within begun (suc i)
     (suc j) m n less here there =
     ascend_from run true (position + 1) count lines (omega arith) begun i j m n (omega arith) here there
@@ -277,7 +277,7 @@ ascend_from run false position count (UserAgent value ∷ lines) within begun ze
     let same : record { name = value; run = position + 1; start = count } ≡ m = cc in
     subst (λ (m : Named). m.run ≤ n.run) same
     ((named_above (position + 1) (position + 1) true (position + 1) count lines (le_self (position + 1))
-        (omega arith)
+    (omega arith)
     (λ _. omega arith) j n there).following)
 ascend_from run false position count (UserAgent value ∷ lines) within begun (suc i)
     (suc j) m n less here there =

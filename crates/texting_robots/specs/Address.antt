@@ -15,7 +15,7 @@ abbrev pub address_at : Parts → Option (Host (List ℕ)) → Parsed (List ℕ)
 address_at url None = Err EmptyHost
 address_at url (Some host) =
     Ok (url.scheme ++ codes "://" ++ host_text host ++ with_delimiter (codes ":")
-        (option_map decimal url.port)
+    (option_map decimal url.port)
     ++ codes "/robots.txt")
 
 -- the address for the parts of a URL

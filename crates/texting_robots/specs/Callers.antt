@@ -11,8 +11,14 @@ pub use Rattle.texting_robots.specs.Rules.{PlacedRule, Rule, unplaced, AreRulesF
 pub use Rattle.texting_robots.specs.Rules.{AreSitemapsOf, HasNoRulesOrSitemaps, IsDelayFor, IsFirstOverlong}
 pub use Rattle.texting_robots.specs.Robot.{RobotValue, AnswerAlike, IsFileRejected, IsRobotOf, IsRobotOfFile}
 pub use Rattle.texting_robots.specs.Robot.{file_limit}
-pub use Rattle.texting_robots.specs.Labels.{AreLabelsOf, Label, HasMembership, is_named, is_own,
-    label_by_value}
+pub use Rattle.texting_robots.specs.Labels.{
+  AreLabelsOf,
+  Label,
+  HasMembership,
+  is_named,
+  is_own,
+  label_by_value,
+}
 pub use Rattle.texting_robots.specs.Labels.{labels_of}
 pub use Rattle.texting_robots.specs.Agents.{agents_in, each_once, is_among}
 -- the same, as functions

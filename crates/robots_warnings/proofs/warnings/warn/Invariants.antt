@@ -7,4 +7,4 @@ abbrev pub invariant-loop-check : goal.invariant-loop-check
 invariant-loop-check l =
     map warning_value l.found.items
     ≡ map warning_value l.fn.found.items ++ warned l.line (option_map (λ url. url.now) l.about)
-        (take l.check-index l.checks)
+    (take l.check-index l.checks)

@@ -14,8 +14,8 @@ returns c =
     let long = length-chunk 0 8 c.args.bytes.now (omega (arith, c.requires)) in
     escaped_lane v _ (omega (arith, long))
     (zip2_of_maps _ _ _ v (zip2_of_maps _ _ _ v (zip2_of_maps _ _ _ v
-        (zip2_of_maps _ _ _ v (zip2_of_maps _ _ _ v
+    (zip2_of_maps _ _ _ v (zip2_of_maps _ _ _ v
     (zip2_splat _ v 8 0x21 long) (zip2_splat _ v 8 0x22 long)) (zip2_splat _ v 8 0x3C long))
     (zip2_splat _ v 8 0x3E long)) (zip2_splat _ v 8 0x60 long))
-        (zip2_splat_left (λ (x y : ℕ). cond (ltb x y) 255 0) 0x7E 8 v long))
+    (zip2_splat_left (λ (x y : ℕ). cond (ltb x y) 255 0) 0x7E 8 v long))
     ∙ ap (list_any is_escaped) (take_all 8 c.args.bytes.now (omega (arith, c.requires)))

@@ -23,12 +23,12 @@ returns c =
           let none = no_segments SpecialNotFile in
           let path = path_read (length text) [] text _ none (omega arith) c.in-Some.ensures in
           target_read text c.in-Some.query.now _ _ path c.after_delimited-fragment.ensures
-              c.after_delimited.ensures
+          c.after_delimited.ensures
           (nil_from_length _ (search rules)),
       λ is.
           let tail = same_Some _ _ (sym c.in-Some.ensures ∙ target_past text is) in
           let none = c.after_delimited.ensures
-              ∙ ap (after_delimited 35 FRAGMENT.now) (c.after_delimited-fragment.ensures
+          ∙ ap (after_delimited 35 FRAGMENT.now) (c.after_delimited-fragment.ensures
           ∙ ap (after_delimited 63 QUERY.now) tail) ∙ tail_left text is in
           rw none at c.is_empty.ensures,
     )

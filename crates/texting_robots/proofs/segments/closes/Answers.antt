@@ -11,8 +11,12 @@ returns-in-Some c =
     let split : pattern ≡ dollar ∷ following =
     strip_prefix_is Decides-eqb pattern (dollar ∷ []) (Some c.in-Some.following) c.in-Some.ensures.cases in
     let (wildcards, match) = only_wildcards_match following in (
-      λ e. record { following = following; dollar = split; empty = wildcards
-          (sym c.only_wildcards.ensures ∙ e) },
+      λ e. record {
+        following = following;
+        dollar = split;
+        empty = wildcards
+            (sym c.only_wildcards.ensures ∙ e);
+      },
       λ h.
           let same : h.following ≡ following = cc (h.dollar, split) in
           c.only_wildcards.ensures ∙ match (subst (λ q. Matches q []) same h.empty),

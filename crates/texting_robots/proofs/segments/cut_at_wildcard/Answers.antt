@@ -5,5 +5,9 @@ use Rattle.texting_robots.proofs.segments.cut_at_wildcard.Goals as goal
 
 pub split_at-requires : goal.split_at-requires
 split_at-requires c =
-    omega (arith, c.first_wildcard.ensures, prefix_len-le-length
-        (λ b. not (is_wildcard b)) c.args.pattern.now)
+    omega (
+      arith,
+      c.first_wildcard.ensures,
+      prefix_len-le-length
+          (λ b. not (is_wildcard b)) c.args.pattern.now,
+    )

@@ -37,7 +37,7 @@ loop-position-preserved c =
       | then-segment-position w ↦ rw w.matched-is (open_more i.first w.if-segment-position.true)
       | else-segment-position+else-matched-gt0 w ↦
           rw w.matched-is (open_next i.first (omega arith) (omega arith) w.if-segment-position.false
-              (omega arith))
+          (omega arith))
     ] in
     record {
       table = i.table;

@@ -10,8 +10,13 @@ loop-rest-preserved c =
     let seen = all_seen (λ b. b == star) 32 rest (omega arith) all in
     rw c.split_at.ensures.back (record {
       within = omega (arith, length-drop 32 rest, c.loop-rest.invariant.within);
-      same = omega (arith, seen, length-drop 32 rest, c.loop-rest.invariant.within,
-          c.loop-rest.invariant.same);
+      same = omega (
+        arith,
+        seen,
+        length-drop 32 rest,
+        c.loop-rest.invariant.within,
+        c.loop-rest.invariant.same,
+      );
     })
 
 pub returns-clause-value : goal.returns-clause-value

@@ -10,7 +10,7 @@ use Rattle.texting_robots.proofs.site.Site.robot.Goals as goal
 pub returns-in-Err-clause-rejected : goal.returns-in-Err-clause-rejected
 returns-in-Err-clause-rejected c =
     rejected_wider _ _ c.in-Err.error (file_rejected c.args.agent.now c.args.self.now)
-        c.in-Err.ensures.rejected
+    c.in-Err.ensures.rejected
 
 pub returns-clause-robot : goal.returns-clause-robot
 returns-clause-robot c =

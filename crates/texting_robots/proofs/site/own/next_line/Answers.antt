@@ -40,7 +40,7 @@ loop-line-preserved-then-named-run c =
     let tags = map (tag_at c.args.text.now) c.args.lines.now in
     let (_, is, _, (within, _), _) = c.in_ok-named.ensures.lookup in
     let at = agent_at c.lines.result.now c.args.names.now c.loop-line.name_index _ c.lines.ensures within
-        is in
+    is in
     record {
       left = next_run name c.loop-line.run c.loop-line.name_index c.after-name_index.result
           c.args.names.now tags
@@ -56,7 +56,7 @@ loop-line-preserved c =
     let tags = map (tag_at c.args.text.now) c.args.lines.now in
     let (_, is, _, (within, _), _) = c.in_ok-named.ensures.lookup in
     let at = agent_at c.lines.result.now c.args.names.now c.loop-line.name_index _ c.lines.ensures within
-        is in
+    is in
     record {
       left = same_run name c.loop-line.run c.loop-line.name_index c.after-name_index.result
           c.args.names.now tags

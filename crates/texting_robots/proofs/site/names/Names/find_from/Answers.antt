@@ -16,7 +16,7 @@ loop-position-preserved c =
     let isnt = sym (tested_names c.eq_ignore_ascii_case.result _ name test)
     ∙ c.if-eq_ignore_ascii_case.false in
     let next = walk_on name c.args.self.now _ _ c.loop-position.position c.index-position.result.now _
-        linked at
+    linked at
     c.index-position.ensures c.loop-position.invariant.here in record {
       here = next.here;
       rest = next.rest ∙ passed name c.args.self.now c.loop-position.position _ at isnt

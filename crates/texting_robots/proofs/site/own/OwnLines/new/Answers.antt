@@ -18,5 +18,9 @@ returns c =
     whole_walk (str_to_ascii_lowercase c.args.name.now)
     (record { name_index = c.first.result; run = 0; at = c.first_line.result }) c.args.names.now
     (map (tag_at c.args.text.now) c.args.lines.now) c.first.ensures refl c.first_line.ensures.unnamed
-    (λ some. omega (arith, c.first_line.ensures.named some, length-map c.args.lines.now
-        (tag_at c.args.text.now)))
+    (λ some. omega (
+      arith,
+      c.first_line.ensures.named some,
+      length-map c.args.lines.now
+          (tag_at c.args.text.now),
+    ))
