@@ -6,7 +6,7 @@ use Rattle.std.specs.{List.list_all, List.AllByRecursion as Each, List.Contains,
 use Rattle.std.proofs.lemmas.Bool.Decides.{nat_tests}
 use Rattle.texting_robots.specs.declared.parser.statement.Kind.{Kind}
 use Rattle.texting_robots.specs.declared.parser.statement.Kind.TheVariants as kind
-use Rattle.texting_robots.specs.Statement.{IsBlank, IsStatement, spellings}
+use Rattle.texting_robots.specs.Statement.{IsBlank, IsStatement, field_names}
 use Rattle.texting_robots.specs.Internal.Statement.{IsOptionalComment, colon, hash}
 use Rattle.texting_robots.specs.{Line.LineValue, Trim.IsTrimOf, Internal.Line.line_with}
 use Rattle.texting_robots.proofs.{LineLemmas.line_stated, StatementLemmas.statement_found}
@@ -119,13 +119,13 @@ end_bare values comment all is =
 
 -- the standard's field name for the kind, which is the first accepted one
 abbrev pub word_of : Kind → List ℕ
-word_of kind = get_or (spellings kind) 0 []
+word_of kind = get_or (field_names kind) 0 []
 
 word_letters : (kind : Kind) → list_all is_identifier_byte (word_of kind) ≡ true
 word_letters kind.UserAgent = refl
 word_letters _ = refl
 
-word_written : (kind : Kind) → Contains (spellings kind) (word_of kind)
+word_written : (kind : Kind) → Contains (field_names kind) (word_of kind)
 word_written kind.UserAgent = (0, omega arith, refl)
 word_written _ = (0, omega arith, refl)
 
@@ -170,7 +170,7 @@ module _ (kind : Kind) (value read text : List ℕ) (line : rfc.IsKeyed (word_of
     comment = eol.comment;
     whole = simp append_assoc;
     margin_blank = line.margin_blank;
-    is_key = subst (Contains (spellings kind)) (sym line.is_key) (word_written kind);
+    is_key = subst (Contains (field_names kind)) (sym line.is_key) (word_written kind);
     separated = inl (line.blanks, line.blanks_blank, refl);
     parted = refl;
     no_hash = no_hash;

@@ -8,7 +8,7 @@ use Rattle.std.proofs.lemmas.List.{Elements.All-contains, Elements.All-from_recu
 use Rattle.std.proofs.lemmas.{List.Sums.AllPass-from_list_all, Map.Views.Contains-from_any}
 use Rattle.std.proofs.lemmas.Slice.Eq.{bytes_eq-Decides}
 use Rattle.robots_rfc9309.proofs.EachLemmas.{passing}
-use Rattle.texting_robots.specs.{declared.parser.statement.Kind.Kind, Statement.spellings}
+use Rattle.texting_robots.specs.{declared.parser.statement.Kind.Kind, Statement.field_names}
 use Rattle.texting_robots.specs.declared.parser.statement.Kind.TheVariants as kind
 use Rattle.robots_rfc9309.specs.Rfc9309 as rfc
 
@@ -114,14 +114,14 @@ are_two = (
   (two 115 (codes "ite") 109 (codes "ap") refl, (two 99 (codes "rawl") 100 (codes "elay") refl, tt)),
 )
 
-all_written : (kind : Kind) → list_all is_written (spellings kind) ≡ true
+all_written : (kind : Kind) → list_all is_written (field_names kind) ≡ true
 all_written kind.UserAgent = refl
 all_written _ = refl
 
-pub written : (kind : Kind) (s : List ℕ) → Contains (spellings kind) s → IsWritten s
+pub written : (kind : Kind) (s : List ℕ) → Contains (field_names kind) s → IsWritten s
 written kind s has =
-    let all = AllPass-from_list_all is_written (spellings kind) (all_written kind) in
-    let is = All-contains (λ s. is_written s ≡ true) (spellings kind) s all has in
+    let all = AllPass-from_list_all is_written (field_names kind) (all_written kind) in
+    let is = All-contains (λ s. is_written s ≡ true) (field_names kind) s all has in
     elim (or_cases (is_one_word s) (list_any (bytes_eq s) two_words) is) [
       | inl one ↦ inl (one_word s one)
       | inr other ↦ inr (All-contains IsTwoWords two_words s
