@@ -5,7 +5,7 @@ import doctest
 import math
 import pickle
 
-import package  # noqa: F401 (builds it)
+import package
 import pytest
 
 import texting_robots
@@ -251,3 +251,24 @@ def test_pickles_and_copies():
         assert again.verdict("/search", "FerrisBot") == Verdict(False, 2)
     assert pickle.loads(pickle.dumps(Verdict(True, 3))) == Verdict(True, 3)
     assert repr(shop) == f"<Robots of {len(SHOP)} bytes>"
+
+
+IN_A_WORKER = """
+from concurrent.futures import ProcessPoolExecutor
+from multiprocessing import get_context
+from texting_robots import OverlongRule, Robots
+
+if __name__ == "__main__":
+    robots = Robots(b"User-agent: a\\nDisallow: /private\\nUser-agent: b\\nDisallow: /" + b"a" * 5000 + b"$")
+    with ProcessPoolExecutor(1, mp_context=get_context("spawn")) as pool:
+        print(pool.submit(robots.allowed, "/private", "a").result(), pool.submit(robots.verdict, "/private", "c").result())
+        try:
+            pool.submit(robots.allowed, "/private", "b").result()
+        except OverlongRule as error:
+            print(error.line)
+"""
+
+
+def test_robots_and_errors_go_to_another_process_and_back(tmp_path):
+    (tmp_path / "worker.py").write_text(IN_A_WORKER)
+    assert package.run([tmp_path / "worker.py"]) == "False Verdict(allowed=True, line=None)\n4\n"

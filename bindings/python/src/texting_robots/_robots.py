@@ -100,24 +100,14 @@ class Robots:
 
     def allowed(self, url: str, agent: str) -> bool:
         """Whether the crawler may fetch the URL."""
-        robot = self._robots.get(agent) or self._robot(agent)
-        text = str.encode(url)
-        result = _query(robot, text, len(text))
-        if result <= _LAST_FAILURE:
-            _check(lib.NO_RESULT - result, robot)
-        return result >= 0
+        return self._result(url, agent) >= 0
 
     can_fetch = allowed
     """Protego's name. (The one of urllib.robotparser has the agent first.)"""
 
     def verdict(self, url: str, agent: str) -> Verdict:
         """Whether the crawler may fetch the URL, and the line that decides it."""
-        robot = self._robots.get(agent) or self._robot(agent)
-        text = str.encode(url)
-        result = _query(robot, text, len(text))
-        if result <= _LAST_FAILURE:
-            _check(lib.NO_RESULT - result, robot)
-        return _verdict(result)
+        return _verdict(self._result(url, agent))
 
     def verdicts(self, urls: Iterable[str], agent: str) -> list[Verdict]:
         """The verdict for each URL, in their order: faster than one by one."""
@@ -175,6 +165,15 @@ class Robots:
     def agents(self) -> list[str]:
         """The names in the file's user-agent lines, ``*`` too, in its order; of names that differ only in case the first."""
         return _written(lambda *out: lib.site_agents(self._site, *out), 256).split("\n")[:-1]
+
+    def _result(self, url: str, agent: str) -> int:
+        """0 or the line that allows the URL, or minus the line that denies it."""
+        robot = self._robots.get(agent) or self._robot(agent)
+        text = str.encode(url)
+        result = _query(robot, text, len(text))
+        if result <= _LAST_FAILURE:
+            _check(lib.NO_RESULT - result, robot)
+        return result
 
     def _robot(self, agent: str) -> CData:
         """What the file says to an agent that isn't among `_robots`. The library shares it among all agents that no line names."""
