@@ -52,8 +52,9 @@ def files(*paths):
 
 
 def read_file(path):
-    with open(path, "rb") as file:
-        return os.path.basename(path).removesuffix(".txt").removesuffix(".robots"), file.read(FILE_LIMIT)
+    with open(path, "rb", buffering=0) as file:
+        body = file.read(min(os.fstat(file.fileno()).st_size, FILE_LIMIT))
+    return os.path.basename(path).removesuffix(".txt").removesuffix(".robots"), body
 
 
 def json_lines(path, start, end):

@@ -77,12 +77,12 @@ def sources(tmp_path_factory):
     packed = [gzip.compress(record) for record in records]
     wrong = bytearray(packed[9])
     wrong[40] ^= 255
-    (folder / "all.warc.gz").write_bytes(b"".join([wrong, *packed[:90], b"garbage", wrong, wrong, *packed[90:150], gzip.compress(b"no record"), *packed[150:], packed[9][:-30]]))
+    (folder / "all.warc.gz").write_bytes(b"".join([wrong, *packed[:90], b"garbage", wrong, wrong, *packed[90:150], gzip.compress(b"no record"), *packed[150:], gzip.compress(records[9][:-30]), packed[9][:-30]]))
     return {name: str(folder / name) for name in ("files", "all.jsonl", "all.warc", "all.warc.gz")}
 
 
 OTHERS = {"files": 0, "all.jsonl": 1, "all.warc": 5, "all.warc.gz": 5}
-DAMAGED = {"files": 1, "all.jsonl": 5, "all.warc": 2, "all.warc.gz": 4}
+DAMAGED = {"files": 1, "all.jsonl": 5, "all.warc": 2, "all.warc.gz": 5}
 
 
 @pytest.mark.parametrize("size", [1, 7, 500])
@@ -137,11 +137,21 @@ def test_the_program_prints_and_writes_the_same_with_workers(sources, tmp_path):
     assert rows[0] == ["site", "crawler", "path", "result", "line"]
     assert sorted(tuple(row) for row in rows[1:] if not row[3].startswith("damaged")) == sorted(tuple(map(str, row)) for row in ROWS * 4)
     assert [row.split() for row in out.splitlines()[:4]] == [["kept", "out", "of", "/", "/search", "unusable"], ["GPTBot", "200", "400", "0"], ["CCBot", "0", "200", "200"], ["Bingbot", "0", "200", "0"]]
-    assert f"{4 * len(SITES)} sites, 11 other records, 12 damaged" in out and f"damaged: {sources['files']}/lost" in out
+    assert f"{4 * len(SITES)} sites, 11 other records, 13 damaged" in out and f"damaged: {sources['files']}/lost" in out
     texts = [text.firstChild.data for text in xml.dom.minidom.parseString(chart).getElementsByTagName("text")]
     assert texts[:4] == ["Of 800 sites, how many keep a crawler out", "/", "/search", "GPTBot"] and "400 (50.0 %)" in texts
     assert "http" not in chart.replace("http://www.w3.org/2000/svg", "")
     assert run(tmp_path, *sources.values(), "--batch", "60", "--workers", "2") == alone
+    with workers() as client:
+        assert run(tmp_path, *sources.values(), "--batch", "60", "--scheduler", client.scheduler.address) == alone
+
+
+def test_a_terminal_shows_a_progress_bar(sources, capsys, monkeypatch):
+    batches = census.batches_of(sources["files"], 60)
+    monkeypatch.setattr(sys.stderr, "isatty", lambda: True)
+    census.census(census.run_here(batches, AGENTS, PATHS), len(batches))
+    bars = capsys.readouterr().err.split("\r")
+    assert bars[1].startswith("[##########....") and bars[-1] == f"[{'#' * 40}] 200 sites"
 
 
 @contextlib.contextmanager
