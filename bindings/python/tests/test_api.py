@@ -102,6 +102,7 @@ def test_agents_that_are_not_named_share_the_group_of_all():
     for agent in ["", "*", "OtherBot", "Ferris", "bötbot"]:
         assert robots.verdicts(["/all", "/ferris"], agent) == [Verdict(False, 2), Verdict(True, None)]
     assert robots.verdicts(["/all", "/ferris"], "FERRISBOT") == [Verdict(True, None), Verdict(False, 4)]
+    assert robots._robots[""] == robots._robots["OtherBot"] == robots._robots["Ferris"] != robots._robots["FERRISBOT"]
 
 
 def test_any_number_of_agents():

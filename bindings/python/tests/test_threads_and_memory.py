@@ -156,15 +156,6 @@ def test_results_and_errors_leave_nothing():
     assert grown(run, 300, 3000) < 1_000_000
 
 
-def test_agents_that_no_line_names_share_what_the_file_says():
-    robots = Robots(LARGE)
-
-    def run(times):
-        assert not any(robots.allowed("/shop/1/a?page=2", f"a{number}") for number in range(times))
-
-    assert grown(run, 1, 900) < 1_000_000
-
-
 NO_MEMORY = """
 import resource, sys
 from texting_robots import Robots
