@@ -5,6 +5,7 @@ import os
 import shutil
 import subprocess
 import sys
+import sysconfig
 import zipfile
 from pathlib import Path
 
@@ -41,6 +42,8 @@ def run(words, **options):
 
 
 needs("cffi", "pip", "setuptools", "wheel")
+if not Path(sysconfig.get_path("include"), "Python.h").is_file():
+    pytest.skip(f"{sys.executable} has no Python.h", allow_module_level=True)
 SOURCES = [archive(), PACKAGE.parent / "c/Makefile", *(PACKAGE / name for name in ("pyproject.toml", "setup.py", "README.md"))]
 SOURCES += [*(PACKAGE / "native").iterdir(), *(PACKAGE / "src/texting_robots").glob("*.*")]
 if not SITE.is_dir() or max(it.stat().st_mtime for it in SOURCES) > SITE.stat().st_mtime:
