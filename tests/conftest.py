@@ -1,6 +1,7 @@
 """What several test files build once."""
 
 import pytest
+from library import installed, objects, robots, shared_object  # noqa: F401 (fixtures)
 from support import compiled
 
 

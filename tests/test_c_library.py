@@ -1,7 +1,6 @@
 """The C library crates/robots_c, called from C, C++ and Python, and the example programs over it next to robots_audit."""
 
 import ctypes
-import importlib
 import mmap
 import os
 import random
@@ -13,67 +12,10 @@ from decimal import Decimal
 from pathlib import Path
 
 import pytest
-from support import CC, CRATES, ROOT, Result, cases_of, compiled, input_of, program, run, shown, spelled, wanted_of
-
-LIBRARY = CRATES / "robots_c"
-ARCHIVE = LIBRARY / "out/librobots_c.a"
-DEPENDENCIES = re.search(r"^robots_c staticlib: (.*)$", (ROOT / "crates.txt").read_text(), re.M)[1].split()
-
-
-def is_built(made, *crates):
-    """Whether a file or folder is newer than the sources of these crates."""
-    sources = [it for crate in crates for part in ("src", "specs", "proofs") for it in (CRATES / crate / part).rglob("*")]
-    return made.exists() and all(it.stat().st_mtime <= made.stat().st_mtime for it in sources)
-
-
-def kit():
-    """The folder of the Rattle toolchain."""
-    return Path(subprocess.run(["rt", "doc"], capture_output=True, text=True).stdout.splitlines()[0]).parent
-
-
-def rlib(name):
-    """Where the library `name` is: built by `rt ci` in this repository, or part of the toolchain."""
-    return CRATES / name / f"out/rlib/{name}.rlib" if (CRATES / name).is_dir() else kit() / f"rlibs/{name}.rlib"
-
-
-def build_archive():
-    """Proves and builds the library over what `rt ci` left, as `rt lib` does over libraries that it proves once more, in minutes."""
-    for name in filter(lambda it: (CRATES / it).is_dir(), DEPENDENCIES):
-        assert is_built(rlib(name), name), f"crates/{name} isn't built: run `rt ci`, or `rt lib` in crates/robots_c"
-    words = [kit() / "bin/rattle", "build", "--crate-name", "robots_c", "src/lib.rt", "--crate-type", "staticlib"]
-    for name in ["std", *DEPENDENCIES]:
-        words += ["--extern", f"{name}={rlib(name)}", "-L", f"dependency={rlib(name).parent}"]
-    words += ["--antt-project", kit() / "rattle/logic/antt-project.json", "--logic-built", kit() / "logic_built"]
-    words += ["--toolchain", kit() / "toolchain", "--backend", "llvm", "-o", ARCHIVE]
-    ARCHIVE.parent.mkdir(exist_ok=True)
-    ended = subprocess.run(words, cwd=LIBRARY, capture_output=True, text=True)
-    assert ended.returncode == 0, ended.stdout[-2000:] + ended.stderr[-2000:]
-
-
-@pytest.fixture(scope="session")
-def objects():
-    """What a program over the library is linked with: the archive, and the toolchain's calls of malloc, realloc and free."""
-    if not is_built(ARCHIVE, "robots_c", "robots_io", "texting_robots"):
-        build_archive()
-    return [ARCHIVE, kit() / "c/liblibc_c.a"]
-
+from library import LIBRARY, random_case
+from support import CC, ROOT, Result, cases_of, compiled, input_of, program, run, shown, spelled, wanted_of
 
 STRICT = ["-Wpedantic", "-Werror", f"-I{LIBRARY}"]
-
-
-@pytest.fixture(scope="session")
-def installed(objects, tmp_path_factory):
-    """The folder into which bindings/c/Makefile installs the library."""
-    folder = tmp_path_factory.mktemp("installed")
-    words = ["make", "-C", ROOT / "bindings/c", "install", f"PREFIX={folder}", f"OUT={folder}/out", f"CC={CC}"]
-    ended = subprocess.run(words, capture_output=True, text=True)
-    assert ended.returncode == 0, ended.stderr
-    return folder
-
-
-@pytest.fixture(scope="session")
-def shared_object(installed):
-    return installed / "lib/librobots_c.so"
 
 
 def needs(*words):
@@ -182,14 +124,6 @@ void rattle_dealloc(void *block) { (void)block; }
 """
 
 
-@pytest.fixture(scope="session")
-def robots(shared_object):
-    """The module examples/robots.py over the shared object."""
-    os.environ["ROBOTS_SO"] = str(shared_object)
-    sys.path.insert(0, str(ROOT / "examples"))
-    return importlib.import_module("robots")
-
-
 FILE = (
     b"User-agent: *\nDisallow: /private\nAllow: /private/open\nCrawl-delay: 2.5\n"
     b"Sitemap: https://example.com/a.xml\nDisallow: /*.pdf$\nSitemap: https://example.com/b.xml\n"
@@ -273,19 +207,6 @@ def test_python_site(robots):
 
 
 # ---- random files
-
-
-PIECES = [*"/ab*$%?#:.-_~ \t", "%41", "\u00e9", "\udcff"]
-KEYS = ["User-agent: Bot", "user-agent:*", "User-agent: o", "Disallow:", "Allow:", "disallow", "Allow: /", "Disallow: /", "Disallow: /", "Crawl-delay: 1", "Sitemap: /", "#", ""]
-
-
-def random_case(chance):
-    def text(most):
-        return "".join(chance.choices(PIECES, k=chance.randrange(most)))
-
-    file = "".join(chance.choice(KEYS) + text(7) + chance.choice(["\n", "\n", "\r\n", "\r"]) for _ in range(chance.randrange(14)))
-    urls = [chance.choice(["/", "https://example.com/", "/a"]) + text(9).replace("\udcff", "") for _ in range(4)]
-    return chance.choice(["Bot", "bot", "o", "*", "other"]), file.encode("utf-8", "surrogateescape"), urls
 
 
 def check_site(robots, file, crawlers, urls):

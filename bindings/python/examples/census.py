@@ -1,0 +1,349 @@
+#!/usr/bin/env python3
+"""Which sites keep which crawlers out of which paths, counted over many robots.txt files: in this process, or on workers of Dask.
+
+    python census.py SOURCE.. [--agents A,B] [--paths /,/search] [--csv FILE] [--svg FILE] [--workers N | --scheduler ADDRESS]
+
+A SOURCE is a folder of robots.txt files, one for each site; a JSONL file with a line {"host": NAME, "body": BASE64} for each; or a WARC
+file, .warc or .warc.gz, of which the successful responses for /robots.txt count. Workers read the sources themselves, so on a cluster
+they need the same paths, and the package texting_robots. A record that can't be read, or that ends its worker, is listed as damaged, and
+nothing else is lost.
+"""
+
+from __future__ import annotations
+
+import argparse
+import base64
+import contextlib
+import csv
+import gzip
+import html
+import http.client
+import io
+import json
+import mmap
+import os
+import sys
+import time
+import zlib
+from collections import Counter
+from pathlib import Path
+from urllib.parse import urlsplit
+
+from texting_robots import FILE_LIMIT, OverlongRule, Robots
+
+AGENTS = "GPTBot,CCBot,ClaudeBot,Google-Extended,Bingbot,Googlebot,Bytespider,PerplexityBot"
+MOST = 64_000_000
+"""A record of a WARC file with more bytes counts as damaged."""
+
+# A batch is a tuple: 'files' and paths, or 'jsonl' or 'warc', a path, and the range of bytes in which its records begin. Each reader
+# yields the place of a record with its site and body, with None if it is no robots.txt file, or with the error that damages it.
+
+
+def attempt(read, given):
+    try:
+        return read(given)
+    except Exception as error:
+        return error
+
+
+def files(*paths):
+    for path in paths:
+        yield path, attempt(read_file, path)
+
+
+def read_file(path):
+    with open(path, "rb", buffering=0) as file:
+        body = file.read(min(os.fstat(file.fileno()).st_size, FILE_LIMIT))
+    return os.path.basename(path).removesuffix(".txt").removesuffix(".robots"), body
+
+
+def json_lines(path, start, end):
+    with open(path, "rb") as lines:
+        if start:
+            lines.seek(start - 1)
+            lines.readline()
+        while (place := lines.tell()) < end and (line := lines.readline()):
+            yield f"{path}:{place}", attempt(read_json, line) if line.strip() else None
+
+
+def read_json(line):
+    record = json.loads(line)
+    return str(record["host"]), base64.b64decode(record["body"], validate=True)
+
+
+def warc(path, start, end):
+    """A damaged stretch belongs to the range of the last sound record before it, so it is yielded once, whatever the ranges."""
+    with open(path, "rb") as file, mmap.mmap(file.fileno(), 0, access=mmap.ACCESS_READ) as data:
+        mark = b"\x1f\x8b\x08" if data[:2] == b"\x1f\x8b" else b"WARC/1."
+        place, is_sound = start, start == 0
+        while 0 <= place < len(data):
+            try:
+                record, following = record_at(data, place)
+            except Exception as error:
+                if is_sound:
+                    yield f"{path}:{place}", error
+                place, is_sound = data.find(mark, place + 1), False
+                continue
+            if place >= end:
+                return
+            yield f"{path}:{place}", attempt(read_response, record)
+            place, is_sound = following, True
+
+
+def record_at(data, place):
+    """The bytes of a record without its version, and where the next one begins."""
+    if data[place : place + 2] == b"\x1f\x8b":
+        return unpacked(data, place)
+    head = data.find(b"\r\n\r\n", place, place + 100_000)
+    if data[place : place + 7] != b"WARC/1." or head < 0:
+        raise ValueError("no record begins here")
+    end = head + 4 + int(fields_of(data[place:head])[b"content-length"])
+    if end > len(data):
+        raise ValueError("the record is cut")
+    following = end
+    while data[following : following + 2] == b"\r\n":
+        following += 2
+    return data[place:end], following
+
+
+def unpacked(data, place):
+    unpacker, record = zlib.decompressobj(31), bytearray()
+    while not unpacker.eof:
+        piece = data[place : place + 65536]
+        record += unpacker.decompress(piece, MOST)
+        if not piece or len(record) >= MOST:
+            raise ValueError("the record is cut or too large")
+        place += len(piece)
+    if not record.startswith(b"WARC/1."):
+        raise ValueError("no record begins here")
+    return bytes(record), place - len(unpacker.unused_data)
+
+
+def fields_of(head):
+    lines = (line.partition(b":") for line in head.split(b"\r\n")[1:])
+    return {name.strip().lower(): value.strip() for name, _, value in lines}
+
+
+class OfBytes:
+    """What http.client takes for a socket."""
+
+    def __init__(self, data):
+        self.data = data
+
+    def makefile(self, *_):
+        return io.BytesIO(self.data)
+
+
+def read_response(record):
+    head, _, block = record.partition(b"\r\n\r\n")
+    fields = fields_of(head)
+    url = urlsplit(fields.get(b"warc-target-uri", b"").decode().strip("<>"))
+    if fields.get(b"warc-type") != b"response" or url.path != "/robots.txt":
+        return None
+    length = int(fields[b"content-length"])
+    if len(block) < length:
+        raise ValueError("the record is cut")
+    response = http.client.HTTPResponse(OfBytes(block[:length]))
+    response.begin()
+    if response.status // 100 != 2:
+        return None
+    body = response.read()
+    return url.netloc, gzip.decompress(body) if response.getheader("Content-Encoding") == "gzip" else body
+
+
+READERS = {"files": files, "jsonl": json_lines, "warc": warc}
+
+
+# ---- what a batch says
+
+
+def rows_of(site, body, agents, paths):
+    """The rows of the CSV file for a site: each path that a crawler is kept out of, with the line that says so."""
+    robots, rows = Robots(body), []
+    for agent, verdicts in zip(agents, robots.matrix(paths, agents)):
+        for path, verdict in zip(paths, verdicts):
+            if verdict is None:
+                try:
+                    robots.verdict(path, agent)
+                except OverlongRule as error:
+                    rows.append((site, agent, path, "unusable", error.line))
+            elif not verdict.allowed:
+                rows.append((site, agent, path, "deny", verdict.line))
+    return rows
+
+
+def census_of(batch, agents, paths):
+    """How many sites a batch has, how many other records, its rows, and the places and errors of its damaged records."""
+    sites, others, rows, damaged = 0, 0, [], []
+    for place, read in READERS[batch[0]](*batch[1:]):
+        try:
+            if isinstance(read, Exception):
+                raise read
+            if read is None:
+                others += 1
+                continue
+            rows += rows_of(*read, agents, paths)
+            sites += 1
+        except Exception as error:
+            damaged.append((place, f"{type(error).__name__}: {error}"))
+    return sites, others, rows, damaged
+
+
+def batches_of(source, size):
+    """Batches of about so many records that together have each record of a source once."""
+    path = Path(source)
+    if path.is_dir():
+        paths = sorted(os.path.join(folder, name) for folder, _, names in os.walk(source) for name in names)
+        return [("files", *paths[start : start + size]) for start in range(0, len(paths), size)]
+    kind = "warc" if path.name.endswith((".warc", ".warc.gz")) else "jsonl"
+    step, length = size * (1024 if kind == "warc" else 4096), path.stat().st_size
+    return [(kind, source, start, min(start + step, length)) for start in range(0, length, step)]
+
+
+# ---- where they run
+
+
+def run_here(batches, *words):
+    for batch in batches:
+        yield census_of(batch, *words)
+
+
+def alone(batch):
+    """The batch as batches of one record each."""
+    if batch[0] == "files":
+        return [("files", path) for path in batch[1:]]
+    kind, path, start, end = batch
+    places = [int(place.rpartition(":")[2]) for place, _ in READERS[kind](path, start, end)]
+    return [(kind, path, place, place + 1) for place in places if place < end]
+
+
+def run_on(client, batches, *words, work=census_of):
+    """The results from the workers of a client. When a worker dies, its batches are tried again record by record, and those with which
+    another one dies one after the other at the end: so only a record that itself ends its worker is lost."""
+    from distributed import KilledWorker, as_completed
+
+    waiting = {client.submit(work, batch, *words, pure=False): batch for batch in batches}
+    finished, suspects = as_completed(waiting), []
+    for future in finished:
+        batch = waiting.pop(future)
+        try:
+            yield future.result()
+        except KilledWorker:
+            records = alone(batch)
+            if len(records) < 2:
+                suspects.append(batch)
+                continue
+            for record in records:
+                future = client.submit(work, record, *words, pure=False)
+                waiting[future] = record
+                finished.add(future)
+    for batch in suspects:
+        try:
+            yield client.submit(work, batch, *words, pure=False).result()
+        except KilledWorker:
+            yield 0, 0, [], [(":".join(map(str, batch[1:3])), "KilledWorker: the worker died")]
+
+
+@contextlib.contextmanager
+def client_of(workers, scheduler):
+    import dask
+    from distributed import Client, LocalCluster
+
+    if scheduler:
+        with Client(scheduler) as client:
+            yield client
+        return
+    options = {"n_workers": workers, "threads_per_worker": 1, "processes": True, "host": "127.0.0.1", "dashboard_address": None}
+    with dask.config.set({"distributed.scheduler.allowed-failures": 0}), LocalCluster(**options) as cluster, Client(cluster) as client:
+        yield client
+
+
+# ---- what is written
+
+
+def census(results, batches=0):
+    """The sum of the results, with the rows and the damaged records in an order that doesn't depend on where they ran."""
+    sites, others, rows, damaged, done = 0, 0, [], [], 0
+    for more_sites, more_others, more_rows, more_damaged in results:
+        sites, others, done = sites + more_sites, others + more_others, done + 1
+        rows += more_rows
+        damaged += more_damaged
+        if batches and sys.stderr.isatty():
+            width = min(40, 40 * done // batches)
+            print(f"\r[{'#' * width}{'.' * (40 - width)}] {sites} sites", end="", file=sys.stderr, flush=True)
+    return sites, others, sorted(rows), sorted(damaged)
+
+
+def write_csv(path, rows, damaged):
+    with open(path, "w", newline="", encoding="utf-8") as file:
+        table = csv.writer(file)
+        table.writerow(["site", "crawler", "path", "result", "line"])
+        table.writerows(rows)
+        table.writerows((place, "", "", f"damaged: {error}", "") for place, error in damaged)
+
+
+COLOURS = ["#4c72b0", "#dd8452", "#55a868", "#c44e52", "#8172b3", "#937860"]
+
+
+def chart(sites, counts, agents, paths):
+    """A bar chart as SVG: how many sites keep each crawler out of each path."""
+    bar, left, full = 14, 170, 400
+    group = bar * len(paths) + 12
+    width, height = left + max(full + 130, 110 * len(paths)), 70 + group * len(agents)
+    parts = [f'<svg xmlns="http://www.w3.org/2000/svg" width="{width}" height="{height}" font-family="sans-serif" font-size="12">']
+    parts.append(f'<rect width="100%" height="100%" fill="#fff"/><text x="10" y="22" font-size="15">Of {sites} sites, how many keep a crawler out</text>')
+    for number, path in enumerate(paths):
+        x, colour = left + 110 * number, COLOURS[number % len(COLOURS)]
+        parts.append(f'<rect x="{x}" y="34" width="10" height="10" fill="{colour}"/><text x="{x + 15}" y="44">{html.escape(path)}</text>')
+    for row, agent in enumerate(agents):
+        top = 60 + row * group
+        parts.append(f'<text x="{left - 10}" y="{top + group // 2}" text-anchor="end">{html.escape(agent)}</text>')
+        for number, path in enumerate(paths):
+            count, y = counts[agent, path], top + bar * number
+            length, share = full * count / max(sites, 1), f"{count} ({100 * count / max(sites, 1):.1f} %)"
+            parts.append(f'<rect x="{left}" y="{y}" width="{length:.1f}" height="{bar - 2}" fill="{COLOURS[number % len(COLOURS)]}"/>')
+            parts.append(f'<text x="{left + length + 5:.1f}" y="{y + 11}">{share}</text>')
+    return "\n".join([*parts, "</svg>", ""])
+
+
+def report(sites, others, rows, damaged, agents, paths):
+    counts = Counter((agent, path) for _, agent, path, result, _ in rows if result == "deny")
+    unusable = Counter(agent for _, agent, path, result, _ in rows if result == "unusable" and path == paths[0])
+    print(f"{'kept out of':20}" + "".join(f"{path:>12}" for path in [*paths, "unusable"]))
+    for agent in agents:
+        print(f"{agent:20}" + "".join(f"{count:12}" for count in [*(counts[agent, path] for path in paths), unusable[agent]]))
+    print(f"{sites} sites, {others} other records, {len(damaged)} damaged")
+    for place, error in damaged[:20]:
+        print(f"damaged: {place}: {error}")
+    return counts
+
+
+def main():
+    words = argparse.ArgumentParser(description=__doc__, formatter_class=argparse.RawDescriptionHelpFormatter)
+    words.add_argument("sources", nargs="+", metavar="SOURCE")
+    words.add_argument("--agents", default=AGENTS, help=f"crawlers, separated by commas; {AGENTS}")
+    words.add_argument("--paths", default="/,/search", help="paths or URLs, separated by commas; /,/search")
+    words.add_argument("--csv", metavar="FILE", help="writes each path that a site keeps a crawler out of")
+    words.add_argument("--svg", metavar="FILE", help="writes a bar chart")
+    words.add_argument("--batch", type=int, default=500, help="records in a batch; 500")
+    where = words.add_mutually_exclusive_group()
+    where.add_argument("--workers", type=int, default=0, help="workers of a LocalCluster; without, this process does it")
+    where.add_argument("--scheduler", metavar="ADDRESS", help="the scheduler of a Dask cluster, as tcp://HOST:8786")
+    given = words.parse_args()
+    agents, paths = given.agents.split(","), given.paths.split(",")
+    batches = [batch for source in given.sources for batch in batches_of(source, given.batch)]
+    with client_of(given.workers, given.scheduler) if given.workers or given.scheduler else contextlib.nullcontext() as client:
+        start = time.perf_counter()
+        results = run_on(client, batches, agents, paths) if client else run_here(batches, agents, paths)
+        found = census(results, len(batches))
+        took = time.perf_counter() - start
+    print(f"\n{found[0] / took:.0f} sites a second", file=sys.stderr)
+    counts = report(*found, agents, paths)
+    if given.csv:
+        write_csv(given.csv, *found[2:])
+    if given.svg:
+        Path(given.svg).write_text(chart(found[0], counts, agents, paths), encoding="utf-8")
+
+
+if __name__ == "__main__":
+    main()

@@ -1,0 +1,44 @@
+"""Builds texting_robots._native: the C library and shared.c, linked statically, by cffi in API mode and for the stable ABI.
+
+ROBOTS_C names a folder where `make install` of bindings/c has put the library. Otherwise it is taken from this repository, and `rt lib`
+proves and builds it first if that hasn't been done.
+"""
+
+import os
+import subprocess
+from pathlib import Path
+
+from cffi import FFI
+
+PROJECT = Path(__file__).resolve().parent.parent
+ROOT = PROJECT.parent.parent
+
+
+def library() -> tuple[Path, Path]:
+    """The folder with robots.h, and the archive."""
+    installed = os.environ.get("ROBOTS_C")
+    if installed:
+        return Path(installed, "include"), Path(installed, "lib/librobots_c.a")
+    crate, built = ROOT / "crates/robots_c", PROJECT / "build/c"
+    if not (crate / "out/librobots_c.a").is_file():
+        subprocess.run(["rt", "lib"], cwd=crate, check=True)
+    subprocess.run(["make", "-s", "-C", ROOT / "bindings/c", f"OUT={built}", built / "librobots_c.a"], check=True)
+    return crate, built / "librobots_c.a"
+
+
+folder, archive = library()
+sources = [PROJECT / "native/shared.h", PROJECT / "native/shared.c"]
+
+ffi = FFI()
+ffi.cdef(sources[0].read_text(encoding="utf-8"))
+ffi.set_source(
+    "texting_robots._native",
+    sources[1].read_text(encoding="utf-8"),
+    include_dirs=[str(folder)],
+    extra_objects=[str(archive)],
+    depends=[str(folder / "robots.h"), str(archive), *map(str, sources)],
+    extra_compile_args=["-O2", "-Wall", "-Werror=incompatible-pointer-types", "-Werror=implicit-function-declaration"],
+    # no name of the archive leaves the extension, and what isn't called isn't kept
+    extra_link_args=["-pthread", "-Wl,--exclude-libs,ALL", "-Wl,--gc-sections", "-Wl,-z,text,-z,relro,-z,now", "-Wl,-s"],
+    py_limited_api=True,
+)

@@ -1,0 +1,20 @@
+"""What a robots.txt file says to a crawler: which URLs it may fetch and by which line, how long it waits, which sitemaps there are.
+
+    >>> from texting_robots import Robots, product_token, robots_url
+    >>> robots_url("https://example.com/shop?page=2")
+    'https://example.com/robots.txt'
+    >>> robots = Robots(b"User-agent: *\\nDisallow: /private # \\xff\\xfe junk\\nCrawl-delay: 2.5\\n")
+    >>> robots.allowed("https://example.com/private/x", "FerrisBot")
+    False
+    >>> robots.verdict("https://example.com/private/x", "FerrisBot")
+    Verdict(allowed=False, line=2)
+    >>> robots.delay("FerrisBot")
+    2.5
+    >>> product_token("FerrisBot/1.0 (+https://example.com/bot)")
+    'FerrisBot'
+"""
+
+from ._robots import FILE_LIMIT, AgentError, OverlongRule, Robots, Verdict, product_token, robots_url
+
+__all__ = ["FILE_LIMIT", "AgentError", "OverlongRule", "Robots", "Verdict", "product_token", "robots_url"]
+__version__ = "0.1.0"

@@ -1,0 +1,251 @@
+"""The calls of the C library for Python. It decides everything: nothing here reads a file or compares a rule."""
+
+from __future__ import annotations
+
+import re
+from collections.abc import Callable, Iterable
+from typing import TYPE_CHECKING, Final, NamedTuple, Union
+
+from ._native import ffi, lib
+
+if TYPE_CHECKING:
+    from ._native import CData
+
+FILE_LIMIT: Final = lib.ROBOTS_FILE_LIMIT
+"""How many bytes of a file count: no more need be fetched."""
+
+_AGENTS_KEPT: Final = 1000
+"""For so many agents a Robots keeps what the file says to them, so that it doesn't grow forever."""
+
+_Body = Union[bytes, bytearray, memoryview, str]
+_query: Final = lib.robot_query
+_LAST_FAILURE: Final = lib.NO_RESULT - lib.ROBOTS_OVERLONG_RULE
+
+
+class OverlongRule(Exception):
+    """A rule for this crawler is too long, so the file can't be used for it. What that means is the crawler's policy.
+
+    Such a rule contains ``$`` and has more than 4,096 bytes. ``line`` is the number of the first such line, counted from 1.
+    """
+
+    def __init__(self, line: int) -> None:
+        super().__init__(line)
+        self.line = line
+
+    def __str__(self) -> str:
+        return f"the rule in line {self.line} is too long: the file can't be used for this crawler"
+
+
+class AgentError(TypeError, ValueError):
+    """An agent contains ``/``, so it is a URL, which comes first, or a User-Agent with a version."""
+
+
+class Verdict(NamedTuple):
+    """Whether a crawler may fetch a URL, and the number of the line that decides it, counted from 1, or None if none does.
+
+    It is true if the crawler may fetch the URL.
+    """
+
+    allowed: bool
+    line: int | None
+
+    def __bool__(self) -> bool:
+        return self.allowed
+
+
+def product_token(user_agent: str) -> str:
+    """The name at the front of a User-Agent, up to its version or a space, or ``*`` if there is none.
+
+    >>> product_token("GPTBot/1.2 (+https://openai.com/gptbot)")
+    'GPTBot'
+
+    The front of a User-Agent like a browser's is ``Mozilla``. Such a crawler gives its name itself.
+    """
+    front = re.match(r"[^\s/(),;:]+", user_agent)
+    return front[0] if front else "*"
+
+
+def robots_url(url: str) -> str:
+    """The address of the robots.txt file for a URL of http or https. Any other text is a ValueError."""
+    text = str.encode(url)
+    return _written(lambda *out: lib.robots_address(text, len(text), *out), 256)
+
+
+class Robots:
+    """A robots.txt file, which is parsed once for all crawlers.
+
+    ``body`` is the file: preferably its bytes as received, which needn't be UTF-8. A ``str`` is encoded as UTF-8; what
+    ``surrogateescape`` made of other bytes becomes these again. A ``url`` is a whole URL, or a path. An ``agent`` is a product token
+    without a version (see `product_token`).
+
+    It can be shared by threads, which take turns, and pickled, as its bytes. Don't fork a process while another thread uses it: in the
+    child its lock could stay taken.
+
+    The methods raise `OverlongRule` if the file can't be used for the agent; `AgentError`, which is a TypeError and a ValueError, for
+    an agent with ``/``; TypeError for what isn't a ``str``, and for one ``str`` in place of several; ValueError for a lone surrogate;
+    and MemoryError.
+    """
+
+    __slots__ = ("__weakref__", "_body", "_robots", "_site")
+
+    def __init__(self, body: _Body) -> None:
+        if isinstance(body, str):
+            body = body.encode("utf-8", "surrogateescape")
+        elif not isinstance(body, (bytes, bytearray, memoryview)):
+            raise TypeError(f"a file is bytes or a str, not {type(body).__name__}")
+        self._body = bytes(body)[:FILE_LIMIT]
+        self._site = _opened(lib.site_open(self._body, len(self._body)), lib.site_close)
+        # what the file says to each agent that was asked about; closed when nothing refers to it
+        self._robots: dict[str, CData] = {}
+
+    def allowed(self, url: str, agent: str) -> bool:
+        """Whether the crawler may fetch the URL."""
+        return self._result(url, agent) >= 0
+
+    can_fetch = allowed
+    """Protego's name. (The one of urllib.robotparser has the agent first.)"""
+
+    def verdict(self, url: str, agent: str) -> Verdict:
+        """Whether the crawler may fetch the URL, and the line that decides it."""
+        return _verdict(self._result(url, agent))
+
+    def verdicts(self, urls: Iterable[str], agent: str) -> list[Verdict]:
+        """The verdict for each URL, in their order: faster than one by one."""
+        urls = _several(urls, "URLs")
+        robot = self._robots.get(agent) or self._robot(agent)
+        text = _joined(urls)
+        if text is None:
+            return [self.verdict(url, agent) for url in urls]
+        results = ffi.new("int64_t[]", len(urls))
+        _check(lib.robot_query_many(robot, text, len(text), results, len(urls)), robot)
+        numbers = ffi.unpack(results, len(urls))
+        verdicts = {number: _verdict(number) for number in set(numbers)}
+        return [verdicts[number] for number in numbers]
+
+    def matrix(self, urls: Iterable[str], agents: Iterable[str]) -> list[list[Verdict | None]]:
+        """The verdicts of many crawlers: for each agent a list with the verdict for each URL, or with None, which doesn't allow either,
+        if the file can't be used for the agent. Agents that the file doesn't name cost little."""
+        urls, agents = _several(urls, "URLs"), _several(agents, "agents")
+        urls_text, agents_text = _joined(urls), _joined(agents)
+        for agent in agents if agents_text is None or b"/" in agents_text else ():
+            _name(agent)
+        if urls_text is None or agents_text is None:
+            return [[self._verdict_or_none(url, agent) for url in urls] for agent in agents]
+        width, length = len(urls), len(urls) * len(agents)
+        results = ffi.new("int64_t[]", length)
+        _check(lib.site_matrix(self._site, agents_text, len(agents_text), urls_text, len(urls_text), results, length))
+        numbers = ffi.unpack(results, length)
+        verdicts = {number: None if number == lib.NO_RESULT else _verdict(number) for number in set(numbers)}
+        return [[verdicts[number] for number in numbers[start : start + width]] for start in range(0, length, width)]
+
+    def delay(self, agent: str) -> float | None:
+        """How many seconds the crawler waits between two requests, or None: up to 1.8e13, so limit it before you sleep."""
+        microseconds = self.delay_microseconds(agent)
+        return None if microseconds is None else microseconds / 1_000_000
+
+    crawl_delay = delay
+    """The name that Protego and urllib.robotparser have for it."""
+
+    def delay_microseconds(self, agent: str) -> int | None:
+        """The delay in microseconds, exactly, or None."""
+        name, microseconds = _name(agent), ffi.new("uint64_t *")
+        status = lib.site_delay(self._site, name, len(name), microseconds)
+        if status == lib.ROBOTS_NO_DELAY:
+            return None
+        _check(status)
+        return int(microseconds[0])
+
+    @property
+    def sitemaps(self) -> list[str]:
+        """The sitemaps, which are the same for every crawler, in the file's order."""
+        # for sitemaps the length of the file is always enough room
+        return _written(lambda *out: lib.site_sitemaps(self._site, *out), len(self._body)).split("\n")[:-1]
+
+    @property
+    def agents(self) -> list[str]:
+        """The names in the file's user-agent lines, ``*`` too, in its order; of names that differ only in case the first."""
+        return _written(lambda *out: lib.site_agents(self._site, *out), 256).split("\n")[:-1]
+
+    def _result(self, url: str, agent: str) -> int:
+        """0 or the line that allows the URL, or minus the line that denies it."""
+        robot = self._robots.get(agent) or self._robot(agent)
+        text = str.encode(url)
+        result = _query(robot, text, len(text))
+        if result <= _LAST_FAILURE:
+            _check(lib.NO_RESULT - result, robot)
+        return result
+
+    def _robot(self, agent: str) -> CData:
+        """What the file says to an agent that isn't among `_robots`. The library shares it among all agents that no line names."""
+        name = _name(agent)
+        robot = _opened(lib.robot_open(self._site, name, len(name)), lib.robot_close)
+        if len(self._robots) >= _AGENTS_KEPT:
+            self._robots.clear()
+        self._robots[agent] = robot
+        return robot
+
+    def _verdict_or_none(self, url: str, agent: str) -> Verdict | None:
+        try:
+            return self.verdict(url, agent)
+        except OverlongRule:
+            return None
+
+    def __reduce__(self) -> tuple[type[Robots], tuple[bytes]]:
+        return type(self), (self._body,)
+
+    def __repr__(self) -> str:
+        return f"<{type(self).__name__} of {len(self._body)} bytes>"
+
+
+def _several(texts: Iterable[str], what: str) -> list[str]:
+    if isinstance(texts, str):
+        raise TypeError(f"the {what} are several str, for example in a list, and not one")
+    return list(texts)
+
+
+def _joined(texts: list[str]) -> bytes | None:
+    """The texts with a line feed between them, or None if one contains a line feed or there is none."""
+    text = "\n".join(texts).encode()
+    return text if texts and text.count(b"\n") == len(texts) - 1 else None
+
+
+def _name(agent: str) -> bytes:
+    name = str.encode(agent)
+    if b"/" in name:
+        raise AgentError(f"{agent!r} is no product token: the URL comes first, and product_token() makes one of a User-Agent")
+    return name
+
+
+def _verdict(result: int) -> Verdict:
+    return Verdict(result >= 0, abs(result) or None)
+
+
+def _opened(opened: CData, close: Callable[[CData], None]) -> CData:
+    """What a call opened, which is NULL if an allocation failed; closed when nothing refers to it."""
+    if not opened:
+        raise MemoryError
+    return ffi.gc(opened, close)
+
+
+def _written(call: Callable[[CData, int, CData], int], room: int) -> str:
+    """What a call writes with this room, or with as much as it then asks for."""
+    length = ffi.new("size_t *")
+    while True:
+        out = ffi.new("char[]", room)
+        status = call(out, room, length)
+        if status != lib.ROBOTS_NO_ROOM:
+            _check(status)
+            return str(ffi.unpack(out, length[0]), "utf-8")
+        room = length[0]
+
+
+def _check(status: int, robot: CData | None = None) -> None:
+    if status == lib.ROBOTS_OK:
+        return
+    if status == lib.ROBOTS_NO_MEMORY:
+        raise MemoryError
+    if status == lib.ROBOTS_NO_ADDRESS:
+        raise ValueError("the text is no URL of http or https with a host, so it has no robots.txt file")
+    if status == lib.ROBOTS_OVERLONG_RULE and robot is not None:
+        raise OverlongRule(lib.robot_overlong_line(robot))
+    raise AssertionError(f"robots.h: status {status}")

@@ -1,0 +1,275 @@
+"""The calls of the package: results, errors, and what a Robots does as an object of Python."""
+
+import copy
+import doctest
+import math
+import pickle
+
+import package
+import pytest
+
+import texting_robots
+from texting_robots import FILE_LIMIT, AgentError, OverlongRule, Robots, Verdict, product_token, robots_url
+
+SHOP = b"""\
+User-agent: *
+Disallow: /search
+Allow: /search/help
+Crawl-delay: 2.5
+
+User-agent: SlowBot
+Disallow: /
+Crawl-delay: 1e300
+Sitemap: https://example.com/one.xml
+Sitemap: https://example.com/zw\xc3\xb6lf.xml
+"""
+OVERLONG = b"User-agent: *\nDisallow: /a\nUser-agent: LongBot\nAllow: /\nDisallow: /" + b"a" * 4096 + b"$\nCrawl-delay: 1\n"
+
+
+def test_examples_of_the_docstrings():
+    assert doctest.testmod(texting_robots).failed == doctest.testmod(texting_robots._robots).failed == 0
+
+
+def test_verdicts():
+    shop = Robots(SHOP)
+    assert shop.allowed("https://example.com/search/tea", "FerrisBot") is False
+    assert shop.can_fetch("https://example.com/search/help", "FerrisBot") is True
+    assert shop.verdict("/search/tea", "ferrisbot") == Verdict(False, 2) == (False, 2)
+    assert shop.verdict("/search/help", "FerrisBot") == Verdict(True, 3)
+    assert shop.verdict("/", "FerrisBot") == Verdict(True, None)
+    assert shop.verdict("/", "SLOWBOT") == Verdict(False, 7)
+    assert Robots(b"").verdict("/", "FerrisBot") == Verdict(True, None)
+
+
+@pytest.mark.parametrize("odd", ["/sea\nrch", "/"], ids=["one with a line feed", "none"])
+def test_verdicts_of_many_urls(odd):
+    shop, urls = Robots(SHOP), ["/search/tea", "/search/help", "", odd, "https://example.com/search"]
+    assert shop.verdicts(urls, "FerrisBot") == [shop.verdict(url, "FerrisBot") for url in urls]
+    assert shop.verdicts(urls, "FerrisBot")[:3] == [Verdict(False, 2), Verdict(True, 3), Verdict(True, None)]
+    assert shop.matrix(urls, ["FerrisBot", "SlowBot", "*"]) == [shop.verdicts(urls, agent) for agent in ["FerrisBot", "SlowBot", "*"]]
+
+
+def test_many_urls_may_be_few():
+    shop = Robots(SHOP)
+    assert shop.verdicts(iter(["/"]), "SlowBot") == [Verdict(False, 7)]
+    assert shop.verdicts([], "SlowBot") == []
+    assert shop.verdicts([""], "FerrisBot") == [Verdict(True, None)]
+    assert shop.matrix([], ["SlowBot", "*"]) == [[], []]
+    assert shop.matrix(["/"], []) == []
+    assert shop.matrix({"/": 1}, iter(["a\nb", "SlowBot"])) == [[Verdict(True, None)], [Verdict(False, 7)]]
+
+
+def test_a_verdict_is_true_if_it_allows():
+    assert Robots(SHOP).verdict("/", "FerrisBot")
+    assert not Robots(SHOP).verdict("/", "SlowBot")
+
+
+def test_delays():
+    shop = Robots(SHOP)
+    assert shop.delay("FerrisBot") == shop.crawl_delay("FerrisBot") == 2.5
+    assert shop.delay_microseconds("FerrisBot") == 2_500_000
+    assert shop.delay_microseconds("SlowBot") == 2**64 - 1
+    assert math.isfinite(shop.delay("SlowBot"))
+    assert Robots(b"").delay("FerrisBot") is None
+    assert Robots(b"User-agent: *\nCrawl-delay: 0").delay("FerrisBot") == 0.0
+
+
+def test_sitemaps_and_agents():
+    assert Robots(SHOP).sitemaps == ["https://example.com/one.xml", "https://example.com/zwölf.xml"]
+    assert Robots(SHOP + b"User-agent: SLOWBOT\nUser-agent: b\xc3\xb6tbot\nUser-agent: \xff").agents == ["*", "SlowBot", "bötbot"]
+    assert Robots(b"").sitemaps == Robots(b"").agents == []
+    many = [f"https://example.com/{n}.xml" for n in range(1000)]
+    assert Robots("".join(f"Sitemap: {url}\n" for url in many)).sitemaps == many
+    assert Robots("".join(f"User-agent: {url}\n" for url in many)).agents == many
+
+
+def test_robots_url():
+    assert robots_url("HTTPS://Bücher.example:443/ä?b#c") == "https://xn--bcher-kva.example/robots.txt"
+    for url in ["", "/a", "example.com/a", "mailto:a@example.com", "ftp://example.com/", "https://"]:
+        with pytest.raises(ValueError, match="no URL"):
+            robots_url(url)
+    assert robots_url("https://example.com/" + "a" * 5000) == "https://example.com/robots.txt"
+    assert robots_url("https://" + "a." * 1000 + "com") == "https://" + "a." * 1000 + "com/robots.txt"
+
+
+@pytest.mark.parametrize("url", ["/zwölf", "/zw%C3%B6lf", "https://bücher.example/zwölf/x"])
+def test_a_url_may_be_outside_of_ascii(url):
+    assert Robots("User-agent: *\nDisallow: /zwölf\n").verdict(url, "FerrisBot") == Verdict(False, 2)
+
+
+def test_agents_that_are_not_named_share_the_group_of_all():
+    robots = Robots(b"User-agent: *\nDisallow: /all\nUser-agent: FerrisBot\nDisallow: /ferris")
+    for agent in ["", "*", "OtherBot", "Ferris", "bötbot"]:
+        assert robots.verdicts(["/all", "/ferris"], agent) == [Verdict(False, 2), Verdict(True, None)]
+    assert robots.verdicts(["/all", "/ferris"], "FERRISBOT") == [Verdict(True, None), Verdict(False, 4)]
+    assert robots._robots[""] == robots._robots["OtherBot"] == robots._robots["Ferris"] != robots._robots["FERRISBOT"]
+
+
+def test_any_number_of_agents():
+    robots = Robots(b"User-agent: *\nDisallow: /all\nUser-agent: a7\nDisallow: /seven")
+    for number in range(2500):
+        assert robots.verdict("/all", f"a{number}") == ((True, None) if number == 7 else (False, 2))
+    assert robots.verdict("/seven", "A7") == Verdict(False, 4)
+    assert len(robots._robots) <= 1000
+
+
+# ---- files
+
+
+@pytest.mark.parametrize("kind", [bytes, bytearray, memoryview])
+def test_bodies_of_bytes(kind):
+    assert Robots(kind(SHOP)).verdict("/search", "FerrisBot") == Verdict(False, 2)
+
+
+def test_bodies_of_text():
+    damaged = b"User-agent: *\nDisallow: /p # \xff\xfe\n"
+    for body in [damaged, damaged.decode("utf-8", "surrogateescape"), damaged.decode("utf-8", "replace"), "\ufeffUser-agent: *\nDisallow: /p"]:
+        assert not Robots(body).allowed("/p", "FerrisBot")
+    with pytest.raises(ValueError):
+        Robots("Disallow: /\ud800")
+    for body in [None, 3, ["User-agent: *"]]:
+        with pytest.raises(TypeError):
+            Robots(body)
+
+
+def test_a_body_that_changes_later():
+    body = bytearray(SHOP)
+    shop = Robots(body)
+    body[:] = b"#" * len(body)
+    assert not shop.allowed("/search", "FerrisBot")
+
+
+def test_the_file_limit():
+    assert FILE_LIMIT == 512_000
+    filler = b"# filler\n" * 70_000
+    assert Robots(filler + b"User-agent: *\nDisallow: /").allowed("/x", "FerrisBot")
+    whole = b"User-agent: *\nDisallow: /\n" + filler
+    assert not Robots(whole).allowed("/x", "FerrisBot")
+    assert len(pickle.dumps(Robots(whole))) < FILE_LIMIT + 1000
+    rule = b"\nUser-agent: *\nDisallow: /x"
+    for over, line in [(0, None), (1, 3)]:  # with one byte too many, the rule is cut to `Disallow: /`
+        assert Robots(b"#" * (FILE_LIMIT - len(rule) + over) + rule).verdict("/", "FerrisBot") == Verdict(line is None, line)
+
+
+@pytest.mark.parametrize("end", [b"\n", b"\r\n", b"\r", b"\0"])
+@pytest.mark.parametrize("front", [b"", b"\xef\xbb\xbf", b"\xbb\xbf"])
+def test_line_ends_and_byte_order_marks(front, end):
+    assert Robots(front + SHOP.replace(b"\n", end)).verdict("/search", "FerrisBot") == Verdict(False, 2)
+
+
+# ---- errors
+
+
+def calls_with(robots, url, agent):
+    """All calls with this URL and this agent."""
+    calls = [robots.allowed, robots.can_fetch, robots.verdict, lambda url, agent: robots.verdicts([url], agent)]
+    calls += [lambda url, agent: robots.matrix([url], ["*", agent]), lambda url, agent: robots.matrix(["/a\nb", url], [agent])]
+    return [lambda call=call: call(url, agent) for call in calls]
+
+
+@pytest.mark.parametrize("agent", ["https://example.com/", "/ferris", "FerrisBot/1.0"])
+@pytest.mark.parametrize("error", [AgentError, TypeError, ValueError])
+def test_an_agent_with_a_slash(agent, error):
+    """So arguments that are swapped, and a User-Agent with a version."""
+    robots = Robots(SHOP)
+    for call in [*calls_with(robots, "FerrisBot", agent), lambda: robots.delay(agent), lambda: robots.crawl_delay(agent)]:
+        with pytest.raises(error, match="product token"):
+            call()
+
+
+@pytest.mark.parametrize("wrong", [None, 3, b"FerrisBot", ["/"]])
+def test_what_is_no_text(wrong):
+    robots = Robots(SHOP)
+    calls = [*calls_with(robots, "/", wrong), *calls_with(robots, wrong, "FerrisBot"), lambda: robots.delay(wrong)]
+    for call in [*calls, lambda: robots_url(wrong), lambda: product_token(wrong)]:
+        with pytest.raises(TypeError):
+            call()
+
+
+def test_one_text_in_place_of_several():
+    robots = Robots(SHOP)
+    for call in [
+        lambda: robots.verdicts("/search", "FerrisBot"),
+        lambda: robots.verdicts("FerrisBot", ["/search"]),
+        lambda: robots.matrix("/search", ["FerrisBot"]),
+        lambda: robots.matrix(["/search"], "FerrisBot"),
+    ]:
+        with pytest.raises(TypeError, match="several"):
+            call()
+
+
+def test_what_is_not_utf8():
+    robots = Robots(SHOP)
+    calls = [*calls_with(robots, "/\ud800", "FerrisBot"), *calls_with(robots, "/", "Ferris\udcff"), lambda: robots.delay("Ferris\udcff")]
+    for call in [*calls, lambda: robots_url("https://example.com/\ud800")]:
+        with pytest.raises(ValueError):
+            call()
+
+
+def test_an_overlong_rule():
+    robots = Robots(OVERLONG)
+    assert not robots.allowed("/a", "FerrisBot")
+    for call in calls_with(robots, "/", "longbot")[:4] * 2:
+        with pytest.raises(OverlongRule, match="line 5") as raised:
+            call()
+        assert raised.value.line == 5
+    again = pickle.loads(pickle.dumps(raised.value))
+    assert type(again) is OverlongRule and again.line == 5 and str(again) == str(raised.value)
+    assert robots.matrix(["/", "/a"], ["LongBot", "FerrisBot"]) == [[None, None], [Verdict(True, None), Verdict(False, 2)]]
+    assert robots.matrix(["/a\nb"], ["LongBot", "FerrisBot"]) == [[None], [Verdict(False, 2)]]
+    assert (robots.delay("LongBot"), robots.agents, robots.sitemaps) == (1.0, ["*", "LongBot"], [])
+
+
+# ---- product tokens, pickles
+
+
+@pytest.mark.parametrize(
+    "user_agent, token",
+    [
+        ("FerrisBot", "FerrisBot"),
+        ("FerrisBot/1.0 (+https://example.com/bot)", "FerrisBot"),
+        ("Scrapy/2.8.0 (+https://scrapy.org)", "Scrapy"),
+        ("Mozilla/5.0 (compatible; FerrisBot/1.0)", "Mozilla"),
+        ("Google-Extended", "Google-Extended"),
+        ("my_bot 3", "my_bot"),
+        ("MJ12bot/v1.4.8", "MJ12bot"),
+        ("Bötbot; a friendly one", "Bötbot"),
+        ("(FerrisBot)", "*"),
+        ("", "*"),
+        ("*", "*"),
+    ],
+)
+def test_product_tokens(user_agent, token):
+    assert product_token(user_agent) == token
+
+
+def test_pickles_and_copies():
+    shop = Robots(SHOP)
+    shop.allowed("/", "FerrisBot")
+    for protocol in range(2, pickle.HIGHEST_PROTOCOL + 1):
+        assert pickle.loads(pickle.dumps(shop, protocol)).verdict("/search", "FerrisBot") == Verdict(False, 2)
+    for again in [copy.copy(shop), copy.deepcopy(shop)]:
+        assert again.verdict("/search", "FerrisBot") == Verdict(False, 2)
+    assert pickle.loads(pickle.dumps(Verdict(True, 3))) == Verdict(True, 3)
+    assert repr(shop) == f"<Robots of {len(SHOP)} bytes>"
+
+
+IN_A_WORKER = """
+from concurrent.futures import ProcessPoolExecutor
+from multiprocessing import get_context
+from texting_robots import OverlongRule, Robots
+
+if __name__ == "__main__":
+    robots = Robots(b"User-agent: a\\nDisallow: /private\\nUser-agent: b\\nDisallow: /" + b"a" * 5000 + b"$")
+    with ProcessPoolExecutor(1, mp_context=get_context("spawn")) as pool:
+        print(pool.submit(robots.allowed, "/private", "a").result(), pool.submit(robots.verdict, "/private", "c").result())
+        try:
+            pool.submit(robots.allowed, "/private", "b").result()
+        except OverlongRule as error:
+            print(error.line)
+"""
+
+
+def test_robots_and_errors_go_to_another_process_and_back(tmp_path):
+    (tmp_path / "worker.py").write_text(IN_A_WORKER)
+    assert package.run([tmp_path / "worker.py"]) == "False Verdict(allowed=True, line=None)\n4\n"

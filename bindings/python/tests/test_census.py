@@ -1,0 +1,195 @@
+"""The census: of a folder, of JSONL and of WARC files, here and on workers of Dask, some of which die; with damaged records."""
+
+import base64
+import contextlib
+import csv
+import gzip
+import json
+import os
+import random
+import signal
+import sys
+import xml.dom.minidom
+from unittest import mock
+
+import package
+import pytest
+
+sys.path.insert(0, str(package.PACKAGE / "examples"))
+
+import census  # noqa: E402
+
+AGENTS, PATHS = ["GPTBot", "CCBot", "Bingbot"], ["/", "/search"]
+LONG_RULE = b"User-agent: CCBot\nDisallow: /" + b"a" * 5000 + b"$\n"
+
+
+def made(number):
+    """A robots.txt file and the rows that it should give."""
+    site = f"site{number:04}.example"
+    body, rows = {
+        0: (b"User-agent: GPTBot\nDisallow: / # \xff\n", [("GPTBot", "/", "deny", 2), ("GPTBot", "/search", "deny", 2)]),
+        1: (b"\xef\xbb\xbfUser-agent: *\rDisallow: /search\r", [(agent, "/search", "deny", 2) for agent in AGENTS]),
+        2: (LONG_RULE, [("CCBot", path, "unusable", 2) for path in PATHS]),
+        3: (b"", []),
+    }[number % 4]
+    return site, body + b"# " + b"x" * (37 * number % 500), [(site, *row) for row in rows]
+
+
+SITES = [made(number) for number in range(200)]
+ROWS = sorted(row for *_, rows in SITES for row in rows)
+
+
+def response(site, body, status="200 OK", more=b""):
+    block = f"HTTP/1.1 {status}\r\nContent-Type: text/plain\r\n".encode() + more + b"\r\n" + body
+    head = f"WARC/1.0\r\nWARC-Type: response\r\nWARC-Target-URI: https://{site}/robots.txt\r\nContent-Length: {len(block)}\r\n\r\n"
+    return head.encode() + block + b"\r\n\r\n"
+
+
+def chunked(body):
+    """A response that is compressed and comes in two chunks."""
+    body = gzip.compress(body)
+    chunks = b"".join(b"%x\r\n%s\r\n" % (len(part), part) for part in (body[:9], body[9:]))
+    return chunks + b"0\r\n\r\n", b"Transfer-Encoding: chunked\r\nContent-Encoding: gzip\r\n"
+
+
+def warc_records():
+    yield b"WARC/1.0\r\nWARC-Type: warcinfo\r\nContent-Length: 4\r\n\r\na: b\r\n\r\n"
+    for number, (site, body, _) in enumerate(SITES):
+        if number % 50 == 1:
+            yield response(site, b"gone", "404 Not Found")
+        sent, more = chunked(body) if number % 3 == 0 else (body, b"")
+        yield response(site, sent, more=more)
+
+
+@pytest.fixture(scope="module")
+def sources(tmp_path_factory):
+    """The sites as a folder with a link that leads nowhere, as JSONL with damaged lines, and as WARC files with damaged records."""
+    folder = tmp_path_factory.mktemp("census")
+    (folder / "files/deeper").mkdir(parents=True)
+    (folder / "files/lost.robots.txt").symlink_to("nowhere")
+    for number, (site, body, _) in enumerate(SITES):
+        (folder / "files" / ("deeper" if number % 2 else ".") / f"{site}.robots.txt").write_bytes(body)
+    lines = [json.dumps({"host": site, "body": base64.b64encode(body).decode()}) for site, body, _ in SITES]
+    lines[100:100] = ["{", '{"host": "a", "body": "*"}', "", '{"body": ""}', '{"host": "b"}', "7"]
+    (folder / "all.jsonl").write_text("\n".join(lines))
+    records = list(warc_records())
+    (folder / "all.warc").write_bytes(b"".join([*records[:90], b"garbage\r\n\r\n", *records[90:], records[9][:-30]]))
+    packed = [gzip.compress(record) for record in records]
+    wrong = bytearray(packed[9])
+    wrong[40] ^= 255
+    (folder / "all.warc.gz").write_bytes(b"".join([wrong, *packed[:90], b"garbage", wrong, wrong, *packed[90:150], gzip.compress(b"no record"), *packed[150:], gzip.compress(records[9][:-30]), packed[9][:-30]]))
+    return {name: str(folder / name) for name in ("files", "all.jsonl", "all.warc", "all.warc.gz")}
+
+
+OTHERS = {"files": 0, "all.jsonl": 1, "all.warc": 5, "all.warc.gz": 5}
+DAMAGED = {"files": 1, "all.jsonl": 5, "all.warc": 2, "all.warc.gz": 5}
+
+
+@pytest.mark.parametrize("size", [1, 7, 500])
+@pytest.mark.parametrize("name", OTHERS)
+def test_a_damaged_record_loses_nothing_else(sources, name, size):
+    batches = census.batches_of(sources[name], size)
+    sites, others, rows, damaged = census.census(census.run_here(batches, AGENTS, PATHS))
+    assert (sites, others, len(damaged)) == (len(SITES), OTHERS[name], DAMAGED[name]), damaged
+    assert rows == ROWS
+
+
+def test_ranges_have_each_record_once(sources):
+    """Also ranges that begin anywhere in a record."""
+    chance = random.Random(1)
+    for name in ("all.jsonl", "all.warc", "all.warc.gz"):
+        kind, length = name.split(".")[1], os.path.getsize(sources[name])
+        whole = census.census(census.run_here([(kind, sources[name], 0, length)], AGENTS, PATHS))
+        for _ in range(20):
+            cuts = [0, *sorted(chance.sample(range(1, length), 5)), length]
+            assert census.census(census.run_here([(kind, sources[name], *ends) for ends in zip(cuts, cuts[1:])], AGENTS, PATHS)) == whole
+
+
+def test_batches_of_one_record(sources):
+    for name in OTHERS:
+        batches = census.batches_of(sources[name], 60)
+        records = [record for batch in batches for record in census.alone(batch)]
+        assert len(records) > len(SITES) and all(len(census.alone(record)) <= 1 for record in records)
+        assert census.census(census.run_here(records, AGENTS, PATHS)) == census.census(census.run_here(batches, AGENTS, PATHS))
+
+
+def test_a_bomb_is_damaged(tmp_path, monkeypatch):
+    monkeypatch.setattr(census, "MOST", 100_000)
+    path = tmp_path / "bomb.warc.gz"
+    path.write_bytes(gzip.compress(response("a", b"a" * 10_000_000)) + gzip.compress(response("b", b"Disallow: /")))
+    sites, others, rows, damaged = census.census_of(("warc", str(path), 0, path.stat().st_size), AGENTS, PATHS)
+    assert (sites, others, len(rows), len(damaged)) == (1, 0, 6, 1)
+
+
+# ---- the program, and workers
+
+
+def run(folder, *words):
+    """What the program prints, and the CSV and SVG files that it writes."""
+    out = package.run([package.PACKAGE / "examples/census.py", *words, "--agents", ",".join(AGENTS), "--csv", folder / "a.csv", "--svg", folder / "a.svg"])
+    return out, (folder / "a.csv").read_text(), (folder / "a.svg").read_text()
+
+
+def test_the_program_prints_and_writes_the_same_with_workers(sources, tmp_path):
+    package.needs("distributed")
+    out, table, chart = alone = run(tmp_path, *sources.values(), "--batch", "60")
+    rows = list(csv.reader(table.splitlines()))
+    assert rows[0] == ["site", "crawler", "path", "result", "line"]
+    assert sorted(tuple(row) for row in rows[1:] if not row[3].startswith("damaged")) == sorted(tuple(map(str, row)) for row in ROWS * 4)
+    assert [row.split() for row in out.splitlines()[:4]] == [["kept", "out", "of", "/", "/search", "unusable"], ["GPTBot", "200", "400", "0"], ["CCBot", "0", "200", "200"], ["Bingbot", "0", "200", "0"]]
+    assert f"{4 * len(SITES)} sites, 11 other records, 13 damaged" in out and f"damaged: {sources['files']}/lost" in out
+    texts = [text.firstChild.data for text in xml.dom.minidom.parseString(chart).getElementsByTagName("text")]
+    assert texts[:4] == ["Of 800 sites, how many keep a crawler out", "/", "/search", "GPTBot"] and "400 (50.0 %)" in texts
+    assert "http" not in chart.replace("http://www.w3.org/2000/svg", "")
+    assert run(tmp_path, *sources.values(), "--batch", "60", "--workers", "2") == alone
+    with workers() as client:
+        assert run(tmp_path, *sources.values(), "--batch", "60", "--scheduler", client.scheduler.address) == alone
+
+
+def test_a_terminal_shows_a_progress_bar(sources, capsys, monkeypatch):
+    batches = census.batches_of(sources["files"], 60)
+    monkeypatch.setattr(sys.stderr, "isatty", lambda: True)
+    census.census(census.run_here(batches, AGENTS, PATHS), len(batches))
+    bars = capsys.readouterr().err.split("\r")
+    assert bars[1].startswith("[##########....") and bars[-1] == f"[{'#' * 40}] 200 sites"
+
+
+@contextlib.contextmanager
+def workers():
+    package.needs("distributed")
+    path = f"{package.SITE}:{package.PACKAGE}/examples:{package.PACKAGE}/tests"
+    with mock.patch.dict(os.environ, PYTHONPATH=path), census.client_of(2, None) as client:
+        client.wait_for_workers(2)
+        yield client
+
+
+def deadly(batch, agents, paths):
+    """census_of, on a worker that dies at the site 0010."""
+    if any("site0010" in str(path) for path in batch):
+        os.kill(os.getpid(), signal.SIGKILL)
+    return census.census_of(batch, agents, paths)
+
+
+def test_a_worker_that_dies_loses_only_the_record_with_which_it_dies(sources):
+    batches = census.batches_of(sources["files"], 40)
+    with workers() as client:
+        sites, others, rows, damaged = census.census(census.run_on(client, batches, AGENTS, PATHS, work=deadly))
+    assert (sites, others, rows) == (len(SITES) - 1, 0, [row for row in ROWS if "site0010" not in row[0]])
+    assert ["KilledWorker" in error for place, error in damaged if "site0010" in place] == [True] and len(damaged) == 2
+
+
+def slow(batch, agents, paths):
+    import time
+
+    time.sleep(0.2)
+    return census.census_of(batch, agents, paths)
+
+
+def test_a_worker_that_is_killed_loses_nothing(sources):
+    batches = [batch for source in sources.values() for batch in census.batches_of(source, 40)]
+    with workers() as client:
+        pids, results = list(client.run(os.getpid).values()), census.run_on(client, batches, AGENTS, PATHS, work=slow)
+        first = next(results)
+        os.kill(pids[0], signal.SIGKILL)
+        found = census.census([first, *results])
+    assert found == census.census(census.run_here(batches, AGENTS, PATHS))

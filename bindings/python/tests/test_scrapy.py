@@ -1,0 +1,139 @@
+"""Crawls by Scrapy of small sites on 127.0.0.1, with its own parsers for robots.txt and with this one: the table of the README."""
+
+import contextlib
+import json
+import re
+import subprocess
+import sys
+import threading
+from http.server import BaseHTTPRequestHandler, ThreadingHTTPServer
+from pathlib import Path
+
+import package
+import pytest
+from support import tables
+
+package.needs("scrapy")
+
+import scrapy  # noqa: E402
+
+from texting_robots.scrapy import RobotParser  # noqa: E402
+
+OURS, PROTEGO, URLLIB = "texting_robots.scrapy.RobotParser", "scrapy.robotstxt.ProtegoRobotParser", "scrapy.robotstxt.PythonRobotParser"
+USER_AGENT = {"USER_AGENT": "FerrisBot/1.0 (+https://example.com/bot)"}
+BROWSER = {"USER_AGENT": "Mozilla/5.0 (compatible; FerrisBot/1.0)"}
+
+PAGES = ["/", "/private/x", "/private/y", "/public/a", "/public/b"]
+RESPECTED = ["/", "/public/a", "/public/b"]
+MEANINGS = {"yes": RESPECTED, "**no**": PAGES, "fetches nothing": []}
+RULES, FILLER = b"User-agent: *\nDisallow: /private/\n", b"# filler\n" * 66_666
+OVERLONG = RULES + b"Disallow: /" + b"a" * 5000 + b"$\n"
+
+# the files of the table
+FILES = {
+    "plain": RULES,
+    "one byte in a comment isn't UTF-8": RULES + b"# \xff junk\n",
+    "a comment in Latin-1": b"# f\xfcr alle\n" + RULES,
+    "byte order mark": b"\xef\xbb\xbf" + RULES,
+    "CR as line end": RULES.replace(b"\n", b"\r"),
+    "NUL as line end": RULES.replace(b"\n", b"\0"),
+    "600,000 bytes, the last isn't UTF-8": RULES + FILLER + b"\xff",
+    "600,000 bytes, rules at the end": FILLER + RULES,
+    "`useragent:`": RULES.replace(b"User-agent", b"useragent"),
+    "a delay": RULES + b"Crawl-delay: 0.25\n",
+    "a group of its own": b"User-agent: *\nDisallow: /\nUser-agent: ferrisbot\nDisallow: /private/",
+    "a rule that is too long": OVERLONG,
+}
+TABLE = {row[0]: row[1:] for row in tables((package.PACKAGE / "README.md").read_text()) if row[0] in FILES}
+TWO_GROUPS = b"User-agent: *\nDisallow: /public/\nUser-agent: FerrisBot\nDisallow: /private/"
+
+
+def handler_of(robots, fetched):
+    """Serves the file and some pages that link to each other, and notes which of them are fetched."""
+    home = "".join(f'<a href="{page}">{page}</a>' for page in PAGES).encode()
+
+    class Handler(BaseHTTPRequestHandler):
+        def do_GET(self):
+            if self.path != "/robots.txt":
+                fetched.append(self.path)
+            body = robots if self.path == "/robots.txt" else home
+            self.send_response(200)
+            self.send_header("Content-Type", "text/plain" if self.path == "/robots.txt" else "text/html")
+            self.send_header("Content-Length", str(len(body)))
+            self.end_headers()
+            self.wfile.write(body)
+
+        def log_message(self, *_):
+            pass
+
+    return Handler
+
+
+@contextlib.contextmanager
+def site(robots, fetched):
+    """The address of a small site with this file, while it is served."""
+    server = ThreadingHTTPServer(("127.0.0.1", 0), handler_of(robots, fetched))
+    thread = threading.Thread(target=server.serve_forever, kwargs={"poll_interval": 0.05})
+    thread.start()
+    try:
+        yield f"http://127.0.0.1:{server.server_address[1]}/"
+    finally:
+        server.shutdown()
+        thread.join()
+        server.server_close()
+
+
+@pytest.fixture(scope="module")
+def crawls():
+    """What is fetched for each file by each parser, and for two groups by each with a User-Agent like a browser's; and the log."""
+    wanted = {(name, parser): (file, USER_AGENT) for name, file in FILES.items() for parser in (OURS, PROTEGO, URLLIB)}
+    wanted |= {("as a browser", parser): (TWO_GROUPS, BROWSER) for parser in (OURS, PROTEGO)}
+    wanted["as a browser, with its name", OURS] = TWO_GROUPS, BROWSER | {"ROBOTSTXT_USER_AGENT": "FerrisBot"}
+    fetched = {case: [] for case in wanted}
+    with contextlib.ExitStack() as sites:
+        given = []
+        for case, (file, settings) in wanted.items():
+            given.append([sites.enter_context(site(file, fetched[case])), settings | {"ROBOTSTXT_PARSER": case[1]}])
+        words = [sys.executable, Path(__file__).with_name("crawl.py")]
+        ended = subprocess.run(words, input=json.dumps(given), capture_output=True, text=True, timeout=120, env=package.WITH_PACKAGE)
+    assert ended.returncode == 0, ended.stderr
+    return {case: sorted(set(pages)) for case, pages in fetched.items()}, ended.stderr  # the first page is fetched twice
+
+
+def test_the_table_of_the_readme_has_every_file():
+    assert list(TABLE) == list(FILES)
+
+
+@pytest.mark.parametrize("name", FILES)
+def test_what_is_fetched_with_this_parser(crawls, name):
+    assert crawls[0][name, OURS] == MEANINGS[TABLE[name][0]]
+
+
+@pytest.mark.skipif(not scrapy.__version__.startswith("2.8."), reason="the table has what Scrapy 2.8 fetches with its own parsers")
+@pytest.mark.parametrize("name", FILES)
+def test_what_is_fetched_with_the_parsers_of_scrapy(crawls, name):
+    assert [crawls[0][name, PROTEGO], crawls[0][name, URLLIB]] == [MEANINGS[cell] for cell in TABLE[name][1:]]
+
+
+def test_a_user_agent_like_a_browsers(crawls):
+    """Protego looks for a group's name anywhere in the User-Agent; this parser takes its front, or ROBOTSTXT_USER_AGENT."""
+    assert crawls[0]["as a browser", OURS] == ["/", "/private/x", "/private/y"]
+    assert crawls[0]["as a browser", PROTEGO] == crawls[0]["as a browser, with its name", OURS] == RESPECTED
+
+
+WARNING = "robots.txt: FerrisBot, the rule in line 3 is too long: the file can't be used for this crawler: nothing is fetched"
+
+
+def test_an_overlong_rule_is_logged_once(crawls, caplog):
+    assert len(re.findall(rf"WARNING: {WARNING}", crawls[1])) == 1 and "texting_robots/" not in crawls[1]
+    parser = RobotParser.from_crawler(None, OVERLONG)
+    assert not any(parser.allowed("https://example.com/", "FerrisBot/1.0") for _ in range(3))
+    assert [record.getMessage() for record in caplog.records] == [WARNING]
+
+
+def test_the_parser_takes_what_scrapy_gives():
+    parser = RobotParser.from_crawler(None, b"User-agent: FerrisBot\nDisallow: /private/")
+    assert not parser.allowed("https://example.com/private/", b"FerrisBot/1.0 (+https://example.com)")
+    assert not parser.allowed(b"https://example.com/private/", "FerrisBot")
+    assert parser.allowed("https://example.com/private/", "Mozilla/5.0 (compatible; FerrisBot/1.0)")
+    assert parser.allowed("https://example.com/private/", b"\xff/")

@@ -1,0 +1,83 @@
+"""The wheel: it installs into a virtual environment, and there the lines of the README print what they say. The README itself."""
+
+import re
+import subprocess
+import sys
+from pathlib import Path
+
+import package
+import pytest
+from test_documents import PRIVATE_WORDS, anchors, prose, tables
+
+README = (package.PACKAGE / "README.md").read_text()
+WHEEL = next((package.BUILT / "dist").iterdir())
+
+
+@pytest.fixture(scope="module")
+def installed_python(tmp_path_factory):
+    """The Python of a new virtual environment with the wheel, and with nothing else but cffi, which is taken from here."""
+    folder = tmp_path_factory.mktemp("venv")
+    subprocess.run([sys.executable, "-m", "venv", "--without-pip", folder], check=True)
+    python = folder / "bin/python"
+    words = [sys.executable, "-m", "pip", "--python", python, "install", "-q", "--no-deps", "--no-index", WHEEL]
+    ended = subprocess.run(words, capture_output=True, text=True)
+    assert ended.returncode == 0, ended.stderr
+    packages = subprocess.run([python, "-c", "import sysconfig; print(sysconfig.get_path('platlib'))"], capture_output=True, text=True)
+    (folder / "cffi").mkdir()
+    for name in ("cffi", "pycparser", "_cffi_backend"):
+        path = Path(__import__(name).__file__)
+        path = path.parent if path.name == "__init__.py" else path
+        (folder / "cffi" / path.name).symlink_to(path)
+    Path(packages.stdout.strip(), "cffi.pth").write_text(f"{folder}/cffi\n")
+    return python
+
+
+def test_the_readme_prints_what_it_says(installed_python, tmp_path):
+    words = "import doctest, sys; failed, tried = doctest.testfile(sys.argv[1], module_relative=False); print(tried); sys.exit(failed)"
+    ended = subprocess.run([installed_python, "-c", words, package.PACKAGE / "README.md"], cwd=tmp_path, capture_output=True, text=True)
+    assert ended.returncode == 0, ended.stdout + ended.stderr
+    assert int(ended.stdout) >= 8
+
+
+def test_the_wheel_is_for_every_cpython_and_exports_nothing():
+    assert WHEEL.name.endswith("-cp39-abi3-linux_x86_64.whl")
+    assert sorted(it.name for it in (package.SITE / "texting_robots").iterdir() if it.suffix) == [
+        "__init__.py", "_native.abi3.so", "_native.pyi", "_robots.py", "py.typed", "scrapy.py",
+    ]  # fmt: skip
+    assert [it.name for it in package.SITE.glob("*.dist-info/LICENSE-*")]
+    names = subprocess.run(["nm", "-D", "--defined-only", package.SITE / "texting_robots/_native.abi3.so"], capture_output=True, text=True)
+    assert [line.split()[-1] for line in names.stdout.splitlines()] == ["PyInit__native"]
+
+
+def test_mypy_is_strict(tmp_path):
+    pytest.importorskip("mypy")
+    caller = tmp_path / "caller.py"
+    caller.write_text(CALLER)
+    words = [sys.executable, "-m", "mypy", "--config-file", package.PACKAGE / "pyproject.toml", "--cache-dir", tmp_path / "cache"]
+    for target in [["-p", "texting_robots"], [caller]]:
+        ended = subprocess.run([*words, *target], env=package.WITH_PACKAGE | {"MYPYPATH": str(package.PACKAGE / "src")}, capture_output=True, text=True)
+        assert ended.returncode == 0, ended.stdout + ended.stderr
+
+
+CALLER = """
+from typing import List, Optional
+from texting_robots import AgentError, OverlongRule, Robots, Verdict, product_token, robots_url
+
+robots: Robots = Robots(b"")
+allowed: bool = robots.allowed(robots_url("https://example.com/"), product_token("a/1"))
+verdicts: List[Verdict] = robots.verdicts(("/" for _ in range(2)), "a")
+rows: List[List[Optional[Verdict]]] = robots.matrix({"/"}, ["a"])
+delay: Optional[float] = robots.crawl_delay("a")
+line: Optional[int] = robots.verdict("/", "a").line
+names: List[str] = robots.sitemaps + robots.agents
+"""
+
+
+def test_the_readme_keeps_the_rules_of_the_documents():
+    assert len(README.encode()) <= 6000
+    assert not [line for line in prose(README) if len(line) > 100]
+    for target in re.findall(r"\]\(([^)\s]+)\)", README):
+        path, _, anchor = target.partition("#")
+        assert (package.PACKAGE / path).exists() and (not anchor or anchor in anchors((package.PACKAGE / path).read_text())), target
+    text = re.sub(r"`[^`]*`", "", "\n".join([*prose(README), *(" | ".join(row) for row in tables(README))]))
+    assert not re.findall(rf"\b(?:{PRIVATE_WORDS})\b", text, re.I)

@@ -1,0 +1,94 @@
+"""The C library crates/robots_c for the tests of the C library and of its bindings: built, installed, and as a module for Python."""
+
+import importlib
+import os
+import re
+import subprocess
+import sys
+from pathlib import Path
+
+import pytest
+from support import CC, CRATES, ROOT
+
+LIBRARY = CRATES / "robots_c"
+ARCHIVE = LIBRARY / "out/librobots_c.a"
+DEPENDENCIES = re.search(r"^robots_c staticlib: (.*)$", (ROOT / "crates.txt").read_text(), re.M)[1].split()
+
+
+def is_built(made, *crates):
+    """Whether a file or folder is newer than the sources of these crates."""
+    sources = [it for crate in crates for part in ("src", "specs", "proofs") for it in (CRATES / crate / part).rglob("*")]
+    return made.exists() and all(it.stat().st_mtime <= made.stat().st_mtime for it in sources)
+
+
+def kit():
+    """The folder of the Rattle toolchain."""
+    return Path(subprocess.run(["rt", "doc"], capture_output=True, text=True).stdout.splitlines()[0]).parent
+
+
+def rlib(name):
+    """Where the library `name` is: built by `rt ci` in this repository, or part of the toolchain."""
+    return CRATES / name / f"out/rlib/{name}.rlib" if (CRATES / name).is_dir() else kit() / f"rlibs/{name}.rlib"
+
+
+def build_archive():
+    """Proves and builds the library over what `rt ci` left, as `rt lib` does over libraries that it proves once more, in minutes."""
+    for name in filter(lambda it: (CRATES / it).is_dir(), DEPENDENCIES):
+        assert is_built(rlib(name), name), f"crates/{name} isn't built: run `rt ci`, or `rt lib` in crates/robots_c"
+    words = [kit() / "bin/rattle", "build", "--crate-name", "robots_c", "src/lib.rt", "--crate-type", "staticlib"]
+    for name in ["std", *DEPENDENCIES]:
+        words += ["--extern", f"{name}={rlib(name)}", "-L", f"dependency={rlib(name).parent}"]
+    words += ["--antt-project", kit() / "rattle/logic/antt-project.json", "--logic-built", kit() / "logic_built"]
+    words += ["--toolchain", kit() / "toolchain", "--backend", "llvm", "-o", ARCHIVE]
+    ARCHIVE.parent.mkdir(exist_ok=True)
+    ended = subprocess.run(words, cwd=LIBRARY, capture_output=True, text=True)
+    assert ended.returncode == 0, ended.stdout[-2000:] + ended.stderr[-2000:]
+
+
+def archive():
+    """The path of the library, which is built if its sources have changed."""
+    if not is_built(ARCHIVE, "robots_c", "robots_io", "texting_robots"):
+        build_archive()
+    return ARCHIVE
+
+
+@pytest.fixture(scope="session")
+def objects():
+    """What a program over the library is linked with: the archive, and the toolchain's calls of malloc, realloc and free."""
+    return [archive(), kit() / "c/liblibc_c.a"]
+
+
+@pytest.fixture(scope="session")
+def installed(objects, tmp_path_factory):
+    """The folder into which bindings/c/Makefile installs the library."""
+    folder = tmp_path_factory.mktemp("installed")
+    words = ["make", "-C", ROOT / "bindings/c", "install", f"PREFIX={folder}", f"OUT={folder}/out", f"CC={CC}"]
+    ended = subprocess.run(words, capture_output=True, text=True)
+    assert ended.returncode == 0, ended.stderr
+    return folder
+
+
+@pytest.fixture(scope="session")
+def shared_object(installed):
+    return installed / "lib/librobots_c.so"
+
+
+@pytest.fixture(scope="session")
+def robots(shared_object):
+    """The module examples/robots.py over the shared object."""
+    os.environ["ROBOTS_SO"] = str(shared_object)
+    sys.path.insert(0, str(ROOT / "examples"))
+    return importlib.import_module("robots")
+
+
+PIECES = [*"/ab*$%?#:.-_~ \t", "%41", "\u00e9", "\udcff"]
+KEYS = ["User-agent: Bot", "user-agent:*", "User-agent: o", "Disallow:", "Allow:", "disallow", "Allow: /", "Disallow: /", "Disallow: /", "Crawl-delay: 1", "Sitemap: /", "#", ""]
+
+
+def random_case(chance):
+    def text(most):
+        return "".join(chance.choices(PIECES, k=chance.randrange(most)))
+
+    file = "".join(chance.choice(KEYS) + text(7) + chance.choice(["\n", "\n", "\r\n", "\r"]) for _ in range(chance.randrange(14)))
+    urls = [chance.choice(["/", "https://example.com/", "/a"]) + text(9).replace("\udcff", "") for _ in range(4)]
+    return chance.choice(["Bot", "bot", "o", "*", "other"]), file.encode("utf-8", "surrogateescape"), urls
