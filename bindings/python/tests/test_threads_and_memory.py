@@ -156,7 +156,7 @@ def test_results_and_errors_leave_nothing():
     assert grown(run, 300, 3000) < 1_000_000
 
 
-NO_MEMORY = """
+OUT_OF_MEMORY = """
 import resource, sys
 from texting_robots import Robots
 
@@ -189,5 +189,5 @@ print(errors, made)
 
 def test_without_memory_there_is_a_memory_error():
     """Robots until the process gets no more memory: then a MemoryError, and the same results as before once they are dropped."""
-    errors, made = map(int, package.run(["-c", NO_MEMORY], input=LARGE.decode() * 20).split())
+    errors, made = map(int, package.run(["-c", OUT_OF_MEMORY], input=LARGE.decode() * 20).split())
     assert errors >= 3 and made > 3

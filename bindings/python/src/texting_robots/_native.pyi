@@ -15,8 +15,8 @@ class _FFI:
 
 class _Lib:
     ROBOTS_OK: Final[int]
-    ROBOTS_NO_MEMORY: Final[int]
-    ROBOTS_NO_ROOM: Final[int]
+    ROBOTS_OUT_OF_MEMORY: Final[int]
+    ROBOTS_BUFFER_TOO_SMALL: Final[int]
     ROBOTS_NO_DELAY: Final[int]
     ROBOTS_NO_ADDRESS: Final[int]
     ROBOTS_OVERLONG_RULE: Final[int]

@@ -233,7 +233,7 @@ def _written(call: Callable[[CData, int, CData], int], room: int) -> str:
     while True:
         out = ffi.new("char[]", room)
         status = call(out, room, length)
-        if status != lib.ROBOTS_NO_ROOM:
+        if status != lib.ROBOTS_BUFFER_TOO_SMALL:
             _check(status)
             return str(ffi.unpack(out, length[0]), "utf-8")
         room = length[0]
@@ -242,7 +242,7 @@ def _written(call: Callable[[CData, int, CData], int], room: int) -> str:
 def _check(status: int, robot: CData | None = None) -> None:
     if status == lib.ROBOTS_OK:
         return
-    if status == lib.ROBOTS_NO_MEMORY:
+    if status == lib.ROBOTS_OUT_OF_MEMORY:
         raise MemoryError
     if status == lib.ROBOTS_NO_ADDRESS:
         raise ValueError("the text is no URL of http or https with a host, so it has no robots.txt file")
