@@ -23,8 +23,8 @@
  * TEXTS. Each text is a pointer and a length in bytes; no NUL is needed at the end, and one inside is a byte like any other. NULL with
  * length 0 is the empty text. `agent` is the crawler's product token without a version ("MyBot", not "MyBot/1.0"), in UTF-8; ASCII
  * letters match in any case. `file` is the body of the response, any bytes; only the first ROBOTS_FILE_LIMIT count. A URL is UTF-8:
- * an absolute URL (https://example.com/a?b) or a path (/a?b). Any other text, as example.com/a, isn't an error: it is compared with the
- * rules unchanged, usually matches none, and then may be fetched. Check URLs before you query them.
+ * an absolute URL (https://example.com/a?b) or a path (/a?b). Any other text, as example.com/a, isn't an error: it is escaped and
+ * compared with the rules, usually matches none, and then may be fetched. Check URLs before you query them.
  *
  * STATUS. Each call returns 0 (ROBOTS_OK) or a negative status; robots_site_is_named returns 1 too. Where the status isn't 0, nothing is
  * written, except where the call's comment says so, and nothing stays allocated. If two errors apply, either may be the status.
@@ -41,14 +41,14 @@
  * a signal handler. Calls on one open robot or site only read it. Proved: such a call borrows it, so any number of them may overlap, and
  * it may go from thread to thread (Rattle's `Sync` and `Send`). Tested: calls on four threads have no data race (ThreadSanitizer,
  * helgrind). The toolchain's rule for C, which is stricter: one call at a time for one robot or site, with a lock, a thread's start or
- * its end between calls on two threads. A lock around the calls with it keeps that rule.
+ * its end between calls on two threads. A lock around all calls on that robot or site keeps the rule.
  *
  * PRECONDITIONS, which nothing checks: each pointer is valid for its length; the buffers that a call writes overlap none of its
  * other arguments; nobody writes to the texts during a call; a robot is one that robots_open or robots_site_robot opened, and a site one
  * that robots_site_open opened; each is closed once, when no call uses it. Robots and sites don't need each other, nor the texts that
  * they were opened with. No call keeps a pointer to a text.
  *
- * PROOF. crates/robots_c/src/lib.rt has a contract for each call, from the file's bytes to every number written. docs/PROOFS.md says
+ * PROOF. crates/robots_c/src/lib.rt has a contract for each call, from the file's bytes to every number written. docs/PROOFS.md states
  * what is proved and what is tested. The compiled library is for Linux on x86-64-v2 processors (SSE4.1). */
 #ifndef ROBOTS_H
 #define ROBOTS_H
@@ -100,15 +100,15 @@ typedef struct robots_site robots_site;
 /* ROBOTS_VERSION of the library that is linked. */
 uint32_t robots_version(void);
 
-/* Reads a file for a crawler, and writes a new robot to *robot, for robots_close. At ROBOTS_OVERLONG_RULE, and only there, *line is
- * written: the number of the first line with such a rule. */
+/* Reads a file for a crawler, and writes a new robot to *robot, which robots_close frees. If the status is ROBOTS_OVERLONG_RULE, and only
+ * then, *line is written: the number of the first line with such a rule. */
 ROBOTS_CHECK int32_t robots_open(const char *agent, size_t agent_len, const void *file, size_t file_len, robots **robot, size_t *line);
 
 /* Writes the result for one URL. It doesn't allocate for the empty text, a path in which nothing has to be escaped, and most URLs. */
 ROBOTS_CHECK int32_t robots_query(const robots *robot, const char *url, size_t url_len, int64_t *result);
 
 /* Writes the results for many URLs, in their order. `urls` has one '\n' between one URL and the next, so n of them are n + 1 URLs, and the
- * empty text is one empty URL; a URL that holds '\n' itself takes robots_query. If there are more URLs than `results_len`, the status is
+ * empty text is one empty URL; for a URL that contains '\n' use robots_query. If there are more URLs than `results_len`, the status is
  * ROBOTS_BUFFER_TOO_SMALL. What is in `results` after the last result isn't touched. */
 ROBOTS_CHECK int32_t robots_query_many(const robots *robot, const char *urls, size_t urls_len, int64_t *results, size_t results_len);
 
@@ -143,8 +143,8 @@ ROBOTS_CHECK int32_t robots_sitemaps(const void *file, size_t file_len, char *ou
  * names that differ only in the case of ASCII letters the first. A name that isn't UTF-8 is left out. */
 ROBOTS_CHECK int32_t robots_agents(const void *file, size_t file_len, char *out, size_t out_len, size_t *len);
 
-/* Reads a file for all crawlers, and writes a new site to *site, for robots_site_close. The status is ROBOTS_OK or ROBOTS_OUT_OF_MEMORY: a
- * rule that is too long is an error only for the crawlers that it is for. */
+/* Reads a file for all crawlers, and writes a new site to *site, which robots_site_close frees. The status is ROBOTS_OK or
+ * ROBOTS_OUT_OF_MEMORY: a rule that is too long is an error only for the crawlers that it applies to. */
 ROBOTS_CHECK int32_t robots_site_open(const void *file, size_t file_len, robots_site **site);
 
 /* robots_open for a site, with the same robot, errors and line. The robot stays open when the site is closed. */

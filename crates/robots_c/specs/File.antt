@@ -1,4 +1,4 @@
--- What the bytes of a file mean for a crawler, or for all.
+-- What the bytes of a file mean for one crawler, or for all crawlers.
 use Rattle.std.specs.Prelude.{◌≡◌, ℕ, IsUtf8, List, Option, take}
 use Rattle.robots_io.specs.Lines.{ended}
 use Rattle.texting_robots.specs.Callers.{AreSitemapsOf, HasLines, IsDelayFor, IsRobotOfFile, RobotValue}

@@ -40,7 +40,7 @@ use texting_robots::{Robot, Site};
 use texts::{address, agents_of, put, sitemaps_of};
 use urls::{decide, query, query_many};
 
-/// The library's version: 10,000 for each major, 100 for each minor and 1 for each patch number.
+/// The library's version as a number: 10,000 × major + 100 × minor + patch.
 #[unsafe(no_mangle)]
 pub extern "C" fn robots_version() -> u32
     ensures { result ≡ 100 }

@@ -166,7 +166,7 @@ const KEYS: &[LinesCase] = &[
     },
 ];
 
-/// The misspelled field names that are accepted; the fifth, `disallaw`, is in `VALUES`.
+/// The accepted misspellings of `Disallow`, except `disallaw`, which is in `VALUES`.
 const NONSTANDARD: &[LinesCase] = &[
     LinesCase {
         name: "dissallow",

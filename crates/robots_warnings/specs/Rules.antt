@@ -13,11 +13,11 @@ use Rattle.robots_warnings.specs.Urls.{begins_as_url}
 abbrev pub has : ℕ → List ℕ → Bool
 has b text = list_any (λ c. c == b) text
 
--- the text before the first such byte, or all of it if there is none
+-- the text before the first occurrence of the byte, or all of it if there is none
 abbrev pub before_byte : ℕ → List ℕ → List ℕ
 before_byte b text = before_first (λ c. c == b) text
 
--- the text after the first such byte; empty if there is none
+-- the text after the first occurrence of the byte; empty if there is none
 abbrev pub after_byte : ℕ → List ℕ → List ℕ
 after_byte b text = after_first (λ c. c == b) text
 

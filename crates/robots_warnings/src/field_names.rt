@@ -144,7 +144,7 @@ fn may_mean(alloc: Global, name: &str, word: &[u8]) -> Result<bool, AllocError>
     Ok(begins_with(name, word) || is_near(alloc, name, word)?)
 }
 
-/// Whether one of the two tokens is the name.
+/// Whether a line's field name `name`, or its first token `word`, is the known name.
 #[tactic(auto, unfolding(crate::specs::FieldNames::is_either))]
 fn is_either(name: &[u8], word: &[u8], known: &str) -> bool
     ensures { result ≡ is_either name.now word.now known.now }
@@ -152,7 +152,7 @@ fn is_either(name: &[u8], word: &[u8], known: &str) -> bool
     is_name(known, name) || is_name(known, word)
 }
 
-/// Whether one of the two tokens starts with the name or is similar to it.
+/// Whether a line's field name `name`, or its first token `word`, starts with the known name or is similar to it.
 #[tactic(auto, unfolding(crate::specs::FieldNames::may_either_mean))]
 fn may_either_mean(alloc: Global, name: &[u8], word: &[u8], known: &str) -> Result<bool, AllocError>
     ensures { IfOk result (λ answer. answer ≡ may_either_mean name.now word.now known.now) }
@@ -160,7 +160,7 @@ fn may_either_mean(alloc: Global, name: &[u8], word: &[u8], known: &str) -> Resu
     Ok(may_mean(alloc, known, name)? || may_mean(alloc, known, word)?)
 }
 
-/// The warning for the first of these names that is one of the two tokens.
+/// The warning for the first of these names that is the field name or the first token.
 fn first_in(names: &[(&str, Cause)], name: &[u8], word: &[u8]) -> Option<Cause>
     ensures { result ≡ first_that (is_either name.now word.now) (map name_value names.now) }
 {
@@ -172,7 +172,7 @@ fn first_in(names: &[(&str, Cause)], name: &[u8], word: &[u8]) -> Option<Cause>
     None
 }
 
-/// The warning for the first directive that one of the two tokens starts with or is similar to.
+/// The warning for the first directive that the field name or the first token starts with or is similar to.
 fn directive_in(alloc: Global, name: &[u8], word: &[u8]) -> Result<Option<Cause>, AllocError>
     ensures { IfOk result (λ cause. cause ≡ directive_in name.now word.now) }
 {
@@ -184,7 +184,7 @@ fn directive_in(alloc: Global, name: &[u8], word: &[u8]) -> Result<Option<Cause>
     Ok(None)
 }
 
-/// The warning for an ignored line with these two tokens.
+/// The warning for an ignored line with this field name and this first token.
 fn meant_among(alloc: Global, name: &[u8], word: &[u8]) -> Result<Cause, AllocError>
     ensures { IfOk result (λ cause. cause ≡ meant_among name.now word.now) }
 {

@@ -20,7 +20,7 @@ fn has(byte: u8, text: &[u8]) -> bool
     text.iter().any(|other| *other == byte)
 }
 
-/// The index of the first such byte, or the length of the text if there is none.
+/// The index of the first occurrence of the byte, or the length of the text if there is none.
 fn place(byte: u8, text: &[u8]) -> usize
     ensures value { result ≡ position_or_len (λ b. b == byte) text.now }
     ensures within { result ≤ length text.now }
@@ -28,14 +28,14 @@ fn place(byte: u8, text: &[u8]) -> usize
     text.iter().take_while(|other| **other != byte).count()
 }
 
-/// The text before the first such byte, or all of it if there is none.
+/// The text before the first occurrence of the byte, or all of it if there is none.
 pub(crate) fn before_byte(byte: u8, text: &[u8]) -> &[u8]
     ensures { result.now ≡ before_byte byte text.now }
 {
     &text[..place(byte, text)]
 }
 
-/// The text after the first such byte; empty if there is none.
+/// The text after the first occurrence of the byte; empty if there is none.
 fn after_byte(byte: u8, text: &[u8]) -> &[u8]
     ensures { result.now ≡ after_byte byte text.now }
 {

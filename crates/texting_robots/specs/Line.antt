@@ -72,7 +72,7 @@ abbrev pub AreFileBodiesOf : List (List ℕ) → List ℕ → Type 0
 AreFileBodiesOf bodies text = (pairs : List Pair) × IsCut pairs (without_front (map nul_as_lf text))
     × (bodies ≡ map (λ pair. pair.body) pairs)
 
--- the file has lines for which P holds
+-- P holds for the list of the file's lines
 abbrev pub HasLines : List ℕ → (List LineValue → Type 0) → Type 0
 HasLines file P = (lines : List LineValue) × AreFileLinesOf lines file × P lines
 

@@ -102,8 +102,8 @@ pub(crate) fn push_escaped(out: &mut String, text: &str) -> Result<(), AllocErro
 }
 
 /// Appends any bytes, escaped as patterns are: each control character, space, `"`, `<`, `>`, backquote and non-ASCII
-/// byte becomes `%` and two hexadecimal digits. So what is appended is printable ASCII. If an allocation fails, nothing
-/// is appended.
+/// byte becomes `%` and two uppercase hexadecimal digits. So what is appended is printable ASCII. If an allocation
+/// fails, nothing is appended.
 pub fn push_escaped_bytes(out: &mut String, bytes: &[u8]) -> Result<(), AllocError>
     ensures ok { OnOk result (string_bytes out.new ≡ string_bytes out.old ++ escaped bytes.now) }
     ensures rejected { OnErr result (string_bytes out.new ≡ string_bytes out.old) }

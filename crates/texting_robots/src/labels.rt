@@ -137,8 +137,8 @@ pub fn is_named(agent: &str, txt: &[u8]) -> bool
 }
 
 /// The number of the first line with a rule that is too long, for the crawler with the product token `agent`, if there
-/// is one. For this line a robot of these bytes is rejected with [`Error::InvalidRule`](crate::Error::InvalidRule). All
-/// bytes are read, as by [`labeled_lines`].
+/// is one. Because of such a line, `Robot::new` rejects a file with [`Error::InvalidRule`](crate::Error::InvalidRule).
+/// All bytes are read, as by [`labeled_lines`].
 ///
 /// # Errors
 ///

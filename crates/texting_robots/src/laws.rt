@@ -26,7 +26,7 @@ ghost use Rattle.texting_robots.specs.Internal.Site.{delay_of as tagged_delay, o
 ghost use Rattle.texting_robots.specs.Trim.{IsTrimOf};
 ghost use Rattle.texting_robots.specs.Verdict.{IsVerdict, robots_file};
 
-/// Every input has lines. Each value in them is a range of bytes of its line's content, except the `/` of an empty
+/// Every input can be split into lines. Each value in them is a range of bytes of its line's content, except the `/` of an empty
 /// Disallow. Used by programs that show values: these are bytes of the input.
 pub fn parse_takes_all()
     ensures { (text : List ℕ) → (lines : List LineValue) × AreLinesOf lines text × HoldRangesOf lines text }

@@ -159,7 +159,8 @@ fn is_port(own: u16, digits: &[u8]) -> bool
     }
 }
 
-/// What follows a port that isn't the default one, `own`, or a missing port.
+/// What follows the colon and the port, or the whole text if it doesn't begin with a colon. It is `None` if the port
+/// isn't as `url` writes it, or is the scheme's default port, `own`.
 fn after_port(own: u16, text: &[u8]) -> Option<&[u8]>
     ensures some { IfSome result (λ rest. Leaves (IsPort own) text.now rest.now) }
     ensures whole { (rest : List ℕ) → EndsSite rest → Leaves (IsPort own) text.now rest

@@ -46,7 +46,7 @@ impl Robot {
     /// Reads the first [`FILE_LIMIT`] bytes of the file `txt` for the crawler with the product token `agent`.
     ///
     /// `agent` is compared in full with the values of user-agent lines, ASCII letters in any case. It isn't trimmed.
-    /// Lines that aren't directives are ignored. Unless an allocation fails, a file is rejected only if a rule that
+    /// Lines that aren't directives are ignored. Apart from `Error::Memory`, a file is rejected only if a rule that
     /// applies to this crawler is too long. Only rules and sitemaps are allocated.
     ///
     /// # Errors

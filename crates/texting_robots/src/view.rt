@@ -1,4 +1,4 @@
-//! A text whose bytes can only be compared by counted looks, except for one comparison with `/robots.txt`.
+//! A text that can only be compared byte by byte, by counted looks, or as a whole with `/robots.txt`.
 ghost use Rattle.std.specs.Prelude.{◌≡◌, ℕ, ◌+◌, ◌<◌, ◌≤◌, ◌↔◌, IsTrue, length, slice_index, []};
 ghost use Rattle.texting_robots.specs.Verdict.{robots_file};
 ghost use Rattle.texting_robots.specs.View.{seen_of};
