@@ -15,7 +15,7 @@ const ESCAPED: AsciiSet = ascii_set!(CONTROLS.add(b' ').add(b'"').add(b'<').add(
 /// The string with each byte of `ESCAPED` and each non-ASCII byte escaped. It is borrowed if there is no such byte.
 pub(crate) fn escaped<'a>(alloc: Global, text: &'a str) -> Result<CowStr<'a, Global>, AllocError>
     ensures ok { IfOk result (λ s. cow_str_bytes s ≡ escaped text.now) }
-    ensures lent { All (λ b. is_escaped b ≡ false) text.now → IsOk result }
+    ensures without_memory { All (λ b. is_escaped b ≡ false) text.now → IsOk result }
 {
     utf8_percent_encode(text, ESCAPED).into_cow(alloc)
 }

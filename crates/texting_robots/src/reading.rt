@@ -81,7 +81,7 @@ pub(crate) fn push_rule(
     ensures accepted { OnOk result (IfSome (rule_with value.now is_allow) (λ rule. ¬ IsOverlong rule.0)) }
     ensures rejected { IfErr result (IsMemoryErrorOr
         (IsSomeAnd (rule_with value.now is_allow) (λ rule. IsOverlong rule.0))) }
-    ensures unasked { rule_with value.now is_allow ≡ None → IsOk result }
+    ensures without_memory { rule_with value.now is_allow ≡ None → IsOk result }
 {
     match std::str::from_utf8(value) {
         Ok(text) => rules.push(text, is_allow, line),
@@ -98,7 +98,7 @@ pub(crate) fn push_text(
 ) -> Result<(), AllocError>
     ensures added { OnOk result (map string_bytes texts.new.items ≡ map string_bytes texts.old.items
         ++ option_to_list (text_from value.now)) }
-    ensures unasked { text_from value.now ≡ None → IsOk result }
+    ensures without_memory { text_from value.now ≡ None → IsOk result }
 {
     let Ok(text) = std::str::from_utf8(value) else {
         return Ok(());
@@ -146,7 +146,7 @@ impl RobotBuilder {
             (λ placed. ¬ IsOverlong placed.rule.0)) }
         ensures rejected { IfErr result (IsMemoryErrorOr
             (IsSomeAnd (if_captured self.old.tracker (placed number (rule_in line.now))) (λ placed. IsOverlong placed.rule.0))) }
-        ensures unasked { if_captured self.old.tracker (placed number (rule_in line.now)) ≡ None
+        ensures without_memory { if_captured self.old.tracker (placed number (rule_in line.now)) ≡ None
             → sitemap_in line.now ≡ None → IsOk result }
     {
         let of_group = self.tracker.captured || self.tracker.named;

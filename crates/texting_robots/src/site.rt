@@ -73,7 +73,7 @@ fn push_name<'a>(names: &mut Vec<&'a str>, name: &'a [u8]) -> Result<(), AllocEr
 fn push_sitemap(alloc: Global, sitemaps: &mut Vec<String>, line: Line<'_>) -> Result<(), AllocError>
     ensures added { OnOk result (map string_bytes sitemaps.new.items ≡ map string_bytes sitemaps.old.items
         ++ option_to_list (sitemap_in (by_value line.entry))) }
-    ensures unasked { sitemap_in (by_value line.entry) ≡ None → IsOk result }
+    ensures without_memory { sitemap_in (by_value line.entry) ≡ None → IsOk result }
 {
     match line {
         Line::Sitemap(value) => push_text(alloc, sitemaps, value),
@@ -175,7 +175,7 @@ impl Site {
         ensures accepted { IfOk result (λ own. All (λ placed. ¬ IsOverlong placed.rule.0) (rules_in own.rules)) }
         ensures rejected { IfErr result (IsMemoryErrorOr (Any (λ placed. IsOverlong placed.rule.0)
             (placed_rules agent.now (file_lines self.now)))) }
-        ensures unasked { placed_rules agent.now (file_lines self.now) ≡ [] → IsOk result }
+        ensures without_memory { placed_rules agent.now (file_lines self.now) ≡ [] → IsOk result }
     {
         let mut own = OwnRules::new(alloc);
         for line in self.own_lines(agent) {
@@ -237,7 +237,7 @@ impl Site {
     /// The sitemaps that the file lists.
     fn all_sitemaps(&self, alloc: Global) -> Result<Vec<String>, AllocError>
         ensures sitemaps { IfOk result (λ sitemaps. map string_bytes sitemaps.items ≡ sitemaps_in (file_lines self.now)) }
-        ensures unasked { sitemaps_in (file_lines self.now) ≡ [] → IsOk result }
+        ensures without_memory { sitemaps_in (file_lines self.now) ≡ [] → IsOk result }
     {
         let mut all = Vec::new(alloc);
         for span in &self.sitemaps {

@@ -201,7 +201,7 @@ impl OwnRules {
         ensures accepted { OnOk result (IfSome (rule_of (tag_of line.now)) (λ placed. ¬ IsOverlong placed.rule.0)) }
         ensures rejected { IfErr result (IsMemoryErrorOr
             (IsSomeAnd (rule_of (tag_of line.now)) (λ placed. IsOverlong placed.rule.0))) }
-        ensures unasked { rule_of (tag_of line.now) ≡ None → IsOk result }
+        ensures without_memory { rule_of (tag_of line.now) ≡ None → IsOk result }
     {
         let number = line.number;
         match line.line {

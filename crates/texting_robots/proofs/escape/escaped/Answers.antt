@@ -7,8 +7,8 @@ pub returns-clause-ok : goal.returns-clause-ok
 returns-clause-ok c =
     rw (← same_escape c.args.text.now, ← c.utf8_percent_encode.ensures.text) c.into_cow.ensures.value
 
-pub returns-clause-lent : goal.returns-clause-lent
-returns-clause-lent c plain =
+pub returns-clause-without_memory : goal.returns-clause-without_memory
+returns-clause-without_memory c plain =
     let kept = c.utf8_percent_encode.ensures.clean (λ k d inside. same_test _ ∙ plain k d inside) in
     elim c.into_cow.result as (λ r. IsOkAnd r IsBorrowedStr → IsOk r)
     [ Ok text ↦ λ _. refl | Err e ↦ λ no. absurd no ] (c.into_cow.ensures.borrows kept)

@@ -61,7 +61,7 @@ pub returns-in-Err-clause-without_memory : goal.returns-in-Err-clause-without_me
 returns-in-Err-clause-without_memory c = λ rules sitemaps.
     let (next, here, _, _) = c.in-Some.ensures.steps in
     let so_far = c.loop-position.invariant in
-    absurd (false≢true (rw here at c.in-Err.ensures.unasked
+    absurd (false≢true (rw here at c.in-Err.ensures.without_memory
     (given_none _ _ _ (rw next at so_far.rules ∙ rules))
     (given_none _ _ _ (rw next at so_far.sitemaps ∙ sitemaps))))
 

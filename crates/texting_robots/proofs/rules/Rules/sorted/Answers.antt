@@ -11,7 +11,7 @@ put_masks-requires c =
     let known = All-permutation is _ _ order c.requires.known in
     let size = length_permutation _ _ order in
     rw (c.deref.ensures.value, c.as_bytes.ensures.value) (record {
-      room = omega arith;
+      within = omega arith;
       spans = λ k d below. (known k d below).pattern;
       firsts = λ k d below. (known k d below).is_cut.first;
     })

@@ -14,15 +14,15 @@ new-requires c =
 
 pub returns-clause-known : goal.returns-clause-known
 returns-clause-known c =
-    let room = c.in_ok-reserve_first.ensures in
-    let text = rw room.text at c.in_ok-push_escaped.ensures in
+    let reserved = c.in_ok-reserve_first.ensures in
+    let text = rw reserved.text at c.in_ok-push_escaped.ensures in
     let added = c.in_ok-ends.ensures in
     let old = c.args.self.now in
     let old_text = string_bytes old.text in
     let more = escaped c.args.value.now in
     let put = ap length text ∙ length-append old_text more in
     let size = ap length text in
-    let before = ap length room.text in
+    let before = ap length reserved.text in
     let len : c.len-end_byte.result - c.len-first_byte.result ≡ length more = omega arith in
     let same = ap (λ (t : List ℕ). slice_range t c.len-first_byte.result (length t))
     (c.as_bytes.ensures.value ∙ text)
@@ -32,9 +32,9 @@ returns-clause-known c =
     let needed = subst (λ (p : List ℕ). ArePrefilter p c.of-prefilter.result)
     (c.new.ensures ∙ same) c.of-prefilter.ensures in
     let segments = ap length added.put_segments in
-    let as_many = ap length room.entries in
+    let as_many = ap length reserved.entries in
     record {
-      known = rw (c.in_ok-push.ensures.items, room.entries, text, added.put_segments, added.put_tables)
+      known = rw (c.in_ok-push.ensures.items, reserved.entries, text, added.put_segments, added.put_tables)
           (entries_pushed old_text more old.segments.items added.segments old.borders.items added.tables
           old.entries.items _ c.requires.known
           (rw (← added.put_tables) (entry_new old_text more old.segments.items added.segments _ _ (record {
@@ -49,13 +49,13 @@ returns-clause-known c =
 
 pub returns-clause-added : goal.returns-clause-added
 returns-clause-added c =
-    let room = c.in_ok-reserve_first.ensures in
-    let text = rw room.text at c.in_ok-push_escaped.ensures in
+    let reserved = c.in_ok-reserve_first.ensures in
+    let text = rw reserved.text at c.in_ok-push_escaped.ensures in
     let old = c.args.self.now in
     let old_text = string_bytes old.text in
     let more = escaped c.args.value.now in
     let size = ap length text in
-    let before = ap length room.text in
-    rw (c.in_ok-push.ensures.items, room.entries, text)
+    let before = ap length reserved.text in
+    rw (c.in_ok-push.ensures.items, reserved.entries, text)
     (rules_pushed old_text more old.segments.items old.borders.items old.entries.items _ c.requires.known
     (record { start = omega arith; end = omega arith }))

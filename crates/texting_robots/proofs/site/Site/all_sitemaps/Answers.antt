@@ -11,10 +11,10 @@ loop-span-preserved c =
     (sym (listed_more c.args.self.now c.deref-span-items.result.now c.loop-span.span-index _
     c.loop-span-test.true))
 
-pub returns-in-Err-clause-unasked : goal.returns-in-Err-clause-unasked
-returns-in-Err-clause-unasked c = λ none.
+pub returns-in-Err-clause-without_memory : goal.returns-in-Err-clause-without_memory
+returns-in-Err-clause-without_memory c = λ none.
     let here = rw (c.deref.ensures.value, c.self.view_is) at c.line_in.ensures in
     let are = rw (← c.deref-span-items.ensures.value, c.self.view_is) at c.self.invariant.sitemaps_are in
-    absurd (false≢true (c.in-Err.ensures.unasked (ap sitemap_in here
+    absurd (false≢true (c.in-Err.ensures.without_memory (ap sitemap_in here
     ∙ none_at (listed c.args.self.now) c.deref-span-items.result.now c.loop-span.span-index _
     c.loop-span-test.true (are ∙ none))))

@@ -26,7 +26,7 @@ returns-in-Err-clause-rejected c =
     (rw next at c.loop-line.invariant.rules))
     c.in-Err.ensures.rejected
 
-pub returns-in-Err-clause-unasked : goal.returns-in-Err-clause-unasked
-returns-in-Err-clause-unasked c = λ none.
+pub returns-in-Err-clause-without_memory : goal.returns-in-Err-clause-without_memory
+returns-in-Err-clause-without_memory c = λ none.
     let next = c.in-Some.ensures.steps in
-    c.in-Err.ensures.unasked (given_none _ _ _ (rw next at c.loop-line.invariant.rules ∙ none))
+    c.in-Err.ensures.without_memory (given_none _ _ _ (rw next at c.loop-line.invariant.rules ∙ none))

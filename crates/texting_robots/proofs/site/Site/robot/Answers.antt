@@ -28,8 +28,8 @@ returns-clause-robot c =
 
 pub returns-in-Err-clause-without_memory : goal.returns-in-Err-clause-without_memory
 returns-in-Err-clause-without_memory c = λ nothing.
-    let (rules, sitemaps) = nothing_of c.args.agent.now _ nothing in c.in-Err.ensures.unasked rules
+    let (rules, sitemaps) = nothing_of c.args.agent.now _ nothing in c.in-Err.ensures.without_memory rules
 
 pub returns-in_default-clause-without_memory : goal.returns-in_default-clause-without_memory
 returns-in_default-clause-without_memory c = λ nothing.
-    let (rules, sitemaps) = nothing_of c.args.agent.now _ nothing in c.in_default.ensures.unasked sitemaps
+    let (rules, sitemaps) = nothing_of c.args.agent.now _ nothing in c.in_default.ensures.without_memory sitemaps
