@@ -1,5 +1,7 @@
 """Builds the package's wheel if a source has changed, unpacks it and puts it on the path. Every test file imports this first."""
 
+import contextlib
+import fcntl
 import importlib.util
 import os
 import shutil
@@ -16,6 +18,17 @@ PACKAGE = Path(__file__).resolve().parent.parent
 BUILT = PACKAGE / "build"
 SITE = BUILT / "site"
 WITH_PACKAGE = os.environ | {"PYTHONPATH": str(SITE), "PYTHONDONTWRITEBYTECODE": "1"}
+
+
+@contextlib.contextmanager
+def locked(folder):
+    """Lets one process at a time do this: a file that another one has loaded is replaced, and never written to."""
+    descriptor = os.open(folder, os.O_RDONLY)
+    try:
+        fcntl.flock(descriptor, fcntl.LOCK_EX)
+        yield
+    finally:
+        os.close(descriptor)
 
 
 def needs(*modules):
@@ -36,7 +49,7 @@ def wheel():
 
 def run(words, **options):
     """What a Python with the package prints, run with these arguments."""
-    ended = subprocess.run([sys.executable, *map(str, words)], capture_output=True, text=True, timeout=120, env=WITH_PACKAGE, **options)
+    ended = subprocess.run([sys.executable, *map(str, words)], capture_output=True, text=True, timeout=600, env=WITH_PACKAGE, **options)
     assert ended.returncode == 0, ended.stdout + ended.stderr
     return ended.stdout
 
@@ -46,7 +59,8 @@ if not Path(sysconfig.get_path("include"), "Python.h").is_file():
     pytest.skip(f"{sys.executable} has no Python.h", allow_module_level=True)
 SOURCES = [archive(), PACKAGE.parent / "c/Makefile", *(PACKAGE / name for name in ("pyproject.toml", "setup.py", "README.md"))]
 SOURCES += [*(PACKAGE / "native").iterdir(), *(PACKAGE / "src/texting_robots").glob("*.*")]
-if not SITE.is_dir() or max(it.stat().st_mtime for it in SOURCES) > SITE.stat().st_mtime:
-    with zipfile.ZipFile(wheel()) as files:
-        files.extractall(SITE)
+with locked(PACKAGE):
+    if not SITE.is_dir() or max(it.stat().st_mtime for it in SOURCES) > SITE.stat().st_mtime:
+        with zipfile.ZipFile(wheel()) as files:
+            files.extractall(SITE)
 sys.path.insert(0, str(SITE))

@@ -95,7 +95,7 @@ def crawls():
         for case, (file, settings) in wanted.items():
             given.append([sites.enter_context(site(file, fetched[case])), settings | {"ROBOTSTXT_PARSER": case[1]}])
         words = [sys.executable, Path(__file__).with_name("crawl.py")]
-        ended = subprocess.run(words, input=json.dumps(given), capture_output=True, text=True, timeout=120, env=package.WITH_PACKAGE)
+        ended = subprocess.run(words, input=json.dumps(given), capture_output=True, text=True, timeout=600, env=package.WITH_PACKAGE)
     assert ended.returncode == 0, ended.stderr
     return {case: sorted(set(pages)) for case, pages in fetched.items()}, ended.stderr  # the first page is fetched twice
 
