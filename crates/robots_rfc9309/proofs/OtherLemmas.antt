@@ -13,7 +13,8 @@ use Rattle.texting_robots.proofs.StatementLemmas.{NoBlank, found_statement, kept
 use Rattle.robots_rfc9309.proofs.KeyedLemmas.{blanks_value, comment_is, comment_text, end_bare, front_bytes}
 use Rattle.robots_rfc9309.proofs.KeyedLemmas.{identifier_front, reads_colon}
 use Rattle.robots_rfc9309.proofs.ReadLemmas.{BeginsLow, Reads, low_append, reads_line}
-use Rattle.robots_rfc9309.proofs.WordLemmas.{IsWritten, Stops, identifier_bounds, same_word, written as expressed}
+use Rattle.robots_rfc9309.proofs.WordLemmas.{IsWritten, Stops, identifier_bounds, same_word}
+use Rattle.robots_rfc9309.proofs.WordLemmas.{written as expressed}
 use Rattle.robots_rfc9309.proofs.Sources.{source_of, written}
 use Rattle.robots_rfc9309.specs.Rfc9309 as rfc
 
