@@ -1,10 +1,6 @@
 //! Why a call fails.
-ghost use Rattle.std.specs.Prelude.{◌↔◌, IsTrue};
-ghost use Rattle.url.specs.Parser.{IsOutOfRoom};
-
 use std::alloc::{AllocError, AllocFailed};
 use thiserror::Error;
-use url::ParseError;
 
 /// Why a call fails.
 #[derive(Debug, Drop, Error)]
@@ -41,12 +37,4 @@ impl<T: Drop> From<AllocFailed<T>> for Error {
     fn from(_: AllocFailed<T>) -> Error {
         Error::Memory
     }
-}
-
-/// Whether an error of `url` becomes `Error::Memory`: an allocation failed, or a URL has more bytes than `url` can
-/// count.
-pub(crate) fn is_memory_or_overflow(error: &ParseError) -> bool
-    ensures { IsTrue result ↔ IsOutOfRoom error.now }
-{
-    matches!(error, ParseError::OutOfMemory | ParseError::Overflow)
 }

@@ -1,12 +1,12 @@
 //! The lines of a file with their membership in a crawler's group, for programs that show a site owner what each line
 //! does. A group line is an Allow, a Disallow or a Crawl-delay.
-ghost use Rattle.std.specs.Prelude.{◌≡◌, ◌≤◌, IfOk, MatchOption, length};
+ghost use Rattle.std.specs.Prelude.{◌≡◌, ◌≤◌, IfOk, IsOk, MatchOption, length};
 ghost use Rattle.std.specs.Iterator.{YieldsFirstBy, item_count};
 ghost use Rattle.texting_robots.specs.Group.{group_name};
 ghost use Rattle.texting_robots.specs.Labels.{is_named, label_by_value, labels_of};
-ghost use Rattle.texting_robots.specs.Line.{by_value};
+ghost use Rattle.texting_robots.specs.Line.{HasLines, by_value};
 ghost use Rattle.texting_robots.specs.Executable.{file_lines, placed_rules};
-ghost use Rattle.texting_robots.specs.Rules.{IsFirstOverlong, IsRejected};
+ghost use Rattle.texting_robots.specs.Rules.{HasNoRulesOrSitemaps, IsFirstOverlong, IsRejected};
 ghost use Rattle.texting_robots.specs.Internal.Group.{membership_by};
 
 use crate::groups::{GroupTracker, group_for};
@@ -148,8 +148,9 @@ pub fn first_overlong_line(
     agent: &str,
     txt: &[u8],
 ) -> Result<Option<usize>, AllocError>
-    ensures { IfOk result (λ line. MatchOption line (¬ IsRejected agent.now (file_lines txt.now))
+    ensures line { IfOk result (λ line. MatchOption line (¬ IsRejected agent.now (file_lines txt.now))
         (IsFirstOverlong (placed_rules agent.now (file_lines txt.now)))) }
+    ensures without_memory { HasLines txt.now (HasNoRulesOrSitemaps agent.now) → IsOk result }
 {
     match read_file(alloc, agent, txt) {
         Ok(_) => Ok(None),

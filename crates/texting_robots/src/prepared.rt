@@ -4,12 +4,12 @@ ghost use Rattle.std.specs.Cow.{cow_str_bytes};
 ghost use Rattle.texting_robots.specs.AllocationFree.{IsAllocationFree};
 ghost use Rattle.texting_robots.specs.Prepared.{prepared, target_of};
 
-use crate::error::{Error, is_memory_or_overflow};
+use crate::error::Error;
 use crate::escape::escaped;
 use crate::normalized::borrowed_target;
 use std::alloc::{AllocError, Global};
 use std::borrow::CowStr;
-use url::{Position, Url};
+use url::{ParseError, Position, Url};
 
 /// The match target of a URL, or of a path alone. It is borrowed for a path in which no byte is escaped, and for a URL
 /// that [`borrowed_target`] accepts. A string that begins with a slash isn't a URL, so it isn't parsed.
@@ -29,7 +29,7 @@ pub(crate) fn prepare<'a>(alloc: Global, url: &'a str) -> Result<CowStr<'a, Glob
     }
     match Url::parse(alloc, url) {
         Ok(parsed) => Ok(CowStr::Owned(into_target(parsed)?)),
-        Err(error) if is_memory_or_overflow(&error) => Err(Error::Memory),
+        Err(ParseError::OutOfMemory | ParseError::Overflow) => Err(Error::Memory),
         Err(_) => Ok(escaped(alloc, url)?),
     }
 }

@@ -201,8 +201,9 @@ impl Site {
             Ok(own) => own,
             Err(error) => return Err(error),
         };
-        let Ok(sitemaps) = self.all_sitemaps(alloc) else {
-            return Err(Error::Memory);
+        let sitemaps = match self.all_sitemaps(alloc) {
+            Ok(sitemaps) => sitemaps,
+            Err(AllocError) => return Err(Error::Memory),
         };
         Ok(Robot {
             delay: own.delay.or(self.early),

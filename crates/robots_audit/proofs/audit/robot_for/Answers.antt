@@ -5,7 +5,7 @@ use Rattle.robots_audit.proofs.audit.robot_for.Goals as goal
 pub unreachable-requires : goal.unreachable-requires
 unreachable-requires c =
     let error = c.in-Err-InvalidRule in
-    (rw (c.in-None.is, c.counted.ensures) at c.in_ok-line-in-Err-InvalidRule.ensures)
+    (rw (c.in-None.is, c.counted.ensures) at c.in_ok-line-in-Err-InvalidRule.ensures.line)
     (read_rejected _ _ (rw (error.field-0-is, c.requires) at error.ensures.rejected))
 
 pub returns-in-Some-clause-fault : goal.returns-in-Some-clause-fault
@@ -14,7 +14,7 @@ returns-in-Some-clause-fault c = (
   (
     c.args.agent.now,
     (0, lit< tt, refl),
-    rw (c.in-Some.is, c.counted.ensures) at c.in_ok-line-in-Err-InvalidRule.ensures,
+    rw (c.in-Some.is, c.counted.ensures) at c.in_ok-line-in-Err-InvalidRule.ensures.line,
   ),
 )
 

@@ -30,6 +30,7 @@ pub returns-in-Err-clause-without_memory : goal.returns-in-Err-clause-without_me
 returns-in-Err-clause-without_memory c = λ nothing.
     let (rules, sitemaps) = nothing_of c.args.agent.now _ nothing in c.in-Err.ensures.without_memory rules
 
-pub returns-in_default-clause-without_memory : goal.returns-in_default-clause-without_memory
-returns-in_default-clause-without_memory c = λ nothing.
-    let (rules, sitemaps) = nothing_of c.args.agent.now _ nothing in c.in_default.ensures.without_memory sitemaps
+pub returns-in-Err-all_sitemaps-clause-without_memory : goal.returns-in-Err-all_sitemaps-clause-without_memory
+returns-in-Err-all_sitemaps-clause-without_memory c = λ nothing.
+    let (rules, sitemaps) = nothing_of c.args.agent.now _ nothing in
+    c.in-Err-all_sitemaps.ensures.without_memory sitemaps
