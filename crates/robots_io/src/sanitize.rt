@@ -1,6 +1,7 @@
 //! Sanitizes untrusted text: escapes invalid UTF-8 and characters that are unsafe to display.
 ghost use Rattle.std.specs.Prelude.{◌≡◌, ◌++◌, OnOk, string_bytes};
 ghost use Rattle.std.specs.List.{list_all};
+ghost use Rattle.std.specs.Io.{StartsWith};
 ghost use Rattle.robots_io.specs.Sanitize.{is_printable, is_printable_byte, sanitized, sanitized_in, sanitized_lines, sanitized_chunk, turns_text};
 
 use bstr::decode_utf8;
@@ -52,7 +53,8 @@ fn push_chunk(
     bytes: &[u8],
     has_lines: bool,
 ) -> Result<(), AllocError>
-    ensures { OnOk result (string_bytes text.new ≡ string_bytes text.old ++ sanitized_chunk has_lines char bytes.now) }
+    ensures added { OnOk result (string_bytes text.new ≡ string_bytes text.old ++ sanitized_chunk has_lines char bytes.now) }
+    ensures kept { StartsWith (string_bytes text.new) (string_bytes text.old) }
 {
     match char {
         Some(char) if is_printable(char, has_lines) => text.push(char),
@@ -62,7 +64,8 @@ fn push_chunk(
 
 /// Appends the sanitized bytes, one UTF-8 unit after another.
 fn push_chunks(text: &mut String, bytes: &[u8], has_lines: bool) -> Result<(), AllocError>
-    ensures { OnOk result (string_bytes text.new ≡ string_bytes text.old ++ sanitized_in has_lines bytes.now) }
+    ensures added { OnOk result (string_bytes text.new ≡ string_bytes text.old ++ sanitized_in has_lines bytes.now) }
+    ensures kept { StartsWith (string_bytes text.new) (string_bytes text.old) }
 {
     let mut rest = bytes;
     while !rest.is_empty() {
@@ -76,7 +79,8 @@ fn push_chunks(text: &mut String, bytes: &[u8], has_lines: bool) -> Result<(), A
 
 /// Appends the sanitized bytes. Bytes that are all printable ASCII are copied at once.
 fn push_sanitized_in(text: &mut String, bytes: &[u8], has_lines: bool) -> Result<(), AllocError>
-    ensures { OnOk result (string_bytes text.new ≡ string_bytes text.old ++ sanitized_in has_lines bytes.now) }
+    ensures added { OnOk result (string_bytes text.new ≡ string_bytes text.old ++ sanitized_in has_lines bytes.now) }
+    ensures kept { StartsWith (string_bytes text.new) (string_bytes text.old) }
 {
     if are_printable_bytes(bytes, has_lines)
         && let Ok(plain) = from_utf8(bytes)
@@ -88,14 +92,16 @@ fn push_sanitized_in(text: &mut String, bytes: &[u8], has_lines: bool) -> Result
 
 /// Appends a sanitized value, name or URL. The result contains no line end.
 pub fn push_sanitized(text: &mut String, bytes: &[u8]) -> Result<(), AllocError>
-    ensures { OnOk result (string_bytes text.new ≡ string_bytes text.old ++ sanitized bytes.now) }
+    ensures added { OnOk result (string_bytes text.new ≡ string_bytes text.old ++ sanitized bytes.now) }
+    ensures kept { StartsWith (string_bytes text.new) (string_bytes text.old) }
 {
     push_sanitized_in(text, bytes, false)
 }
 
 /// Appends a sanitized text that may have several lines.
 pub fn push_sanitized_lines(text: &mut String, bytes: &[u8]) -> Result<(), AllocError>
-    ensures { OnOk result (string_bytes text.new ≡ string_bytes text.old ++ sanitized_lines bytes.now) }
+    ensures added { OnOk result (string_bytes text.new ≡ string_bytes text.old ++ sanitized_lines bytes.now) }
+    ensures kept { StartsWith (string_bytes text.new) (string_bytes text.old) }
 {
     push_sanitized_in(text, bytes, true)
 }

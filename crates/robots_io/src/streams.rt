@@ -1,5 +1,5 @@
 //! Input and output: reading a complete input, and writing a complete report.
-ghost use Rattle.std.specs.Prelude.{◌≡◌, ◌+◌, IfErr, IfOk, IfSome, OnOk};
+ghost use Rattle.std.specs.Prelude.{◌≡◌, ◌≢◌, ◌+◌, [], IfErr, IfOk, IfSome, IsErrOf, OnOk};
 ghost use Rattle.std.specs.Io.{ReadsAtMost};
 ghost use Rattle.std.specs.Io.KnownBytes.{Appends, ReadConsumes};
 ghost use Rattle.robots_io.specs.Streams.{AppendsBeginning};
@@ -59,8 +59,10 @@ fn read_chunk<R: Read>(reader: &mut R, left: &mut u32, chunk: &mut [u8]) -> Resu
 /// # Errors
 ///
 /// `ReadFault::Read` if a read fails or more than 1,048,576 are needed, and `ReadFault::Memory` if an allocation fails.
+/// An empty input needs no allocation.
 pub fn read_all<R: Read>(alloc: Global, reader: &mut R) -> Result<Vec<u8>, ReadFault>
-    ensures { IfOk result (λ all. IfSome (R.remaining reader.old) (λ input. all.items ≡ input)) }
+    ensures all { IfOk result (λ all. IfSome (R.remaining reader.old) (λ input. all.items ≡ input)) }
+    ensures memory { IsErrOf result ReadFault.Memory → IfSome (R.remaining reader.old) (λ input. input ≢ []) }
 {
     let mut all = Vec::new(alloc);
     let mut chunk = [0u8; CHUNK_LEN];

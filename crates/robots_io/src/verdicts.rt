@@ -1,5 +1,6 @@
 //! Verdicts on URLs, and how the programs print them.
 ghost use Rattle.std.specs.Prelude.{◌≡◌, ◌++◌, IfErr, IfOk, OnOk, string_bytes};
+ghost use Rattle.std.specs.Io.{StartsWith};
 ghost use Rattle.robots_io.specs.Verdicts.{IsDecisionOn, line_text, verdict_front, verdict_word};
 
 use crate::lines::push_number;
@@ -43,7 +44,8 @@ fn verdict_word(allowed: bool) -> &'static str
 
 /// Appends the number of the deciding line, or `-` if there is none.
 fn push_line_number(text: &mut String, line: Option<usize>) -> Result<(), AllocError>
-    ensures { OnOk result (string_bytes text.new ≡ string_bytes text.old ++ line_text line) }
+    ensures added { OnOk result (string_bytes text.new ≡ string_bytes text.old ++ line_text line) }
+    ensures kept { StartsWith (string_bytes text.new) (string_bytes text.old) }
 {
     match line {
         Some(number) => push_number(text, number),
@@ -51,10 +53,12 @@ fn push_line_number(text: &mut String, line: Option<usize>) -> Result<(), AllocE
     }
 }
 
-/// Appends the part of a verdict's line that precedes the URL.
+/// Appends the part of a verdict's line that precedes the URL. If an allocation fails, the text may end with the start
+/// of that part.
 pub fn push_decision(text: &mut String, decision: &Decision) -> Result<(), AllocError>
-    ensures { OnOk result (string_bytes text.new ≡ string_bytes text.old
+    ensures added { OnOk result (string_bytes text.new ≡ string_bytes text.old
         ++ verdict_front decision.now.allowed decision.now.line) }
+    ensures kept { StartsWith (string_bytes text.new) (string_bytes text.old) }
 {
     text.push_str(verdict_word(decision.allowed))?;
     push_line_number(text, decision.line)?;

@@ -7,7 +7,7 @@ use Rattle.robots_audit.proofs.program.run.Goals as goal
 
 pub returns-in_err-write_out : goal.returns-in_err-write_out
 returns-in_err-write_out g c =
-    broken_off _ _ c.from_residual-in_err-write_out.result _ (search rules) c.in_ok-input.ensures (
+    broken_off _ _ c.from_residual-in_err-write_out.result _ (search rules) c.in_ok-input.ensures.all (
       audit_value c.in_ok-audit.audit,
       rw c.as_slice.ensures.value at c.in_ok-audit.ensures.ok,
       rw (c.as_bytes.ensures.value, c.in_ok-text.ensures) at c.write_out.ensures.beginning,
@@ -16,11 +16,11 @@ returns-in_err-write_out g c =
 pub returns-in_err-audit : goal.returns-in_err-audit
 returns-in_err-audit g c =
     failed _ _ c.from_residual-in_err-audit.result _ _ c.in_err-audit.field-0.0 (search rules)
-    c.in_ok-input.ensures c.as_slice.ensures.value c.in_err-audit.ensures.fault (search rules)
+    c.in_ok-input.ensures.all c.as_slice.ensures.value c.in_err-audit.ensures.fault (search rules)
 
 pub returns : goal.returns
 returns g c = record {
-  reported = for_left _ _ (AuditsFile _ _ _) c.in_ok-input.ensures (record {
+  reported = for_left _ _ (AuditsFile _ _ _) c.in_ok-input.ensures.all (record {
     ok = (
       audit_value c.in_ok-audit.audit,
       rw c.as_slice.ensures.value at c.in_ok-audit.ensures.ok,

@@ -3,18 +3,18 @@ use Rattle.robots_verdict.proofs.program.run.Goals as goal
 
 pub returns-in_err-text-clause-no_empty_line : goal.returns-in_err-text-clause-no_empty_line
 returns-in_err-text-clause-no_empty_line g c = run_fault _ _ _ c.from_residual-in_err-text.result _ _
-    c.in_ok-input.ensures c.deref.ensures.value c.in_err-text.ensures.fault
+    c.in_ok-input.ensures.all c.deref.ensures.value c.in_err-text.ensures.fault
     c.from_residual-in_err-text.ensures.1 (λ e. cc)
 
 pub returns-in_err-text-clause-invalid_rule : goal.returns-in_err-text-clause-invalid_rule
 returns-in_err-text-clause-invalid_rule g c = run_fault _ _ _ c.from_residual-in_err-text.result _ _
-    c.in_ok-input.ensures c.deref.ensures.value c.in_err-text.ensures.fault
+    c.in_ok-input.ensures.all c.deref.ensures.value c.in_err-text.ensures.fault
     c.from_residual-in_err-text.ensures.1 (λ e. cc)
 
 pub returns-clause-ok : goal.returns-clause-ok
-returns-clause-ok g c = run_ok _ _ _ _ _ _ _ c.in_ok-input.ensures c.deref.ensures.value
+returns-clause-ok g c = run_ok _ _ _ _ _ _ _ c.in_ok-input.ensures.all c.deref.ensures.value
     c.in_ok-text.ensures.ok c.as_bytes.ensures.value c.in_ok-write_out.ensures.ok
 
 pub returns-in_err-write_out-clause-beginning : goal.returns-in_err-write_out-clause-beginning
-returns-in_err-write_out-clause-beginning g c = λ is. run_beginning _ _ _ _ _ _ _ c.in_ok-input.ensures
+returns-in_err-write_out-clause-beginning g c = λ is. run_beginning _ _ _ _ _ _ _ c.in_ok-input.ensures.all
     c.deref.ensures.value c.in_ok-text.ensures.ok c.as_bytes.ensures.value c.write_out.ensures.beginning
