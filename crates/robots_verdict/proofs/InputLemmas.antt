@@ -14,7 +14,7 @@ use Rattle.std.proofs.lemmas.List.{length-append, length-map, take-append-drop}
 use Rattle.robots_verdict.specs.declared.fault.Fault.{Fault}
 use Rattle.robots_verdict.specs.declared.fault.Fault.TheVariants.{HeaderNotUtf8, Memory}
 use Rattle.robots_io.specs.Lines.{lf}
-use Rattle.robots_verdict.specs.Input.{AreUtf8, HoldNotUtf8}
+use Rattle.robots_verdict.specs.Input.{AreUtf8, HasNoUrl, HoldNotUtf8}
 use Rattle.robots_verdict.specs.Input.{AreUrlLines, BeginsWithLine, IsInput, IsOneLine, cr}
 use Rattle.robots_verdict.specs.Internal.{IsFirstLf}
 
@@ -191,6 +191,41 @@ one_split input agent other urls others file rest one two =
     let url_lines = subst (λ t. AreUrlLines t urls file) first.1 one.url_lines in
     let later = same_lines urls others two.rest file rest url_lines two.url_lines in
     (first.0, later.0, later.1)
+
+-- a URL was found
+pub some_url : (input agent start rest url next : List ℕ) (urls : List (List ℕ))
+    → BeginsWithLine input agent start → GoesOn start urls rest → BeginsWithLine rest url next
+    → url ≢ [] → ¬ HasNoUrl input
+some_url input agent start rest url next urls line goes here filled (other, file, is) =
+    let same = line_once input agent other start is.rest line is.agent_line in
+    let back = (goes_more start rest next url urls goes here filled).to_rest [] file
+    (subst (λ t. AreUrlLines t [] file) (sym same.1) is.url_lines) in
+    omega (
+      arith,
+      ap length back.1,
+      length-append (urls ++ url ∷ []) back.0,
+      length-append urls (url ∷ []),
+    )
+
+-- so an allocation may have failed
+pub memory_asked : {X : Type 0} (r : Result X Fault) (input : List ℕ) → (¬ HasNoUrl input)
+    → IfErr r (λ fault. fault ≡ Memory → ¬ HasNoUrl input)
+memory_asked (Ok x) input some = tt
+memory_asked (Err fault) input some = λ _. some
+
+no_items : (urls : List (Bor (List ℕ))) → map (λ url. url.now) urls ≡ [] → urls ≡ []
+no_items [] none = refl
+no_items (url ∷ urls) none = absurd (cc)
+
+-- the same, as there are URLs
+pub texts_asked : {X : Type 0} (r : Result X Fault) (fault : Fault) (urls : List (Bor (List ℕ)))
+    (input agent file : List ℕ) → IsErrAnd r (λ other. other ≡ fault) → (fault ≡ Memory → urls ≢ [])
+    → IsInput input agent (map (λ url. url.now) urls) file
+    → IfErr r (λ fault. fault ≡ Memory → ¬ HasNoUrl input)
+texts_asked (Ok x) fault urls input agent file is some split = tt
+texts_asked (Err e) fault urls input agent file is some split = λ memory (other, rest, none).
+    some (sym is ∙ memory)
+    (no_items urls (one_split input agent other _ [] file rest split none).1)
 
 -- ---- empty and nonempty strings
 

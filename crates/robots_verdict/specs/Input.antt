@@ -29,6 +29,10 @@ pub record IsInput (input agent : List ℕ) (urls : List (List ℕ)) (file : Lis
   pub agent_line : BeginsWithLine input agent rest
   pub url_lines : AreUrlLines rest urls file
 
+-- the input consists of a crawler's name and a file, without URLs
+abbrev pub HasNoUrl : List ℕ → Type 0
+HasNoUrl input = (agent : List ℕ) × (file : List ℕ) × IsInput input agent [] file
+
 -- the crawler's name and each URL are UTF-8
 abbrev pub AreUtf8 : List ℕ → List (List ℕ) → Type 0
 AreUtf8 agent urls = IsUtf8 agent × Each IsUtf8 urls

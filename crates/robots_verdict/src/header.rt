@@ -1,8 +1,8 @@
 //! The header of an input: the crawler's name and the URLs.
-ghost use Rattle.std.specs.Prelude.{◌≡◌, ◌≢◌, Any, IfErr, IfOk, IsUtf8, MatchOption, map};
+ghost use Rattle.std.specs.Prelude.{◌≡◌, ◌≢◌, [], Any, IfErr, IfOk, IsUtf8, MatchOption, map};
 ghost use Rattle.std.specs.Io.BufRead.{strip_last};
 ghost use Rattle.std.specs.List.{AllByRecursion as Each};
-ghost use Rattle.robots_verdict.specs.Input.{AreUtf8, BeginsWithLine, IsInput, IsOneLine, cr};
+ghost use Rattle.robots_verdict.specs.Input.{AreUtf8, BeginsWithLine, HasNoUrl, IsInput, IsOneLine, cr};
 ghost use Rattle.robots_verdict.specs.Report.{HasFault};
 ghost use Rattle.robots_verdict.specs.Internal.{IsFirstLf};
 
@@ -57,6 +57,7 @@ fn split<'a>(alloc: Global, input: &'a [u8]) -> Result<RawInput<'a>, Fault>
     ensures ok { IfOk result (λ parts. IsInput input.now parts.agent.now
         (map (λ url. url.now) parts.urls.items) parts.file.now) }
     ensures fault { IfErr result (λ fault. fault ≢ Fault.Memory → HasFault input.now fault) }
+    ensures memory { IfErr result (λ fault. fault ≡ Fault.Memory → ¬ HasNoUrl input.now) }
 {
     let Some((agent, mut rest)) = first_line(input) else {
         return Err(Fault::NoEmptyLine);
@@ -93,6 +94,7 @@ fn texts_of<'a>(alloc: Global, urls: &[&'a [u8]]) -> Result<Vec<&'a str>, Fault>
         × Each IsUtf8 (map (λ url. url.now) urls.now)) }
     ensures fault { IfErr result (λ fault. fault ≢ Fault.Memory → (fault ≡ Fault.HeaderNotUtf8)
         × Any (λ url. ¬ IsUtf8 url) (map (λ url. url.now) urls.now)) }
+    ensures memory { IfErr result (λ fault. fault ≡ Fault.Memory → urls.now ≢ []) }
 {
     let mut texts = Vec::new(alloc);
     for url in urls {
@@ -101,13 +103,14 @@ fn texts_of<'a>(alloc: Global, urls: &[&'a [u8]]) -> Result<Vec<&'a str>, Fault>
     Ok(texts)
 }
 
-/// Parses the header of an input. If both errors apply, it returns `NoEmptyLine`.
+/// Parses the header of an input. If both errors apply, it returns `NoEmptyLine`. Only URLs need allocations.
 pub(crate) fn read_header<'a>(alloc: Global, input: &'a [u8]) -> Result<Header<'a>, Fault>
     ensures input { IfOk result (λ header. IsInput input.now header.agent.now
         (map (λ url. url.now) header.urls.items) header.file.now) }
     ensures texts { IfOk result (λ header. AreUtf8 header.agent.now
         (map (λ url. url.now) header.urls.items)) }
     ensures fault { IfErr result (λ fault. fault ≢ Fault.Memory → HasFault input.now fault) }
+    ensures memory { IfErr result (λ fault. fault ≡ Fault.Memory → ¬ HasNoUrl input.now) }
 {
     let parts = split(alloc, input)?;
     Ok(Header {
