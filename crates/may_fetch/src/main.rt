@@ -11,7 +11,8 @@ fn print_verdict(rt: &HostRuntime, robot: &Robot, url: &str) -> io::Result<()> {
     match robot.allowed(rt.alloc(), url) {
         Ok(true) => println!(rt; "allow {url}"),
         Ok(false) => println!(rt; "deny {url}"),
-        Err(_) => Err(io::Error::from(ErrorKind::OutOfMemory)),
+        Err(Error::Memory) => Err(io::Error::from(ErrorKind::OutOfMemory)),
+        Err(Error::InvalidRobots | Error::InvalidRule) => unreachable!(),
     }
 }
 

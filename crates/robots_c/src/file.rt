@@ -40,7 +40,7 @@ pub(crate) fn robot_of(alloc: Global, agent: &[u8], file: &[u8]) -> Result<Robot
             agent,
             bytes_read(file),
         )?)),
-        Err(_) => Err(Fault::Memory),
+        Err(Error::Memory | Error::InvalidRobots) => Err(Fault::Memory),
     }
 }
 

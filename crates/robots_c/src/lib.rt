@@ -35,7 +35,7 @@ use file::delay_of;
 use handle::{close, opened, query_delay};
 use kept::{Handle, Kept};
 use matrix::{matrix_by, matrix_of};
-use std::alloc::Global;
+use std::alloc::{AllocError, Global};
 use texting_robots::{Robot, Site};
 use texts::{address, agents_of, put, sitemaps_of};
 use urls::{decide, query, query_many};
@@ -130,7 +130,7 @@ pub extern "C" fn robots_sitemaps(
 {
     match sitemaps_of(alloc, file) {
         Ok(text) => put(&text, out, len),
-        Err(_) => Fault::Memory.status(),
+        Err(AllocError) => Fault::Memory.status(),
     }
 }
 
@@ -147,7 +147,7 @@ pub extern "C" fn robots_agents(alloc: Global, file: &[u8], out: &mut [u8], len:
 {
     match agents_of(alloc, file) {
         Ok(text) => put(&text, out, len),
-        Err(_) => Fault::Memory.status(),
+        Err(AllocError) => Fault::Memory.status(),
     }
 }
 

@@ -21,7 +21,8 @@ fn target_of(alloc: Global, url: &str) -> Result<String, AllocError>
 {
     match Robot::prepare_url(alloc, url) {
         Ok(target) => Ok(target),
-        Err(_) => Err(AllocError),
+        Err(Error::Memory) => Err(AllocError),
+        Err(Error::InvalidRobots | Error::InvalidRule) => unreachable!(),
     }
 }
 
@@ -64,7 +65,7 @@ fn row_of(
             Ok(row)
         }
         Err(Error::InvalidRule) => vec![in alloc; NO_RESULT; targets.len()],
-        Err(_) => Err(AllocError),
+        Err(Error::Memory | Error::InvalidRobots) => Err(AllocError),
     }
 }
 

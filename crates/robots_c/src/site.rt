@@ -11,7 +11,7 @@ use crate::handle::for_any_thread;
 use crate::kept::{Handle, Kept};
 use crate::overlong::first_overlong_line;
 use crate::texts::{agents_in, put, sitemaps_in};
-use std::alloc::Global;
+use std::alloc::{AllocError, Global};
 use texting_robots::{Error, Robot, Site};
 
 /// Frees a site that C returns.
@@ -54,7 +54,7 @@ fn robot(alloc: Global, site: &Site, agent: &[u8]) -> Result<Box<Robot>, Fault>
             agent,
             site.text(),
         )?)),
-        Err(_) => Err(Fault::Memory),
+        Err(Error::Memory | Error::InvalidRobots) => Err(Fault::Memory),
     }
 }
 
@@ -102,7 +102,7 @@ pub(crate) fn sitemaps(alloc: Global, site: &Site, out: &mut [u8], len: &mut usi
 {
     match sitemaps_in(alloc, site) {
         Ok(text) => put(&text, out, len),
-        Err(_) => Fault::Memory.status(),
+        Err(AllocError) => Fault::Memory.status(),
     }
 }
 
@@ -116,7 +116,7 @@ pub(crate) fn agents(alloc: Global, site: &Site, out: &mut [u8], len: &mut usize
 {
     match agents_in(alloc, site) {
         Ok(text) => put(&text, out, len),
-        Err(_) => Fault::Memory.status(),
+        Err(AllocError) => Fault::Memory.status(),
     }
 }
 

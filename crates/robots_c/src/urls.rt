@@ -9,7 +9,7 @@ ghost use Rattle.texting_robots.specs.Callers.{IsAllocationFree};
 use crate::fault::Fault;
 use crate::file::{robot_of, text_of};
 use std::alloc::{AllocError, Global};
-use texting_robots::{Decision, Robot};
+use texting_robots::{Decision, Error, Robot};
 
 /// A decision as a number: that of the deciding line, negative if the crawler may not fetch the URL, and 0 if no line
 /// decides.
@@ -40,7 +40,8 @@ fn number_for(alloc: Global, robot: &Robot, url: &str) -> Result<i64, AllocError
 {
     match robot.decide(alloc, url) {
         Ok(decision) => Ok(number_of(decision)),
-        Err(_) => Err(AllocError),
+        Err(Error::Memory) => Err(AllocError),
+        Err(Error::InvalidRobots | Error::InvalidRule) => unreachable!(),
     }
 }
 
@@ -53,7 +54,7 @@ pub(crate) fn result_for(alloc: Global, robot: &Robot, url: &[u8]) -> Result<i64
     let url = text_of(url)?;
     match number_for(alloc, robot, url) {
         Ok(number) => Ok(number),
-        Err(_) => Err(Fault::Memory),
+        Err(AllocError) => Err(Fault::Memory),
     }
 }
 

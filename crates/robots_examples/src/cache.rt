@@ -7,7 +7,7 @@ ghost use Rattle.robots_examples.specs.declared.cache.CacheError.TheVariants.{Me
 ghost use Rattle.texting_robots.specs.Callers.{IsRobotOfFile, file_limit, robots_address};
 
 use indexmap::IndexMap;
-use std::alloc::Global;
+use std::alloc::{AllocFailed, Global};
 use texting_robots::{Robot, get_robots_url};
 use thiserror::Error;
 use url::ParseError;
@@ -51,6 +51,17 @@ impl From<texting_robots::Error> for CacheError {
     }
 }
 
+impl<T: Drop> From<AllocFailed<T>> for CacheError {
+    ghost use Rattle.std.specs.Prelude.{◌≡◌};
+    ghost use Rattle.robots_examples.specs.declared.cache.CacheError.TheVariants.{Memory};
+
+    ghost from_gives = { λ _ error. error ≡ Memory };
+
+    fn from(_: AllocFailed<T>) -> Self {
+        CacheError::Memory
+    }
+}
+
 /// Removes the robot of the oldest site, if there is one.
 fn forget_oldest(robots: &mut IndexMap<String, Robot>)
     ensures { robots.new.entries ≡ remove robots.old.entries 0 }
@@ -86,10 +97,8 @@ fn add(
     ensures absent { OnErr result (get_by_text robots.old (string_bytes address) ≡ None) }
     ensures rejected { IfErr result (λ error. error ≡ Memory) }
 {
-    match robots.insert(address, robot) {
-        Ok(_) => Ok(()),
-        Err(_) => Err(CacheError::Memory),
-    }
+    robots.insert(address, robot)?;
+    Ok(())
 }
 
 /// The robots of at most [`MAX_ROBOTS`] sites for one crawler, whose product token is passed to each call. A new site
