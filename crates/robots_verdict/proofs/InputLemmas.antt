@@ -192,6 +192,15 @@ one_split input agent other urls others file rest one two =
     let later = same_lines urls others two.rest file rest url_lines two.url_lines in
     (first.0, later.0, later.1)
 
+pub not_empty : (input text rest : List ℕ) → BeginsWithLine input text rest → input ≢ []
+not_empty input text rest is = λ empty. omega (arith, rest_shorter input text rest is, ap length empty)
+
+-- an input that has its parts isn't empty
+pub some_input : {X : Type 0} (r : Result X Fault) (input agent : List ℕ) (urls : List (List ℕ))
+    (file : List ℕ) → IsInput input agent urls file → IfErr r (λ fault. fault ≡ Memory → input ≢ [])
+some_input (Ok x) input agent urls file is = tt
+some_input (Err fault) input agent urls file is = λ _. not_empty input agent is.rest is.agent_line
+
 -- a URL was found
 pub some_url : (input agent start rest url next : List ℕ) (urls : List (List ℕ))
     → BeginsWithLine input agent start → GoesOn start urls rest → BeginsWithLine rest url next
@@ -208,24 +217,27 @@ some_url input agent start rest url next urls line goes here filled (other, file
     )
 
 -- so an allocation may have failed
-pub memory_asked : {X : Type 0} (r : Result X Fault) (input : List ℕ) → (¬ HasNoUrl input)
-    → IfErr r (λ fault. fault ≡ Memory → ¬ HasNoUrl input)
-memory_asked (Ok x) input some = tt
-memory_asked (Err fault) input some = λ _. some
+pub url_allocated : {X : Type 0} (r : Result X Fault) (input agent start : List ℕ)
+    → BeginsWithLine input agent start → (¬ HasNoUrl input)
+    → IfErr r (λ fault. fault ≡ Memory → (input ≢ []) × ¬ HasNoUrl input)
+url_allocated (Ok x) input agent start line some = tt
+url_allocated (Err fault) input agent start line some = λ _. (not_empty input agent start line, some)
 
 no_items : (urls : List (Bor (List ℕ))) → map (λ url. url.now) urls ≡ [] → urls ≡ []
 no_items [] none = refl
 no_items (url ∷ urls) none = absurd (cc)
 
--- the same, as there are URLs
-pub texts_asked : {X : Type 0} (r : Result X Fault) (fault : Fault) (urls : List (Bor (List ℕ)))
+-- the same, if there are URLs
+pub urls_allocated : {X : Type 0} (r : Result X Fault) (fault : Fault) (urls : List (Bor (List ℕ)))
     (input agent file : List ℕ) → IsErrAnd r (λ other. other ≡ fault) → (fault ≡ Memory → urls ≢ [])
     → IsInput input agent (map (λ url. url.now) urls) file
-    → IfErr r (λ fault. fault ≡ Memory → ¬ HasNoUrl input)
-texts_asked (Ok x) fault urls input agent file is some split = tt
-texts_asked (Err e) fault urls input agent file is some split = λ memory (other, rest, none).
-    some (sym is ∙ memory)
-    (no_items urls (one_split input agent other _ [] file rest split none).1)
+    → IfErr r (λ fault. fault ≡ Memory → (input ≢ []) × ¬ HasNoUrl input)
+urls_allocated (Ok x) fault urls input agent file is some split = tt
+urls_allocated (Err e) fault urls input agent file is some split = λ memory. (
+  not_empty input agent split.rest split.agent_line,
+  λ (other, rest, none).
+      some (sym is ∙ memory) (no_items urls (one_split input agent other _ [] file rest split none).1),
+)
 
 -- ---- empty and nonempty strings
 

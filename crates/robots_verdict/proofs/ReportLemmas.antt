@@ -7,9 +7,12 @@ use Rattle.texting_robots.specs.Callers.{IsFileRejected, IsRobotOf, RobotValue, 
 use Rattle.texting_robots.specs.Callers.{lines_read, placed_rules, sitemaps_in}
 use Rattle.texting_robots.proofs.GivenLemmas.{delay_is_computed, sitemaps_are_computed}
 use Rattle.texting_robots.proofs.MainTheoremLemmas.{answers_computed}
+use Rattle.robots_io.specs.declared.streams.ReadFault.{ReadFault}
+use Rattle.robots_io.specs.declared.streams.ReadFault.TheVariants as reading
 use Rattle.robots_verdict.specs.declared.fault.Fault.{Fault}
 use Rattle.robots_verdict.specs.declared.fault.Fault.TheVariants.{HeaderNotUtf8, InvalidRule}
 use Rattle.robots_verdict.specs.declared.fault.Fault.TheVariants.{Memory, NoEmptyLine, Read, Write}
+use Rattle.robots_verdict.specs.Fault.{fault_of_read}
 use Rattle.robots_io.specs.Streams.{AppendsBeginning}
 use Rattle.robots_io.specs.Lines.{ended}
 use Rattle.robots_io.specs.Verdicts.{AddsVerdicts}
@@ -160,3 +163,23 @@ run_fault {X = X} (Some input) items bytes (Err e) fault wanted read same has is
     let found : fault ≡ wanted = cc in
     subst (λ t. HasFault t wanted) (same ∙ read)
     (subst (λ f. HasFault bytes f) found (has (λ memory. known (sym found ∙ memory))))
+
+pub run_memory : {X : Type 0} (left : Option (List ℕ)) (items bytes : List ℕ)
+    (r : Result X Fault) (fault : Fault)
+    → IfSome left (λ input. items ≡ input) → bytes ≡ items → (fault ≡ Memory → bytes ≢ [])
+    → IsErrAnd r (λ other. other ≡ fault) → r ≡ Err Memory → IfSome left (λ input. input ≢ [])
+run_memory left items bytes (Ok x) fault read same some is answer = absurd is
+run_memory None items bytes (Err e) fault read same some is answer = tt
+run_memory {X = X} (Some input) items bytes (Err e) fault read same some is answer =
+    let errors : ◌≡◌ {A = Result X Fault} (Err e) (Err Memory) = answer in
+    let found : fault ≡ Memory = cc in
+    λ empty. some found (same ∙ read ∙ empty)
+
+pub run_unread : {X P : Type 0} (r : Result X Fault) (fault : ReadFault)
+    → IsErrAnd r (λ own. own ≡ fault_of_read fault) → (fault ≡ reading.Memory → P)
+    → r ≡ Err Memory → P
+run_unread (Ok x) fault is some answer = absurd is
+run_unread {X = X} (Err e) reading.Read is some answer =
+    let errors : ◌≡◌ {A = Result X Fault} (Err e) (Err Memory) = answer in
+    absurd (cc)
+run_unread (Err e) reading.Memory is some answer = some refl

@@ -57,7 +57,7 @@ fn split<'a>(alloc: Global, input: &'a [u8]) -> Result<RawInput<'a>, Fault>
     ensures ok { IfOk result (λ parts. IsInput input.now parts.agent.now
         (map (λ url. url.now) parts.urls.items) parts.file.now) }
     ensures fault { IfErr result (λ fault. fault ≢ Fault.Memory → HasFault input.now fault) }
-    ensures memory { IfErr result (λ fault. fault ≡ Fault.Memory → ¬ HasNoUrl input.now) }
+    ensures memory { IfErr result (λ fault. fault ≡ Fault.Memory → (input.now ≢ []) × ¬ HasNoUrl input.now) }
 {
     let Some((agent, mut rest)) = first_line(input) else {
         return Err(Fault::NoEmptyLine);
@@ -110,7 +110,7 @@ pub(crate) fn read_header<'a>(alloc: Global, input: &'a [u8]) -> Result<Header<'
     ensures texts { IfOk result (λ header. AreUtf8 header.agent.now
         (map (λ url. url.now) header.urls.items)) }
     ensures fault { IfErr result (λ fault. fault ≢ Fault.Memory → HasFault input.now fault) }
-    ensures memory { IfErr result (λ fault. fault ≡ Fault.Memory → ¬ HasNoUrl input.now) }
+    ensures memory { IfErr result (λ fault. fault ≡ Fault.Memory → (input.now ≢ []) × ¬ HasNoUrl input.now) }
 {
     let parts = split(alloc, input)?;
     Ok(Header {

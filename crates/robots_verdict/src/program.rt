@@ -1,5 +1,5 @@
 //! The program for any reader and writer.
-ghost use Rattle.std.specs.Prelude.{◌≢◌, Err, IfErr, IfSome, IsErrOf, OnOk};
+ghost use Rattle.std.specs.Prelude.{◌≢◌, [], Err, IfErr, IfSome, IsErrOf, OnOk};
 ghost use Rattle.std.specs.Io.KnownBytes.{Keeps};
 ghost use Rattle.robots_verdict.specs.Report.{AppendsReport, AppendsReportBeginning, IsReport};
 
@@ -17,8 +17,8 @@ use std::io::{Read, Write};
 /// # Errors
 ///
 /// `Fault::Read` if a read failed or too many would be needed, `Fault::Write` if a write or a flush failed or a write
-/// accepted no bytes, and `Fault::Memory` if an allocation failed or a URL is too long for `url`. The contract doesn't
-/// state when these occur. The other errors are those of the input.
+/// accepted no bytes, and `Fault::Memory` if an allocation failed or a URL is too long for `url`. Of these, the contract
+/// states only that an empty input doesn't lead to `Fault::Memory`. The other errors are those of the input.
 pub fn run<R: Read, W: Write>(alloc: Global, reader: &mut R, writer: &mut W) -> Result<(), Fault>
     ensures ok { OnOk result (IfSome (R.remaining reader.old) (AppendsReport (W.contents writer.old) (W.contents writer.new))) }
     ensures no_empty_line { IsErrOf result Fault.NoEmptyLine
@@ -27,6 +27,7 @@ pub fn run<R: Read, W: Write>(alloc: Global, reader: &mut R, writer: &mut W) -> 
         → IfSome (R.remaining reader.old) (λ input. IsReport input (Err Fault.HeaderNotUtf8)) }
     ensures invalid_rule { IsErrOf result Fault.InvalidRule
         → IfSome (R.remaining reader.old) (λ input. IsReport input (Err Fault.InvalidRule)) }
+    ensures memory { IsErrOf result Fault.Memory → IfSome (R.remaining reader.old) (λ input. input ≢ []) }
     ensures nothing_written { IfErr result (λ fault. fault ≢ Fault.Write
         → Keeps (W.contents writer.old) (W.contents writer.new)) }
     ensures beginning { IsErrOf result Fault.Write

@@ -65,6 +65,7 @@ fn push_verdicts(
 pub(crate) fn report_of(alloc: Global, input: &[u8]) -> Result<String, Fault>
     ensures ok { IfOk result (λ text. IsReport input.now (Ok (string_bytes text))) }
     ensures fault { IfErr result (λ fault. fault ≢ Fault.Memory → HasFault input.now fault) }
+    ensures memory { IfErr result (λ fault. fault ≡ Fault.Memory → input.now ≢ []) }
 {
     let header = read_header(alloc, input)?;
     let robot = Robot::new(alloc, header.agent, header.file)?;

@@ -1,4 +1,4 @@
-use Rattle.robots_verdict.proofs.ReportLemmas.{run_beginning, run_fault, run_ok}
+use Rattle.robots_verdict.proofs.ReportLemmas.{run_beginning, run_fault, run_memory, run_ok, run_unread}
 use Rattle.robots_verdict.proofs.program.run.Goals as goal
 
 pub returns-in_err-text-clause-no_empty_line : goal.returns-in_err-text-clause-no_empty_line
@@ -10,6 +10,15 @@ pub returns-in_err-text-clause-invalid_rule : goal.returns-in_err-text-clause-in
 returns-in_err-text-clause-invalid_rule g c = run_fault _ _ _ c.from_residual-in_err-text.result _ _
     c.in_ok-input.ensures.all c.deref.ensures.value c.in_err-text.ensures.fault
     c.from_residual-in_err-text.ensures.1 (λ e. cc)
+
+pub returns-in_err-input-clause-memory : goal.returns-in_err-input-clause-memory
+returns-in_err-input-clause-memory g c = run_unread c.from_residual-in_err-input.result c.in_err-input.field-0.0
+    c.from_residual-in_err-input.ensures.1 c.in_err-input.ensures.memory
+
+pub returns-in_err-text-clause-memory : goal.returns-in_err-text-clause-memory
+returns-in_err-text-clause-memory g c = run_memory _ _ _ c.from_residual-in_err-text.result _
+    c.in_ok-input.ensures.all c.deref.ensures.value c.in_err-text.ensures.memory
+    c.from_residual-in_err-text.ensures.1
 
 pub returns-clause-ok : goal.returns-clause-ok
 returns-clause-ok g c = run_ok _ _ _ _ _ _ _ c.in_ok-input.ensures.all c.deref.ensures.value
