@@ -1,11 +1,13 @@
 """Each allocation of a program fails in turn, and so does each read and write: the program gives the right result or reports the
-failure, writes nothing else, and frees all that it allocated.
+failure, writes nothing else, and frees all that it allocated. If no allocation fails, none is reported, whatever the size of an input.
 
 The program robots_fault_injection makes each call of the libraries that its input names. `rt ci` runs it with enough memory, on large inputs
 too.
 """
 
+import json
 import os
+import re
 import tempfile
 from itertools import count
 
@@ -14,7 +16,7 @@ from support import CRATES, Result, run, warning_line
 
 CALLS = [line.removesuffix(": right") for line in (CRATES / "robots_fault_injection/stdout").read_text().splitlines()]
 WITHOUT_MEMORY = [name for name in CALLS if name.endswith(" without memory")]
-WITH_MEMORY = [name for name in CALLS if not name.endswith((" without memory", " on large inputs"))]
+WITH_MEMORY = [name for name in CALLS if not re.search(r" without memory$| on large inputs$| of each (size|number)\b", name)]
 # The call that makes what those without memory use.
 SET_UP = "a robot, two patterns and a URL"
 
@@ -183,3 +185,34 @@ def test_robots_verdict_reads_at_most_1048576_times(failing_heap, size):
         result = program()
     ended = Result(0, "delay none\n", "") if size == 1_048_575 else Result(1, "", "robots_verdict: reading the input failed\n")
     assert (result, program.reads) == (ended, 1_048_576)
+
+
+SIZES = sorted({max(2**power + more, 1) for power in range(17) for more in (-1, 0, 1)})
+
+# By what has a size: the crawler, the URLs and the file of a run, and the verdicts that both programs print.
+AT_EACH_SIZE = {
+    "the crawler's name": lambda size: ("a" * size, ["/b"], f"User-agent: {'a' * size}\nDisallow: /", "deny 2 /b\n"),
+    "a path": lambda size: ("a", ["/" + "b" * size], "Disallow: /", f"deny 1 /{'b' * size}\n"),
+    "a host": lambda size: ("a", [f"http://{'h' * size}/é"], "Disallow: /", f"deny 1 http://{'h' * size}/é\n"),
+    "a port": lambda size: ("a", [f"http://h:{min(size, 65_535)}/é"], "Disallow: /", f"deny 1 http://h:{min(size, 65_535)}/é\n"),
+    "the number of URLs": lambda size: ("a", ["/b"] * size, "Disallow: /", "deny 1 /b\n" * size),
+    "a rule": lambda size: ("a", ["/b"], f"Disallow: /{'c' * size}\nDisallow: /", "deny 2 /b\n"),
+    "the number of rules": lambda size: ("a", ["/b"], "Disallow: /\n" * size, "deny 1 /b\n"),
+    "the number of lines": lambda size: ("a", ["/b"], "\n" * size + "Disallow: /", f"deny {size + 1} /b\n"),
+    "a sitemap": lambda size: ("a", ["/b"], f"Disallow: /\nSitemap: {'s' * size}", "deny 1 /b\n"),
+    "the number of sitemaps": lambda size: ("a", ["/b"], "Disallow: /\n" + "Sitemap: s\n" * min(size, 46_000), "deny 1 /b\n"),
+    "the number of agents": lambda size: ("a", ["/b"], "User-agent: *\nDisallow: /\n" + "User-agent: b\n" * min(size, 36_000), "deny 2 /b\n"),
+    "a delay": lambda size: ("a", ["/b"], f"Disallow: /\nCrawl-delay: {size}", "deny 1 /b\n"),
+}
+
+
+@pytest.mark.parametrize("what", AT_EACH_SIZE)
+def test_no_size_is_out_of_memory(what):
+    for size in SIZES:
+        agent, urls, file, verdicts = AT_EACH_SIZE[what](size)
+        verdict = run("robots_verdict", stdin="\n".join([agent, *urls, "", file]).encode())
+        assert (verdict.status, verdict.err, verdict.out.endswith("\n" + verdicts)) == (0, "", True), size
+        audit = run("robots_audit", [agent, *urls], file.encode())
+        assert (audit.status, audit.out.endswith("\n" + verdicts)) == (1, True), (size, audit.err)
+        as_json = run("robots_audit", ["--json", agent, *urls], file.encode())
+        assert (as_json.status, len(json.loads(as_json.out)["agents"][0]["verdicts"])) == (1, len(urls)), (size, as_json.err)

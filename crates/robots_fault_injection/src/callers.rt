@@ -1,4 +1,5 @@
 //! Calls on large inputs: what the programs share, and the examples of callers.
+use crate::examples::{has_verdict, stores};
 use crate::large::{LONG, MANY, long, many_lines};
 use robots_examples::audit::audit;
 use robots_examples::cache::Cache;
@@ -30,14 +31,14 @@ pub(crate) const CALLS: &[(&str, Call)] = &[
     ("robots_io: read_all on large inputs", Call::ReadAll),
     ("robots_io: write_out on large inputs", Call::WriteOut),
     ("robots_io: lines on large inputs", Call::PushLine),
-    ("robots_callers: plan_for on large inputs", Call::Plan),
+    ("robots_examples: plan_for on large inputs", Call::Plan),
     (
-        "robots_callers: count_denied on large inputs",
+        "robots_examples: count_denied on large inputs",
         Call::CountDenied,
     ),
-    ("robots_callers: audit on large inputs", Call::Audit),
-    ("robots_callers: a full cache on large inputs", Call::Cache),
-    ("robots_callers: may_fetch on large inputs", Call::MayFetch),
+    ("robots_examples: audit on large inputs", Call::Audit),
+    ("robots_examples: a full cache on large inputs", Call::Cache),
+    ("robots_examples: may_fetch on large inputs", Call::MayFetch),
 ];
 
 /// Makes a call, and returns whether its result is right.
@@ -140,23 +141,15 @@ fn audits(alloc: Global) -> Result<bool, Error> {
     Ok(audit(alloc, file.as_bytes())?.len() == MANY)
 }
 
-/// Stores the robots of this many sites.
-fn put_sites(alloc: Global, cache: &mut Cache, count: usize) -> Result<(), Error> {
+/// Whether a cache stores the robots of this many sites.
+fn stores_sites(alloc: Global, cache: &mut Cache, count: usize) -> Result<bool, Error> {
     for site in 1..=count {
         let url = format!(in alloc; "https://s{site}.example.com/")?;
-        cache
-            .put(alloc, "Bot", &url, b"")
-            .map_err(|_| Error::Memory)?;
+        if !stores(alloc, cache, &url, b"")? {
+            return Ok(false);
+        }
     }
-    Ok(())
-}
-
-/// Whether a cache has a robot for the site of a page.
-fn has_site(alloc: Global, cache: &Cache, page: &str) -> Result<bool, Error> {
-    match cache.find(alloc, page) {
-        Ok(found) => Ok(found.is_some()),
-        Err(_) => Err(Error::Memory),
-    }
+    Ok(true)
 }
 
 /// Robots of 65 sites, of which the last has a large file and a long URL. The first site's robot is removed for it, and
@@ -165,19 +158,19 @@ fn fills_cache(alloc: Global) -> Result<bool, Error> {
     let file = many_lines(alloc)?;
     let page = long(alloc, &[("https://example.com/", 1), ("b", LONG)])?;
     let mut cache = Cache::new(alloc);
-    put_sites(alloc, &mut cache, 64)?;
-    match cache.put(alloc, "Bot", &page, file.as_bytes()) {
-        Ok(()) => is_full(alloc, &cache, &page),
-        Err(_) => Ok(false),
-    }
+    Ok(
+        stores_sites(alloc, &mut cache, 64)?
+            && stores(alloc, &mut cache, &page, file.as_bytes())?
+            && is_full(alloc, &cache, &page)?,
+    )
 }
 
 fn is_full(alloc: Global, cache: &Cache, page: &str) -> Result<bool, Error> {
     Ok(
-        has_site(alloc, cache, page)?
-            && has_site(alloc, cache, "https://s2.example.com/")?
-            && !has_site(alloc, cache, "https://s1.example.com/")?
-            && !has_site(alloc, cache, "https://unknown.example.com/")?,
+        has_verdict(alloc, cache, page, "/a", Some(false))?
+            && has_verdict(alloc, cache, "https://s2.example.com/", "/a", Some(true))?
+            && has_verdict(alloc, cache, "https://s1.example.com/", "/a", None)?
+            && has_verdict(alloc, cache, "https://unknown.example.com/", "/a", None)?,
     )
 }
 

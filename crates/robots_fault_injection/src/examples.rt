@@ -24,16 +24,16 @@ pub(crate) enum Call {
 
 /// The calls with their names, in order.
 pub(crate) const CALLS: &[(&str, Call)] = &[
-    ("robots_callers: audit", Call::Audit),
-    ("robots_callers: a cache of one site", Call::OneSite),
+    ("robots_examples: audit", Call::Audit),
+    ("robots_examples: a cache of one site", Call::OneSite),
     (
-        "robots_callers: a cache of one site too many",
+        "robots_examples: a cache of one site too many",
         Call::FullCache,
     ),
-    ("robots_callers: plan_for", Call::Plan),
-    ("robots_callers: count_denied", Call::CountDenied),
-    ("robots_callers: count_denied by its looks", Call::Looks),
-    ("robots_callers: may_fetch", Call::MayFetch),
+    ("robots_examples: plan_for", Call::Plan),
+    ("robots_examples: count_denied", Call::CountDenied),
+    ("robots_examples: count_denied by its looks", Call::Looks),
+    ("robots_examples: may_fetch", Call::MayFetch),
 ];
 
 /// Makes a call, and returns whether its result is right.
@@ -77,37 +77,35 @@ fn are_rows(rows: &[Row<'_>]) -> bool {
 /// The file of example.com, whose robot is cached.
 const CACHED: &[u8] = b"User-agent: *\nDisallow: /a\n";
 
-/// Whether no robot was stored because an allocation failed or a URL was too long.
-fn is_memory(error: &CacheError) -> bool {
-    matches!(
-        error,
-        CacheError::Memory
-            | CacheError::File(Error::Memory)
-            | CacheError::Url(ParseError::OutOfMemory | ParseError::Overflow)
-    )
+/// Whether a cache stored a robot; `None` if its URL isn't on a site.
+fn is_stored(answer: Result<(), CacheError>) -> Result<Option<bool>, Error> {
+    match answer {
+        Ok(()) => Ok(Some(true)),
+        Err(CacheError::Memory | CacheError::File(Error::Memory)) => Err(Error::Memory),
+        Err(CacheError::Url(ParseError::OutOfMemory | ParseError::Overflow)) => Err(Error::Memory),
+        Err(CacheError::Url(_)) => Ok(None),
+        Err(CacheError::File(_)) => Ok(Some(false)),
+    }
 }
 
 /// Whether a cache stores the robot of a file, for the site of a URL.
-fn keeps(alloc: Global, cache: &mut Cache, url: &str, file: &[u8]) -> Result<bool, Error> {
-    match cache.put(alloc, "Bot", url, file) {
-        Ok(()) => Ok(true),
-        Err(error) if is_memory(&error) => Err(Error::Memory),
-        Err(_) => Ok(false),
-    }
+pub(crate) fn stores(
+    alloc: Global,
+    cache: &mut Cache,
+    url: &str,
+    file: &[u8],
+) -> Result<bool, Error> {
+    Ok(is_stored(cache.put(alloc, "Bot", url, file))? == Some(true))
 }
 
 /// Whether a cache rejects a URL that isn't on a site.
 fn rejects_mail(alloc: Global, cache: &mut Cache) -> Result<bool, Error> {
-    match cache.put(alloc, "Bot", "mailto:a@example.com", b"") {
-        Err(error) if is_memory(&error) => Err(Error::Memory),
-        Err(CacheError::Url(_)) => Ok(true),
-        _ => Ok(false),
-    }
+    Ok(is_stored(cache.put(alloc, "Bot", "mailto:a@example.com", b""))?.is_none())
 }
 
 /// Whether the robot that is stored for the site of a page has this verdict on a URL; `None` means that no robot is
 /// stored.
-fn says(
+pub(crate) fn has_verdict(
     alloc: Global,
     cache: &Cache,
     page: &str,
@@ -139,11 +137,11 @@ const SAID: &[(&str, &str, Option<bool>)] = &[
 
 fn keeps_one_site(alloc: Global) -> Result<bool, Error> {
     let mut cache = Cache::new(alloc);
-    if !keeps(alloc, &mut cache, "https://example.com/a/b", CACHED)? {
+    if !stores(alloc, &mut cache, "https://example.com/a/b", CACHED)? {
         return Ok(false);
     }
     for (page, url, want) in SAID {
-        if !says(alloc, &cache, page, url, *want)? {
+        if !has_verdict(alloc, &cache, page, url, *want)? {
             return Ok(false);
         }
     }
@@ -154,7 +152,7 @@ fn keeps_one_site(alloc: Global) -> Result<bool, Error> {
 fn keeps_most(alloc: Global, cache: &mut Cache) -> Result<bool, Error> {
     for site in 0..MAX_ROBOTS {
         let url = format!(in alloc; "https://s{site}.example.com/")?;
-        if !keeps(alloc, cache, &url, b"")? {
+        if !stores(alloc, cache, &url, b"")? {
             return Ok(false);
         }
     }
@@ -165,9 +163,9 @@ fn keeps_most(alloc: Global, cache: &mut Cache) -> Result<bool, Error> {
 fn forgets_oldest(alloc: Global) -> Result<bool, Error> {
     let mut cache = Cache::new(alloc);
     Ok(
-        keeps(alloc, &mut cache, "https://example.com/a/b", CACHED)?
+        stores(alloc, &mut cache, "https://example.com/a/b", CACHED)?
             && keeps_most(alloc, &mut cache)?
-            && says(alloc, &cache, "https://example.com/", "/", None)?,
+            && has_verdict(alloc, &cache, "https://example.com/", "/", None)?,
     )
 }
 

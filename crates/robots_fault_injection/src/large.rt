@@ -1,5 +1,6 @@
 //! The library's calls on large inputs. With enough memory each result is right: no length and no number leads to
 //! `Error::Memory`.
+use crate::calls::is_address;
 use std::alloc::Global;
 use texting_robots::labels::{is_named, labeled_lines};
 use texting_robots::minregex::MinRegex;
@@ -32,7 +33,7 @@ pub(crate) const CALLS: &[(&str, Call)] = &[
     ("get_robots_url on large inputs", Call::Addresses),
     ("robots_txt_parse on large inputs", Call::ParseLines),
     ("parser::lines and file_lines on large inputs", Call::Lines),
-    ("marks on large inputs", Call::LabeledLines),
+    ("labels on large inputs", Call::LabeledLines),
     ("read_delay on large inputs", Call::ReadDelay),
     ("MinRegex on large inputs", Call::Patterns),
     ("Robot::new of many rules on large inputs", Call::ManyRules),
@@ -44,7 +45,7 @@ pub(crate) const CALLS: &[(&str, Call)] = &[
     ("Robot::allowed on large inputs", Call::Allowed),
     ("Robot::prepare_url on large inputs", Call::PrepareUrl),
     ("Robot::decision on large inputs", Call::Decision),
-    ("one_agent_allowed on large inputs", Call::OneAgent),
+    ("allowed_in_file on large inputs", Call::OneAgent),
     ("push_escaped_bytes on large inputs", Call::PushEscapedBytes),
 ];
 
@@ -104,8 +105,8 @@ const ADDRESSES: &[(Parts<'static>, Parts<'static>)] = &[
 
 fn addresses(alloc: Global) -> Result<bool, Error> {
     for (page, want) in ADDRESSES {
-        let address = get_robots_url(alloc, &long(alloc, page)?).map_err(|_| Error::Memory)?;
-        if address != long(alloc, want)? {
+        let page = long(alloc, page)?;
+        if !is_address(get_robots_url(alloc, &page), &long(alloc, want)?)? {
             return Ok(false);
         }
     }

@@ -13,6 +13,7 @@ mod format;
 mod large;
 mod no_alloc;
 mod sites;
+mod sizes;
 mod streams;
 
 use std::io::Read;
@@ -53,6 +54,7 @@ fn makes_calls(rt: &HostRuntime, line: &[u8]) -> bool {
     make_calls!(rt, line, well, format);
     make_calls!(rt, line, well, no_alloc);
     make_calls!(rt, line, well, large);
+    make_calls!(rt, line, well, sizes);
     make_calls!(rt, line, well, sites);
     make_calls!(rt, line, well, callers);
     make_calls!(rt, line, well, streams);

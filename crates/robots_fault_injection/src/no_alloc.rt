@@ -82,8 +82,8 @@ pub(crate) const CALLS: &[(&str, Call)] = &[
     ("parser::lines without memory", Call::Lines),
     ("parser::file_lines without memory", Call::FileLines),
     ("parser::read_delay without memory", Call::ReadDelay),
-    ("marks::marked_lines without memory", Call::LabeledLines),
-    ("marks::is_named without memory", Call::IsNamed),
+    ("labels::labeled_lines without memory", Call::LabeledLines),
+    ("labels::is_named without memory", Call::IsNamed),
     ("Robot::new on line ends without memory", Call::NewRobot),
 ];
 
