@@ -65,7 +65,7 @@ fn robot_for(alloc: Global, agent: &str, file: &[u8], site: &Site) -> Result<Rob
             Some(line) => Err(Fault::InvalidRule(line)),
             None => unreachable!(),
         },
-        Err(_) => Err(Fault::Memory),
+        Err(Error::Memory | Error::InvalidRobots) => Err(Fault::Memory),
     }
 }
 
@@ -112,7 +112,8 @@ fn agent_audit<'a>(
             delay: robot.delay,
             verdicts,
         }),
-        Err(_) => Err(Fault::Memory),
+        Err(Error::Memory) => Err(Fault::Memory),
+        Err(Error::InvalidRobots | Error::InvalidRule) => unreachable!(),
     }
 }
 

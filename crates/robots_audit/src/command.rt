@@ -164,7 +164,7 @@ fn unknown(alloc: Global, name: &str) -> Fault
     let mut sanitized = String::new(alloc);
     match push_sanitized(&mut sanitized, name.as_bytes()) {
         Ok(()) => Fault::UnknownWarning(sanitized),
-        Err(_) => Fault::Memory,
+        Err(AllocError) => Fault::Memory,
     }
 }
 

@@ -38,16 +38,15 @@ use std::process::ExitCode;
 fn words(rt: &HostRuntime) -> Result<Vec<String>, Fault> {
     match env::args(rt) {
         Ok(args) => Ok(args.collect(rt.alloc())?),
-        Err(error) if error.kind() == ErrorKind::InvalidData => Err(Fault::NotUtf8),
-        Err(_) => Err(Fault::Memory),
+        Err(error) => match error.kind() {
+            ErrorKind::OutOfMemory => Err(Fault::Memory),
+            _ => Err(Fault::NotUtf8),
+        },
     }
 }
 
 /// Handles what `clap` returns if the arguments request help or the version, or can't be parsed.
 fn reported(rt: &HostRuntime, error: clap::Error) -> Result<Outcome, Fault> {
-    if error.kind() == WordsKind::OutOfMemory {
-        return Err(Fault::Memory);
-    }
     let text = error.to_string(rt.alloc())?;
     if error.use_stderr() {
         Err(rejected(rt.alloc(), &text))
@@ -81,7 +80,10 @@ fn outcome(rt: &HostRuntime) -> Result<Outcome, Fault> {
     let words = words(rt)?;
     match command(rt.alloc())?.try_get_matches_from(&words) {
         Ok(matches) => audited(rt, &matches),
-        Err(error) => reported(rt, error),
+        Err(error) => match error.kind() {
+            WordsKind::OutOfMemory => Err(Fault::Memory),
+            _ => reported(rt, error),
+        },
     }
 }
 

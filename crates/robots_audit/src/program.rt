@@ -111,7 +111,7 @@ pub fn rejected(alloc: Global, text: &str) -> Fault
     let mut sanitized = String::new(alloc);
     match push_sanitized_lines(&mut sanitized, text.as_bytes()) {
         Ok(()) => Fault::Words(sanitized),
-        Err(_) => Fault::Memory,
+        Err(AllocError) => Fault::Memory,
     }
 }
 
@@ -122,6 +122,6 @@ pub fn unread(alloc: Global, name: &str) -> Fault
     let mut sanitized = String::new(alloc);
     match push_sanitized(&mut sanitized, name.as_bytes()) {
         Ok(()) => Fault::File(sanitized),
-        Err(_) => Fault::Memory,
+        Err(AllocError) => Fault::Memory,
     }
 }
