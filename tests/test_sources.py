@@ -49,7 +49,8 @@ def code(text):
     """The expressions and patterns of a source: without comments, strings, contracts, imports, declarations and signatures, and without
     the `From` impls of `AllocError` and `AllocFailed`."""
     text = re.sub(r'//.*|"(?:[^"\\]|\\[\s\S])*"|b?\'(?:[^\'\\]|\\.)\'', lambda it: "" if it[0].startswith("/") else '""', text)
-    text = without(text, r"\b(?:ensures|requires)\*? *\w* *\{", r"\bghost \w+(?: =|:) \{", r"\b(?:enum|struct) [^{}();]*[{(]", r"\bmatches!\(")
+    text = without(text, r"\b(?:ensures|requires)\*? *\w* *\{", r"\bghost \w+(?: =|:) \{", r"\b(?:enum|struct) [^{}();]*[{(]")
+    text = without(text, r"\bmatches!\(")
     text = re.sub(r"\bghost use [^;]*;|\buse (?![^;]* as )[^;]*;|(?<=\bfn )\w[^{}]*?(?=\{|;\n)", "", text)
     return without(text, r"\bimpl(?:<T: Drop>)? From<(?:AllocError|AllocFailed<T>)> for \w+ \{")
 
