@@ -12,8 +12,8 @@ returns-in_err-text-clause-invalid_rule g c = run_fault _ _ _ c.from_residual-in
     c.from_residual-in_err-text.ensures.1 (λ e. cc)
 
 pub returns-in_err-input-clause-memory : goal.returns-in_err-input-clause-memory
-returns-in_err-input-clause-memory g c = run_unread c.from_residual-in_err-input.result c.in_err-input.field-0.0
-    c.from_residual-in_err-input.ensures.1 c.in_err-input.ensures.memory
+returns-in_err-input-clause-memory g c = run_unread c.from_residual.result c.in_err-input.field-0.0
+    c.from_residual.ensures.1 c.in_err-input.ensures.memory
 
 pub returns-in_err-text-clause-memory : goal.returns-in_err-text-clause-memory
 returns-in_err-text-clause-memory g c = run_memory _ _ _ c.from_residual-in_err-text.result _

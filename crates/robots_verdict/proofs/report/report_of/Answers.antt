@@ -4,7 +4,7 @@ use Rattle.texting_robots.specs.Robot.{RobotValue, file_limit}
 use Rattle.texting_robots.proofs.MainTheoremLemmas.{not_rejected, read_robot}
 use Rattle.robots_io.specs.Lines.{ended}
 use Rattle.robots_verdict.specs.Report.{delay_line, sitemap_line}
-use Rattle.robots_verdict.proofs.ReportLemmas.{text_made}
+use Rattle.robots_verdict.proofs.{InputLemmas.some_input, ReportLemmas.text_made}
 use Rattle.robots_verdict.proofs.report.report_of.Goals as goal
 
 pub returns-clause-ok : goal.returns-clause-ok
@@ -31,3 +31,15 @@ returns-clause-ok c =
       text_made header.agent.now (map (λ url. url.now) header.urls.items) header.file.now _ _ _ robot is
           delayed listed judged,
     )
+
+pub returns-in_err-push_delay-clause-memory : goal.returns-in_err-push_delay-clause-memory
+returns-in_err-push_delay-clause-memory c =
+    some_input c.from_residual-in_err-push_delay.result _ _ _ _ c.in_ok-header.ensures.input
+
+pub returns-in_err-push_sitemaps-clause-memory : goal.returns-in_err-push_sitemaps-clause-memory
+returns-in_err-push_sitemaps-clause-memory c =
+    some_input c.from_residual-in_err-push_sitemaps.result _ _ _ _ c.in_ok-header.ensures.input
+
+pub returns-in_err-push_verdicts-clause-memory : goal.returns-in_err-push_verdicts-clause-memory
+returns-in_err-push_verdicts-clause-memory c =
+    some_input c.from_residual-in_err-push_verdicts.result _ _ _ _ c.in_ok-header.ensures.input
