@@ -1,3 +1,4 @@
+use Rattle.std.proofs.Common.{Err, ap}
 use Rattle.robots_verdict.proofs.ReportLemmas.{run_beginning, run_fault, run_memory, run_ok, run_unread}
 use Rattle.robots_verdict.proofs.program.run.Goals as goal
 
@@ -13,7 +14,7 @@ returns-in_err-text-clause-invalid_rule g c = run_fault _ _ _ c.from_residual-in
 
 pub returns-in_err-input-clause-memory : goal.returns-in_err-input-clause-memory
 returns-in_err-input-clause-memory g c = run_unread c.from_residual.result c.in_err-input.field-0.0
-    c.from_residual.ensures.1 c.in_err-input.ensures.memory
+    c.from_residual.ensures.1 (λ same. c.in_err-input.ensures.memory (ap (λ fault. Err fault) same))
 
 pub returns-in_err-text-clause-memory : goal.returns-in_err-text-clause-memory
 returns-in_err-text-clause-memory g c = run_memory _ _ _ c.from_residual-in_err-text.result _
