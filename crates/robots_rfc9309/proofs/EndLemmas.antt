@@ -12,7 +12,7 @@ use Rattle.robots_rfc9309.proofs.EachLemmas.{each_front}
 use Rattle.robots_rfc9309.proofs.Sources.{Source}
 use Rattle.robots_rfc9309.proofs.ReadLemmas.{BeginsLow, Reads, last_end_adds_none, sources_of, sources_in}
 
-nothing_replaced : (text : List ℕ) → Each (λ byte. byte ≢ 0) text → map nul_as_lf text ≡ text
+pub nothing_replaced : (text : List ℕ) → Each (λ byte. byte ≢ 0) text → map nul_as_lf text ≡ text
 nothing_replaced [] all = refl
 nothing_replaced (b ∷ text) all =
     ap (λ c. c ∷ map nul_as_lf text) (cond-false _ _ _ (ne_eqb b 0 all.0))

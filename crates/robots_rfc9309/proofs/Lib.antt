@@ -22,3 +22,5 @@ pub mod SitemapLemmas
 pub mod BareLemmas
 pub mod StandardLemmas
 pub mod Sample
+pub mod TerminatorLemmas
+pub mod LineFormLemmas

@@ -1,3 +1,4 @@
 pub mod Rfc9309
 pub mod Sample
 pub mod ReadAs
+pub mod LineForms

@@ -4,6 +4,7 @@
 
 ghost use Rattle.std.specs.Prelude.{◌≡◌, ℕ, List, codes};
 ghost use Rattle.std.specs.List.{AllZip};
+ghost use Rattle.robots_rfc9309.specs.LineForms.{AreForms, Form};
 ghost use Rattle.robots_rfc9309.specs.ReadAs.{IsReadAs};
 ghost use Rattle.robots_rfc9309.specs.Rfc9309 as rfc;
 ghost use Rattle.robots_rfc9309.specs.Sample as sample;
@@ -40,4 +41,12 @@ pub fn standard_samples_are_files()
     ensures wide { rfc.IsFile sample.wide_groups sample.wide_text }
     ensures sitemaps { rfc.ListsSitemaps sample.wide_sitemaps sample.wide_text }
     ensures rules { rfc.rules_for (codes "BOT") (rfc.merged sample.wide_groups) ≡ sample.wide_rules }
+{}
+
+/// A text whose lines have the forms of the grammar's lines, with each rule below a user-agent line, follows the
+/// extended grammar. So the theorem `standard_files_are_read_so` applies to it. Used by audits, which examine a file
+/// line by line.
+pub fn line_forms_make_files()
+    ensures { (text : List ℕ) (forms : List Form) → AreForms forms text
+        → (groups : List rfc.Group) × rfc.IsFile groups text }
 {}
