@@ -24,3 +24,5 @@ pub mod StandardLemmas
 pub mod Sample
 pub mod TerminatorLemmas
 pub mod LineFormLemmas
+pub mod DelayAsLemmas
+pub mod RobotLemmas

@@ -1,23 +1,25 @@
 -- A text whose lines have the forms of the grammar's lines, with each rule below a user-agent line, is a file
 -- of the grammar. Each user-agent line begins a group of its own, whose members are those up to the next
 -- user-agent line. The text is built from its last line on.
-use Rattle.std.proofs.Common.{◌≡◌, ◌≢◌, inl, inr, ℕ, zero, suc, List, [], ◌∷◌, ◌++◌, map, sym, refl, ap, ◌∙◌}
+use Rattle.std.proofs.Common.{◌≡◌, ◌≢◌, inl, inr, ℕ, zero, suc, List, [], ◌∷◌, ◌++◌, sym, refl, ap}
+use Rattle.std.proofs.Common.{◌∙◌}
 use Rattle.std.proofs.Common.{append_assoc, arith, subst}
 use Rattle.std.specs.Prelude.{Contains}
 use Rattle.std.specs.List.{AllZip, AllByRecursion as Each}
 use Rattle.std.proofs.lemmas.List.Elements.{recursion_from_All}
-use Rattle.texting_robots.specs.{Cut.lf, Executable.file_bodies, Internal.Cut.bodies_of, Line.without_front}
+use Rattle.texting_robots.specs.{Executable.file_bodies, Internal.Cut.bodies_of, Line.without_front}
 use Rattle.robots_rfc9309.proofs.EndLemmas.{nothing_replaced}
 use Rattle.robots_rfc9309.proofs.SyntaxLemmas.{repeats_both, repeats_none, repeats_one}
 use Rattle.robots_rfc9309.proofs.TerminatorLemmas.{AreEnded, IsEndByte, completed, line_ended}
-use Rattle.robots_rfc9309.specs.LineForms.{Agent, AreForms, AreRulesBelowAgents, Delay, Empty, Form, HasForm}
+use Rattle.robots_rfc9309.specs.LineForms.{Agent, AreForms, AreRulesBelowAgents, Delay, Empty, Form}
+use Rattle.robots_rfc9309.specs.LineForms.{HasForm}
 use Rattle.robots_rfc9309.specs.LineForms.{IsLine, Other, Rule, Sitemap}
 use Rattle.robots_rfc9309.specs.Rfc9309 as rfc
 
 -- ---- rules above the first user-agent line
 
 -- no rule is above the first user-agent line
-abbrev AreFree : List Form → Type 0
+abbrev pub AreFree : List Form → Type 0
 AreFree [] = Unit {0}
 AreFree (Agent ∷ forms) = Unit {0}
 AreFree (Rule ∷ forms) = ⊥

@@ -6,11 +6,13 @@ use Rattle.std.proofs.lemmas.{Bool.ne_eqb, Str.Parse.without_leading_plus_none}
 use Rattle.std.proofs.lemmas.List.Elements.{All-from_recursion, All-nil}
 use Rattle.texting_robots.specs.Delay.{Decimal, NamesDelay, Writes}
 use Rattle.texting_robots.specs.{Line.CrawlDelay, Line.Sitemap}
-use Rattle.texting_robots.specs.Internal.{Delay.delay_of, Delay.rounded, Line.delay_or_raw, Statement.trimmed}
-use Rattle.texting_robots.proofs.DelayLemmas.{is_delay_of, rounded_rounds}
+use Rattle.texting_robots.specs.Internal.{Delay.delay_of, Delay.rounded, Line.delay_or_raw}
+use Rattle.texting_robots.specs.Internal.{Statement.trimmed}
+use Rattle.texting_robots.proofs.DelayLemmas.{is_delay_of, one_delay, rounded_rounds}
 use Rattle.texting_robots.proofs.TrimLemmas.{trimmed_is_trim, each_append}
 use Rattle.robots_rfc9309.proofs.{CharLemmas.chars_text, EachLemmas.each_weaker, KeyedLemmas.keyed_reads}
-use Rattle.robots_rfc9309.proofs.RuleLemmas.{IsLineOf, IsPlain, MemberRead, plain_text, rule_line, star_line}
+use Rattle.robots_rfc9309.proofs.RuleLemmas.{IsLineOf, IsPlain, MemberRead, plain_text, rule_line}
+use Rattle.robots_rfc9309.proofs.RuleLemmas.{star_line}
 use Rattle.robots_rfc9309.proofs.RuleLemmas.{trim_is_utf8}
 use Rattle.texting_robots.specs.declared.parser.statement.Kind.TheVariants as kind
 use Rattle.robots_rfc9309.specs.Rfc9309 as rfc
@@ -43,7 +45,7 @@ numbered_by d rest units fraction digit writes plain =
       plain = plain;
     }
 
-all_digits : (digits : List ℕ) → rfc.IsDigits digits → All IsAsciiDigit digits × Each IsPlain digits
+pub all_digits : (digits : List ℕ) → rfc.IsDigits digits → All IsAsciiDigit digits × Each IsPlain digits
 all_digits [] is = absurd is
 all_digits (d ∷ ds) is = (
   All-from_recursion IsAsciiDigit (d ∷ ds) is,
@@ -65,7 +67,7 @@ whole_numbered (d ∷ ds) is =
       is_tail = inl (refl, refl);
     }) digits.1
 
-point_plain : Each IsPlain (codes ".")
+pub point_plain : Each IsPlain (codes ".")
 point_plain = (((omega arith, omega arith), λ e. omega arith), tt)
 
 parts_numbered : (units fraction : List ℕ) → rfc.IsDigits units → rfc.IsDigits fraction
@@ -99,7 +101,7 @@ delay_given number text n line =
     record {
       source = (found, number);
       is_line = record {
-        read = refl;
+        read = (one_delay number (Some n.delay)).1 (sym n.is);
         reads =
             keyed_reads kind.CrawlDelay number number text line chars trim found
             (λ body. ap (λ delay. delay_or_raw delay body) n.is);

@@ -1,6 +1,6 @@
 -- The source lines of groups give back the groups, merged.
 use Rattle.std.proofs.Common.{◌≡◌, List, ℕ, [], ◌∷◌, ◌++◌, refl, ap, ◌∙◌, append-nil}
-use Rattle.std.proofs.Common.{filter}
+use Rattle.std.proofs.Common.{map}
 use Rattle.robots_rfc9309.proofs.Sources.{Parts, onto, parts_of, with_member, with_token, with_tokens}
 use Rattle.robots_rfc9309.specs.Rfc9309 as rfc
 
@@ -46,10 +46,8 @@ groups_put (group ∷ later) =
     ap (with_group group) (groups_put later)
     ∙ ap (λ m. with_tokens group.tokens (parts_of m (rfc.merged later))) (append-nil group.members)
 
--- delays at the start change no group and add no rule
+-- delays are added to the members before any token
 pub delays_put : (numbers : List (List ℕ)) (parts : Parts)
-    → ((onto with_delay numbers parts).groups ≡ parts.groups)
-    × (filter rfc.is_rule (onto with_delay numbers parts).ungrouped
-    ≡ filter rfc.is_rule parts.ungrouped)
-delays_put [] parts = (refl, refl)
-delays_put (number ∷ numbers) parts = delays_put numbers parts
+    → onto with_delay numbers parts ≡ parts_of (map rfc.Delay numbers ++ parts.ungrouped) parts.groups
+delays_put [] parts = refl
+delays_put (number ∷ numbers) parts = ap (with_delay number) (delays_put numbers parts)

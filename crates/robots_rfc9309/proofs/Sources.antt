@@ -5,7 +5,9 @@ use Rattle.std.proofs.Common.{append-nil, arith, Option, Some, None}
 use Rattle.std.specs.List.{AllByRecursion as Each}
 use Rattle.std.proofs.lemmas.Bool.Decides.{nat_tests}
 use Rattle.std.proofs.lemmas.{Bool.cond-false, Bool.ne_eqb, List.Elements.filter-append}
-use Rattle.texting_robots.specs.Line.{LineValue, UserAgent, Allow, Disallow, Sitemap, Raw, is_raw}
+use Rattle.texting_robots.specs.Line.{LineValue, UserAgent, Allow, CrawlDelay, Disallow, Sitemap, Raw}
+use Rattle.texting_robots.specs.Line.{is_raw}
+use Rattle.texting_robots.specs.Delay.{IsDelay}
 use Rattle.texting_robots.specs.{Statement.IsBlank, Internal.Line.line_of, Trim.IsTrimOf}
 use Rattle.texting_robots.specs.{Executable.rule_in, Executable.sitemap_in, Rules.Rule}
 use Rattle.texting_robots.specs.Internal.Statement.{IsOptionalComment, colon, hash, space, tab, region_of}
@@ -104,6 +106,8 @@ abbrev IsReadLine : LineValue → List ℕ → Type 0
 IsReadLine (UserAgent token) text = Unit {0}
 IsReadLine (Sitemap value) text = (sitemap_in (Sitemap value) ≡ Some value) × IsTrimOf value text
 IsReadLine (Raw body) text = Unit {0}
+IsReadLine (CrawlDelay None) text = ⊥
+IsReadLine (CrawlDelay (Some delay)) text = IsDelay text (Some delay)
 IsReadLine line text = GivesRuleOf (member_in line text) (rule_in line)
 
 -- what the library reads in the line is what its value as written defines

@@ -1,7 +1,7 @@
 -- The terminator of a line: a line of the grammar may end with each of the standard's terminators, and a text
 -- consists of the contents of its lines, each with terminators after it.
 use Rattle.std.proofs.Common.{◌≡◌, ◌⊎◌, inl, inr, ℕ, List, [], ◌∷◌, ◌++◌, sym, refl, ap, ◌∙◌}
-use Rattle.std.proofs.Common.{append_assoc, append-nil}
+use Rattle.std.proofs.Common.{append_assoc}
 use Rattle.std.specs.List.{AllByRecursion as Each}
 use Rattle.std.proofs.lemmas.Bool.{ne_eqb}
 use Rattle.texting_robots.specs.Cut.{IsBodyByte, cr, lf}
@@ -15,7 +15,7 @@ use Rattle.robots_rfc9309.specs.Rfc9309 as rfc
 -- ---- the terminator of a line of the grammar
 
 -- what precedes the terminator is the content
-before_end : (body front nl : List ℕ) → Each IsBodyByte body → IsNl nl
+pub before_end : (body front nl : List ℕ) → Each IsBodyByte body → IsNl nl
     → body ++ lf ∷ [] ≡ front ++ nl → front ≡ body
 before_end [] [] nl bytes is e = refl
 before_end [] (f ∷ front) nl bytes is e = absurd (none front nl is (ap rest e))

@@ -2,13 +2,15 @@
 //! specification, each written as the contract of an empty function.
 #![tactic(auto)]
 
-ghost use Rattle.std.specs.Prelude.{◌≡◌, ℕ, List, codes};
+ghost use Rattle.std.specs.Prelude.{◌≡◌, ℕ, List, codes, take};
 ghost use Rattle.std.specs.List.{AllZip};
 ghost use Rattle.robots_rfc9309.specs.LineForms.{AreForms, Form};
 ghost use Rattle.robots_rfc9309.specs.ReadAs.{IsReadAs};
 ghost use Rattle.robots_rfc9309.specs.Rfc9309 as rfc;
 ghost use Rattle.robots_rfc9309.specs.Sample as sample;
+ghost use Rattle.robots_rfc9309.specs.StandardRobot.{IsFileWith, IsRejectedAs, IsRobotAs};
 ghost use Rattle.texting_robots.specs.Executable.{file_lines, rules_for, sitemaps_in};
+ghost use Rattle.texting_robots.specs.Robot.{IsFileRejected, IsRobotOfFile, RobotValue, file_limit};
 ghost use Rattle.texting_robots.specs.Trim.{IsTrimOf};
 
 /// Theorems about files that follow the extended grammar `IsFile`, used by site owners who write to the standard:
@@ -32,6 +34,33 @@ pub fn standard_files_are_read_so()
         × ((others : List (List ℕ)) → rfc.ListsSitemaps others text → others ≡ addresses) }
     ensures bare { (text : List ℕ) (groups : List rfc.Group) → rfc.IsRobotstxt groups text
         → rfc.IsFile groups text }
+{}
+
+/// What `Robot::new` returns for a file whose first 512,000 bytes follow the extended grammar, used by crawlers that
+/// call it:
+///
+/// - `robot`: the robot has the rules, the delay and the sitemaps that the file states for the crawler, as `IsRobotAs`
+///   says. The rules are those of its groups, and the delay is the first of its groups, or else the last one above all
+///   groups.
+/// - `rejected`: if there is no robot because the file is rejected, one of these rules is too long.
+/// - `delays`: each file has such delays above its groups, maybe none.
+/// - `forms`: the same as `robot`, for a file whose lines have the forms of the grammar's lines.
+///
+/// Besides, `Robot::new` only returns `Error::Memory`.
+pub fn standard_robots()
+    ensures robot { (agent file : List ℕ) (groups : List rfc.Group) (numbers addresses : List (List ℕ))
+        (robot : RobotValue) → IsFileWith numbers groups (take file_limit file)
+        → rfc.ListsSitemaps addresses (take file_limit file) → IsRobotOfFile agent (take file_limit file) robot
+        → IsRobotAs agent (rfc.merged groups) numbers addresses robot }
+    ensures rejected { (agent file : List ℕ) (groups : List rfc.Group) → rfc.IsFile groups (take file_limit file)
+        → IsFileRejected agent (take file_limit file) → IsRejectedAs agent (rfc.merged groups) }
+    ensures delays { (text : List ℕ) (groups : List rfc.Group) → rfc.IsFile groups text
+        → (numbers : List (List ℕ)) × IsFileWith numbers groups text }
+    ensures forms { (agent file : List ℕ) (forms : List Form) (robot : RobotValue)
+        → AreForms forms (take file_limit file) → IsRobotOfFile agent (take file_limit file) robot
+        → (groups : List rfc.Group) × (numbers : List (List ℕ)) × (addresses : List (List ℕ))
+        × IsFileWith numbers groups (take file_limit file) × rfc.ListsSitemaps addresses (take file_limit file)
+        × IsRobotAs agent (rfc.merged groups) numbers addresses robot }
 {}
 
 /// The two samples follow the grammars of `standard_files_are_read_so`, and between them they use every production. So
