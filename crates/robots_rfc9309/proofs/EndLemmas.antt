@@ -28,12 +28,12 @@ low_front (b ∷ text) low =
     )
     refl
 
-after_bom : (bom text : List ℕ) → IsBom bom → Each (λ byte. byte ≢ 0) text → BeginsLow text
+pub after_bom : (bom text : List ℕ) → IsBom bom → Each (λ byte. byte ≢ 0) text → BeginsLow text
     → without_front (map nul_as_lf (bom ++ text)) ≡ text
 after_bom bom text (inl none) all low = rw (none, nothing_replaced text all) (low_front text low)
 after_bom bom text (inr is) all low = rw (is, nothing_replaced text all) refl
 
-low_of_front : (text more : List ℕ) → BeginsLow (text ++ more) → BeginsLow text
+pub low_of_front : (text more : List ℕ) → BeginsLow (text ++ more) → BeginsLow text
 low_of_front [] more low = tt
 low_of_front (b ∷ text) more low = low
 

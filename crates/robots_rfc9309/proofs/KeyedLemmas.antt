@@ -23,13 +23,13 @@ use Rattle.robots_rfc9309.specs.Rfc9309 as rfc
 -- ---- bytes
 
 -- a byte of a value: a bare byte that isn't `#`
-abbrev IsValueByte : ℕ → Type 0
+abbrev pub IsValueByte : ℕ → Type 0
 IsValueByte byte = IsBare byte × (byte ≢ hash)
 
 blank_value : (b : ℕ) → IsBlank b → IsValueByte b
 blank_value b is = (grind arith, λ e. omega arith)
 
-char_value : (b : ℕ) → IsCharByte b → IsValueByte b
+pub char_value : (b : ℕ) → IsCharByte b → IsValueByte b
 char_value b is = (inr (omega arith), is.1)
 
 pub blanks_value : (blanks : List ℕ) → Each IsBlank blanks → Each IsValueByte blanks
@@ -39,7 +39,7 @@ values_bare : (bytes : List ℕ) → Each IsValueByte bytes → Each IsBare byte
 values_bare = each_weaker IsValueByte IsBare (λ b is. is.0)
 
 -- a byte before the colon: a bare ASCII byte that isn't a colon
-abbrev IsFrontByte : ℕ → Type 0
+abbrev pub IsFrontByte : ℕ → Type 0
 IsFrontByte byte = IsBare byte × (byte < 128) × (byte ≢ colon)
 
 blank_front : (b : ℕ) → IsBlank b → IsFrontByte b
@@ -58,7 +58,7 @@ key_letter b is =
       λ e. bounds.2 (ap to_ascii_lowercase e),
     )
 
-key_letters : (key word : List ℕ) → map to_ascii_lowercase key ≡ word → Each rfc.IsIdentifierByte word
+pub key_letters : (key word : List ℕ) → map to_ascii_lowercase key ≡ word → Each rfc.IsIdentifierByte word
     → Each IsFrontByte key
 key_letters [] word e all = tt
 key_letters (b ∷ key) [] e all = absurd cc
@@ -74,7 +74,7 @@ front_bytes margin key blanks before is after =
     each_append IsFrontByte margin (key ++ blanks) (fronts margin before)
     (each_append IsFrontByte key blanks is (fronts blanks after))
 
-low_body : (front rest : List ℕ) → Each IsFrontByte front → BeginsLow (front ++ colon ∷ rest)
+pub low_body : (front rest : List ℕ) → Each IsFrontByte front → BeginsLow (front ++ colon ∷ rest)
 low_body [] rest all = omega arith
 low_body (b ∷ front) rest all = all.0.1
 

@@ -26,3 +26,8 @@ pub mod TerminatorLemmas
 pub mod LineFormLemmas
 pub mod DelayAsLemmas
 pub mod RobotLemmas
+pub mod Utf8Lemmas
+pub mod HasFormLemmas
+pub mod FormTestLemmas
+pub mod LineBodyLemmas
+pub mod FormsOfFileLemmas

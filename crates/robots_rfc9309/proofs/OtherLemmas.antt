@@ -20,11 +20,11 @@ use Rattle.robots_rfc9309.specs.Rfc9309 as rfc
 
 -- ---- empty lines and comments
 
-blanks_low : (blanks : List ℕ) → Each IsBlank blanks → BeginsLow blanks
+pub blanks_low : (blanks : List ℕ) → Each IsBlank blanks → BeginsLow blanks
 blanks_low [] all = tt
 blanks_low (b ∷ blanks) all = let is = all.0 in omega arith
 
-comment_low : (comment : List ℕ) → IsOptionalComment comment → BeginsLow comment
+pub comment_low : (comment : List ℕ) → IsOptionalComment comment → BeginsLow comment
 comment_low comment (inl none) = subst BeginsLow (sym none) tt
 comment_low comment (inr (text, is)) = subst BeginsLow (sym is) (omega arith)
 
@@ -78,7 +78,7 @@ written_begins spelling (inl (is, has)) =
 written_begins spelling (inr two) =
     subst Begins (sym two.whole) (word_begins two.word (32 ∷ two.letter ∷ two.back) two.is_word)
 
-blank_no_letter : (b : ℕ) → IsBlank b → rfc.IsIdentifierByte (to_ascii_lowercase b) → ⊥
+pub blank_no_letter : (b : ℕ) → IsBlank b → rfc.IsIdentifierByte (to_ascii_lowercase b) → ⊥
 blank_no_letter b is letter =
     let bounds = identifier_bounds (to_ascii_lowercase b) letter in grind (arith, nat_tests)
 

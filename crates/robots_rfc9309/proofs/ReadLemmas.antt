@@ -58,7 +58,7 @@ return_alike [] = record { first = refl; rest = refl }
 return_alike ([] ∷ bodies) = record { first = refl; rest = sym (empty_adds_none bodies) }
 return_alike ((b ∷ body) ∷ bodies) = record { first = refl; rest = refl }
 
-byte_before : (b : ℕ) (bodies : List (List ℕ)) → IsBodyByte b
+pub byte_before : (b : ℕ) (bodies : List (List ℕ)) → IsBodyByte b
     → body_step b bodies ≡ (b ∷ first_of bodies) ∷ rest_of bodies
 byte_before b [] is = rw (ne_eqb b lf is.1, ne_eqb b cr is.0) refl
 byte_before b (body ∷ bodies) is = rw (ne_eqb b lf is.1, ne_eqb b cr is.0) refl
@@ -151,10 +151,10 @@ reads_both {sources} {more} {text} {later} is also = record {
   low = low_append text later is.low also.low;
 }
 
-bare_no_nul : (body : List ℕ) → Each IsBare body → Each (λ byte. byte ≢ 0) body
+pub bare_no_nul : (body : List ℕ) → Each IsBare body → Each (λ byte. byte ≢ 0) body
 bare_no_nul = each_weaker IsBare (λ byte. byte ≢ 0) (λ byte is e. omega arith)
 
-end_bytes : (nl : List ℕ) → IsNl nl → Each (λ byte. byte ≢ 0) nl × BeginsLow nl
+pub end_bytes : (nl : List ℕ) → IsNl nl → Each (λ byte. byte ≢ 0) nl × BeginsLow nl
 end_bytes nl (inl is) = rw is (((λ e. cc), tt), omega arith)
 end_bytes nl (inr (inl is)) = rw is (((λ e. cc), tt), omega arith)
 end_bytes nl (inr (inr is)) = rw is (((λ e. cc), ((λ e. cc), tt)), omega arith)

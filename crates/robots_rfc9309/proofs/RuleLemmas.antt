@@ -3,7 +3,8 @@ use Rattle.std.proofs.Common.{◌≡◌, ◌≢◌, inl, inr, ℕ, true, List, [
 use Rattle.std.proofs.Common.{codes, sym, refl, subst, append_assoc, arith, ◌∙◌}
 use Rattle.std.specs.{List.AllByRecursion as Each, Str.is_utf8}
 use Rattle.std.proofs.lemmas.{Str.IsUtf8-nil, Str.is_utf8-from_IsUtf8}
-use Rattle.texting_robots.specs.{Line.UserAgent, Line.Allow, Line.Disallow, Statement.IsBlank, Trim.IsTrimOf}
+use Rattle.texting_robots.specs.{Line.UserAgent, Line.Allow, Line.Disallow, Statement.IsBlank}
+use Rattle.texting_robots.specs.{Trim.IsTrimOf}
 use Rattle.texting_robots.specs.{Internal.Line.line_with, Internal.Statement.trimmed}
 use Rattle.texting_robots.proofs.TrimLemmas.{trimmed_is_trim, each_append}
 use Rattle.robots_rfc9309.proofs.CharLemmas.{IsCharByte, IsCharText, chars_text, text_append}
@@ -29,7 +30,7 @@ IsPlain byte = IsVisible byte × (byte ≢ 35)
 identifier_plain : (b : ℕ) → rfc.IsIdentifierByte b → IsPlain b
 identifier_plain b is = ((omega arith, omega arith), λ e. omega arith)
 
-token_plain : (token : List ℕ) → rfc.IsProductToken token → Each IsPlain token
+pub token_plain : (token : List ℕ) → rfc.IsProductToken token → Each IsPlain token
 token_plain [] is = tt
 token_plain (b ∷ token) (inl is) =
     each_weaker rfc.IsIdentifierByte IsPlain identifier_plain (b ∷ token) is
@@ -74,10 +75,10 @@ pub trim_is_utf8 : (text : List ℕ) → IsCharText text → is_utf8 (trimmed te
 trim_is_utf8 text chars =
     is_utf8-from_IsUtf8 (trimmed text) (trim_utf8 text (trimmed text) chars.utf8 (trimmed_is_trim text))
 
-slash_plain : IsPlain 47
+pub slash_plain : IsPlain 47
 slash_plain = ((omega arith, omega arith), λ e. omega arith)
 
-star_plain : IsPlain 42
+pub star_plain : IsPlain 42
 star_plain = ((omega arith, omega arith), λ e. omega arith)
 
 -- a pattern that begins with a plain byte
@@ -122,7 +123,7 @@ module _ (b : ℕ) (plain : IsPlain b) (pattern text : List ℕ)
       })
 
 -- a value of spaces and tabs is an empty value after these spaces and tabs
-emptied : (word value text : List ℕ) → Each IsBlank value → rfc.IsKeyed word value text
+pub emptied : (word value text : List ℕ) → Each IsBlank value → rfc.IsKeyed word value text
     → rfc.IsKeyed word [] text
 emptied word value text all line = record {
   margin = line.margin;

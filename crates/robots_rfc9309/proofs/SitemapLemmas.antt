@@ -5,7 +5,8 @@ use Rattle.std.specs.List.{AllZip, AllByRecursion as Each}
 use Rattle.texting_robots.specs.{Line.Sitemap, Trim.IsTrimOf}
 use Rattle.texting_robots.specs.Executable.{file_lines, sitemaps_in}
 use Rattle.robots_rfc9309.proofs.EndLemmas.{file_sources_are, file_same, lines_in, file_sources}
-use Rattle.robots_rfc9309.proofs.{RuleLemmas.token_line, MemberLemmas.member_line, MemberLemmas.sitemap_line}
+use Rattle.robots_rfc9309.proofs.{RuleLemmas.token_line, MemberLemmas.member_line}
+use Rattle.robots_rfc9309.proofs.{MemberLemmas.sitemap_line}
 use Rattle.robots_rfc9309.proofs.OtherLemmas.{empty_line, other_line}
 use Rattle.robots_rfc9309.proofs.RepeatLemmas.{IsListing, Makes, items_make, line_makes, listed, none_makes}
 use Rattle.robots_rfc9309.proofs.Sources.{IsRead, Source, onto, with_address}

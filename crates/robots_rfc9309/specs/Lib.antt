@@ -3,3 +3,4 @@ pub mod Sample
 pub mod ReadAs
 pub mod StandardRobot
 pub mod LineForms
+pub mod HasForm

@@ -2,13 +2,15 @@
 //! specification, each written as the contract of an empty function.
 #![tactic(auto)]
 
-ghost use Rattle.std.specs.Prelude.{◌≡◌, ℕ, List, codes, take};
+ghost use Rattle.std.specs.Prelude.{◌≡◌, ℕ, All, true, List, codes, take};
 ghost use Rattle.std.specs.List.{AllZip};
-ghost use Rattle.robots_rfc9309.specs.LineForms.{AreForms, Form};
+ghost use Rattle.robots_rfc9309.specs.HasForm.{has_form};
+ghost use Rattle.robots_rfc9309.specs.LineForms.{AreForms, Form, HasForm};
 ghost use Rattle.robots_rfc9309.specs.ReadAs.{IsReadAs};
 ghost use Rattle.robots_rfc9309.specs.Rfc9309 as rfc;
 ghost use Rattle.robots_rfc9309.specs.Sample as sample;
 ghost use Rattle.robots_rfc9309.specs.StandardRobot.{IsFileWith, IsRejectedAs, IsRobotAs};
+ghost use Rattle.texting_robots.specs.Cut.{IsBodyByte};
 ghost use Rattle.texting_robots.specs.Executable.{file_lines, rules_for, sitemaps_in};
 ghost use Rattle.texting_robots.specs.Robot.{IsFileRejected, IsRobotOfFile, RobotValue, file_limit};
 ghost use Rattle.texting_robots.specs.Trim.{IsTrimOf};
@@ -40,8 +42,8 @@ pub fn standard_files_are_read_so()
 /// call it:
 ///
 /// - `robot`: the robot has the rules, the delay and the sitemaps that the file states for the crawler, as `IsRobotAs`
-///   says. The rules are those of its groups, and the delay is the first of its groups, or else the last one above all
-///   groups.
+///   says. The rules are those of its groups. The delay is the first of its groups, or else the last one above all
+///   groups; in a file without groups it is the first one.
 /// - `rejected`: if there is no robot because the file is rejected, one of these rules is too long.
 /// - `delays`: each file has such delays above its groups, maybe none.
 /// - `forms`: the same as `robot`, for a file whose lines have the forms of the grammar's lines.
@@ -72,10 +74,19 @@ pub fn standard_samples_are_files()
     ensures rules { rfc.rules_for (codes "BOT") (rfc.merged sample.wide_groups) ≡ sample.wide_rules }
 {}
 
-/// A text whose lines have the forms of the grammar's lines, with each rule below a user-agent line, follows the
-/// extended grammar. So the theorem `standard_files_are_read_so` applies to it. Used by audits, which examine a file
-/// line by line.
+/// The conditions on the lines of a text under which it follows the extended grammar, so that
+/// `standard_files_are_read_so` applies to it. Used by audits, which examine a file line by line:
+///
+/// - `file`: a text follows the grammar if each of its lines has the form of one of the grammar's lines, each rule is
+///   below a user-agent line, and nothing else is in the text than lines and a byte order mark, as `AreForms` says.
+/// - `only`: no other text does.
+/// - `test`: a line has a form if its content passes the test `has_form`.
+/// - `exact`: only then, since the content of a line has no CR or LF. So the test is no stricter than the grammar.
 pub fn line_forms_make_files()
-    ensures { (text : List ℕ) (forms : List Form) → AreForms forms text
+    ensures file { (text : List ℕ) (forms : List Form) → AreForms forms text
         → (groups : List rfc.Group) × rfc.IsFile groups text }
+    ensures only { (text : List ℕ) (groups : List rfc.Group) → rfc.IsFile groups text
+        → (forms : List Form) × AreForms forms text }
+    ensures test { (form : Form) (body : List ℕ) → has_form form body ≡ true → HasForm form body }
+    ensures exact { (form : Form) (body : List ℕ) → All IsBodyByte body → HasForm form body → has_form form body ≡ true }
 {}
