@@ -17,7 +17,6 @@ use Rattle.robots_rfc9309.proofs.GroupLemmas.{has, members_in, one_found, theirs
 use Rattle.robots_rfc9309.proofs.Sources.{IsRead, Source, allowed_in, member_in, parts_in}
 use Rattle.robots_rfc9309.specs.Rfc9309.{Group, Member, groups_for, put_before}
 use Rattle.robots_rfc9309.specs.StandardRobot.{IsDelayAs, IsDelayOf, delay_among, delays_for, is_delay}
-use Rattle.robots_rfc9309.specs.Rfc9309 as rfc
 
 -- delays are what the lines of delays give
 delays_given : IsGiven delay_in is_delay IsDelayOf
