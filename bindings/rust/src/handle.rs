@@ -1,0 +1,128 @@
+//! All unsafe code: the calls of the C library, on robots and sites that it opened.
+
+use std::os::raw::c_char;
+use std::ptr::{self, NonNull};
+
+use texting_robots_c_sys as sys;
+
+use crate::error::{check, Error};
+
+/// A robot that is open until this value is dropped.
+pub(crate) struct Robot(NonNull<sys::robots>);
+
+/// A site that is open until this value is dropped.
+pub(crate) struct Site(NonNull<sys::robots_site>);
+
+// SAFETY: a robot and a site are blocks of memory that belong to no thread, and a call only reads them, so any number of calls may overlap.
+// robots.h states both as proved: in Rattle, as in Rust, each call borrows a value whose type is `Send` and `Sync`.
+unsafe impl Send for Robot {}
+unsafe impl Sync for Robot {}
+unsafe impl Send for Site {}
+unsafe impl Sync for Site {}
+
+// SAFETY, of each call below: each text is a slice, so its pointer is valid for its length; what is written is a variable or a buffer of
+// this module, which overlaps nothing; and what is open is borrowed, so that nobody closes it during the call.
+
+impl Site {
+    pub(crate) fn open(txt: &[u8]) -> Result<Site, Error> {
+        let mut site = ptr::null_mut();
+        check(unsafe { sys::robots_site_open(txt.as_ptr().cast(), txt.len(), &mut site) }, 0)?;
+        Ok(Site(NonNull::new(site).expect("robots.h: an open site isn't NULL")))
+    }
+
+    pub(crate) fn robot(&self, agent: &str) -> Result<Robot, Error> {
+        let (mut robot, mut line) = (ptr::null_mut(), 0);
+        let status = unsafe {
+            sys::robots_site_robot(self.0.as_ptr(), agent.as_ptr().cast(), agent.len(), &mut robot, &mut line)
+        };
+        check(status, line)?;
+        Ok(Robot(NonNull::new(robot).expect("robots.h: an open robot isn't NULL")))
+    }
+
+    /// The results for texts with a line feed between one item and the next.
+    pub(crate) fn matrix(&self, agents: &str, urls: &str, results: &mut [i64]) -> Result<(), Error> {
+        let status = unsafe {
+            let (agents, agents_len, urls, urls_len) =
+                (agents.as_ptr().cast(), agents.len(), urls.as_ptr().cast(), urls.len());
+            sys::robots_site_matrix(
+                self.0.as_ptr(),
+                agents,
+                agents_len,
+                urls,
+                urls_len,
+                results.as_mut_ptr(),
+                results.len(),
+            )
+        };
+        check(status, 0)
+    }
+
+    pub(crate) fn delay(&self, agent: &str) -> Option<u64> {
+        let mut delay = 0;
+        let status = unsafe { sys::robots_site_delay(self.0.as_ptr(), agent.as_ptr().cast(), agent.len(), &mut delay) };
+        (status == sys::ROBOTS_OK).then_some(delay)
+    }
+
+    pub(crate) fn is_named(&self, agent: &str) -> bool {
+        unsafe { sys::robots_site_is_named(self.0.as_ptr(), agent.as_ptr().cast(), agent.len()) == 1 }
+    }
+
+    pub(crate) fn sitemaps(&self) -> Result<Vec<String>, Error> {
+        Ok(lines(&written(|out, room, len| unsafe { sys::robots_site_sitemaps(self.0.as_ptr(), out, room, len) })?))
+    }
+
+    pub(crate) fn agents(&self) -> Result<Vec<String>, Error> {
+        Ok(lines(&written(|out, room, len| unsafe { sys::robots_site_agents(self.0.as_ptr(), out, room, len) })?))
+    }
+}
+
+impl Drop for Site {
+    fn drop(&mut self) {
+        unsafe { sys::robots_site_close(self.0.as_ptr()) }
+    }
+}
+
+impl Robot {
+    /// 0, the line that allows the URL, or minus the line that denies it.
+    pub(crate) fn query(&self, url: &str) -> Result<i64, Error> {
+        let mut result = 0;
+        check(unsafe { sys::robots_query(self.0.as_ptr(), url.as_ptr().cast(), url.len(), &mut result) }, 0)?;
+        Ok(result)
+    }
+
+    /// In microseconds.
+    pub(crate) fn delay(&self) -> Option<u64> {
+        let mut delay = 0;
+        (unsafe { sys::robots_query_delay(self.0.as_ptr(), &mut delay) } == sys::ROBOTS_OK).then_some(delay)
+    }
+}
+
+impl Drop for Robot {
+    fn drop(&mut self) {
+        unsafe { sys::robots_close(self.0.as_ptr()) }
+    }
+}
+
+pub(crate) fn address(url: &str) -> Result<String, Error> {
+    written(|out, room, len| unsafe { sys::robots_address(url.as_ptr().cast(), url.len(), out, room, len) })
+}
+
+/// What a call writes into a buffer, which grows to the length that the call then needs.
+fn written(call: impl Fn(*mut c_char, usize, &mut usize) -> i32) -> Result<String, Error> {
+    let mut text: Vec<u8> = Vec::with_capacity(1024);
+    let mut len = 0;
+    loop {
+        let status = call(text.as_mut_ptr().cast(), text.capacity(), &mut len);
+        if status != sys::ROBOTS_BUFFER_TOO_SMALL {
+            check(status, 0)?;
+            // SAFETY: the call has written so many bytes
+            unsafe { text.set_len(len) };
+            return Ok(String::from_utf8(text).expect("robots.h: what is written is UTF-8"));
+        }
+        text = Vec::with_capacity(len);
+    }
+}
+
+fn lines(text: &str) -> Vec<String> {
+    text.split_terminator('\n').map(str::to_owned).collect()
+}

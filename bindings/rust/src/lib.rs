@@ -1,0 +1,170 @@
+#![doc = include_str!("../README.md")]
+#![deny(missing_docs, unsafe_op_in_unsafe_fn)]
+
+use std::fmt;
+use std::time::Duration;
+
+mod error;
+mod handle;
+
+pub use error::Error;
+/// The name of this call in `texting_robots`.
+pub use robots_url as get_robots_url;
+
+/// How many bytes of a file count: no more need be fetched.
+pub const FILE_LIMIT: usize = texting_robots_c_sys::ROBOTS_FILE_LIMIT;
+
+/// Whether a crawler may fetch a URL, and the line of the file that decides.
+#[derive(Debug, Clone, Copy, PartialEq, Eq, Hash)]
+pub struct Decision {
+    /// Whether the crawler may fetch it.
+    pub allowed: bool,
+    /// The number of the deciding line, counted from 1 among all lines of the file. It is `None` if no rule matches, and for
+    /// `/robots.txt`, which is always allowed.
+    pub line: Option<usize>,
+}
+
+impl Decision {
+    fn of(result: i64) -> Decision {
+        let line = result.unsigned_abs() as usize;
+        Decision { allowed: result >= 0, line: (line != 0).then_some(line) }
+    }
+}
+
+/// A robots.txt file as one crawler reads it.
+///
+/// Threads can share it, and none waits for another.
+pub struct Robot {
+    /// How long the crawler waits between two requests, if the file specifies that. It may be half a million years, so limit it before
+    /// you add it to a time.
+    pub delay: Option<Duration>,
+    /// The sitemaps that the file lists, in its order. They are the same for every crawler.
+    pub sitemaps: Vec<String>,
+    rules: handle::Robot,
+}
+
+impl Robot {
+    /// Reads the first [`FILE_LIMIT`] bytes of a file, which may be any bytes, for the crawler with this product token: `FerrisBot`, not
+    /// `FerrisBot/1.0`. It is compared in full with the file's names, and ASCII letters match in any case.
+    ///
+    /// # Errors
+    ///
+    /// [`Error::OverlongRule`] and [`Error::OutOfMemory`].
+    pub fn new(agent: &str, txt: &[u8]) -> Result<Robot, Error> {
+        Site::new(txt)?.robot(agent)
+    }
+
+    /// Whether the crawler may fetch this: an absolute URL or a path. Any other text, such as `example.com/a`, is compared with the rules
+    /// too, and usually allowed.
+    ///
+    /// # Panics
+    ///
+    /// If an allocation fails. [`Robot::decision`] returns an error then.
+    pub fn allowed(&self, url: &str) -> bool {
+        self.rules.query(url).expect("a URL is compared with the rules") >= 0
+    }
+
+    /// As [`Robot::allowed`], with the line that decides.
+    ///
+    /// # Errors
+    ///
+    /// [`Error::OutOfMemory`].
+    pub fn decision(&self, url: &str) -> Result<Decision, Error> {
+        self.rules.query(url).map(Decision::of)
+    }
+}
+
+impl fmt::Debug for Robot {
+    fn fmt(&self, f: &mut fmt::Formatter<'_>) -> fmt::Result {
+        f.debug_struct("Robot").field("delay", &self.delay).field("sitemaps", &self.sitemaps).finish_non_exhaustive()
+    }
+}
+
+/// A robots.txt file that is read once for many crawlers.
+///
+/// Threads can share it, and none waits for another.
+pub struct Site {
+    /// The sitemaps that the file lists, in its order.
+    pub sitemaps: Vec<String>,
+    lines: handle::Site,
+}
+
+impl Site {
+    /// Reads the first [`FILE_LIMIT`] bytes of a file, which may be any bytes.
+    ///
+    /// # Errors
+    ///
+    /// [`Error::OutOfMemory`].
+    pub fn new(txt: &[u8]) -> Result<Site, Error> {
+        let lines = handle::Site::open(txt)?;
+        Ok(Site { sitemaps: lines.sitemaps()?, lines })
+    }
+
+    /// What [`Robot::new`] returns for this file. The robot doesn't need the site any more.
+    ///
+    /// # Errors
+    ///
+    /// [`Error::OverlongRule`] and [`Error::OutOfMemory`].
+    pub fn robot(&self, agent: &str) -> Result<Robot, Error> {
+        let rules = self.lines.robot(agent)?;
+        Ok(Robot { delay: rules.delay().map(Duration::from_micros), sitemaps: self.sitemaps.clone(), rules })
+    }
+
+    /// A row for each crawler, and in it the decision for each URL, or `None`, which doesn't allow either, if the file can't be used for
+    /// the crawler ([`Error::OverlongRule`]). Crawlers that the file doesn't name cost little.
+    ///
+    /// # Errors
+    ///
+    /// [`Error::OutOfMemory`].
+    pub fn matrix(&self, agents: &[&str], urls: &[&str]) -> Result<Vec<Vec<Option<Decision>>>, Error> {
+        if urls.is_empty() || agents.is_empty() || agents.iter().chain(urls).any(|text| text.contains('\n')) {
+            return agents.iter().map(|agent| self.row(agent, urls)).collect();
+        }
+        let mut results = vec![0; agents.len() * urls.len()];
+        self.lines.matrix(&agents.join("\n"), &urls.join("\n"), &mut results)?;
+        let decision = |&result| (result != texting_robots_c_sys::ROBOTS_NO_RESULT).then(|| Decision::of(result));
+        Ok(results.chunks(urls.len()).map(|row| row.iter().map(decision).collect()).collect())
+    }
+
+    fn row(&self, agent: &str, urls: &[&str]) -> Result<Vec<Option<Decision>>, Error> {
+        match self.robot(agent) {
+            Ok(robot) => urls.iter().map(|url| robot.decision(url).map(Some)).collect(),
+            Err(Error::OverlongRule { .. }) => Ok(vec![None; urls.len()]),
+            Err(error) => Err(error),
+        }
+    }
+
+    /// [`Robot::delay`] for this crawler, also where a rule is too long.
+    pub fn delay(&self, agent: &str) -> Option<Duration> {
+        self.lines.delay(agent).map(Duration::from_micros)
+    }
+
+    /// The names in the file's user-agent lines, `*` too, in its order; of names that differ only in the case of ASCII letters the first.
+    ///
+    /// # Errors
+    ///
+    /// [`Error::OutOfMemory`].
+    pub fn agents(&self) -> Result<Vec<String>, Error> {
+        self.lines.agents()
+    }
+
+    /// Whether a user-agent line names this crawler. All that none names have the same robot, so they can share it.
+    pub fn is_named(&self, agent: &str) -> bool {
+        self.lines.is_named(agent)
+    }
+}
+
+impl fmt::Debug for Site {
+    fn fmt(&self, f: &mut fmt::Formatter<'_>) -> fmt::Result {
+        f.debug_struct("Site").field("sitemaps", &self.sitemaps).finish_non_exhaustive()
+    }
+}
+
+/// The address of the robots.txt file for a URL of http or https.
+///
+/// # Errors
+///
+/// [`Error::NoAddress`] for any other text, and [`Error::OutOfMemory`].
+pub fn robots_url(url: &str) -> Result<String, Error> {
+    handle::address(url)
+}

@@ -1,0 +1,56 @@
+//! Links the C library. ROBOTS_C names a folder where `make install` of bindings/c has put it. Otherwise it is taken from this
+//! repository, and `rt lib` proves and builds it first if that hasn't been done.
+
+use std::env;
+use std::path::{Path, PathBuf};
+use std::process::Command;
+
+fn main() {
+    println!("cargo:rerun-if-env-changed=ROBOTS_C");
+    let (arch, os) = (env::var("CARGO_CFG_TARGET_ARCH"), env::var("CARGO_CFG_TARGET_OS"));
+    if (arch.as_deref(), os.as_deref()) != (Ok("x86_64"), Ok("linux")) {
+        fail("the C library robots_c is for Linux on x86-64 only");
+    }
+    let archive = match env::var_os("ROBOTS_C") {
+        Some(installed) => Path::new(&installed).join("lib/librobots_c.a"),
+        None => from_repository(),
+    };
+    if !archive.is_file() {
+        fail(&format!("{} is missing: ROBOTS_C is the PREFIX of `make install` in bindings/c", archive.display()));
+    }
+    println!("cargo:rerun-if-changed={}", archive.display());
+    println!("cargo:rustc-link-search=native={}", archive.parent().unwrap().display());
+    println!("cargo:rustc-link-lib=static=robots_c");
+}
+
+/// The archive of crates/robots_c together with the toolchain's calls of malloc, realloc and free.
+fn from_repository() -> PathBuf {
+    let root = Path::new(&env::var_os("CARGO_MANIFEST_DIR").unwrap()).join("../../..");
+    let library = root.join("crates/robots_c");
+    let proved = library.join("out/librobots_c.a");
+    println!("cargo:rerun-if-changed={}", proved.display());
+    if !proved.is_file() {
+        run(Command::new("rt").arg("lib").current_dir(library));
+    }
+    let out = Path::new(&env::var_os("OUT_DIR").unwrap()).join("c");
+    let archive = out.join("librobots_c.a");
+    run(Command::new("make")
+        .arg("-s")
+        .arg("-C")
+        .arg(root.join("bindings/c"))
+        .arg(format!("OUT={}", out.display()))
+        .arg(&archive));
+    archive
+}
+
+fn run(command: &mut Command) {
+    match command.status() {
+        Ok(status) if status.success() => {}
+        ended => fail(&format!("{command:?} failed: {ended:?}")),
+    }
+}
+
+fn fail(message: &str) -> ! {
+    eprintln!("texting_robots_c-sys: {message}");
+    std::process::exit(1)
+}

@@ -1,0 +1,67 @@
+//! The calls of the C library `robots_c`: `crates/robots_c/robots.h` explains each of them.
+#![allow(non_camel_case_types)]
+
+use std::marker::{PhantomData, PhantomPinned};
+use std::os::raw::{c_char, c_void};
+
+pub const ROBOTS_VERSION: u32 = 100;
+pub const ROBOTS_FILE_LIMIT: usize = 512_000;
+
+pub const ROBOTS_OK: i32 = 0;
+pub const ROBOTS_NOT_UTF8: i32 = -1;
+pub const ROBOTS_OUT_OF_MEMORY: i32 = -2;
+pub const ROBOTS_BUFFER_TOO_SMALL: i32 = -3;
+pub const ROBOTS_NO_DELAY: i32 = -4;
+pub const ROBOTS_NO_ADDRESS: i32 = -5;
+pub const ROBOTS_OVERLONG_RULE: i32 = -6;
+pub const ROBOTS_NO_RESULT: i64 = i64::MIN;
+
+/// A file as one crawler reads it: its rules and delay.
+#[repr(C)]
+pub struct robots {
+    _private: [u8; 0],
+    _marker: PhantomData<(*mut u8, PhantomPinned)>,
+}
+
+/// A file that is read once for all crawlers.
+#[repr(C)]
+pub struct robots_site {
+    _private: [u8; 0],
+    _marker: PhantomData<(*mut u8, PhantomPinned)>,
+}
+
+#[rustfmt::skip] // as in the header
+extern "C" {
+    pub fn robots_version() -> u32;
+
+    pub fn robots_open(agent: *const c_char, agent_len: usize, file: *const c_void, file_len: usize,
+                       robot: *mut *mut robots, line: *mut usize) -> i32;
+    pub fn robots_query(robot: *const robots, url: *const c_char, url_len: usize, result: *mut i64) -> i32;
+    pub fn robots_query_many(robot: *const robots, urls: *const c_char, urls_len: usize,
+                             results: *mut i64, results_len: usize) -> i32;
+    pub fn robots_query_delay(robot: *const robots, microseconds: *mut u64) -> i32;
+    pub fn robots_close(robot: *mut robots);
+
+    pub fn robots_decide(agent: *const c_char, agent_len: usize, file: *const c_void, file_len: usize,
+                         urls: *const c_char, urls_len: usize, results: *mut i64, results_len: usize, line: *mut usize) -> i32;
+    pub fn robots_matrix(agents: *const c_char, agents_len: usize, file: *const c_void, file_len: usize,
+                         urls: *const c_char, urls_len: usize, results: *mut i64, results_len: usize) -> i32;
+    pub fn robots_delay(agent: *const c_char, agent_len: usize, file: *const c_void, file_len: usize,
+                        microseconds: *mut u64) -> i32;
+    pub fn robots_sitemaps(file: *const c_void, file_len: usize, out: *mut c_char, out_len: usize, len: *mut usize) -> i32;
+    pub fn robots_agents(file: *const c_void, file_len: usize, out: *mut c_char, out_len: usize, len: *mut usize) -> i32;
+
+    pub fn robots_site_open(file: *const c_void, file_len: usize, site: *mut *mut robots_site) -> i32;
+    pub fn robots_site_robot(site: *const robots_site, agent: *const c_char, agent_len: usize,
+                             robot: *mut *mut robots, line: *mut usize) -> i32;
+    pub fn robots_site_matrix(site: *const robots_site, agents: *const c_char, agents_len: usize,
+                              urls: *const c_char, urls_len: usize, results: *mut i64, results_len: usize) -> i32;
+    pub fn robots_site_delay(site: *const robots_site, agent: *const c_char, agent_len: usize,
+                             microseconds: *mut u64) -> i32;
+    pub fn robots_site_sitemaps(site: *const robots_site, out: *mut c_char, out_len: usize, len: *mut usize) -> i32;
+    pub fn robots_site_agents(site: *const robots_site, out: *mut c_char, out_len: usize, len: *mut usize) -> i32;
+    pub fn robots_site_is_named(site: *const robots_site, agent: *const c_char, agent_len: usize) -> i32;
+    pub fn robots_site_close(site: *mut robots_site);
+
+    pub fn robots_address(url: *const c_char, url_len: usize, out: *mut c_char, out_len: usize, len: *mut usize) -> i32;
+}

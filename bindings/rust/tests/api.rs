@@ -1,0 +1,155 @@
+//! Each call: its results, its errors, and files of any bytes.
+
+use std::time::Duration;
+
+use texting_robots_c::{get_robots_url, robots_url, Decision, Error, Robot, Site, FILE_LIMIT};
+use texting_robots_c_sys as sys;
+
+const SHOP: &str = "\
+User-agent: *
+Disallow: /search
+Allow: /search/help
+Crawl-delay: 2.5
+
+User-agent: SlowBot
+Disallow: /
+Crawl-delay: 1e300
+Sitemap: https://example.com/one.xml
+Sitemap: https://example.com/zwölf.xml
+";
+
+const ALLOWED: Decision = Decision { allowed: true, line: None };
+
+fn allowed(line: usize) -> Decision {
+    Decision { allowed: true, line: Some(line) }
+}
+
+fn denied(line: usize) -> Decision {
+    Decision { allowed: false, line: Some(line) }
+}
+
+/// A file whose lines 2 and 5 are rules that are too long for every crawler but Other.
+fn overlong() -> Vec<u8> {
+    let rule = format!("/$ {}", "a".repeat(4096)).replace(' ', "");
+    format!(
+        "User-agent: *\nDisallow: {rule}\nCrawl-delay: 1\nSitemap: x\nAllow: {rule}\nUser-agent: Other\nDisallow: /\n"
+    )
+    .into_bytes()
+}
+
+fn robot(agent: &str, file: impl AsRef<[u8]>) -> Robot {
+    Robot::new(agent, file.as_ref()).unwrap()
+}
+
+#[test]
+fn decisions() {
+    let ferris = robot("FerrisBot", SHOP);
+    assert_eq!(ferris.decision("https://example.com/search/tea"), Ok(denied(2)));
+    assert_eq!(ferris.decision("/search/help"), Ok(allowed(3)));
+    assert_eq!(ferris.decision("/"), Ok(ALLOWED));
+    assert_eq!(ferris.decision(""), Ok(ALLOWED));
+    assert_eq!(robot("SLOWBOT", SHOP).decision("/robots.txt"), Ok(ALLOWED));
+    assert_eq!(robot("SLOWBOT", SHOP).decision("/"), Ok(denied(7)));
+    assert!(!ferris.allowed("/search") && ferris.allowed("/search/help") && robot("FerrisBot", "").allowed("/"));
+}
+
+#[test]
+fn delays() {
+    assert_eq!(robot("FerrisBot", SHOP).delay, Some(Duration::from_micros(2_500_000)));
+    assert_eq!(robot("SlowBot", SHOP).delay, Some(Duration::from_micros(u64::MAX)));
+    assert_eq!(robot("FerrisBot", "").delay, None);
+    assert_eq!(robot("FerrisBot", "User-agent: *\nCrawl-delay: 0").delay, Some(Duration::ZERO));
+}
+
+#[test]
+fn sitemaps_and_agents() {
+    let sitemaps = ["https://example.com/one.xml", "https://example.com/zwölf.xml"];
+    assert_eq!(robot("FerrisBot", SHOP).sitemaps, sitemaps);
+    let site =
+        Site::new(&[SHOP.as_bytes(), b"User-agent: SLOWBOT\nUser-agent: b\xC3\xB6tbot\nUser-agent: \xFF"].concat())
+            .unwrap();
+    assert_eq!(
+        (site.sitemaps.as_slice(), site.robot("x").unwrap().sitemaps.as_slice()),
+        (&sitemaps.map(String::from)[..], &sitemaps.map(String::from)[..])
+    );
+    assert_eq!(site.agents().unwrap(), ["*", "SlowBot", "bötbot"]);
+    let (named, many): (String, Vec<String>) =
+        (0..1000).map(|n| (format!("User-agent: {n}\nSitemap: {n}\n"), n.to_string())).unzip();
+    let site = Site::new(named.as_bytes()).unwrap();
+    assert_eq!((&site.sitemaps, &site.agents().unwrap()), (&many, &many));
+    assert!(site.is_named("999") && !site.is_named("1000") && !site.is_named(""));
+    assert!(Site::new(b"").unwrap().sitemaps.is_empty() && Site::new(b"").unwrap().agents().unwrap().is_empty());
+}
+
+#[test]
+fn a_site_has_the_decisions_of_its_robots() {
+    let site = Site::new(SHOP.as_bytes()).unwrap();
+    for urls in [&["/search/tea", "/search/help", "", "/é"][..], &["/a\nb", "/search"], &["/"], &[]] {
+        for agents in [&["FerrisBot", "SlowBot", "*", ""][..], &["a\nb", "SlowBot"], &[]] {
+            let row = |agent: &&str| urls.iter().map(|url| Some(robot(agent, SHOP).decision(url).unwrap())).collect();
+            let rows: Vec<Vec<_>> = agents.iter().map(row).collect();
+            assert_eq!(site.matrix(agents, urls), Ok(rows));
+        }
+    }
+    assert_eq!(
+        (site.delay("x"), site.delay("slowbot")),
+        (Some(Duration::from_millis(2500)), Some(Duration::from_micros(u64::MAX)))
+    );
+    let ferris = site.robot("FerrisBot").unwrap();
+    drop(site);
+    assert_eq!(ferris.decision("/search"), Ok(denied(2)));
+}
+
+#[test]
+fn a_rule_that_is_too_long() {
+    let error = Robot::new("FerrisBot", &overlong()).unwrap_err();
+    assert_eq!(error, Error::OverlongRule { line: 2 });
+    assert_eq!(error.to_string(), "the rule in line 2 is too long: the file can't be used for this crawler");
+    let site = Site::new(&overlong()).unwrap();
+    assert_eq!(site.robot("FerrisBot").unwrap_err(), error);
+    assert_eq!(site.delay("FerrisBot"), Some(Duration::from_secs(1)));
+    assert_eq!(site.matrix(&["FerrisBot", "Other"], &["/a"]), Ok(vec![vec![None], vec![Some(denied(7))]]));
+    assert_eq!(site.matrix(&["FerrisBot", "Other"], &["/\n"]), Ok(vec![vec![None], vec![Some(denied(7))]]));
+    assert_eq!(site.sitemaps, ["x"]);
+}
+
+#[test]
+fn addresses() {
+    assert_eq!(
+        robots_url("HTTPS://Bücher.example:443/ä?b#c").as_deref(),
+        Ok("https://xn--bcher-kva.example/robots.txt")
+    );
+    for text in ["", "/a", "example.com/a", "mailto:a@example.com", "ftp://example.com/", "https://"] {
+        assert_eq!(robots_url(text), Err(Error::NoAddress), "{text}");
+    }
+    let long = format!("https://{}example", "a.".repeat(1000));
+    assert_eq!(get_robots_url(&format!("{long}/b")), Ok(format!("{long}/robots.txt")));
+}
+
+#[test]
+fn any_bytes() {
+    for file in [
+        &b"\xEF\xBB\xBFUser-agent: a # \xFF\rDisallow: /a"[..],
+        b"User-agent: a\0Disallow: /a\0",
+        b"User-agent: a\nDisallow: /a\xFF\nDisallow: /a",
+    ] {
+        let line = file.split(|byte| b"\r\0\n".contains(byte)).position(|line| line == b"Disallow: /a").unwrap() + 1;
+        assert_eq!(robot("a", file).decision("https://example.com/a"), Ok(denied(line)));
+    }
+    let past_the_limit = [vec![b'#'; FILE_LIMIT], b"\nUser-agent: a\nDisallow: /\n".to_vec()].concat();
+    assert!(robot("a", past_the_limit).allowed("/"));
+    assert_eq!(robot("é", "User-agent: é\nDisallow: /é").decision("https://example.com/%C3%A9"), Ok(denied(2)));
+}
+
+#[test]
+fn debug_and_errors_of_the_standard_library() {
+    let empty = format!("{:?} {:?}", robot("a", "Sitemap: b\nCrawl-delay: 1"), Site::new(b"").unwrap());
+    assert_eq!(empty, r#"Robot { delay: Some(1s), sitemaps: ["b"], .. } Site { sitemaps: [], .. }"#);
+    let errors: [Box<dyn std::error::Error + Send + Sync>; 2] = [Error::OutOfMemory.into(), Error::NoAddress.into()];
+    assert_eq!(errors.map(|error| error.to_string()), ["out of memory", "the URL has no robots.txt file"]);
+}
+
+#[test]
+fn the_library_is_that_of_the_header() {
+    assert_eq!(unsafe { sys::robots_version() }, sys::ROBOTS_VERSION);
+}

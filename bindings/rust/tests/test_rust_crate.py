@@ -1,0 +1,110 @@
+"""The crate: its own tests, the golden cases through its example program, another crate that uses it, and its README."""
+
+import os
+import re
+import shutil
+import subprocess
+from pathlib import Path
+
+import pytest
+from library import LIBRARY, archive
+from support import ROOT, Result, cases_of, input_of, run, spelled, wanted_of
+from test_documents import PRIVATE_WORDS, anchors, code, prose, tables
+
+CRATE = Path(__file__).resolve().parent.parent
+README = (CRATE / "README.md").read_text()
+if not shutil.which("cargo"):
+    pytest.skip("cargo is missing", allow_module_level=True)
+
+
+def cargo(*words, **options):
+    """What cargo prints. It has no network."""
+    options = {"cwd": CRATE, "capture_output": True, "text": True, "timeout": 900, **options}
+    ended = subprocess.run(["cargo", words[0], "--offline", *words[1:]], **options)
+    assert ended.returncode == 0, ended.stdout + ended.stderr
+    return ended.stdout
+
+
+@pytest.fixture(scope="module")
+def ask():
+    """The path of the example program, over the archive that is built before."""
+    archive()
+    cargo("build", "--examples")
+    return CRATE / "target/debug/examples/ask"
+
+
+def test_cargo_test(ask):
+    """The tests in Rust, and the lines of the README as one of the documentation tests."""
+    out = cargo("test", "--workspace")
+    assert sum(map(int, re.findall(r"^test result: ok. (\d+) passed; 0 failed; 0 ignored", out, re.M))) >= 12
+    assert re.search(r"^test .*README\.md.* \.\.\. ok$", out, re.M)
+
+
+GOLDEN = {
+    f"{name}: {case}": keys
+    for name in ("groups", "rules", "delays")
+    for case, keys in cases_of((ROOT / f"tests/golden/robots_verdict/{name}.toml").read_text()).items()
+}
+EXAMPLES = cases_of((ROOT / "tests/golden/ask.toml").read_text())
+
+
+@pytest.mark.parametrize("case", GOLDEN.values(), ids=GOLDEN)
+def test_golden_case_of_robots_verdict(ask, case):
+    header, file = input_of(case).split(b"\n\n", 1)
+    result = run(ask, header.split(b"\n"), file)
+    if case.get("status") == 3:
+        assert (result.status, result.out) == (2, "") and "is too long" in result.err
+    else:
+        assert (re.sub(r"^robots .*\n", "", result.out), result.err) == (wanted_of(case).out, "")
+        assert result.status == ("\ndeny " in result.out)
+
+
+@pytest.mark.parametrize("case", EXAMPLES.values(), ids=EXAMPLES)
+def test_golden_case_of_the_example_programs(ask, case):
+    assert run(ask, [spelled(word) for word in case["args"].split()], input_of(case)) == wanted_of(case)
+
+
+def test_the_lines_of_the_readme_in_another_crate(installed, tmp_path):
+    """Over the installed library, and under the former name of the crate, as when migrating."""
+    (tmp_path / "src").mkdir()
+    lines = code(README, "rust")[0].replace("texting_robots_c", "texting_robots").replace("# Ok", "Ok")
+    (tmp_path / "src/main.rs").write_text(f"fn main() -> Result<(), texting_robots::Error> {{\n{lines}}}\n")
+    named = re.search(r"`texting_robots = (\{ package.*?\})`", README)[1].replace('".."', f'"{CRATE}"')
+    (tmp_path / "Cargo.toml").write_text(f'[package]\nname = "caller"\nversion = "0.1.0"\nedition = "2021"\n[dependencies]\ntexting_robots = {named}\n')
+    cargo("run", cwd=tmp_path, env=os.environ | {"ROBOTS_C": str(installed), "CARGO_TARGET_DIR": str(tmp_path / "target")})
+
+
+TYPES = {"size_t": "usize", "int32_t": "i32", "uint32_t": "u32", "int64_t": "i64", "uint64_t": "u64", "char": "c_char", "void": "c_void"}
+
+
+def in_rust(declared):
+    """A parameter or constant of the header, as Rust has it: `const char *url` is `url: *const c_char`."""
+    words = re.findall(r"\w+|\*", declared)
+    const, name = words[0] == "const", words[-1]
+    kind = TYPES.get(words[const], words[const])
+    stars = words.count("*")
+    return f"{name}: {'*mut ' * (stars - 1)}{'*const ' if const else '*mut ' * (stars > 0)}{kind}"
+
+
+def test_the_raw_crate_has_the_calls_and_constants_of_the_header():
+    header = re.sub(r"/\*.*?\*/", "", (LIBRARY / "robots.h").read_text(), flags=re.S)
+    raw = (CRATE / "sys/src/lib.rs").read_text()
+    found = {name: [" ".join(it.split()) for it in words.split(",") if it] for name, words in re.findall(r"pub fn (\w+)\(([^)]*)\)", raw)}
+    declared = re.findall(r"^(?:ROBOTS_CHECK )?(\w+) (robots_\w+)\(([^)]*)\);", header, re.M)
+    assert len(declared) >= 20
+    assert found == {name: [in_rust(it) for it in words.split(",") if it != "void"] for _, name, words in declared}
+    for kind, name, _ in declared:
+        assert re.search(rf"pub fn {name}\([^)]*\){'' if kind == 'void' else f' -> {TYPES[kind]}'};", raw)
+    numbers = re.findall(r"^(?:    |#define )(ROBOTS_\w+)(?: =)? (-?\d+)\b,?", header, re.M)
+    constants = re.findall(r"^pub const (ROBOTS_\w+): \w+ = (-?\d+);", raw.replace("_000", "000"), re.M)
+    assert set(constants) - set(numbers) == {("ROBOTS_VERSION", "100")} and len(constants) == 9
+
+
+def test_the_readme_keeps_the_rules_of_the_documents():
+    assert len(README.encode()) <= 5000
+    assert not [line for line in prose(README) if len(line) > 100]
+    for target in re.findall(r"\]\(([^)\s]+)\)", README):
+        path, _, anchor = target.partition("#")
+        assert (CRATE / path).exists() and (not anchor or anchor in anchors((CRATE / path).read_text())), target
+    text = re.sub(r"`[^`]*`", "", "\n".join([*prose(README), *(" | ".join(row) for row in tables(README))]))
+    assert not re.findall(rf"\b(?:{PRIVATE_WORDS})\b", text, re.I)
