@@ -2,11 +2,11 @@
 //!
 //! The status is 0 if every URL is allowed, 1 if one is denied, and 2 after an error.
 
-use std::error::Error;
 use std::io::{self, Read};
 use std::process::exit;
+use std::{env, error};
 
-use texting_robots_c::{robots_url, Robot, FILE_LIMIT};
+use texting_robots_c::{robots_url, Error, Robot, FILE_LIMIT};
 
 fn main() {
     match ask() {
@@ -19,17 +19,21 @@ fn main() {
 }
 
 /// Whether a URL is denied.
-fn ask() -> Result<bool, Box<dyn Error>> {
-    let words: Result<Vec<String>, _> = std::env::args_os().skip(1).map(|word| word.into_string()).collect();
-    let words = words.map_err(|_| "the agent or a URL isn't UTF-8")?;
-    let (agent, urls) = words.split_first().ok_or("usage: ask AGENT [URL..] < robots.txt")?;
+fn ask() -> Result<bool, Box<dyn error::Error>> {
+    let mut words = env::args_os().skip(1).map(|word| word.into_string().map_err(|_| "the agent or a URL isn't UTF-8"));
+    let agent = words.next().ok_or("usage: ask AGENT [URL..] < robots.txt")??;
+    let urls: Vec<_> = words.collect();
     let mut file = Vec::new();
     io::stdin().take(FILE_LIMIT as u64).read_to_end(&mut file)?;
 
-    if let Some(Ok(address)) = urls.first().map(|url| robots_url(url)) {
-        println!("robots {address}");
+    if let Some(Ok(url)) = urls.first() {
+        match robots_url(url) {
+            Ok(address) => println!("robots {address}"),
+            Err(Error::NoAddress) => {}
+            Err(error) => return Err(error.into()),
+        }
     }
-    let robot = Robot::new(agent, &file)?;
+    let robot = Robot::new(&agent, &file)?;
     match robot.delay {
         Some(delay) => println!("delay {}", delay.as_micros()),
         None => println!("delay none"),
@@ -39,7 +43,8 @@ fn ask() -> Result<bool, Box<dyn Error>> {
     }
     let mut denied = false;
     for url in urls {
-        let decision = robot.decision(url)?;
+        let url = url?;
+        let decision = robot.decision(&url)?;
         let line = decision.line.map_or_else(|| "-".to_owned(), |line| line.to_string());
         println!("{} {line} {url}", if decision.allowed { "allow" } else { "deny" });
         denied |= !decision.allowed;

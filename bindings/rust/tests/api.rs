@@ -30,7 +30,7 @@ fn denied(line: usize) -> Decision {
 
 /// A file whose lines 2 and 5 are rules that are too long for every crawler but Other.
 fn overlong() -> Vec<u8> {
-    let rule = format!("/$ {}", "a".repeat(4096)).replace(' ', "");
+    let rule = format!("/${}", "a".repeat(4096));
     format!(
         "User-agent: *\nDisallow: {rule}\nCrawl-delay: 1\nSitemap: x\nAllow: {rule}\nUser-agent: Other\nDisallow: /\n"
     )
@@ -68,10 +68,8 @@ fn sitemaps_and_agents() {
     let site =
         Site::new(&[SHOP.as_bytes(), b"User-agent: SLOWBOT\nUser-agent: b\xC3\xB6tbot\nUser-agent: \xFF"].concat())
             .unwrap();
-    assert_eq!(
-        (site.sitemaps.as_slice(), site.robot("x").unwrap().sitemaps.as_slice()),
-        (&sitemaps.map(String::from)[..], &sitemaps.map(String::from)[..])
-    );
+    assert_eq!(site.sitemaps, sitemaps);
+    assert_eq!(site.robot("x").unwrap().sitemaps, sitemaps);
     assert_eq!(site.agents().unwrap(), ["*", "SlowBot", "bötbot"]);
     let (named, many): (String, Vec<String>) =
         (0..1000).map(|n| (format!("User-agent: {n}\nSitemap: {n}\n"), n.to_string())).unzip();

@@ -8,7 +8,7 @@ from pathlib import Path
 
 import pytest
 from library import LIBRARY, archive
-from support import ROOT, Result, cases_of, input_of, run, spelled, wanted_of
+from support import ROOT, cases_of, compiled, input_of, run, spelled, wanted_of
 from test_documents import PRIVATE_WORDS, anchors, code, prose, tables
 
 CRATE = Path(__file__).resolve().parent.parent
@@ -37,7 +37,7 @@ def test_cargo_test(ask):
     """The tests in Rust, and the lines of the README as one of the documentation tests."""
     out = cargo("test", "--workspace")
     assert sum(map(int, re.findall(r"^test result: ok. (\d+) passed; 0 failed; 0 ignored", out, re.M))) >= 12
-    assert re.search(r"^test .*README\.md.* \.\.\. ok$", out, re.M)
+    assert re.search(r"^test \S+ - .*\(line \d+\) \.\.\. ok$", out, re.M)
 
 
 GOLDEN = {
@@ -62,6 +62,23 @@ def test_golden_case_of_robots_verdict(ask, case):
 @pytest.mark.parametrize("case", EXAMPLES.values(), ids=EXAMPLES)
 def test_golden_case_of_the_example_programs(ask, case):
     assert run(ask, [spelled(word) for word in case["args"].split()], input_of(case)) == wanted_of(case)
+
+
+def test_each_allocation_fails_in_turn(ask, tmp_path):
+    """It is reported, by the library as an error and by Rust, which aborts. A report that is complete is right."""
+    heap = compiled(tmp_path / "heap.so", "-shared", "-fPIC", "tests/failing_heap.c")
+    call = [ask, ["a", "https://\u00e9/", "/a"], b"Disallow: /a\nCrawl-delay: 1\nSitemap: b"]
+    right, reported, number = run(*call), 0, 0
+    assert (right.status, right.err) == (1, "")
+    while True:
+        number += 1
+        result = run(*call, env=os.environ | {"LD_PRELOAD": str(heap), "FAIL_ALLOCATION": str(number), "COUNTS": "2"})
+        counts = re.search(r"^(\d+) (\d+) (\d+) .*\n\Z", result.err, re.M)
+        if counts and counts[2] == "0":
+            break
+        reported += result.status == 2
+        assert result.status in (2, -6) and re.search("out of memory|memory allocation of", result.err), result
+    assert result.out == right.out and reported > 5
 
 
 def test_the_lines_of_the_readme_in_another_crate(installed, tmp_path):
