@@ -67,12 +67,15 @@ impl Site {
         unsafe { sys::robots_site_is_named(self.0.as_ptr(), agent.as_ptr().cast(), agent.len()) == 1 }
     }
 
-    pub(crate) fn sitemaps(&self) -> Result<Vec<String>, Error> {
-        Ok(lines(&written(|out, room, len| unsafe { sys::robots_site_sitemaps(self.0.as_ptr(), out, room, len) })?))
+    /// The length of the file is enough room, so one call suffices.
+    pub(crate) fn sitemaps(&self, room: usize) -> Result<Vec<String>, Error> {
+        Ok(lines(&written(room, |out, room, len| unsafe {
+            sys::robots_site_sitemaps(self.0.as_ptr(), out, room, len)
+        })?))
     }
 
     pub(crate) fn agents(&self) -> Result<Vec<String>, Error> {
-        Ok(lines(&written(|out, room, len| unsafe { sys::robots_site_agents(self.0.as_ptr(), out, room, len) })?))
+        Ok(lines(&written(1024, |out, room, len| unsafe { sys::robots_site_agents(self.0.as_ptr(), out, room, len) })?))
     }
 }
 
@@ -104,12 +107,12 @@ impl Drop for Robot {
 }
 
 pub(crate) fn address(url: &str) -> Result<String, Error> {
-    written(|out, room, len| unsafe { sys::robots_address(url.as_ptr().cast(), url.len(), out, room, len) })
+    written(256, |out, room, len| unsafe { sys::robots_address(url.as_ptr().cast(), url.len(), out, room, len) })
 }
 
-/// What a call writes into a buffer, which grows to the length that the call then needs.
-fn written(call: impl Fn(*mut c_char, usize, &mut usize) -> i32) -> Result<String, Error> {
-    let mut text: Vec<u8> = Vec::with_capacity(1024);
+/// What a call writes into a buffer with this room, which grows to the length that the call then needs.
+fn written(room: usize, call: impl Fn(*mut c_char, usize, &mut usize) -> i32) -> Result<String, Error> {
+    let mut text: Vec<u8> = Vec::with_capacity(room);
     let mut len = 0;
     loop {
         let status = call(text.as_mut_ptr().cast(), text.capacity(), &mut len);

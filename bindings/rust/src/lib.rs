@@ -51,7 +51,12 @@ impl Robot {
     ///
     /// [`Error::OverlongRule`] and [`Error::OutOfMemory`].
     pub fn new(agent: &str, txt: &[u8]) -> Result<Robot, Error> {
-        Site::new(txt)?.robot(agent)
+        let Site { sitemaps, lines } = Site::new(txt)?;
+        Ok(Robot::of(lines.robot(agent)?, sitemaps))
+    }
+
+    fn of(rules: handle::Robot, sitemaps: Vec<String>) -> Robot {
+        Robot { delay: rules.delay().map(Duration::from_micros), sitemaps, rules }
     }
 
     /// Whether the crawler may fetch this: an absolute URL or a path. Any other text, such as `example.com/a`, is compared with the rules
@@ -97,7 +102,7 @@ impl Site {
     /// [`Error::OutOfMemory`].
     pub fn new(txt: &[u8]) -> Result<Site, Error> {
         let lines = handle::Site::open(txt)?;
-        Ok(Site { sitemaps: lines.sitemaps()?, lines })
+        Ok(Site { sitemaps: lines.sitemaps(txt.len().min(FILE_LIMIT))?, lines })
     }
 
     /// What [`Robot::new`] returns for this file. The robot doesn't need the site any more.
@@ -106,8 +111,7 @@ impl Site {
     ///
     /// [`Error::OverlongRule`] and [`Error::OutOfMemory`].
     pub fn robot(&self, agent: &str) -> Result<Robot, Error> {
-        let rules = self.lines.robot(agent)?;
-        Ok(Robot { delay: rules.delay().map(Duration::from_micros), sitemaps: self.sitemaps.clone(), rules })
+        Ok(Robot::of(self.lines.robot(agent)?, self.sitemaps.clone()))
     }
 
     /// A row for each crawler, and in it the decision for each URL, or `None`, which doesn't allow either, if the file can't be used for

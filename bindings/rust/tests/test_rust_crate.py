@@ -40,18 +40,25 @@ def test_cargo_test(ask):
     assert re.search(r"^test \S+ - .*\(line \d+\) \.\.\. ok$", out, re.M)
 
 
+def header_and_file(case):
+    """The crawler with the URLs, and the file."""
+    header, file = input_of(case).split(b"\n\n", 1)
+    return header.split(b"\n"), file
+
+
+# Linux passes no argument of 128 KiB to a program, and one case has such a URL.
 GOLDEN = {
     f"{name}: {case}": keys
     for name in ("groups", "rules", "delays")
     for case, keys in cases_of((ROOT / f"tests/golden/robots_verdict/{name}.toml").read_text()).items()
+    if max(map(len, header_and_file(keys)[0])) < 1 << 17
 }
 EXAMPLES = cases_of((ROOT / "tests/golden/ask.toml").read_text())
 
 
 @pytest.mark.parametrize("case", GOLDEN.values(), ids=GOLDEN)
 def test_golden_case_of_robots_verdict(ask, case):
-    header, file = input_of(case).split(b"\n\n", 1)
-    result = run(ask, header.split(b"\n"), file)
+    result = run(ask, *header_and_file(case))
     if case.get("status") == 3:
         assert (result.status, result.out) == (2, "") and "is too long" in result.err
     else:
@@ -65,7 +72,7 @@ def test_golden_case_of_the_example_programs(ask, case):
 
 
 def test_each_allocation_fails_in_turn(ask, tmp_path):
-    """It is reported, by the library as an error and by Rust, which aborts. A report that is complete is right."""
+    """The library reports it as an error, and Rust aborts, except where it can do without. Any other report is right."""
     heap = compiled(tmp_path / "heap.so", "-shared", "-fPIC", "tests/failing_heap.c")
     call = [ask, ["a", "https://\u00e9/", "/a"], b"Disallow: /a\nCrawl-delay: 1\nSitemap: b"]
     right, reported, number = run(*call), 0, 0
@@ -77,8 +84,9 @@ def test_each_allocation_fails_in_turn(ask, tmp_path):
         if counts and counts[2] == "0":
             break
         reported += result.status == 2
-        assert result.status in (2, -6) and re.search("out of memory|memory allocation of", result.err), result
-    assert result.out == right.out and reported > 5
+        failed = result.status in (2, -6) and re.search("out of memory|memory allocation of", result.err)
+        assert failed or (result.status, result.out) == (right.status, right.out), result
+    assert (result.status, result.out) == (right.status, right.out) and reported > 5
 
 
 def test_the_lines_of_the_readme_in_another_crate(installed, tmp_path):
