@@ -15,6 +15,7 @@ pub mod CapturedLemmas
 pub mod MembershipLemmas
 pub mod LabelLemmas
 pub mod RulesLemmas
+pub mod EmptyLemmas
 pub mod LaneLemmas
 pub mod SiteLemmas
 pub mod SiteRunLemmas

@@ -20,6 +20,7 @@ mod statement;
 
 use crate::error::Error;
 use agents::after_others;
+pub(crate) use cut::empty_lines;
 use cut::{after_end, body_len};
 pub use delay::read_delay;
 pub use statement::{Kind, field_names};

@@ -1,6 +1,7 @@
 -- The cut as a function, which computes it from the end of the text, and the parts of its first pair.
 use Rattle.std.specs.Prelude.{ℕ, suc, ◌==◌, List, [], ◌∷◌, if◌then◌else◌, map, Bool, true}
 use Rattle.std.specs.Prelude.{false}
+use Rattle.std.specs.List.{prefix_len}
 use Rattle.texting_robots.specs.Cut.{Pair, cr, lf}
 use Rattle.texting_robots.specs.Line.{nul_as_lf}
 
@@ -49,3 +50,11 @@ read_byte false byte = byte
 
 abbrev pub read_as : Bool → List ℕ → List ℕ
 read_as nul_ends text = map (read_byte nul_ends) text
+
+-- the byte completes a line terminator, alone or after CRs
+abbrev pub is_feed : Bool → ℕ → Bool
+is_feed nul_ends byte = read_byte nul_ends byte == lf
+
+-- how many such bytes the text begins with; each of them is an empty line
+abbrev pub empty_lines : Bool → List ℕ → ℕ
+empty_lines nul_ends text = prefix_len (is_feed nul_ends) text

@@ -1,7 +1,8 @@
 //! Where a line ends.
-ghost use Rattle.std.specs.Prelude.{◌≡◌, ◌<◌, ◌≤◌, ◌==◌, MatchOption, drop, if◌then◌else◌, length, take};
+ghost use Rattle.std.specs.Prelude.{◌≡◌, ◌<◌, ◌≤◌, MatchOption, drop, if◌then◌else◌, length, take};
+ghost use Rattle.std.specs.List.{list_all};
 ghost use Rattle.texting_robots.specs.Cut.{cr, lf};
-ghost use Rattle.texting_robots.specs.Internal.Cut.{body_len, end_len, read_as, read_byte};
+ghost use Rattle.texting_robots.specs.Internal.Cut.{body_len, empty_lines, end_len, is_feed, read_as};
 
 use crate::lanes::{LANES, all_are, first_lane};
 use memchr::{memchr2, memchr3};
@@ -91,7 +92,7 @@ pub(crate) fn body_len(text: &[u8], nul_ends: bool) -> usize
 
 /// Whether the byte completes a line terminator, alone or after CRs.
 fn feeds(byte: u8, nul_ends: bool) -> bool
-    ensures { result ≡ (read_byte nul_ends byte == lf) }
+    ensures { result ≡ is_feed nul_ends byte }
 {
     byte == b'\n' || nul_ends && byte == 0
 }
@@ -145,5 +146,66 @@ pub(crate) fn after_end<'a>(text: &'a [u8], nul_ends: bool) -> &'a [u8]
     match text {
         [b'\n', after @ ..] => after,
         _ => after_any_end(text, nul_ends),
+    }
+}
+
+/// Whether each byte completes a line terminator. It tests all bytes without an early exit, so that the compiler can
+/// vectorize the loop.
+fn all_feed(bytes: &[u8], nul_ends: bool) -> bool
+    ensures { result ≡ list_all (is_feed nul_ends) bytes.now }
+{
+    let mut all = true;
+    for byte in bytes {
+        all &= feeds(*byte, nul_ends);
+    }
+    all
+}
+
+/// How many empty lines the text begins with, counted one by one. Lines that end with a CR aren't counted.
+fn few_empty_lines(text: &[u8], nul_ends: bool) -> usize
+    ensures value { result ≡ empty_lines nul_ends text.now }
+    ensures within { result ≤ length text.now }
+{
+    text.iter()
+        .take_while(|byte| feeds(**byte, nul_ends))
+        .count()
+}
+
+/// The same, but most of them are counted `LANES` at a time.
+#[inline(never)]
+fn many_empty_lines(text: &[u8], nul_ends: bool) -> usize
+    ensures value { result ≡ empty_lines nul_ends text.now }
+    ensures within { result ≤ length text.now }
+{
+    let mut rest = text;
+    while rest.len() >= LANES && all_feed(&rest[..LANES], nul_ends) {
+        rest = rest.split_at(LANES).1;
+    }
+    text.len() - rest.len() + few_empty_lines(rest, nul_ends)
+}
+
+/// The same. If there is none, nothing is called.
+#[tactic(auto, using(crate::proofs::CutFromFront::no_empty_line))]
+#[inline(always)]
+fn some_empty_lines(text: &[u8], nul_ends: bool) -> usize
+    ensures value { result ≡ empty_lines nul_ends text.now }
+    ensures within { result ≤ length text.now }
+{
+    match text {
+        [first, ..] if feeds(*first, nul_ends) => many_empty_lines(text, nul_ends),
+        _ => 0,
+    }
+}
+
+/// The same. If there is at most one, as usual, nothing is called.
+#[tactic(auto, using(crate::proofs::CutFromFront::no_empty_line, crate::proofs::CutFromFront::an_empty_line))]
+#[inline(always)]
+pub(crate) fn empty_lines(text: &[u8], nul_ends: bool) -> usize
+    ensures value { result ≡ empty_lines nul_ends text.now }
+    ensures within { result ≤ length text.now }
+{
+    match text {
+        [first, after @ ..] if feeds(*first, nul_ends) => 1 + some_empty_lines(after, nul_ends),
+        _ => 0,
     }
 }

@@ -8,7 +8,7 @@ ghost use Rattle.texting_robots.specs.Line.{UserAgent, by_value};
 ghost use Rattle.texting_robots.specs.Internal.Site.{bytes_at, count_after, early_after, joins_after, line_at, listed, named};
 ghost use Rattle.texting_robots.specs.Internal.Site.{named_in, named_of, run_after, tag_at, tag_in, tag_of, tagged};
 
-use crate::parser::{LazyLine, Line, split_line, without_front};
+use crate::parser::{LazyLine, Line, empty_lines, split_line, without_front};
 use std::alloc::{AllocError, Global};
 
 /// The position of a line's content in the bytes of a file.
@@ -37,10 +37,10 @@ impl Span {
 
 /// A group line: an Allow, a Disallow or a Crawl-delay.
 #[derive(Clone, Copy)]
-pub(crate) struct GroupLine<'a> {
-    pub(crate) line: Line<'a>,
+pub struct GroupLine<'a> {
+    pub line: Line<'a>,
     /// Its number, counted from 1 among all lines of the file.
-    pub(crate) number: usize,
+    pub number: usize,
     /// The number of the first line of the run of user-agent lines above it, or 0 if there is none.
     pub(crate) run: usize,
 }
@@ -218,7 +218,10 @@ impl SiteLines {
             let len = body.len();
             number += 1;
             lines.add(alloc, text, number, Span { start, len })?;
-            rest = after;
+            // an empty line changes nothing but the number
+            let empty = empty_lines(after, true);
+            number += empty;
+            rest = after.split_at(empty).1;
         }
         Ok(lines.finished())
     }

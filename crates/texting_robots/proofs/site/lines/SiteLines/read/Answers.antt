@@ -1,10 +1,13 @@
-use Rattle.std.proofs.Common.{◌≡◌, ◌-◌, ◌++◌, [], ◌∷◌, ℕ, List, append_assoc, append-nil, ap, arith, cond}
-use Rattle.std.proofs.Common.{drop, length, map, None, refl, sym, take, true, ◌∙◌}
+use Rattle.std.proofs.Common.{◌≡◌, ◌+◌, ◌-◌, ◌++◌, [], ◌∷◌, ℕ, List, append_assoc, append-nil, ap, arith, cond}
+use Rattle.std.proofs.Common.{drop, length, length-drop, map, None, refl, sym, take, true, ◌∙◌}
 use Rattle.std.proofs.lemmas.{Bool.Decides.nat_tests, List.length-append, List.nil_from_length}
+use Rattle.std.proofs.lemmas.List.{take-append-drop}
 use Rattle.std.proofs.Math.Seq.{drop-append_seam, take-append_seam}
 use Rattle.std.specs.List.{filter_map, last_or, list_any}
 use Rattle.texting_robots.specs.{Executable.file_lines, Group.is_agent, Line.LineValue, Line.delay_in}
-use Rattle.texting_robots.specs.Internal.{Cut.read_as, Line.line_of, Line.lines_of, Site.line_at}
+use Rattle.texting_robots.specs.Internal.{Cut.empty_lines, Cut.read_as, Line.line_of, Line.lines_of}
+use Rattle.texting_robots.specs.Internal.Site.{count_after, early_after, joins_after, line_at, run_after}
+use Rattle.texting_robots.proofs.EmptyLemmas.{agents_past, delay_past, named_past, sitemaps_past, tagged_past}
 use Rattle.texting_robots.proofs.{CutFromFront.bodies_nil, LineLemmas.front_read}
 use Rattle.texting_robots.proofs.RulesLemmas.{before_agents, given_more}
 use Rattle.texting_robots.proofs.SiteLemmas.{agents_more, early_more}
@@ -57,20 +60,48 @@ loop-rest-preserved c =
     let here : line_at text (record { start = length text - length rest; len = length body })
     ≡ line_of body = ap line_of (body_at text front rest body (ending ++ after) is parts) in
     let added = rw here at c.in_ok-add.ensures in
-    rw (added.run, added.joins, added.count, added.early, added.begun) (record {
+    let begun = c.loop-rest.lines.begun in
+    let early = c.loop-rest.lines.early in
+    let number = c.loop-rest.number + 1 in
+    let run = run_after c.loop-rest.lines.run c.loop-rest.lines.joins number (line_of body) in
+    let joins = joins_after c.loop-rest.lines.joins (line_of body) in
+    let count = count_after (length c.loop-rest.lines.group_lines.items) (line_of body) in
+    let empty = c.empty_lines-empty.ensures in
+    let k = empty_lines true after in
+    let above = front ++ (body ++ ending) in
+    rw (
+      c.split_at.ensures.back,
+      empty.value,
+      added.run,
+      added.joins,
+      added.count,
+      added.early,
+      added.begun,
+    ) (record {
       end = (
-        front ++ (body ++ ending),
+        above ++ take k after,
         is ∙ ap (λ t. front ++ t) (parts ∙ sym (append_assoc body ending after))
-            ∙ sym (append_assoc front (body ++ ending) after),
+            ∙ sym (append_assoc front (body ++ ending) after)
+            ∙ ap (λ t. above ++ t) (sym (take-append-drop k after))
+            ∙ sym (append_assoc above (take k after) (drop k after)),
       );
-      count = omega (arith, so_far.count, c.split_line.ensures.shorter);
-      lines_are = given_more _ _ _ _ added.lines ∙ rw next at so_far.lines_are;
-      names_are = given_more _ _ _ _ added.names ∙ rw next at so_far.names_are;
-      sitemaps_are = given_more _ _ _ _ added.sitemaps ∙ rw next at so_far.sitemaps_are;
-      agents = agents_more c.loop-rest.lines.begun (line_of body) (lines_of (read_as true after))
-          ∙ rw next at so_far.agents;
-      early = early_more c.loop-rest.lines.begun c.loop-rest.lines.early (line_of body)
-          (lines_of (read_as true after)) ∙ rw next at so_far.early;
+      count = omega (
+        arith,
+        so_far.count,
+        c.split_line.ensures.shorter,
+        rw empty.value at empty.within,
+        length-drop k after,
+      );
+      lines_are = rw (← tagged_past true number after run joins)
+          (given_more _ _ _ _ added.lines ∙ rw next at so_far.lines_are);
+      names_are = rw (← named_past true number after run joins count)
+          (given_more _ _ _ _ added.names ∙ rw next at so_far.names_are);
+      sitemaps_are = rw (← sitemaps_past true number after)
+          (given_more _ _ _ _ added.sitemaps ∙ rw next at so_far.sitemaps_are);
+      agents = rw (← agents_past true number after)
+          (agents_more begun (line_of body) (lines_of (read_as true after)) ∙ rw next at so_far.agents);
+      early = rw (← delay_past true number after (early_after begun early (line_of body)))
+          (early_more begun early (line_of body) (lines_of (read_as true after)) ∙ rw next at so_far.early);
     })
 
 -- an empty rest has no lines

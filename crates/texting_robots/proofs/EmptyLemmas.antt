@@ -1,0 +1,67 @@
+-- An empty line at the start of a text, which ends with LF or NUL, only moves the numbers of the later lines.
+use Rattle.std.proofs.Common.{◌≡◌, ℕ, suc, ◌+◌, ◌==◌, Bool, true, List, [], ◌∷◌, Option, drop, map}
+use Rattle.std.proofs.Common.{refl, ap, ◌∙◌, arith, inl, inr}
+use Rattle.std.specs.List.{list_any}
+use Rattle.std.proofs.lemmas.Bool.{cases_Bool, cond-true}
+use Rattle.texting_robots.specs.{Cut.Pair, Cut.lf, Executable.sitemaps_in, Group.is_agent}
+use Rattle.texting_robots.specs.Line.{LineValue, Raw}
+use Rattle.texting_robots.specs.Internal.Cut.{empty_lines, is_feed, read_as, read_byte}
+use Rattle.texting_robots.specs.Internal.Line.{line_of, lines_of}
+use Rattle.texting_robots.specs.Internal.Site.{named_from, tagged_from}
+use Rattle.texting_robots.proofs.{CutLemmas.cut_cons, LineLemmas.line_without_kind, RulesLemmas.delay_from}
+
+feed_adds : (b : ℕ) (text : List ℕ) → (b == lf) ≡ true
+    → lines_of (b ∷ text) ≡ Raw [] ∷ lines_of text
+feed_adds b text feed =
+    ap (λ (pairs : List Pair). map line_of (map (λ (p : Pair). p.body) pairs))
+    (cut_cons b text ∙ cond-true _ _ _ feed)
+    ∙ ap (λ line. line ∷ lines_of text) (line_without_kind [] [] refl refl)
+
+-- what lines give, from the number of lines before them on, is what the lines after the empty ones give
+pub past_empty : {X : Type 0} (given : ℕ → List LineValue → X)
+    → ((position : ℕ) (left : List LineValue)
+    → given position (Raw [] ∷ left) ≡ given (position + 1) left)
+    → (n : Bool) (position : ℕ) (text : List ℕ)
+    → (let k = empty_lines n text in
+    given position (lines_of (read_as n text)) ≡ given (position + k) (lines_of (read_as n (drop k text))))
+past_empty given step n position [] = ap (λ p. given p (lines_of [])) (omega arith)
+past_empty given step n position (b ∷ text) =
+    let k = empty_lines n text in
+    elim (cases_Bool (is_feed n b)) [
+      | inl feed ↦
+          let more : 1 + k ≡ suc k = omega arith in
+          rw (feed, more) (ap (given position) (feed_adds (read_byte n b) (read_as n text) feed)
+          ∙ step position (lines_of (read_as n text)) ∙ past_empty given step n (position + 1) text
+          ∙ ap (λ p. given p (lines_of (read_as n (drop k text)))) (omega arith))
+      | inr other ↦ rw other (ap (λ p. given p (lines_of (read_as n (b ∷ text)))) (omega arith))
+    ]
+
+-- ---- what a site keeps of the lines
+
+module _ (n : Bool) (position : ℕ) (text : List ℕ) where
+  abbrev k : ℕ
+  k = empty_lines n text
+
+  abbrev lines : List LineValue
+  lines = lines_of (read_as n text)
+
+  abbrev left : List LineValue
+  left = lines_of (read_as n (drop k text))
+
+  pub tagged_past : (run : ℕ) (joins : Bool)
+      → tagged_from run joins position lines ≡ tagged_from run joins (position + k) left
+  tagged_past run joins = past_empty (tagged_from run joins) (λ p left. refl) n position text
+
+  pub named_past : (run : ℕ) (joins : Bool) (count : ℕ)
+      → named_from run joins position count lines ≡ named_from run joins (position + k) count left
+  named_past run joins count =
+      past_empty (λ p left. named_from run joins p count left) (λ p left. refl) n position text
+
+  pub sitemaps_past : sitemaps_in lines ≡ sitemaps_in left
+  sitemaps_past = past_empty (λ p left. sitemaps_in left) (λ p left. refl) n position text
+
+  pub agents_past : list_any is_agent lines ≡ list_any is_agent left
+  agents_past = past_empty (λ p left. list_any is_agent left) (λ p left. refl) n position text
+
+  pub delay_past : (last : Option ℕ) → delay_from last lines ≡ delay_from last left
+  delay_past last = past_empty (λ p left. delay_from last left) (λ p left. refl) n position text
