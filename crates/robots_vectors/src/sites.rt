@@ -1,5 +1,5 @@
 //! A file that is read once for all crawlers, and what it means for each crawler.
-use crate::helpers::{check, check_equal, long_text};
+use crate::helpers::{BOB, TextParts, check, check_equal, long_text, robot_of};
 use std::process::Abort;
 use texting_robots::{Decision, Error, Robot, Site};
 
@@ -128,6 +128,17 @@ fn a_site_lists_names_and_sitemaps(rt: HostRuntime) {
     check_sitemaps(&rt, "sitemaps", &sitemaps, SITEMAPS);
 }
 
+/// A rule and a delay of the first group, and a rule of the second.
+#[test]
+fn a_crawlers_lines_are_in_the_files_order(rt: HostRuntime) {
+    let site = site_of(&rt, "site", FILE);
+    let mut numbers = Vec::new(rt.alloc());
+    for line in site.own_lines("Beta") {
+        numbers.push(line.number).expect(&rt, "number");
+    }
+    check(&rt, "lines", numbers.as_slice() == [5, 6, 8].as_slice());
+}
+
 /// The first 68 bytes of the file are its first four lines. So no rule comes after a user-agent line.
 #[test]
 fn a_limit_cuts_the_file(rt: HostRuntime) {
@@ -177,4 +188,52 @@ fn a_rule_that_is_too_long_is_its_own_crawlers(rt: HostRuntime) {
     check_sitemaps(&rt, "sitemaps", &sitemaps, &["/s"]);
     let robot = site.robot(rt.alloc(), "B").expect(&rt, "robot");
     check(&rt, "rule", !robot.decision_prepared("/b").allowed);
+}
+
+/// Line ends, and the numbers of two rules that each come after them. The first has a user-agent line above it, so n
+/// empty lines give the numbers n + 2 and 2n + 3. CRs, and the LF or NUL after them, are one end.
+const EMPTY_LINES: &[(TextParts, usize, usize)] = &[
+    (&[("\n", 1)], 3, 5),
+    (&[("\n", 31)], 33, 65),
+    (&[("\n", 32)], 34, 67),
+    (&[("\n", 33)], 35, 69),
+    (&[("\n", 64)], 66, 131),
+    (&[("\n", 100)], 102, 203),
+    (&[("\0", 1)], 3, 5),
+    (&[("\0", 31)], 33, 65),
+    (&[("\0", 32)], 34, 67),
+    (&[("\0", 33)], 35, 69),
+    (&[("\0", 64)], 66, 131),
+    (&[("\0", 100)], 102, 203),
+    (&[("\n\0", 16)], 34, 67),
+    (&[("\0\n\n", 33)], 101, 201),
+    (&[("\n", 31), ("\0", 33), ("\n", 36)], 102, 203),
+    (&[("\r\n", 50)], 52, 103),
+    (&[("\n\r", 33)], 36, 71),
+    (&[("\0\r", 16)], 19, 37),
+    (&[("\n", 31), ("\r", 40), ("\0", 33)], 66, 131),
+    (&[("\0", 32), ("\r", 1), ("\n", 64), ("\r", 33)], 99, 197),
+];
+
+/// Checks which lines decide on `/a` and on `/b`.
+fn check_lines_of(rt: &impl Abort, name: &str, robot: &Robot, first: usize, second: usize) {
+    check_equal(rt, name, &robot.decision_prepared("/a").line, &Some(first));
+    check_equal(rt, name, &robot.decision_prepared("/b").line, &Some(second));
+}
+
+#[test]
+fn empty_lines_are_counted(rt: HostRuntime) {
+    for (ends, first, second) in EMPTY_LINES {
+        let run = long_text(&rt, "ends", ends);
+        let mut file = long_text(&rt, "file", &[("User-agent: *\n", 1)]);
+        file.push_str(&run).expect(&rt, "file");
+        file.push_str("Disallow: /a\n").expect(&rt, "file");
+        file.push_str(&run).expect(&rt, "file");
+        file.push_str("Disallow: /b").expect(&rt, "file");
+        let site = site_of(&rt, "site", file.as_bytes());
+        let of_site = site.robot(rt.alloc(), BOB).expect(&rt, "robot");
+        check_lines_of(&rt, "site", &of_site, *first, *second);
+        let robot = robot_of(&rt, "robot", BOB, file.as_bytes());
+        check_lines_of(&rt, "robot", &robot, *first, *second);
+    }
 }

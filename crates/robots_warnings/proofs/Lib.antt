@@ -1,4 +1,4 @@
-pub mod BothWaysLemmas
+pub mod ConflictLemmas
 pub mod FactLemmas
 pub mod FileLemmas
 pub mod NameLemmas

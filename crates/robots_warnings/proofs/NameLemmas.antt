@@ -1,5 +1,5 @@
 -- Sets of product tokens.
-use Rattle.std.proofs.Common.{◌≡◌, ◌||◌, Bool, cond, true, ℕ, List, [], ◌∷◌, ◌++◌, ap}
+use Rattle.std.proofs.Common.{◌≡◌, ◌||◌, Bool, cond, false, true, ℕ, List, [], ◌∷◌, ◌++◌, ap, refl}
 use Rattle.std.proofs.Common.{bytes_eq, not, ◌∙◌}
 use Rattle.std.specs.BTreeSet.{BTreeSet, Updates, contains}
 use Rattle.std.specs.List.{list_any}
@@ -8,7 +8,12 @@ use Rattle.std.proofs.Math.Bool.{or-false}
 use Rattle.std.proofs.lemmas.List.Folds.{list_any-append}
 use Rattle.std.proofs.lemmas.Map.Text.{is_eq-slice_cmp}
 use Rattle.robots_warnings.specs.Internal.Names.{AddsName, Key, key_cmp}
-use Rattle.robots_warnings.proofs.BothWaysLemmas.{either}
+
+pub either : (has is : Bool) → cond is true has ≡ (has || is)
+either true true = refl
+either true false = refl
+either false true = refl
+either false false = refl
 
 -- inserting a name in lower case makes the set that `AddsName` describes
 pub name_added : (old new : BTreeSet Key) (lowered : Key) (name : List ℕ) (is_new : Bool)

@@ -18,7 +18,7 @@ use Rattle.robots_io.proofs.SanitizeLemmas.{sanitized_printable}
 abbrev is_ascii : List ℕ → Bool
 is_ascii text = list_all (is_printable_byte true) text
 
--- if all the strings are printable ASCII, then so is the one at any index (past the end it is empty)
+-- if all strings are printable ASCII, so is the one at any index (past the end it is empty)
 each_ascii : (texts : List (List ℕ)) (at : ℕ) → list_all is_ascii texts ≡ true
     → is_ascii (slice_index_or texts at []) ≡ true
 each_ascii [] at all = refl

@@ -23,7 +23,7 @@ pub part_at : {X : Type 0} (part : Row → X) {rows : List Row} {at : ℕ} {row 
     → IsRowAt rows at row → slice_index_or (map part rows) at other ≡ part row
 part_at part {rows} {at} {row} other is = at_place part rows at row other is.found
 
--- if the rows are in the order of the warnings' numbers, the row at a warning's number is that warning's row
+-- if rows are in the order of the warnings' numbers, the row at a number is that of its warning
 pub own_row : {rows : List Row} {row : Row} (cause : Cause) → IsRowAt rows (number_of cause) row
     → map (λ (row : Row). number_of row.0) rows ≡ range_with_len 0 (length WARNINGS) → row.0 ≡ cause
 own_row {row} cause is order =

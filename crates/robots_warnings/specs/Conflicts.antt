@@ -1,32 +1,33 @@
--- Values that are both allowed and disallowed.
-use Rattle.std.specs.Prelude.{ℕ, ◌==◌, Bool, bytes_eq, filter, map, not, ◌&&◌, List}
+-- Rules that are both allowed and disallowed.
+use Rattle.std.specs.Prelude.{ℕ, ◌==◌, Bool, true, false, not, ◌&&◌, List, Contains, bytes_eq}
 use Rattle.std.specs.List.{list_any}
-use Rattle.robots_warnings.specs.declared.conflicts.ScopedRule.{ScopedRule}
+use Rattle.texting_robots.specs.Callers.{AreRulesFor, LineValue, PlacedRule, placed_rules}
 
--- a rule with its scope and the number of its line
-pub record Scoped : Type 0 where
-  pub scope : ℕ
-  pub number : ℕ
-  pub is_allow : Bool
-  pub value : List ℕ
+-- the line with this number is a Disallow that applies to the crawler, as does an Allow with the same pattern
+pub record IsConflict (agent : List ℕ) (lines : List LineValue) (number : ℕ) : Type 0 where
+  pub rules : List PlacedRule
+  pub are : AreRulesFor agent lines rules
+  pub pattern : List ℕ
+  pub other : ℕ
+  pub disallow : Contains rules (record { rule = (pattern, false); line = number })
+  pub allow : Contains rules (record { rule = (pattern, true); line = other })
 
--- the rule by value, independent of where its bytes are stored
-abbrev pub scoped_by_value : ScopedRule → Scoped
-scoped_by_value rule =
-    record { scope = rule.scope; number = rule.number; is_allow = rule.is_allow; value = rule.value.now }
+-- ---- the same as functions; the theorem `allowed_and_disallowed` of `robots_audit` states that they agree
 
--- the rule is an Allow with this scope and value
-abbrev pub allows : ℕ → List ℕ → Scoped → Bool
-allows scope value rule = rule.is_allow && (rule.scope == scope && bytes_eq rule.value value)
+-- the rule is an Allow with this pattern
+abbrev pub allows : List ℕ → PlacedRule → Bool
+allows pattern placed = placed.rule.1 && bytes_eq placed.rule.0 pattern
 
--- the rule is a Disallow, and an Allow among `all` has the same scope and value
-abbrev pub is_allowed_too : List Scoped → Scoped → Bool
-is_allowed_too all rule = not rule.is_allow && list_any (allows rule.scope rule.value) all
+-- the rule is a Disallow in the line with this number, and an Allow among the rules has its pattern
+abbrev pub is_conflict_at : List PlacedRule → ℕ → PlacedRule → Bool
+is_conflict_at rules number placed =
+    (not placed.rule.1 && list_any (allows placed.rule.0) rules) && placed.line == number
 
--- the line numbers of such rules
-abbrev pub both_among : List Scoped → List Scoped → List ℕ
-both_among all rules = map (λ (rule : Scoped). rule.number) (filter (is_allowed_too all) rules)
+-- among the rules for this crawler
+abbrev pub is_conflict_for : List LineValue → ℕ → List ℕ → Bool
+is_conflict_for lines number agent =
+    list_any (is_conflict_at (placed_rules agent lines) number) (placed_rules agent lines)
 
--- the same, among all rules
-abbrev pub conflicts : List Scoped → List ℕ
-conflicts rules = both_among rules rules
+-- for at least one of these crawlers
+abbrev pub is_conflict : List (List ℕ) → List LineValue → ℕ → Bool
+is_conflict agents lines number = list_any (is_conflict_for lines number) agents

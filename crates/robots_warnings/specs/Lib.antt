@@ -9,6 +9,5 @@ pub mod Positions
 pub mod Checks
 pub mod Conflicts
 pub mod NamesPastLimit
-pub mod Scopes
 pub mod Warnings
 pub mod Internal

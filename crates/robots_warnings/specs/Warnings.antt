@@ -1,21 +1,20 @@
 -- All warnings about a file and a request: what is valid but probably not intended.
 use Rattle.std.specs.Prelude.{ℕ, Bool, true, false, List, [], ◌∷◌, ◌++◌, Option, Some, None}
 use Rattle.std.specs.Prelude.{codes, decimal, flat_map, if◌then◌else◌, map, not, ◌||◌}
-use Rattle.texting_robots.specs.Callers.{Label, bodies_read, is_own}
+use Rattle.texting_robots.specs.Callers.{LineValue, Label, bodies_read, is_own}
 use Rattle.texting_robots.specs.declared.labels.Membership.{Membership}
 use Rattle.robots_warnings.specs.declared.facts.FileFacts.{FileFacts}
 use Rattle.robots_warnings.specs.declared.positions.Preceding.{Preceding}
 use Rattle.robots_warnings.specs.declared.positions.Preceding.TheVariants.{Other}
 use Rattle.robots_warnings.specs.declared.table.Cause.{Cause}
 use Rattle.robots_warnings.specs.declared.table.Cause.TheVariants.{AllowedAndDisallowed, GroupPastSizeLimit}
-use Rattle.robots_warnings.specs.Conflicts.{conflicts}
+use Rattle.robots_warnings.specs.Conflicts.{is_conflict}
 use Rattle.robots_warnings.specs.Checks.{Check, agent_checks, file_checks, line_checks, position_checks}
 use Rattle.robots_warnings.specs.Checks.{url_checks}
 use Rattle.robots_warnings.specs.Facts.{suppresses_line_warnings}
 use Rattle.robots_warnings.specs.File.{lines_of}
 use Rattle.robots_warnings.specs.NamesPastLimit.{names_past_limit}
 use Rattle.robots_warnings.specs.Positions.{last_group, preceding_with}
-use Rattle.robots_warnings.specs.Scopes.{scoped_rules}
 use Rattle.robots_io.specs.Sanitize.{sanitized}
 use Rattle.robots_warnings.specs.Table.{name_of, text_of}
 
@@ -104,17 +103,17 @@ positions_from last preceding (label ∷ labels) =
 abbrev pub position_warnings : List Label → List WarningValue
 position_warnings labels = positions_from (last_group labels) Other labels
 
--- warnings about names past the size limit, unless the file seems to be something else than a robots.txt
--- file
+-- warnings about names past the size limit, if lines are checked
 abbrev pub past_limit_warnings : FileFacts → List ℕ → List Label → List WarningValue
 past_limit_warnings facts file labels =
     if not facts.is_too_large || suppresses_line_warnings facts then []
     else warned_at GroupPastSizeLimit (names_past_limit (lines_of labels) file)
 
--- warnings about values that are both allowed and disallowed
-abbrev pub both_ways_warnings : Bool → List Label → List WarningValue
-both_ways_warnings everywhere labels =
-    warned_at AllowedAndDisallowed (conflicts (scoped_rules everywhere labels))
+-- warnings about rules that are allowed and disallowed for one of these crawlers
+abbrev pub conflict_warnings : List (List ℕ) → List LineValue → List Label → List WarningValue
+conflict_warnings agents lines labels = flat_map
+    (λ label. warned (Some label.number) None
+    ((AllowedAndDisallowed, is_conflict agents lines label.number) ∷ [])) labels
 
 -- ---- all
 
@@ -128,11 +127,12 @@ abbrev pub general_warnings : FileFacts → Option (List ℕ) → List (List ℕ
 general_warnings facts agent urls =
     warned None None (file_checks facts) ++ (agent_warnings agent ++ flat_map url_warnings urls)
 
--- warnings about the file, the product token, the URLs, each line, and the positions of lines
-abbrev pub warnings : Option (List ℕ) → List (List ℕ) → List ℕ → FileFacts → List Label → List WarningValue
-warnings agent urls file facts labels =
-    let everywhere = covers_all_crawlers agent in
+-- warnings about the file, the product token, the URLs, each line, the positions of lines, and the rules of `agents`, the
+-- crawlers reported on
+abbrev pub warnings : Option (List ℕ) → List (List ℕ) → List (List ℕ) → List ℕ → FileFacts → List Label
+    → List LineValue → List WarningValue
+warnings agent agents urls file facts labels lines =
     general_warnings facts agent urls
-    ++ (file_lines_warnings facts everywhere labels (bodies_read file)
+    ++ (file_lines_warnings facts (covers_all_crawlers agent) labels (bodies_read file)
     ++ (position_warnings labels
-    ++ (past_limit_warnings facts file labels ++ both_ways_warnings everywhere labels)))
+    ++ (past_limit_warnings facts file labels ++ conflict_warnings agents lines labels)))

@@ -1,77 +1,126 @@
-//! Finds values that are both allowed and disallowed.
-ghost use Rattle.std.specs.Prelude.{◌≡◌, ◌++◌, ◌∷◌, [], ◌&&◌, IfOk, OnOk, if◌then◌else◌, map, not};
+//! Rules that are both allowed and disallowed.
+ghost use Rattle.std.specs.Prelude.{◌≡◌, ◌==◌, ◌&&◌, ◌||◌, ℕ, IfOk, None, OnOk, Some, if◌then◌else◌, map, option_map, string_bytes};
 ghost use Rattle.std.specs.BTreeSet.{contains};
-ghost use Rattle.robots_warnings.specs.Conflicts.{conflicts, scoped_by_value};
-ghost use Rattle.robots_warnings.specs.Internal.Conflicts.{AddsAllowed, HasAllowed, key_cmp};
+ghost use Rattle.std.specs.Ordering.{nat_cmp};
+ghost use Rattle.std.specs.Str.{is_utf8};
+ghost use Rattle.texting_robots.specs.Callers.{escaped, file_lines, placed_rules};
+ghost use Rattle.texting_robots.specs.Internal.Site.{rule_of, tag_of};
+ghost use Rattle.robots_warnings.specs.Conflicts.{is_conflict, is_conflict_for};
+ghost use Rattle.robots_warnings.specs.Internal.Conflicts.{AddsAllowed, HasAllowed, is_allowed_too};
 
+use crate::rules::is_utf8;
 use std::alloc::{AllocError, Global};
-use std::collections::BTreeSet;
+use std::collections::{BTreeSet, HashSet};
+use texting_robots::parser::Line;
+use texting_robots::push_escaped_bytes;
+use texting_robots::site::{GroupLine, Site};
 
-/// A rule with its scope.
-#[derive(Clone, Copy)]
-pub struct ScopedRule<'a> {
-    /// The rule's scope. Only rules with equal scopes are compared.
-    pub scope: usize,
-    /// The number of the rule's line.
-    pub number: usize,
-    /// Whether the rule is an Allow.
-    pub is_allow: bool,
-    /// The rule's value.
-    pub value: &'a [u8],
+type Patterns = HashSet<String>;
+
+pub(crate) type Numbers = BTreeSet<usize>;
+
+/// The pattern of a rule with this value. A value that isn't UTF-8 is no rule.
+fn pattern_of(alloc: Global, value: &[u8]) -> Result<Option<String>, AllocError>
+    ensures { IfOk result (λ pattern. option_map string_bytes pattern
+        ≡ (if is_utf8 value.now then Some (escaped value.now) else None)) }
+{
+    if !is_utf8(value) {
+        return Ok(None);
+    }
+    let mut pattern = String::new(alloc);
+    push_escaped_bytes(&mut pattern, value)?;
+    Ok(Some(pattern))
 }
 
-/// Inserts the scope and the value of the rule if it is an Allow.
-fn add_allowed<'a>(
-    allowed: &mut BTreeSet<(usize, &'a [u8])>,
-    rule: &ScopedRule<'a>,
+/// Inserts the pattern of the line's rule if it is an Allow.
+fn add_allowed(
+    alloc: Global,
+    allowed: &mut Patterns,
+    line: &GroupLine<'_>,
 ) -> Result<(), AllocError>
-    ensures { OnOk result (AddsAllowed allowed.old allowed.new rule.now) }
+    ensures { OnOk result (AddsAllowed allowed.old allowed.new (rule_of (tag_of line.now))) }
 {
-    if rule.is_allow {
-        allowed.insert((rule.scope, rule.value))?;
+    let Line::Allow(value) = line.line else {
+        return Ok(());
+    };
+    if let Some(pattern) = pattern_of(alloc, value)? {
+        allowed.insert(pattern)?;
     }
     Ok(())
 }
 
-/// The scopes and values of all Allows.
-fn allowed_values<'a>(
-    alloc: Global,
-    rules: &[ScopedRule<'a>],
-) -> Result<BTreeSet<(usize, &'a [u8])>, AllocError>
-    ensures { IfOk result (λ allowed. HasAllowed allowed rules.now) }
+/// The patterns of all Allows that apply to the crawler.
+fn allowed_patterns(alloc: Global, site: &Site, agent: &str) -> Result<Patterns, AllocError>
+    ensures { IfOk result (λ allowed. HasAllowed allowed (placed_rules agent.now (file_lines site.now))) }
 {
-    let mut allowed = BTreeSet::new(alloc);
-    for rule in rules {
-        add_allowed(&mut allowed, rule)?;
+    let mut allowed = HashSet::new(alloc);
+    for line in site.own_lines(agent) {
+        add_allowed(alloc, &mut allowed, &line)?;
     }
     Ok(allowed)
 }
 
-/// Whether the rule is a Disallow, and an Allow has the same scope and value.
-fn is_allowed_too<'a>(allowed: &BTreeSet<(usize, &'a [u8])>, rule: &ScopedRule<'a>) -> bool
-    ensures { result ≡ (not rule.now.is_allow && contains key_cmp allowed.now (rule.now.scope, rule.now.value)) }
+/// Whether the line is a Disallow whose pattern is in the set.
+fn is_allowed_too(
+    alloc: Global,
+    allowed: &Patterns,
+    line: &GroupLine<'_>,
+) -> Result<bool, AllocError>
+    ensures { IfOk result (λ is. is ≡ is_allowed_too allowed.now (rule_of (tag_of line.now))) }
 {
-    !rule.is_allow && allowed.contains(&(rule.scope, rule.value))
+    let Line::Disallow(value) = line.line else {
+        return Ok(false);
+    };
+    if allowed.is_empty() {
+        return Ok(false);
+    }
+    match pattern_of(alloc, value)? {
+        Some(pattern) => Ok(allowed.contains(pattern.as_str())),
+        None => Ok(false),
+    }
 }
 
-/// Appends the number if `cause` is true.
-pub(crate) fn add(found: &mut Vec<usize>, cause: bool, number: usize) -> Result<(), AllocError>
-    ensures { OnOk result (found.new.items ≡ found.old.items ++ (if cause then number ∷ [] else [])) }
+/// Inserts the number if `cause` is true.
+fn add_number(numbers: &mut Numbers, cause: bool, number: usize) -> Result<(), AllocError>
+    ensures { OnOk result ((other : ℕ) → contains nat_cmp numbers.new other
+        ≡ (contains nat_cmp numbers.old other || (cause && number == other))) }
 {
     if cause {
-        found.push(number)?;
+        numbers.insert(number)?;
     }
     Ok(())
 }
 
-/// The line numbers of the Disallows for which an Allow has the same scope and value.
-pub fn conflicts<'a>(alloc: Global, rules: &[ScopedRule<'a>]) -> Result<Vec<usize>, AllocError>
-    ensures { IfOk result (λ found. found.items ≡ conflicts (map scoped_by_value rules.now)) }
+/// Inserts the line numbers of the Disallows that apply to the crawler, as does an Allow with the same pattern.
+fn add_conflicts(
+    alloc: Global,
+    numbers: &mut Numbers,
+    site: &Site,
+    agent: &str,
+) -> Result<(), AllocError>
+    ensures { OnOk result ((number : ℕ) → contains nat_cmp numbers.new number
+        ≡ (contains nat_cmp numbers.old number || is_conflict_for (file_lines site.now) number agent.now)) }
 {
-    let allowed = allowed_values(alloc, rules)?;
-    let mut found = Vec::new(alloc);
-    for rule in rules {
-        add(&mut found, is_allowed_too(&allowed, rule), rule.number)?;
+    let allowed = allowed_patterns(alloc, site, agent)?;
+    for line in site.own_lines(agent) {
+        let is = is_allowed_too(alloc, &allowed, &line)?;
+        add_number(numbers, is, line.number)?;
     }
-    Ok(found)
+    Ok(())
+}
+
+/// The line numbers of the Disallows that apply to one of these crawlers, as does an Allow with the same pattern.
+pub(crate) fn conflicts(
+    alloc: Global,
+    site: &Site,
+    agents: &[String],
+) -> Result<Numbers, AllocError>
+    ensures { IfOk result (λ numbers. (number : ℕ) → contains nat_cmp numbers number
+        ≡ is_conflict (map string_bytes agents.now) (file_lines site.now) number) }
+{
+    let mut numbers = BTreeSet::new(alloc);
+    for agent in agents {
+        add_conflicts(alloc, &mut numbers, site, agent)?;
+    }
+    Ok(numbers)
 }

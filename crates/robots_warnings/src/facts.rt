@@ -163,7 +163,7 @@ pub fn facts_of(file: &[u8], labels: &[LabeledLine<'_>]) -> FileFacts
     facts_by(file, kinds_of(labels))
 }
 
-/// Whether the file seems to be something else than a robots.txt file, so that each of its lines would cause a warning.
+/// Whether the file seems to be something else than a robots.txt file, so that its lines aren't checked.
 pub(crate) fn suppresses_line_warnings(facts: FileFacts) -> bool
     ensures { result ≡ suppresses_line_warnings facts }
 {

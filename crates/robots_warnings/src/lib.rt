@@ -11,7 +11,6 @@ pub mod names;
 mod names_past_limit;
 pub mod positions;
 pub mod rules;
-mod scopes;
 pub mod table;
 pub mod tokens;
 pub mod urls;

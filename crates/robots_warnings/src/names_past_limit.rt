@@ -1,18 +1,17 @@
 //! Crawlers that a file names only past the size limit.
-ghost use Rattle.std.specs.Prelude.{◌≡◌, IfOk, map};
+ghost use Rattle.std.specs.Prelude.{◌≡◌, ◌++◌, ◌∷◌, [], IfOk, OnOk, if◌then◌else◌, map};
 ghost use Rattle.texting_robots.specs.Callers.{by_value, label_by_value};
 ghost use Rattle.robots_warnings.specs.File.{lines_of};
 ghost use Rattle.robots_warnings.specs.NamesPastLimit.{names_past_limit};
 ghost use Rattle.robots_warnings.specs.Internal.Names.{HasNames, MeetsLine};
 
-use crate::conflicts::add;
 use crate::names::{Names, add_name};
 use std::alloc::{AllocError, Global};
 use std::collections::BTreeSet;
 use texting_robots::labels::LabeledLine;
 use texting_robots::parser::{Line, file_lines};
 
-/// Inserts the name of a user-agent line, and returns whether it is a new one. For other lines it returns `false`.
+/// Inserts the name of a user-agent line, and returns whether it is new; `false` for other lines.
 fn insert_name(alloc: Global, met: &mut Names, line: Line<'_>) -> Result<bool, AllocError>
     ensures { IfOk result (λ is_new. MeetsLine met.old met.new (by_value line.entry) is_new) }
 {
@@ -32,6 +31,16 @@ fn names_read(alloc: Global, labels: &[LabeledLine<'_>]) -> Result<Names, AllocE
         insert_name(alloc, &mut met, labeled.line)?;
     }
     Ok(met)
+}
+
+/// Appends the number if `cause` is true.
+fn add(found: &mut Vec<usize>, cause: bool, number: usize) -> Result<(), AllocError>
+    ensures { OnOk result (found.new.items ≡ found.old.items ++ (if cause then number ∷ [] else [])) }
+{
+    if cause {
+        found.push(number)?;
+    }
+    Ok(())
 }
 
 /// The numbers of the user-agent lines that are the first in the file to have their name, and whose name isn't in

@@ -1,9 +1,9 @@
 //! All warnings about a file and a request: what is valid but probably not intended.
-ghost use Rattle.std.specs.Prelude.{◌≡◌, ◌++◌, [], IfOk, OnOk, if◌then◌else◌, map, option_map};
-ghost use Rattle.texting_robots.specs.Callers.{bodies_read, by_value, label_by_value};
+ghost use Rattle.std.specs.Prelude.{◌≡◌, ◌++◌, [], IfOk, OnOk, if◌then◌else◌, map, option_map, string_bytes};
+ghost use Rattle.texting_robots.specs.Callers.{bodies_read, by_value, file_lines, label_by_value};
 ghost use Rattle.robots_warnings.specs.Checks.{field_checks, is_directive, value_checks};
 ghost use Rattle.robots_warnings.specs.Internal.{Adds, warning_value};
-ghost use Rattle.robots_warnings.specs.Warnings.{agent_warnings, both_ways_warnings, file_lines_warnings, general_warnings};
+ghost use Rattle.robots_warnings.specs.Warnings.{agent_warnings, conflict_warnings, file_lines_warnings, general_warnings};
 ghost use Rattle.robots_warnings.specs.Warnings.{is_in_scope_of, covers_all_crawlers, line_warnings, lines_warnings};
 ghost use Rattle.robots_warnings.specs.Warnings.{past_limit_warnings, position_warnings, warned, warned_at, warnings};
 
@@ -16,12 +16,12 @@ use crate::facts::{FileFacts, suppresses_line_warnings};
 use crate::file::{counted, is_blank};
 use crate::names_past_limit::names_past_limit;
 use crate::positions::{Preceding, last_group, preceding_with};
-use crate::scopes::scoped_rules;
 use crate::table::Cause;
 use crate::warning::Warning;
 use std::alloc::{AllocError, Global};
 use texting_robots::labels::{LabeledLine, Membership};
 use texting_robots::parser::{Line, file_bodies};
+use texting_robots::site::Site;
 
 /// The warnings found so far.
 type Found<'a> = Vec<Warning<'a>>;
@@ -166,7 +166,7 @@ fn warn_of_lines(
     Ok(())
 }
 
-/// Appends the warnings about each line of a file, unless the file seems to be something else than a robots.txt file.
+/// Appends the warnings about each line of a file, if lines are checked.
 fn warn_of_file_lines(
     alloc: Global,
     found: &mut Found<'_>,
@@ -197,8 +197,7 @@ fn warn_of_positions(found: &mut Found<'_>, labels: &[LabeledLine<'_>]) -> Resul
     Ok(())
 }
 
-/// Appends the warnings about names past the size limit, unless the file seems to be something else than a robots.txt
-/// file.
+/// Appends the warnings about names past the size limit, if lines are checked.
 fn warn_past_limit(
     alloc: Global,
     found: &mut Found<'_>,
@@ -215,18 +214,24 @@ fn warn_past_limit(
     warn_at(found, Cause::GroupPastSizeLimit, &numbers)
 }
 
-/// Appends the warnings about values that are both allowed and disallowed.
-fn warn_of_both_ways(
+/// Appends the warnings about rules that are allowed and disallowed for one of these crawlers.
+fn warn_of_conflicts(
     alloc: Global,
     found: &mut Found<'_>,
-    everywhere: bool,
+    site: &Site,
+    agents: &[String],
     labels: &[LabeledLine<'_>],
 ) -> Result<(), AllocError>
-    ensures { OnOk result (Adds found.old.items found.new.items (both_ways_warnings everywhere (map label_by_value labels.now))) }
+    ensures { OnOk result (Adds found.old.items found.new.items
+        (conflict_warnings (map string_bytes agents.now) (file_lines site.now) (map label_by_value labels.now))) }
 {
-    let rules = scoped_rules(alloc, everywhere, labels)?;
-    let numbers = conflicts(alloc, &rules)?;
-    warn_at(found, Cause::AllowedAndDisallowed, &numbers)
+    let numbers = conflicts(alloc, site, agents)?;
+    for labeled in labels {
+        let is = numbers.contains(&labeled.number);
+        let checks = [(Cause::AllowedAndDisallowed, is)];
+        warn(found, Some(labeled.number), None, &checks)?;
+    }
+    Ok(())
 }
 
 /// Whether the rules of all groups are checked: the request isn't about a single crawler.
@@ -239,18 +244,21 @@ fn covers_all_crawlers(agent: Option<&str>) -> bool
     }
 }
 
-/// All warnings about a file and a request, in the order of output. `facts` and `labels` are those of this file.
+/// All warnings about a file and a request, in the order of output. `facts`, `labels` and
+/// `site` are those of this file, and `agents` are the crawlers reported on.
 pub fn warnings<'a>(
     alloc: Global,
     agent: Option<&str>,
+    agents: &[String],
     urls: &[&'a str],
     file: &[u8],
     facts: FileFacts,
     labels: &[LabeledLine<'_>],
+    site: &Site,
 ) -> Result<Vec<Warning<'a>>, AllocError>
     ensures { IfOk result (λ found. map warning_value found.items
-        ≡ warnings (option_map (λ agent. agent.now) agent.entry) (map (λ url. url.now) urls.now)
-        file.now facts (map label_by_value labels.now)) }
+        ≡ warnings (option_map (λ agent. agent.now) agent.entry) (map string_bytes agents.now)
+        (map (λ url. url.now) urls.now) file.now facts (map label_by_value labels.now) (file_lines site.now)) }
 {
     let everywhere = covers_all_crawlers(agent);
     let mut found = Vec::new(alloc);
@@ -258,6 +266,6 @@ pub fn warnings<'a>(
     warn_of_file_lines(alloc, &mut found, facts, everywhere, labels, file)?;
     warn_of_positions(&mut found, labels)?;
     warn_past_limit(alloc, &mut found, facts, file, labels)?;
-    warn_of_both_ways(alloc, &mut found, everywhere, labels)?;
+    warn_of_conflicts(alloc, &mut found, site, agents, labels)?;
     Ok(found)
 }

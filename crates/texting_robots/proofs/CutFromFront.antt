@@ -15,7 +15,8 @@ use Rattle.memchr.specs.Find.{is_byte2, is_byte3, IsFirstByte}
 use Rattle.texting_robots.proofs.{LaneLemmas.first_labeled, LaneLemmas.first_seen}
 use Rattle.texting_robots.proofs.RegionLemmas.{position_is, end_is}
 use Rattle.texting_robots.specs.Cut.{Pair, cr, lf}
-use Rattle.texting_robots.specs.Internal.Cut.{bodies_of, cut, body_len, end_len, read_byte, read_as}
+use Rattle.texting_robots.specs.Internal.Cut.{bodies_of, cut, body_len, empty_lines, end_len, is_feed}
+use Rattle.texting_robots.specs.Internal.Cut.{read_as, read_byte}
 use Rattle.texting_robots.proofs.CutLemmas.{byte_cases, cut_cons, cut_nil, pair_of}
 
 -- ---- the first line
@@ -103,6 +104,16 @@ no_end n b after not_cr not_lf = rw (not_lf, plain n) refl
     plain : (n : Bool) → (read_byte n b == cr) ≡ false
     plain true = elim (cases_Bool (b == 0)) [ inl z ↦ rw z refl | inr nz ↦ rw nz (ne_eqb b cr not_cr) ]
     plain false = ne_eqb b cr not_cr
+
+-- ---- empty lines
+
+pub no_empty_line : (n : Bool) (b : ℕ) (after : List ℕ) → is_feed n b ≡ false
+    → empty_lines n (b ∷ after) ≡ 0
+no_empty_line n b after isnt = rw isnt refl
+
+pub an_empty_line : (n : Bool) (b : ℕ) (after : List ℕ) → is_feed n b ≡ true
+    → empty_lines n (b ∷ after) ≡ 1 + empty_lines n after
+an_empty_line n b after is = rw is refl
 
 -- ---- the length of a line, as a search finds it
 

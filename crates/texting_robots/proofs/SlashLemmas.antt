@@ -1,6 +1,7 @@
--- A string that begins with a slash isn't an absolute URL, so its match target is the escaped string.
+-- Strings whose match target is the escaped string: those that can't be parsed as URLs, for example because
+-- they begin with a slash.
 use Rattle.std.proofs.Common.{◌≡◌, ℕ, ◌+◌, ◌-◌, ◌≤◌, None, Ok, Err, List, [], ◌∷◌}
-use Rattle.std.proofs.Common.{◌++◌, length, take, suc, ap, arith}
+use Rattle.std.proofs.Common.{◌++◌, length, take, suc, ap, arith, is_err, refl, true}
 use Rattle.std.specs.{List.prefix_len, List.suffix_len, Prelude.reverse, Prelude.slice_index}
 use Rattle.std.proofs.lemmas.{Bool.cond_both, List.length-reverse, List.reverse-append}
 use Rattle.url.specs.declared.error.ParseError.TheVariants.{RelativeUrlWithoutBase}
@@ -53,3 +54,14 @@ slash_prepared (b ∷ rest) e = rw e (ap by_answer (no_url rest))
   where
     by_answer : Parsed Parts → List ℕ
     by_answer answer = elim answer [ Ok url ↦ target_of url | Err e ↦ escaped (slash ∷ rest) ]
+
+-- the match target of a string that isn't empty and can't be parsed as a URL
+pub unparsed_prepared : (b : ℕ) (text : List ℕ) → is_err (parse_url None (b ∷ text)) ≡ true
+    → prepared (b ∷ text) ≡ escaped (b ∷ text)
+unparsed_prepared b text is = by (parse_url None (b ∷ text)) is
+  where
+    by : (parsed : Parsed Parts) → is_err parsed ≡ true
+        → elim parsed as (λ _. List ℕ) [ Ok parts ↦ target_of parts | Err e ↦ escaped (b ∷ text) ]
+        ≡ escaped (b ∷ text)
+    by (Ok parts) isnt = cc
+    by (Err e) isnt = refl

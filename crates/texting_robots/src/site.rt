@@ -25,9 +25,11 @@ use crate::parser::Line;
 use crate::reading::push_text;
 use crate::robot::{FILE_LIMIT, Robot};
 use crate::rules::Rules;
+pub use lines::GroupLine;
 use lines::{KeptLine, SiteLines, Span};
 use names::Names;
-use own::{OwnLines, OwnRules};
+pub use own::OwnLines;
+use own::OwnRules;
 use std::alloc::{AllocError, Global};
 use std::marker::Model;
 
@@ -159,8 +161,8 @@ impl Site {
         Ok(agents)
     }
 
-    /// The group lines that apply to the crawler.
-    fn own_lines<'s, 'n>(&'s self, agent: &'n str) -> OwnLines<'s, 'n>
+    /// The group lines that apply to the crawler, in file order. It allocates nothing.
+    pub fn own_lines<'s, 'n>(&'s self, agent: &'n str) -> OwnLines<'s, 'n>
         ensures rules { filter_map rule_of result ≡ placed_rules agent.now (file_lines self.now) }
         ensures delays { filter_map delay_of result ≡ captured_delays agent.now (file_lines self.now) }
     {

@@ -1,28 +1,32 @@
--- The set of the values that are allowed.
-use Rattle.std.specs.Prelude.{◌≡◌, ℕ, ◌||◌, List}
-use Rattle.std.specs.Borrow.{Bor}
-use Rattle.std.specs.BTreeSet.{BTreeSet, contains}
-use Rattle.std.specs.Cmp.Lexicographic.{slice_cmp}
+-- The set of the patterns that are allowed.
+use Rattle.std.specs.Prelude.{◌≡◌, ℕ, Bool, false, not, ◌&&◌, ◌||◌, List, Option, String}
+use Rattle.std.specs.HashSet.{HashSet, contains_text}
+use Rattle.std.specs.Global.{Global}
 use Rattle.std.specs.List.{list_any}
-use Rattle.std.specs.Ordering.{nat_cmp, ordering_then}
-use Rattle.std.specs.declared.cmp.Ordering.{Ordering}
-use Rattle.robots_warnings.specs.Conflicts.{allows, scoped_by_value}
-use Rattle.robots_warnings.specs.declared.conflicts.ScopedRule.{ScopedRule}
+use Rattle.std.specs.Option.{option_map_or}
+use Rattle.texting_robots.specs.Callers.{PlacedRule}
+use Rattle.robots_warnings.specs.Conflicts.{allows}
 
--- a scope and a value
-abbrev pub Key : Type 0
-Key = ℕ × Bor (List ℕ)
+-- a set of patterns, for any hash function
+abbrev pub Patterns : Type 0 → Type 0
+Patterns S = HashSet (String Global) S
 
--- the order of such pairs
-abbrev pub key_cmp : Key → Key → Ordering
-key_cmp one two = ordering_then (nat_cmp one.0 two.0) (slice_cmp nat_cmp one.1.now two.1.now)
+-- the new set is the old one and the pattern of the rule, if there is one and it is an Allow
+pub record AddsAllowed {S : Type 0} (old new : Patterns S) (given : Option PlacedRule) : Type 0 where
+  pub each : (pattern : List ℕ) → contains_text new pattern
+      ≡ (contains_text old pattern || option_map_or (allows pattern) given false)
 
--- the new set contains what the old one does, and if the rule is an Allow, its scope and value
-pub record AddsAllowed (old new : BTreeSet Key) (rule : ScopedRule) : Type 0 where
-  pub each : (key : Key) → contains key_cmp new key
-      ≡ (contains key_cmp old key || allows key.0 key.1.now (scoped_by_value rule))
+-- the set contains exactly the patterns of the Allows among the rules
+pub record HasAllowed {S : Type 0} (allowed : Patterns S) (rules : List PlacedRule) : Type 0 where
+  pub each : (pattern : List ℕ) → contains_text allowed pattern ≡ list_any (allows pattern) rules
 
--- the set contains exactly the scopes and values of the Allows among the rules
-pub record HasAllowed (allowed : BTreeSet Key) (rules : List ScopedRule) : Type 0 where
-  pub each : (key : Key) → contains key_cmp allowed key
-      ≡ list_any (λ rule. allows key.0 key.1.now (scoped_by_value rule)) rules
+-- with the patterns of the Allows among the rules that are left, the set has those of all
+pub record AllowedWith {S : Type 0} (allowed : Patterns S) (left all : List PlacedRule) : Type 0 where
+  pub each : (pattern : List ℕ) → (contains_text allowed pattern || list_any (allows pattern) left)
+      ≡ list_any (allows pattern) all
+
+-- there is a rule, it is a Disallow, and the set contains its pattern
+abbrev pub is_allowed_too : {S : Type 0} → Patterns S → Option PlacedRule → Bool
+is_allowed_too allowed given =
+    option_map_or (λ (placed : PlacedRule). not placed.rule.1 && contains_text allowed placed.rule.0)
+    given false

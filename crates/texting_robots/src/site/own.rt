@@ -33,7 +33,7 @@ pub(crate) struct Position {
 ///
 /// It goes from one user-agent line with the group name to the next, and returns the group lines of its run.
 #[derive(Drop)]
-pub(crate) struct OwnLines<'s, 'n> {
+pub struct OwnLines<'s, 'n> {
     text: &'s [u8],
     lines: &'s [KeptLine],
     names: &'s Names,

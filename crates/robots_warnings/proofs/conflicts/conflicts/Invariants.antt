@@ -1,10 +1,10 @@
-use Rattle.std.proofs.Common.{◌≡◌, ◌++◌, drop, map}
-use Rattle.robots_warnings.specs.Conflicts.{both_among, conflicts, scoped_by_value}
+use Rattle.std.proofs.Common.{◌≡◌, ℕ, map, string_bytes, take}
+use Rattle.std.specs.BTreeSet.{contains}
+use Rattle.std.specs.Ordering.{nat_cmp}
+use Rattle.texting_robots.specs.Callers.{file_lines}
+use Rattle.robots_warnings.specs.Conflicts.{is_conflict}
 use Rattle.robots_warnings.proofs.conflicts.conflicts.Given as goal
 
--- the numbers found so far and those in the remaining rules are all the numbers
-abbrev pub invariant-loop-rule : goal.invariant-loop-rule
-invariant-loop-rule l =
-    l.found.items
-    ++ both_among (map scoped_by_value l.rules) (map scoped_by_value (drop l.rule-index l.rules))
-    ≡ conflicts (map scoped_by_value l.rules)
+abbrev pub invariant-loop-agent : goal.invariant-loop-agent
+invariant-loop-agent l = (number : ℕ) → contains nat_cmp l.numbers number
+    ≡ is_conflict (map string_bytes (take l.agent-index l.agents)) (file_lines l.site) number

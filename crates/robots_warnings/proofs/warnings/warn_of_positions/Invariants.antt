@@ -4,7 +4,7 @@ use Rattle.robots_warnings.specs.Internal.{warning_value}
 use Rattle.robots_warnings.specs.Warnings.{position_warnings, positions_from}
 use Rattle.robots_warnings.proofs.warnings.warn_of_positions.Given as goal
 
--- the warnings found so far and those of the remaining lines are all the warnings
+-- those found and those of the remaining lines are all warnings
 abbrev pub invariant-loop-labeled : goal.invariant-loop-labeled
 invariant-loop-labeled l =
     map warning_value l.found.items

@@ -1,14 +1,17 @@
-use Rattle.std.proofs.Common.{append_assoc}
+use Rattle.std.proofs.Common.{◌≡◌, List, [], ◌++◌, ap, append_assoc, map}
+use Rattle.robots_warnings.specs.Internal.{warning_value}
 use Rattle.robots_warnings.proofs.warnings.warnings.Goals as goal
+
+-- five lists appended one after the other
+added : {X : Type 0} (none a b c d e one two three four five : List X) → none ≡ [] → a ≡ none ++ one
+    → b ≡ a ++ two → c ≡ b ++ three → d ≡ c ++ four → e ≡ d ++ five
+    → e ≡ one ++ (two ++ (three ++ (four ++ five)))
+added none a b c d e one two three four five x y z u v w = rw (w, v, u, z, y, x) (simp (append_assoc))
 
 pub returns : goal.returns
 returns c =
-    rw (
-      c.in_ok-warn_of_both_ways.ensures,
-      c.in_ok-warn_past_limit.ensures,
-      c.in_ok-warn_of_positions.ensures,
-      c.in_ok-warn_of_file_lines.ensures,
-      c.in_ok-warn_in_general.ensures,
-      c.new-found.ensures.items,
-      c.covers_all_crawlers-everywhere.ensures,
-    ) (simp (append_assoc))
+    added _ _ _ _ _ _ _ _ _ _ _ (ap (map warning_value) c.new-found.ensures.items)
+    c.in_ok-warn_in_general.ensures
+    (rw c.covers_all_crawlers-everywhere.ensures at c.in_ok-warn_of_file_lines.ensures)
+    c.in_ok-warn_of_positions.ensures c.in_ok-warn_past_limit.ensures
+    c.in_ok-warn_of_conflicts.ensures
