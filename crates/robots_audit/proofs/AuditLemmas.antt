@@ -1,27 +1,23 @@
 -- How an audit is built.
-use Rattle.std.proofs.Common.{◌≡◌, ◌≢◌, ℕ, List, [], ◌∷◌, ◌++◌, ◌+◌, ◌<◌}
-use Rattle.std.proofs.Common.{Contains, ap, arith, ◌&&◌, drop, length, ◌∙◌}
-use Rattle.std.proofs.Common.{Err, IfErr, IsErrOf, Ok, Result, inl, inr, map, refl, slice_index_or, subst}
+use Rattle.std.proofs.Common.{◌≡◌, ℕ, List, [], ◌∷◌, ◌++◌, ◌+◌, ◌<◌, ◌||◌}
+use Rattle.std.proofs.Common.{ap, ◌&&◌, drop, length, ◌∙◌, None, Option, is_some, map, refl, slice_index_or}
 use Rattle.std.proofs.Common.{take}
 use Rattle.std.specs.List.{AllZip, enumerate_from}
-use Rattle.std.proofs.lemmas.List.{drop_more, get_or-map, length-map, map-append, take_more}
-use Rattle.std.proofs.lemmas.List.Elements.{Contains-push_cases}
+use Rattle.std.proofs.lemmas.List.{drop_more, map-append, take_more}
 use Rattle.robots_audit.specs.declared.audit.AgentAudit.{AgentAudit}
 use Rattle.robots_audit.specs.declared.audit.Verdict.{Verdict}
-use Rattle.robots_audit.specs.declared.fault.Fault.{Fault}
-use Rattle.robots_audit.specs.declared.fault.Fault.TheVariants.{File, InvalidRule, Memory}
-use Rattle.robots_audit.specs.declared.fault.Fault.TheVariants.{NotUtf8, Read, UnknownWarning, Usage, Words}
-use Rattle.robots_audit.specs.declared.fault.Fault.TheVariants.{Write}
-use Rattle.texting_robots.specs.Callers.{LineValue, group_name}
+use Rattle.texting_robots.specs.declared.labels.LabeledLine.{LabeledLine}
+use Rattle.texting_robots.specs.Callers.{AnswerAlike, HasLines, IsDelayFor, IsRobotOfFile, LineValue}
+use Rattle.texting_robots.specs.Callers.{PlacedRule}
+use Rattle.texting_robots.specs.Callers.{RobotValue, delay_for, file_limit, group_name, lines_read}
+use Rattle.texting_robots.specs.Callers.{label_by_value}
+use Rattle.texting_robots.specs.Callers.{placed_rules, prepared}
 use Rattle.texting_robots.specs.Labels.{label_at}
-use Rattle.robots_warnings.specs.File.{lines_of, labels_for}
-use Rattle.texting_robots.specs.Callers.{AnswerAlike, IsRobotOfFile, PlacedRule, RobotValue}
-use Rattle.texting_robots.specs.Callers.{file_limit, lines_read, placed_rules, prepared}
 use Rattle.texting_robots.proofs.GivenLemmas.{delay_is_computed}
-use Rattle.texting_robots.proofs.MainTheoremLemmas.{answers_computed, read_robot}
-use Rattle.robots_audit.specs.Audit.{AgentValue, IsAgentAudit, IsVerdictOn, VerdictValue}
-use Rattle.robots_audit.specs.Audit.{all_allowed, allows_all, group_of}
-use Rattle.robots_audit.specs.Fault.{MayFail}
+use Rattle.texting_robots.proofs.MainTheoremLemmas.{answers_computed, lines_are_read, of_lines, read_robot}
+use Rattle.robots_warnings.specs.File.{lines_of, labels_for}
+use Rattle.robots_audit.specs.Audit.{AgentValue, IsAgentAudit, IsRuling, IsVerdictOn, VerdictValue}
+use Rattle.robots_audit.specs.Audit.{agents_requested, all_allowed, allows_all, group_of, rejects_some}
 use Rattle.robots_audit.specs.Internal.{agent_value, verdict_value}
 
 zip_push : {B V : Type 0} (R : B → V → Type 0) (items : List B) (found : List V) (item : B) (next : V)
@@ -49,50 +45,17 @@ pub allows_next : (verdicts : List Verdict) (at : ℕ) (verdict : Verdict) → a
     && allows_all (map verdict_value (drop (at + 1) verdicts)))
 allows_next verdicts at verdict below = rw (drop_more verdicts at verdict below) refl
 
+pub rejects_next : (agents : List AgentAudit) (at : ℕ) (agent : AgentAudit) → at < length agents
+    → rejects_some (map agent_value (drop at agents))
+    ≡ (is_some (slice_index_or agents at agent).rejected || rejects_some
+    (map agent_value (drop (at + 1) agents)))
+rejects_next agents at agent below = rw (drop_more agents at agent below) refl
+
 pub allowed_next : (agents : List AgentAudit) (at : ℕ) (agent : AgentAudit) → at < length agents
     → all_allowed (map agent_value (drop at agents))
     ≡ (allows_all (map verdict_value (slice_index_or agents at agent).verdicts.items)
     && all_allowed (map agent_value (drop (at + 1) agents)))
 allowed_next agents at agent below = rw (drop_more agents at agent below) refl
-
-none_in : (x : List ℕ) → ¬ Contains [] x
-none_in x (k, below, here) = absurd (omega arith)
-
--- an error that can occur for one of the crawlers can occur for all of them
-pub may_fail : (agents : List (List ℕ)) (agent : List ℕ) (fault : Fault) (file : List ℕ)
-    → Contains agents agent → MayFail (agent ∷ []) fault file → MayFail agents fault file
-may_fail agents agent (Words text) file has may = may
-may_fail agents agent Usage file has may = may
-may_fail agents agent NotUtf8 file has may = may
-may_fail agents agent (UnknownWarning name) file has may = may
-may_fail agents agent (File name) file has may = may
-may_fail agents agent Read file has may = tt
-may_fail agents agent Write file has may = tt
-may_fail agents agent (InvalidRule line) file has (other, among, is) =
-    (other, only_one other among, is)
-  where
-    only_one : (other : List ℕ) → Contains (agent ∷ []) other → Contains agents other
-    only_one other (k, below, here) = elim (Contains-push_cases [] agent other (k, below, here)) [
-      | inl none ↦ absurd (none_in other none)
-      | inr same ↦ subst (Contains agents) same has
-    ]
-may_fail agents agent Memory file has may = tt
-
--- an error of one crawler's audit that is returned by the audit of all
-pub passed_on : {X : Type 0} (result : Result X Fault) (agents : List (List ℕ)) (agent : List ℕ)
-    (fault : Fault) (file : List ℕ) → IsErrOf result fault → Contains agents agent
-    → (fault ≢ Write) × MayFail (agent ∷ []) fault file
-    → IfErr result (λ fault. (fault ≢ Write) × MayFail agents fault file)
-passed_on (Ok x) agents agent fault file is has may = tt
-passed_on (Err other) agents agent fault file is has may =
-    let same : fault ≡ other = cc in
-    subst (λ fault. (fault ≢ Write) × MayFail agents fault file) same
-    (may.0, may_fail agents agent fault file has may.1)
-
--- the image of an item is among the images of all items
-pub among_mapped : {A B : Type 0} (f : A → B) (items : List A) (place : ℕ) (item : A)
-    → place < length items → Contains (map f items) (f (slice_index_or items place item))
-among_mapped f items place item below = (place, rw length-map below, get_or-map f items place item _ below)
 
 lines_from : (name : List ℕ) (all lines : List LineValue) (n : ℕ)
     → lines_of (map (label_at name all) (enumerate_from n lines)) ≡ lines
@@ -102,6 +65,16 @@ lines_from name all (line ∷ lines) n = ap (λ t. line ∷ t) (lines_from name 
 -- the lines of the labels are the original lines
 pub lines_labeled : (agent : List ℕ) (lines : List LineValue) → lines_of (labels_for agent lines) ≡ lines
 lines_labeled agent lines = lines_from (group_name agent lines) lines lines 0
+
+-- the crawlers requested, computed from labels, are those computed from the lines
+pub names_requested : (agent : Option (List ℕ)) (labeling : List ℕ) (lines : List LineValue)
+    (labels others : List LabeledLine) (names : List (List ℕ))
+    → names ≡ agents_requested agent (lines_of (map label_by_value others)) → others ≡ labels
+    → map label_by_value labels ≡ labels_for labeling lines → names ≡ agents_requested agent lines
+names_requested agent labeling lines labels others names requested same are =
+    requested ∙ ap (λ labels. agents_requested agent (lines_of (map label_by_value labels))) same
+    ∙ ap (λ labels. agents_requested agent (lines_of labels)) are
+    ∙ ap (agents_requested agent) (lines_labeled labeling lines)
 
 -- ---- the audit for a crawler
 
@@ -126,17 +99,26 @@ verdicts_like rules others alike (url ∷ urls) (verdict ∷ verdicts) (first, l
 -- the values of a robot made from the file are those of the crawler's audit
 pub agent_made : (urls : List (List ℕ)) (file agent : List ℕ) (value : AgentValue) (robot : RobotValue)
     → IsRobotOfFile agent (take file_limit file) robot → value.agent ≡ agent
-    → value.group ≡ group_of agent (lines_read file) → value.delay ≡ robot.delay
+    → value.group ≡ group_of agent (lines_read file) → value.delay ≡ robot.delay → value.rejected ≡ None
     → AllZip (IsVerdictOn robot.rules) urls value.verdicts
     → IsAgentAudit urls (lines_read file) agent value
-agent_made urls file agent value robot of name group delay are =
+agent_made urls file agent value robot of name group delay accepted are =
     let lines = lines_read file in
     let is = read_robot agent file robot of in
     let alike = answers_computed agent lines robot.rules is.rules in
+    let found : IsRuling urls lines agent None value.verdicts =
+    (is.accepted, verdicts_like robot.rules (placed_rules agent lines) alike urls value.verdicts are) in
     record {
-      accepted = is.accepted;
       agent_is = name;
       group_is = group;
       delay_is = delay ∙ (delay_is_computed agent lines robot.delay).0 is.delay;
-      verdicts_are = verdicts_like robot.rules (placed_rules agent lines) alike urls value.verdicts are;
+      ruling = rw accepted found;
     }
+
+-- a delay as the specification states it is the computed one
+pub delay_read : (agent file : List ℕ) (delay : Option ℕ)
+    → HasLines (take file_limit file) (λ lines. IsDelayFor agent lines delay)
+    → delay ≡ delay_for agent (lines_read file)
+delay_read agent file delay has =
+    (delay_is_computed agent (lines_read file) delay).0
+    (of_lines _ (λ lines. IsDelayFor agent lines delay) has (lines_read file) (lines_are_read file))

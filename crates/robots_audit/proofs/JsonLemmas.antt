@@ -93,6 +93,7 @@ verdict_without_float verdict = rw (number_without_float verdict.decision.line)
 agent_without_float : (agent : AgentValue) → has_float (agent_json agent) ≡ false
 agent_without_float agent = rw (
   number_without_float agent.delay,
+  number_without_float agent.rejected,
   list_without_float verdict_json verdict_without_float agent.verdicts,
 )
 
@@ -256,7 +257,11 @@ agent_has agent = (
   (
     refl,
     number_has agent.delay,
-    (refl, group_printable agent.group, (refl, list_has verdict_json verdict_has agent.verdicts, tt)),
+    (
+      refl,
+      group_printable agent.group,
+      (refl, number_has agent.rejected, (refl, list_has verdict_json verdict_has agent.verdicts, tt)),
+    ),
   ),
 )
 

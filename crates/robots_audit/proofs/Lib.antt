@@ -4,5 +4,8 @@ pub mod AuditLemmas
 pub mod DelayLemmas
 pub mod JsonLemmas
 pub mod LawLemmas
+pub mod MessageLemmas
 pub mod PrintableLemmas
 pub mod RowLemmas
+pub mod SpaceLemmas
+pub mod WarningLemmas

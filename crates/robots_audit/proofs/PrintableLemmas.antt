@@ -18,8 +18,8 @@ use Rattle.robots_audit.specs.Answer.{has_rows, output, message}
 use Rattle.robots_audit.specs.Audit.{AgentValue, RequestValue, AuditValue, VerdictValue}
 use Rattle.robots_audit.specs.Delay.{delay_line, delay_text, fraction, million, seconds}
 use Rattle.robots_audit.specs.Json.{json_text}
-use Rattle.robots_audit.specs.Report.{agent_lines, group_line, nobody_text, report_lines, message_line}
-use Rattle.robots_audit.specs.Report.{verdict_line}
+use Rattle.robots_audit.specs.Report.{agent_lines, group_line, nobody_text, rejected_lines, report_lines}
+use Rattle.robots_audit.specs.Report.{message_line, verdict_line}
 use Rattle.robots_audit.specs.Report.{warning_lines}
 use Rattle.robots_warnings.specs.File.{space}
 use Rattle.robots_audit.specs.Rows.{has_value, kind_text, label_text, right_aligned, row, rows}
@@ -163,10 +163,20 @@ front_printable false (Some line) = search (
 verdict_printable : (verdict : VerdictValue) → IsPrintable (verdict_line verdict)
 verdict_printable verdict = search (append_printable true, front_printable, sanitized_printable)
 
+rejected_printable : (agent : List ℕ) (rejected : Option ℕ) → Each IsPrintable (rejected_lines agent rejected)
+rejected_printable agent None = tt
+rejected_printable agent (Some line) =
+    (search (append_printable true, ascii_printable true, decimal_printable true, sanitized_printable), tt)
+
 agent_printable : (agent : AgentValue) → Each IsPrintable (agent_lines agent)
 agent_printable agent = (
   group_printable agent.agent agent.group,
-  (delay_line_printable agent.delay, each_map verdict_line verdict_printable agent.verdicts),
+  (
+    delay_line_printable agent.delay,
+    each_append IsPrintable (rejected_lines agent.agent agent.rejected) (map verdict_line agent.verdicts)
+        (rejected_printable agent.agent agent.rejected)
+        (each_map verdict_line verdict_printable agent.verdicts),
+  ),
 )
 
 -- ---- the complete output

@@ -4,14 +4,13 @@ use Rattle.std.specs.Prelude.{◌≡◌, ◌≢◌, ℕ, ◌==◌, Bool, true, f
 use Rattle.std.specs.Prelude.{Result, if◌then◌else◌, is_some, length}
 use Rattle.std.specs.Prelude.{IfErr, IfOk, IfSome, IsErrOf, map, option_map, string_bytes}
 use Rattle.std.specs.Io.KnownBytes.{Appends, Keeps}
-use Rattle.texting_robots.specs.Callers.{lines_read}
 use Rattle.robots_io.specs.Streams.{AppendsBeginning}
 use Rattle.robots_io.specs.Lines.{ended}
 use Rattle.robots_audit.specs.declared.command.Request.{Request}
 use Rattle.robots_audit.specs.declared.fault.Fault.{Fault}
 use Rattle.robots_audit.specs.declared.fault.Fault.TheVariants.{File, Memory, Words, Write}
 use Rattle.robots_audit.specs.declared.fault.Outcome.{Outcome}
-use Rattle.robots_audit.specs.Audit.{RequestValue, AuditValue, IsAuditOf, agents_requested, all_allowed}
+use Rattle.robots_audit.specs.Audit.{RequestValue, AuditValue, IsAuditOf, all_allowed, rejects_some}
 use Rattle.robots_audit.specs.Fault.{MayFail}
 use Rattle.robots_audit.specs.Json.{json_text}
 use Rattle.robots_audit.specs.Report.{report_lines, warning_lines}
@@ -56,6 +55,7 @@ abbrev pub is_warned : AuditValue → Bool
 is_warned audit = not (length audit.warnings == 0)
 
 pub record IsOutcomeOf (requested : RequestValue) (audit : AuditValue) (outcome : Outcome) : Type 0 where
+  pub rejected : outcome.is_rejected ≡ rejects_some audit.agents
   pub allowed : outcome.all_allowed ≡ all_allowed audit.agents
   pub warned : outcome.is_warned ≡ is_warned audit
   pub warnings : string_bytes outcome.warnings ≡ message requested audit
@@ -66,23 +66,23 @@ pub record IsOutcomeOf (requested : RequestValue) (audit : AuditValue) (outcome 
 abbrev pub HasAudit : RequestValue → List ℕ → (AuditValue → Type 0) → Type 0
 HasAudit requested file P = (audit : AuditValue) × IsAuditOf requested file audit × P audit
 
--- for a reader that has this file left: either the report on an audit is written and the outcome is that of
--- this audit; or there is an error, and if that is a failed write, a prefix of the report is written
+-- a run that read this file: either the report on its audit is written and the outcome is that of this audit;
+-- or there is an error, and if that is a failed write, a prefix of the report is written
 pub record AuditsFile (request : Request) (ends : Ends) (result : Result Outcome Fault) (file : List ℕ)
     : Type 0 where
   pub ok : IfOk result (λ outcome. HasAudit (requested_by request) file (λ audit.
       Appends ends.old ends.new (output (requested_by request) audit)
       × IsOutcomeOf (requested_by request) audit outcome))
-  pub fault : IfErr result (λ fault.
-      MayFail (agents_requested (requested_by request).agent (lines_read file)) fault file)
+  pub fault : IfErr result MayFail
   pub beginning : IsErrOf result Write → HasAudit (requested_by request) file (λ audit.
       AppendsBeginning ends.old ends.new (output (requested_by request) audit))
 
--- if the reader's bytes can be observed, `AuditsFile` holds for them; the outcome is strict if the request
--- is; and after an error other than a failed write nothing has been written, whether the reader's bytes can
--- be observed or not
+-- `AuditsFile` holds for a file, which is what the reader has left if that can be observed; the outcome is
+-- strict if the request is; and after an error other than a failed write nothing has been written
 pub record Audits (request : Request) (ends : Ends) (result : Result Outcome Fault) : Type 0 where
-  pub reported : IfSome ends.left (AuditsFile request ends result)
+  pub file : List ℕ
+  pub read : IfSome ends.left (λ left. file ≡ left)
+  pub reported : AuditsFile request ends result file
   pub strict : IfOk result (λ outcome. outcome.is_strict ≡ request.is_strict)
   pub nothing_written : IfErr result (λ fault. fault ≢ Write → Keeps ends.old ends.new)
 
@@ -91,7 +91,8 @@ pub record Audits (request : Request) (ends : Ends) (result : Result Outcome Fau
 pub record Helps (text : List ℕ) (old new : Option (List ℕ)) (result : Result Outcome Fault)
     : Type 0 where
   pub ok : IfOk result (λ outcome. Appends old new text)
-  pub quiet : IfOk result (λ outcome. (outcome.all_allowed ≡ true) × (outcome.is_strict ≡ false)
+  pub quiet : IfOk result (λ outcome. (outcome.is_rejected ≡ false) × (outcome.all_allowed ≡ true)
+      × (outcome.is_strict ≡ false)
       × (string_bytes outcome.warnings ≡ []))
   pub fault : IfErr result (λ fault. fault ≡ Write)
   pub beginning : AppendsBeginning old new text

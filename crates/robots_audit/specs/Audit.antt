@@ -1,10 +1,10 @@
 -- The audit of a file: its lines, what applies to each requested crawler, and the warnings.
 use Rattle.std.specs.Prelude.{◌≡◌, ℕ, Bool, List, [], ◌∷◌, ◌++◌, Option, Some, None}
-use Rattle.std.specs.Prelude.{bytes_eq, codes}
+use Rattle.std.specs.Prelude.{bytes_eq, codes, is_some}
 use Rattle.std.specs.Prelude.{if◌then◌else◌}
 use Rattle.std.specs.List.{AllZip, list_all, list_any}
 use Rattle.std.specs.Str.{is_utf8, str_to_ascii_lowercase}
-use Rattle.texting_robots.specs.Callers.{IsRejected, LineValue, Label, PlacedRule, UserAgent}
+use Rattle.texting_robots.specs.Callers.{IsFirstOverlong, IsRejected, LineValue, Label, PlacedRule, UserAgent}
 use Rattle.texting_robots.specs.Callers.{delay_for, is_named, lines_read, placed_rules}
 use Rattle.texting_robots.specs.Group.{is_agent}
 use Rattle.texting_robots.specs.declared.decision.Decision.{Decision}
@@ -70,6 +70,7 @@ pub record AgentValue : Type 0 where
   pub agent : List ℕ
   pub group : Group
   pub delay : Option ℕ
+  pub rejected : Option ℕ
   pub verdicts : List VerdictValue
 
 -- the URL, and the decision of the rules on it
@@ -77,14 +78,21 @@ pub record IsVerdictOn (rules : List PlacedRule) (url : List ℕ) (verdict : Ver
   pub url_is : verdict.url ≡ url
   pub decided : IsDecisionOn rules url verdict.decision
 
--- the file isn't rejected for the crawler, and this is what it means for it
+-- either the file isn't rejected for the crawler, and these are the verdicts on the URLs; or its first overlong rule
+-- is in line `rejected`, and there are no verdicts
+abbrev pub IsRuling : List (List ℕ) → List LineValue → List ℕ → Option ℕ → List VerdictValue → Type 0
+IsRuling urls lines agent None verdicts =
+    (¬ IsRejected agent lines) × AllZip (IsVerdictOn (placed_rules agent lines)) urls verdicts
+IsRuling urls lines agent (Some line) verdicts =
+    IsFirstOverlong (placed_rules agent lines) line × (verdicts ≡ [])
+
+-- what the file means for the crawler
 pub record IsAgentAudit (urls : List (List ℕ)) (lines : List LineValue) (agent : List ℕ)
     (value : AgentValue) : Type 0 where
-  pub accepted : ¬ IsRejected agent lines
   pub agent_is : value.agent ≡ agent
   pub group_is : value.group ≡ group_of agent lines
   pub delay_is : value.delay ≡ delay_for agent lines
-  pub verdicts_are : AllZip (IsVerdictOn (placed_rules agent lines)) urls value.verdicts
+  pub ruling : IsRuling urls lines agent value.rejected value.verdicts
 
 -- ---- a file
 
@@ -105,8 +113,9 @@ labels_requested requested file = labels_for (labeling_agent requested.agent) (l
 -- the warnings that the request doesn't exclude
 abbrev pub warnings_requested : RequestValue → List ℕ → List Label → List WarningValue
 warnings_requested requested file labels =
-    chosen requested.only requested.ignored (warnings requested.agent requested.urls file
-    (facts_of file labels) labels)
+    chosen requested.only requested.ignored
+    (warnings requested.agent (agents_requested requested.agent (lines_read file)) requested.urls file
+    (facts_of file labels) labels (lines_read file))
 
 pub record IsAuditOf (requested : RequestValue) (file : List ℕ) (audit : AuditValue) : Type 0 where
   pub labels_are : audit.labels ≡ labels_requested requested file
@@ -121,3 +130,7 @@ allows_all verdicts = list_all (λ (verdict : VerdictValue). verdict.decision.al
 -- each of these crawlers may fetch all of its URLs
 abbrev pub all_allowed : List AgentValue → Bool
 all_allowed agents = list_all (λ (agent : AgentValue). allows_all agent.verdicts) agents
+
+-- the file is rejected for at least one of these crawlers
+abbrev pub rejects_some : List AgentValue → Bool
+rejects_some agents = list_any (λ (agent : AgentValue). is_some agent.rejected) agents

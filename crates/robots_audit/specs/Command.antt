@@ -68,10 +68,11 @@ abbrev pub IsUnknownIn : List (List ℕ) → Fault → Type 0
 IsUnknownIn names fault =
     (fault ≡ Memory) ⊎ ((name : List ℕ) × Contains names name × (is_name name ≡ false) × IsUnknown name fault)
 
--- a request, or an error: AGENT is missing, no warning has a given name, or an allocation failed
+-- a request, or an error: AGENT is missing without `--agents`, no warning has a given name, or an allocation
+-- failed
 abbrev pub Asks : ArgMatches → Result Request Fault → Type 0
 Asks matches (Ok request) = IsRequestOf matches request
 Asks matches (Err fault) =
-    ((words_of matches ≡ []) × (fault ≡ Usage))
+    (IsOn matches (codes "agents") false × (words_of matches ≡ []) × (fault ≡ Usage))
     ⊎ (IsUnknownIn (values_of matches (codes "only")) fault
     ⊎ IsUnknownIn (values_of matches (codes "ignore")) fault)

@@ -1,12 +1,11 @@
 -- The message for each error, and the exit status.
 use Rattle.std.specs.Prelude.{ℕ, not, ◌&&◌, List, [], ◌∷◌, ◌++◌, Result, Ok, Err}
-use Rattle.std.specs.Prelude.{⊤, Contains, codes, decimal, if◌then◌else◌, string_bytes}
-use Rattle.texting_robots.specs.Callers.{IsFirstOverlong, lines_read, placed_rules}
+use Rattle.std.specs.Prelude.{⊤, codes, if◌then◌else◌, string_bytes}
 use Rattle.robots_io.specs.Lines.{lf}
 use Rattle.robots_io.specs.declared.streams.ReadFault.{ReadFault}
 use Rattle.robots_io.specs.declared.streams.ReadFault.TheVariants as read
 use Rattle.robots_audit.specs.declared.fault.Fault.{Fault}
-use Rattle.robots_audit.specs.declared.fault.Fault.TheVariants.{File, InvalidRule, Memory}
+use Rattle.robots_audit.specs.declared.fault.Fault.TheVariants.{File, Memory}
 use Rattle.robots_audit.specs.declared.fault.Fault.TheVariants.{NotUtf8, Read, UnknownWarning, Usage, Words}
 use Rattle.robots_audit.specs.declared.fault.Fault.TheVariants.{Write}
 use Rattle.robots_audit.specs.declared.fault.Outcome.{Outcome}
@@ -20,9 +19,6 @@ reason_of (UnknownWarning name) = codes "unknown warning " ++ string_bytes name
 reason_of (File name) = codes "cannot read " ++ string_bytes name
 reason_of Read = codes "cannot read standard input"
 reason_of Write = codes "cannot write the report"
-reason_of (InvalidRule line) =
-    codes "line " ++ decimal line
-    ++ codes ": a pattern with $ longer than 4,096 bytes isn't supported; shorten it"
 reason_of Memory = codes "out of memory"
 
 -- the usage, after an error in the arguments that `clap` doesn't report
@@ -34,7 +30,6 @@ usage_after (UnknownWarning name) = codes "; usage: robots_audit [OPTIONS] AGENT
 usage_after (File name) = []
 usage_after Read = []
 usage_after Write = []
-usage_after (InvalidRule line) = []
 usage_after Memory = []
 
 -- the line for an error; the message of `clap` has its own line ends
@@ -51,25 +46,23 @@ message_after (Err fault) = fault_text fault
 -- warnings; else 0
 abbrev pub status_after : Result Outcome Fault → ℕ
 status_after (Ok outcome) =
-    if not outcome.all_allowed then 1
+    if outcome.is_rejected then 2
+    else if not outcome.all_allowed then 1
     else if outcome.is_strict && outcome.is_warned then 1 else 0
 status_after (Err fault) = 2
 
 -- ---- possible errors
 
--- a run on the file for these crawlers can end with this error; the specification doesn't state when a
--- read, a write or an allocation fails
-abbrev pub MayFail : List (List ℕ) → Fault → List ℕ → Type 0
-MayFail agents (Words text) file = ⊥
-MayFail agents Usage file = ⊥
-MayFail agents NotUtf8 file = ⊥
-MayFail agents (UnknownWarning name) file = ⊥
-MayFail agents (File name) file = ⊥
-MayFail agents Read file = ⊤
-MayFail agents Write file = ⊤
-MayFail agents (InvalidRule line) file =
-    (agent : List ℕ) × Contains agents agent × IsFirstOverlong (placed_rules agent (lines_read file)) line
-MayFail agents Memory file = ⊤
+-- a run can end with this error; the specification doesn't state when a read, a write or an allocation fails
+abbrev pub MayFail : Fault → Type 0
+MayFail (Words text) = ⊥
+MayFail Usage = ⊥
+MayFail NotUtf8 = ⊥
+MayFail (UnknownWarning name) = ⊥
+MayFail (File name) = ⊥
+MayFail Read = ⊤
+MayFail Write = ⊤
+MayFail Memory = ⊤
 
 -- the error of the program for a failed read
 abbrev pub fault_of_read : ReadFault → Fault

@@ -1,7 +1,11 @@
 -- The program's own types, by value.
 pub mod Agents
-use Rattle.std.specs.Prelude.{map, string_bytes}
+use Rattle.std.specs.Prelude.{ℕ, List, map, string_bytes, take}
+use Rattle.texting_robots.specs.Callers.{IsFirstOverlong, IsRobotOfFile, file_limit, lines_read}
 use Rattle.texting_robots.specs.Callers.{label_by_value}
+use Rattle.texting_robots.specs.Callers.{placed_rules}
+use Rattle.robots_audit.specs.declared.audit.Reading.{Reading}
+use Rattle.robots_audit.specs.declared.audit.Reading.TheVariants.{Accepted, Rejected}
 use Rattle.robots_audit.specs.declared.audit.AgentAudit.{AgentAudit}
 use Rattle.robots_audit.specs.declared.audit.Audit.{Audit}
 use Rattle.robots_audit.specs.declared.audit.Verdict.{Verdict}
@@ -16,6 +20,7 @@ agent_value audit = record {
   agent = string_bytes audit.agent;
   group = audit.group;
   delay = audit.delay;
+  rejected = audit.rejected;
   verdicts = map verdict_value audit.verdicts.items;
 }
 
@@ -25,3 +30,8 @@ audit_value audit = record {
   agents = map agent_value audit.agents.items;
   warnings = map warning_value audit.warnings.items;
 }
+
+-- the crawler's robot for the file, or the line of the crawler's first overlong rule
+abbrev pub IsReading : List ℕ → List ℕ → Reading → Type 0
+IsReading agent file (Accepted robot) = IsRobotOfFile agent (take file_limit file) robot
+IsReading agent file (Rejected line) = IsFirstOverlong (placed_rules agent (lines_read file)) line

@@ -54,7 +54,8 @@ agent_json agent = object
     (member (codes "agent") (sanitized_json agent.agent)
     (member (codes "delay") (number_json agent.delay)
     (member (codes "group") (string (group_word agent.group))
-    (member (codes "verdicts") (list_json verdict_json agent.verdicts) no_members))))
+    (member (codes "rejected") (number_json agent.rejected)
+    (member (codes "verdicts") (list_json verdict_json agent.verdicts) no_members)))))
 
 -- ---- a line
 

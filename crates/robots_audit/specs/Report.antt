@@ -1,5 +1,6 @@
 -- The audit as lines of text.
-use Rattle.std.specs.Prelude.{ℕ, Bool, List, [], ◌∷◌, ◌++◌, bytes_eq, codes, flat_map}
+use Rattle.std.specs.Prelude.{ℕ, Bool, List, [], ◌∷◌, ◌++◌, None, Option, Some, bytes_eq, codes, decimal}
+use Rattle.std.specs.Prelude.{flat_map}
 use Rattle.std.specs.Prelude.{if◌then◌else◌, map}
 use Rattle.robots_io.specs.Verdicts.{verdict_front}
 use Rattle.robots_audit.specs.declared.group.Group.{Group}
@@ -31,10 +32,22 @@ abbrev pub verdict_line : VerdictValue → List ℕ
 verdict_line verdict =
     verdict_front verdict.decision.allowed verdict.decision.line ++ sanitized verdict.url
 
--- the group that applies to a crawler, its delay and its verdicts
+-- that the file is rejected for the crawler, and the line of its first overlong rule
+abbrev pub rejected_front : List ℕ → ℕ → List ℕ
+rejected_front agent line = codes "rejected for " ++ sanitized agent ++ codes ": line " ++ decimal line
+
+-- the same with the reason, if the file is rejected
+abbrev pub rejected_lines : List ℕ → Option ℕ → List (List ℕ)
+rejected_lines agent None = []
+rejected_lines agent (Some line) =
+    (rejected_front agent line
+    ++ codes ": a pattern with $ longer than 4,096 bytes isn't supported; shorten it") ∷ []
+
+-- the group that applies to a crawler, its delay, whether the file is rejected for it, and its verdicts
 abbrev pub agent_lines : AgentValue → List (List ℕ)
 agent_lines agent =
-    group_line agent.agent agent.group ∷ delay_line agent.delay ∷ map verdict_line agent.verdicts
+    group_line agent.agent agent.group ∷ delay_line agent.delay
+    ∷ (rejected_lines agent.agent agent.rejected ++ map verdict_line agent.verdicts)
 
 -- a row for each line of the file if there are rows, then the lines about each crawler
 abbrev pub report_lines : Bool → AuditValue → List (List ℕ)

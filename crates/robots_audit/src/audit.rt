@@ -1,16 +1,16 @@
 //! The audit of a file: its lines, what applies to each requested crawler, and the warnings.
-ghost use Rattle.std.specs.Prelude.{◌≡◌, ◌≢◌, ◌∷◌, [], IfErr, IfOk, map, option_map, string_bytes, take};
+ghost use Rattle.std.specs.Prelude.{◌≡◌, IfErr, IfOk, map, option_map, string_bytes, take};
 ghost use Rattle.std.specs.List.{AllZip, list_any};
-ghost use Rattle.texting_robots.specs.Callers.{IsRobotOfFile, file_limit, lines_read, label_by_value};
+ghost use Rattle.texting_robots.specs.Callers.{file_limit, file_lines, lines_read, label_by_value};
 ghost use Rattle.texting_robots.specs.Group.{is_agent};
 ghost use Rattle.robots_audit.specs.Answer.{requested_by};
 ghost use Rattle.robots_audit.specs.Audit.{IsAgentAudit, IsAuditOf, IsVerdictOn, agents_requested, all_allowed, allows_all, labeling_agent};
+ghost use Rattle.robots_audit.specs.Audit.{rejects_some};
 ghost use Rattle.robots_audit.specs.Chosen.{chosen};
-ghost use Rattle.robots_audit.specs.Fault.{MayFail};
 ghost use Rattle.robots_warnings.specs.File.{lines_of, labels_for};
 ghost use Rattle.robots_warnings.specs.Internal.{warning_value};
 ghost use Rattle.robots_warnings.specs.Warnings.{warnings};
-ghost use Rattle.robots_audit.specs.Internal.{agent_value, audit_value, verdict_value};
+ghost use Rattle.robots_audit.specs.Internal.{IsReading, agent_value, audit_value, verdict_value};
 
 use crate::agents::agents_requested;
 use crate::chosen::chosen;
@@ -41,6 +41,9 @@ pub(crate) struct AgentAudit<'a> {
     pub(crate) group: Group,
     /// In microseconds.
     pub(crate) delay: Option<u64>,
+    /// The line of the crawler's first overlong rule, if it has one; then this parser rejects the file for the crawler.
+    pub(crate) rejected: Option<usize>,
+    /// Empty if the file is rejected for the crawler.
     pub(crate) verdicts: Vec<Verdict<'a>>,
 }
 
@@ -52,17 +55,23 @@ pub(crate) struct Audit<'a, 'b> {
     pub(crate) warnings: Vec<Warning<'a>>,
 }
 
-/// The crawler's robot for the first 512,000 bytes of the file. If the file is rejected, the error has the line of the
-/// rule that is too long.
-fn robot_for(alloc: Global, agent: &str, file: &[u8], site: &Site) -> Result<Robot, Fault>
+/// A crawler's robot, or the line of the crawler's first overlong rule.
+#[derive(Drop)]
+enum Reading {
+    Accepted(Robot),
+    Rejected(usize),
+}
+
+/// Parses the first 512,000 bytes of the file for the crawler.
+fn read_for(alloc: Global, agent: &str, file: &[u8], site: &Site) -> Result<Reading, Fault>
     requires { site.now ≡ take file_limit file.now }
-    ensures ok { IfOk result (IsRobotOfFile agent.now (take file_limit file.now)) }
-    ensures fault { IfErr result (λ fault. (fault ≢ Fault.Write) × MayFail (agent.now ∷ []) fault file.now) }
+    ensures ok { IfOk result (IsReading agent.now file.now) }
+    ensures fault { IfErr result (λ fault. fault ≡ Fault.Memory) }
 {
     match site.robot(alloc, agent) {
-        Ok(robot) => Ok(robot),
+        Ok(robot) => Ok(Reading::Accepted(robot)),
         Err(Error::InvalidRule) => match first_overlong_line(alloc, agent, counted(file))? {
-            Some(line) => Err(Fault::InvalidRule(line)),
+            Some(line) => Ok(Reading::Rejected(line)),
             None => unreachable!(),
         },
         Err(Error::Memory | Error::InvalidRobots) => Err(Fault::Memory),
@@ -100,20 +109,29 @@ fn agent_audit<'a>(
     requires site { site.now ≡ take file_limit file.now }
     ensures ok { IfOk result (λ audit. IsAgentAudit (map (λ url. url.now) urls.now) (lines_read file.now)
         agent.now (agent_value audit)) }
-    ensures fault { IfErr result (λ fault. (fault ≢ Fault.Write)
-        × MayFail (agent.now ∷ []) fault file.now) }
+    ensures fault { IfErr result (λ fault. fault ≡ Fault.Memory) }
 {
-    let robot = robot_for(alloc, agent, file, site)?;
+    let group = group_of(agent, site, has_agents);
     let name = String::from_str(alloc, agent)?;
-    match verdicts_on(alloc, &robot, urls) {
-        Ok(verdicts) => Ok(AgentAudit {
+    match read_for(alloc, agent, file, site)? {
+        Reading::Accepted(robot) => match verdicts_on(alloc, &robot, urls) {
+            Ok(verdicts) => Ok(AgentAudit {
+                agent: name,
+                group,
+                delay: robot.delay,
+                rejected: None,
+                verdicts,
+            }),
+            Err(Error::Memory) => Err(Fault::Memory),
+            Err(Error::InvalidRobots | Error::InvalidRule) => unreachable!(),
+        },
+        Reading::Rejected(line) => Ok(AgentAudit {
             agent: name,
-            group: group_of(agent, site, has_agents),
-            delay: robot.delay,
-            verdicts,
+            group,
+            delay: site.delay(agent),
+            rejected: Some(line),
+            verdicts: Vec::new(alloc),
         }),
-        Err(Error::Memory) => Err(Fault::Memory),
-        Err(Error::InvalidRobots | Error::InvalidRule) => unreachable!(),
     }
 }
 
@@ -130,35 +148,13 @@ fn agent_audits<'a>(
     requires site { site.now ≡ take file_limit file.now }
     ensures ok { IfOk result (λ audits. AllZip (IsAgentAudit (map (λ url. url.now) urls.now) (lines_read file.now))
         (map string_bytes agents.now) (map agent_value audits.items)) }
-    ensures fault { IfErr result (λ fault. (fault ≢ Fault.Write)
-        × MayFail (map string_bytes agents.now) fault file.now) }
+    ensures fault { IfErr result (λ fault. fault ≡ Fault.Memory) }
 {
     let mut audits = Vec::with_capacity(alloc, agents.len())?;
     for agent in agents {
         audits.push(agent_audit(alloc, agent, file, site, has_agents, urls)?)?;
     }
     Ok(audits)
-}
-
-/// What the file means for each crawler of the request. `facts` and `labels` are those of this file.
-fn agents_of<'a>(
-    alloc: Global,
-    request: &Request<'a>,
-    file: &[u8],
-    facts: FileFacts,
-    labels: &[LabeledLine<'_>],
-) -> Result<Vec<AgentAudit<'a>>, Fault>
-    requires labels { lines_of (map label_by_value labels.now) ≡ lines_read file.now }
-    requires facts { facts.kinds.user_agent ≡ list_any is_agent (lines_read file.now) }
-    ensures ok { IfOk result (λ audits. AllZip (IsAgentAudit (requested_by request.now).urls (lines_read file.now))
-        (agents_requested (requested_by request.now).agent (lines_read file.now)) (map agent_value audits.items)) }
-    ensures fault { IfErr result (λ fault. (fault ≢ Fault.Write)
-        × MayFail (agents_requested (requested_by request.now).agent (lines_read file.now)) fault file.now) }
-{
-    let names = agents_requested(alloc, request.agent, labels)?;
-    let site = Site::new(alloc, file)?;
-    let has_agents = facts.kinds.user_agent;
-    agent_audits(alloc, &names, file, &site, has_agents, &request.urls)
 }
 
 /// The crawler for which lines are labeled: with `None`, `*`.
@@ -176,16 +172,19 @@ fn labeling_agent<'a>(agent: Option<&'a str>) -> &'a str
 fn warnings_of<'a>(
     alloc: Global,
     request: &Request<'a>,
+    agents: &[String],
     file: &[u8],
     facts: FileFacts,
     labels: &[LabeledLine<'_>],
+    site: &Site,
 ) -> Result<Vec<Warning<'a>>, AllocError>
     ensures { IfOk result (λ found. map warning_value found.items
         ≡ chosen (requested_by request.now).only (requested_by request.now).ignored
-        (warnings (requested_by request.now).agent (requested_by request.now).urls file.now facts
-        (map label_by_value labels.now))) }
+        (warnings (requested_by request.now).agent (map string_bytes agents.now) (requested_by request.now).urls
+        file.now facts (map label_by_value labels.now) (file_lines site.now))) }
 {
-    let all = warnings(alloc, request.agent, &request.urls, file, facts, labels)?;
+    let (agent, urls) = (request.agent, &request.urls);
+    let all = warnings(alloc, agent, agents, urls, file, facts, labels, site)?;
     chosen(alloc, &request.only, &request.ignored, &all)
 }
 
@@ -196,13 +195,15 @@ pub(crate) fn audit_of<'a, 'b>(
     file: &'b [u8],
 ) -> Result<Audit<'a, 'b>, Fault>
     ensures ok { IfOk result (λ audit. IsAuditOf (requested_by request.now) file.now (audit_value audit)) }
-    ensures fault { IfErr result (λ fault. (fault ≢ Fault.Write)
-        × MayFail (agents_requested (requested_by request.now).agent (lines_read file.now)) fault file.now) }
+    ensures fault { IfErr result (λ fault. fault ≡ Fault.Memory) }
 {
     let labels = labels_for(alloc, labeling_agent(request.agent), file)?;
     let facts = facts_of(file, &labels);
-    let agents = agents_of(alloc, request, file, facts, &labels)?;
-    let warnings = warnings_of(alloc, request, file, facts, &labels)?;
+    let names = agents_requested(alloc, request.agent, &labels)?;
+    let site = Site::new(alloc, file)?;
+    let has_agents = facts.kinds.user_agent;
+    let agents = agent_audits(alloc, &names, file, &site, has_agents, &request.urls)?;
+    let warnings = warnings_of(alloc, request, &names, file, facts, &labels, &site)?;
     Ok(Audit {
         labels,
         agents,
@@ -234,4 +235,17 @@ pub(crate) fn all_allowed(agents: &[AgentAudit<'_>]) -> bool
         }
     }
     true
+}
+
+/// Whether the file is rejected for at least one of these crawlers.
+#[tactic(auto, using(crate::proofs::AuditLemmas::rejects_next))]
+pub(crate) fn rejects_some(agents: &[AgentAudit<'_>]) -> bool
+    ensures { result ≡ rejects_some (map agent_value agents.now) }
+{
+    for agent in agents {
+        if agent.rejected.is_some() {
+            return true;
+        }
+    }
+    false
 }

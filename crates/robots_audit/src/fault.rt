@@ -9,7 +9,9 @@ use std::fmt;
 /// The outcome of a run that wrote its report.
 #[derive(Drop)]
 pub struct Outcome {
-    /// Whether each crawler of the report may fetch every URL of the request.
+    /// Whether this parser rejects the file for a crawler of the report.
+    pub is_rejected: bool,
+    /// Whether each of the other crawlers may fetch every URL of the request.
     pub all_allowed: bool,
     /// Whether there are warnings.
     pub is_warned: bool,
@@ -36,8 +38,6 @@ pub enum Fault {
     Read,
     /// A write or a flush failed, or a write accepted no bytes.
     Write,
-    /// The rule in this line applies to a crawler of the report, contains `$` and is too long.
-    InvalidRule(usize),
     /// An allocation failed, or a URL is too long for the crate `url`.
     Memory,
 }
@@ -57,10 +57,6 @@ impl fmt::Display for Fault {
             Fault::File(name) => write!(f, "cannot read {name}"),
             Fault::Read => f.write_str("cannot read standard input"),
             Fault::Write => f.write_str("cannot write the report"),
-            Fault::InvalidRule(line) => write!(
-                f,
-                "line {line}: a pattern with $ longer than 4,096 bytes isn't supported; shorten it"
-            ),
             Fault::Memory => f.write_str("out of memory"),
         }
     }
@@ -150,6 +146,7 @@ pub fn status_after(outcome: &Result<Outcome, Fault>) -> u8
     ensures { result ≡ status_after outcome.now }
 {
     match outcome {
+        Ok(outcome) if outcome.is_rejected => 2,
         Ok(outcome) if !outcome.all_allowed => 1,
         Ok(outcome) if outcome.is_strict && outcome.is_warned => 1,
         Ok(_) => 0,

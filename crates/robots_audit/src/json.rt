@@ -96,6 +96,7 @@ impl<'a> Json for AgentAudit<'a> {
             "agent": name,
             "delay": self.delay,
             "group": group_word(self.group),
+            "rejected": self.rejected,
             "verdicts": verdicts,
         })
     }

@@ -1,8 +1,16 @@
 //! Theorems about the specification, each written as the contract of an empty function.
-ghost use Rattle.std.specs.Prelude.{◌≡◌, ℕ, Contains, List};
-ghost use Rattle.texting_robots.specs.Callers.{IsRejected, lines_read};
+ghost use Rattle.std.specs.Prelude.{◌≡◌, ◌↔◌, ◌∷◌, ◌+◌, ℕ, Any, Bool, Contains, IsTrue, List, Some, false, if◌then◌else◌, slice_get, true};
+ghost use Rattle.std.specs.Str.{IsUtf8, byte, is_utf8};
+ghost use Rattle.texting_robots.specs.Callers.{Allow, AreLabelsOf, AreRulesFor, Disallow, HoldsRule, IsDecidingLine, Label, LineValue};
+ghost use Rattle.texting_robots.specs.Callers.{Matches, PlacedRule, Rule, UserAgent, escaped, file_lines, is_named, prepared};
+ghost use Rattle.robots_warnings.specs.Conflicts.{IsConflict, is_conflict};
+ghost use Rattle.robots_warnings.specs.NamesPastLimit.{names_past_limit};
+ghost use Rattle.robots_warnings.specs.Positions.{is_above_agents};
+ghost use Rattle.robots_warnings.specs.Rules.{begins_oddly, has_dollar_inside};
+ghost use Rattle.robots_warnings.specs.Tokens.{has_space_around};
+ghost use Rattle.robots_warnings.specs.Urls.{is_invalid_url};
 ghost use Rattle.robots_audit.specs.Answer.{output, message};
-ghost use Rattle.robots_audit.specs.Audit.{RequestValue, AuditValue, IsAuditOf, agents_requested};
+ghost use Rattle.robots_audit.specs.Audit.{RequestValue, AuditValue, IsAuditOf};
 ghost use Rattle.robots_io.specs.Sanitize.{IsPrintable};
 
 /// A request and a file have at most one audit, and so at most one report.
@@ -11,12 +19,9 @@ pub fn each_file_has_one_audit()
         → IsAuditOf requested file audit → IsAuditOf requested file other → audit ≡ other }
 {}
 
-/// A file has an audit if it isn't rejected for any of the crawlers that the report covers.
+/// Every request and file have an audit.
 pub fn each_file_has_an_audit()
-    ensures { (requested : RequestValue) (file : List ℕ)
-        → ((agent : List ℕ) → Contains (agents_requested requested.agent (lines_read file)) agent
-        → ¬ IsRejected agent (lines_read file))
-        → (audit : AuditValue) × IsAuditOf requested file audit }
+    ensures { (requested : RequestValue) (file : List ℕ) → (audit : AuditValue) × IsAuditOf requested file audit }
 {}
 
 /// Neither the output nor the message on standard error of an audit contains invalid UTF-8, a control character other
@@ -25,4 +30,61 @@ pub fn each_file_has_an_audit()
 pub fn no_terminal_is_steered()
     ensures written { (requested : RequestValue) (audit : AuditValue) → IsPrintable (output requested audit) }
     ensures message { (requested : RequestValue) (audit : AuditValue) → IsPrintable (message requested audit) }
+{}
+
+/// `allowed-and-disallowed` is given for a line exactly if it has a Disallow that applies to one of the crawlers reported
+/// on, and an Allow with the same pattern applies to that crawler too.
+pub fn allowed_and_disallowed()
+    ensures { (agents : List (List ℕ)) (lines : List LineValue) (number : ℕ)
+        → IsTrue (is_conflict agents lines number) ↔ Any (λ agent. IsConflict agent lines number) agents }
+{}
+
+/// The Disallow of an `allowed-and-disallowed` decides no verdict for the crawler to which both apply.
+pub fn allowed_and_disallowed_never_decides()
+    ensures { (agent : List ℕ) (lines : List LineValue) (rules : List PlacedRule) (number : ℕ) (text : List ℕ)
+        → IsConflict agent lines number → AreRulesFor agent lines rules → ¬ IsDecidingLine rules text (Some number) }
+{}
+
+/// A line with `group-past-size-limit` is a user-agent line whose name none of the lines within the size limit has.
+pub fn group_past_size_limit()
+    ensures { (read : List LineValue) (file : List ℕ) (number : ℕ) → Contains (names_past_limit read file) number
+        → (position : ℕ) × (value : List ℕ) × (number ≡ position + 1)
+        × (slice_get (file_lines file) position ≡ Some (UserAgent value)) × (is_named value read ≡ false) }
+{}
+
+/// A line with `rule-not-utf-8` has no rule, for any crawler.
+pub fn rule_not_utf_8()
+    ensures { (value agent : List ℕ) (lines : List LineValue) (position : ℕ) (is_allow : Bool) (rule : Rule)
+        → is_utf8 value ≡ false → slice_get lines position ≡ Some (if is_allow then Allow value else Disallow value)
+        → ¬ HoldsRule agent lines position rule }
+{}
+
+/// A line with `rule-before-user-agent` has no rule, for any crawler. The labels may be those for another crawler.
+pub fn rule_before_user_agent()
+    ensures { (name agent : List ℕ) (lines : List LineValue) (labels : List Label) (position : ℕ) (label : Label) (rule : Rule)
+        → AreLabelsOf name lines labels → slice_get labels position ≡ Some label → is_above_agents label ≡ true
+        → ¬ HoldsRule agent lines position rule }
+{}
+
+/// A rule with `dollar-not-at-end` matches no text.
+pub fn dollar_not_at_end()
+    ensures { (value text : List ℕ) → has_dollar_inside value ≡ true → ¬ Matches (escaped value) text }
+{}
+
+/// A rule with `missing-slash`, `url-as-rule` or `quoted-rule` that starts with neither a slash nor a star matches no text
+/// that starts with a slash, as all paths do.
+pub fn missing_slash()
+    ensures { (value text : List ℕ) → begins_oddly value ≡ true → ¬ Matches (escaped value) (byte "/" ∷ text) }
+{}
+
+/// A URL with `invalid-url` is matched as the escaped string.
+pub fn invalid_url()
+    ensures { (url : List ℕ) → is_invalid_url url ≡ true → prepared url ≡ escaped url }
+{}
+
+/// A crawler's name with `space-around-agent` matches no user-agent line, in any file.
+#[tactic(auto, using(crate::proofs::SpaceLemmas::space_around_agent))]
+pub fn space_around_agent()
+    ensures { (agent file : List ℕ) → IsUtf8 agent → has_space_around agent ≡ true
+        → is_named agent (file_lines file) ≡ false }
 {}

@@ -7,8 +7,12 @@
 //! `robots_audit [OPTIONS] AGENT [URL]..`
 //!
 //! The exit status is 0 if every URL is allowed; 1 if some URL is denied, or with `--strict` if there are warnings; and
-//! 2 after an error.
+//! 2 after an error or if the file is rejected for a crawler of the report.
 #![tactic(auto)]
+
+ghost use Rattle.std.specs.Prelude.{IfErr};
+ghost use Rattle.robots_io.specs.Sanitize.{IsPrintable};
+ghost use Rattle.robots_audit.specs.Fault.{fault_text, message_after};
 
 mod agents;
 mod audit;
@@ -35,7 +39,9 @@ use std::io::ErrorKind;
 use std::process::ExitCode;
 
 /// The command line, including the program's name.
-fn words(rt: &HostRuntime) -> Result<Vec<String>, Fault> {
+fn words(rt: &HostRuntime) -> Result<Vec<String>, Fault>
+    ensures { IfErr result (λ fault. IsPrintable (fault_text fault)) }
+{
     match env::args(rt) {
         Ok(args) => Ok(args.collect(rt.alloc())?),
         Err(error) => match error.kind() {
@@ -46,7 +52,9 @@ fn words(rt: &HostRuntime) -> Result<Vec<String>, Fault> {
 }
 
 /// Handles what `clap` returns if the arguments request help or the version, or can't be parsed.
-fn reported(rt: &HostRuntime, error: clap::Error) -> Result<Outcome, Fault> {
+fn reported(rt: &HostRuntime, error: clap::Error) -> Result<Outcome, Fault>
+    ensures { IsPrintable (message_after result) }
+{
     let text = error.to_string(rt.alloc())?;
     if error.use_stderr() {
         Err(rejected(rt.alloc(), &text))
@@ -56,18 +64,23 @@ fn reported(rt: &HostRuntime, error: clap::Error) -> Result<Outcome, Fault> {
 }
 
 /// Audits the file with this name.
-fn audit_named(rt: &HostRuntime, request: &Request<'_>, name: &str) -> Result<Outcome, Fault> {
+fn audit_named(rt: &HostRuntime, request: &Request<'_>, name: &str) -> Result<Outcome, Fault>
+    ensures { IsPrintable (message_after result) }
+{
     let Ok(mut file) = File::open(rt, name) else {
         return Err(unread(rt.alloc(), name));
     };
-    match run(rt.alloc(), request, &mut file, &mut rt.stdout()) {
-        Err(Fault::Read) => Err(unread(rt.alloc(), name)),
-        outcome => outcome,
+    let outcome = run(rt.alloc(), request, &mut file, &mut rt.stdout());
+    if let Err(Fault::Read) = &outcome {
+        return Err(unread(rt.alloc(), name));
     }
+    outcome
 }
 
 /// Audits the file that the parsed arguments name, or standard input.
-fn audited(rt: &HostRuntime, matches: &ArgMatches<'_>) -> Result<Outcome, Fault> {
+fn audited(rt: &HostRuntime, matches: &ArgMatches<'_>) -> Result<Outcome, Fault>
+    ensures { IsPrintable (message_after result) }
+{
     let request = requested(rt.alloc(), matches)?;
     match request.file {
         Some(name) => audit_named(rt, &request, name),
@@ -75,8 +88,11 @@ fn audited(rt: &HostRuntime, matches: &ArgMatches<'_>) -> Result<Outcome, Fault>
     }
 }
 
-/// Parses the arguments and does what they request.
-fn outcome(rt: &HostRuntime) -> Result<Outcome, Fault> {
+/// Parses the arguments and does what they request. The message for standard error is printable, whatever the arguments,
+/// the file and its name are.
+fn outcome(rt: &HostRuntime) -> Result<Outcome, Fault>
+    ensures { IsPrintable (message_after result) }
+{
     let words = words(rt)?;
     match command(rt.alloc())?.try_get_matches_from(&words) {
         Ok(matches) => audited(rt, &matches),

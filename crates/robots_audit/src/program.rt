@@ -3,7 +3,7 @@ ghost use Rattle.std.specs.Prelude.{◌≡◌, ◌==◌, IfOk, length, not, stri
 ghost use Rattle.robots_audit.specs.Answer.{Audits, Helps, IsRejection, IsFileUnreadable, requested_by, has_rows, output, message};
 ghost use Rattle.robots_audit.specs.Internal.{audit_value};
 
-use crate::audit::{Audit, all_allowed, audit_of};
+use crate::audit::{Audit, all_allowed, audit_of, rejects_some};
 use crate::command::Request;
 use crate::fault::{Fault, Outcome};
 use crate::json::json_text;
@@ -63,8 +63,8 @@ fn message(
 /// # Errors
 ///
 /// `Fault::Read` if a read failed or too many would be needed, `Fault::Write` if a write or a flush failed or a write
-/// accepted no bytes, `Fault::Memory` if an allocation failed or a URL is too long for `url`, and `Fault::InvalidRule`
-/// if the file is rejected for a crawler. The contract doesn't state when the first three occur.
+/// accepted no bytes, and `Fault::Memory` if an allocation failed or a URL is too long for `url`. The contract doesn't
+/// state when they occur. A file that is rejected for a crawler isn't an error: the outcome says so.
 pub fn run<R: Read, W: Write>(
     alloc: Global,
     request: &Request<'_>,
@@ -83,6 +83,7 @@ pub fn run<R: Read, W: Write>(
     let warnings = message(alloc, request, &audit)?;
     write_out(writer, text.as_bytes())?;
     Ok(Outcome {
+        is_rejected: rejects_some(&audit.agents),
         all_allowed: all_allowed(&audit.agents),
         is_warned: is_warned(&audit.warnings),
         warnings,
@@ -96,6 +97,7 @@ pub fn help<W: Write>(alloc: Global, text: &str, writer: &mut W) -> Result<Outco
 {
     write_out(writer, text.as_bytes())?;
     Ok(Outcome {
+        is_rejected: false,
         all_allowed: true,
         is_warned: false,
         warnings: String::new(alloc),

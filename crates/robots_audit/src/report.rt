@@ -1,7 +1,7 @@
 //! The audit as lines of text.
 ghost use Rattle.std.specs.Prelude.{◌≡◌, ◌++◌, ◌∷◌, [], IfOk, OnOk, flat_map, map, string_bytes};
 ghost use Rattle.robots_io.specs.Lines.{ended};
-ghost use Rattle.robots_audit.specs.Report.{agent_lines, group_line, group_text, nobody_text, report_lines, message_line, verdict_line, warning_lines};
+ghost use Rattle.robots_audit.specs.Report.{agent_lines, group_line, group_text, nobody_text, rejected_front, rejected_lines, report_lines, message_line, verdict_line, warning_lines};
 ghost use Rattle.robots_io.specs.Sanitize.{sanitized};
 ghost use Rattle.robots_warnings.specs.Internal.{warning_value};
 ghost use Rattle.robots_audit.specs.Internal.{agent_value, audit_value, verdict_value};
@@ -10,7 +10,7 @@ use crate::audit::{AgentAudit, Audit, Verdict};
 use crate::delay::push_delay;
 use crate::group::Group;
 use crate::rows::push_rows;
-use robots_io::lines::push_line;
+use robots_io::lines::{push_line, push_number};
 use robots_io::sanitize::push_sanitized;
 use robots_io::verdicts::push_decision;
 use robots_warnings::warning::{Warning, push_warning};
@@ -89,13 +89,36 @@ fn push_verdicts(text: &mut String, verdicts: &[Verdict<'_>]) -> Result<(), Allo
     Ok(())
 }
 
-/// Appends the lines about a crawler: its group, its delay and its verdicts.
+/// Appends that the file is rejected for the crawler because of this line.
+fn push_rejected_front(text: &mut String, agent: &str, line: usize) -> Result<(), AllocError>
+    ensures { OnOk result (string_bytes text.new ≡ string_bytes text.old ++ rejected_front agent.now line) }
+{
+    push_around(text, "rejected for ", agent, ": line ")?;
+    push_number(text, line)?;
+    Ok(())
+}
+
+/// Appends the line that the file is rejected for the crawler, if it is.
+fn push_rejected(text: &mut String, agent: &str, rejected: Option<usize>) -> Result<(), AllocError>
+    ensures { OnOk result (string_bytes text.new ≡ string_bytes text.old
+        ++ ended (rejected_lines agent.now rejected)) }
+{
+    let Some(line) = rejected else {
+        return Ok(());
+    };
+    push_rejected_front(text, agent, line)?;
+    let reason = ": a pattern with $ longer than 4,096 bytes isn't supported; shorten it";
+    push_line(text, reason, "")
+}
+
+/// Appends the lines about a crawler: its group, its delay, whether the file is rejected for it, and its verdicts.
 fn push_agent(text: &mut String, agent: &AgentAudit<'_>) -> Result<(), AllocError>
     ensures { OnOk result (string_bytes text.new ≡ string_bytes text.old
         ++ ended (agent_lines (agent_value agent.now))) }
 {
     push_group(text, &agent.agent, agent.group)?;
     push_delay(text, agent.delay)?;
+    push_rejected(text, &agent.agent, agent.rejected)?;
     push_verdicts(text, &agent.verdicts)
 }
 

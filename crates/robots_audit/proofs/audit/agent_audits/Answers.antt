@@ -1,8 +1,8 @@
-use Rattle.std.proofs.Common.{map, rules, string_bytes}
+use Rattle.std.proofs.Common.{map, string_bytes}
 use Rattle.texting_robots.specs.Callers.{lines_read}
 use Rattle.robots_audit.specs.Audit.{IsAgentAudit}
 use Rattle.robots_audit.specs.Internal.{agent_value}
-use Rattle.robots_audit.proofs.AuditLemmas.{among_mapped, passed_on, zip_next}
+use Rattle.robots_audit.proofs.AuditLemmas.{zip_next}
 use Rattle.robots_audit.proofs.audit.agent_audits.Goals as goal
 
 pub loop-agent-preserved : goal.loop-agent-preserved
@@ -12,10 +12,3 @@ loop-agent-preserved c =
     agent_value c.args.agents.now c.loop-agent.agent-index c.agent-item.result c.loop-agent.audits.items _
     c.loop-agent-test.true c.loop-agent.invariant
     (rw (c.deref.ensures, c.agent-item.is) at c.in_ok-agent_audit.ensures.ok))
-
-pub returns-in_err-agent_audit-clause-fault : goal.returns-in_err-agent_audit-clause-fault
-returns-in_err-agent_audit-clause-fault c =
-    passed_on _ _ _ c.in_err-agent_audit.field-0.0 _ (search rules)
-    (among_mapped string_bytes c.args.agents.now c.loop-agent.agent-index c.agent-item.result
-    c.loop-agent-test.true)
-    (rw (c.deref.ensures, c.agent-item.is) at c.in_err-agent_audit.ensures.fault)

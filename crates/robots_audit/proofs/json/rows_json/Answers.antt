@@ -1,4 +1,3 @@
-use Rattle.std.proofs.Common.{rules}
 use Rattle.texting_robots.specs.Callers.{label_by_value}
 use Rattle.robots_audit.specs.Json.{line_json}
 use Rattle.robots_audit.proofs.JsonLemmas.{listed}

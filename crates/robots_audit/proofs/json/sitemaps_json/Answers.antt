@@ -1,4 +1,3 @@
-use Rattle.std.proofs.Common.{List}
 use Rattle.robots_audit.specs.Json.{sanitized_json}
 use Rattle.robots_audit.proofs.JsonLemmas.{listed}
 use Rattle.robots_audit.proofs.json.sitemaps_json.Goals as goal

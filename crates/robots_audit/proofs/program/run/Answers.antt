@@ -1,8 +1,8 @@
 use Rattle.std.proofs.Common.{refl, rules}
 use Rattle.std.proofs.lemmas.List.{length-map}
-use Rattle.robots_audit.specs.Answer.{AuditsFile}
 use Rattle.robots_audit.specs.Internal.{audit_value}
-use Rattle.robots_audit.proofs.AnswerLemmas.{broken_off, failed, for_left}
+use Rattle.robots_audit.specs.declared.fault.Fault.TheVariants.{Memory}
+use Rattle.robots_audit.proofs.AnswerLemmas.{broken_off, failed, failed_to_read, no_fault}
 use Rattle.robots_audit.proofs.program.run.Goals as goal
 
 pub returns-in_err-write_out : goal.returns-in_err-write_out
@@ -15,27 +15,46 @@ returns-in_err-write_out g c =
 
 pub returns-in_err-audit : goal.returns-in_err-audit
 returns-in_err-audit g c =
-    failed _ _ c.from_residual-in_err-audit.result _ _ c.in_err-audit.field-0.0 (search rules)
-    c.in_ok-input.ensures.all c.as_slice.ensures.value c.in_err-audit.ensures.fault (search rules)
+    failed _ _ c.from_residual-in_err-audit.result _ Memory (search rules) c.in_ok-input.ensures.all
+    (λ same. cc) tt
+    (search rules)
+
+pub returns-in_err-text : goal.returns-in_err-text
+returns-in_err-text g c =
+    failed _ _ c.from_residual-in_err-text.result _ Memory (search rules) c.in_ok-input.ensures.all (λ same. cc) tt
+    (search rules)
+
+pub returns-in_err-warnings : goal.returns-in_err-warnings
+returns-in_err-warnings g c =
+    failed _ _ c.from_residual-in_err-warnings.result _ Memory (search rules) c.in_ok-input.ensures.all
+    (λ same. cc) tt
+    (search rules)
+
+pub returns-in_err-input : goal.returns-in_err-input
+returns-in_err-input g c =
+    failed_to_read _ _ c.from_residual.result c.in_err-input.field-0.0 (search rules) (search rules)
 
 pub returns : goal.returns
 returns g c = record {
-  reported = for_left _ _ (AuditsFile _ _ _) c.in_ok-input.ensures.all (record {
+  file = c.in_ok-input.input.items;
+  read = c.in_ok-input.ensures.all;
+  reported = record {
     ok = (
       audit_value c.in_ok-audit.audit,
       rw c.as_slice.ensures.value at c.in_ok-audit.ensures.ok,
       (
         rw (c.as_bytes.ensures.value, c.in_ok-text.ensures) at c.in_ok-write_out.ensures.ok,
         record {
-          allowed = rw c.deref.ensures.value at c.all_allowed.ensures;
-          warned = rw (c.is_warned.ensures, c.deref-2.ensures.value, length-map) refl;
+          rejected = rw c.deref.ensures.value at c.rejects_some.ensures;
+          allowed = rw c.deref-2.ensures.value at c.all_allowed.ensures;
+          warned = rw (c.is_warned.ensures, c.deref-3.ensures.value, length-map) refl;
           warnings = c.in_ok-warnings.ensures;
         },
       ),
     );
     fault = tt;
-    beginning = λ broken. absurd (cc);
-  });
+    beginning = λ broken. absurd (no_fault _ _ broken);
+  };
   strict = refl;
   nothing_written = tt;
 }

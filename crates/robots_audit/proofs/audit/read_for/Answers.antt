@@ -1,6 +1,5 @@
-use Rattle.std.proofs.Common.{lit<, refl}
 use Rattle.texting_robots.proofs.MainTheoremLemmas.{read_rejected}
-use Rattle.robots_audit.proofs.audit.robot_for.Goals as goal
+use Rattle.robots_audit.proofs.audit.read_for.Goals as goal
 
 pub unreachable-requires : goal.unreachable-requires
 unreachable-requires c =
@@ -8,15 +7,9 @@ unreachable-requires c =
     (rw (c.in-None.is, c.counted.ensures) at c.in_ok-line-in-Err-InvalidRule.ensures.line)
     (read_rejected _ _ (rw (error.field-0-is, c.requires) at error.ensures.rejected))
 
-pub returns-in-Some-clause-fault : goal.returns-in-Some-clause-fault
-returns-in-Some-clause-fault c = (
-  λ is. absurd (cc),
-  (
-    c.args.agent.now,
-    (0, lit< tt, refl),
-    rw (c.in-Some.is, c.counted.ensures) at c.in_ok-line-in-Err-InvalidRule.ensures.line,
-  ),
-)
+pub returns-in-Some-clause-ok : goal.returns-in-Some-clause-ok
+returns-in-Some-clause-ok c =
+    rw (c.in-Some.is, c.counted.ensures) at c.in_ok-line-in-Err-InvalidRule.ensures.line
 
 pub returns-in-Ok-clause-ok : goal.returns-in-Ok-clause-ok
 returns-in-Ok-clause-ok c = rw c.requires at c.in-Ok.ensures.robot

@@ -1,0 +1,128 @@
+-- The message on standard error contains no control or bidirectional-formatting characters other than LF,
+-- whatever the run returns.
+use Rattle.std.proofs.Common.{◌≡◌, ℕ, true, List, [], ◌∷◌, ◌++◌, Result, Ok, Err, Option}
+use Rattle.std.proofs.Common.{codes, inl, inr, refl, string_bytes, subst, sym, IfErr, IsErrOf}
+use Rattle.clap.specs.declared.parser.matches.ArgMatches.{ArgMatches}
+use Rattle.robots_io.specs.Lines.{lf}
+use Rattle.robots_io.specs.Sanitize.{IsPrintable}
+use Rattle.robots_io.proofs.SanitizeLemmas.{append_printable, ascii_printable, nil_printable}
+use Rattle.robots_io.proofs.SanitizeLemmas.{sanitized_lines_printable, sanitized_printable}
+use Rattle.robots_audit.specs.declared.command.Request.{Request}
+use Rattle.robots_audit.specs.declared.fault.Fault.{Fault}
+use Rattle.robots_audit.specs.declared.fault.Fault.TheVariants.{File, Memory}
+use Rattle.robots_audit.specs.declared.fault.Fault.TheVariants.{NotUtf8, Read, UnknownWarning, Usage, Words}
+use Rattle.robots_audit.specs.declared.fault.Fault.TheVariants.{Write}
+use Rattle.robots_audit.specs.declared.fault.Outcome.{Outcome}
+use Rattle.robots_audit.specs.Answer.{Audits, Ends, Helps, IsFileUnreadable, IsRejection, requested_by}
+use Rattle.robots_audit.specs.Command.{Asks, IsUnknown, IsUnknownIn}
+use Rattle.robots_audit.specs.Fault.{MayFail, fault_text, message_after}
+use Rattle.robots_audit.proofs.PrintableLemmas.{message_printable}
+
+-- the message for an error with a name
+named_printable : (before name after : List ℕ) → IsPrintable before → IsPrintable name → IsPrintable after
+    → IsPrintable (codes "robots_audit: " ++ (before ++ name) ++ after ++ lf ∷ [])
+named_printable before name after first is last = search (append_printable true, ascii_printable true)
+
+-- ---- errors
+
+pub memory_printable : (fault : Fault) → fault ≡ Memory → IsPrintable (fault_text fault)
+memory_printable fault is =
+    subst (λ (fault : Fault). IsPrintable (fault_text fault)) (sym is)
+    (ascii_printable true (fault_text Memory) refl)
+
+pub may_fail_printable : (fault : Fault) → MayFail fault → IsPrintable (fault_text fault)
+may_fail_printable (Words text) may = absurd may
+may_fail_printable Usage may = absurd may
+may_fail_printable NotUtf8 may = absurd may
+may_fail_printable (UnknownWarning name) may = absurd may
+may_fail_printable (File name) may = absurd may
+may_fail_printable Read may = ascii_printable true (fault_text Read) refl
+may_fail_printable Write may = ascii_printable true (fault_text Write) refl
+may_fail_printable Memory may = ascii_printable true (fault_text Memory) refl
+
+pub rejection_printable : (text : List ℕ) (fault : Fault) → IsRejection text fault
+    → IsPrintable (fault_text fault)
+rejection_printable text (Words shown) is = subst IsPrintable (sym is) (sanitized_lines_printable text)
+rejection_printable text Usage is = cc
+rejection_printable text NotUtf8 is = cc
+rejection_printable text (UnknownWarning name) is = cc
+rejection_printable text (File name) is = cc
+rejection_printable text Read is = cc
+rejection_printable text Write is = cc
+rejection_printable text Memory is = memory_printable Memory refl
+
+pub unreadable_printable : (name : List ℕ) (fault : Fault) → IsFileUnreadable name fault
+    → IsPrintable (fault_text fault)
+unreadable_printable name (Words text) is = cc
+unreadable_printable name Usage is = cc
+unreadable_printable name NotUtf8 is = cc
+unreadable_printable name (UnknownWarning other) is = cc
+unreadable_printable name (File shown) is =
+    named_printable (codes "cannot read ") (string_bytes shown) []
+    (ascii_printable true (codes "cannot read ") refl)
+    (subst IsPrintable (sym is) (sanitized_printable name)) (nil_printable true)
+unreadable_printable name Read is = cc
+unreadable_printable name Write is = cc
+unreadable_printable name Memory is = memory_printable Memory refl
+
+unknown_printable : (name : List ℕ) (fault : Fault) → IsUnknown name fault → IsPrintable (fault_text fault)
+unknown_printable name (Words text) is = cc
+unknown_printable name Usage is = cc
+unknown_printable name NotUtf8 is = cc
+unknown_printable name (UnknownWarning shown) is =
+    let usage = codes "; usage: robots_audit [OPTIONS] AGENT [URL].." in
+    named_printable (codes "unknown warning ") (string_bytes shown) usage
+    (ascii_printable true (codes "unknown warning ") refl)
+    (subst IsPrintable (sym is) (sanitized_printable name)) (ascii_printable true usage refl)
+unknown_printable name (File other) is = cc
+unknown_printable name Read is = cc
+unknown_printable name Write is = cc
+unknown_printable name Memory is = memory_printable Memory refl
+
+unknown_in_printable : (names : List (List ℕ)) (fault : Fault) → IsUnknownIn names fault
+    → IsPrintable (fault_text fault)
+unknown_in_printable names fault (inl is) = memory_printable fault is
+unknown_in_printable names fault (inr (name, among, unknown, is)) = unknown_printable name fault is
+
+pub request_printable : (matches : ArgMatches) (fault : Fault) → Asks matches (Err fault)
+    → IsPrintable (fault_text fault)
+request_printable matches fault (inl (off, none, is)) =
+    subst (λ (fault : Fault). IsPrintable (fault_text fault)) (sym is)
+    (ascii_printable true (fault_text Usage) refl)
+request_printable matches fault (inr (inl is)) = unknown_in_printable _ fault is
+request_printable matches fault (inr (inr is)) = unknown_in_printable _ fault is
+
+-- ---- results
+
+pub memory_error : {X : Type 0} (result : Result X Fault) → IsErrOf result Memory
+    → IfErr result (λ fault. IsPrintable (fault_text fault))
+memory_error (Ok x) is = tt
+memory_error (Err fault) is = memory_printable fault cc
+
+pub memory_outcome : (result : Result Outcome Fault) → IsErrOf result Memory
+    → IsPrintable (message_after result)
+memory_outcome (Ok outcome) is = absurd (cc)
+memory_outcome (Err fault) is = memory_printable fault cc
+
+pub request_outcome : (matches : ArgMatches) (fault : Fault) (result : Result Outcome Fault)
+    → IsErrOf result fault → Asks matches (Err fault) → IsPrintable (message_after result)
+request_outcome matches fault (Ok outcome) is asks = absurd (cc)
+request_outcome matches fault (Err other) is asks =
+    let same : fault ≡ other = cc in
+    subst (λ (fault : Fault). IsPrintable (fault_text fault)) same (request_printable matches fault asks)
+
+pub audited_printable : (request : Request) (ends : Ends) (result : Result Outcome Fault)
+    → Audits request ends result → IsPrintable (message_after result)
+audited_printable request ends (Ok outcome) is =
+    let (audit, of, (written, found)) = is.reported.ok in
+    subst IsPrintable (sym found.warnings) (message_printable (requested_by request) audit)
+audited_printable request ends (Err fault) is = may_fail_printable fault is.reported.fault
+
+pub help_printable : (text : List ℕ) (old new : Option (List ℕ)) (result : Result Outcome Fault)
+    → Helps text old new result → IsPrintable (message_after result)
+help_printable text old new (Ok outcome) is =
+    let (accepted, allowed, relaxed, silent) = is.quiet in
+    subst IsPrintable (sym silent) (nil_printable true)
+help_printable text old new (Err fault) is =
+    subst (λ (fault : Fault). IsPrintable (fault_text fault)) (sym is.fault)
+    (ascii_printable true (fault_text Write) refl)
