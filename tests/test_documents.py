@@ -258,7 +258,6 @@ ERRORS = {
     "a file can't be opened or read": {"args": ["-f", "NAME", "B"]},
     "standard input can't be read": {"args": ["B"], "stdin": "/"},
     "the report can't be written": {"args": ["B"], "stdout": "/dev/full"},
-    "the file is rejected for the crawler": {"args": ["B"], "text": LONG_RULE},
     "an allocation fails, or a URL is too long for the crate `url`": {"args": ["B"], "text": LONG_RULE, "fails": True},
     "Read": {"stdin": "/"},
     "Write": {"text": b"B\n\n", "stdout": "/dev/full"},
