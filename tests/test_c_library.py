@@ -323,12 +323,11 @@ def test_robots_audit_has_the_same_verdicts(case):
 
 
 def test_guide_shows_how_to_build_the_programs_in_c_and_python(shared_object, tmp_path):
-    """The commands but `rt lib`, which has built the archive, and on a file."""
+    """The commands but `rt lib`, which has built the archive."""
     for name in ("bindings", "crates", "examples"):
         (tmp_path / name).symlink_to(ROOT / name)
-    (tmp_path / "robots.txt").write_text("User-agent: Ferris\nDisallow: /a\n")
     guide = (ROOT / "docs/GUIDE.md").read_text()
     commands = [line for line in shown(guide[guide.index("## From C") :]).splitlines() if "rt lib" not in line]
     ended = subprocess.run(["bash", "-euc", "\n".join(commands)], cwd=tmp_path, capture_output=True, env=os.environ | {"PYTHONDONTWRITEBYTECODE": "1"})
-    report = "robots https://example.com/robots.txt\ndelay none\nallow - https://example.com/\n"
+    report = "robots https://example.com/robots.txt\ndelay 2500000\nsitemap /sitemap.xml\nallow - https://example.com/\n"
     assert Result(ended.returncode, ended.stdout, ended.stderr) == Result(0, report * 2, "")

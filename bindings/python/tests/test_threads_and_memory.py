@@ -79,7 +79,7 @@ def test_a_long_call_lets_other_threads_run():
 
     def parse():
         for _ in range(20):
-            Robots(b"\n" * 500_000)
+            Robots(b"a\n" * 250_000)
         done.set()
 
     thread = threading.Thread(target=parse)
