@@ -1,6 +1,6 @@
 -- The set of the patterns that are allowed.
-use Rattle.std.proofs.Common.{◌≡◌, ℕ, ◌||◌, ◌&&◌, Bool, true, false, List, [], ◌∷◌, Option, length, refl, arith}
-use Rattle.std.proofs.Common.{Some, None, ap, bytes_eq, if◌then◌else◌, ◌∙◌, string_bytes, String}
+use Rattle.std.proofs.Common.{◌≡◌, ℕ, ◌||◌, ◌&&◌, ◌==◌, Bool, true, false, List, [], ◌∷◌, length, refl, arith}
+use Rattle.std.proofs.Common.{Some, None, ap, not, sym, bytes_eq, if◌then◌else◌, ◌∙◌, string_bytes, String}
 use Rattle.std.specs.HashSet.{Updates, contains_text, hash_set_len}
 use Rattle.std.specs.Global.{Global}
 use Rattle.std.specs.List.{list_any}
@@ -11,7 +11,8 @@ use Rattle.std.specs.Str.{is_utf8}
 use Rattle.texting_robots.specs.Callers.{Allow, PlacedRule, escaped}
 use Rattle.texting_robots.specs.Executable.{rule_in}
 use Rattle.texting_robots.specs.Internal.Group.{placed}
-use Rattle.robots_warnings.specs.Internal.Conflicts.{AddsAllowed, Patterns, is_allowed_too}
+use Rattle.robots_warnings.specs.Conflicts.{is_conflict_at}
+use Rattle.robots_warnings.specs.Internal.Conflicts.{AddsAllowed, HasAllowed, Patterns}
 use Rattle.robots_warnings.proofs.NameLemmas.{either}
 
 -- inserting the pattern of an Allow makes the set that `AddsAllowed` describes
@@ -37,12 +38,15 @@ no_text : (keys : List (String Global)) (pattern : List ℕ) → length keys ≡
 no_text [] pattern none = refl
 no_text (key ∷ keys) pattern none = absurd (omega arith)
 
-and_false : (a b : Bool) → b ≡ false → (a && b) ≡ false
-and_false true b is = is
-and_false false b is = refl
+middle_false : (a b c : Bool) → b ≡ false → (a && b && c) ≡ false
+middle_false true b c is = rw is refl
+middle_false false b c is = refl
 
--- nothing is allowed by an empty set
-pub none_allowed : {S : Type 0} (allowed : Patterns S) (given : Option PlacedRule) → hash_set_len allowed ≡ 0
-    → is_allowed_too allowed given ≡ false
-none_allowed allowed None none = refl
-none_allowed allowed (Some placed) none = and_false _ _ (no_text allowed.keys placed.rule.0 none)
+-- without an allowed pattern there is no conflict
+pub no_conflict : {S : Type 0} (allowed : Patterns S) (all rules : List PlacedRule) (number : ℕ)
+    → HasAllowed allowed all → hash_set_len allowed ≡ 0 → list_any (is_conflict_at all number) rules ≡ false
+no_conflict allowed all [] number has none = refl
+no_conflict allowed all (rule ∷ rules) number has none =
+    let alone = sym (has.each rule.rule.0) ∙ no_text allowed.keys rule.rule.0 none in
+    rw (middle_false (not rule.rule.1) _ (rule.line == number) alone)
+    (no_conflict allowed all rules number has none)

@@ -12,7 +12,7 @@ pub record IsConflict (agent : List ℕ) (lines : List LineValue) (number : ℕ)
   pub disallow : Contains rules (record { rule = (pattern, false); line = number })
   pub allow : Contains rules (record { rule = (pattern, true); line = other })
 
--- ---- the same as functions; the theorem `allowed_and_disallowed` of `robots_audit` states that they agree
+-- ---- as functions; by the theorem `allowed_and_disallowed` of `robots_audit` they agree
 
 -- the rule is an Allow with this pattern
 abbrev pub allows : List ℕ → PlacedRule → Bool

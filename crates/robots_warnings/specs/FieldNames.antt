@@ -30,8 +30,7 @@ without_front (b ∷ text) = if is_space_or_tab b then without_front text else b
 abbrev pub without_end : List ℕ → List ℕ
 without_end text = reverse (without_front (reverse text))
 
--- the field name: the text before the first colon, or all of it if there is none, without spaces and tabs
--- at both ends
+-- the text before the first colon, or all of it, without spaces and tabs at both ends
 abbrev pub name_in : List ℕ → List ℕ
 name_in body = without_end (without_front (before_byte (byte ":") body))
 

@@ -3,8 +3,7 @@ use Rattle.std.specs.Prelude.{ℕ, ◌+◌, Bool, false, filter, map, not, List,
 use Rattle.std.specs.List.{enumerate_from}
 use Rattle.texting_robots.specs.Callers.{LineValue, UserAgent, file_lines, is_named}
 
--- a user-agent line with a name that none of these lines has, compared without regard to the case of ASCII
--- letters
+-- a user-agent line with a name that none of these lines has, ASCII letters in any case
 abbrev pub has_new_name : List LineValue → LineValue → Bool
 has_new_name lines (UserAgent value) = not (is_named value lines)
 has_new_name lines _ = false

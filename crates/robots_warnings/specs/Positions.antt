@@ -13,8 +13,8 @@ use Rattle.robots_warnings.specs.Facts.{is_rule}
 
 -- ---- what precedes a line
 
--- what precedes the next line, determined by this line and what precedes it: a user-agent line with no rule
--- or delay after it, a user-agent line with only delays after it, or neither
+-- what precedes the next line: a user-agent line with no rule or delay after it, one with only delays after
+-- it, or neither
 abbrev pub preceding_with : Preceding → LineValue → Preceding
 preceding_with preceding (UserAgent value) = Agent
 preceding_with preceding (Allow value) = Other

@@ -127,8 +127,7 @@ abbrev pub general_warnings : FileFacts → Option (List ℕ) → List (List ℕ
 general_warnings facts agent urls =
     warned None None (file_checks facts) ++ (agent_warnings agent ++ flat_map url_warnings urls)
 
--- warnings about the file, the product token, the URLs, each line, the positions of lines, and the rules of `agents`, the
--- crawlers reported on
+-- all warnings; `agents` are the crawlers reported on, and `lines` are the file's
 abbrev pub warnings : Option (List ℕ) → List (List ℕ) → List (List ℕ) → List ℕ → FileFacts → List Label
     → List LineValue → List WarningValue
 warnings agent agents urls file facts labels lines =

@@ -114,8 +114,7 @@ pub(crate) fn sitemap_checks(alloc: Global, value: &[u8]) -> Result<[Check; 1], 
     Ok([(Cause::SitemapNotAbsolute, !is_absolute_url(alloc, value)?)])
 }
 
-/// Checks of the position of a line; `last` is the number of the last rule or delay, and `preceding` is what precedes
-/// the line.
+/// Checks of the position of a line; `last` is the number of the last rule or delay.
 pub(crate) fn position_checks(
     last: Option<usize>,
     preceding: Preceding,

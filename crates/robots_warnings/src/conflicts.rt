@@ -19,7 +19,7 @@ type Patterns = HashSet<String>;
 
 pub(crate) type Numbers = BTreeSet<usize>;
 
-/// The pattern of a rule with this value. A value that isn't UTF-8 is no rule.
+/// The pattern of a rule with this value, if it is UTF-8.
 fn pattern_of(alloc: Global, value: &[u8]) -> Result<Option<String>, AllocError>
     ensures { IfOk result (λ pattern. option_map string_bytes pattern
         ≡ (if is_utf8 value.now then Some (escaped value.now) else None)) }
@@ -71,9 +71,6 @@ fn is_allowed_too(
     let Line::Disallow(value) = line.line else {
         return Ok(false);
     };
-    if allowed.is_empty() {
-        return Ok(false);
-    }
     match pattern_of(alloc, value)? {
         Some(pattern) => Ok(allowed.contains(pattern.as_str())),
         None => Ok(false),
@@ -102,6 +99,9 @@ fn add_conflicts(
         ≡ (contains nat_cmp numbers.old number || is_conflict_for (file_lines site.now) number agent.now)) }
 {
     let allowed = allowed_patterns(alloc, site, agent)?;
+    if allowed.is_empty() {
+        return Ok(());
+    }
     for line in site.own_lines(agent) {
         let is = is_allowed_too(alloc, &allowed, &line)?;
         add_number(numbers, is, line.number)?;

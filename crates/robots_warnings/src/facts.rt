@@ -87,7 +87,7 @@ fn is_as_due(is_due: bool, byte: u8) -> bool
     !is_due || byte == 0
 }
 
-/// Whether every other byte is NUL: the first, the third and so on if `here`, else the second, the fourth and so on.
+/// Whether every other byte is NUL, from the first one on if `here`, else from the second one on.
 #[tactic(auto, using(crate::proofs::FactLemmas::nul_from))]
 fn has_nuls(here: bool, bytes: &[u8]) -> bool
     ensures { result ≡ nul_at_every_other here bytes.now }

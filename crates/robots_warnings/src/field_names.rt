@@ -12,7 +12,7 @@ use std::alloc::{AllocError, Global};
 use strsim::generic_levenshtein;
 use texting_robots::parser::{Kind, field_names};
 
-/// The usual field names, in the order of the search, and the warning if an ignored line probably intends one of them.
+/// The usual field names in the order of the search, with the warning if an ignored line seems to mean one.
 const DIRECTIVES: [(&str, Cause); 5] = [
     ("user-agent", Cause::LikeUserAgent),
     ("allow", Cause::LikeAllow),
@@ -73,8 +73,7 @@ fn without_end<'a>(text: &'a [u8]) -> &'a [u8]
     rest
 }
 
-/// The field name: the text before the first colon, or all of it if there is none, without spaces and tabs at both
-/// ends.
+/// The text before the first colon, or all of it, without spaces and tabs at both ends.
 fn name_in<'a>(body: &'a [u8]) -> &'a [u8]
     ensures { result.now ≡ name_in body.now }
 {
@@ -172,7 +171,7 @@ fn first_in(names: &[(&str, Cause)], name: &[u8], word: &[u8]) -> Option<Cause>
     None
 }
 
-/// The warning for the first directive that the field name or the first token starts with or is similar to.
+/// The warning for the first directive with which one of the two starts or to which it is similar.
 fn directive_in(alloc: Global, name: &[u8], word: &[u8]) -> Result<Option<Cause>, AllocError>
     ensures { IfOk result (λ cause. cause ≡ directive_in name.now word.now) }
 {

@@ -16,7 +16,7 @@ pub record AddsAllowed {S : Type 0} (old new : Patterns S) (given : Option Place
   pub each : (pattern : List ℕ) → contains_text new pattern
       ≡ (contains_text old pattern || option_map_or (allows pattern) given false)
 
--- the set contains exactly the patterns of the Allows among the rules
+-- the set has exactly the patterns of the Allows among the rules
 pub record HasAllowed {S : Type 0} (allowed : Patterns S) (rules : List PlacedRule) : Type 0 where
   pub each : (pattern : List ℕ) → contains_text allowed pattern ≡ list_any (allows pattern) rules
 
