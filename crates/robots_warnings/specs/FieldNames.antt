@@ -40,11 +40,11 @@ first_word body = before_first is_space_or_tab (without_front body)
 
 -- ---- names
 
--- the token is the name, compared without regard to the case of ASCII letters
+-- the token is the name, ignoring ASCII case
 abbrev pub is_name : List ℕ → List ℕ → Bool
 is_name name word = bytes_eq (str_to_ascii_lowercase word) (str_to_ascii_lowercase name)
 
--- the token starts with the name, compared without regard to the case of ASCII letters
+-- the token starts with the name, ignoring ASCII case
 unfoldable pub begins_with : List ℕ → List ℕ → Bool
 begins_with name word = is_name name (take (length name) word)
 

@@ -60,7 +60,7 @@ stands_around b value =
 abbrev pub is_quoted : List ℕ → Bool
 is_quoted value = stands_around (byte "\"") value || stands_around (byte "'") value
 
--- the value has another first byte than a slash or a star, and isn't an absolute URL or in quotes
+-- the first byte is neither `/` nor `*`, and the value isn't an absolute URL or in quotes
 abbrev pub has_odd_start : List ℕ → Bool
 has_odd_start value = begins_oddly value && not (begins_as_url value || is_quoted value)
 

@@ -4,7 +4,7 @@ use Rattle.std.specs.List.{starts_with}
 use Rattle.std.specs.Str.{is_utf8, str_eq_ignore_ascii_case}
 use Rattle.url.specs.Parser.{parse_url}
 
--- the text starts with `front`, compared without regard to the case of ASCII letters
+-- the text starts with `front`, ignoring ASCII case
 abbrev pub begins_in_any_case : List ℕ → List ℕ → Bool
 begins_in_any_case front text = str_eq_ignore_ascii_case (take (length front) text) front
 

@@ -1,6 +1,6 @@
 -- All warnings about a file and a request: what is valid but probably not intended.
-use Rattle.std.specs.Prelude.{ℕ, Bool, true, false, List, [], ◌∷◌, ◌++◌, Option, Some, None}
-use Rattle.std.specs.Prelude.{codes, decimal, flat_map, if◌then◌else◌, map, not, ◌||◌}
+use Rattle.std.specs.Prelude.{ℕ, Bool, true, List, [], ◌∷◌, ◌++◌, Option, Some, None}
+use Rattle.std.specs.Prelude.{codes, decimal, flat_map, if◌then◌else◌, is_none, map, not, ◌||◌}
 use Rattle.texting_robots.specs.Callers.{LineValue, Label, bodies_read, is_own}
 use Rattle.texting_robots.specs.declared.labels.Membership.{Membership}
 use Rattle.robots_warnings.specs.declared.facts.FileFacts.{FileFacts}
@@ -117,21 +117,17 @@ conflict_warnings agents lines labels = flat_map
 
 -- ---- all
 
--- the rules of all groups are checked if the request isn't about a single crawler
-abbrev pub covers_all_crawlers : Option (List ℕ) → Bool
-covers_all_crawlers None = true
-covers_all_crawlers (Some agent) = false
-
 -- warnings about the file, the product token and the URLs
 abbrev pub general_warnings : FileFacts → Option (List ℕ) → List (List ℕ) → List WarningValue
 general_warnings facts agent urls =
     warned None None (file_checks facts) ++ (agent_warnings agent ++ flat_map url_warnings urls)
 
--- all warnings; `agents` are the crawlers reported on, and `lines` are the file's
+-- all warnings; `agents` are the crawlers reported on, and `lines` are the file's. Without `agent`, the rules
+-- of all groups are checked
 abbrev pub warnings : Option (List ℕ) → List (List ℕ) → List (List ℕ) → List ℕ → FileFacts → List Label
     → List LineValue → List WarningValue
 warnings agent agents urls file facts labels lines =
     general_warnings facts agent urls
-    ++ (file_lines_warnings facts (covers_all_crawlers agent) labels (bodies_read file)
+    ++ (file_lines_warnings facts (is_none agent) labels (bodies_read file)
     ++ (position_warnings labels
     ++ (past_limit_warnings facts file labels ++ conflict_warnings agents lines labels)))

@@ -98,14 +98,14 @@ fn first_word<'a>(body: &'a [u8]) -> &'a [u8]
     &text[..word_len(text)]
 }
 
-/// Whether the token is the name, compared without regard to the case of ASCII letters.
+/// Whether the token is the name, ignoring ASCII case.
 fn is_name(name: &str, word: &[u8]) -> bool
     ensures { result ≡ is_name name.now word.now }
 {
     word.eq_ignore_ascii_case(name.as_bytes())
 }
 
-/// Whether the token starts with the name, compared without regard to the case of ASCII letters.
+/// Whether the token starts with the name, ignoring ASCII case.
 #[tactic(auto, unfolding(crate::specs::FieldNames::begins_with))]
 fn begins_with(name: &str, word: &[u8]) -> bool
     ensures { result ≡ begins_with name.now word.now }

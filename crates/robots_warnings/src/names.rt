@@ -1,4 +1,4 @@
-//! Sets of names, without regard to the case of ASCII letters.
+//! Sets of names, ignoring ASCII case.
 ghost use Rattle.std.specs.Prelude.{IfOk};
 ghost use Rattle.robots_warnings.specs.Internal.Names.{AddsName};
 

@@ -209,7 +209,7 @@ pub(crate) fn has_odd_escape(value: &[u8]) -> bool
     somewhere(value, begins_odd_escape)
 }
 
-/// Whether the value has another first byte than a slash or a star, and isn't an absolute URL or in quotes.
+/// Whether the first byte is neither `/` nor `*`, and the value isn't an absolute URL or in quotes.
 pub(crate) fn has_odd_start(value: &[u8]) -> bool
     ensures { result ≡ has_odd_start value.now }
 {

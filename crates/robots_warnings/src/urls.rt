@@ -6,7 +6,7 @@ ghost use Rattle.robots_warnings.specs.Urls.{is_unparsable, is_url_or_path};
 use std::alloc::{AllocError, Global};
 use url::{ParseError, Url};
 
-/// Whether the text starts with `front`, compared without regard to the case of ASCII letters.
+/// Whether the text starts with `front`, ignoring ASCII case.
 fn begins_in_any_case(front: &[u8], text: &[u8]) -> bool
     ensures { result ≡ begins_in_any_case front.now text.now }
 {

@@ -1,10 +1,10 @@
 //! All warnings about a file and a request: what is valid but probably not intended.
-ghost use Rattle.std.specs.Prelude.{◌≡◌, ◌++◌, [], IfOk, OnOk, if◌then◌else◌, map, option_map, string_bytes};
+ghost use Rattle.std.specs.Prelude.{◌≡◌, [], IfOk, OnOk, if◌then◌else◌, is_none, map, option_map, string_bytes};
 ghost use Rattle.texting_robots.specs.Callers.{bodies_read, by_value, file_lines, label_by_value};
 ghost use Rattle.robots_warnings.specs.Checks.{field_checks, is_directive, value_checks};
 ghost use Rattle.robots_warnings.specs.Internal.{Adds, warning_value};
 ghost use Rattle.robots_warnings.specs.Warnings.{agent_warnings, conflict_warnings, file_lines_warnings, general_warnings};
-ghost use Rattle.robots_warnings.specs.Warnings.{is_in_scope_of, covers_all_crawlers, line_warnings, lines_warnings};
+ghost use Rattle.robots_warnings.specs.Warnings.{is_in_scope_of, line_warnings, lines_warnings};
 ghost use Rattle.robots_warnings.specs.Warnings.{past_limit_warnings, position_warnings, warned, warned_at, warnings};
 
 use crate::checks::{
@@ -234,9 +234,9 @@ fn warn_of_conflicts(
     Ok(())
 }
 
-/// Whether the rules of all groups are checked: the request isn't about a single crawler.
+/// Whether all groups are checked: the request isn't about a single crawler.
 fn covers_all_crawlers(agent: Option<&str>) -> bool
-    ensures { result ≡ covers_all_crawlers (option_map (λ agent. agent.now) agent.entry) }
+    ensures { result ≡ is_none (option_map (λ agent. agent.now) agent.entry) }
 {
     match agent {
         Some(_) => false,
