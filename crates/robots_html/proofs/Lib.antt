@@ -1,0 +1,4 @@
+pub mod TreeLemmas
+pub mod TextLemmas
+pub mod ReaderLemmas
+pub mod WritingLemmas
