@@ -1,0 +1,40 @@
+-- How the check compares patterns, and when it finds a rule needless.
+use Rattle.std.specs.Prelude.{◌≡◌, ◌≢◌, ◌⊎◌, ℕ, ◌<◌, ◌≤◌, ◌==◌, true, List, [], ◌∷◌, Contains, length, if◌then◌else◌}
+use Rattle.texting_robots.specs.Callers.{Rule}
+use Rattle.texting_robots.specs.{Internal.Entries.rank, Pattern.dollar, Pattern.star}
+use Rattle.robots_needless.specs.Needless.{AreApart, Covers, MatchesNothing}
+
+-- a byte that no escaped pattern contains
+abbrev pub fresh : ℕ
+fresh = 127
+
+-- the bytes of the pattern before its first dollar, with the fresh byte in place of each star, and after them a
+-- fresh byte if there is no dollar
+abbrev pub generic : List ℕ → List ℕ
+generic [] = fresh ∷ []
+generic (b ∷ q) =
+    if b == star then fresh ∷ generic q else if b == dollar then [] else b ∷ generic q
+
+-- of two matching rules, the one with the higher rank decides
+abbrev pub rank_of : Rule → ℕ
+rank_of rule = rank (length rule.0) rule.1
+
+-- no rule of the other kind, with a rank that is at least the floor and below the rule's, matches a text that
+-- the rule matches
+abbrev pub HasNoRival : List Rule → ℕ → Rule → Type 0
+HasNoRival others floor rule = (other : Rule) → Contains others other → other.1 ≢ rule.1
+    → floor ≤ rank_of other → rank_of other < rank_of rule → AreApart other.0 rule.0
+
+-- the other rule covers the rule. It ranks at least as high, or it is of the same kind and has no rival above it.
+pub record IsReplacedBy (others : List Rule) (rule other : Rule) : Type 0 where
+  pub listed : Contains others other
+  pub covers : Covers other.0 rule.0
+  pub decides : (rank_of rule ≤ rank_of other)
+      ⊎ ((other.1 ≡ rule.1) × HasNoRival others (rank_of other) rule)
+
+-- why the other rules have the same verdicts without this rule: it matches nothing, or it is an Allow where the
+-- others deny nothing, or one of the others replaces it
+abbrev pub CanGo : List Rule → Rule → Type 0
+CanGo others rule =
+    MatchesNothing rule.0 ⊎ (((rule.1 ≡ true) × HasNoRival others 0 rule)
+    ⊎ ((other : Rule) × IsReplacedBy others rule other))

@@ -1,0 +1,29 @@
+-- Rules that can be removed without changing a verdict.
+use Rattle.std.specs.Prelude.{◌≡◌, ◌↔◌, ℕ, ◌==◌, not, Bool, List, [], ◌∷◌, filter}
+use Rattle.std.specs.List.{list_any}
+use Rattle.texting_robots.specs.Callers.{IsVerdict, Matches, PlacedRule, robots_file, unplaced}
+
+-- the rules without those in the lines with these numbers
+abbrev pub without : List ℕ → List PlacedRule → List PlacedRule
+without numbers rules = filter (λ placed. not (list_any (λ number. number == placed.line) numbers)) rules
+
+-- on every text, the rules without all those in the lines with these numbers have the same verdict
+abbrev pub AreNeedless : List PlacedRule → List ℕ → Type 0
+AreNeedless rules numbers = (text : List ℕ) (answer : Bool)
+    → IsVerdict (unplaced rules) text answer ↔ IsVerdict (unplaced (without numbers rules)) text answer
+
+-- the same for one line
+abbrev pub IsNeedless : List PlacedRule → ℕ → Type 0
+IsNeedless rules number = AreNeedless rules (number ∷ [])
+
+-- the first pattern matches every text that the second one matches
+abbrev pub Covers : List ℕ → List ℕ → Type 0
+Covers wide narrow = (text : List ℕ) → Matches narrow text → Matches wide text
+
+-- no text is matched by both patterns
+abbrev pub AreApart : List ℕ → List ℕ → Type 0
+AreApart one other = (text : List ℕ) → Matches one text → ¬ Matches other text
+
+-- the pattern matches no text except `/robots.txt`, which is always allowed
+abbrev pub MatchesNothing : List ℕ → Type 0
+MatchesNothing pattern = (text : List ℕ) → Matches pattern text → text ≡ robots_file
