@@ -1,4 +1,8 @@
 -- A pattern matches every text of another one if it matches the other's generic text (`GenericLemmas`). A rule
--- whose texts another rule decides in the same way can go (`RemovalLemmas`).
+-- whose texts are decided in the same way without it can go (`RemovalLemmas`). Rules that can go one after the
+-- other are needless together (`TogetherLemmas`): no two are in one line, so what is left without these lines
+-- are the rules that were kept (`DistinctLemmas`).
 pub mod GenericLemmas
 pub mod RemovalLemmas
+pub mod DistinctLemmas
+pub mod TogetherLemmas

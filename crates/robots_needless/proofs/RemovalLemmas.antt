@@ -5,7 +5,7 @@ use Rattle.std.specs.List.{Contains}
 use Rattle.std.proofs.lemmas.Bool.{cases_Bool, cases_lt, false≢true}
 use Rattle.texting_robots.specs.Pattern.{Matches}
 use Rattle.texting_robots.specs.{Rules.Rule, Verdict.IsDenied, Verdict.robots_file}
-use Rattle.texting_robots.proofs.BestLemmas.{matches, matches_decides}
+use Rattle.texting_robots.proofs.BestLemmas.{matches}
 use Rattle.texting_robots.proofs.ExampleLemmas.{matching, not_matching}
 use Rattle.robots_needless.specs.Internal.{CanGo, HasNoRival, IsReplacedBy, rank_of}
 use Rattle.robots_needless.specs.Needless.{MatchesNothing}
@@ -31,11 +31,11 @@ module _ (others all : List Rule) (text : List ℕ) where
 
   module _ (p : List ℕ) (are : AreWith others (p, false) all) where
     denied_with : IsDenied others text → IsDenied all text
-    denied_with (differs, q, has, matches, longest) = (
+    denied_with (differs, q, has, fits, longest) = (
       differs,
       q,
       are.more (q, false) has,
-      matches,
+      fits,
       λ a listed. elim (are.only (a, true) listed) [
         | inl other ↦ longest a other
         | inr same ↦ absurd (kinds_differ p a (sym same))
@@ -45,17 +45,17 @@ module _ (others all : List Rule) (text : List ℕ) where
     -- the rule matches, and is longer than each matching Allow; another one replaces it
     replaced : text ≢ robots_file → Matches p text → IsLongest all text p → (other : Rule)
         → IsReplacedBy others (p, false) other → IsDenied others text
-    replaced differs matches longest (q, true) is =
-        let less = longest q (are.more (q, true) is.listed) (is.covers text matches) in
+    replaced differs fits longest (q, true) is =
+        let less = longest q (are.more (q, true) is.listed) (is.covers text fits) in
         elim is.decides [
           | inl above ↦ absurd (omega arith)
           | inr (kinds, none) ↦ absurd (false≢true (sym kinds))
         ]
-    replaced differs matches longest (q, false) is = (
+    replaced differs fits longest (q, false) is = (
       differs,
       q,
       is.listed,
-      is.covers text matches,
+      is.covers text fits,
       λ a listed here. elim (cases_lt (length a) (length q)) [
         | inl less ↦ less
         | inr most ↦
@@ -64,17 +64,17 @@ module _ (others all : List Rule) (text : List ℕ) where
               | inl above ↦ absurd (omega arith)
               | inr (kinds, none) ↦
                   absurd (none (a, true) listed (λ same. false≢true (sym same)) (omega arith) (omega arith)
-                  text here matches)
+                  text here fits)
             ]
       ],
     )
 
     denied_without : CanGo others (p, false) → IsDenied all text → IsDenied others text
-    denied_without can (differs, q, has, matches, longest) = elim (are.only (q, false) has) [
-      | inl other ↦ (differs, q, other, matches, λ a listed. longest a (are.more (a, true) listed))
+    denied_without can (differs, q, has, fits, longest) = elim (are.only (q, false) has) [
+      | inl other ↦ (differs, q, other, fits, λ a listed. longest a (are.more (a, true) listed))
       | inr same ↦
           let e = same_pattern q p false false same in
-          let here = subst (λ r. Matches r text) e matches in
+          let here = subst (λ r. Matches r text) e fits in
           let most = subst (λ r. IsLongest all text r) e longest in
           elim can [
             | inl nothing ↦ absurd (differs (nothing text here))
@@ -87,19 +87,19 @@ module _ (others all : List Rule) (text : List ℕ) where
 
   module _ (p : List ℕ) (are : AreWith others (p, true) all) where
     denied_less : IsDenied all text → IsDenied others text
-    denied_less (differs, q, has, matches, longest) = elim (are.only (q, false) has) [
-      | inl other ↦ (differs, q, other, matches, λ a listed. longest a (are.more (a, true) listed))
+    denied_less (differs, q, has, fits, longest) = elim (are.only (q, false) has) [
+      | inl other ↦ (differs, q, other, fits, λ a listed. longest a (are.more (a, true) listed))
       | inr same ↦ absurd (kinds_differ q p same)
     ]
 
     -- a Disallow decides if it is longer than each matching Allow, also than this one
     decides : text ≢ robots_file → (q : List ℕ) → Contains others (q, false) → Matches q text
         → IsLongest others text q → (Matches p text → length p < length q) → IsDenied all text
-    decides differs q listed matches longest longer = (
+    decides differs q listed fits longest longer = (
       differs,
       q,
       are.more (q, false) listed,
-      matches,
+      fits,
       λ a has here. elim (are.only (a, true) has) [
         | inl other ↦ longest a other here
         | inr same ↦
@@ -109,17 +109,17 @@ module _ (others all : List Rule) (text : List ℕ) where
     )
 
     module _ (differs : text ≢ robots_file) (q : List ℕ) (listed : Contains others (q, false))
-        (matches : Matches q text) (longest : IsLongest others text q) where
+        (fits : Matches q text) (longest : IsLongest others text q) where
       -- no Disallow that ranks between is a rival
       above_floor : (floor : ℕ) → HasNoRival others floor (p, true) → floor ≤ rank_of (q, false)
           → Matches p text → length p < length q
       above_floor floor none low here = elim (cases_lt (length p) (length q)) [
         | inl less ↦ less
-        | inr most ↦ absurd (none (q, false) listed false≢true low (omega arith) text matches here)
+        | inr most ↦ absurd (none (q, false) listed false≢true low (omega arith) text fits here)
       ]
 
       kept_denied : (other : Rule) → IsReplacedBy others (p, true) other → IsDenied all text
-      kept_denied (r, true) is = decides differs q listed matches longest (λ here.
+      kept_denied (r, true) is = decides differs q listed fits longest (λ here.
           let less = longest r is.listed (is.covers text here) in
           elim is.decides [
             | inl above ↦ omega arith
@@ -128,24 +128,24 @@ module _ (others all : List Rule) (text : List ℕ) where
       kept_denied (r, false) is = elim is.decides [
         | inr (kinds, none) ↦ absurd (false≢true kinds)
         | inl above ↦ elim (cases_lt (length p) (length q)) [
-          | inl less ↦ decides differs q listed matches longest (λ here. less)
+          | inl less ↦ decides differs q listed fits longest (λ here. less)
           | inr most ↦ elim (cases_Bool (matches true p text)) [
-            | inr isnt ↦ decides differs q listed matches longest
+            | inr isnt ↦ decides differs q listed fits longest
                 (λ here. absurd (not_matching true p text isnt here))
             | inl here ↦
                 decides differs r is.listed (is.covers text (matching true p text here))
-                (λ a has fits. let less = longest a has fits in omega arith) (λ _. omega arith)
+                (λ a has same. let less = longest a has same in omega arith) (λ _. omega arith)
           ]
         ]
       ]
 
     denied_more : CanGo others (p, true) → IsDenied others text → IsDenied all text
-    denied_more can (differs, q, listed, matches, longest) = elim can [
-      | inl nothing ↦ decides differs q listed matches longest (λ here. absurd (differs (nothing text here)))
+    denied_more can (differs, q, listed, fits, longest) = elim can [
+      | inl nothing ↦ decides differs q listed fits longest (λ here. absurd (differs (nothing text here)))
       | inr (inl (allows, none)) ↦
-          decides differs q listed matches longest
-          (above_floor differs q listed matches longest 0 none (omega arith))
-      | inr (inr (other, is)) ↦ kept_denied differs q listed matches longest other is
+          decides differs q listed fits longest
+          (above_floor differs q listed fits longest 0 none (omega arith))
+      | inr (inr (other, is)) ↦ kept_denied differs q listed fits longest other is
     ]
 
 pub can_go : (others all : List Rule) (rule : Rule) → AreWith others rule all → CanGo others rule

@@ -1,8 +1,9 @@
 -- How the check compares patterns, and when it finds a rule needless.
-use Rattle.std.specs.Prelude.{◌≡◌, ◌≢◌, ◌⊎◌, ℕ, ◌<◌, ◌≤◌, ◌==◌, true, List, [], ◌∷◌, Contains, length, if◌then◌else◌}
-use Rattle.texting_robots.specs.Callers.{Rule}
+use Rattle.std.specs.Prelude.{◌≡◌, ◌≢◌, ◌⊎◌, ◌↔◌, IsPermutation, ℕ, ◌<◌, ◌≤◌, ◌==◌, true, List, [], ◌∷◌, ◌++◌, Contains, length}
+use Rattle.std.specs.Prelude.{if◌then◌else◌}
+use Rattle.texting_robots.specs.Callers.{IsDenied, PlacedRule, Rule, unplaced}
 use Rattle.texting_robots.specs.{Internal.Entries.rank, Pattern.dollar, Pattern.star}
-use Rattle.robots_needless.specs.Needless.{AreApart, Covers, MatchesNothing}
+use Rattle.robots_needless.specs.Needless.{AreApart, Covers, MatchesNothing, lines_of}
 
 -- a byte that no escaped pattern contains
 abbrev pub fresh : ℕ
@@ -38,3 +39,16 @@ abbrev pub CanGo : List Rule → Rule → Type 0
 CanGo others rule =
     MatchesNothing rule.0 ⊎ (((rule.1 ≡ true) × HasNoRival others 0 rule)
     ⊎ ((other : Rule) × IsReplacedBy others rule other))
+
+-- the removed rules can go one after the other, each among the kept rules and the removed ones after it
+abbrev pub CanGoInTurn : List PlacedRule → List PlacedRule → Type 0
+CanGoInTurn kept [] = Unit {0}
+CanGoInTurn kept (rule ∷ later) =
+    CanGo (unplaced (kept ++ later)) rule.rule × CanGoInTurn kept later
+
+-- the rules, without some in the lines with these numbers, are the ones left, in some order, and deny the same
+pub record IsReducedTo (rules left : List PlacedRule) (numbers : List ℕ) : Type 0 where
+  pub removed : List PlacedRule
+  pub lines : lines_of removed ≡ numbers
+  pub same : IsPermutation rules (left ++ removed)
+  pub denied : (text : List ℕ) → IsDenied (unplaced rules) text ↔ IsDenied (unplaced left) text

@@ -1,11 +1,20 @@
 -- Rules that can be removed without changing a verdict.
-use Rattle.std.specs.Prelude.{◌≡◌, ◌↔◌, ℕ, ◌==◌, not, Bool, List, [], ◌∷◌, filter}
+use Rattle.std.specs.Prelude.{◌≡◌, ◌≢◌, ◌↔◌, ℕ, ◌==◌, not, AllPairs, Bool, List, [], ◌∷◌, filter, map}
 use Rattle.std.specs.List.{list_any}
 use Rattle.texting_robots.specs.Callers.{IsVerdict, Matches, PlacedRule, robots_file, unplaced}
 
+-- the lines of the rules
+abbrev pub lines_of : List PlacedRule → List ℕ
+lines_of rules = map (λ (placed : PlacedRule). placed.line) rules
+
+-- no two rules are in one line
+abbrev pub AreDistinct : List PlacedRule → Type 0
+AreDistinct rules = AllPairs (λ (one other : PlacedRule). one.line ≢ other.line) rules
+
 -- the rules without those in the lines with these numbers
 abbrev pub without : List ℕ → List PlacedRule → List PlacedRule
-without numbers rules = filter (λ placed. not (list_any (λ number. number == placed.line) numbers)) rules
+without numbers rules =
+    filter (λ (placed : PlacedRule). not (list_any (λ number. number == placed.line) numbers)) rules
 
 -- on every text, the rules without all those in the lines with these numbers have the same verdict
 abbrev pub AreNeedless : List PlacedRule → List ℕ → Type 0

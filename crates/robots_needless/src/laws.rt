@@ -1,8 +1,8 @@
 //! Theorems about the specification. Each is the contract of an empty function.
-ghost use Rattle.std.specs.Prelude.{◌≢◌, ℕ, All, List};
-ghost use Rattle.texting_robots.specs.Callers.{Matches};
-ghost use Rattle.robots_needless.specs.Internal.{fresh, generic};
-ghost use Rattle.robots_needless.specs.Needless.{Covers};
+ghost use Rattle.std.specs.Prelude.{◌≢◌, ◌++◌, ℕ, All, IsPermutation, List};
+ghost use Rattle.texting_robots.specs.Callers.{Matches, PlacedRule};
+ghost use Rattle.robots_needless.specs.Internal.{CanGoInTurn, fresh, generic};
+ghost use Rattle.robots_needless.specs.Needless.{AreDistinct, AreNeedless, Covers, lines_of};
 
 /// A pattern covers another one if it matches the other one's generic text, provided that it doesn't contain the fresh
 /// byte; and only then, if the other one matches any text. So one match decides whether one rule covers another.
@@ -11,4 +11,10 @@ pub fn one_match_decides_covering()
         → Covers wide narrow }
     ensures only { (wide narrow text : List ℕ) → Matches narrow text → Covers wide narrow
         → Matches wide (generic narrow) }
+{}
+
+/// Rules that can go one after the other, each among those that are left, are needless together.
+pub fn rules_go_in_turn()
+    ensures { (rules kept removed : List PlacedRule) → AreDistinct rules → IsPermutation rules (kept ++ removed)
+        → CanGoInTurn kept removed → AreNeedless rules (lines_of removed) }
 {}

@@ -1,0 +1,154 @@
+-- Which rules are left without those in some lines.
+use Rattle.std.proofs.Common.{◌≡◌, ◌≢◌, ◌<◌, ◌≤◌, ◌↔◌, ◌⊎◌, inl, inr, ℕ, zero, suc, ◌+◌, ◌==◌, ◌||◌, Bool, true, false}
+use Rattle.std.proofs.Common.{List, [], ◌∷◌, ◌++◌, All, IsPermutation, length, map, not, ap, sym, refl, ◌∙◌, arith}
+use Rattle.std.proofs.Common.{if◌then◌else◌}
+use Rattle.std.specs.List.{Contains, filter, list_any, sum_by}
+use Rattle.std.proofs.lemmas.Bool.{cases_Bool, eqb-true, false≢true, ne_eqb, or_cases}
+use Rattle.std.proofs.lemmas.Bool.Decides.{Decides-eqb}
+use Rattle.std.proofs.lemmas.List.Elements.{All-head, All-tail, Contains-append_cases, Contains-append_left}
+use Rattle.std.proofs.lemmas.List.Sorted.{Contains-permutation, IsPermutation-sym, sum_by-IsPermutation}
+use Rattle.std.proofs.lemmas.List.Sums.{sum_by-append, sum_by-cons}
+use Rattle.texting_robots.specs.Rules.{PlacedRule}
+use Rattle.robots_needless.specs.Needless.{AreDistinct, lines_of, without}
+
+-- ---- rules in one line
+
+abbrev hit : ℕ → PlacedRule → ℕ
+hit n placed = if placed.line == n then 1 else 0
+
+none_hits : (n : ℕ) (rules : List PlacedRule) → All (λ (placed : PlacedRule). n ≢ placed.line) rules
+    → sum_by (hit n) rules ≡ 0
+none_hits n [] all = refl
+none_hits n (first ∷ rules) all =
+    let P : PlacedRule → Type 0 = λ placed. n ≢ placed.line in
+    let other = ne_eqb first.line n (λ same. All-head P first rules all (sym same)) in
+    let is : hit n first ≡ 0 = rw other refl in
+    omega (arith, sum_by-cons (hit n) first rules, is, none_hits n rules (All-tail P first rules all))
+
+at_most_one : (n : ℕ) (rules : List PlacedRule) → AreDistinct rules → sum_by (hit n) rules ≤ 1
+at_most_one n [] once = omega arith
+at_most_one n (first ∷ rules) once =
+    let more = sum_by-cons (hit n) first rules in
+    elim (cases_Bool (first.line == n)) [
+      | inl here ↦
+          let is : hit n first ≡ 1 = rw here refl in
+          let apart : All (λ (placed : PlacedRule). n ≢ placed.line) rules =
+          λ k d below same. once 0 (suc k) d (omega arith) (omega arith) (eqb-true first.line n here ∙ same) in
+          omega (arith, more, is, none_hits n rules apart)
+      | inr other ↦
+          let is : hit n first ≡ 0 = rw other refl in
+          let rest : AreDistinct rules = λ i j d less below. once (suc i) (suc j) d (omega arith) (omega arith) in
+          omega (arith, more, is, at_most_one n rules rest)
+    ]
+
+hit_once : (n : ℕ) (rules : List PlacedRule) (placed : PlacedRule) → Contains rules placed → placed.line ≡ n
+    → 1 ≤ sum_by (hit n) rules
+hit_once n [] placed (k, below, at) line = absurd (omega arith)
+hit_once n (first ∷ rules) placed (zero, below, at) line =
+    let here : first.line ≡ n = ap (λ (p : PlacedRule). p.line) at ∙ line in
+    let is : hit n first ≡ 1 = rw ((Decides-eqb first.line n).1 here) refl in
+    omega (arith, sum_by-cons (hit n) first rules, is)
+hit_once n (first ∷ rules) placed (suc k, below, at) line =
+    omega (arith, sum_by-cons (hit n) first rules, hit_once n rules placed (k, omega arith, at) line)
+
+-- ---- filters
+
+in_cons : (first : PlacedRule) (rules : List PlacedRule) (placed : PlacedRule) → Contains rules placed
+    → Contains (first ∷ rules) placed
+in_cons first rules placed (k, below, at) = (suc k, omega arith, at)
+
+in_passed : (test : PlacedRule → Bool) (first : PlacedRule) (left rules : List PlacedRule) (placed : PlacedRule)
+    → test first ≡ true → (Contains left placed → Contains rules placed × (test placed ≡ true))
+    → Contains (first ∷ left) placed → Contains (first ∷ rules) placed × (test placed ≡ true)
+in_passed test first left rules placed passes rest (zero, below, at) =
+    ((0, omega arith, at), ap test (sym at) ∙ passes)
+in_passed test first left rules placed passes rest (suc k, below, at) =
+    let (listed, is) = rest (k, omega arith, at) in (in_cons first rules placed listed, is)
+
+in_filter : (test : PlacedRule → Bool) (rules : List PlacedRule) (placed : PlacedRule)
+    → Contains (filter test rules) placed → Contains rules placed × (test placed ≡ true)
+in_filter test [] placed (k, below, at) = absurd (omega arith)
+in_filter test (first ∷ rules) placed has = elim (cases_Bool (test first)) [
+  | inl passes ↦
+      in_passed test first (filter test rules) rules placed passes (in_filter test rules placed)
+      (rw passes at has)
+  | inr fails ↦
+      let (listed, is) = in_filter test rules placed (rw fails at has) in
+      (in_cons first rules placed listed, is)
+]
+
+to_filter : (test : PlacedRule → Bool) (rules : List PlacedRule) (placed : PlacedRule)
+    → Contains rules placed → test placed ≡ true → Contains (filter test rules) placed
+to_filter test [] placed (k, below, at) is = absurd (omega arith)
+to_filter test (first ∷ rules) placed (zero, below, at) is =
+    let passes : test first ≡ true = ap test at ∙ is in rw passes (0, omega arith, at)
+to_filter test (first ∷ rules) placed (suc k, below, at) is =
+    let rest = to_filter test rules placed (k, omega arith, at) is in
+    elim (cases_Bool (test first)) [
+      | inl passes ↦ rw passes (in_cons first (filter test rules) placed rest)
+      | inr fails ↦ rw fails rest
+    ]
+
+-- ---- lines
+
+named : (n : ℕ) (rules : List PlacedRule) (placed : PlacedRule) → Contains rules placed → placed.line ≡ n
+    → list_any (λ number. number == n) (lines_of rules) ≡ true
+named n [] placed (k, below, at) line = absurd (omega arith)
+named n (first ∷ rules) placed (zero, below, at) line =
+    rw ((Decides-eqb first.line n).1 (ap (λ (p : PlacedRule). p.line) at ∙ line)) refl
+named n (first ∷ rules) placed (suc k, below, at) line = elim (cases_Bool (first.line == n)) [
+  | inl here ↦ rw here refl
+  | inr other ↦ rw other (named n rules placed (k, omega arith, at) line)
+]
+
+names : (n : ℕ) (rules : List PlacedRule) → list_any (λ number. number == n) (lines_of rules) ≡ true
+    → (placed : PlacedRule) × Contains rules placed × (placed.line ≡ n)
+names n [] is = cc
+names n (first ∷ rules) is =
+    elim (or_cases (first.line == n) (list_any (λ number. number == n) (lines_of rules)) is) [
+      | inl here ↦ (first, (0, omega arith, refl), eqb-true first.line n here)
+      | inr later ↦
+          let (placed, listed, line) = names n rules later in
+          (placed, in_cons first rules placed listed, line)
+    ]
+
+-- ---- the rules without the removed ones
+
+module _ (rules kept removed : List PlacedRule) (same : IsPermutation rules (kept ++ removed))
+    (once : AreDistinct rules) (placed : PlacedRule) where
+  not_both : (other : PlacedRule) → Contains kept placed → Contains removed other → other.line ≢ placed.line
+  not_both other has was same_line =
+      let n = placed.line in
+      omega (
+        arith,
+        sum_by-IsPermutation (hit n) rules (kept ++ removed) same,
+        sum_by-append (hit n) kept removed,
+        at_most_one n rules once,
+        hit_once n kept placed has refl,
+        hit_once n removed other was same_line,
+      )
+
+  to_kept : Contains (without (lines_of removed) rules) placed → Contains kept placed
+  to_kept left =
+      let (listed, passes) = in_filter _ rules placed left in
+      elim (Contains-append_cases kept removed placed
+      (Contains-permutation rules (kept ++ removed) placed same listed)) [
+        | inl has ↦ has
+        | inr was ↦
+            let wrong = rw (named placed.line removed placed was refl) at passes in
+            absurd (false≢true wrong)
+      ]
+
+  to_left : Contains kept placed → Contains (without (lines_of removed) rules) placed
+  to_left has =
+      let listed = Contains-permutation (kept ++ removed) rules placed
+      (IsPermutation-sym rules (kept ++ removed) same) (Contains-append_left kept removed placed has) in
+      to_filter _ rules placed listed
+      (elim (cases_Bool (list_any (λ number. number == placed.line) (lines_of removed))) [
+        | inr none ↦ rw none refl
+        | inl some ↦
+            let (other, was, line) = names placed.line removed some in absurd (not_both other has was line)
+      ])
+
+  pub left_are_kept : Contains (without (lines_of removed) rules) placed ↔ Contains kept placed
+  left_are_kept = (to_kept, to_left)

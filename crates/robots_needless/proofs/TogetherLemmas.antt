@@ -1,0 +1,162 @@
+-- Rules that can go one after the other are needless together.
+use Rattle.std.proofs.Common.{◌≡◌, ◌↔◌, ◌⊎◌, inl, inr, ℕ, zero, suc, Bool, true, false, List, [], ◌∷◌, ◌++◌}
+use Rattle.std.proofs.Common.{IsPermutation, length, map, ap, refl, sym, subst, ◌∙◌, append_assoc, append-nil, arith}
+use Rattle.std.specs.List.{Contains}
+use Rattle.std.proofs.lemmas.List.{get_or-map, length-map, map-append}
+use Rattle.std.proofs.lemmas.List.Elements.{Contains-append_cases, Contains-append_left, Contains-append_right}
+use Rattle.std.proofs.lemmas.List.Sorted.{Contains-permutation, IsPermutation-append_comm, IsPermutation-append_left}
+use Rattle.std.proofs.lemmas.List.Sorted.{IsPermutation-append_right, IsPermutation-middle, IsPermutation-refl}
+use Rattle.std.proofs.lemmas.List.Sorted.{IsPermutation-sym, IsPermutation-trans}
+use Rattle.texting_robots.specs.Rules.{PlacedRule, Rule, unplaced}
+use Rattle.texting_robots.specs.Verdict.{IsDenied, IsVerdict}
+use Rattle.texting_robots.proofs.BestLemmas.{placed_of}
+use Rattle.robots_needless.specs.Internal.{CanGo, CanGoInTurn, IsReducedTo}
+use Rattle.robots_needless.specs.Needless.{AreDistinct, AreNeedless, lines_of, without}
+use Rattle.robots_needless.proofs.{DistinctLemmas.left_are_kept, RemovalLemmas.AreWith, RemovalLemmas.can_go}
+
+-- the rule of a member
+pub unplaced_of : (rules : List PlacedRule) (placed : PlacedRule) → Contains rules placed
+    → Contains (unplaced rules) placed.rule
+unplaced_of rules placed (k, below, at) =
+    let rule = λ (p : PlacedRule). p.rule in
+    (k, rw (length-map rules rule) below, get_or-map rule rules k placed placed.rule below ∙ ap rule at)
+
+-- ---- rules with the same members have the same verdicts
+
+abbrev SameMembers : List PlacedRule → List PlacedRule → Type 0
+SameMembers rules others = (placed : PlacedRule) → Contains rules placed ↔ Contains others placed
+
+unplaced_same : (rules others : List PlacedRule) → SameMembers rules others → (rule : Rule)
+    → Contains (unplaced rules) rule → Contains (unplaced others) rule
+unplaced_same rules others same rule has =
+    let (placed, listed, is) = placed_of rules rule has in
+    subst (λ (r : Rule). Contains (unplaced others) r) is
+    (unplaced_of others placed ((same placed).0 listed))
+
+denied_same : (rules others : List PlacedRule) (text : List ℕ) → SameMembers rules others
+    → IsDenied (unplaced rules) text → IsDenied (unplaced others) text
+denied_same rules others text same (differs, p, has, fits, longest) =
+    let back : SameMembers others rules = λ placed. ((same placed).1, (same placed).0) in (
+      differs,
+      p,
+      unplaced_same rules others same (p, false) has,
+      fits,
+      λ q listed. longest q (unplaced_same others rules back (q, true) listed),
+    )
+
+-- denied and not denied are the two verdicts
+verdicts : (rules others : List Rule) (text : List ℕ) → IsDenied rules text ↔ IsDenied others text
+    → (answer : Bool) → IsVerdict rules text answer ↔ IsVerdict others text answer
+verdicts rules others text same false = same
+verdicts rules others text same true = (λ allowed denied. allowed (same.1 denied), λ allowed denied. allowed (same.0 denied))
+
+-- ---- one rule less
+
+is_only : (rule placed : PlacedRule) → Contains (rule ∷ []) placed → ◌≡◌ {A = PlacedRule} placed rule
+is_only rule placed (zero, below, at) = sym at
+is_only rule placed (suc k, below, at) = absurd (omega arith)
+
+with_last : (others : List PlacedRule) (rule : PlacedRule)
+    → AreWith (unplaced others) rule.rule (unplaced (others ++ rule ∷ []))
+with_last others rule = record {
+  more = λ x has.
+      let (placed, listed, is) = placed_of others x has in
+      subst (λ (r : Rule). Contains (unplaced (others ++ rule ∷ [])) r) is
+      (unplaced_of (others ++ rule ∷ []) placed (Contains-append_left others (rule ∷ []) placed listed));
+  only = λ x has.
+      let (placed, listed, is) = placed_of (others ++ rule ∷ []) x has in
+      elim (Contains-append_cases others (rule ∷ []) placed listed) [
+        | inl other ↦ inl (subst (λ (r : Rule). Contains (unplaced others) r) is (unplaced_of others placed other))
+        | inr last ↦ inr (sym is ∙ ap (λ (p : PlacedRule). p.rule) (is_only rule placed last))
+      ];
+}
+
+members : (rules others : List PlacedRule) → IsPermutation rules others → SameMembers rules others
+members rules others same placed = (
+  Contains-permutation rules others placed same,
+  Contains-permutation others rules placed (IsPermutation-sym rules others same),
+)
+
+denied_permuted : (rules others : List PlacedRule) → IsPermutation rules others → (text : List ℕ)
+    → IsDenied (unplaced rules) text ↔ IsDenied (unplaced others) text
+denied_permuted rules others same text = (
+  denied_same rules others text (members rules others same),
+  denied_same others rules text (members others rules (IsPermutation-sym rules others same)),
+)
+
+both_ways : {A B C : Type 0} → A ↔ B → B ↔ C → A ↔ C
+both_ways (to, from) (on, back) = (λ a. on (to a), λ c. from (back c))
+
+-- ---- rules that are removed one after the other
+
+pub reordered : (rules left others : List PlacedRule) (numbers : List ℕ) → IsReducedTo rules left numbers
+    → IsPermutation left others → IsReducedTo rules others numbers
+reordered rules left others numbers is same = record {
+  removed = is.removed;
+  lines = is.lines;
+  same = IsPermutation-trans rules (left ++ is.removed) (others ++ is.removed) is.same
+      (IsPermutation-append_left is.removed left others same);
+  denied = λ text. both_ways (is.denied text) (denied_permuted left others same text);
+}
+
+pub one_less : (rules others : List PlacedRule) (rule : PlacedRule) (numbers : List ℕ)
+    → IsReducedTo rules (others ++ rule ∷ []) numbers → CanGo (unplaced others) rule.rule
+    → IsReducedTo rules others (numbers ++ rule.line ∷ [])
+one_less rules others rule numbers is can =
+    let one : List PlacedRule = rule ∷ [] in record {
+      removed = is.removed ++ one;
+      lines = map-append (λ (p : PlacedRule). p.line) is.removed one ∙ ap (λ ns. ns ++ rule.line ∷ []) is.lines;
+      same = IsPermutation-trans rules (others ++ (one ++ is.removed)) (others ++ (is.removed ++ one))
+          (subst (λ all. IsPermutation rules all) (append_assoc others one is.removed) is.same)
+          (IsPermutation-append_right others (one ++ is.removed) (is.removed ++ one)
+          (IsPermutation-append_comm one is.removed));
+      denied = λ text. both_ways (is.denied text)
+          (can_go (unplaced others) (unplaced (others ++ one)) rule.rule (with_last others rule) can text);
+    }
+
+pub none_less : (rules : List PlacedRule) → IsReducedTo rules rules []
+none_less rules = record {
+  removed = [];
+  lines = refl;
+  same = subst (λ all. IsPermutation rules all) (sym (append-nil rules)) (IsPermutation-refl rules);
+  denied = λ text. (λ denied. denied, λ denied. denied);
+}
+
+pub reduced_needless : (rules left : List PlacedRule) (numbers : List ℕ) → AreDistinct rules
+    → IsReducedTo rules left numbers → AreNeedless rules numbers
+reduced_needless rules left numbers once is text answer =
+    let same = left_are_kept rules left is.removed is.same once in
+    let rest = without (lines_of is.removed) rules in
+    let same_rest : IsDenied (unplaced left) text ↔ IsDenied (unplaced rest) text = (
+      denied_same left rest text (λ placed. ((same placed).1, (same placed).0)),
+      denied_same rest left text same,
+    ) in
+    subst (λ ns. IsVerdict (unplaced rules) text answer ↔ IsVerdict (unplaced (without ns rules)) text answer)
+    is.lines (verdicts (unplaced rules) (unplaced rest) text (both_ways (is.denied text) same_rest) answer)
+
+-- all of them, for a list of removed rules
+in_turn : (kept removed : List PlacedRule) → CanGoInTurn kept removed → (text : List ℕ)
+    → IsDenied (unplaced (kept ++ removed)) text ↔ IsDenied (unplaced kept) text
+in_turn kept [] can text =
+    subst (λ all. IsDenied (unplaced all) text ↔ IsDenied (unplaced kept) text) (sym (append-nil kept))
+    (λ denied. denied, λ denied. denied)
+in_turn kept (rule ∷ later) (can, rest) text =
+    let one : List PlacedRule = rule ∷ [] in
+    let moved : IsPermutation (kept ++ rule ∷ later) ((kept ++ later) ++ one) =
+    IsPermutation-trans (kept ++ rule ∷ later) (rule ∷ (kept ++ later)) ((kept ++ later) ++ one)
+    (IsPermutation-middle kept rule later) (IsPermutation-append_comm one (kept ++ later)) in
+    both_ways (denied_permuted (kept ++ rule ∷ later) ((kept ++ later) ++ one) moved text)
+    (both_ways
+    (can_go (unplaced (kept ++ later)) (unplaced ((kept ++ later) ++ one)) rule.rule
+    (with_last (kept ++ later) rule) can text)
+    (in_turn kept later rest text))
+
+pub needless_in_turn : (rules kept removed : List PlacedRule) → AreDistinct rules
+    → IsPermutation rules (kept ++ removed) → CanGoInTurn kept removed → AreNeedless rules (lines_of removed)
+needless_in_turn rules kept removed once same can =
+    reduced_needless rules kept (lines_of removed) once (record {
+      removed = removed;
+      lines = refl;
+      same = same;
+      denied = λ text. both_ways (denied_permuted rules (kept ++ removed) same text) (in_turn kept removed can text);
+    })
