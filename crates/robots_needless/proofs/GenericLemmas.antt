@@ -1,9 +1,9 @@
 -- The generic text of a pattern stands for all texts that the pattern matches: another pattern without the fresh
 -- byte matches it if and only if it matches them all.
-use Rattle.std.proofs.Common.{◌≡◌, ◌≢◌, ◌↔◌, ℕ, ◌==◌, Bool, true, false, inl, inr, List, [], ◌∷◌, ◌++◌, All}
-use Rattle.std.proofs.Common.{refl, sym, ap, ◌∙◌, append_assoc, append-nil}
+use Rattle.std.proofs.Common.{◌≡◌, ◌≢◌, ℕ, ◌==◌, inl, inr, List, [], ◌∷◌, ◌++◌, All}
+use Rattle.std.proofs.Common.{refl, sym, append-nil}
 use Rattle.std.specs.Bool.{MatchBool}
-use Rattle.std.proofs.lemmas.Bool.{cases_Bool, eqb-true, ne_eqb}
+use Rattle.std.proofs.lemmas.Bool.{cases_Bool, ne_eqb}
 use Rattle.std.proofs.lemmas.List.Elements.{All-head, All-tail}
 use Rattle.texting_robots.specs.Pattern.{IsSuffix, Matches, MatchesWith, dollar, star}
 use Rattle.texting_robots.proofs.PatternLemmas.{suffix_trans}

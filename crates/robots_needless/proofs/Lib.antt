@@ -6,3 +6,6 @@ pub mod GenericLemmas
 pub mod RemovalLemmas
 pub mod DistinctLemmas
 pub mod TogetherLemmas
+pub mod HeadLemmas
+pub mod ReasonLemmas
+pub mod StepLemmas

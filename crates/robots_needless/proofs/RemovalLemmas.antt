@@ -1,6 +1,6 @@
 -- A rule that can go changes no verdict.
 use Rattle.std.proofs.Common.{◌≡◌, ◌≢◌, ◌<◌, ◌≤◌, ◌↔◌, ◌⊎◌, inl, inr, ℕ, Bool, true, false, List, length}
-use Rattle.std.proofs.Common.{ap, sym, refl, subst, arith}
+use Rattle.std.proofs.Common.{ap, sym, subst, arith}
 use Rattle.std.specs.List.{Contains}
 use Rattle.std.proofs.lemmas.Bool.{cases_Bool, cases_lt, false≢true}
 use Rattle.texting_robots.specs.Pattern.{Matches}
@@ -8,7 +8,6 @@ use Rattle.texting_robots.specs.{Rules.Rule, Verdict.IsDenied, Verdict.robots_fi
 use Rattle.texting_robots.proofs.BestLemmas.{matches}
 use Rattle.texting_robots.proofs.ExampleLemmas.{matching, not_matching}
 use Rattle.robots_needless.specs.Internal.{CanGo, HasNoRival, IsReplacedBy, rank_of}
-use Rattle.robots_needless.specs.Needless.{MatchesNothing}
 
 -- all these rules are the others and this one
 pub record AreWith (others : List Rule) (rule : Rule) (all : List Rule) : Type 0 where
@@ -63,7 +62,7 @@ module _ (others all : List Rule) (text : List ℕ) where
             elim is.decides [
               | inl above ↦ absurd (omega arith)
               | inr (kinds, none) ↦
-                  absurd (none (a, true) listed (λ same. false≢true (sym same)) (omega arith) (omega arith)
+                  absurd (none.none (a, true) listed (λ same. false≢true (sym same)) (omega arith) (omega arith)
                   text here fits)
             ]
       ],
@@ -115,7 +114,7 @@ module _ (others all : List Rule) (text : List ℕ) where
           → Matches p text → length p < length q
       above_floor floor none low here = elim (cases_lt (length p) (length q)) [
         | inl less ↦ less
-        | inr most ↦ absurd (none (q, false) listed false≢true low (omega arith) text fits here)
+        | inr most ↦ absurd (none.none (q, false) listed false≢true low (omega arith) text fits here)
       ]
 
       kept_denied : (other : Rule) → IsReplacedBy others (p, true) other → IsDenied all text

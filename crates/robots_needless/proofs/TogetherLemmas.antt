@@ -1,9 +1,9 @@
 -- Rules that can go one after the other are needless together.
-use Rattle.std.proofs.Common.{◌≡◌, ◌↔◌, ◌⊎◌, inl, inr, ℕ, zero, suc, Bool, true, false, List, [], ◌∷◌, ◌++◌}
-use Rattle.std.proofs.Common.{IsPermutation, length, map, ap, refl, sym, subst, ◌∙◌, append_assoc, append-nil, arith}
+use Rattle.std.proofs.Common.{◌≡◌, ◌↔◌, inl, inr, ℕ, zero, suc, Bool, true, false, List, [], ◌∷◌, ◌++◌}
+use Rattle.std.proofs.Common.{IsPermutation, ap, refl, sym, subst, ◌∙◌, append_assoc, append-nil, arith}
 use Rattle.std.specs.List.{Contains}
 use Rattle.std.proofs.lemmas.List.{get_or-map, length-map, map-append}
-use Rattle.std.proofs.lemmas.List.Elements.{Contains-append_cases, Contains-append_left, Contains-append_right}
+use Rattle.std.proofs.lemmas.List.Elements.{Contains-append_cases, Contains-append_left}
 use Rattle.std.proofs.lemmas.List.Sorted.{Contains-permutation, IsPermutation-append_comm, IsPermutation-append_left}
 use Rattle.std.proofs.lemmas.List.Sorted.{IsPermutation-append_right, IsPermutation-middle, IsPermutation-refl}
 use Rattle.std.proofs.lemmas.List.Sorted.{IsPermutation-sym, IsPermutation-trans}
@@ -52,7 +52,7 @@ verdicts rules others text same true = (λ allowed denied. allowed (same.1 denie
 
 -- ---- one rule less
 
-is_only : (rule placed : PlacedRule) → Contains (rule ∷ []) placed → ◌≡◌ {A = PlacedRule} placed rule
+pub is_only : (rule placed : PlacedRule) → Contains (rule ∷ []) placed → ◌≡◌ {A = PlacedRule} placed rule
 is_only rule placed (zero, below, at) = sym at
 is_only rule placed (suc k, below, at) = absurd (omega arith)
 

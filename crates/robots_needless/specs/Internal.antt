@@ -1,5 +1,5 @@
 -- How the check compares patterns, and when it finds a rule needless.
-use Rattle.std.specs.Prelude.{◌≡◌, ◌≢◌, ◌⊎◌, ◌↔◌, IsPermutation, ℕ, ◌<◌, ◌≤◌, ◌==◌, true, List, [], ◌∷◌, ◌++◌, Contains, length}
+use Rattle.std.specs.Prelude.{◌≡◌, ◌≢◌, ◌⊎◌, ◌↔◌, IsPermutation, ℕ, ◌<◌, ◌≤◌, ◌==◌, true, List, [], ◌∷◌, ◌++◌, Contains, length, slice_index}
 use Rattle.std.specs.Prelude.{if◌then◌else◌}
 use Rattle.texting_robots.specs.Callers.{IsDenied, PlacedRule, Rule, unplaced}
 use Rattle.texting_robots.specs.{Internal.Entries.rank, Pattern.dollar, Pattern.star}
@@ -20,11 +20,15 @@ generic (b ∷ q) =
 abbrev pub rank_of : Rule → ℕ
 rank_of rule = rank (length rule.0) rule.1
 
--- no rule of the other kind, with a rank that is at least the floor and below the rule's, matches a text that
--- the rule matches
-abbrev pub HasNoRival : List Rule → ℕ → Rule → Type 0
-HasNoRival others floor rule = (other : Rule) → Contains others other → other.1 ≢ rule.1
-    → floor ≤ rank_of other → rank_of other < rank_of rule → AreApart other.0 rule.0
+-- from this floor on, the other rule is no rival of the rule: it isn't of the other kind, or doesn't rank below the
+-- rule and at least as high as the floor, or matches no text that the rule matches
+abbrev pub IsNone : ℕ → Rule → Rule → Type 0
+IsNone floor rule other = other.1 ≢ rule.1 → floor ≤ rank_of other → rank_of other < rank_of rule
+    → AreApart other.0 rule.0
+
+-- none of the others is a rival
+pub record HasNoRival (others : List Rule) (floor : ℕ) (rule : Rule) : Type 0 where
+  pub none : (other : Rule) → Contains others other → IsNone floor rule other
 
 -- the other rule covers the rule. It ranks at least as high, or it is of the same kind and has no rival above it.
 pub record IsReplacedBy (others : List Rule) (rule other : Rule) : Type 0 where
@@ -52,3 +56,19 @@ pub record IsReducedTo (rules left : List PlacedRule) (numbers : List ℕ) : Typ
   pub lines : lines_of removed ≡ numbers
   pub same : IsPermutation rules (left ++ removed)
   pub denied : (text : List ℕ) → IsDenied (unplaced rules) text ↔ IsDenied (unplaced left) text
+
+-- the two generic texts differ at some byte, and neither has the fresh byte up to it
+pub record HeadsDiffer (one other : List ℕ) : Type 0 where
+  pub at : ℕ
+  pub in_one : at < length one
+  pub in_other : at < length other
+  pub same : (k : ℕ) → k < at
+      → (slice_index one k ≡ slice_index other k) × (slice_index one k ≢ fresh)
+  pub differ : slice_index one at ≢ slice_index other at
+  pub fixed : slice_index one at ≢ fresh
+  pub other_fixed : slice_index other at ≢ fresh
+
+-- the other rule covers the rule, and ranks at least as high, or is of the same kind and not below the floor
+pub record IsCandidate (floor : ℕ) (rule other : Rule) : Type 0 where
+  pub covers : Covers other.0 rule.0
+  pub decides : (rank_of rule ≤ rank_of other) ⊎ ((other.1 ≡ rule.1) × (floor ≤ rank_of other))

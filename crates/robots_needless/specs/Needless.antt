@@ -1,6 +1,9 @@
 -- Rules that can be removed without changing a verdict.
-use Rattle.std.specs.Prelude.{◌≡◌, ◌≢◌, ◌↔◌, ℕ, ◌==◌, not, AllPairs, Bool, List, [], ◌∷◌, filter, map}
+use Rattle.std.specs.Prelude.{◌≡◌, ◌≢◌, ◌↔◌, ℕ, ◌==◌, not, AllPairs, Bool, true, Contains, List, [], ◌∷◌, filter, map}
 use Rattle.std.specs.List.{list_any}
+use Rattle.robots_needless.specs.declared.needless.NeedlessRule.{NeedlessRule}
+use Rattle.robots_needless.specs.declared.needless.Reason.{Reason}
+use Rattle.robots_needless.specs.declared.needless.Reason.TheVariants.{AllowedAnyway, Covered, NoMatch}
 use Rattle.texting_robots.specs.Callers.{IsVerdict, Matches, PlacedRule, robots_file, unplaced}
 
 -- the lines of the rules
@@ -36,3 +39,22 @@ AreApart one other = (text : List ℕ) → Matches one text → ¬ Matches other
 -- the pattern matches no text except `/robots.txt`, which is always allowed
 abbrev pub MatchesNothing : List ℕ → Type 0
 MatchesNothing pattern = (text : List ℕ) → Matches pattern text → text ≡ robots_file
+
+-- ---- what the check finds
+
+-- the lines of the found rules
+abbrev pub numbers_of : List NeedlessRule → List ℕ
+numbers_of found = map (λ (one : NeedlessRule). one.line) found
+
+-- the reason holds for the rule among these rules
+abbrev pub IsReason : List PlacedRule → PlacedRule → Reason → Type 0
+IsReason rules placed NoMatch = MatchesNothing placed.rule.0
+IsReason rules placed AllowedAnyway = placed.rule.1 ≡ true
+IsReason rules placed (Covered line) =
+    (other : PlacedRule) × Contains rules other × (other.line ≡ line) × Covers other.rule.0 placed.rule.0
+
+-- one of the rules is in this line, and the reason holds for it
+abbrev pub IsFound : List PlacedRule → NeedlessRule → Type 0
+IsFound rules found =
+    (placed : PlacedRule) × Contains rules placed × (placed.line ≡ found.line)
+    × IsReason rules placed found.reason

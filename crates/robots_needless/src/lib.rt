@@ -1,4 +1,7 @@
 //! Rules of a crawler that can be removed without changing a verdict.
 #![tactic(auto)]
 
+mod generic;
 pub mod laws;
+pub mod needless;
+mod rule;

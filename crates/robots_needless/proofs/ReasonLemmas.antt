@@ -1,0 +1,108 @@
+-- When a rule can go: its rivals, and the rules that cover it.
+use Rattle.std.proofs.Common.{◌≡◌, ◌≤◌, ◌⊎◌, inl, inr, Option, Some, None, false, ℕ, zero, suc, Bool, true, List, [], ◌∷◌, ◌++◌}
+use Rattle.std.proofs.Common.{subst, refl, arith}
+use Rattle.std.specs.List.{Contains}
+use Rattle.std.proofs.lemmas.List.Elements.{Contains-append_cases, Contains-append_left, Contains-append_right}
+use Rattle.texting_robots.specs.Line.{LineValue}
+use Rattle.texting_robots.specs.Rules.{PlacedRule, Rule, unplaced}
+use Rattle.std.specs.Str.{is_utf8}
+use Rattle.texting_robots.specs.{Escape.escaped, Internal.Group.placed}
+use Rattle.texting_robots.specs.Executable.{placed_rules, rule_with}
+use Rattle.texting_robots.proofs.{BestLemmas.placed_of, HeldLemmas.computed_are}
+use Rattle.robots_needless.specs.Internal.{CanGo, HasNoRival, IsCandidate, IsNone}
+use Rattle.robots_needless.specs.Needless.{AreDistinct}
+use Rattle.robots_needless.proofs.TogetherLemmas.{unplaced_of}
+
+-- a rule of two lists is one of the first or of the second
+unplaced_cases : (left right : List PlacedRule) (x : Rule) → Contains (unplaced (left ++ right)) x
+    → Contains (unplaced left) x ⊎ Contains (unplaced right) x
+unplaced_cases left right x has =
+    let (placed, listed, is) = placed_of (left ++ right) x has in
+    elim (Contains-append_cases left right placed listed) [
+      | inl first ↦ inl (subst (λ (r : Rule). Contains (unplaced left) r) is (unplaced_of left placed first))
+      | inr second ↦ inr (subst (λ (r : Rule). Contains (unplaced right) r) is (unplaced_of right placed second))
+    ]
+
+-- ---- rivals
+
+pub no_rival_both : (kept rest : List PlacedRule) (m n : ℕ) (rule : Rule) → HasNoRival (unplaced kept) m rule
+    → m ≤ n → HasNoRival (unplaced rest) n rule → HasNoRival (unplaced (kept ++ rest)) n rule
+no_rival_both kept rest m n rule one most two = record {
+  none = λ x has kinds low high. elim (unplaced_cases kept rest x has) [
+    | inl first ↦ one.none x first kinds (omega arith) high
+    | inr second ↦ two.none x second kinds low high
+  ];
+}
+
+of_one : (floor : ℕ) (rule : Rule) (other : PlacedRule) → IsNone floor rule other.rule → (x : Rule)
+    → Contains (unplaced (other ∷ [])) x → IsNone floor rule x
+of_one floor rule other apart x (zero, below, is) = subst (λ (r : Rule). IsNone floor rule r) is apart
+of_one floor rule other apart x (suc k, below, is) = absurd (omega arith)
+
+-- one more of the others
+pub no_rival_more : (others : List PlacedRule) (other : PlacedRule) (m n : ℕ) (rule : Rule)
+    → HasNoRival (unplaced others) m rule → m ≤ n → IsNone n rule other.rule
+    → HasNoRival (unplaced (others ++ other ∷ [])) n rule
+no_rival_more others other m n rule before most apart = record {
+  none = λ x has kinds low high. elim (unplaced_cases others (other ∷ []) x has) [
+    | inl sooner ↦ before.none x sooner kinds (omega arith) high
+    | inr last ↦ of_one n rule other apart x last kinds low high
+  ];
+}
+
+-- ---- a rule that covers the rule
+
+pub candidate_replaces : (others : List PlacedRule) (floor : ℕ) (rule : Rule) (other : PlacedRule)
+    → HasNoRival (unplaced others) floor rule → Contains others other → IsCandidate floor rule other.rule
+    → CanGo (unplaced others) rule
+candidate_replaces others floor rule other none listed is = inr (inr (
+  other.rule,
+  record {
+    listed = unplaced_of others other listed;
+    covers = is.covers;
+    decides = elim is.decides [
+      | inl above ↦ inl above
+      | inr (kinds, high) ↦ inr (
+        kinds,
+        record {
+          none = λ x has differ low less. none.none x has differ (omega arith) less;
+        },
+      )
+    ];
+  },
+))
+
+-- one of the kept rules, or one of the rest
+pub kept_replaces : (kept rest : List PlacedRule) (floor : ℕ) (rule : Rule) (other : PlacedRule)
+    → HasNoRival (unplaced (kept ++ rest)) floor rule → Contains kept other → IsCandidate floor rule other.rule
+    → CanGo (unplaced (kept ++ rest)) rule
+kept_replaces kept rest floor rule other none listed =
+    candidate_replaces (kept ++ rest) floor rule other none (Contains-append_left kept rest other listed)
+
+pub rest_replaces : (kept rest : List PlacedRule) (floor : ℕ) (rule : Rule) (other : PlacedRule)
+    → HasNoRival (unplaced (kept ++ rest)) floor rule → Contains rest other → IsCandidate floor rule other.rule
+    → CanGo (unplaced (kept ++ rest)) rule
+rest_replaces kept rest floor rule other none listed =
+    candidate_replaces (kept ++ rest) floor rule other none (Contains-append_right kept rest other listed)
+
+-- an Allow without rivals
+pub allow_goes : (others : List Rule) (floor : ℕ) (rule : Rule) → HasNoRival others floor rule → floor ≡ 0
+    → rule.1 ≡ true → CanGo others rule
+allow_goes others floor rule none is allows = inr (inl (allows, rw is at none))
+
+-- ---- the rules of a crawler
+
+pub placed_distinct : (agent : List ℕ) (lines : List LineValue) → AreDistinct (placed_rules agent lines)
+placed_distinct agent lines = (computed_are agent lines).once
+
+-- ---- reading a rule
+
+pub placed_some : (value pattern : List ℕ) (allows : Bool) (line : ℕ) → is_utf8 value ≡ true
+    → pattern ≡ escaped value
+    → ◌≡◌ {A = Option PlacedRule} (Some (record { rule = (pattern, allows); line = line }))
+    (placed line (rule_with value allows))
+placed_some value pattern allows line utf8 is = rw (utf8, is) refl
+
+pub placed_none : (value : List ℕ) (allows : Bool) (line : ℕ) → is_utf8 value ≡ false
+    → ◌≡◌ {A = Option PlacedRule} None (placed line (rule_with value allows))
+placed_none value allows line other = rw other refl

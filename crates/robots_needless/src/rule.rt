@@ -1,0 +1,166 @@
+//! A crawler's rules, prepared for comparison with each other.
+ghost use Rattle.std.specs.Prelude.{◌≡◌, ◌++◌, ◌<◌, ◌^◌, IfOk, IsTrue, string_bytes};
+ghost use Rattle.texting_robots.specs.Callers.{escaped, file_lines, placed_rules};
+ghost use Rattle.std.specs.Str.{is_utf8};
+ghost use Rattle.texting_robots.specs.Executable.{rule_with};
+ghost use Rattle.texting_robots.specs.Internal.Entries.{rank};
+ghost use Rattle.texting_robots.specs.Internal.Group.{placed};
+ghost use Rattle.texting_robots.specs.Internal.Site.{rule_of, tag_of};
+ghost use Rattle.robots_needless.specs.Internal.{rank_of};
+ghost use Rattle.robots_needless.specs.Needless.{AreApart, Covers, MatchesNothing};
+
+use crate::generic::{generic_text, heads_differ};
+use std::alloc::{AllocError, Global};
+use std::marker::Model;
+use texting_robots::minregex::MinRegex;
+use texting_robots::parser::Line;
+use texting_robots::site::{GroupLine, Site};
+use texting_robots::{Error, push_escaped_bytes};
+
+/// A rule with the generic text of its pattern.
+#[derive(Drop)]
+pub(crate) struct Rule {
+    regex: MinRegex,
+    generic_text: String,
+    is_allow: bool,
+    rank: usize,
+    line: usize,
+}
+
+impl Model for Rule {
+    ghost use Rattle.std.specs.Prelude.{◌≡◌, ◌<◌, All, string_bytes};
+    ghost use Rattle.texting_robots.specs.Rules.{PlacedRule};
+    ghost use Rattle.robots_needless.specs.Internal.{fresh, generic, rank_of};
+
+    ghost Value = { PlacedRule };
+
+    ghost view = { λ r. record { rule = (r.regex, r.is_allow); line = r.line } };
+
+    ghost invariant = { λ r. (string_bytes r.generic_text ≡ generic r.regex) × (r.rank ≡ rank_of (r.regex, r.is_allow))
+        × All (λ b. b < fresh) r.regex };
+}
+
+impl Rule {
+    /// Whether it is an Allow.
+    pub(crate) fn is_allow(&self) -> bool
+        ensures { result ≡ self.now.rule.1 }
+    {
+        self.is_allow
+    }
+
+    /// Twice the length of the pattern, plus one for an Allow.
+    pub(crate) fn rank(&self) -> usize
+        ensures { result ≡ rank_of self.now.rule }
+    {
+        self.rank
+    }
+
+    /// The number of its line, counted from 1.
+    pub(crate) fn line(&self) -> usize
+        ensures { result ≡ self.now.line }
+    {
+        self.line
+    }
+
+    /// How many bytes of it are compared with another rule.
+    pub(crate) fn cost(&self) -> usize {
+        self.generic_text.len()
+    }
+
+    /// Whether the pattern matches all texts that the other one matches. False if the other one matches none.
+    pub(crate) fn covers(&self, other: &Rule) -> bool
+        ensures { IsTrue result → Covers self.now.rule.0 other.now.rule.0 }
+    {
+        self.regex.is_match(other.generic_text.as_str())
+    }
+
+    /// Whether the pattern matches no text.
+    pub(crate) fn matches_nothing(&self) -> bool
+        ensures { IsTrue result → MatchesNothing self.now.rule.0 }
+    {
+        !self.regex.is_match(self.generic_text.as_str())
+    }
+
+    /// Whether the two patterns differ before their first star or dollar, so that they match no text in common.
+    pub(crate) fn is_apart_from(&self, other: &Rule) -> bool
+        ensures { IsTrue result → AreApart self.now.rule.0 other.now.rule.0 }
+    {
+        heads_differ(self.generic_text.as_bytes(), other.generic_text.as_bytes())
+    }
+}
+
+/// The rank of a rule.
+fn rank_of_pattern(len: usize, is_allow: bool) -> usize
+    requires { len < 2 ^ 63 }
+    ensures { result ≡ rank len is_allow }
+{
+    2 * len + usize::from(is_allow)
+}
+
+/// Whether the value is UTF-8.
+fn is_utf8(value: &[u8]) -> bool
+    ensures { result ≡ is_utf8 value.now }
+{
+    match std::str::from_utf8(value) {
+        Ok(_) => true,
+        Err(_) => false,
+    }
+}
+
+/// The escaped value.
+fn pattern_of(alloc: Global, value: &[u8]) -> Result<String, AllocError>
+    ensures { IfOk result (λ pattern. string_bytes pattern ≡ escaped value.now) }
+{
+    let mut pattern = String::new(alloc);
+    push_escaped_bytes(&mut pattern, value)?;
+    Ok(pattern)
+}
+
+/// The rule with this value, if it is UTF-8.
+fn rule_with(
+    alloc: Global,
+    value: &[u8],
+    is_allow: bool,
+    line: usize,
+) -> Result<Option<Rule>, Error>
+    ensures { IfOk result (λ rule. rule ≡ placed line (rule_with value.now is_allow)) }
+{
+    if !is_utf8(value) {
+        return Ok(None);
+    }
+    let pattern = pattern_of(alloc, value)?;
+    let rank = rank_of_pattern(pattern.len(), is_allow);
+    let generic_text = generic_text(alloc, pattern.as_bytes())?;
+    let regex = MinRegex::new(alloc, pattern.as_str())?;
+    Ok(Some(Rule {
+        regex,
+        generic_text,
+        is_allow,
+        rank,
+        line,
+    }))
+}
+
+/// The rule in the line, if it has one.
+fn rule_in(alloc: Global, line: &GroupLine<'_>) -> Result<Option<Rule>, Error>
+    ensures { IfOk result (λ rule. rule ≡ rule_of (tag_of line.now)) }
+{
+    match line.line {
+        Line::Allow(value) => rule_with(alloc, value, true, line.number),
+        Line::Disallow(value) => rule_with(alloc, value, false, line.number),
+        Line::UserAgent(_) | Line::Sitemap(_) | Line::CrawlDelay(_) | Line::Raw(_) => Ok(None),
+    }
+}
+
+/// The rules that apply to the crawler, in file order.
+pub(crate) fn rules_for(alloc: Global, site: &Site, agent: &str) -> Result<Vec<Rule>, Error>
+    ensures { IfOk result (λ rules. rules.items ≡ placed_rules agent.now (file_lines site.now)) }
+{
+    let mut rules = Vec::new(alloc);
+    for line in site.own_lines(agent) {
+        if let Some(rule) = rule_in(alloc, &line)? {
+            rules.push(rule)?;
+        }
+    }
+    Ok(rules)
+}
