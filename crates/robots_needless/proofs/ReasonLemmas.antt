@@ -9,8 +9,8 @@ use Rattle.std.specs.Str.{is_utf8}
 use Rattle.texting_robots.specs.{Escape.escaped, Internal.Group.placed}
 use Rattle.texting_robots.specs.Executable.{placed_rules, rule_with}
 use Rattle.texting_robots.proofs.{BestLemmas.placed_of, HeldLemmas.computed_are}
-use Rattle.robots_needless.specs.Internal.{CanGo, HasNoRival, IsCandidate, IsNone}
-use Rattle.robots_needless.specs.Needless.{AreDistinct}
+use Rattle.robots_needless.specs.Internal.{CanGo, HasNoRival, IsNone, StandsIn}
+use Rattle.robots_needless.specs.Needless.{AreDistinct, Overrules, rank_of}
 use Rattle.robots_needless.proofs.TogetherLemmas.{unplaced_of}
 
 -- a rule of two lists is one of the first or of the second
@@ -52,38 +52,30 @@ no_rival_more others other m n rule before most apart = record {
 
 -- ---- a rule that covers the rule
 
-pub candidate_replaces : (others : List PlacedRule) (floor : ℕ) (rule : Rule) (other : PlacedRule)
-    → HasNoRival (unplaced others) floor rule → Contains others other → IsCandidate floor rule other.rule
-    → CanGo (unplaced others) rule
-candidate_replaces others floor rule other none listed is = inr (inr (
+pub overruled_goes : (others : List PlacedRule) (rule : Rule) (other : PlacedRule) → Contains others other
+    → Overrules other.rule rule → CanGo (unplaced others) rule
+overruled_goes others rule other listed is = inr (inr (
   other.rule,
-  record {
-    listed = unplaced_of others other listed;
-    covers = is.covers;
-    decides = elim is.decides [
-      | inl above ↦ inl above
-      | inr (kinds, high) ↦ inr (
-        kinds,
-        record {
-          none = λ x has differ low less. none.none x has differ (omega arith) less;
-        },
-      )
-    ];
-  },
+  record { listed = unplaced_of others other listed; covers = is.covers; decides = inl is.above },
 ))
 
--- one of the kept rules, or one of the rest
-pub kept_replaces : (kept rest : List PlacedRule) (floor : ℕ) (rule : Rule) (other : PlacedRule)
-    → HasNoRival (unplaced (kept ++ rest)) floor rule → Contains kept other → IsCandidate floor rule other.rule
-    → CanGo (unplaced (kept ++ rest)) rule
-kept_replaces kept rest floor rule other none listed =
-    candidate_replaces (kept ++ rest) floor rule other none (Contains-append_left kept rest other listed)
-
-pub rest_replaces : (kept rest : List PlacedRule) (floor : ℕ) (rule : Rule) (other : PlacedRule)
-    → HasNoRival (unplaced (kept ++ rest)) floor rule → Contains rest other → IsCandidate floor rule other.rule
-    → CanGo (unplaced (kept ++ rest)) rule
-rest_replaces kept rest floor rule other none listed =
-    candidate_replaces (kept ++ rest) floor rule other none (Contains-append_right kept rest other listed)
+pub covered_goes : (others : List PlacedRule) (floor : ℕ) (rule : Rule) (other : PlacedRule)
+    → HasNoRival (unplaced others) floor rule → Contains others other → StandsIn floor other.rule rule
+    → CanGo (unplaced others) rule
+covered_goes others floor rule other none listed is =
+    let above = is.above in inr (inr (
+      other.rule,
+      record {
+        listed = unplaced_of others other listed;
+        covers = is.covers;
+        decides = inr (
+          is.kind,
+          record {
+            none = λ x has differ low less. none.none x has differ (omega arith) less;
+          },
+        );
+      },
+    ))
 
 -- an Allow without rivals
 pub allow_goes : (others : List Rule) (floor : ℕ) (rule : Rule) → HasNoRival others floor rule → floor ≡ 0

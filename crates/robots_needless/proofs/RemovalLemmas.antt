@@ -7,7 +7,8 @@ use Rattle.texting_robots.specs.Pattern.{Matches}
 use Rattle.texting_robots.specs.{Rules.Rule, Verdict.IsDenied, Verdict.robots_file}
 use Rattle.texting_robots.proofs.BestLemmas.{matches}
 use Rattle.texting_robots.proofs.ExampleLemmas.{matching, not_matching}
-use Rattle.robots_needless.specs.Internal.{CanGo, HasNoRival, IsReplacedBy, rank_of}
+use Rattle.robots_needless.specs.Internal.{CanGo, HasNoRival, IsReplacedBy}
+use Rattle.robots_needless.specs.Needless.{rank_of}
 
 -- all these rules are the others and this one
 pub record AreWith (others : List Rule) (rule : Rule) (all : List Rule) : Type 0 where

@@ -8,7 +8,7 @@ use Rattle.std.proofs.lemmas.List.Sorted.{IsPermutation-append_right, IsPermutat
 use Rattle.texting_robots.specs.Rules.{PlacedRule, unplaced}
 use Rattle.robots_needless.specs.declared.needless.NeedlessRule.{NeedlessRule}
 use Rattle.robots_needless.specs.declared.needless.Reason.{Reason}
-use Rattle.robots_needless.specs.declared.needless.Reason.TheVariants.{AllowedAnyway, Covered, NoMatch}
+use Rattle.robots_needless.specs.declared.needless.Reason.TheVariants.{AllowedAnyway, Covered, NoMatch, Overruled}
 use Rattle.robots_needless.specs.Internal.{CanGo, IsReducedTo}
 use Rattle.robots_needless.specs.Needless.{IsFound, IsReason, numbers_of}
 use Rattle.robots_needless.proofs.TogetherLemmas.{one_less, reordered}
@@ -54,7 +54,8 @@ module _ (rules kept rest old : List PlacedRule) (rule : PlacedRule) (last : old
   reason_wider : (reason : Reason) → IsReason (kept ++ rest) rule reason → IsReason rules rule reason
   reason_wider NoMatch holds = holds
   reason_wider AllowedAnyway holds = holds
-  reason_wider (Covered line) (other, has, at, covers) = (other, other_listed other has, at, covers)
+  reason_wider (Overruled line) (other, has, at, is) = (other, other_listed other has, at, is)
+  reason_wider (Covered line) (other, has, at, kind, covers) = (other, other_listed other has, at, kind, covers)
 
   pub found_more : (found more : List NeedlessRule) (line : ℕ) (reason : Reason)
       → more ≡ found ++ record { line = line; reason = reason } ∷ [] → line ≡ rule.line

@@ -1,10 +1,12 @@
 -- Rules that can be removed without changing a verdict.
-use Rattle.std.specs.Prelude.{◌≡◌, ◌≢◌, ◌↔◌, ℕ, ◌==◌, not, AllPairs, Bool, true, Contains, List, [], ◌∷◌, filter, map}
+use Rattle.std.specs.Prelude.{◌≡◌, ◌≢◌, ◌↔◌, ◌≤◌, ℕ, ◌==◌, length, not}
+use Rattle.std.specs.Prelude.{AllPairs, Bool, true, Contains, List, [], ◌∷◌, filter, map}
 use Rattle.std.specs.List.{list_any}
 use Rattle.robots_needless.specs.declared.needless.NeedlessRule.{NeedlessRule}
 use Rattle.robots_needless.specs.declared.needless.Reason.{Reason}
-use Rattle.robots_needless.specs.declared.needless.Reason.TheVariants.{AllowedAnyway, Covered, NoMatch}
-use Rattle.texting_robots.specs.Callers.{IsVerdict, Matches, PlacedRule, robots_file, unplaced}
+use Rattle.robots_needless.specs.declared.needless.Reason.TheVariants.{AllowedAnyway, Covered, NoMatch, Overruled}
+use Rattle.texting_robots.specs.Callers.{IsVerdict, Matches, PlacedRule, Rule, robots_file, unplaced}
+use Rattle.texting_robots.specs.Internal.Entries.{rank}
 
 -- the lines of the rules
 abbrev pub lines_of : List PlacedRule → List ℕ
@@ -46,12 +48,24 @@ MatchesNothing pattern = (text : List ℕ) → Matches pattern text → text ≡
 abbrev pub numbers_of : List NeedlessRule → List ℕ
 numbers_of found = map (λ (one : NeedlessRule). one.line) found
 
+-- of two matching rules, the one with the higher rank decides
+abbrev pub rank_of : Rule → ℕ
+rank_of rule = rank (length rule.0) rule.1
+
+-- the other rule matches every text that the rule matches, and ranks at least as high
+pub record Overrules (other rule : Rule) : Type 0 where
+  pub covers : Covers other.0 rule.0
+  pub above : rank_of rule ≤ rank_of other
+
 -- the reason holds for the rule among these rules
 abbrev pub IsReason : List PlacedRule → PlacedRule → Reason → Type 0
 IsReason rules placed NoMatch = MatchesNothing placed.rule.0
 IsReason rules placed AllowedAnyway = placed.rule.1 ≡ true
+IsReason rules placed (Overruled line) =
+    (other : PlacedRule) × Contains rules other × (other.line ≡ line) × Overrules other.rule placed.rule
 IsReason rules placed (Covered line) =
-    (other : PlacedRule) × Contains rules other × (other.line ≡ line) × Covers other.rule.0 placed.rule.0
+    (other : PlacedRule) × Contains rules other × (other.line ≡ line) × (other.rule.1 ≡ placed.rule.1)
+    × Covers other.rule.0 placed.rule.0
 
 -- one of the rules is in this line, and the reason holds for it
 abbrev pub IsFound : List PlacedRule → NeedlessRule → Type 0

@@ -5,3 +5,5 @@ mod generic;
 pub mod laws;
 pub mod needless;
 mod rule;
+#[cfg(test)]
+mod tests;

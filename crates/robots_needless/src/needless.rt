@@ -1,8 +1,8 @@
 //! Which rules of a crawler are needless.
 ghost use Rattle.std.specs.Prelude.{◌≡◌, ◌≤◌, ◌++◌, All, Contains, IfOk, IfSome, IsTrue, List};
 ghost use Rattle.texting_robots.specs.Callers.{PlacedRule, file_lines, placed_rules, unplaced};
-ghost use Rattle.robots_needless.specs.Internal.{CanGo, HasNoRival, IsCandidate, IsNone, IsReducedTo};
-ghost use Rattle.robots_needless.specs.Needless.{AreNeedless, IsFound, IsReason, numbers_of};
+ghost use Rattle.robots_needless.specs.Internal.{CanGo, HasNoRival, IsNone, IsReducedTo, StandsIn};
+ghost use Rattle.robots_needless.specs.Needless.{AreNeedless, IsFound, IsReason, Overrules, numbers_of};
 
 use crate::rule::{Rule, rules_for};
 use std::alloc::{AllocError, Global};
@@ -12,18 +12,22 @@ use texting_robots::{Error, Site};
 const BUDGET: usize = 50_000_000;
 
 /// Why a rule is needless.
-#[derive(Clone, Copy)]
+#[derive(Clone, Copy, Debug, Eq, PartialEq)]
 pub enum Reason {
     /// Its pattern matches no text.
     NoMatch,
     /// It is an Allow of what is allowed without it, as no Disallow that it overrules matches the same text.
     AllowedAnyway,
-    /// The rule in the line with this number matches every text that it matches, and decides as it does.
+    /// It never decides, since the rule in the line with this number matches every text that it matches, and is longer;
+    /// or as long, and an Allow or of the same kind.
+    Overruled(usize),
+    /// Without it, the same verdict follows from the rule in the line with this number, which is of the same kind and
+    /// matches every text that it matches, or from a longer one of that kind.
     Covered(usize),
 }
 
 /// A needless rule.
-#[derive(Clone, Copy)]
+#[derive(Clone, Copy, Debug, Eq, PartialEq)]
 pub struct NeedlessRule {
     /// The number of its line, counted from 1.
     pub line: usize,
@@ -77,17 +81,12 @@ fn rival_floor(budget: &mut Budget, others: &[Rule], rule: &Rule, floor: usize) 
     highest
 }
 
-/// Whether the other rule covers the rule, and ranks at least as high, or is of the same kind and not below the floor.
-fn is_candidate(budget: &mut Budget, other: &Rule, rule: &Rule, floor: usize) -> bool
-    ensures { IsTrue result → IsCandidate floor rule.now.rule other.now.rule }
+/// Whether the other rule covers the rule, and ranks at least as high.
+fn overrules(budget: &mut Budget, other: &Rule, rule: &Rule) -> bool
+    ensures { IsTrue result → Overrules other.now.rule rule.now.rule }
 {
     if other.rank() < rule.rank() {
-        if other.is_allow() != rule.is_allow() {
-            return false;
-        }
-        if other.rank() < floor {
-            return false;
-        }
+        return false;
     }
     if !budget.spend(rule.cost()) {
         return false;
@@ -95,13 +94,42 @@ fn is_candidate(budget: &mut Budget, other: &Rule, rule: &Rule, floor: usize) ->
     other.covers(rule)
 }
 
-/// The line of the first such rule.
-fn covering_line(budget: &mut Budget, others: &[Rule], rule: &Rule, floor: usize) -> Option<usize>
+/// Whether the other rule covers the rule, is of the same kind, and doesn't rank below the floor.
+fn stands_in(budget: &mut Budget, other: &Rule, rule: &Rule, floor: usize) -> bool
+    ensures { IsTrue result → StandsIn floor other.now.rule rule.now.rule }
+{
+    if other.is_allow() != rule.is_allow() {
+        return false;
+    }
+    if other.rank() < floor {
+        return false;
+    }
+    if !budget.spend(rule.cost()) {
+        return false;
+    }
+    other.covers(rule)
+}
+
+/// The line of the first of the others that overrules the rule.
+fn overruling_line(budget: &mut Budget, others: &[Rule], rule: &Rule) -> Option<usize>
     ensures { IfSome result (λ line. (other : PlacedRule) × Contains others.now other × (other.line ≡ line)
-        × IsCandidate floor rule.now.rule other.rule) }
+        × Overrules other.rule rule.now.rule) }
 {
     for other in others {
-        if is_candidate(budget, other, rule, floor) {
+        if overrules(budget, other, rule) {
+            return Some(other.line());
+        }
+    }
+    None
+}
+
+/// The line of the first of the others that stands in for the rule.
+fn covering_line(budget: &mut Budget, others: &[Rule], rule: &Rule, floor: usize) -> Option<usize>
+    ensures { IfSome result (λ line. (other : PlacedRule) × Contains others.now other × (other.line ≡ line)
+        × StandsIn floor other.rule rule.now.rule) }
+{
+    for other in others {
+        if stands_in(budget, other, rule, floor) {
             return Some(other.line());
         }
     }
@@ -119,16 +147,22 @@ fn reason_to_go(budget: &mut Budget, kept: &[Rule], rest: &[Rule], rule: &Rule) 
     if rule.matches_nothing() {
         return Some(Reason::NoMatch);
     }
+    if let Some(line) = overruling_line(budget, kept, rule) {
+        return Some(Reason::Overruled(line));
+    }
+    if let Some(line) = overruling_line(budget, rest, rule) {
+        return Some(Reason::Overruled(line));
+    }
     let kept_floor = rival_floor(budget, kept, rule, 0);
     let floor = rival_floor(budget, rest, rule, kept_floor);
     if rule.is_allow() && floor == 0 {
         return Some(Reason::AllowedAnyway);
     }
-    if let Some(kept_line) = covering_line(budget, kept, rule, floor) {
-        return Some(Reason::Covered(kept_line));
+    if let Some(line) = covering_line(budget, kept, rule, floor) {
+        return Some(Reason::Covered(line));
     }
-    if let Some(rest_line) = covering_line(budget, rest, rule, floor) {
-        return Some(Reason::Covered(rest_line));
+    if let Some(line) = covering_line(budget, rest, rule, floor) {
+        return Some(Reason::Covered(line));
     }
     None
 }

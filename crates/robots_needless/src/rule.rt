@@ -6,8 +6,7 @@ ghost use Rattle.texting_robots.specs.Executable.{rule_with};
 ghost use Rattle.texting_robots.specs.Internal.Entries.{rank};
 ghost use Rattle.texting_robots.specs.Internal.Group.{placed};
 ghost use Rattle.texting_robots.specs.Internal.Site.{rule_of, tag_of};
-ghost use Rattle.robots_needless.specs.Internal.{rank_of};
-ghost use Rattle.robots_needless.specs.Needless.{AreApart, Covers, MatchesNothing};
+ghost use Rattle.robots_needless.specs.Needless.{AreApart, Covers, MatchesNothing, rank_of};
 
 use crate::generic::{generic_text, heads_differ};
 use std::alloc::{AllocError, Global};
@@ -30,7 +29,8 @@ pub(crate) struct Rule {
 impl Model for Rule {
     ghost use Rattle.std.specs.Prelude.{◌≡◌, ◌<◌, All, string_bytes};
     ghost use Rattle.texting_robots.specs.Rules.{PlacedRule};
-    ghost use Rattle.robots_needless.specs.Internal.{fresh, generic, rank_of};
+    ghost use Rattle.robots_needless.specs.Internal.{fresh, generic};
+    ghost use Rattle.robots_needless.specs.Needless.{rank_of};
 
     ghost Value = { PlacedRule };
 
