@@ -9,3 +9,4 @@ pub mod TogetherLemmas
 pub mod HeadLemmas
 pub mod ReasonLemmas
 pub mod StepLemmas
+pub mod ExampleLemmas

@@ -1,2 +1,3 @@
 pub mod Needless
 pub mod Internal
+pub mod Examples

@@ -1,6 +1,7 @@
 //! Theorems about the specification. Each is the contract of an empty function.
 ghost use Rattle.std.specs.Prelude.{◌≢◌, ◌++◌, ℕ, All, IsPermutation, List};
 ghost use Rattle.texting_robots.specs.Callers.{Matches, PlacedRule};
+ghost use Rattle.robots_needless.specs.Examples as example;
 ghost use Rattle.robots_needless.specs.Internal.{CanGoInTurn, fresh, generic};
 ghost use Rattle.robots_needless.specs.Needless.{AreDistinct, AreNeedless, Covers, lines_of};
 
@@ -17,4 +18,13 @@ pub fn one_match_decides_covering()
 pub fn rules_go_in_turn()
     ensures { (rules kept removed : List PlacedRule) → AreDistinct rules → IsPermutation rules (kept ++ removed)
         → CanGoInTurn kept removed → AreNeedless rules (lines_of removed) }
+{}
+
+/// Worked examples. `specs/Examples.antt` shows by them what the specification means.
+pub fn examples()
+    ensures one_of_two { example.one_of_two }
+    ensures between { example.between }
+    ensures two_of_three { example.two_of_three }
+    ensures covering { example.covering }
+    ensures apart { example.apart }
 {}
