@@ -29,7 +29,7 @@ from collections import Counter
 from pathlib import Path
 from urllib.parse import urlsplit
 
-from texting_robots import FILE_LIMIT, OverlongRule, Robots
+from texting_robots import FILE_LIMIT, Matrix, OverlongRule, Robots
 
 AGENTS = "GPTBot,CCBot,ClaudeBot,Google-Extended,Bingbot,Googlebot,Bytespider,PerplexityBot"
 MOST = 64_000_000
@@ -52,8 +52,11 @@ def files(*paths):
 
 
 def read_file(path):
-    with open(path, "rb", buffering=0) as file:
-        body = file.read(min(os.fstat(file.fileno()).st_size, FILE_LIMIT))
+    file = os.open(path, os.O_RDONLY)
+    try:
+        body = os.read(file, min(os.fstat(file).st_size, FILE_LIMIT))
+    finally:
+        os.close(file)
     return os.path.basename(path).removesuffix(".txt").removesuffix(".robots"), body
 
 
@@ -157,24 +160,34 @@ READERS = {"files": files, "jsonl": json_lines, "warc": warc}
 # ---- what a batch says
 
 
-def rows_of(site, body, agents, paths):
+def overlong_line(body, agent, path):
+    """The line of the rule for which the file can't be used for a crawler."""
+    try:
+        Robots(body).verdict(path, agent)
+    except OverlongRule as error:
+        return error.line
+
+
+def rows_of(site, body, matrix):
     """The rows of the CSV file for a site: each path that a crawler is kept out of, with the line that says so."""
-    robots, rows = Robots(body), []
-    for agent, verdicts in zip(agents, robots.matrix(paths, agents)):
-        for path, verdict in zip(paths, verdicts):
-            if verdict is None:
-                try:
-                    robots.verdict(path, agent)
-                except OverlongRule as error:
-                    rows.append((site, agent, path, "unusable", error.line))
-            elif not verdict.allowed:
-                rows.append((site, agent, path, "deny", verdict.line))
-    return rows
+    return [
+        (site, agent, path, "deny", line) if line else (site, agent, path, "unusable", overlong_line(body, agent, path))
+        for agent, path, line in matrix.denials(body)
+    ]
+
+
+def lines_of(rows):
+    """Rows as lines of a CSV file."""
+    lines = io.StringIO()
+    csv.writer(lines).writerows(rows)
+    return lines.getvalue()
 
 
 def census_of(batch, agents, paths):
-    """How many sites a batch has, how many other records, its rows, and the places and errors of its damaged records."""
-    sites, others, rows, damaged = 0, 0, [], []
+    """How many sites a batch has, and how many other records; how many sites have each result for a crawler and a path; the name of each
+    site that keeps a crawler out of a path, with its lines of the CSV file, so that only text is left to collect; and the places and
+    errors of its damaged records."""
+    matrix, sites, others, counts, written, damaged = Matrix(sorted(paths), sorted(agents)), 0, 0, Counter(), [], []
     for place, read in READERS[batch[0]](*batch[1:]):
         try:
             if isinstance(read, Exception):
@@ -182,11 +195,14 @@ def census_of(batch, agents, paths):
             if read is None:
                 others += 1
                 continue
-            rows += rows_of(*read, agents, paths)
+            rows = rows_of(*read, matrix)
             sites += 1
+            if rows:
+                counts.update(row[1:4] for row in rows)
+                written.append((read[0], lines_of(rows)))
         except Exception as error:
             damaged.append((place, f"{type(error).__name__}: {error}"))
-    return sites, others, rows, damaged
+    return sites, others, counts, written, damaged
 
 
 def batches_of(source, size):
@@ -204,6 +220,7 @@ def batches_of(source, size):
 
 
 def run_here(batches, *words):
+    bytes(2**24)  # since so much has been freed, malloc keeps as much from one file to the next, and doesn't return it each time
     for batch in batches:
         yield census_of(batch, *words)
 
@@ -217,12 +234,17 @@ def alone(batch):
     return [(kind, path, place, place + 1) for place in places if place < end]
 
 
+def sent(client, work, batches, words):
+    """The batches by the futures of their results. One call for all of them is much faster than a call for each."""
+    return dict(zip(client.map(work, batches, *([word] * len(batches) for word in words), pure=False), batches))
+
+
 def run_on(client, batches, *words, work=census_of):
     """The results from the workers of a client. When a worker dies, its batches are tried again record by record, and those with which
     another one dies one after the other at the end: so only a record that itself ends its worker is lost."""
     from distributed import KilledWorker, as_completed
 
-    waiting = {client.submit(work, batch, *words, pure=False): batch for batch in batches}
+    waiting = sent(client, work, batches, words)
     finished, suspects = as_completed(waiting), []
     for future in finished:
         batch = waiting.pop(future)
@@ -233,15 +255,14 @@ def run_on(client, batches, *words, work=census_of):
             if len(records) < 2:
                 suspects.append(batch)
                 continue
-            for record in records:
-                future = client.submit(work, record, *words, pure=False)
-                waiting[future] = record
-                finished.add(future)
+            again = sent(client, work, records, words)
+            waiting.update(again)
+            finished.update(again)
     for batch in suspects:
         try:
             yield client.submit(work, batch, *words, pure=False).result()
         except KilledWorker:
-            yield 0, 0, [], [(":".join(map(str, batch[1:3])), "KilledWorker: the worker died")]
+            yield 0, 0, Counter(), [], [(":".join(map(str, batch[1:3])), "KilledWorker: the worker died")]
 
 
 @contextlib.contextmanager
@@ -254,7 +275,10 @@ def client_of(workers, scheduler):
             yield client
         return
     options = {"n_workers": workers, "threads_per_worker": 1, "processes": True, "host": "127.0.0.1", "dashboard_address": None}
-    with dask.config.set({"distributed.scheduler.allowed-failures": 0}), LocalCluster(**options) as cluster, Client(cluster) as client:
+    # Dask's settings let a worker return memory and take it again for most files, and look every 10 ms at what its threads do
+    settings = {"distributed.nanny.pre-spawn-environ.MALLOC_TRIM_THRESHOLD_": 2**26, "distributed.worker.profile.enabled": False}
+    settings |= {"distributed.scheduler.allowed-failures": 0}
+    with dask.config.set(settings), LocalCluster(**options) as cluster, Client(cluster) as client:
         yield client
 
 
@@ -263,23 +287,23 @@ def client_of(workers, scheduler):
 
 def census(results, batches=0):
     """The sum of the results, with the rows and the damaged records in an order that doesn't depend on where they ran."""
-    sites, others, rows, damaged, done = 0, 0, [], [], 0
-    for more_sites, more_others, more_rows, more_damaged in results:
+    sites, others, counts, rows, damaged, done = 0, 0, Counter(), [], [], 0
+    for more_sites, more_others, more_counts, more_rows, more_damaged in results:
         sites, others, done = sites + more_sites, others + more_others, done + 1
+        counts.update(more_counts)
         rows += more_rows
         damaged += more_damaged
         if batches and sys.stderr.isatty():
             width = min(40, 40 * done // batches)
             print(f"\r[{'#' * width}{'.' * (40 - width)}] {sites} sites", end="", file=sys.stderr, flush=True)
-    return sites, others, sorted(rows), sorted(damaged)
+    return sites, others, counts, sorted(rows), sorted(damaged)
 
 
 def write_csv(path, rows, damaged):
     with open(path, "w", newline="", encoding="utf-8") as file:
-        table = csv.writer(file)
-        table.writerow(["site", "crawler", "path", "result", "line"])
-        table.writerows(rows)
-        table.writerows((place, "", "", f"damaged: {error}", "") for place, error in damaged)
+        file.write(lines_of([("site", "crawler", "path", "result", "line")]))
+        file.writelines(lines for _, lines in rows)
+        file.write(lines_of((place, "", "", f"damaged: {error}", "") for place, error in damaged))
 
 
 COLOURS = ["#4c72b0", "#dd8452", "#55a868", "#c44e52", "#8172b3", "#937860"]
@@ -299,23 +323,21 @@ def chart(sites, counts, agents, paths):
         top = 60 + row * group
         parts.append(f'<text x="{left - 10}" y="{top + group // 2}" text-anchor="end">{html.escape(agent)}</text>')
         for number, path in enumerate(paths):
-            count, y = counts[agent, path], top + bar * number
+            count, y = counts[agent, path, "deny"], top + bar * number
             length, share = full * count / max(sites, 1), f"{count} ({100 * count / max(sites, 1):.1f} %)"
             parts.append(f'<rect x="{left}" y="{y}" width="{length:.1f}" height="{bar - 2}" fill="{COLOURS[number % len(COLOURS)]}"/>')
             parts.append(f'<text x="{left + length + 5:.1f}" y="{y + 11}">{share}</text>')
     return "\n".join([*parts, "</svg>", ""])
 
 
-def report(sites, others, rows, damaged, agents, paths):
-    counts = Counter((agent, path) for _, agent, path, result, _ in rows if result == "deny")
-    unusable = Counter(agent for _, agent, path, result, _ in rows if result == "unusable" and path == paths[0])
+def report(sites, others, counts, damaged, agents, paths):
     print(f"{'kept out of':20}" + "".join(f"{path:>12}" for path in [*paths, "unusable"]))
     for agent in agents:
-        print(f"{agent:20}" + "".join(f"{count:12}" for count in [*(counts[agent, path] for path in paths), unusable[agent]]))
+        words = [*((path, "deny") for path in paths), (paths[0], "unusable")]
+        print(f"{agent:20}" + "".join(f"{counts[agent, path, result]:12}" for path, result in words))
     print(f"{sites} sites, {others} other records, {len(damaged)} damaged")
     for place, error in damaged[:20]:
         print(f"damaged: {place}: {error}")
-    return counts
 
 
 def main():
@@ -335,14 +357,14 @@ def main():
     with client_of(given.workers, given.scheduler) if given.workers or given.scheduler else contextlib.nullcontext() as client:
         start = time.perf_counter()
         results = run_on(client, batches, agents, paths) if client else run_here(batches, agents, paths)
-        found = census(results, len(batches))
+        sites, others, counts, rows, damaged = census(results, len(batches))
         took = time.perf_counter() - start
-    print(f"\n{found[0] / took:.0f} sites a second", file=sys.stderr)
-    counts = report(*found, agents, paths)
+    print(f"\n{sites / took:.0f} sites a second", file=sys.stderr)
+    report(sites, others, counts, damaged, agents, paths)
     if given.csv:
-        write_csv(given.csv, *found[2:])
+        write_csv(given.csv, rows, damaged)
     if given.svg:
-        Path(given.svg).write_text(chart(found[0], counts, agents, paths), encoding="utf-8")
+        Path(given.svg).write_text(chart(sites, counts, agents, paths), encoding="utf-8")
 
 
 if __name__ == "__main__":

@@ -7,7 +7,7 @@ import pytest
 import support
 from library import random_case
 
-from texting_robots import OverlongRule, Robots, Verdict, robots_url
+from texting_robots import Matrix, OverlongRule, Robots, Verdict, robots_url
 
 BITS = [b"\0", b"\xff", b"\xef\xbb\xbf", b"\xe2\x80\x83", b"%41", b"*", b"$", b"\r", b"#", b":", b" "]
 BITS += [b"\nUser-agent: *\n", b"\nuseragent: bot\n", b"\nDisallow: /", b"\nAllow: ", b"\nCrawl-delay: 1.5\n", b"\nSitemap: /s\xc3\xb6.xml\n"]
@@ -49,6 +49,9 @@ def test_random_files_have_the_results_of_the_c_library_and_of_robots_verdict(ro
         printed = support.run(program, (), text)
         rows = robots.matrix([agent, "o"], file, urls)
         assert ours.matrix(urls, [agent, "o"]) == [[None if it == robots.NO_RESULT else verdict_of(it) for it in row] for row in rows]
+        denied = [(name, url, it) for name, row in zip([agent, "o"], rows) for url, it in zip(urls, row) if it < 0]
+        denied = [(name, url, None if it == robots.NO_RESULT else -it) for name, url, it in denied]
+        assert Matrix(urls, [agent, "o"]).denials(file) == denied
         assert (ours.sitemaps, ours.agents) == (robots.sitemaps(file), robots.agents(file))
         assert ours.delay_microseconds(agent) == robots.delay(agent, file)
         try:

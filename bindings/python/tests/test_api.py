@@ -9,7 +9,7 @@ import package
 import pytest
 
 import texting_robots
-from texting_robots import FILE_LIMIT, AgentError, OverlongRule, Robots, Verdict, product_token, robots_url
+from texting_robots import FILE_LIMIT, AgentError, Matrix, OverlongRule, Robots, Verdict, product_token, robots_url
 
 SHOP = b"""\
 User-agent: *
@@ -57,6 +57,25 @@ def test_many_urls_may_be_few():
     assert shop.matrix([], ["SlowBot", "*"]) == [[], []]
     assert shop.matrix(["/"], []) == []
     assert shop.matrix({"/": 1}, iter(["a\nb", "SlowBot"])) == [[Verdict(True, None)], [Verdict(False, 7)]]
+
+
+def test_denials():
+    """Of the same URLs and agents, file after file."""
+    matrix = Matrix(iter(["/", "/search", "/search/help"]), ["FerrisBot", "SlowBot", "LongBot"])
+    assert matrix.denials(SHOP) == [
+        ("FerrisBot", "/search", 2), ("SlowBot", "/", 7), ("SlowBot", "/search", 7), ("SlowBot", "/search/help", 7), ("LongBot", "/search", 2),
+    ]  # fmt: skip
+    assert matrix.denials(OVERLONG) == [("LongBot", "/", None), ("LongBot", "/search", None), ("LongBot", "/search/help", None)]
+    assert matrix.denials(b"") == matrix.denials(b"#" * (FILE_LIMIT - 1) + b"\nUser-agent: *\nDisallow: /") == []
+    for wrong in ["User-agent: *", bytearray(SHOP), None]:
+        with pytest.raises(TypeError):
+            matrix.denials(wrong)
+    for urls, agents in [([], ["a"]), (["/"], []), (["/a\nb"], ["a"]), (["/"], ["a\nb"]), (["/"], ["a/1"]), (["/\ud800"], ["a"])]:
+        with pytest.raises(ValueError):
+            Matrix(urls, agents)
+    for urls, agents in [("/", ["a"]), (["/"], "a"), ([None], ["a"]), (["/"], [b"a"]), (["/"], ["a/1"])]:
+        with pytest.raises(TypeError):
+            Matrix(urls, agents)
 
 
 def test_a_verdict_is_true_if_it_allows():

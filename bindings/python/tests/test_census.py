@@ -10,6 +10,7 @@ import random
 import signal
 import sys
 import xml.dom.minidom
+from collections import Counter
 from unittest import mock
 
 import package
@@ -37,6 +38,11 @@ def made(number):
 
 SITES = [made(number) for number in range(200)]
 ROWS = sorted(row for *_, rows in SITES for row in rows)
+
+
+def read(rows):
+    """The rows in the lines of a CSV file."""
+    return [(*row[:4], int(row[4])) for row in csv.reader("".join(lines for _, lines in rows).splitlines())]
 
 
 def response(site, body, status="200 OK", more=b""):
@@ -89,9 +95,10 @@ DAMAGED = {"files": 1, "all.jsonl": 5, "all.warc": 2, "all.warc.gz": 5}
 @pytest.mark.parametrize("name", OTHERS)
 def test_a_damaged_record_loses_nothing_else(sources, name, size):
     batches = census.batches_of(sources[name], size)
-    sites, others, rows, damaged = census.census(census.run_here(batches, AGENTS, PATHS))
+    sites, others, counts, rows, damaged = census.census(census.run_here(batches, AGENTS, PATHS))
     assert (sites, others, len(damaged)) == (len(SITES), OTHERS[name], DAMAGED[name]), damaged
-    assert rows == ROWS
+    assert read(rows) == ROWS
+    assert counts == Counter(row[1:4] for row in ROWS)
 
 
 def test_ranges_have_each_record_once(sources):
@@ -117,8 +124,8 @@ def test_a_bomb_is_damaged(tmp_path, monkeypatch):
     monkeypatch.setattr(census, "MOST", 100_000)
     path = tmp_path / "bomb.warc.gz"
     path.write_bytes(gzip.compress(response("a", b"a" * 10_000_000)) + gzip.compress(response("b", b"Disallow: /")))
-    sites, others, rows, damaged = census.census_of(("warc", str(path), 0, path.stat().st_size), AGENTS, PATHS)
-    assert (sites, others, len(rows), len(damaged)) == (1, 0, 6, 1)
+    sites, others, _, rows, damaged = census.census_of(("warc", str(path), 0, path.stat().st_size), AGENTS, PATHS)
+    assert (sites, others, len(read(rows)), len(damaged)) == (1, 0, 6, 1)
 
 
 # ---- the program, and workers
@@ -173,8 +180,8 @@ def deadly(batch, agents, paths):
 def test_a_worker_that_dies_loses_only_the_record_with_which_it_dies(sources):
     batches = census.batches_of(sources["files"], 40)
     with workers() as client:
-        sites, others, rows, damaged = census.census(census.run_on(client, batches, AGENTS, PATHS, work=deadly))
-    assert (sites, others, rows) == (len(SITES) - 1, 0, [row for row in ROWS if "site0010" not in row[0]])
+        sites, others, _, rows, damaged = census.census(census.run_on(client, batches, AGENTS, PATHS, work=deadly))
+    assert (sites, others, read(rows)) == (len(SITES) - 1, 0, [row for row in ROWS if "site0010" not in row[0]])
     assert ["KilledWorker" in error for place, error in damaged if "site0010" in place] == [True] and len(damaged) == 2
 
 

@@ -12,7 +12,7 @@ from concurrent.futures import ThreadPoolExecutor
 import package
 import pytest
 
-from texting_robots import OverlongRule, Robots
+from texting_robots import Matrix, OverlongRule, Robots
 
 RULES = "".join(f"Disallow: /shop/{n}/*?page=\nAllow: /shop/{n}/help$\n" for n in range(100))
 LARGE = f"User-agent: *\nCrawl-delay: 2\n{RULES}User-agent: BobBot\nUser-agent: Googlebot\nDisallow: /s\n{RULES}Sitemap: /a.xml\n".encode()
@@ -23,7 +23,8 @@ SMALL = b"User-agent: *\nDisallow: /search\nUser-agent: BobBot\nDisallow: /bob\n
 
 def test_eight_threads_share_one_robots():
     expected = {agent: [Robots(LARGE).verdict(url, agent) for url in URLS] for agent in AGENTS}
-    robots, start = Robots(LARGE), threading.Barrier(8)
+    robots, matrix, start = Robots(LARGE), Matrix(URLS, AGENTS), threading.Barrier(8)
+    denied = [(agent, url, it.line) for agent in AGENTS for url, it in zip(URLS, expected[agent]) if not it]
 
     def wrong(seed):
         chance, wrong = random.Random(seed), 0
@@ -34,6 +35,7 @@ def test_eight_threads_share_one_robots():
             if turn % 100 == 0:
                 wrong += robots.verdicts(URLS, agent) != expected[agent]
                 wrong += robots.matrix(URLS, AGENTS) != [expected[agent] for agent in AGENTS]
+                wrong += matrix.denials(LARGE) != denied
                 wrong += (robots.sitemaps, robots.agents, robots.delay(agent)) != (["/a.xml"], ["*", "BobBot", "Googlebot"], robots.delay(agent))
         return wrong
 
@@ -158,11 +160,12 @@ def test_results_and_errors_leave_nothing():
 
 OUT_OF_MEMORY = """
 import resource, sys
-from texting_robots import Robots
+from texting_robots import Matrix, Robots
 
 body = sys.stdin.buffer.read()
 urls = ["/", "/shop/1/a?page=2"] * 50
-expected = Robots(body).verdicts(urls, "BobBot")
+expected, matrix = Robots(body).verdicts(urls, "BobBot"), Matrix(urls, ["BobBot", "a"])
+denied = matrix.denials(body)
 size = int(open("/proc/self/statm").read().split()[0]) * resource.getpagesize()
 kept, errors = [], 0
 resource.setrlimit(resource.RLIMIT_AS, (size + 48_000_000, resource.RLIM_INFINITY))
@@ -178,11 +181,12 @@ for turn in range(3):
         try:
             assert robots.verdict(urls[1], "BobBot") == expected[1]
             robots.verdicts(urls, "BobBot"), robots.matrix(urls, ["BobBot", "a"]), robots.sitemaps, robots.agents, robots.delay("BobBot")
+            assert matrix.denials(body) == denied
         except MemoryError:
             errors += 1
     made = len(kept)
     del kept[:], robots
-    assert Robots(body).verdicts(urls, "BobBot") == expected
+    assert Robots(body).verdicts(urls, "BobBot") == expected and matrix.denials(body) == denied
 print(errors, made)
 """
 

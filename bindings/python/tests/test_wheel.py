@@ -60,8 +60,8 @@ def test_mypy_is_strict(tmp_path):
 
 
 CALLER = """
-from typing import List, Optional
-from texting_robots import AgentError, OverlongRule, Robots, Verdict, product_token, robots_url
+from typing import List, Optional, Tuple
+from texting_robots import AgentError, Matrix, OverlongRule, Robots, Verdict, product_token, robots_url
 
 robots: Robots = Robots(b"")
 allowed: bool = robots.allowed(robots_url("https://example.com/"), product_token("a/1"))
@@ -69,6 +69,7 @@ verdicts: List[Verdict] = robots.verdicts(("/" for _ in range(2)), "a")
 rows: List[List[Optional[Verdict]]] = robots.matrix({"/"}, ["a"])
 delay: Optional[float] = robots.crawl_delay("a")
 line: Optional[int] = robots.verdict("/", "a").line
+denied: List[Tuple[str, str, Optional[int]]] = Matrix({"/"}, ["a"]).denials(b"")
 names: List[str] = robots.sitemaps + robots.agents
 """
 

@@ -14,7 +14,7 @@
     'FerrisBot'
 """
 
-from ._robots import FILE_LIMIT, AgentError, OverlongRule, Robots, Verdict, product_token, robots_url
+from ._robots import FILE_LIMIT, AgentError, Matrix, OverlongRule, Robots, Verdict, product_token, robots_url
 
-__all__ = ["FILE_LIMIT", "AgentError", "OverlongRule", "Robots", "Verdict", "product_token", "robots_url"]
+__all__ = ["FILE_LIMIT", "AgentError", "Matrix", "OverlongRule", "Robots", "Verdict", "product_token", "robots_url"]
 __version__ = "0.1.0"

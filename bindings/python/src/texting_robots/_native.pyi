@@ -22,6 +22,18 @@ class _Lib:
     ROBOTS_OVERLONG_RULE: Final[int]
     ROBOTS_FILE_LIMIT: Final[int]
     NO_RESULT: Final[int]
+    def robots_matrix(
+        self,
+        agents: bytes,
+        agents_len: int,
+        file: bytes,
+        file_len: int,
+        urls: bytes,
+        urls_len: int,
+        results: CData,
+        results_len: int,
+        /,
+    ) -> int: ...
     def robots_address(self, url: bytes, url_len: int, out: CData, out_len: int, len: CData, /) -> int: ...
     def site_open(self, file: bytes, file_len: int, /) -> CData: ...
     def site_close(self, site: CData, /) -> None: ...

@@ -19,7 +19,8 @@ _AGENTS_KEPT: Final = 1000
 
 _Body = Union[bytes, bytearray, memoryview, str]
 _query: Final = lib.robot_query
-_LAST_FAILURE: Final = lib.NO_RESULT - lib.ROBOTS_OVERLONG_RULE
+_NO_RESULT: Final = lib.NO_RESULT
+_LAST_FAILURE: Final = _NO_RESULT - lib.ROBOTS_OVERLONG_RULE
 
 
 class OverlongRule(Exception):
@@ -135,7 +136,7 @@ class Robots:
         results = ffi.new("int64_t[]", length)
         _check(lib.site_matrix(self._site, agents_text, len(agents_text), urls_text, len(urls_text), results, length))
         numbers = ffi.unpack(results, length)
-        verdicts = {number: None if number == lib.NO_RESULT else _verdict(number) for number in set(numbers)}
+        verdicts = {number: None if number == _NO_RESULT else _verdict(number) for number in set(numbers)}
         return [[verdicts[number] for number in numbers[start : start + width]] for start in range(0, length, width)]
 
     def delay(self, agent: str) -> float | None:
@@ -172,7 +173,7 @@ class Robots:
         text = str.encode(url)
         result = _query(robot, text, len(text))
         if result <= _LAST_FAILURE:
-            _check(lib.NO_RESULT - result, robot)
+            _check(_NO_RESULT - result, robot)
         return result
 
     def _robot(self, agent: str) -> CData:
@@ -195,6 +196,38 @@ class Robots:
 
     def __repr__(self) -> str:
         return f"<{type(self).__name__} of {len(self._body)} bytes>"
+
+
+class Matrix:
+    """The same URLs and agents for many files: what `Robots.matrix` decides, in one call of the library for each file.
+
+    It can be shared by threads, which don't take turns. The constructor raises what `Robots.matrix` raises, and ValueError without URLs
+    or agents, or for a line feed in one.
+    """
+
+    __slots__ = ("_agents", "_pairs", "_urls")
+
+    def __init__(self, urls: Iterable[str], agents: Iterable[str]) -> None:
+        urls, agents = _several(urls, "URLs"), _several(agents, "agents")
+        for agent in agents:
+            _name(agent)
+        urls_text, agents_text = _joined(urls), _joined(agents)
+        if urls_text is None or agents_text is None:
+            raise ValueError("there has to be a URL and an agent, and no line feed in one")
+        self._urls, self._agents = urls_text, agents_text
+        self._pairs = [(agent, url) for agent in agents for url in urls]
+
+    def denials(self, body: bytes) -> list[tuple[str, str, int | None]]:
+        """Each agent with each URL that the file denies it, and the number of the line that does, or None if the file can't be used for
+        the agent: agent by agent, in the order of the constructor's arguments. ``body`` is the file, as received."""
+        length = len(self._pairs)
+        results = ffi.new("int64_t[]", length)
+        _check(lib.robots_matrix(self._agents, len(self._agents), body, len(body), self._urls, len(self._urls), results, length))
+        return [
+            (agent, url, None if result == _NO_RESULT else -result)
+            for (agent, url), result in zip(self._pairs, ffi.unpack(results, length))
+            if result < 0
+        ]
 
 
 def _several(texts: Iterable[str], what: str) -> list[str]:
