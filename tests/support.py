@@ -79,15 +79,18 @@ def shown(document):
 
 
 def documented_warnings():
-    """The messages of each warning by its name, in the order of docs/PROGRAMS.md. One of them has KEY in place of a field name."""
-    texts = {}
+    """The levels and the messages of each warning by its name, in the order of docs/PROGRAMS.md. One of the messages has KEY in place
+    of a field name."""
+    levels, texts = {}, {}
     for row in tables(DOCUMENTS["docs/PROGRAMS.md"]):
-        if len(row) == 3 and re.fullmatch(r"`[a-z0-9-]+`", row[0]):
-            texts.setdefault(row[0].strip("`"), []).append(row[2])
-    return texts
+        if len(row) == 4 and row[1] in ("error", "warning", "note"):
+            name = row[0].strip("`")
+            assert levels.setdefault(name, row[1]) == row[1], f"{name}: two levels"
+            texts.setdefault(name, []).append(row[3])
+    return levels, texts
 
 
-WARNINGS = documented_warnings()
+LEVELS, WARNINGS = documented_warnings()
 
 
 OF_A_URL = {"not-a-url-or-path", "invalid-url"}
@@ -102,10 +105,10 @@ def text_of(name, detail=""):
     return f"URL '{detail}': {text}" if name in OF_A_URL else text
 
 
-def warning_line(warning):
-    """The line on standard error for a warning that a golden case writes as `[LINE] NAME [DETAIL]`."""
+def warning_line(warning, file="robots.txt"):
+    """The line on standard error for a warning that a golden case writes as `[LINE] NAME [DETAIL]`, about the file with this name."""
     line, name, detail = re.fullmatch(r"(?:(\d+) )?([a-z0-9-]+)(?: (.*))?", warning).groups()
-    return f"robots_audit: warning: {f'line {line}: ' if line else ''}{text_of(name, detail or '')} [{name}]\n"
+    return f"{file}:{line or ''}{':' if line else ''} {LEVELS[name]}: {text_of(name, detail or '')} [{name}]\n"
 
 
 KEYS = set("like args agent robots file from pieces room out more warn err status indented".split())
@@ -145,9 +148,10 @@ def input_of(case, indented=False):
 
 
 def with_texts(out):
-    """JSON in which [NAME] has become the text of that warning."""
-    name = re.compile(r'"text":"\[([a-z0-9-]+)(?: ([^]]*))?\]')
-    return name.sub(lambda it: '"text":' + json.dumps(text_of(it[1], it[2] or ""), ensure_ascii=False)[:-1], out)
+    """JSON in which [NAME] has become the text of that warning, whose level comes first."""
+    name = re.compile(r'("line":[^,]*,"name":"[a-z0-9-]+","text":)"\[([a-z0-9-]+)(?: ([^]]*))?\]')
+    text = lambda it: json.dumps(text_of(it[2], it[3] or ""), ensure_ascii=False)[:-1]
+    return name.sub(lambda it: f'"level":"{LEVELS[it[2]]}",{it[1]}{text(it)}', out)
 
 
 def wanted_of(case):
@@ -157,4 +161,6 @@ def wanted_of(case):
     if "room" in case:
         out = out[: case["room"] if case["room"] != "closed" else 0]
     warnings = spelled(case.get("warn", "")).decode().splitlines()
-    return Result(case.get("status", 0), out, lines(case.get("err", "")) + "".join(map(warning_line, warnings)).encode())
+    named = re.search(r"(?:-q?f ?|--file[ =])(?!- )(\S+)", case.get("args", ""))
+    file = named[1] if named else "robots.txt"
+    return Result(case.get("status", 0), out, lines(case.get("err", "")) + "".join(warning_line(it, file) for it in warnings).encode())

@@ -9,7 +9,7 @@ import shlex
 import subprocess
 
 import pytest
-from support import CRATES, DOCUMENTS, ROOT, WARNINGS, run, shown, spelled, tables
+from support import CRATES, DOCUMENTS, LEVELS, ROOT, WARNINGS, run, shown, spelled, tables
 
 LIBRARY = CRATES / "texting_robots"
 README, GUIDE, PROGRAMS, PROOFS, CONTRACTS = map(DOCUMENTS.get, ["README.md", *(f"docs/{name}.md" for name in ("GUIDE", "PROGRAMS", "PROOFS", "CONTRACTS"))])
@@ -223,7 +223,7 @@ PREFIXED = ("**An ignored line", "**A directive", "**A rule", "**A delay")
 def examples_of_warnings():
     """Each warning with its example: the arguments and the file."""
     for part in re.split(r"\n(?=\*\*)", section(PROGRAMS, "Warnings")):
-        for name, example, _ in (row for row in tables(part) if row[0].strip("`") in WARNINGS):
+        for name, _, example, _ in (row for row in tables(part) if row[0].strip("`") in WARNINGS):
             what, text = re.fullmatch(r"(AGENT|URL|) ?`(.*)`", example).groups()
             bytes_of = spelled(text.replace("⏎", "\n"))
             args = {"AGENT": [bytes_of], "URL": ["FerrisBot", bytes_of]}.get(what, ["FerrisBot"])
@@ -242,8 +242,9 @@ def test_each_warning_has_an_example():
 
 def test_warnings_have_the_order_and_messages_of_the_table():
     table = (CRATES / "robots_warnings/src/table.rt").read_text()
-    rows = re.findall(r'\(Cause::\w+, "([a-z0-9-]+)",\s+"((?:[^"\\]|\\.)*)"\)', table)
-    messages = [(name, text.replace('\\"', '"').replace("\\\\", "\\")) for name, text in rows]
+    rows = re.findall(r'\(Cause::\w+, Level::(\w+), "([a-z0-9-]+)",\s+"((?:[^"\\]|\\.)*)"\)', table)
+    messages = [(name, text.replace('\\"', '"').replace("\\\\", "\\")) for _, name, text in rows]
+    assert {name: level.lower() for level, name, _ in rows} == LEVELS
     documented = [(name, text) for name, texts in WARNINGS.items() for text in texts]
     names = ["User-agent", "Allow", "Disallow", "Sitemap", "Crawl-delay"]
     assert messages == [(name, text.replace("KEY", key)) for name, text in documented for key in (names if "KEY" in text else [""])]

@@ -1,14 +1,20 @@
 -- The results of a run.
 use Rattle.std.proofs.Common.{◌≡◌, ◌≢◌, ◌∙◌, ℕ, List, IfSome, Option, None, Some}
 use Rattle.std.proofs.Common.{Result, Ok, Err, IsErrOf}
-use Rattle.std.proofs.Common.{[], refl, subst, sym}
+use Rattle.std.proofs.Common.{[], refl, subst, sym, drop, length, map, slice_index_or, ◌+◌, ◌<◌, ◌||◌}
+use Rattle.std.proofs.lemmas.List.{drop_more}
+use Rattle.robots_warnings.specs.declared.level.Level.{Level}
+use Rattle.robots_warnings.specs.declared.warning.Warning.{Warning}
+use Rattle.robots_warnings.specs.Internal.{warning_value}
+use Rattle.robots_warnings.specs.Level.{reaches}
+use Rattle.robots_warnings.specs.Table.{level_of}
 use Rattle.std.specs.Io.KnownBytes.{Keeps}
 use Rattle.robots_io.specs.Streams.{AppendsBeginning}
 use Rattle.robots_audit.specs.declared.command.Request.{Request}
 use Rattle.robots_audit.specs.declared.fault.Fault.{Fault}
 use Rattle.robots_audit.specs.declared.fault.Fault.TheVariants.{Write}
 use Rattle.robots_audit.specs.declared.fault.Outcome.{Outcome}
-use Rattle.robots_audit.specs.Answer.{Audits, Ends, HasAudit, requested_by, output}
+use Rattle.robots_audit.specs.Answer.{Audits, Ends, HasAudit, is_warned, requested_by, output}
 use Rattle.robots_audit.specs.Fault.{MayFail, fault_of_read}
 use Rattle.robots_io.specs.declared.streams.ReadFault.{ReadFault}
 use Rattle.robots_io.specs.declared.streams.ReadFault.TheVariants as cause
@@ -44,7 +50,6 @@ failed request ends (Err found) file fault is read other may kept =
         fault = subst MayFail same may;
         beginning = λ wrote. absurd (other (same ∙ cc));
       };
-      strict = tt;
       nothing_written = λ _. kept;
     }
 
@@ -69,6 +74,12 @@ broken_off request ends (Err fault) file is read begun =
       file = file;
       read = read;
       reported = record { ok = tt; fault = subst MayFail same tt; beginning = λ _. begun };
-      strict = tt;
       nothing_written = λ other. absurd (other (sym same));
     }
+
+-- whether a warning from index `at` on is at the level, in terms of the warning there
+pub warned_next : (least : Level) (warnings : List Warning) (at : ℕ) (warning : Warning)
+    → at < length warnings → is_warned (Some least) (map warning_value (drop at warnings))
+    ≡ (reaches (level_of (slice_index_or warnings at warning).cause) least
+    || is_warned (Some least) (map warning_value (drop (at + 1) warnings)))
+warned_next least warnings at warning below = rw (drop_more warnings at warning below) refl

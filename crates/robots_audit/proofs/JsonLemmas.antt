@@ -37,7 +37,8 @@ use Rattle.robots_warnings.specs.File.{is_blank, lines_of}
 use Rattle.robots_audit.specs.Rows.{kind_text}
 use Rattle.robots_io.specs.Sanitize.{IsPrintable, is_printable, is_printable_byte}
 use Rattle.robots_warnings.specs.Warnings.{WarningValue}
-use Rattle.robots_warnings.proofs.PrintableLemmas.{names_printable, text_printable}
+use Rattle.robots_warnings.proofs.PrintableLemmas.{names_printable, text_printable, word_printable}
+use Rattle.robots_warnings.specs.Table.{level_of}
 use Rattle.robots_io.proofs.SanitizeLemmas.{append_printable, ascii_printable, char_printable}
 use Rattle.robots_io.proofs.SanitizeLemmas.{decimal_printable}
 use Rattle.robots_io.proofs.SanitizeLemmas.{nil_printable}
@@ -306,8 +307,15 @@ line_has label = (
 )
 
 warning_has : (warning : WarningValue) → HasPrintable (warning_json warning)
-warning_has warning =
-    (refl, number_has warning.line, (refl, names_printable warning.cause, (refl, text_printable warning, tt)))
+warning_has warning = (
+  refl,
+  word_printable (level_of warning.cause),
+  (
+    refl,
+    number_has warning.line,
+    (refl, names_printable warning.cause, (refl, text_printable warning, tt)),
+  ),
+)
 
 pub json_printable : (has_rows : Bool) (audit : AuditValue) → IsPrintable (json_text has_rows audit)
 json_printable has_rows audit =

@@ -14,18 +14,18 @@ use Rattle.robots_io.specs.Lines.{ended}
 use Rattle.robots_io.specs.Verdicts.{verdict_front}
 use Rattle.robots_audit.specs.declared.group.Group.{Group}
 use Rattle.robots_audit.specs.declared.group.Group.TheVariants.{Everyone, Named, Nobody, Star}
-use Rattle.robots_audit.specs.Answer.{has_rows, output, message}
+use Rattle.robots_audit.specs.Answer.{has_rows, output, message, shown_name}
 use Rattle.robots_audit.specs.Audit.{AgentValue, RequestValue, AuditValue, VerdictValue}
 use Rattle.robots_audit.specs.Delay.{delay_line, delay_text, fraction, million, seconds}
 use Rattle.robots_audit.specs.Json.{json_text}
 use Rattle.robots_audit.specs.Report.{agent_lines, group_line, nobody_text, rejected_lines, report_lines}
-use Rattle.robots_audit.specs.Report.{message_line, verdict_line}
+use Rattle.robots_audit.specs.Report.{verdict_line}
 use Rattle.robots_audit.specs.Report.{warning_lines}
 use Rattle.robots_warnings.specs.File.{space}
 use Rattle.robots_audit.specs.Rows.{has_value, kind_text, label_text, right_aligned, row, rows}
 use Rattle.robots_audit.specs.Rows.{value_text, word_and_value, word_width}
 use Rattle.robots_io.specs.Sanitize.{IsPrintable}
-use Rattle.robots_warnings.specs.Warnings.{WarningValue, warning_line}
+use Rattle.robots_warnings.specs.Warnings.{warning_line}
 use Rattle.robots_audit.proofs.JsonLemmas.{json_printable, kind_printable}
 use Rattle.robots_warnings.proofs.PrintableLemmas.{line_printable}
 use Rattle.robots_io.proofs.SanitizeLemmas.{append_printable, ascii_printable, blanks_printable}
@@ -51,18 +51,13 @@ either_printable false one two is too = too
 
 -- ---- warnings
 
-message_line_printable : (warning : WarningValue) → IsPrintable (message_line warning)
-message_line_printable warning =
-    let head = codes "robots_audit: warning: " in
-    append_printable true head (warning_line warning) (ascii_printable true head refl)
-    (line_printable warning)
-
 pub message_printable : (requested : RequestValue) (audit : AuditValue)
     → IsPrintable (message requested audit)
 message_printable requested audit =
-    either_printable requested.is_json [] (ended (warning_lines audit.warnings)) (nil_printable true)
-    (ended_printable (warning_lines audit.warnings)
-    (each_map message_line message_line_printable audit.warnings))
+    let file = shown_name requested.file in
+    either_printable requested.is_json [] (ended (warning_lines file audit.warnings)) (nil_printable true)
+    (ended_printable (warning_lines file audit.warnings)
+    (each_map (warning_line file) (line_printable file) audit.warnings))
 
 -- ---- rows
 

@@ -1,8 +1,9 @@
 -- The result of a run. `Appends` and `Keeps` claim nothing about a writer whose bytes the specification
 -- can't observe.
-use Rattle.std.specs.Prelude.{◌≡◌, ◌≢◌, ℕ, ◌==◌, Bool, true, false, not, List, [], Option}
-use Rattle.std.specs.Prelude.{Result, if◌then◌else◌, is_some, length}
+use Rattle.std.specs.Prelude.{◌≡◌, ◌≢◌, ℕ, Bool, true, false, List, [], None, Option, Some}
+use Rattle.std.specs.Prelude.{Result, codes, if◌then◌else◌, is_some}
 use Rattle.std.specs.Prelude.{IfErr, IfOk, IfSome, IsErrOf, map, option_map, string_bytes}
+use Rattle.std.specs.List.{list_any}
 use Rattle.std.specs.Io.KnownBytes.{Appends, Keeps}
 use Rattle.robots_io.specs.Streams.{AppendsBeginning}
 use Rattle.robots_io.specs.Lines.{ended}
@@ -15,6 +16,10 @@ use Rattle.robots_audit.specs.Fault.{MayFail}
 use Rattle.robots_audit.specs.Json.{json_text}
 use Rattle.robots_audit.specs.Report.{report_lines, warning_lines}
 use Rattle.robots_io.specs.Sanitize.{sanitized, sanitized_lines}
+use Rattle.robots_warnings.specs.declared.level.Level.{Level}
+use Rattle.robots_warnings.specs.Level.{reaches}
+use Rattle.robots_warnings.specs.Table.{level_of}
+use Rattle.robots_warnings.specs.Warnings.{WarningValue}
 
 -- the bytes that the reader has left, and those that the writer held before and holds after the run; `None`
 -- if the specification can't observe them
@@ -26,10 +31,12 @@ pub record Ends : Type 0 where
 -- the request, by value
 abbrev pub requested_by : Request → RequestValue
 requested_by request = record {
+  file = option_map (λ name. name.now) request.file;
   agent = option_map (λ agent. agent.now) request.agent;
   urls = map (λ url. url.now) request.urls.items;
   is_quiet = request.is_quiet;
   is_json = request.is_json;
+  strict = request.strict;
   only = map (λ name. name.now) request.only.items;
   ignored = map (λ name. name.now) request.ignored.items;
 }
@@ -46,18 +53,26 @@ output requested audit =
     if requested.is_json then json_text (has_rows requested) audit
     else ended (report_lines (has_rows requested) audit)
 
+-- the name of the file before a warning, so that editors can open it
+abbrev pub shown_name : Option (List ℕ) → List ℕ
+shown_name None = codes "robots.txt"
+shown_name (Some name) = name
+
 -- the message on standard error: the warnings, unless they are in the JSON
 abbrev pub message : RequestValue → AuditValue → List ℕ
-message requested audit = if requested.is_json then [] else ended (warning_lines audit.warnings)
+message requested audit =
+    if requested.is_json then [] else ended (warning_lines (shown_name requested.file) audit.warnings)
 
--- there are warnings
-abbrev pub is_warned : AuditValue → Bool
-is_warned audit = not (length audit.warnings == 0)
+-- a warning is at the level of `--strict`, or at a more serious one
+abbrev pub is_warned : Option Level → List WarningValue → Bool
+is_warned None warnings = false
+is_warned (Some least) warnings =
+    list_any (λ (warning : WarningValue). reaches (level_of warning.cause) least) warnings
 
 pub record IsOutcomeOf (requested : RequestValue) (audit : AuditValue) (outcome : Outcome) : Type 0 where
   pub rejected : outcome.is_rejected ≡ rejects_some audit.agents
   pub allowed : outcome.all_allowed ≡ all_allowed audit.agents
-  pub warned : outcome.is_warned ≡ is_warned audit
+  pub warned : outcome.is_warned ≡ is_warned requested.strict audit.warnings
   pub warnings : string_bytes outcome.warnings ≡ message requested audit
 
 -- ---- a run
@@ -77,13 +92,12 @@ pub record AuditsFile (request : Request) (ends : Ends) (result : Result Outcome
   pub beginning : IsErrOf result Write → HasAudit (requested_by request) file (λ audit.
       AppendsBeginning ends.old ends.new (output (requested_by request) audit))
 
--- `AuditsFile` holds for a file, which is what the reader has left if that can be observed; the outcome is
--- strict if the request is; and after an error other than a failed write nothing has been written
+-- `AuditsFile` holds for a file, which is what the reader has left if that can be observed; and after an
+-- error other than a failed write nothing has been written
 pub record Audits (request : Request) (ends : Ends) (result : Result Outcome Fault) : Type 0 where
   pub file : List ℕ
   pub read : IfSome ends.left (λ left. file ≡ left)
   pub reported : AuditsFile request ends result file
-  pub strict : IfOk result (λ outcome. outcome.is_strict ≡ request.is_strict)
   pub nothing_written : IfErr result (λ fault. fault ≢ Write → Keeps ends.old ends.new)
 
 -- the help or the version is written, or if the write fails a prefix of it; the outcome has no warnings,
@@ -92,7 +106,7 @@ pub record Helps (text : List ℕ) (old new : Option (List ℕ)) (result : Resul
     : Type 0 where
   pub ok : IfOk result (λ outcome. Appends old new text)
   pub quiet : IfOk result (λ outcome. (outcome.is_rejected ≡ false) × (outcome.all_allowed ≡ true)
-      × (outcome.is_strict ≡ false)
+      × (outcome.is_warned ≡ false)
       × (string_bytes outcome.warnings ≡ []))
   pub fault : IfErr result (λ fault. fault ≡ Write)
   pub beginning : AppendsBeginning old new text

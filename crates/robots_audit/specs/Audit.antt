@@ -13,17 +13,21 @@ use Rattle.robots_audit.specs.declared.group.Group.{Group}
 use Rattle.robots_audit.specs.declared.group.Group.TheVariants.{Everyone, Named, Nobody, Star}
 use Rattle.robots_warnings.specs.Facts.{facts_of}
 use Rattle.robots_warnings.specs.File.{labels_for}
+use Rattle.robots_warnings.specs.declared.level.Level.{Level}
 use Rattle.robots_warnings.specs.Warnings.{WarningValue, warnings}
 use Rattle.robots_audit.specs.Chosen.{chosen}
 
--- a request: the crawler, or `None` for `*` and each that the file names; the URLs; whether the rows are
--- left out; whether the report is JSON; the names of the warnings that are reported, where an empty list
--- means all; and the names of those that are left out
+-- a request: the name of the file, or `None` for standard input; the crawler, or `None` for `*` and each that
+-- the file names; the URLs; whether the rows are left out; whether the report is JSON; the level of `--strict`,
+-- if it is given; the names of the warnings that are reported, where an empty list means all; and the names of
+-- those that are left out
 pub record RequestValue : Type 0 where
+  pub file : Option (List ℕ)
   pub agent : Option (List ℕ)
   pub urls : List (List ℕ)
   pub is_quiet : Bool
   pub is_json : Bool
+  pub strict : Option Level
   pub only : List (List ℕ)
   pub ignored : List (List ℕ)
 

@@ -11,6 +11,8 @@ use Rattle.robots_audit.specs.declared.command.Request.{Request}
 use Rattle.robots_audit.specs.declared.fault.Fault.{Fault}
 use Rattle.robots_audit.specs.declared.fault.Fault.TheVariants.{Memory, UnknownWarning, Usage}
 use Rattle.robots_io.specs.Sanitize.{sanitized}
+use Rattle.robots_warnings.specs.declared.level.Level.{Level}
+use Rattle.robots_warnings.specs.declared.level.Level.TheVariants as level
 use Rattle.robots_warnings.specs.Table.{is_name}
 
 -- the first value of an option or argument
@@ -37,6 +39,12 @@ abbrev pub file_read : Option (List ℕ) → Option (List ℕ)
 file_read None = None
 file_read (Some name) = if bytes_eq name (codes "-") then None else Some name
 
+-- the level with this word; `clap` accepts none but those of the three levels
+abbrev pub level_named : List ℕ → Level
+level_named word =
+    if bytes_eq word (codes "error") then level.Error
+    else if bytes_eq word (codes "note") then level.Note else level.Warning
+
 -- the arguments are a product token and URLs; without a crawler they are all URLs
 abbrev pub AreWordsOf : Option (List ℕ) → List (List ℕ) → List (List ℕ) → Type 0
 AreWordsOf (Some agent) urls words = words ≡ agent ∷ urls
@@ -51,7 +59,7 @@ pub record IsRequestOf (matches : ArgMatches) (request : Request) : Type 0 where
   pub file : option_map (λ name. name.now) request.file ≡ file_read (value_of matches (codes "file"))
   pub quiet : IsOn matches (codes "quiet") request.is_quiet
   pub json : IsOn matches (codes "json") request.is_json
-  pub strict : IsOn matches (codes "strict") request.is_strict
+  pub strict : request.strict ≡ option_map level_named (value_of matches (codes "strict"))
   pub agents : IsOn matches (codes "agents") (is_none request.agent)
   pub words : AreWordsOf (option_map (λ agent. agent.now) request.agent)
       (map (λ url. url.now) request.urls.items) (words_of matches)

@@ -1,5 +1,5 @@
 -- The message for each error, and the exit status.
-use Rattle.std.specs.Prelude.{ℕ, not, ◌&&◌, List, [], ◌∷◌, ◌++◌, Result, Ok, Err}
+use Rattle.std.specs.Prelude.{ℕ, not, List, [], ◌∷◌, ◌++◌, Result, Ok, Err}
 use Rattle.std.specs.Prelude.{⊤, codes, if◌then◌else◌, string_bytes}
 use Rattle.robots_io.specs.Lines.{lf}
 use Rattle.robots_io.specs.declared.streams.ReadFault.{ReadFault}
@@ -42,13 +42,13 @@ abbrev pub message_after : Result Outcome Fault → List ℕ
 message_after (Ok outcome) = string_bytes outcome.warnings
 message_after (Err fault) = fault_text fault
 
--- the exit status: 2 after an error; 1 if some URL is denied, or if `--strict` is given and there are
--- warnings; else 0
+-- the exit status: 2 after an error, or if the file is rejected; 1 if some URL is denied; 3 if there is a
+-- warning at the level of `--strict`; else 0
 abbrev pub status_after : Result Outcome Fault → ℕ
 status_after (Ok outcome) =
     if outcome.is_rejected then 2
     else if not outcome.all_allowed then 1
-    else if outcome.is_strict && outcome.is_warned then 1 else 0
+    else if outcome.is_warned then 3 else 0
 status_after (Err fault) = 2
 
 -- ---- possible errors

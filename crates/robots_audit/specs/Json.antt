@@ -13,9 +13,10 @@ use Rattle.robots_audit.specs.declared.group.Group.{Group}
 use Rattle.robots_audit.specs.declared.group.Group.TheVariants.{Everyone, Named, Nobody, Star}
 use Rattle.robots_audit.specs.Audit.{AgentValue, AuditValue, VerdictValue}
 use Rattle.robots_warnings.specs.File.{lines_of}
+use Rattle.robots_warnings.specs.Level.{level_word}
 use Rattle.robots_audit.specs.Rows.{has_value, kind_text, value_text}
 use Rattle.robots_io.specs.Sanitize.{sanitized}
-use Rattle.robots_warnings.specs.Table.{name_of}
+use Rattle.robots_warnings.specs.Table.{level_of, name_of}
 use Rattle.robots_warnings.specs.Warnings.{WarningValue, warning_text}
 
 -- ---- values
@@ -79,12 +80,13 @@ line_json label = object
 
 -- ---- the audit
 
--- a warning: the number of its line, its name and its message
+-- a warning: its level, the number of its line, its name and its message
 abbrev pub warning_json : WarningValue → Data
 warning_json warning = object
+    (member (codes "level") (string (level_word (level_of warning.cause)))
     (member (codes "line") (number_json warning.line)
     (member (codes "name") (string (name_of warning.cause))
-    (member (codes "text") (string (warning_text warning)) no_members)))
+    (member (codes "text") (string (warning_text warning)) no_members))))
 
 -- what the file means for each crawler, the lines if there are rows, the sitemaps and the warnings
 abbrev pub audit_json : Bool → AuditValue → Data

@@ -56,9 +56,6 @@ report_lines has_rows audit =
 
 -- ---- warnings
 
--- a warning, with the program's name before it
-abbrev pub message_line : WarningValue → List ℕ
-message_line warning = codes "robots_audit: warning: " ++ warning_line warning
-
-abbrev pub warning_lines : List WarningValue → List (List ℕ)
-warning_lines warnings = map message_line warnings
+-- the warnings about the file with this name
+abbrev pub warning_lines : List ℕ → List WarningValue → List (List ℕ)
+warning_lines file warnings = map (warning_line file) warnings

@@ -2,11 +2,13 @@
 ghost use Rattle.std.specs.Prelude.{◌≡◌, ◌++◌, IfErr, IfOk, IsTrue, OnOk, map, option_map};
 ghost use Rattle.std.specs.List.{list_all};
 ghost use Rattle.robots_warnings.specs.Table.{is_name};
-ghost use Rattle.robots_audit.specs.Command.{AreNamesOf, Asks, IsUnknown, IsUnknownIn, file_read, values_of, words_of};
+ghost use Rattle.robots_audit.specs.Command.{AreNamesOf, Asks, IsUnknown, IsUnknownIn, file_read, level_named, values_of, words_of};
 
 use crate::fault::Fault;
+use clap::builder::ValueParser;
 use clap::{Arg, ArgAction, ArgMatches, Command};
 use robots_io::sanitize::push_sanitized;
+use robots_warnings::level::Level;
 use robots_warnings::table::is_name;
 use std::alloc::{AllocError, Global};
 
@@ -19,8 +21,8 @@ pub struct Request<'a> {
     pub is_quiet: bool,
     /// Whether the report is JSON.
     pub is_json: bool,
-    /// Whether a warning leads to exit status 1, as a denied URL does.
-    pub is_strict: bool,
+    /// A warning at this level, or at a more serious one, leads to exit status 3; `None` if no warning does.
+    pub strict: Option<Level>,
     /// The product token of the crawler; `None` for `*` and each crawler that the file names.
     pub agent: Option<&'a str>,
     /// The URLs or paths to check.
@@ -58,7 +60,19 @@ fn with_words<'a>(alloc: Global, called: Command<'a>) -> Result<Command<'a>, All
     called.arg(file)
 }
 
-/// Adds the options without a value.
+/// The option `--strict`, whose value can only follow a `=`, as AGENT may follow the option.
+fn strict<'a>(alloc: Global) -> Arg<'a> {
+    Arg::new(alloc, "strict")
+        .long("strict")
+        .value_name("LEVEL")
+        .num_args(0..=1)
+        .require_equals(true)
+        .default_missing_value("warning")
+        .value_parser(ValueParser::Names(&["error", "warning", "note"]))
+        .help("Exit with status 3 if there is a warning at this level or a more serious one")
+}
+
+/// Adds the options without a value, and `--strict`.
 fn with_switches<'a>(alloc: Global, called: Command<'a>) -> Result<Command<'a>, AllocError> {
     let agents = switch(
         alloc,
@@ -70,8 +84,7 @@ fn with_switches<'a>(alloc: Global, called: Command<'a>) -> Result<Command<'a>, 
     let called = called.arg(quiet.short('q'))?;
     let json = switch(alloc, "json", "Write JSON, with the warnings in it");
     let called = called.arg(json)?;
-    let strict = switch(alloc, "strict", "Exit with status 1 if there are warnings");
-    called.arg(strict)
+    called.arg(strict(alloc))
 }
 
 /// An option whose value is the name of a warning, and which can be repeated.
@@ -116,6 +129,29 @@ fn file_read<'a>(name: Option<&'a str>) -> Option<&'a str>
     match name {
         Some(name) if name != "-" => Some(name),
         _ => None,
+    }
+}
+
+/// The level with this word. `clap` accepts none but those of the three levels.
+fn level_named(word: &str) -> Level
+    ensures { result ≡ level_named word.now }
+{
+    if word == "error" {
+        Level::Error
+    } else if word == "note" {
+        Level::Note
+    } else {
+        Level::Warning
+    }
+}
+
+/// The level that the value of `--strict` names, if the option is given.
+fn strict_level(word: Option<&str>) -> Option<Level>
+    ensures { result ≡ option_map level_named (option_map (λ word. word.now) word.entry) }
+{
+    match word {
+        Some(word) => Some(level_named(word)),
+        None => None,
     }
 }
 
@@ -208,7 +244,7 @@ pub fn requested<'a>(alloc: Global, matches: &ArgMatches<'a>) -> Result<Request<
         file: file_read(matches.get_str("file")),
         is_quiet: matches.get_flag("quiet"),
         is_json: matches.get_flag("json"),
-        is_strict: matches.get_flag("strict"),
+        strict: strict_level(matches.get_str("strict")),
         agent,
         urls,
         only: names_of(alloc, matches, "only")?,

@@ -13,12 +13,10 @@ pub struct Outcome {
     pub is_rejected: bool,
     /// Whether each of the other crawlers may fetch every URL of the request.
     pub all_allowed: bool,
-    /// Whether there are warnings.
+    /// Whether a warning is at the level of `--strict`, or at a more serious one.
     pub is_warned: bool,
     /// The warnings, one per line; empty if they are in the report.
     pub warnings: String,
-    /// Whether a warning leads to exit status 1, as a denied URL does.
-    pub is_strict: bool,
 }
 
 /// The error that ended a run.
@@ -148,7 +146,7 @@ pub fn status_after(outcome: &Result<Outcome, Fault>) -> u8
     match outcome {
         Ok(outcome) if outcome.is_rejected => 2,
         Ok(outcome) if !outcome.all_allowed => 1,
-        Ok(outcome) if outcome.is_strict && outcome.is_warned => 1,
+        Ok(outcome) if outcome.is_warned => 3,
         Ok(_) => 0,
         Err(_) => 2,
     }

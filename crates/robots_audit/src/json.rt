@@ -192,6 +192,7 @@ impl<'a> Json for Warning<'a> {
         let mut text = String::new(alloc);
         push_warning_text(&mut text, self)?;
         json!(in alloc; {
+            "level": self.cause.level().word(),
             "line": self.line,
             "name": self.cause.name(),
             "text": text,

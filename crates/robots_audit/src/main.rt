@@ -6,8 +6,8 @@
 //!
 //! `robots_audit [OPTIONS] AGENT [URL]..`
 //!
-//! The exit status is 0 if every URL is allowed; 1 if some URL is denied, or with `--strict` if there are warnings; and
-//! 2 after an error or if the file is rejected for a crawler of the report.
+//! The exit status is 0 if every URL is allowed; 1 if some URL is denied; 2 after an error or if the file is rejected for
+//! a crawler of the report; and with `--strict` 3 if there is a warning at its level.
 #![tactic(auto)]
 
 ghost use Rattle.std.specs.Prelude.{IfErr};

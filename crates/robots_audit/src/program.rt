@@ -1,7 +1,8 @@
 //! The program for any reader and writer, without the command line.
-ghost use Rattle.std.specs.Prelude.{◌≡◌, ◌==◌, IfOk, length, not, string_bytes};
-ghost use Rattle.robots_audit.specs.Answer.{Audits, Helps, IsRejection, IsFileUnreadable, requested_by, has_rows, output, message};
+ghost use Rattle.std.specs.Prelude.{◌≡◌, IfOk, Some, map, option_map, string_bytes};
+ghost use Rattle.robots_audit.specs.Answer.{Audits, Helps, IsRejection, IsFileUnreadable, requested_by, has_rows, is_warned, output, message, shown_name};
 ghost use Rattle.robots_audit.specs.Internal.{audit_value};
+ghost use Rattle.robots_warnings.specs.Internal.{warning_value};
 
 use crate::audit::{Audit, all_allowed, audit_of, rejects_some};
 use crate::command::Request;
@@ -10,15 +11,42 @@ use crate::json::json_text;
 use crate::report::{report_text, warning_lines};
 use robots_io::sanitize::{push_sanitized, push_sanitized_lines};
 use robots_io::streams::{read_all, write_out};
+use robots_warnings::level::Level;
 use robots_warnings::warning::Warning;
 use std::alloc::{AllocError, Global};
 use std::io::{Read, Write};
 
-/// Whether there are warnings.
-fn is_warned(warnings: &[Warning<'_>]) -> bool
-    ensures { result ≡ not (length warnings.now == 0) }
+/// Whether a warning is at this level, or at a more serious one.
+#[tactic(auto, using(crate::proofs::AnswerLemmas::warned_next))]
+fn has_level(least: Level, warnings: &[Warning<'_>]) -> bool
+    ensures { result ≡ is_warned (Some least) (map warning_value warnings.now) }
 {
-    !warnings.is_empty()
+    for warning in warnings {
+        if warning.cause.level().reaches(least) {
+            return true;
+        }
+    }
+    false
+}
+
+/// Whether a warning is at the level of `--strict`, or at a more serious one.
+fn is_warned(strict: Option<Level>, warnings: &[Warning<'_>]) -> bool
+    ensures { result ≡ is_warned strict (map warning_value warnings.now) }
+{
+    match strict {
+        Some(least) => has_level(least, warnings),
+        None => false,
+    }
+}
+
+/// The name of the file before a warning.
+fn shown_name<'a>(file: Option<&'a str>) -> &'a str
+    ensures { result.now ≡ shown_name (option_map (λ name. name.now) file.entry) }
+{
+    match file {
+        Some(name) => name,
+        None => "robots.txt",
+    }
 }
 
 /// Whether the report has rows.
@@ -51,7 +79,7 @@ fn message(
     if request.is_json {
         Ok(String::new(alloc))
     } else {
-        warning_lines(alloc, &audit.warnings)
+        warning_lines(alloc, shown_name(request.file), &audit.warnings)
     }
 }
 
@@ -85,9 +113,8 @@ pub fn run<R: Read, W: Write>(
     Ok(Outcome {
         is_rejected: rejects_some(&audit.agents),
         all_allowed: all_allowed(&audit.agents),
-        is_warned: is_warned(&audit.warnings),
+        is_warned: is_warned(request.strict, &audit.warnings),
         warnings,
-        is_strict: request.is_strict,
     })
 }
 
@@ -101,7 +128,6 @@ pub fn help<W: Write>(alloc: Global, text: &str, writer: &mut W) -> Result<Outco
         all_allowed: true,
         is_warned: false,
         warnings: String::new(alloc),
-        is_strict: false,
     })
 }
 

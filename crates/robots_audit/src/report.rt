@@ -1,9 +1,10 @@
 //! The audit as lines of text.
 ghost use Rattle.std.specs.Prelude.{◌≡◌, ◌++◌, ◌∷◌, [], IfOk, OnOk, flat_map, map, string_bytes};
 ghost use Rattle.robots_io.specs.Lines.{ended};
-ghost use Rattle.robots_audit.specs.Report.{agent_lines, group_line, group_text, nobody_text, rejected_front, rejected_lines, report_lines, message_line, verdict_line, warning_lines};
+ghost use Rattle.robots_audit.specs.Report.{agent_lines, group_line, group_text, nobody_text, rejected_front, rejected_lines, report_lines, verdict_line, warning_lines};
 ghost use Rattle.robots_io.specs.Sanitize.{sanitized};
 ghost use Rattle.robots_warnings.specs.Internal.{warning_value};
+ghost use Rattle.robots_warnings.specs.Warnings.{warning_line};
 ghost use Rattle.robots_audit.specs.Internal.{agent_value, audit_value, verdict_value};
 
 use crate::audit::{AgentAudit, Audit, Verdict};
@@ -149,25 +150,28 @@ pub(crate) fn report_text(
     Ok(text)
 }
 
-/// Appends the line with a warning.
-fn push_warning_line(text: &mut String, warning: &Warning<'_>) -> Result<(), AllocError>
+/// Appends the line with a warning about the file with this name.
+fn push_warning_line(text: &mut String, file: &str, warning: &Warning<'_>) -> Result<(), AllocError>
     ensures { OnOk result (string_bytes text.new ≡ string_bytes text.old
-        ++ ended (message_line (warning_value warning.now) ∷ [])) }
+        ++ ended (warning_line file.now (warning_value warning.now) ∷ [])) }
 {
-    text.push_str("robots_audit: warning: ")?;
-    push_warning(text, warning)?;
+    push_warning(text, file, warning)?;
     text.push('\n')?;
     Ok(())
 }
 
-/// The warnings, one per line.
-pub(crate) fn warning_lines(alloc: Global, warnings: &[Warning<'_>]) -> Result<String, AllocError>
+/// The warnings about the file with this name, one per line.
+pub(crate) fn warning_lines(
+    alloc: Global,
+    file: &str,
+    warnings: &[Warning<'_>],
+) -> Result<String, AllocError>
     ensures { IfOk result (λ text. string_bytes text
-        ≡ ended (warning_lines (map warning_value warnings.now))) }
+        ≡ ended (warning_lines file.now (map warning_value warnings.now))) }
 {
     let mut text = String::new(alloc);
     for warning in warnings {
-        push_warning_line(&mut text, warning)?;
+        push_warning_line(&mut text, file, warning)?;
     }
     Ok(text)
 }

@@ -1,12 +1,15 @@
 -- Warnings contain no control or bidirectional-formatting characters other than LF.
 use Rattle.std.proofs.Common.{◌≡◌, ℕ, zero, suc, true, List, [], ◌∷◌, ◌++◌, Option, Some, None, Bool, map}
-use Rattle.std.proofs.Common.{refl}
+use Rattle.std.proofs.Common.{codes, refl}
 use Rattle.std.{specs.List.list_all, specs.Prelude.slice_index_or, proofs.lemmas.Bool.and_parts}
 use Rattle.robots_warnings.specs.declared.table.Cause.{Cause}
 use Rattle.robots_warnings.specs.declared.table.TheConstants.{WARNINGS}
-use Rattle.robots_warnings.specs.Table.{name_of, number_of, text_of}
+use Rattle.robots_warnings.specs.Table.{level_of, name_of, number_of, text_of}
+use Rattle.robots_warnings.specs.declared.level.Level.{Level}
+use Rattle.robots_warnings.specs.declared.level.Level.TheVariants.{Error, Note, Warning}
+use Rattle.robots_warnings.specs.Level.{level_word}
 use Rattle.robots_io.specs.Sanitize.{IsPrintable, is_printable_byte}
-use Rattle.robots_warnings.specs.Warnings.{WarningValue, about_text, name_text, place_text, warning_line}
+use Rattle.robots_warnings.specs.Warnings.{WarningValue, about_text, level_text, name_text, place_text, warning_line}
 use Rattle.robots_warnings.specs.Warnings.{warning_text}
 use Rattle.robots_io.proofs.SanitizeLemmas.{append_printable, ascii_printable, decimal_printable}
 use Rattle.robots_io.proofs.SanitizeLemmas.{nil_printable}
@@ -29,12 +32,12 @@ each_ascii (text ∷ texts) (suc at) all =
 pub names_printable : (cause : Cause) → IsPrintable (name_of cause)
 unfolding name_of
 names_printable cause =
-    ascii_printable true (name_of cause) (each_ascii (map (λ row. row.1.now) WARNINGS) (number_of cause) refl)
+    ascii_printable true (name_of cause) (each_ascii (map (λ row. row.2.now) WARNINGS) (number_of cause) refl)
 
 texts_printable : (cause : Cause) → IsPrintable (text_of cause)
 unfolding text_of
 texts_printable cause =
-    ascii_printable true (text_of cause) (each_ascii (map (λ row. row.2.now) WARNINGS) (number_of cause) refl)
+    ascii_printable true (text_of cause) (each_ascii (map (λ row. row.3.now) WARNINGS) (number_of cause) refl)
 
 -- ---- a warning
 
@@ -47,17 +50,31 @@ text_printable warning =
     append_printable true (about_text warning.about) (text_of warning.cause) (about_printable warning.about)
     (texts_printable warning.cause)
 
-place_printable : (line : Option ℕ) → IsPrintable (place_text line)
-place_printable None = nil_printable true
-place_printable (Some number) = search (append_printable true, ascii_printable true, decimal_printable true)
+place_printable : (file : List ℕ) (line : Option ℕ) → IsPrintable (place_text file line)
+place_printable file None = search (append_printable true, ascii_printable true, sanitized_printable)
+place_printable file (Some number) =
+    search (append_printable true, ascii_printable true, decimal_printable true, sanitized_printable)
+
+pub word_printable : (level : Level) → IsPrintable (level_word level)
+word_printable Error = ascii_printable true (level_word Error) refl
+word_printable Warning = ascii_printable true (level_word Warning) refl
+word_printable Note = ascii_printable true (level_word Note) refl
+
+level_printable : (cause : Cause) → IsPrintable (level_text cause)
+level_printable cause =
+    append_printable true (level_word (level_of cause)) (codes ": ") (word_printable (level_of cause))
+    (ascii_printable true (codes ": ") refl)
 
 name_printable : (cause : Cause) → IsPrintable (name_text cause)
 name_printable cause = search (append_printable true, ascii_printable true, names_printable)
 
-pub line_printable : (warning : WarningValue) → IsPrintable (warning_line warning)
+pub line_printable : (file : List ℕ) (warning : WarningValue) → IsPrintable (warning_line file warning)
 unfolding warning_line
-line_printable warning =
+line_printable file warning =
+    let level = level_text warning.cause in
     let text = warning_text warning in
     let name = name_text warning.cause in
-    append_printable true (place_text warning.line) (text ++ name) (place_printable warning.line)
-    (append_printable true text name (text_printable warning) (name_printable warning.cause))
+    append_printable true (place_text file warning.line) (level ++ (text ++ name))
+    (place_printable file warning.line)
+    (append_printable true level (text ++ name) (level_printable warning.cause)
+    (append_printable true text name (text_printable warning) (name_printable warning.cause)))

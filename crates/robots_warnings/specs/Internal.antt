@@ -6,6 +6,7 @@ use Rattle.std.specs.Borrow.{Bor}
 use Rattle.texting_robots.specs.Callers.{LineValue}
 use Rattle.texting_robots.specs.Group.{is_agent}
 use Rattle.robots_warnings.specs.declared.facts.LineKinds.{LineKinds}
+use Rattle.robots_warnings.specs.declared.level.Level.{Level}
 use Rattle.robots_warnings.specs.declared.table.Cause.{Cause}
 use Rattle.robots_warnings.specs.declared.warning.Warning.{Warning}
 use Rattle.robots_warnings.specs.Facts.{has_text, is_extra, is_rule}
@@ -34,7 +35,7 @@ name_value row = (row.0.now, row.1)
 
 -- a row of the table of warnings
 abbrev pub Row : Type 0
-Row = Cause × Bor (List ℕ) × Bor (List ℕ)
+Row = Cause × Level × Bor (List ℕ) × Bor (List ℕ)
 
 -- the row is at this index
 pub record IsRowAt (rows : List Row) (number : ℕ) (row : Row) : Type 0 where

@@ -1,4 +1,5 @@
 pub mod File
+pub mod Level
 pub mod Table
 pub mod Facts
 pub mod Tokens

@@ -1,8 +1,10 @@
--- Every warning, with its name and its message, as in the table of src/table.rt.
+-- Every warning, with its level, its name and its message, as in the table of src/table.rt.
 use Rattle.std.specs.Prelude.{ℕ, Bool, List, [], bytes_eq, map, slice_index_or}
 use Rattle.std.specs.List.{list_any}
 use denote.Enum.Declared.{tag_of}
 use Rattle.robots_warnings.specs.contracts.table.Cause.{the_type}
+use Rattle.robots_warnings.specs.declared.level.Level.{Level}
+use Rattle.robots_warnings.specs.declared.level.Level.TheVariants as level
 use Rattle.robots_warnings.specs.declared.table.Cause.{Cause}
 use Rattle.robots_warnings.specs.declared.table.TheConstants.{WARNINGS}
 
@@ -10,14 +12,18 @@ use Rattle.robots_warnings.specs.declared.table.TheConstants.{WARNINGS}
 abbrev pub number_of : Cause → ℕ
 number_of cause = tag_of the_type cause
 
+-- the level of a warning
+unfoldable pub level_of : Cause → Level
+level_of cause = slice_index_or (map (λ row. row.1) WARNINGS) (number_of cause) level.Warning
+
 -- the name of a warning, as in `[..]`
 unfoldable pub name_of : Cause → List ℕ
-name_of cause = slice_index_or (map (λ row. row.1.now) WARNINGS) (number_of cause) []
+name_of cause = slice_index_or (map (λ row. row.2.now) WARNINGS) (number_of cause) []
 
 -- the message of a warning
 unfoldable pub text_of : Cause → List ℕ
-text_of cause = slice_index_or (map (λ row. row.2.now) WARNINGS) (number_of cause) []
+text_of cause = slice_index_or (map (λ row. row.3.now) WARNINGS) (number_of cause) []
 
 -- some warning has this name
 unfoldable pub is_name : List ℕ → Bool
-is_name name = list_any (λ row. bytes_eq row.1.now name) WARNINGS
+is_name name = list_any (λ row. bytes_eq row.2.now name) WARNINGS

@@ -16,7 +16,8 @@ use Rattle.robots_warnings.specs.File.{lines_of}
 use Rattle.robots_warnings.specs.NamesPastLimit.{names_past_limit}
 use Rattle.robots_warnings.specs.Positions.{last_group, preceding_with}
 use Rattle.robots_io.specs.Sanitize.{sanitized}
-use Rattle.robots_warnings.specs.Table.{name_of, text_of}
+use Rattle.robots_warnings.specs.Level.{level_word}
+use Rattle.robots_warnings.specs.Table.{level_of, name_of, text_of}
 
 -- a warning: the number of its line, if it is about one; the reason; and the URL, if it is about one
 pub record WarningValue : Type 0 where
@@ -26,9 +27,13 @@ pub record WarningValue : Type 0 where
 
 -- ---- as text
 
-abbrev pub place_text : Option ℕ → List ℕ
-place_text None = []
-place_text (Some number) = codes "line " ++ decimal number ++ codes ": "
+-- the name of the file, and the number of the line if the warning is about one
+abbrev pub place_text : List ℕ → Option ℕ → List ℕ
+place_text file None = sanitized file ++ codes ": "
+place_text file (Some number) = sanitized file ++ codes ":" ++ decimal number ++ codes ": "
+
+abbrev pub level_text : Cause → List ℕ
+level_text cause = level_word (level_of cause) ++ codes ": "
 
 -- the URL that a warning is about
 abbrev pub about_text : Option (List ℕ) → List ℕ
@@ -42,9 +47,11 @@ name_text cause = codes " [" ++ name_of cause ++ codes "]"
 abbrev pub warning_text : WarningValue → List ℕ
 warning_text warning = about_text warning.about ++ text_of warning.cause
 
--- the line number, the message and the name
-unfoldable pub warning_line : WarningValue → List ℕ
-warning_line warning = place_text warning.line ++ (warning_text warning ++ name_text warning.cause)
+-- the place, the level, the message and the name
+unfoldable pub warning_line : List ℕ → WarningValue → List ℕ
+warning_line file warning =
+    place_text file warning.line
+    ++ (level_text warning.cause ++ (warning_text warning ++ name_text warning.cause))
 
 -- ---- warnings from checks
 

@@ -7,6 +7,7 @@ mod conflicts;
 pub mod facts;
 pub mod field_names;
 pub mod file;
+pub mod level;
 pub mod names;
 mod names_past_limit;
 pub mod positions;

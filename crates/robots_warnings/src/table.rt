@@ -1,9 +1,11 @@
-//! Every warning, in the order of output: its name, which is shown in `[..]` and is the `name` in JSON, and its
-//! message, which states what is wrong, what happens, and what to do. `checks` has the condition of each.
+//! Every warning, in the order of output: its level, its name, which is shown in `[..]` and is the `name` in JSON, and
+//! its message, which states what is wrong, what happens, and what to do. `checks` has the condition of each.
 ghost use Rattle.std.specs.Prelude.{◌≡◌, ◌<◌, bytes_eq, length};
 ghost use Rattle.std.specs.List.{list_any};
 ghost use Rattle.robots_warnings.specs.Internal.{IsRowAt};
-ghost use Rattle.robots_warnings.specs.Table.{is_name, name_of, text_of};
+ghost use Rattle.robots_warnings.specs.Table.{is_name, level_of, name_of, text_of};
+
+use crate::level::Level;
 
 /// The reason for a warning. Each has a row in [`WARNINGS`].
 #[derive(Clone, Copy, PartialEq, Eq)]
@@ -66,116 +68,116 @@ pub enum Cause {
     AllowedAndDisallowed,
 }
 
-/// The warnings with their names and messages.
+/// The warnings with their levels, names and messages.
 #[rattlefmt::skip]
-pub static WARNINGS: [(Cause, &str, &str); 45] = [
+pub static WARNINGS: [(Cause, Level, &str, &str); 45] = [
     // the file
-    (Cause::LooksLikeHtml, "looks-like-html",
+    (Cause::LooksLikeHtml, Level::Error, "looks-like-html",
         "no usable line found; the file starts with <, so it may be an HTML page; serve a plain-text robots.txt instead"),
-    (Cause::LooksLikeUtf16, "looks-like-utf-16",
+    (Cause::LooksLikeUtf16, Level::Error, "looks-like-utf-16",
         "no usable line found; the file looks like UTF-16; save it as UTF-8"),
-    (Cause::NoDirectives, "no-directives",
+    (Cause::NoDirectives, Level::Error, "no-directives",
         "no usable User-agent, Allow, Disallow, Crawl-delay or Sitemap line found, so everything is allowed; write one directive per line, for example: Disallow: /search"),
-    (Cause::FileTooLarge, "file-too-large",
+    (Cause::FileTooLarge, Level::Warning, "file-too-large",
         "the file is larger than 512,000 bytes (500 KiB); the rest is ignored; shorten it or move important groups to the top"),
-    (Cause::NoUserAgent, "no-user-agent",
+    (Cause::NoUserAgent, Level::Warning, "no-user-agent",
         "there are rules but no User-agent line; valid rules are applied here, but Google ignores them; add User-agent: * above them"),
     // the crawler
-    (Cause::SpaceAroundAgent, "space-around-agent",
+    (Cause::SpaceAroundAgent, Level::Warning, "space-around-agent",
         "AGENT has leading or trailing white space, so it matches no User-agent line; remove the spaces"),
-    (Cause::VersionInAgent, "version-in-agent",
+    (Cause::VersionInAgent, Level::Warning, "version-in-agent",
         "AGENT contains /; names are compared in full, so pass only the product token: FerrisBot, not FerrisBot/1.0"),
     // a URL
-    (Cause::NotAUrlOrPath, "not-a-url-or-path",
+    (Cause::NotAUrlOrPath, Level::Warning, "not-a-url-or-path",
         "neither an http(s) URL nor a path, so it may be matched literally, and the verdict may not be the one you want; write https://host/path or /path"),
-    (Cause::InvalidUrl, "invalid-url",
+    (Cause::InvalidUrl, Level::Warning, "invalid-url",
         "invalid URL; it is matched as a plain string and will usually be reported as allowed; correct the URL"),
     // an ignored line
-    (Cause::InvalidDelay, "invalid-delay",
+    (Cause::InvalidDelay, Level::Warning, "invalid-delay",
         "the delay is ignored: its value is missing, negative or not a number of seconds; write, for example: Crawl-delay: 1.5"),
-    (Cause::NoindexLine, "noindex-line",
+    (Cause::NoindexLine, Level::Warning, "noindex-line",
         "Noindex isn't supported in robots.txt and is ignored; use a robots meta tag or an X-Robots-Tag header, and keep the page crawlable so that crawlers see it"),
-    (Cause::NofollowLine, "nofollow-line",
+    (Cause::NofollowLine, Level::Warning, "nofollow-line",
         "Nofollow isn't supported in robots.txt and is ignored; use a robots meta tag or rel=\"nofollow\" on the links"),
-    (Cause::HostLine, "host-line",
+    (Cause::HostLine, Level::Warning, "host-line",
         "Host isn't supported here and is ignored; redirect the other host names to the preferred one"),
-    (Cause::RequestRateLine, "request-rate-line",
+    (Cause::RequestRateLine, Level::Warning, "request-rate-line",
         "Request-rate isn't supported here and is ignored; use Crawl-delay with the seconds between requests, for example: Crawl-delay: 10"),
-    (Cause::VisitTimeLine, "visit-time-line",
+    (Cause::VisitTimeLine, Level::Warning, "visit-time-line",
         "Visit-time isn't supported here and is ignored; use Crawl-delay, or return HTTP 429 or 503 when the server is busy"),
-    (Cause::CleanParamLine, "clean-param-line",
+    (Cause::CleanParamLine, Level::Note, "clean-param-line",
         "Clean-param isn't supported here and is ignored; use rel=\"canonical\", or block the parameter, for example: Disallow: /*?ref="),
-    (Cause::ContentSignalLine, "content-signal-line",
+    (Cause::ContentSignalLine, Level::Note, "content-signal-line",
         "Content-Signal states how content may be used and doesn't affect crawling; to block a crawler, add a Disallow rule to its group"),
-    (Cause::ContentUsageLine, "content-usage-line",
+    (Cause::ContentUsageLine, Level::Note, "content-usage-line",
         "Content-Usage states how content may be used and doesn't affect crawling; to block a crawler, add a Disallow rule to its group"),
-    (Cause::RobotVersionLine, "robot-version-line",
+    (Cause::RobotVersionLine, Level::Warning, "robot-version-line",
         "Robot-version isn't supported here and is ignored; delete the line"),
-    (Cause::CommentLine, "comment-line",
+    (Cause::CommentLine, Level::Warning, "comment-line",
         "Comment isn't a directive and is ignored; start comments with #"),
-    (Cause::LikeUserAgent, "unrecognized-line",
+    (Cause::LikeUserAgent, Level::Warning, "unrecognized-line",
         "the line is ignored; did you mean \"User-agent:\"?"),
-    (Cause::LikeAllow, "unrecognized-line",
+    (Cause::LikeAllow, Level::Warning, "unrecognized-line",
         "the line is ignored; did you mean \"Allow:\"?"),
-    (Cause::LikeDisallow, "unrecognized-line",
+    (Cause::LikeDisallow, Level::Warning, "unrecognized-line",
         "the line is ignored; did you mean \"Disallow:\"?"),
-    (Cause::LikeSitemap, "unrecognized-line",
+    (Cause::LikeSitemap, Level::Warning, "unrecognized-line",
         "the line is ignored; did you mean \"Sitemap:\"?"),
-    (Cause::LikeCrawlDelay, "unrecognized-line",
+    (Cause::LikeCrawlDelay, Level::Warning, "unrecognized-line",
         "the line is ignored; did you mean \"Crawl-delay:\"?"),
-    (Cause::UnrecognizedLine, "unrecognized-line",
+    (Cause::UnrecognizedLine, Level::Warning, "unrecognized-line",
         "the line isn't a known directive and is ignored; write, for example, \"Disallow: /path\", or start a comment with #"),
     // the field name of a line
-    (Cause::NonstandardField, "nonstandard-field",
+    (Cause::NonstandardField, Level::Warning, "nonstandard-field",
         "nonstandard spelling of the field name; accepted here, but other crawlers may ignore the line; write User-agent, Allow, Disallow, Sitemap or Crawl-delay"),
-    (Cause::MissingColon, "missing-colon",
+    (Cause::MissingColon, Level::Warning, "missing-colon",
         "no colon after the field name; accepted here, but other crawlers may ignore the line; add the colon"),
     // the value of a user-agent line
-    (Cause::InvalidProductToken, "invalid-product-token",
+    (Cause::InvalidProductToken, Level::Warning, "invalid-product-token",
         "not a valid product token (ASCII letters, _ and - only, or a single *); crawlers disagree on how to match it; write one name per User-agent line, without version, quotes or *"),
     // a rule
-    (Cause::RuleNotUtf8, "rule-not-utf-8",
+    (Cause::RuleNotUtf8, Level::Warning, "rule-not-utf-8",
         "the rule isn't valid UTF-8 and is ignored; save the file as UTF-8"),
-    (Cause::MissingSlash, "missing-slash",
+    (Cause::MissingSlash, Level::Error, "missing-slash",
         "the rule doesn't start with / or *, so it matches no path; add a leading /"),
-    (Cause::UrlAsRule, "url-as-rule",
+    (Cause::UrlAsRule, Level::Error, "url-as-rule",
         "the rule starts like a URL, but rules apply to paths, so it matches none; keep only the part after the host, for example: /search"),
-    (Cause::UnencodedCharacter, "unencoded-character",
+    (Cause::UnencodedCharacter, Level::Warning, "unencoded-character",
         "the rule contains a character that usually has another form in URLs (^ { } \\ in a path, ' or a backquote in a query, or a tab); use * in its place"),
-    (Cause::QuotedRule, "quoted-rule",
+    (Cause::QuotedRule, Level::Error, "quoted-rule",
         "the quotes are treated as part of the path, so the rule won't match; remove them"),
-    (Cause::RegexSyntax, "regex-syntax",
+    (Cause::RegexSyntax, Level::Warning, "regex-syntax",
         "this looks like a regular expression, which robots.txt doesn't support; use * for any characters, and a final $ for the end of the URL"),
-    (Cause::DollarNotAtEnd, "dollar-not-at-end",
+    (Cause::DollarNotAtEnd, Level::Warning, "dollar-not-at-end",
         "the rule has a $ before its end, so it matches nothing here (some crawlers match $ literally); use $ only at the end, or * in place of a literal $"),
-    (Cause::NonstandardEscape, "nonstandard-escape",
+    (Cause::NonstandardEscape, Level::Warning, "nonstandard-escape",
         "the rule has a lowercase or unnecessary percent escape; here it can match only URLs written that way; use uppercase (%C3), and don't encode letters, digits, - . _ ~"),
-    (Cause::DotSegment, "dot-segment",
+    (Cause::DotSegment, Level::Error, "dot-segment",
         "the rule contains a . or .. segment, which crawlers resolve in a URL's path before matching; write the resolved path"),
     // a delay
-    (Cause::DelayOverADay, "delay-over-a-day",
+    (Cause::DelayOverADay, Level::Warning, "delay-over-a-day",
         "the delay is longer than a day; the value is in seconds between requests, for example: Crawl-delay: 10"),
     // a sitemap
-    (Cause::SitemapNotAbsolute, "sitemap-not-absolute",
+    (Cause::SitemapNotAbsolute, Level::Warning, "sitemap-not-absolute",
         "the sitemap isn't a valid URL that starts with http:// or https://; write, for example, https://example.com/sitemap.xml"),
     // the position of a line
-    (Cause::RuleBeforeUserAgent, "rule-before-user-agent",
+    (Cause::RuleBeforeUserAgent, Level::Error, "rule-before-user-agent",
         "the rule comes before the first User-agent line, so it belongs to no group and is ignored; move it below the User-agent line it is meant for"),
-    (Cause::EmptyGroup, "empty-group",
+    (Cause::EmptyGroup, Level::Warning, "empty-group",
         "no rule that is read follows this User-agent line, so its group is empty: if the name has no other group, it may fetch everything; add rules or delete the line"),
-    (Cause::DelaySplitsGroup, "delay-splits-group",
+    (Cause::DelaySplitsGroup, Level::Warning, "delay-splits-group",
         "the Crawl-delay above separates this line from the User-agent lines before it, so they don't share the rules below; move it below all of them (some crawlers ignore it)"),
-    (Cause::GroupPastSizeLimit, "group-past-size-limit",
+    (Cause::GroupPastSizeLimit, Level::Warning, "group-past-size-limit",
         "this name isn't in the first 512,000 bytes, so its group is ignored; move the group up or shorten the file"),
-    (Cause::AllowedAndDisallowed, "allowed-and-disallowed",
+    (Cause::AllowedAndDisallowed, Level::Warning, "allowed-and-disallowed",
         "a crawler that gets this Disallow also gets an Allow with the same path, and the Allow wins here; delete the one you don't want"),
 ];
 
 /// The row at this index.
 fn row_at(
-    rows: &'static [(Cause, &'static str, &'static str)],
+    rows: &'static [(Cause, Level, &'static str, &'static str)],
     number: usize,
-) -> &'static (Cause, &'static str, &'static str)
+) -> &'static (Cause, Level, &'static str, &'static str)
     requires { number < length rows.now }
     ensures { IsRowAt rows.now number result.now }
 {
@@ -183,10 +185,10 @@ fn row_at(
 }
 
 /// Whether one of the rows has this name.
-fn has_name(rows: &'static [(Cause, &'static str, &'static str)], name: &str) -> bool
-    ensures { result ≡ list_any (λ row. bytes_eq row.1.now name.now) rows.now }
+fn has_name(rows: &'static [(Cause, Level, &'static str, &'static str)], name: &str) -> bool
+    ensures { result ≡ list_any (λ row. bytes_eq row.2.now name.now) rows.now }
 {
-    rows.iter().any(|row| row.1 == name)
+    rows.iter().any(|row| row.2 == name)
 }
 
 /// Whether a warning has this name.
@@ -199,25 +201,33 @@ pub fn is_name(name: &str) -> bool
 
 impl Cause {
     /// The row of the warning.
-    fn row(self) -> &'static (Cause, &'static str, &'static str)
+    fn row(self) -> &'static (Cause, Level, &'static str, &'static str)
         ensures own { result.now.0 ≡ self }
-        ensures name { result.now.1.now ≡ name_of self }
-        ensures text { result.now.2.now ≡ text_of self }
+        ensures level { result.now.1 ≡ level_of self }
+        ensures name { result.now.2.now ≡ name_of self }
+        ensures text { result.now.3.now ≡ text_of self }
     {
         row_at(&WARNINGS, self as usize)
+    }
+
+    /// The level of the warning.
+    pub fn level(self) -> Level
+        ensures { result ≡ level_of self }
+    {
+        self.row().1
     }
 
     /// The name of the warning.
     pub fn name(self) -> &'static str
         ensures { result.now ≡ name_of self }
     {
-        self.row().1
+        self.row().2
     }
 
     /// The message of the warning.
     pub fn text(self) -> &'static str
         ensures { result.now ≡ text_of self }
     {
-        self.row().2
+        self.row().3
     }
 }

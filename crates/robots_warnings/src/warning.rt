@@ -1,7 +1,7 @@
 //! A warning, and its text in a report.
 ghost use Rattle.std.specs.Prelude.{◌≡◌, ◌++◌, OnOk, option_map, string_bytes};
 ghost use Rattle.robots_warnings.specs.Internal.{warning_value};
-ghost use Rattle.robots_warnings.specs.Warnings.{about_text, name_text, place_text, warning_line, warning_text};
+ghost use Rattle.robots_warnings.specs.Warnings.{about_text, level_text, name_text, place_text, warning_line, warning_text};
 
 use crate::table::Cause;
 use robots_io::lines::push_number;
@@ -18,15 +18,24 @@ pub struct Warning<'a> {
     pub about: Option<&'a str>,
 }
 
-/// Appends the number of a line, if there is one.
-fn push_place(text: &mut String, line: Option<usize>) -> Result<(), AllocError>
-    ensures { OnOk result (string_bytes text.new ≡ string_bytes text.old ++ place_text line) }
+/// Appends the name of the file, and the number of the line, if there is one.
+fn push_place(text: &mut String, file: &str, line: Option<usize>) -> Result<(), AllocError>
+    ensures { OnOk result (string_bytes text.new ≡ string_bytes text.old ++ place_text file.now line) }
 {
+    push_sanitized(text, file.as_bytes())?;
     let Some(number) = line else {
-        return Ok(());
+        return text.push_str(": ");
     };
-    text.push_str("line ")?;
+    text.push_str(":")?;
     push_number(text, number)?;
+    text.push_str(": ")
+}
+
+/// Appends the level of a warning.
+fn push_level(text: &mut String, cause: Cause) -> Result<(), AllocError>
+    ensures { OnOk result (string_bytes text.new ≡ string_bytes text.old ++ level_text cause) }
+{
+    text.push_str(cause.level().word())?;
     text.push_str(": ")
 }
 
@@ -70,12 +79,13 @@ fn push_reported(text: &mut String, warning: &Warning<'_>) -> Result<(), AllocEr
     push_name(text, warning.cause)
 }
 
-/// Appends the line number, the message and the name of a warning, without a line end.
+/// Appends a warning about the file with this name, without a line end: its place, its level, its message and its name.
 #[tactic(auto, unfolding(crate::specs::Warnings::warning_line))]
-pub fn push_warning(text: &mut String, warning: &Warning<'_>) -> Result<(), AllocError>
+pub fn push_warning(text: &mut String, file: &str, warning: &Warning<'_>) -> Result<(), AllocError>
     ensures { OnOk result (string_bytes text.new ≡ string_bytes text.old
-        ++ warning_line (warning_value warning.now)) }
+        ++ warning_line file.now (warning_value warning.now)) }
 {
-    push_place(text, warning.line)?;
+    push_place(text, file, warning.line)?;
+    push_level(text, warning.cause)?;
     push_reported(text, warning)
 }

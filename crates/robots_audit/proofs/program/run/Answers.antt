@@ -1,5 +1,4 @@
 use Rattle.std.proofs.Common.{refl, rules}
-use Rattle.std.proofs.lemmas.List.{length-map}
 use Rattle.robots_audit.specs.Internal.{audit_value}
 use Rattle.robots_audit.specs.declared.fault.Fault.TheVariants.{Memory}
 use Rattle.robots_audit.proofs.AnswerLemmas.{broken_off, failed, failed_to_read, no_fault}
@@ -47,7 +46,7 @@ returns g c = record {
         record {
           rejected = rw c.deref.ensures.value at c.rejects_some.ensures;
           allowed = rw c.deref-2.ensures.value at c.all_allowed.ensures;
-          warned = rw (c.is_warned.ensures, c.deref-3.ensures.value, length-map) refl;
+          warned = rw c.deref-3.ensures.value at c.is_warned.ensures;
           warnings = c.in_ok-warnings.ensures;
         },
       ),
@@ -55,6 +54,5 @@ returns g c = record {
     fault = tt;
     beginning = λ broken. absurd (no_fault _ _ broken);
   };
-  strict = refl;
   nothing_written = tt;
 }
