@@ -5,7 +5,9 @@ use Rattle.std.specs.List.{Contains}
 use Rattle.std.proofs.lemmas.List.Elements.{Contains-append_cases, Contains-append_left, Contains-append_right}
 use Rattle.texting_robots.specs.Line.{LineValue}
 use Rattle.texting_robots.specs.Rules.{PlacedRule, Rule, unplaced}
+use Rattle.std.specs.Option.{IsSomeAnd}
 use Rattle.std.specs.Str.{is_utf8}
+use Rattle.texting_robots.specs.Pattern.{IsOverlong}
 use Rattle.texting_robots.specs.{Escape.escaped, Internal.Group.placed}
 use Rattle.texting_robots.specs.Executable.{placed_rules, rule_with}
 use Rattle.texting_robots.proofs.{BestLemmas.placed_of, HeldLemmas.computed_are}
@@ -98,3 +100,8 @@ placed_some value pattern allows line utf8 is = rw (utf8, is) refl
 pub placed_none : (value : List ℕ) (allows : Bool) (line : ℕ) → is_utf8 value ≡ false
     → ◌≡◌ {A = Option PlacedRule} None (placed line (rule_with value allows))
 placed_none value allows line other = rw other refl
+
+pub overlong_some : (value pattern : List ℕ) (allows : Bool) (line : ℕ) → is_utf8 value ≡ true
+    → pattern ≡ escaped value → IsOverlong pattern
+    → IsSomeAnd (placed line (rule_with value allows)) (λ (placed : PlacedRule). IsOverlong placed.rule.0)
+overlong_some value pattern allows line utf8 is overlong = rw utf8 (rw is at overlong)

@@ -1,6 +1,6 @@
 //! Which rules of a crawler are needless.
-ghost use Rattle.std.specs.Prelude.{◌≡◌, ◌≤◌, ◌++◌, All, Contains, IfOk, IfSome, IsTrue, List};
-ghost use Rattle.texting_robots.specs.Callers.{PlacedRule, file_lines, placed_rules, unplaced};
+ghost use Rattle.std.specs.Prelude.{◌≡◌, ◌≤◌, ◌++◌, All, Contains, IfErr, IfOk, IfSome, IsTrue, List};
+ghost use Rattle.texting_robots.specs.Callers.{IsFileRejected, IsMemoryErrorOr, PlacedRule, file_lines, placed_rules, unplaced};
 ghost use Rattle.robots_needless.specs.Internal.{CanGo, HasNoRival, IsNone, IsReducedTo, StandsIn};
 ghost use Rattle.robots_needless.specs.Needless.{AreNeedless, IsFound, IsReason, Overrules, numbers_of};
 
@@ -200,8 +200,10 @@ pub fn needless_rules(alloc: Global, site: &Site, agent: &str) -> Result<Vec<Nee
     ensures together { IfOk result (λ found. AreNeedless (placed_rules agent.now (file_lines site.now))
         (numbers_of found.items)) }
     ensures reasons { IfOk result (λ found. All (IsFound (placed_rules agent.now (file_lines site.now))) found.items) }
+    ensures rejected { IfErr result (IsMemoryErrorOr (IsFileRejected agent.now site.now)) }
 {
-    let rules = rules_for(alloc, site, agent)?;
-    let found = rules_to_go(alloc, rules)?;
-    Ok(found)
+    match rules_for(alloc, site, agent) {
+        Ok(rules) => Ok(rules_to_go(alloc, rules)?),
+        Err(error) => Err(error),
+    }
 }

@@ -1,6 +1,7 @@
 //! A crawler's rules, prepared for comparison with each other.
-ghost use Rattle.std.specs.Prelude.{◌≡◌, ◌++◌, ◌<◌, ◌^◌, IfOk, IsTrue, string_bytes};
-ghost use Rattle.texting_robots.specs.Callers.{escaped, file_lines, placed_rules};
+ghost use Rattle.std.specs.Prelude.{◌≡◌, ◌++◌, ◌<◌, ◌^◌, IfErr, IfOk, IsTrue, string_bytes};
+ghost use Rattle.texting_robots.specs.Callers.{IsFileRejected, IsMemoryErrorOr, IsOverlong, escaped, file_lines, placed_rules};
+ghost use Rattle.std.specs.Option.{IsSomeAnd};
 ghost use Rattle.std.specs.Str.{is_utf8};
 ghost use Rattle.texting_robots.specs.Executable.{rule_with};
 ghost use Rattle.texting_robots.specs.Internal.Entries.{rank};
@@ -123,7 +124,9 @@ fn rule_with(
     is_allow: bool,
     line: usize,
 ) -> Result<Option<Rule>, Error>
-    ensures { IfOk result (λ rule. rule ≡ placed line (rule_with value.now is_allow)) }
+    ensures rule { IfOk result (λ rule. rule ≡ placed line (rule_with value.now is_allow)) }
+    ensures rejected { IfErr result (IsMemoryErrorOr
+        (IsSomeAnd (placed line (rule_with value.now is_allow)) (λ placed. IsOverlong placed.rule.0))) }
 {
     if !is_utf8(value) {
         return Ok(None);
@@ -131,19 +134,23 @@ fn rule_with(
     let pattern = pattern_of(alloc, value)?;
     let rank = rank_of_pattern(pattern.len(), is_allow);
     let generic_text = generic_text(alloc, pattern.as_bytes())?;
-    let regex = MinRegex::new(alloc, pattern.as_str())?;
-    Ok(Some(Rule {
-        regex,
-        generic_text,
-        is_allow,
-        rank,
-        line,
-    }))
+    match MinRegex::new(alloc, pattern.as_str()) {
+        Ok(regex) => Ok(Some(Rule {
+            regex,
+            generic_text,
+            is_allow,
+            rank,
+            line,
+        })),
+        Err(error) => Err(error),
+    }
 }
 
 /// The rule in the line, if it has one.
 fn rule_in(alloc: Global, line: &GroupLine<'_>) -> Result<Option<Rule>, Error>
-    ensures { IfOk result (λ rule. rule ≡ rule_of (tag_of line.now)) }
+    ensures rule { IfOk result (λ rule. rule ≡ rule_of (tag_of line.now)) }
+    ensures rejected { IfErr result (IsMemoryErrorOr
+        (IsSomeAnd (rule_of (tag_of line.now)) (λ placed. IsOverlong placed.rule.0))) }
 {
     match line.line {
         Line::Allow(value) => rule_with(alloc, value, true, line.number),
@@ -154,12 +161,15 @@ fn rule_in(alloc: Global, line: &GroupLine<'_>) -> Result<Option<Rule>, Error>
 
 /// The rules that apply to the crawler, in file order.
 pub(crate) fn rules_for(alloc: Global, site: &Site, agent: &str) -> Result<Vec<Rule>, Error>
-    ensures { IfOk result (λ rules. rules.items ≡ placed_rules agent.now (file_lines site.now)) }
+    ensures rules { IfOk result (λ rules. rules.items ≡ placed_rules agent.now (file_lines site.now)) }
+    ensures rejected { IfErr result (IsMemoryErrorOr (IsFileRejected agent.now site.now)) }
 {
     let mut rules = Vec::new(alloc);
     for line in site.own_lines(agent) {
-        if let Some(rule) = rule_in(alloc, &line)? {
-            rules.push(rule)?;
+        match rule_in(alloc, &line) {
+            Ok(Some(rule)) => rules.push(rule)?,
+            Ok(None) => {}
+            Err(error) => return Err(error),
         }
     }
     Ok(rules)

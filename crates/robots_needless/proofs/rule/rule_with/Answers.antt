@@ -1,8 +1,9 @@
 use Rattle.std.proofs.Common.{◌≡◌, ◌∙◌, ap, arith, length, sym}
 use Rattle.texting_robots.specs.Internal.Entries.{rank}
+use Rattle.texting_robots.proofs.RulesLemmas.{rejected_wider}
 use Rattle.robots_needless.specs.Internal.{generic}
 use Rattle.robots_needless.proofs.HeadLemmas.{escaped_below}
-use Rattle.robots_needless.proofs.ReasonLemmas.{placed_some}
+use Rattle.robots_needless.proofs.ReasonLemmas.{overlong_some, placed_some}
 use Rattle.robots_needless.proofs.rule.rule_with.Goals as goal
 
 pub generic_text-requires : goal.generic_text-requires
@@ -11,15 +12,23 @@ generic_text-requires c =
 
 pub invariant_of-result : goal.invariant_of-result
 invariant_of-result c =
-    let is = c.in_ok-regex.ensures.ok ∙ c.as_str.ensures.value in
-    let len : c.len.result ≡ length c.in_ok-regex.regex =
+    let is = c.in-Ok.ensures.ok ∙ c.as_str.ensures.value in
+    let len : c.len.result ≡ length c.in-Ok.regex =
     omega (arith, c.as_bytes.ensures.len, ap length c.as_bytes.ensures.value, ap length is) in (
       c.in_ok-generic_text.ensures ∙ ap generic (c.as_bytes.ensures.value ∙ sym is),
       c.rank_of_pattern-rank.ensures ∙ ap (λ n. rank n c.args.is_allow) len,
       rw (is ∙ c.in_ok-pattern.ensures) (escaped_below c.args.value.now),
     )
 
-pub returns : goal.returns
-returns c =
+pub returns-in-Ok-clause-rule : goal.returns-in-Ok-clause-rule
+returns-in-Ok-clause-rule c =
     placed_some c.args.value.now _ c.args.is_allow c.args.line (sym c.is_utf8.ensures ∙ c.if-not-is_utf8.false)
-    (c.in_ok-regex.ensures.ok ∙ c.as_str.ensures.value ∙ c.in_ok-pattern.ensures)
+    (c.in-Ok.ensures.ok ∙ c.as_str.ensures.value ∙ c.in_ok-pattern.ensures)
+
+pub returns-clause-rejected : goal.returns-clause-rejected
+returns-clause-rejected c =
+    let utf8 = sym c.is_utf8.ensures ∙ c.if-not-is_utf8.false in
+    rejected_wider _ _ _
+    (overlong_some c.args.value.now _ c.args.is_allow c.args.line utf8
+    (c.as_str.ensures.value ∙ c.in_ok-pattern.ensures))
+    c.in-Err.ensures.rejected
