@@ -89,6 +89,14 @@ both_ways (to, from) (on, back) = (λ a. on (to a), λ c. from (back c))
 
 -- ---- rules that are removed one after the other
 
+pub nothing_removed : (rules : List PlacedRule) → IsReducedTo rules rules []
+nothing_removed rules = record {
+  removed = [];
+  lines = refl;
+  same = subst (λ all. IsPermutation rules all) (sym (append-nil rules)) (IsPermutation-refl rules);
+  denied = λ text. (λ denied. denied, λ denied. denied);
+}
+
 pub reordered : (rules left others : List PlacedRule) (numbers : List ℕ) → IsReducedTo rules left numbers
     → IsPermutation left others → IsReducedTo rules others numbers
 reordered rules left others numbers is same = record {

@@ -1,5 +1,5 @@
 //! Which rules of a crawler are needless.
-ghost use Rattle.std.specs.Prelude.{◌≡◌, ◌≤◌, ◌++◌, All, Contains, IfErr, IfOk, IfSome, IsTrue, List};
+ghost use Rattle.std.specs.Prelude.{◌≡◌, ◌≤◌, ◌++◌, All, Contains, IfErr, IfOk, IfSome, IsPermutation, IsTrue, List};
 ghost use Rattle.texting_robots.specs.Callers.{IsFileRejected, IsMemoryErrorOr, PlacedRule, file_lines, placed_rules, unplaced};
 ghost use Rattle.robots_needless.specs.Internal.{CanGo, HasNoRival, IsNone, IsReducedTo, StandsIn};
 ghost use Rattle.robots_needless.specs.Needless.{AreNeedless, IsFound, IsReason, Overrules, numbers_of};
@@ -167,14 +167,24 @@ fn reason_to_go(budget: &mut Budget, kept: &[Rule], rest: &[Rule], rule: &Rule) 
     None
 }
 
-/// The rules that can go one after the other, the last one first.
+/// The rules by rank, the highest first, and in file order if ranks are equal. The order decides only how many needless
+/// rules are found.
+fn by_rank(rules: Vec<Rule>) -> Result<Vec<Rule>, AllocError>
+    ensures { IfOk result (λ sorted. IsPermutation rules.items sorted.items) }
+{
+    let mut sorted = rules;
+    sorted.sort_by(|one: &Rule, other: &Rule| other.rank().cmp(&one.rank()))?;
+    Ok(sorted)
+}
+
+/// The rules that can go one after the other, by ascending rank.
 fn rules_to_go(alloc: Global, rules: Vec<Rule>) -> Result<Vec<NeedlessRule>, AllocError>
     ensures together { IfOk result (λ found. (left : List PlacedRule)
         × IsReducedTo rules.items left (numbers_of found.items)) }
     ensures reasons { IfOk result (λ found. All (IsFound rules.items) found.items) }
 {
     let mut budget = Budget { left: BUDGET };
-    let mut rest = rules;
+    let mut rest = by_rank(rules)?;
     let mut kept = Vec::new(alloc);
     let mut found = Vec::new(alloc);
     while let Some(rule) = rest.pop() {

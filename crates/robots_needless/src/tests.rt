@@ -13,7 +13,7 @@ fn covered(line: usize, by: usize) -> NeedlessRule {
     }
 }
 
-/// Rules below `User-agent: *` in line 1, and the needless ones, the last one first.
+/// Rules below `User-agent: *` in line 1, and the needless ones, by ascending rank.
 fn check_case(rt: &(impl Abort + AllocGlobal), file: &[u8], want: &[NeedlessRule]) {
     let site = Site::new(rt.alloc(), file).expect(rt, "site");
     let found = needless_rules(rt.alloc(), &site, "FerrisBot").expect(rt, "rules");
@@ -105,4 +105,22 @@ fn rules_without_effect_are_found(rt: HostRuntime) {
         &[default],
     );
     check_case(&rt, b"User-agent: *\nAllow: /ab\nDisallow: /a\n", NONE);
+}
+
+#[test]
+fn lower_ranks_go_first(rt: HostRuntime) {
+    let overruled = |line| NeedlessRule {
+        line,
+        reason: Reason::Overruled(3),
+    };
+    let allowed = NeedlessRule {
+        line: 3,
+        reason: Reason::AllowedAnyway,
+    };
+    // without the Disallow, which never decides, both Allows are needless too
+    check_case(
+        &rt,
+        b"User-agent: *\nDisallow: /ab\nAllow: /ab*\nAllow: /abc\n",
+        &[overruled(2), overruled(4), allowed],
+    );
 }

@@ -1,9 +1,18 @@
-use Rattle.std.proofs.Common.{◌++◌, subst}
+use Rattle.std.proofs.Common.{[], ◌++◌, arith, subst}
 use Rattle.texting_robots.specs.Rules.{unplaced}
 use Rattle.robots_needless.specs.Internal.{CanGo, IsReducedTo}
 use Rattle.robots_needless.specs.Needless.{IsReason}
 use Rattle.robots_needless.proofs.StepLemmas.{found_more, numbers_more, rule_gone, rule_kept}
+use Rattle.robots_needless.proofs.TogetherLemmas.{nothing_removed, reordered}
 use Rattle.robots_needless.proofs.needless.rules_to_go.Goals as goal
+
+pub loop-rule-init : goal.loop-rule-init
+loop-rule-init c =
+    let rules = c.args.rules.items in record {
+      reduced = rw (c.new-kept.ensures.items, c.new-found.ensures.items)
+          (reordered rules rules _ [] (nothing_removed rules) c.in_ok-rest.ensures);
+      reasons = rw c.new-found.ensures.items (λ k found less. absurd (omega (arith, less)));
+    }
 
 pub loop-rule-preserved : goal.loop-rule-preserved
 loop-rule-preserved c = record {
