@@ -2,6 +2,8 @@ pub mod AgentLemmas
 pub mod AnswerLemmas
 pub mod AuditLemmas
 pub mod DelayLemmas
+pub mod ExpectLemmas
+pub mod ExpectationsLemmas
 pub mod JsonLemmas
 pub mod LawLemmas
 pub mod MessageLemmas

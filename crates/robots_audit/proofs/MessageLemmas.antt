@@ -9,7 +9,7 @@ use Rattle.robots_io.proofs.SanitizeLemmas.{append_printable, ascii_printable, n
 use Rattle.robots_io.proofs.SanitizeLemmas.{sanitized_lines_printable, sanitized_printable}
 use Rattle.robots_audit.specs.declared.command.Request.{Request}
 use Rattle.robots_audit.specs.declared.fault.Fault.{Fault}
-use Rattle.robots_audit.specs.declared.fault.Fault.TheVariants.{File, Memory}
+use Rattle.robots_audit.specs.declared.fault.Fault.TheVariants.{File, Malformed, Memory}
 use Rattle.robots_audit.specs.declared.fault.Fault.TheVariants.{NotUtf8, Read, UnknownWarning, Usage, Words}
 use Rattle.robots_audit.specs.declared.fault.Fault.TheVariants.{Write}
 use Rattle.robots_audit.specs.declared.fault.Outcome.{Outcome}
@@ -19,7 +19,7 @@ use Rattle.robots_audit.specs.Fault.{MayFail, fault_text, message_after}
 use Rattle.robots_audit.proofs.PrintableLemmas.{message_printable}
 
 -- the message for an error with a name
-named_printable : (before name after : List ℕ) → IsPrintable before → IsPrintable name → IsPrintable after
+pub named_printable : (before name after : List ℕ) → IsPrintable before → IsPrintable name → IsPrintable after
     → IsPrintable (codes "robots_audit: " ++ (before ++ name) ++ after ++ lf ∷ [])
 named_printable before name after first is last = search (append_printable true, ascii_printable true)
 
@@ -36,6 +36,7 @@ may_fail_printable Usage may = absurd may
 may_fail_printable NotUtf8 may = absurd may
 may_fail_printable (UnknownWarning name) may = absurd may
 may_fail_printable (File name) may = absurd may
+may_fail_printable (Malformed place) may = absurd may
 may_fail_printable Read may = ascii_printable true (fault_text Read) refl
 may_fail_printable Write may = ascii_printable true (fault_text Write) refl
 may_fail_printable Memory may = ascii_printable true (fault_text Memory) refl
@@ -47,6 +48,7 @@ rejection_printable text Usage is = cc
 rejection_printable text NotUtf8 is = cc
 rejection_printable text (UnknownWarning name) is = cc
 rejection_printable text (File name) is = cc
+rejection_printable text (Malformed place) is = cc
 rejection_printable text Read is = cc
 rejection_printable text Write is = cc
 rejection_printable text Memory is = memory_printable Memory refl
@@ -61,6 +63,7 @@ unreadable_printable name (File shown) is =
     named_printable (codes "cannot read ") (string_bytes shown) []
     (ascii_printable true (codes "cannot read ") refl)
     (subst IsPrintable (sym is) (sanitized_printable name)) (nil_printable true)
+unreadable_printable name (Malformed place) is = cc
 unreadable_printable name Read is = cc
 unreadable_printable name Write is = cc
 unreadable_printable name Memory is = memory_printable Memory refl
@@ -75,6 +78,7 @@ unknown_printable name (UnknownWarning shown) is =
     (ascii_printable true (codes "unknown warning ") refl)
     (subst IsPrintable (sym is) (sanitized_printable name)) (ascii_printable true usage refl)
 unknown_printable name (File other) is = cc
+unknown_printable name (Malformed place) is = cc
 unknown_printable name Read is = cc
 unknown_printable name Write is = cc
 unknown_printable name Memory is = memory_printable Memory refl

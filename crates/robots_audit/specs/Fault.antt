@@ -5,7 +5,7 @@ use Rattle.robots_io.specs.Lines.{lf}
 use Rattle.robots_io.specs.declared.streams.ReadFault.{ReadFault}
 use Rattle.robots_io.specs.declared.streams.ReadFault.TheVariants as read
 use Rattle.robots_audit.specs.declared.fault.Fault.{Fault}
-use Rattle.robots_audit.specs.declared.fault.Fault.TheVariants.{File, Memory}
+use Rattle.robots_audit.specs.declared.fault.Fault.TheVariants.{File, Malformed, Memory}
 use Rattle.robots_audit.specs.declared.fault.Fault.TheVariants.{NotUtf8, Read, UnknownWarning, Usage, Words}
 use Rattle.robots_audit.specs.declared.fault.Fault.TheVariants.{Write}
 use Rattle.robots_audit.specs.declared.fault.Outcome.{Outcome}
@@ -17,6 +17,8 @@ reason_of Usage = codes "missing AGENT (or use --agents)"
 reason_of NotUtf8 = codes "arguments must be valid UTF-8"
 reason_of (UnknownWarning name) = codes "unknown warning " ++ string_bytes name
 reason_of (File name) = codes "cannot read " ++ string_bytes name
+reason_of (Malformed place) =
+    string_bytes place ++ codes ": write \"allow AGENT URL\" or \"deny AGENT URL\""
 reason_of Read = codes "cannot read standard input"
 reason_of Write = codes "cannot write the report"
 reason_of Memory = codes "out of memory"
@@ -28,6 +30,7 @@ usage_after Usage = codes "; usage: robots_audit [OPTIONS] AGENT [URL].."
 usage_after NotUtf8 = codes "; usage: robots_audit [OPTIONS] AGENT [URL].."
 usage_after (UnknownWarning name) = codes "; usage: robots_audit [OPTIONS] AGENT [URL].."
 usage_after (File name) = []
+usage_after (Malformed place) = []
 usage_after Read = []
 usage_after Write = []
 usage_after Memory = []
@@ -60,6 +63,7 @@ MayFail Usage = ⊥
 MayFail NotUtf8 = ⊥
 MayFail (UnknownWarning name) = ⊥
 MayFail (File name) = ⊥
+MayFail (Malformed place) = ⊥
 MayFail Read = ⊤
 MayFail Write = ⊤
 MayFail Memory = ⊤

@@ -1,5 +1,7 @@
 -- The program's own types, by value.
 pub mod Agents
+pub mod Expect
+pub mod Expectations
 use Rattle.std.specs.Prelude.{ℕ, List, map, string_bytes, take}
 use Rattle.texting_robots.specs.Callers.{IsFirstOverlong, IsRobotOfFile, file_limit, lines_read}
 use Rattle.texting_robots.specs.Callers.{label_by_value}

@@ -7,4 +7,6 @@ pub mod Chosen
 pub mod Report
 pub mod Json
 pub mod Answer
+pub mod Expect
+pub mod Expectations
 pub mod Internal

@@ -57,13 +57,18 @@ pub(crate) struct Audit<'a, 'b> {
 
 /// A crawler's robot, or the line of the crawler's first overlong rule.
 #[derive(Drop)]
-enum Reading {
+pub(crate) enum Reading {
     Accepted(Robot),
     Rejected(usize),
 }
 
 /// Parses the first 512,000 bytes of the file for the crawler.
-fn read_for(alloc: Global, agent: &str, file: &[u8], site: &Site) -> Result<Reading, Fault>
+pub(crate) fn read_for(
+    alloc: Global,
+    agent: &str,
+    file: &[u8],
+    site: &Site,
+) -> Result<Reading, Fault>
     requires { site.now ≡ take file_limit file.now }
     ensures ok { IfOk result (IsReading agent.now file.now) }
     ensures fault { IfErr result (λ fault. fault ≡ Fault.Memory) }

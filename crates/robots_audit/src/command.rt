@@ -112,6 +112,19 @@ fn with_names<'a>(alloc: Global, called: Command<'a>) -> Result<Command<'a>, All
     called.arg(ignored)
 }
 
+/// Adds the option `--expect`, which excludes all others but `--file`.
+fn with_expect<'a>(alloc: Global, called: Command<'a>) -> Result<Command<'a>, AllocError> {
+    let others = [
+        "agent", "url", "agents", "quiet", "json", "strict", "only", "ignore",
+    ];
+    let expect = Arg::new(alloc, "expect")
+        .long("expect")
+        .value_name("FILE")
+        .help("Check the lines \"allow AGENT URL\" and \"deny AGENT URL\" of this file instead")
+        .conflicts_with_all(&others)?;
+    called.arg(expect)
+}
+
 /// The program's options and arguments.
 pub fn command<'a>(alloc: Global) -> Result<Command<'a>, AllocError> {
     let called = Command::new(alloc, "robots_audit")
@@ -119,11 +132,11 @@ pub fn command<'a>(alloc: Global) -> Result<Command<'a>, AllocError> {
         .about("Explains how a crawler interprets a robots.txt file")
         .override_usage("robots_audit [OPTIONS] AGENT [URL]..");
     let called = with_switches(alloc, with_words(alloc, called)?)?;
-    with_names(alloc, called)
+    with_expect(alloc, with_names(alloc, called)?)
 }
 
 /// The name of the file that is read; `None` for standard input, which `-` means too.
-fn file_read<'a>(name: Option<&'a str>) -> Option<&'a str>
+pub fn file_read<'a>(name: Option<&'a str>) -> Option<&'a str>
     ensures { option_map (λ name. name.now) result ≡ file_read (option_map (λ name. name.now) name.entry) }
 {
     match name {

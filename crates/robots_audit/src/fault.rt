@@ -32,6 +32,8 @@ pub enum Fault {
     UnknownWarning(String),
     /// The file with this name, which is sanitized, can't be opened or read.
     File(String),
+    /// The line with the expectations that this text names is malformed: a file's sanitized name, and a number.
+    Malformed(String),
     /// A read failed, or the input didn't end within the maximum number of reads.
     Read,
     /// A write or a flush failed, or a write accepted no bytes.
@@ -53,6 +55,12 @@ impl fmt::Display for Fault {
             Fault::NotUtf8 => f.write_str("arguments must be valid UTF-8"),
             Fault::UnknownWarning(name) => write!(f, "unknown warning {name}"),
             Fault::File(name) => write!(f, "cannot read {name}"),
+            Fault::Malformed(place) => {
+                write!(
+                    f,
+                    "{place}: write \"allow AGENT URL\" or \"deny AGENT URL\""
+                )
+            }
             Fault::Read => f.write_str("cannot read standard input"),
             Fault::Write => f.write_str("cannot write the report"),
             Fault::Memory => f.write_str("out of memory"),

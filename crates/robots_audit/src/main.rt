@@ -6,6 +6,9 @@
 //!
 //! `robots_audit [OPTIONS] AGENT [URL]..`
 //!
+//! With `--expect` it checks instead whether crawlers may fetch what a file of expectations says, and writes a line for
+//! each that fails.
+//!
 //! The exit status is 0 if every URL is allowed; 1 if some URL is denied; 2 after an error or if the file is rejected for
 //! a crawler of the report; and with `--strict` 3 if there is a warning at its level.
 #![tactic(auto)]
@@ -19,6 +22,8 @@ mod audit;
 mod chosen;
 mod command;
 mod delay;
+mod expect;
+mod expectations;
 mod fault;
 mod group;
 mod json;
@@ -29,9 +34,11 @@ mod rows;
 
 use clap::ArgMatches;
 use clap::error::ErrorKind as WordsKind;
-use command::{Request, command, requested};
+use command::{Request, command, file_read, requested};
+use expectations::check;
 use fault::{Fault, Outcome, StderrMessage, status_after};
 use program::{help, rejected, run, unread};
+use robots_io::streams::{ReadFault, read_all};
 use std::alloc::Global;
 use std::env;
 use std::fs::File;
@@ -88,6 +95,61 @@ fn audited(rt: &HostRuntime, matches: &ArgMatches<'_>) -> Result<Outcome, Fault>
     }
 }
 
+/// The bytes of the file with this name.
+fn read_named(rt: &HostRuntime, name: &str) -> Result<Vec<u8>, Fault>
+    ensures { IfErr result (λ fault. IsPrintable (fault_text fault)) }
+{
+    let Ok(mut file) = File::open(rt, name) else {
+        return Err(unread(rt.alloc(), name));
+    };
+    match read_all(rt.alloc(), &mut file) {
+        Ok(bytes) => Ok(bytes),
+        Err(ReadFault::Read) => Err(unread(rt.alloc(), name)),
+        Err(ReadFault::Memory) => Err(Fault::Memory),
+    }
+}
+
+/// Checks the expectations in a text, of the file `expected`, against the file with this name.
+fn check_named(rt: &HostRuntime, expected: &str, text: &[u8], name: &str) -> Result<Outcome, Fault>
+    ensures { IsPrintable (message_after result) }
+{
+    let Ok(mut file) = File::open(rt, name) else {
+        return Err(unread(rt.alloc(), name));
+    };
+    let outcome = check(rt.alloc(), expected, text, &mut file, &mut rt.stdout());
+    if let Err(Fault::Read) = &outcome {
+        return Err(unread(rt.alloc(), name));
+    }
+    outcome
+}
+
+/// Checks the expectations in the file `expected` against the file that the parsed arguments name, or standard input.
+fn checked(rt: &HostRuntime, matches: &ArgMatches<'_>, expected: &str) -> Result<Outcome, Fault>
+    ensures { IsPrintable (message_after result) }
+{
+    let text = read_named(rt, expected)?;
+    match file_read(matches.get_str("file")) {
+        Some(name) => check_named(rt, expected, &text, name),
+        None => check(
+            rt.alloc(),
+            expected,
+            &text,
+            &mut rt.stdin(),
+            &mut rt.stdout(),
+        ),
+    }
+}
+
+/// Does what the parsed arguments request.
+fn done(rt: &HostRuntime, matches: &ArgMatches<'_>) -> Result<Outcome, Fault>
+    ensures { IsPrintable (message_after result) }
+{
+    match matches.get_str("expect") {
+        Some(expected) => checked(rt, matches, expected),
+        None => audited(rt, matches),
+    }
+}
+
 /// Parses the arguments and does what they request. The message for standard error is printable, whatever the arguments,
 /// the file and its name are.
 fn outcome(rt: &HostRuntime) -> Result<Outcome, Fault>
@@ -95,7 +157,7 @@ fn outcome(rt: &HostRuntime) -> Result<Outcome, Fault>
 {
     let words = words(rt)?;
     match command(rt.alloc())?.try_get_matches_from(&words) {
-        Ok(matches) => audited(rt, &matches),
+        Ok(matches) => done(rt, &matches),
         Err(error) => match error.kind() {
             WordsKind::OutOfMemory => Err(Fault::Memory),
             _ => reported(rt, error),

@@ -91,7 +91,11 @@ fn push_verdicts(text: &mut String, verdicts: &[Verdict<'_>]) -> Result<(), Allo
 }
 
 /// Appends that the file is rejected for the crawler because of this line.
-fn push_rejected_front(text: &mut String, agent: &str, line: usize) -> Result<(), AllocError>
+pub(crate) fn push_rejected_front(
+    text: &mut String,
+    agent: &str,
+    line: usize,
+) -> Result<(), AllocError>
     ensures { OnOk result (string_bytes text.new ≡ string_bytes text.old ++ rejected_front agent.now line) }
 {
     push_around(text, "rejected for ", agent, ": line ")?;

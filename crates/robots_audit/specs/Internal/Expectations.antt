@@ -1,0 +1,50 @@
+-- Expectations and findings as the code handles them.
+use Rattle.std.specs.Prelude.{◌≡◌, ℕ, List, [], ◌∷◌, ◌++◌, filter, map, string_bytes}
+use Rattle.std.specs.List.{AllByRecursion as Each}
+use Rattle.texting_robots.specs.Callers.{lines_read}
+use Rattle.robots_io.specs.Lines.{ended}
+use Rattle.robots_io.specs.Verdicts.{IsDecisionOn}
+use Rattle.robots_audit.specs.declared.audit.Reading.{Reading}
+use Rattle.robots_audit.specs.declared.audit.Reading.TheVariants as reading
+use Rattle.robots_audit.specs.declared.expect.Expectation.{Expectation}
+use Rattle.robots_audit.specs.declared.expectations.AgentReading.{AgentReading}
+use Rattle.robots_audit.specs.declared.expectations.Finding.{Finding}
+use Rattle.robots_audit.specs.declared.expectations.Finding.TheVariants.{Decided, Rejected}
+use Rattle.robots_audit.specs.declared.fault.Fault.{Fault}
+use Rattle.robots_audit.specs.declared.fault.Fault.TheVariants.{Malformed, Memory}
+use Rattle.robots_audit.specs.Expect.{ExpectationValue}
+use Rattle.robots_audit.specs.Expectations.{CheckedValue, IsChecked, failure_line, fails, place_text}
+use Rattle.robots_audit.specs.Internal.Expect.{expectation_value}
+use Rattle.robots_audit.specs.Internal.{IsReading}
+
+abbrev pub checked_value : Expectation → Finding → CheckedValue
+checked_value expectation finding = record { expectation = expectation_value expectation; finding = finding }
+
+-- how the file is read for this crawler
+pub record IsReadFor (agent file : List ℕ) (found : AgentReading) : Type 0 where
+  pub agent_is : found.agent.now ≡ agent
+  pub reading : IsReading agent file found.reading
+
+-- the finding on a URL, in terms of how the file is read
+abbrev pub IsFindingBy : Reading → List ℕ → Finding → Type 0
+IsFindingBy (reading.Rejected line) url (Rejected other) = line ≡ other
+IsFindingBy (reading.Rejected line) url (Decided decision) = ⊥
+IsFindingBy (reading.Accepted robot) url (Rejected line) = ⊥
+IsFindingBy (reading.Accepted robot) url (Decided decision) = IsDecisionOn robot.rules url decision
+
+-- the line on an expectation, if it fails
+abbrev pub failures_at : List ℕ → CheckedValue → List (List ℕ)
+failures_at name checked = map (failure_line name) (filter fails (checked ∷ []))
+
+-- the report has a line for each of these expectations that fails on the file
+pub record AreFailuresOn (name file : List ℕ) (expectations : List ExpectationValue) (report : List ℕ)
+    : Type 0 where
+  pub checked : List CheckedValue
+  pub all : map (λ (one : CheckedValue). one.expectation) checked ≡ expectations
+  pub found : Each (IsChecked (lines_read file)) checked
+  pub whole : report ≡ ended (map (failure_line name) (filter fails checked))
+
+-- the error names this line, or an allocation failed
+abbrev pub IsMalformed : List ℕ → ℕ → Fault → Type 0
+IsMalformed name number (Malformed place) = string_bytes place ≡ place_text name number
+IsMalformed name number fault = fault ≡ Memory
