@@ -4,6 +4,7 @@ pub mod FileLemmas
 pub mod NameLemmas
 pub mod NamesPastLimitLemmas
 pub mod PositionLemmas
+pub mod PlainLemmas
 pub mod PrintableLemmas
 pub mod RuleLemmas
 pub mod TableLemmas

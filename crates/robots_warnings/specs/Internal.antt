@@ -1,6 +1,7 @@
 -- The code's own types by value, and how lists of warnings grow.
 pub mod Conflicts
 pub mod Names
+pub mod Plain
 use Rattle.std.specs.Prelude.{◌≡◌, ℕ, ◌||◌, ◌++◌, List, Some, map, option_map, slice_get}
 use Rattle.std.specs.Borrow.{Bor}
 use Rattle.texting_robots.specs.Callers.{LineValue}

@@ -1,7 +1,7 @@
 //! All warnings about a file and a request: what is valid but probably not intended.
 ghost use Rattle.std.specs.Prelude.{◌≡◌, [], IfOk, OnOk, if◌then◌else◌, is_none, map, option_map, string_bytes};
 ghost use Rattle.texting_robots.specs.Callers.{bodies_read, by_value, file_lines, label_by_value};
-ghost use Rattle.robots_warnings.specs.Checks.{field_checks, is_directive, value_checks};
+ghost use Rattle.robots_warnings.specs.Checks.{field_checks, is_directive, rule_checks, value_checks};
 ghost use Rattle.robots_warnings.specs.Internal.{Adds, warning_value};
 ghost use Rattle.robots_warnings.specs.Warnings.{agent_warnings, conflict_warnings, file_lines_warnings, general_warnings};
 ghost use Rattle.robots_warnings.specs.Warnings.{is_in_scope_of, line_warnings, lines_warnings};
@@ -16,6 +16,7 @@ use crate::facts::{FileFacts, suppresses_line_warnings};
 use crate::file::{counted, is_blank};
 use crate::names_past_limit::names_past_limit;
 use crate::positions::{Preceding, last_group, preceding_with};
+use crate::rules::is_plain;
 use crate::table::Cause;
 use crate::warning::Warning;
 use std::alloc::{AllocError, Global};
@@ -86,6 +87,16 @@ fn warn_in_general<'a>(
     Ok(())
 }
 
+/// Appends the warnings about the value of a rule.
+fn warn_of_rule(found: &mut Found<'_>, number: usize, value: &[u8]) -> Result<(), AllocError>
+    ensures { OnOk result (Adds found.old.items found.new.items (warned (Some number) None (rule_checks value.now))) }
+{
+    if is_plain(value) {
+        return Ok(());
+    }
+    warn(found, Some(number), None, &rule_checks(value))
+}
+
 /// Appends the warnings about the value of a line. Rules are only checked if `is_in_scope` is true.
 fn warn_of_value(
     alloc: Global,
@@ -100,7 +111,7 @@ fn warn_of_value(
     match line {
         Line::UserAgent(value) => warn(found, at, None, &user_agent_checks(value)),
         Line::Allow(value) | Line::Disallow(value) if is_in_scope => {
-            warn(found, at, None, &rule_checks(value))
+            warn_of_rule(found, number, value)
         }
         Line::CrawlDelay(Some(micros)) => warn(found, at, None, &delay_checks(micros)),
         Line::Sitemap(value) => warn(found, at, None, &sitemap_checks(alloc, value)?),
