@@ -13,7 +13,7 @@ use Rattle.robots_warnings.specs.File.{is_blank}
 use Rattle.robots_warnings.specs.Positions.{is_above_agents, is_empty_group, is_split}
 use Rattle.robots_warnings.specs.Rules.{begins_odd_escape, has_dollar_inside, has_dot_segment, has_odd_start}
 use Rattle.robots_warnings.specs.Rules.{holds_otherwise, is_expression, is_quoted, somewhere}
-use Rattle.robots_warnings.specs.Tokens.{has_slash, has_space_around, is_product_token}
+use Rattle.robots_warnings.specs.Tokens.{has_slash, has_space_around, is_invalid_name, is_unusual_name}
 use Rattle.robots_warnings.specs.Urls.{begins_as_url, is_absolute_url, is_invalid_url, is_url_or_path}
 
 -- a warning, and whether its condition holds
@@ -56,7 +56,10 @@ field_checks body =
 
 -- the value of a user-agent line
 abbrev pub user_agent_checks : List ℕ → List Check
-user_agent_checks value = (cause.InvalidProductToken, not (is_product_token value)) ∷ []
+user_agent_checks value =
+    (cause.InvalidProductToken, is_invalid_name value)
+    ∷ (cause.UnusualProductToken, is_unusual_name value)
+    ∷ []
 
 -- the value of an Allow or a Disallow
 abbrev pub rule_checks : List ℕ → List Check

@@ -83,10 +83,13 @@ begins_class text = slice_index text 0 == byte "\\" && is_ascii_alphanumeric (sl
 abbrev pub begins_sign : List ℕ → Bool
 begins_sign text = begins_range text || (starts_with nat_eq text (codes ".*") || begins_class text)
 
--- the value has an alternative, contains a range, `.*` or a character class, or ends with `+`
+-- the value ends with a single `+`; `++` is part of names such as `/tag/c++`
+abbrev pub has_final_plus : List ℕ → Bool
+has_final_plus value = ends_with nat_eq value (codes "+") && not (ends_with nat_eq value (codes "++"))
+
+-- the value has an alternative, contains a range, `.*` or a character class, or ends with a single `+`
 abbrev pub is_expression : List ℕ → Bool
-is_expression value =
-    has_choice value || (somewhere begins_sign value || ends_with nat_eq value (codes "+"))
+is_expression value = has_choice value || (somewhere begins_sign value || has_final_plus value)
 
 -- ---- dollars
 

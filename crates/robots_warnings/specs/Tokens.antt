@@ -1,8 +1,11 @@
 -- The name of a crawler, in a request or in a user-agent line.
-use Rattle.std.specs.Prelude.{ℕ, ◌==◌, Bool, not, ◌||◌, ◌&&◌, List, bytes_eq, codes, length}
-use Rattle.std.specs.List.{list_all, list_any}
-use Rattle.std.specs.Char.{is_ascii_alphabetic}
+use Rattle.std.specs.Prelude.{ℕ, ◌-◌, ◌==◌, nat_eq, Bool, not, ◌||◌, ◌&&◌, List, bytes_eq, codes, length}
+use Rattle.std.specs.Prelude.{if◌then◌else◌, take}
+use Rattle.std.specs.List.{ends_with, list_all, list_any}
+use Rattle.std.specs.Char.{is_ascii_alphabetic, is_ascii_digit}
 use Rattle.std.specs.Str.{byte, trim}
+use Rattle.robots_warnings.specs.Rules.{somewhere}
+use Rattle.robots_warnings.specs.Urls.{begins_in_any_case}
 
 -- the text starts or ends with Unicode white space
 abbrev pub has_space_around : List ℕ → Bool
@@ -19,3 +22,29 @@ is_token_byte b = is_ascii_alphabetic b || b == byte "_" || b == byte "-"
 abbrev pub is_product_token : List ℕ → Bool
 is_product_token value =
     bytes_eq value (codes "*") || (not (length value == 0) && list_all is_token_byte value)
+
+-- the byte can occur in a name that isn't a product token: also digits, dots and spaces
+abbrev pub is_name_byte : ℕ → Bool
+is_name_byte b = is_token_byte b || (is_ascii_digit b || (b == byte "." || b == byte " "))
+
+-- the value without a star at its end
+abbrev pub without_star : List ℕ → List ℕ
+without_star value = if ends_with nat_eq value (codes "*") then take (length value - 1) value else value
+
+-- a space follows `bot`, so the value seems to be several names
+abbrev pub seems_several_names : List ℕ → Bool
+seems_several_names value = somewhere (begins_in_any_case (codes "bot ")) value
+
+-- the value is written as names of real crawlers that aren't product tokens are, such as `MJ12bot`,
+-- `Offline Explorer` and, with a star at its end, `Mediapartners-Google*`
+abbrev pub is_usual_name : List ℕ → Bool
+is_usual_name value =
+    (not (length value == 0) && list_all is_name_byte (without_star value)) && not (seems_several_names value)
+
+-- neither a product token nor such a name
+abbrev pub is_invalid_name : List ℕ → Bool
+is_invalid_name value = not (is_product_token value) && not (is_usual_name value)
+
+-- such a name, and not a product token
+abbrev pub is_unusual_name : List ℕ → Bool
+is_unusual_name value = not (is_product_token value) && is_usual_name value

@@ -12,7 +12,7 @@ use crate::rules::{
     is_expression, is_quoted, is_utf8,
 };
 use crate::table::Cause;
-use crate::tokens::{has_slash, has_space_around, is_product_token};
+use crate::tokens::{has_slash, has_space_around, is_invalid_name, is_unusual_name};
 use crate::urls::{begins_as_url, is_absolute_url, is_invalid_url, is_url_or_path};
 use std::alloc::{AllocError, Global};
 use texting_robots::labels::LabeledLine;
@@ -77,10 +77,13 @@ pub(crate) fn field_checks(body: &[u8]) -> [Check; 2]
 }
 
 /// Checks of the value of a user-agent line.
-pub(crate) fn user_agent_checks(value: &[u8]) -> [Check; 1]
+pub(crate) fn user_agent_checks(value: &[u8]) -> [Check; 2]
     ensures { result ≡ user_agent_checks value.now }
 {
-    [(Cause::InvalidProductToken, !is_product_token(value))]
+    [
+        (Cause::InvalidProductToken, is_invalid_name(value)),
+        (Cause::UnusualProductToken, is_unusual_name(value)),
+    ]
 }
 
 /// Checks of the value of an Allow or a Disallow.

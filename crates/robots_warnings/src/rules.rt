@@ -7,7 +7,7 @@ ghost use Rattle.std.specs.Str.{is_utf8};
 ghost use Rattle.robots_warnings.specs.Rules.{are_odd_digits, before_byte, begins_class};
 ghost use Rattle.robots_warnings.specs.Rules.{begins_dot_segment, begins_odd_escape};
 ghost use Rattle.robots_warnings.specs.Rules.{begins_oddly, begins_range, begins_sign, after_byte, has};
-ghost use Rattle.robots_warnings.specs.Rules.{has_choice, has_dollar_inside, has_dot_segment, has_odd_start, holds_otherwise};
+ghost use Rattle.robots_warnings.specs.Rules.{has_choice, has_dollar_inside, has_dot_segment, has_final_plus, has_odd_start, holds_otherwise};
 ghost use Rattle.robots_warnings.specs.Rules.{is_expression, is_quoted, is_written_otherwise, needs_no_escape};
 ghost use Rattle.robots_warnings.specs.Rules.{somewhere};
 ghost use Rattle.robots_warnings.specs.Internal.Plain.{is_plain, is_plain_byte};
@@ -48,7 +48,7 @@ fn after_byte(byte: u8, text: &[u8]) -> &[u8]
 
 /// Whether the test holds for the rest of the text from some byte on.
 #[tactic(auto, using(crate::proofs::RuleLemmas::somewhere_next))]
-fn somewhere<F: Fn(&[u8]) -> bool>(text: &[u8], test: F) -> bool
+pub(crate) fn somewhere<F: Fn(&[u8]) -> bool>(text: &[u8], test: F) -> bool
     requires { F.IsAlwaysCallable test }
     ensures { (p : List ℕ → Bool) → ((x : List ℕ) (r : Bool) → FnReturnsAt F.Fn test x r → r ≡ p x)
         → result ≡ somewhere p text.now }
@@ -144,11 +144,18 @@ fn begins_sign(text: &[u8]) -> bool
     begins_range(text) || text.starts_with(b".*") || begins_class(text)
 }
 
-/// Whether the value has an alternative, contains a range, `.*` or a character class, or ends with `+`.
+/// Whether the value ends with a single `+`.
+fn has_final_plus(value: &[u8]) -> bool
+    ensures { result ≡ has_final_plus value.now }
+{
+    value.ends_with(b"+") && !value.ends_with(b"++")
+}
+
+/// Whether the value has an alternative, contains a range, `.*` or a character class, or ends with a single `+`.
 pub(crate) fn is_expression(value: &[u8]) -> bool
     ensures { result ≡ is_expression value.now }
 {
-    has_choice(value) || somewhere(value, begins_sign) || value.ends_with(b"+")
+    has_choice(value) || somewhere(value, begins_sign) || has_final_plus(value)
 }
 
 /// Whether a byte other than a star or `$` occurs after the first `$` of the value.

@@ -46,6 +46,7 @@ pub enum Cause {
     MissingColon,
     // the value of a user-agent line
     InvalidProductToken,
+    UnusualProductToken,
     // a rule
     RuleNotUtf8,
     MissingSlash,
@@ -70,7 +71,7 @@ pub enum Cause {
 
 /// The warnings with their levels, names and messages.
 #[rattlefmt::skip]
-pub static WARNINGS: [(Cause, Level, &str, &str); 45] = [
+pub static WARNINGS: [(Cause, Level, &str, &str); 46] = [
     // the file
     (Cause::LooksLikeHtml, Level::Error, "looks-like-html",
         "no usable line found; the file starts with <, so it may be an HTML page; serve a plain-text robots.txt instead"),
@@ -135,6 +136,8 @@ pub static WARNINGS: [(Cause, Level, &str, &str); 45] = [
     // the value of a user-agent line
     (Cause::InvalidProductToken, Level::Warning, "invalid-product-token",
         "not a valid product token (ASCII letters, _ and - only, or a single *); crawlers disagree on how to match it; write one name per User-agent line, without version, quotes or *"),
+    (Cause::UnusualProductToken, Level::Note, "unusual-product-token",
+        "not a valid product token (ASCII letters, _ and - only); some crawlers have such names, but others compare only a part of it; check the crawler's documentation"),
     // a rule
     (Cause::RuleNotUtf8, Level::Warning, "rule-not-utf-8",
         "the rule isn't valid UTF-8 and is ignored; save the file as UTF-8"),

@@ -1,7 +1,12 @@
 //! Conditions on the name of a crawler.
-ghost use Rattle.std.specs.Prelude.{◌≡◌};
+ghost use Rattle.std.specs.Prelude.{◌≡◌, codes};
 ghost use Rattle.std.specs.List.{list_all};
-ghost use Rattle.robots_warnings.specs.Tokens.{has_slash, has_space_around, is_product_token, is_token_byte};
+ghost use Rattle.robots_warnings.specs.Urls.{begins_in_any_case};
+ghost use Rattle.robots_warnings.specs.Tokens.{has_slash, has_space_around, is_invalid_name, is_name_byte, is_product_token};
+ghost use Rattle.robots_warnings.specs.Tokens.{is_token_byte, is_unusual_name, is_usual_name, seems_several_names, without_star};
+
+use crate::rules::somewhere;
+use crate::urls::begins_in_any_case;
 
 /// Whether the text starts or ends with white space.
 pub(crate) fn has_space_around(text: &str) -> bool
@@ -32,8 +37,67 @@ fn are_token_bytes(bytes: &[u8]) -> bool
 }
 
 /// Whether the value of a user-agent line is a product token, or `*`.
-pub(crate) fn is_product_token(value: &[u8]) -> bool
+fn is_product_token(value: &[u8]) -> bool
     ensures { result ≡ is_product_token value.now }
 {
     value == b"*".as_slice() || (!value.is_empty() && are_token_bytes(value))
+}
+
+/// Whether the byte can occur in a name that isn't a product token.
+fn is_name_byte(byte: u8) -> bool
+    ensures { result ≡ is_name_byte byte }
+{
+    is_token_byte(byte) || byte.is_ascii_digit() || byte == b'.' || byte == b' '
+}
+
+/// Whether each byte can occur in such a name.
+fn are_name_bytes(bytes: &[u8]) -> bool
+    ensures { result ≡ list_all is_name_byte bytes.now }
+{
+    bytes.iter().all(|byte| is_name_byte(*byte))
+}
+
+/// The value without a star at its end.
+fn without_star(value: &[u8]) -> &[u8]
+    ensures { result.now ≡ without_star value.now }
+{
+    match value {
+        [name @ .., b'*'] => name,
+        _ => value,
+    }
+}
+
+/// Whether the text starts with `bot` and a space.
+fn begins_bot(text: &[u8]) -> bool
+    ensures { result ≡ begins_in_any_case (codes "bot ") text.now }
+{
+    begins_in_any_case(b"bot ", text)
+}
+
+/// Whether a space follows `bot`, so that the value seems to be several names.
+fn seems_several_names(value: &[u8]) -> bool
+    ensures { result ≡ seems_several_names value.now }
+{
+    somewhere(value, begins_bot)
+}
+
+/// Whether the value is written as names of real crawlers that aren't product tokens are.
+fn is_usual_name(value: &[u8]) -> bool
+    ensures { result ≡ is_usual_name value.now }
+{
+    !value.is_empty() && are_name_bytes(without_star(value)) && !seems_several_names(value)
+}
+
+/// Whether the value of a user-agent line is neither a product token nor such a name.
+pub(crate) fn is_invalid_name(value: &[u8]) -> bool
+    ensures { result ≡ is_invalid_name value.now }
+{
+    !is_product_token(value) && !is_usual_name(value)
+}
+
+/// Whether the value of a user-agent line is such a name, and not a product token.
+pub(crate) fn is_unusual_name(value: &[u8]) -> bool
+    ensures { result ≡ is_unusual_name value.now }
+{
+    !is_product_token(value) && is_usual_name(value)
 }

@@ -7,7 +7,7 @@ use std::alloc::{AllocError, Global};
 use url::{ParseError, Url};
 
 /// Whether the text starts with `front`, ignoring ASCII case.
-fn begins_in_any_case(front: &[u8], text: &[u8]) -> bool
+pub(crate) fn begins_in_any_case(front: &[u8], text: &[u8]) -> bool
     ensures { result ≡ begins_in_any_case front.now text.now }
 {
     text[..front.len().min(text.len())].eq_ignore_ascii_case(front)
