@@ -1,13 +1,14 @@
 -- What the warnings have to know about a file as a whole.
 use Rattle.std.specs.Prelude.{ℕ, ◌==◌, Bool, true, false, nat_eq, nat_le, nat_lt, not, ◌||◌}
-use Rattle.std.specs.Prelude.{◌&&◌, List, [], ◌∷◌, codes, length, take}
+use Rattle.std.specs.Prelude.{◌&&◌, List, [], ◌∷◌, codes, drop, if◌then◌else◌, length, take}
 use Rattle.std.specs.List.{list_any, starts_with}
 use Rattle.texting_robots.specs.Callers.{Allow, CrawlDelay, Disallow, LineValue, Label, Raw, Sitemap}
 use Rattle.texting_robots.specs.Callers.{file_limit}
+use Rattle.texting_robots.specs.Cut.{cr, lf}
 use Rattle.texting_robots.specs.Group.{is_agent}
 use Rattle.robots_warnings.specs.declared.facts.FileFacts.{FileFacts}
 use Rattle.robots_warnings.specs.declared.facts.LineKinds.{LineKinds}
-use Rattle.robots_warnings.specs.File.{is_blank, lines_of}
+use Rattle.robots_warnings.specs.File.{is_blank, lines_of, space, tab}
 
 -- ---- the lines
 
@@ -52,9 +53,26 @@ seems_utf_16 file =
     || (nat_le 4 (length file)
     && (nul_at_every_other true (take 64 file) || nul_at_every_other false (take 64 file))))
 
--- the file starts with `<`, as HTML does
+-- a complete byte order mark
+abbrev pub mark : List ℕ
+mark = 0xEF ∷ 0xBB ∷ 0xBF ∷ []
+
+-- the text without this start, if it has it
+abbrev pub without_start : List ℕ → List ℕ → List ℕ
+without_start start text = if starts_with nat_eq text start then drop (length start) text else text
+
+-- a space, a tab, CR or LF
+abbrev pub is_white : ℕ → Bool
+is_white b = b == space || (b == tab || (b == cr || b == lf))
+
+-- the text without such bytes at its start
+abbrev pub without_white : List ℕ → List ℕ
+without_white [] = []
+without_white (b ∷ text) = if is_white b then without_white text else b ∷ text
+
+-- the file starts with `<`, as HTML does, possibly after a byte order mark, spaces, tabs and empty lines
 abbrev pub seems_html : List ℕ → Bool
-seems_html file = starts_with nat_eq file (codes "<")
+seems_html file = starts_with nat_eq (without_white (without_start mark file)) (codes "<")
 
 -- ---- the file
 

@@ -2,7 +2,7 @@
 ghost use Rattle.std.specs.Prelude.{◌≡◌, ◌==◌, ◌||◌, map, not, take};
 ghost use Rattle.texting_robots.specs.Callers.{by_value, label_by_value};
 ghost use Rattle.robots_warnings.specs.Facts.{facts_by, facts_of, has_text, suppresses_line_warnings, is_too_large, is_unknown};
-ghost use Rattle.robots_warnings.specs.Facts.{kinds_of, nul_at_every_other, seems_html, seems_utf_16};
+ghost use Rattle.robots_warnings.specs.Facts.{kinds_of, mark, nul_at_every_other, seems_html, seems_utf_16, without_start, without_white};
 ghost use Rattle.robots_warnings.specs.File.{lines_of};
 ghost use Rattle.robots_warnings.specs.Internal.{kinds_with};
 
@@ -119,11 +119,29 @@ fn seems_utf_16(file: &[u8]) -> bool
         || (file.len() >= 4 && (has_nuls(true, first) || has_nuls(false, first)))
 }
 
+/// The text without a byte order mark.
+fn without_mark<'a>(text: &'a [u8]) -> &'a [u8]
+    ensures { result.now ≡ without_start mark text.now }
+{
+    text.strip_prefix(b"\xEF\xBB\xBF").unwrap_or(text)
+}
+
+/// The text without spaces, tabs, CRs and LFs at its start.
+fn without_white<'a>(text: &'a [u8]) -> &'a [u8]
+    ensures { result.now ≡ without_white text.now }
+{
+    let mut rest = text;
+    while let [b' ' | b'\t' | b'\r' | b'\n', after @ ..] = rest {
+        rest = after;
+    }
+    rest
+}
+
 /// Whether the file looks like HTML.
 fn seems_html(file: &[u8]) -> bool
     ensures { result ≡ seems_html file.now }
 {
-    file.starts_with(b"<")
+    without_white(without_mark(file)).starts_with(b"<")
 }
 
 /// Whether a file with these kinds of lines has no directive, but some line that isn't empty or a comment.

@@ -74,7 +74,7 @@ pub enum Cause {
 pub static WARNINGS: [(Cause, Level, &str, &str); 46] = [
     // the file
     (Cause::LooksLikeHtml, Level::Error, "looks-like-html",
-        "no usable line found; the file starts with <, so it may be an HTML page; serve a plain-text robots.txt instead"),
+        "no usable line found; the first character is <, so it may be an HTML page; serve a plain-text robots.txt instead"),
     (Cause::LooksLikeUtf16, Level::Error, "looks-like-utf-16",
         "no usable line found; the file looks like UTF-16; save it as UTF-8"),
     (Cause::NoDirectives, Level::Error, "no-directives",
