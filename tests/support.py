@@ -79,36 +79,36 @@ def shown(document):
 
 
 def documented_warnings():
-    """The levels and the messages of each warning by its name, in the order of docs/PROGRAMS.md. One of the messages has KEY in place
-    of a field name."""
-    levels, texts = {}, {}
+    """The levels and messages of each warning by its name, in the order of docs/PROGRAMS.md. One of the messages has KEY in place of a
+    field name."""
+    warnings = {}
     for row in tables(DOCUMENTS["docs/PROGRAMS.md"]):
         if len(row) == 4 and row[1] in ("error", "warning", "note"):
-            name = row[0].strip("`")
-            assert levels.setdefault(name, row[1]) == row[1], f"{name}: two levels"
-            texts.setdefault(name, []).append(row[3])
-    return levels, texts
+            warnings.setdefault(row[0].strip("`"), []).append((row[1], row[3]))
+    return warnings
 
 
-LEVELS, WARNINGS = documented_warnings()
+WARNINGS = documented_warnings()
 
 
 OF_A_URL = {"not-a-url-or-path", "invalid-url"}
 
 
-def text_of(name, detail=""):
-    """The documented text of a warning. Its detail is the key that may be meant, or else the URL that the warning is about."""
-    for text in WARNINGS[name]:
-        if detail and "KEY" in text:
-            return text.replace("KEY", detail)
-    text = WARNINGS[name][-1]
-    return f"URL '{detail}': {text}" if name in OF_A_URL else text
+def level_and_text(name, detail=""):
+    """The documented level and message of a warning. Its detail is the field name that may be meant; the level, if the name has two; or
+    else the URL that the warning is about."""
+    for level, text in WARNINGS[name]:
+        if detail == level or detail and "KEY" in text:
+            return level, text.replace("KEY", detail)
+    level, text = WARNINGS[name][-1]
+    return level, f"URL '{detail}': {text}" if name in OF_A_URL else text
 
 
 def warning_line(warning, file="robots.txt"):
     """The line on standard error for a warning that a golden case writes as `[LINE] NAME [DETAIL]`, about the file with this name."""
     line, name, detail = re.fullmatch(r"(?:(\d+) )?([a-z0-9-]+)(?: (.*))?", warning).groups()
-    return f"{file}:{line or ''}{':' if line else ''} {LEVELS[name]}: {text_of(name, detail or '')} [{name}]\n"
+    level, text = level_and_text(name, detail or "")
+    return f"{file}:{line or ''}{':' if line else ''} {level}: {text} [{name}]\n"
 
 
 KEYS = set("like args agent robots file from pieces room out more warn err status indented".split())
@@ -150,8 +150,12 @@ def input_of(case, indented=False):
 def with_texts(out):
     """JSON in which [NAME] has become the text of that warning, whose level comes first."""
     name = re.compile(r'("line":[^,]*,"name":"[a-z0-9-]+","text":)"\[([a-z0-9-]+)(?: ([^]]*))?\]')
-    text = lambda it: json.dumps(text_of(it[2], it[3] or ""), ensure_ascii=False)[:-1]
-    return name.sub(lambda it: f'"level":"{LEVELS[it[2]]}",{it[1]}{text(it)}', out)
+
+    def with_text(found):
+        level, text = level_and_text(found[2], found[3] or "")
+        return f'"level":"{level}",{found[1]}{json.dumps(text, ensure_ascii=False)[:-1]}'
+
+    return name.sub(with_text, out)
 
 
 def wanted_of(case):

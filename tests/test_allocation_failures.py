@@ -24,7 +24,7 @@ VERDICT_INPUT = (CRATES / "robots_verdict/stdin").read_bytes()
 AUDIT_INPUT = (CRATES / "robots_audit/stdin").read_bytes()
 AUDIT_ARGS = (CRATES / "robots_audit/args").read_text().splitlines()
 VERDICT = Result(0, (CRATES / "robots_verdict/stdout").read_bytes(), "")
-AUDIT_WARNINGS = "".join(map(warning_line, ["6 rule-not-utf-8", "11 noindex-line", "2 rule-before-user-agent"]))
+AUDIT_WARNINGS = "".join(map(warning_line, ["nul-ends-line", "5 several-values", "6 rule-not-utf-8", "11 noindex-line", "2 rule-before-user-agent"]))
 AUDIT = Result(1, (CRATES / "robots_audit/stdout").read_bytes(), AUDIT_WARNINGS)
 URLS = ["https://example.com/b", "/a%20b/c"]
 

@@ -9,7 +9,7 @@ import shlex
 import subprocess
 
 import pytest
-from support import CRATES, DOCUMENTS, LEVELS, ROOT, WARNINGS, run, shown, spelled, tables
+from support import CRATES, DOCUMENTS, ROOT, WARNINGS, run, shown, spelled, tables
 
 LIBRARY = CRATES / "texting_robots"
 README, GUIDE, PROGRAMS, PROOFS, CONTRACTS = map(DOCUMENTS.get, ["README.md", *(f"docs/{name}.md" for name in ("GUIDE", "PROGRAMS", "PROOFS", "CONTRACTS"))])
@@ -243,11 +243,10 @@ def test_each_warning_has_an_example():
 def test_warnings_have_the_order_and_messages_of_the_table():
     table = (CRATES / "robots_warnings/src/table.rt").read_text()
     rows = re.findall(r'\(Cause::\w+, Level::(\w+), "([a-z0-9-]+)",\s+"((?:[^"\\]|\\.)*)"\)', table)
-    messages = [(name, text.replace('\\"', '"').replace("\\\\", "\\")) for _, name, text in rows]
-    assert {name: level.lower() for level, name, _ in rows} == LEVELS
-    documented = [(name, text) for name, texts in WARNINGS.items() for text in texts]
+    messages = [(name, level.lower(), text.replace('\\"', '"').replace("\\\\", "\\")) for level, name, text in rows]
+    documented = [(name, *row) for name, its in WARNINGS.items() for row in its]
     names = ["User-agent", "Allow", "Disallow", "Sitemap", "Crawl-delay"]
-    assert messages == [(name, text.replace("KEY", key)) for name, text in documented for key in (names if "KEY" in text else [""])]
+    assert messages == [(name, level, text.replace("KEY", key)) for name, level, text in documented for key in (names if "KEY" in text else [""])]
 
 
 LONG_RULE = b"Disallow: /b\nAllow: $" + b"a" * 4096

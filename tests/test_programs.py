@@ -97,7 +97,8 @@ def test_a_rule_with_a_byte_that_urls_escape_is_warned_about(start, misses):
         if byte in "\n\r#$*":
             continue
         rule = f"{start}{byte}/"
-        result = run("robots_audit", ["Ferris", f"http://example.com{rule}"], f"User-agent: *\nDisallow: {rule}".encode())
+        args = ["--only", "unencoded-character", "Ferris", f"http://example.com{rule}"]
+        result = run("robots_audit", args, f"User-agent: *\nDisallow: {rule}".encode())
         if result.status == 0:
             assert result.err == warning_line("2 unencoded-character")
             warned += byte

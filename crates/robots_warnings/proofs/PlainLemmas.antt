@@ -1,9 +1,9 @@
 -- No check of a rule holds for a plain rule.
-use Rattle.std.proofs.Common.{◌≡◌, ℕ, suc, zero, ◌+◌, ◌-◌, nat_lt, ◌<◌, ◌==◌, ◌||◌, ◌&&◌, Bool, List, [], ◌∷◌, Option}
+use Rattle.std.proofs.Common.{◌≡◌, ℕ, suc, zero, ◌+◌, ◌-◌, nat_le, nat_lt, ◌<◌, ◌==◌, ◌||◌, ◌&&◌, Bool, List, [], ◌∷◌, Option}
 use Rattle.std.proofs.Common.{ap, arith, drop, false, length, not, refl, subst, sym, take, true, ◌∙◌}
 use Rattle.std.proofs.Common.{eqb}
 use Rattle.std.specs.Cmp.Lexicographic.{pointwise}
-use Rattle.std.specs.List.{ends_with, list_all, position_or_len, starts_with}
+use Rattle.std.specs.List.{list_all, position_or_len, starts_with}
 use Rattle.std.specs.Str.{IsAscii, is_utf8}
 use Rattle.std.proofs.lemmas.Bool.{and_parts, eqb-true, false≢true, ne_eqb}
 use Rattle.std.proofs.lemmas.Bool.Decides.{nat_tests}
@@ -11,12 +11,12 @@ use Rattle.std.proofs.lemmas.List.{drop_all}
 use Rattle.std.proofs.lemmas.Str.{IsUtf8-from_ascii, is_utf8-from_IsUtf8}
 use Rattle.std.proofs.lemmas.Str.Ascii.{IsAscii-cons, IsAscii-nil}
 use Rattle.robots_warnings.specs.Checks.{Check, rule_checks}
-use Rattle.robots_warnings.specs.declared.table.Cause.{Cause}
 use Rattle.robots_warnings.specs.Internal.Plain.{is_plain, is_plain_byte}
 use Rattle.robots_warnings.specs.Rules.{after_byte, before_byte, begins_class, begins_dot_segment, begins_odd_escape}
-use Rattle.robots_warnings.specs.Rules.{begins_range, begins_sign, has, has_choice, has_dollar_inside}
+use Rattle.robots_warnings.specs.Rules.{begins_range, begins_sign, has, has_choice, has_dollar_inside, has_final_plus}
 use Rattle.robots_warnings.specs.Rules.{has_dot_segment, holds_otherwise, is_expression, is_quoted}
 use Rattle.robots_warnings.specs.Rules.{is_written_otherwise, somewhere, stands_around}
+use Rattle.robots_warnings.specs.SeveralValues.{begins_next_value, has_several_values, has_space}
 use Rattle.robots_warnings.specs.Warnings.{warned}
 
 abbrev are_plain : List ℕ → Bool
@@ -131,16 +131,32 @@ no_plus [] plain = refl
 no_plus (c ∷ text) plain =
     rw (other 43 c (and_parts (is_plain_byte c) (are_plain text) plain).0 refl) refl
 
-plus : (text : List ℕ) → are_plain text ≡ true → ends_with eqb text (43 ∷ []) ≡ false
-plus text plain = no_plus (drop (length text - 1) text) (after (length text - 1) text plain)
+final_plus : (text : List ℕ) → are_plain text ≡ true → has_final_plus text ≡ false
+final_plus text plain = rw (no_plus (drop (length text - 1) text) (after (length text - 1) text plain)) refl
 
 expression : (text : List ℕ) → are_plain text ≡ true → is_expression text ≡ false
 expression text plain =
     let choice : has_choice text ≡ false = rw (nothing_after 40 text plain refl) refl in
-    either_false _ _ choice (either_false _ _ (never begins_sign sign text plain) (plus text plain))
+    either_false _ _ choice (either_false _ _ (never begins_sign sign text plain) (final_plus text plain))
 
 dollar : (text : List ℕ) → are_plain text ≡ true → has_dollar_inside text ≡ false
 dollar text plain = rw (nothing_after 36 text plain refl) refl
+
+no_space : (text : List ℕ) → are_plain text ≡ true → has_space text ≡ false
+no_space [] plain = refl
+no_space (c ∷ text) plain =
+    let both = and_parts (is_plain_byte c) (are_plain text) plain in
+    let visible : nat_le c 32 ≡ false = grind (arith, nat_tests) in
+    rw (visible, no_space text both.1) refl
+
+next_value : (c : ℕ) (text : List ℕ) → is_plain_byte c ≡ true → are_plain text ≡ true
+    → begins_next_value (c ∷ text) ≡ false
+next_value c text plain rest =
+    rw (differs c 44 plain refl, differs c 60 plain refl, other 0xC2 c plain refl, other 0xE2 c plain refl,
+    other 0xEF c plain refl) refl
+
+several : (text : List ℕ) → are_plain text ≡ true → has_several_values text ≡ false
+several text plain = either_false _ _ (no_space text plain) (never begins_next_value next_value text plain)
 
 -- ---- all checks
 
@@ -162,6 +178,7 @@ below_root line about rest plain =
       dollar value plain,
       never begins_odd_escape escape value plain,
       dotless,
+      several value plain,
     ) refl
 
 pub plain_has_no_warning : (line : Option ℕ) (about : Option (List ℕ)) (value : List ℕ) → is_plain value ≡ true

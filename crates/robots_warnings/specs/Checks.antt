@@ -8,11 +8,13 @@ use Rattle.robots_warnings.specs.declared.facts.FileFacts.{FileFacts}
 use Rattle.robots_warnings.specs.declared.positions.Preceding.{Preceding}
 use Rattle.robots_warnings.specs.declared.table.Cause.{Cause}
 use Rattle.robots_warnings.specs.declared.table.Cause.TheVariants as cause
-use Rattle.robots_warnings.specs.FieldNames.{is_misspelled, is_without_colon, meant_by}
+use Rattle.robots_warnings.specs.Contents.{comment_of, has_odd_comment, has_odd_delay, has_odd_space, is_cut_short, is_cut_to_root, text_of}
+use Rattle.robots_warnings.specs.FieldNames.{has_inner_field, is_misspelled, is_without_colon, meant_by}
 use Rattle.robots_warnings.specs.File.{is_blank}
 use Rattle.robots_warnings.specs.Positions.{is_above_agents, is_empty_group, is_split}
 use Rattle.robots_warnings.specs.Rules.{begins_odd_escape, has_dollar_inside, has_dot_segment, has_odd_start}
 use Rattle.robots_warnings.specs.Rules.{holds_otherwise, is_expression, is_quoted, somewhere}
+use Rattle.robots_warnings.specs.SeveralValues.{has_several_values}
 use Rattle.robots_warnings.specs.Tokens.{has_slash, has_space_around, is_invalid_name, is_unusual_name}
 use Rattle.robots_warnings.specs.Urls.{begins_as_url, is_absolute_url, is_invalid_url, is_url_or_path}
 
@@ -27,6 +29,8 @@ file_checks facts =
     ∷ (cause.NoDirectives, facts.is_other_text)
     ∷ (cause.FileTooLarge, facts.is_too_large)
     ∷ (cause.NoUserAgent, facts.kinds.rule && not facts.kinds.user_agent)
+    ∷ (cause.DamagedByteOrderMark, facts.has_damaged_mark)
+    ∷ (cause.NulEndsLine, facts.has_nul && not facts.is_utf_16)
     ∷ []
 
 -- the product token that the user passed
@@ -54,6 +58,21 @@ field_checks body =
     ∷ (cause.MissingColon, is_without_colon body)
     ∷ []
 
+-- the white space around the value of a line with this text before its comment
+abbrev pub space_checks : (value text : List ℕ) → List Check
+space_checks value text = (cause.SpaceAroundValue, has_odd_space value text) ∷ []
+
+-- the text of a delay
+abbrev pub delay_text_checks : List ℕ → List Check
+delay_text_checks text = (cause.DelayNotation, has_odd_delay text) ∷ []
+
+-- the comment after the value of an Allow or a Disallow
+abbrev pub cut_checks : (value text comment : List ℕ) → List Check
+cut_checks value text comment =
+    (cause.HashLeavesRoot, is_cut_to_root value text comment)
+    ∷ (cause.HashCutsRule, is_cut_short value text comment)
+    ∷ []
+
 -- the value of a user-agent line
 abbrev pub user_agent_checks : List ℕ → List Check
 user_agent_checks value =
@@ -73,6 +92,7 @@ rule_checks value =
     ∷ (cause.DollarNotAtEnd, has_dollar_inside value)
     ∷ (cause.NonstandardEscape, somewhere begins_odd_escape value)
     ∷ (cause.DotSegment, has_dot_segment value)
+    ∷ (cause.SeveralValues, has_several_values value)
     ∷ []
 
 -- microseconds per day
@@ -85,7 +105,17 @@ delay_checks micros = (cause.DelayOverADay, nat_lt day micros) ∷ []
 
 -- the value of a sitemap line
 abbrev pub sitemap_checks : List ℕ → List Check
-sitemap_checks value = (cause.SitemapNotAbsolute, not (is_absolute_url value)) ∷ []
+sitemap_checks value =
+    (cause.SeveralValues, has_several_values value)
+    ∷ (cause.SitemapNotAbsolute, not (is_absolute_url value))
+    ∷ []
+
+-- the text and the comment of any line
+abbrev pub text_checks : (text comment : List ℕ) → List Check
+text_checks text comment =
+    (cause.OneLine, has_inner_field text)
+    ∷ (cause.ControlInComment, has_odd_comment comment)
+    ∷ []
 
 -- the position of a line, determined by the number of the last rule or delay and by what precedes the line
 abbrev pub position_checks : Option ℕ → Preceding → Label → List Check
@@ -112,7 +142,28 @@ value_checks is_in_scope (CrawlDelay (Some micros)) = delay_checks micros
 value_checks is_in_scope (Sitemap value) = sitemap_checks value
 value_checks is_in_scope (Raw body) = if is_blank body then [] else ignored_checks body
 
+-- what a rule with a colon has besides its value; comments are only checked if `is_in_scope` is true
+abbrev pub raw_rule_checks : Bool → (value text comment : List ℕ) → List Check
+raw_rule_checks is_in_scope value text comment =
+    space_checks value text ++ (if is_in_scope then cut_checks value text comment else [])
+
+-- what a directive with a colon has besides its value
+abbrev pub raw_checks : Bool → LineValue → (text comment : List ℕ) → List Check
+raw_checks is_in_scope (UserAgent value) text comment = space_checks value text
+raw_checks is_in_scope (Allow value) text comment = raw_rule_checks is_in_scope value text comment
+raw_checks is_in_scope (Disallow value) text comment = raw_rule_checks is_in_scope value text comment
+raw_checks is_in_scope (CrawlDelay delay) text comment = delay_text_checks text
+raw_checks is_in_scope (Sitemap value) text comment = space_checks value text
+raw_checks is_in_scope (Raw content) text comment = []
+
+-- what a directive with this content has besides its value
+abbrev pub directive_checks : Bool → LineValue → List ℕ → List Check
+directive_checks is_in_scope line body =
+    field_checks body
+    ++ (if is_without_colon body then [] else raw_checks is_in_scope line (text_of body) (comment_of body))
+
 -- a line with this content
 abbrev pub line_checks : Bool → LineValue → List ℕ → List Check
 line_checks is_in_scope line body =
-    (if is_directive line then field_checks body else []) ++ value_checks is_in_scope line
+    (if is_directive line then directive_checks is_in_scope line body else [])
+    ++ (value_checks is_in_scope line ++ text_checks (text_of body) (comment_of body))

@@ -74,6 +74,14 @@ without_white (b ∷ text) = if is_white b then without_white text else b ∷ te
 abbrev pub seems_html : List ℕ → Bool
 seems_html file = starts_with nat_eq (without_white (without_start mark file)) (codes "<")
 
+-- the file starts with a byte of a byte order mark, but not with all of it; the bytes there are skipped
+abbrev pub has_damaged_mark : List ℕ → Bool
+has_damaged_mark file = list_any (λ b. starts_with nat_eq file (b ∷ [])) mark && not (starts_with nat_eq file mark)
+
+-- a NUL is within the size limit, where it ends a line
+abbrev pub has_nul : List ℕ → Bool
+has_nul file = list_any (λ b. b == 0) (take file_limit file)
+
 -- ---- the file
 
 -- the file has no directive, but some line that isn't empty or a comment
@@ -92,6 +100,8 @@ facts_by file kinds = record {
   is_utf_16 = is_unknown kinds && (not (seems_html file) && seems_utf_16 file);
   is_other_text = is_unknown kinds && not (seems_html file || seems_utf_16 file);
   is_too_large = is_too_large file;
+  has_damaged_mark = has_damaged_mark file;
+  has_nul = has_nul file;
 }
 
 -- the facts about a file with these lines

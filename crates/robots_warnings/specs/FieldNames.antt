@@ -2,7 +2,7 @@
 -- directive.
 use Rattle.std.specs.Prelude.{ℕ, ◌+◌, ◌==◌, nat_eq, nat_le, Bool, not, ◌||◌, ◌&&◌}
 use Rattle.std.specs.Prelude.{List, [], ◌∷◌, Option, bytes_eq, find, if◌then◌else◌, length, map, option_map}
-use Rattle.std.specs.Prelude.{reverse, take, unwrap_or}
+use Rattle.std.specs.Prelude.{drop, reverse, slice_index, take, unwrap_or}
 use Rattle.std.specs.List.{before_first, list_any}
 use Rattle.std.specs.Option.{option_or}
 use Rattle.std.specs.Str.{byte, str_to_ascii_lowercase}
@@ -11,7 +11,7 @@ use Rattle.texting_robots.specs.Statement.{field_names}
 use Rattle.texting_robots.specs.declared.parser.statement.Kind.{Kind}
 use Rattle.texting_robots.specs.declared.parser.statement.Kind.TheVariants as kind
 use Rattle.robots_warnings.specs.File.{space, tab}
-use Rattle.robots_warnings.specs.Rules.{before_byte}
+use Rattle.robots_warnings.specs.Rules.{before_byte, somewhere}
 use Rattle.robots_warnings.specs.declared.field_names.TheConstants.{DIRECTIVES, KINDS, UNSUPPORTED}
 use Rattle.robots_warnings.specs.declared.table.Cause.{Cause}
 use Rattle.robots_warnings.specs.declared.table.Cause.TheVariants.{InvalidDelay, UnrecognizedLine}
@@ -117,6 +117,19 @@ is_misspelled body = not (list_any (λ row. begins_with row.0.now (without_front
 -- the token is an accepted name of a directive
 abbrev pub is_any_accepted : List ℕ → Bool
 is_any_accepted word = list_any (λ kind. is_accepted kind word) KINDS
+
+-- the text starts with the name and a colon
+abbrev pub begins_field : List ℕ → List ℕ → Bool
+begins_field name text = begins_with name text && slice_index text (length name) == byte ":"
+
+-- the text starts with a space or a tab, one of the usual names and a colon
+abbrev pub begins_inner_field : List ℕ → Bool
+begins_inner_field text =
+    is_space_or_tab (slice_index text 0) && list_any (λ row. begins_field row.0.now (drop 1 text)) DIRECTIVES
+
+-- such a text occurs in the text of a line, after its first word
+abbrev pub has_inner_field : List ℕ → Bool
+has_inner_field text = somewhere begins_inner_field (without_front text)
 
 -- there is no colon after the field name
 abbrev pub is_without_colon : List ℕ → Bool

@@ -6,7 +6,9 @@ pub mod Tokens
 pub mod Urls
 pub mod FieldNames
 pub mod Rules
+pub mod SeveralValues
 pub mod Positions
+pub mod Contents
 pub mod Checks
 pub mod Conflicts
 pub mod NamesPastLimit

@@ -1,16 +1,21 @@
 //! The condition of each warning, grouped by what it inspects, in the order of output.
 ghost use Rattle.std.specs.Prelude.{◌≡◌, IfOk};
 ghost use Rattle.texting_robots.specs.Callers.{label_by_value};
-ghost use Rattle.robots_warnings.specs.Checks.{agent_checks, delay_checks, field_checks, file_checks, ignored_checks};
-ghost use Rattle.robots_warnings.specs.Checks.{position_checks, rule_checks, sitemap_checks, url_checks, user_agent_checks};
+ghost use Rattle.robots_warnings.specs.FieldNames.{is_without_colon};
+ghost use Rattle.robots_warnings.specs.Checks.{agent_checks, cut_checks, delay_checks, delay_text_checks, field_checks, file_checks, ignored_checks};
+ghost use Rattle.robots_warnings.specs.Checks.{position_checks, rule_checks, sitemap_checks, space_checks, text_checks, url_checks, user_agent_checks};
 
+use crate::contents::{
+    has_odd_comment, has_odd_delay, has_odd_space, is_cut_short, is_cut_to_root,
+};
 use crate::facts::FileFacts;
-use crate::field_names::{is_misspelled, is_without_colon, meant_by};
+use crate::field_names::{has_inner_field, is_misspelled, meant_by};
 use crate::positions::{Preceding, is_above_agents, is_empty_group, is_split};
 use crate::rules::{
     has_dollar_inside, has_dot_segment, has_odd_escape, has_odd_start, holds_otherwise,
     is_expression, is_quoted, is_utf8,
 };
+use crate::several_values::has_several_values;
 use crate::table::Cause;
 use crate::tokens::{has_slash, has_space_around, is_invalid_name, is_unusual_name};
 use crate::urls::{begins_as_url, is_absolute_url, is_invalid_url, is_url_or_path};
@@ -24,7 +29,7 @@ pub(crate) type Check = (Cause, bool);
 const DAY: u64 = 86_400_000_000;
 
 /// Checks of a file.
-pub(crate) fn file_checks(facts: FileFacts) -> [Check; 5]
+pub(crate) fn file_checks(facts: FileFacts) -> [Check; 7]
     ensures { result ≡ file_checks facts }
 {
     [
@@ -36,6 +41,8 @@ pub(crate) fn file_checks(facts: FileFacts) -> [Check; 5]
             Cause::NoUserAgent,
             facts.kinds.rule && !facts.kinds.user_agent,
         ),
+        (Cause::DamagedByteOrderMark, facts.has_damaged_mark),
+        (Cause::NulEndsLine, facts.has_nul && !facts.is_utf_16),
     ]
 }
 
@@ -66,13 +73,38 @@ pub(crate) fn ignored_checks(alloc: Global, body: &[u8]) -> Result<[Check; 1], A
     Ok([(meant_by(alloc, body)?, true)])
 }
 
-/// Checks of the field name in the content of a directive.
-pub(crate) fn field_checks(body: &[u8]) -> [Check; 2]
+/// Checks of the field name in the content of a directive, which has no colon after it if `lacks_colon` is true.
+pub(crate) fn field_checks(body: &[u8], lacks_colon: bool) -> [Check; 2]
+    requires { lacks_colon ≡ is_without_colon body.now }
     ensures { result ≡ field_checks body.now }
 {
     [
         (Cause::NonstandardField, is_misspelled(body)),
-        (Cause::MissingColon, is_without_colon(body)),
+        (Cause::MissingColon, lacks_colon),
+    ]
+}
+
+/// Checks of the white space around the value of a line with this text before its comment.
+pub(crate) fn space_checks(value: &[u8], text: &[u8]) -> [Check; 1]
+    ensures { result ≡ space_checks value.now text.now }
+{
+    [(Cause::SpaceAroundValue, has_odd_space(value, text))]
+}
+
+/// Checks of the text of a delay.
+pub(crate) fn delay_text_checks(text: &[u8]) -> [Check; 1]
+    ensures { result ≡ delay_text_checks text.now }
+{
+    [(Cause::DelayNotation, has_odd_delay(text))]
+}
+
+/// Checks of the comment after the value of an Allow or a Disallow.
+pub(crate) fn cut_checks(value: &[u8], text: &[u8], comment: &[u8]) -> [Check; 2]
+    ensures { result ≡ cut_checks value.now text.now comment.now }
+{
+    [
+        (Cause::HashLeavesRoot, is_cut_to_root(value, text, comment)),
+        (Cause::HashCutsRule, is_cut_short(value, text, comment)),
     ]
 }
 
@@ -87,7 +119,7 @@ pub(crate) fn user_agent_checks(value: &[u8]) -> [Check; 2]
 }
 
 /// Checks of the value of an Allow or a Disallow.
-pub(crate) fn rule_checks(value: &[u8]) -> [Check; 9]
+pub(crate) fn rule_checks(value: &[u8]) -> [Check; 10]
     ensures { result ≡ rule_checks value.now }
 {
     [
@@ -100,6 +132,7 @@ pub(crate) fn rule_checks(value: &[u8]) -> [Check; 9]
         (Cause::DollarNotAtEnd, has_dollar_inside(value)),
         (Cause::NonstandardEscape, has_odd_escape(value)),
         (Cause::DotSegment, has_dot_segment(value)),
+        (Cause::SeveralValues, has_several_values(value)),
     ]
 }
 
@@ -111,10 +144,23 @@ pub(crate) fn delay_checks(micros: u64) -> [Check; 1]
 }
 
 /// Checks of the value of a sitemap line.
-pub(crate) fn sitemap_checks(alloc: Global, value: &[u8]) -> Result<[Check; 1], AllocError>
+pub(crate) fn sitemap_checks(alloc: Global, value: &[u8]) -> Result<[Check; 2], AllocError>
     ensures { IfOk result (λ checks. checks ≡ sitemap_checks value.now) }
 {
-    Ok([(Cause::SitemapNotAbsolute, !is_absolute_url(alloc, value)?)])
+    Ok([
+        (Cause::SeveralValues, has_several_values(value)),
+        (Cause::SitemapNotAbsolute, !is_absolute_url(alloc, value)?),
+    ])
+}
+
+/// Checks of the text and the comment of any line.
+pub(crate) fn text_checks(text: &[u8], comment: &[u8]) -> [Check; 2]
+    ensures { result ≡ text_checks text.now comment.now }
+{
+    [
+        (Cause::OneLine, has_inner_field(text)),
+        (Cause::ControlInComment, has_odd_comment(comment)),
+    ]
 }
 
 /// Checks of the position of a line; `last` is the number of the last rule or delay.

@@ -2,11 +2,11 @@
 ghost use Rattle.std.specs.Prelude.{◌≡◌, ◌==◌, ◌||◌, map, not, take};
 ghost use Rattle.texting_robots.specs.Callers.{by_value, label_by_value};
 ghost use Rattle.robots_warnings.specs.Facts.{facts_by, facts_of, has_text, suppresses_line_warnings, is_too_large, is_unknown};
-ghost use Rattle.robots_warnings.specs.Facts.{kinds_of, mark, nul_at_every_other, seems_html, seems_utf_16, without_start, without_white};
+ghost use Rattle.robots_warnings.specs.Facts.{has_damaged_mark, has_nul, kinds_of, mark, nul_at_every_other, seems_html, seems_utf_16, without_start, without_white};
 ghost use Rattle.robots_warnings.specs.File.{lines_of};
 ghost use Rattle.robots_warnings.specs.Internal.{kinds_with};
 
-use crate::file::is_blank;
+use crate::file::{counted, is_blank};
 use texting_robots::labels::LabeledLine;
 use texting_robots::parser::Line;
 use texting_robots::robot::FILE_LIMIT;
@@ -39,6 +39,10 @@ pub struct FileFacts {
     pub is_other_text: bool,
     /// The file is larger than the size limit.
     pub is_too_large: bool,
+    /// The file starts with a part of a byte order mark.
+    pub has_damaged_mark: bool,
+    /// A NUL is within the size limit.
+    pub has_nul: bool,
 }
 
 /// Whether a line is neither empty nor a comment.
@@ -144,6 +148,20 @@ fn seems_html(file: &[u8]) -> bool
     without_white(without_mark(file)).starts_with(b"<")
 }
 
+/// Whether the file starts with a part of a byte order mark.
+fn has_damaged_mark(file: &[u8]) -> bool
+    ensures { result ≡ has_damaged_mark file.now }
+{
+    matches!(file, [0xEF | 0xBB | 0xBF, ..]) && !file.starts_with(b"\xEF\xBB\xBF")
+}
+
+/// Whether a NUL is within the size limit.
+fn has_nul(file: &[u8]) -> bool
+    ensures { result ≡ has_nul file.now }
+{
+    counted(file).iter().any(|byte| *byte == 0)
+}
+
 /// Whether a file with these kinds of lines has no directive, but some line that isn't empty or a comment.
 fn is_unknown(kinds: LineKinds) -> bool
     ensures { result ≡ is_unknown kinds }
@@ -171,6 +189,8 @@ fn facts_by(file: &[u8], kinds: LineKinds) -> FileFacts
         is_utf_16,
         is_other_text: is_unknown && !is_html && !is_utf_16,
         is_too_large: is_too_large(file),
+        has_damaged_mark: has_damaged_mark(file),
+        has_nul: has_nul(file),
     }
 }
 

@@ -1,12 +1,12 @@
 //! Field names: which one was probably intended in an ignored line, and what is unusual about that of a directive.
 ghost use Rattle.std.specs.Prelude.{◌≡◌, ◌≤◌, IfOk, length, map};
 ghost use Rattle.std.specs.List.{list_any, position_or_len};
-ghost use Rattle.robots_warnings.specs.FieldNames.{begins_with, directive_in, first_that, first_word, is_accepted, is_either, is_any_accepted, is_misspelled, is_name};
+ghost use Rattle.robots_warnings.specs.FieldNames.{begins_field, begins_inner_field, begins_with, directive_in, has_inner_field, first_that, first_word, is_accepted, is_either, is_any_accepted, is_misspelled, is_name};
 ghost use Rattle.robots_warnings.specs.FieldNames.{is_near, is_space_or_tab, is_without_colon, may_either_mean, may_mean};
 ghost use Rattle.robots_warnings.specs.FieldNames.{meant_among, meant_by, name_in, without_end, without_front};
 ghost use Rattle.robots_warnings.specs.Internal.{name_value};
 
-use crate::rules::before_byte;
+use crate::rules::{before_byte, somewhere};
 use crate::table::Cause;
 use std::alloc::{AllocError, Global};
 use strsim::generic_levenshtein;
@@ -52,7 +52,7 @@ fn is_space_or_tab(byte: u8) -> bool
 }
 
 /// The text without leading spaces and tabs.
-fn without_front<'a>(text: &'a [u8]) -> &'a [u8]
+pub(crate) fn without_front<'a>(text: &'a [u8]) -> &'a [u8]
     ensures { result.now ≡ without_front text.now }
 {
     let mut rest = text;
@@ -63,7 +63,7 @@ fn without_front<'a>(text: &'a [u8]) -> &'a [u8]
 }
 
 /// The text without trailing spaces and tabs.
-fn without_end<'a>(text: &'a [u8]) -> &'a [u8]
+pub(crate) fn without_end<'a>(text: &'a [u8]) -> &'a [u8]
     ensures { result.now ≡ without_end text.now }
 {
     let mut rest = text;
@@ -225,6 +225,37 @@ fn is_any_accepted(word: &[u8]) -> bool
     ensures { result ≡ is_any_accepted word.now }
 {
     KINDS.iter().any(|kind| is_accepted(*kind, word))
+}
+
+/// Whether the text starts with the name and a colon.
+fn begins_field(name: &str, text: &[u8]) -> bool
+    ensures { result ≡ begins_field name.now text.now }
+{
+    begins_with(name, text) && text.get(name.len()) == Some(&b':')
+}
+
+/// Whether the text starts with one of these names and a colon.
+fn begins_any_field(names: &[(&str, Cause)], text: &[u8]) -> bool
+    ensures { result ≡ list_any (λ row. begins_field row.0.now text.now) names.now }
+{
+    names.iter().any(|row| begins_field(row.0, text))
+}
+
+/// Whether the text starts with a space or a tab, one of the usual names and a colon.
+fn begins_inner_field(text: &[u8]) -> bool
+    ensures { result ≡ begins_inner_field text.now }
+{
+    match text {
+        [b' ' | b'\t', after @ ..] => begins_any_field(&DIRECTIVES, after),
+        _ => false,
+    }
+}
+
+/// Whether such a text occurs in the text of a line, after its first word.
+pub(crate) fn has_inner_field(text: &[u8]) -> bool
+    ensures { result ≡ has_inner_field text.now }
+{
+    somewhere(without_front(text), begins_inner_field)
 }
 
 /// Whether a directive with this content has no colon after the field name.

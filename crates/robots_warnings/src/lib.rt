@@ -4,6 +4,7 @@
 
 pub mod checks;
 mod conflicts;
+pub mod contents;
 pub mod facts;
 pub mod field_names;
 pub mod file;
@@ -12,6 +13,7 @@ pub mod names;
 mod names_past_limit;
 pub mod positions;
 pub mod rules;
+pub mod several_values;
 pub mod table;
 pub mod tokens;
 pub mod urls;

@@ -15,14 +15,14 @@ ghost use Rattle.robots_warnings.specs.Internal.Plain.{is_plain, is_plain_byte};
 use crate::urls::begins_as_url;
 
 /// Whether the text contains the byte.
-fn has(byte: u8, text: &[u8]) -> bool
+pub(crate) fn has(byte: u8, text: &[u8]) -> bool
     ensures { result ≡ has byte text.now }
 {
     text.iter().any(|other| *other == byte)
 }
 
 /// The index of the first occurrence of the byte, or the length of the text if there is none.
-fn place(byte: u8, text: &[u8]) -> usize
+pub(crate) fn place(byte: u8, text: &[u8]) -> usize
     ensures value { result ≡ position_or_len (λ b. b == byte) text.now }
     ensures within { result ≤ length text.now }
 {
@@ -37,7 +37,7 @@ pub(crate) fn before_byte(byte: u8, text: &[u8]) -> &[u8]
 }
 
 /// The text after the first occurrence of the byte; empty if there is none.
-fn after_byte(byte: u8, text: &[u8]) -> &[u8]
+pub(crate) fn after_byte(byte: u8, text: &[u8]) -> &[u8]
     ensures { result.now ≡ after_byte byte text.now }
 {
     match &text[place(byte, text)..] {

@@ -17,6 +17,8 @@ pub enum Cause {
     NoDirectives,
     FileTooLarge,
     NoUserAgent,
+    DamagedByteOrderMark,
+    NulEndsLine,
     // the crawler
     SpaceAroundAgent,
     VersionInAgent,
@@ -44,10 +46,13 @@ pub enum Cause {
     // the field name of a line
     NonstandardField,
     MissingColon,
+    SpaceAroundValue,
     // the value of a user-agent line
     InvalidProductToken,
     UnusualProductToken,
     // a rule
+    HashLeavesRoot,
+    HashCutsRule,
     RuleNotUtf8,
     MissingSlash,
     UrlAsRule,
@@ -57,10 +62,16 @@ pub enum Cause {
     DollarNotAtEnd,
     NonstandardEscape,
     DotSegment,
+    // a rule or a sitemap
+    SeveralValues,
     // a delay
+    DelayNotation,
     DelayOverADay,
     // a sitemap
     SitemapNotAbsolute,
+    // any line
+    OneLine,
+    ControlInComment,
     // the position of a line
     RuleBeforeUserAgent,
     EmptyGroup,
@@ -71,7 +82,7 @@ pub enum Cause {
 
 /// The warnings with their levels, names and messages.
 #[rattlefmt::skip]
-pub static WARNINGS: [(Cause, Level, &str, &str); 46] = [
+pub static WARNINGS: [(Cause, Level, &str, &str); 55] = [
     // the file
     (Cause::LooksLikeHtml, Level::Error, "looks-like-html",
         "no usable line found; the first character is <, so it may be an HTML page; serve a plain-text robots.txt instead"),
@@ -83,6 +94,10 @@ pub static WARNINGS: [(Cause, Level, &str, &str); 46] = [
         "the file is larger than 512,000 bytes (500 KiB); the rest is ignored; shorten it or move important groups to the top"),
     (Cause::NoUserAgent, Level::Warning, "no-user-agent",
         "there are rules but no User-agent line; valid rules are applied here, but Google ignores them; add User-agent: * above them"),
+    (Cause::DamagedByteOrderMark, Level::Warning, "damaged-byte-order-mark",
+        "the file starts with a part of a byte order mark, which is skipped here; other crawlers may not recognize the first line; save the file as UTF-8"),
+    (Cause::NulEndsLine, Level::Warning, "nul-ends-line",
+        "the file contains a NUL byte, which ends a line here, but may not in other crawlers; delete it, and save the file as UTF-8"),
     // the crawler
     (Cause::SpaceAroundAgent, Level::Warning, "space-around-agent",
         "AGENT has leading or trailing white space, so it matches no User-agent line; remove the spaces"),
@@ -133,12 +148,18 @@ pub static WARNINGS: [(Cause, Level, &str, &str); 46] = [
         "nonstandard spelling of the field name; accepted here, but other crawlers may ignore the line; write User-agent, Allow, Disallow, Sitemap or Crawl-delay"),
     (Cause::MissingColon, Level::Warning, "missing-colon",
         "no colon after the field name; accepted here, but other crawlers may ignore the line; add the colon"),
+    (Cause::SpaceAroundValue, Level::Warning, "space-around-value",
+        "white space other than spaces and tabs, such as a no-break space, is dropped around the value here, but other crawlers may keep it; delete it"),
     // the value of a user-agent line
     (Cause::InvalidProductToken, Level::Warning, "invalid-product-token",
         "not a valid product token (ASCII letters, _ and - only, or a single *); crawlers disagree on how to match it; write one name per User-agent line, without version, quotes or *"),
     (Cause::UnusualProductToken, Level::Note, "unusual-product-token",
         "not a valid product token (ASCII letters, _ and - only); some crawlers have such names, but others compare only a part of it; check the crawler's documentation"),
     // a rule
+    (Cause::HashLeavesRoot, Level::Error, "hash-cuts-rule",
+        "everything from # on is a comment, so only / or nothing is left of the rule, which is about the whole site; write %23 for a # in a path"),
+    (Cause::HashCutsRule, Level::Warning, "hash-cuts-rule",
+        "everything from # on is a comment, so the rule is shorter and matches more paths; write %23 for a # in a path, or a space before a comment"),
     (Cause::RuleNotUtf8, Level::Warning, "rule-not-utf-8",
         "the rule isn't valid UTF-8 and is ignored; save the file as UTF-8"),
     (Cause::MissingSlash, Level::Error, "missing-slash",
@@ -157,12 +178,22 @@ pub static WARNINGS: [(Cause, Level, &str, &str); 46] = [
         "the rule has a lowercase or unnecessary percent escape; here it can match only URLs written that way; use uppercase (%C3), and don't encode letters, digits, - . _ ~"),
     (Cause::DotSegment, Level::Error, "dot-segment",
         "the rule contains a . or .. segment, which crawlers resolve in a URL's path before matching; write the resolved path"),
+    // a rule or a sitemap
+    (Cause::SeveralValues, Level::Warning, "several-values",
+        "all of this is read as one value, with its space, comma, tag or invisible character; write one value per line, %20 for a space, and comments after #"),
     // a delay
+    (Cause::DelayNotation, Level::Warning, "delay-notation",
+        "the delay is read here, but other crawlers may ignore it; write only digits, possibly with a point and more digits, for example: Crawl-delay: 1.5"),
     (Cause::DelayOverADay, Level::Warning, "delay-over-a-day",
         "the delay is longer than a day; the value is in seconds between requests, for example: Crawl-delay: 10"),
     // a sitemap
     (Cause::SitemapNotAbsolute, Level::Warning, "sitemap-not-absolute",
         "the sitemap isn't a valid URL that starts with http:// or https://; write, for example, https://example.com/sitemap.xml"),
+    // any line
+    (Cause::OneLine, Level::Error, "one-line",
+        "another field name follows in the same line, where it isn't recognized; write each User-agent, Allow, Disallow, Crawl-delay and Sitemap on a line of its own"),
+    (Cause::ControlInComment, Level::Note, "control-in-comment",
+        "the comment contains a control character or isn't valid UTF-8, which RFC 9309 doesn't allow; it has no effect here; save the file as UTF-8"),
     // the position of a line
     (Cause::RuleBeforeUserAgent, Level::Error, "rule-before-user-agent",
         "the rule comes before the first User-agent line, so it belongs to no group and is ignored; move it below the User-agent line it is meant for"),

@@ -1,0 +1,79 @@
+-- Conditions on what the content of a directive has besides its value: white space, a comment, and the text of
+-- a delay. Those on a raw value are for directives with a colon after the field name.
+use Rattle.std.specs.Prelude.{ℕ, ◌==◌, nat_eq, Bool, not, ◌||◌, ◌&&◌, List, bytes_eq, codes, drop, length}
+use Rattle.std.specs.Prelude.{nat_lt}
+use Rattle.std.specs.Char.{is_ascii_digit}
+use Rattle.std.specs.List.{ends_with, list_all, list_any, position_or_len, starts_with}
+use Rattle.std.specs.Str.{byte, is_utf8}
+use Rattle.robots_warnings.specs.FieldNames.{without_end, without_front}
+use Rattle.robots_warnings.specs.File.{hash, tab}
+use Rattle.robots_warnings.specs.Rules.{after_byte, before_byte, has}
+
+-- ---- the two parts of a line's content
+
+-- the text before the comment
+abbrev pub text_of : List ℕ → List ℕ
+text_of body = before_byte hash body
+
+-- the comment, which starts with the first `#`; empty if there is none
+abbrev pub comment_of : List ℕ → List ℕ
+comment_of body = drop (position_or_len (λ b. b == hash) body) body
+
+-- the raw value in a text: what follows the colon, without spaces and tabs at both ends
+abbrev pub raw_value : List ℕ → List ℕ
+raw_value text = without_end (without_front (after_byte (byte ":") text))
+
+-- ---- white space around a value
+
+-- `value` is the value of the line: the raw value without white space of any kind at both ends, or `/` for an
+-- empty Disallow; so other white space than spaces and tabs was dropped
+abbrev pub has_odd_space : (value text : List ℕ) → Bool
+has_odd_space value text = not (length (raw_value text) == 0) && not (bytes_eq (raw_value text) value)
+
+-- ---- a comment that cuts a rule
+
+-- a comment directly follows the value, which isn't empty
+abbrev pub is_cut : (value text comment : List ℕ) → Bool
+is_cut value text comment =
+    not (length comment == 0) && (not (length value == 0) && ends_with nat_eq text value)
+
+-- nothing precedes the comment, which is written as a path: `#/a` or `#!/a`
+abbrev pub has_path_in_comment : (text comment : List ℕ) → Bool
+has_path_in_comment text comment =
+    (starts_with nat_eq comment (codes "#/") || starts_with nat_eq comment (codes "#!/"))
+    && length (raw_value text) == 0
+
+-- only `/` or nothing is left of the rule
+abbrev pub is_cut_to_root : (value text comment : List ℕ) → Bool
+is_cut_to_root value text comment =
+    (is_cut value text comment && bytes_eq value (codes "/")) || has_path_in_comment text comment
+
+-- more than `/` is left of the rule
+abbrev pub is_cut_short : (value text comment : List ℕ) → Bool
+is_cut_short value text comment = is_cut value text comment && not (bytes_eq value (codes "/"))
+
+-- ---- a delay
+
+-- one or more digits
+abbrev pub are_digits : List ℕ → Bool
+are_digits text = not (length text == 0) && list_all is_ascii_digit text
+
+-- digits, possibly with a point and more digits
+abbrev pub is_plain_number : List ℕ → Bool
+is_plain_number text =
+    are_digits (before_byte (byte ".") text)
+    && (not (has (byte ".") text) || are_digits (after_byte (byte ".") text))
+
+-- the delay is written otherwise
+abbrev pub has_odd_delay : List ℕ → Bool
+has_odd_delay text = not (is_plain_number (raw_value text))
+
+-- ---- a comment
+
+-- a control character of ASCII other than a tab and DEL
+abbrev pub is_control : ℕ → Bool
+is_control b = nat_lt b 32 && not (b == tab)
+
+-- the comment contains such a character or isn't UTF-8
+abbrev pub has_odd_comment : List ℕ → Bool
+has_odd_comment comment = list_any is_control comment || not (is_utf8 comment)
