@@ -12,12 +12,13 @@ use Rattle.texting_robots.specs.declared.labels.Membership.TheVariants.{Other, U
 use Rattle.texting_robots.proofs.TrimLemmas.{each_append}
 use Rattle.robots_io.specs.Lines.{ended}
 use Rattle.robots_io.specs.Verdicts.{verdict_front}
+use Rattle.robots_audit.specs.declared.command.Format.{Format}
+use Rattle.robots_audit.specs.declared.command.Format.TheVariants.{Json, Text}
 use Rattle.robots_audit.specs.declared.group.Group.{Group}
 use Rattle.robots_audit.specs.declared.group.Group.TheVariants.{Everyone, Named, Nobody, Star}
-use Rattle.robots_audit.specs.Answer.{has_rows, output, message, shown_name}
+use Rattle.robots_audit.specs.Answer.{has_rows, message, message_in, output, output_in, shown_name}
 use Rattle.robots_audit.specs.Audit.{AgentValue, RequestValue, AuditValue, VerdictValue}
 use Rattle.robots_audit.specs.Delay.{delay_line, delay_text, fraction, million, seconds}
-use Rattle.robots_audit.specs.Json.{json_text}
 use Rattle.robots_audit.specs.Report.{agent_lines, group_line, nobody_text, rejected_lines, report_lines}
 use Rattle.robots_audit.specs.Report.{verdict_line}
 use Rattle.robots_audit.specs.Report.{warning_lines}
@@ -51,13 +52,18 @@ either_printable false one two is too = too
 
 -- ---- warnings
 
+message_in_printable : (format : Format) (requested : RequestValue) (audit : AuditValue)
+    → IsPrintable (message_in format requested audit)
+message_in_printable Text requested audit =
+    let file = shown_name requested.file in
+    ended_printable (warning_lines file audit.warnings)
+    (each_map (warning_line file) (line_printable file) audit.warnings)
+message_in_printable Json requested audit = nil_printable true
+
 pub message_printable : (requested : RequestValue) (audit : AuditValue)
     → IsPrintable (message requested audit)
 message_printable requested audit =
-    let file = shown_name requested.file in
-    either_printable requested.is_json [] (ended (warning_lines file audit.warnings)) (nil_printable true)
-    (ended_printable (warning_lines file audit.warnings)
-    (each_map (warning_line file) (line_printable file) audit.warnings))
+    message_in_printable requested.format requested audit
 
 -- ---- rows
 
@@ -184,9 +190,12 @@ report_printable true audit =
     (each_flat agent_lines agent_printable audit.agents)
 report_printable false audit = each_flat agent_lines agent_printable audit.agents
 
-pub output_printable : (requested : RequestValue) (audit : AuditValue) → IsPrintable (output requested audit)
-output_printable requested audit =
+output_in_printable : (format : Format) (requested : RequestValue) (audit : AuditValue)
+    → IsPrintable (output_in format requested audit)
+output_in_printable Text requested audit =
     let rows = has_rows requested in
-    either_printable requested.is_json (json_text rows audit) (ended (report_lines rows audit))
-    (json_printable rows audit)
-    (ended_printable (report_lines rows audit) (report_printable rows audit))
+    ended_printable (report_lines rows audit) (report_printable rows audit)
+output_in_printable Json requested audit = json_printable (has_rows requested) audit
+
+pub output_printable : (requested : RequestValue) (audit : AuditValue) → IsPrintable (output requested audit)
+output_printable requested audit = output_in_printable requested.format requested audit

@@ -7,6 +7,8 @@ use Rattle.std.specs.List.{list_any}
 use Rattle.std.specs.Io.KnownBytes.{Appends, Keeps}
 use Rattle.robots_io.specs.Streams.{AppendsBeginning}
 use Rattle.robots_io.specs.Lines.{ended}
+use Rattle.robots_audit.specs.declared.command.Format.{Format}
+use Rattle.robots_audit.specs.declared.command.Format.TheVariants.{Json, Text}
 use Rattle.robots_audit.specs.declared.command.Request.{Request}
 use Rattle.robots_audit.specs.declared.fault.Fault.{Fault}
 use Rattle.robots_audit.specs.declared.fault.Fault.TheVariants.{File, Memory, Words, Write}
@@ -35,7 +37,7 @@ requested_by request = record {
   agent = option_map (λ agent. agent.now) request.agent;
   urls = map (λ url. url.now) request.urls.items;
   is_quiet = request.is_quiet;
-  is_json = request.is_json;
+  format = request.format;
   strict = request.strict;
   only = map (λ name. name.now) request.only.items;
   ignored = map (λ name. name.now) request.ignored.items;
@@ -47,21 +49,28 @@ requested_by request = record {
 abbrev pub has_rows : RequestValue → Bool
 has_rows requested = if requested.is_quiet then false else is_some requested.agent
 
--- the report: JSON, or lines
+-- the report in this format
+abbrev pub output_in : Format → RequestValue → AuditValue → List ℕ
+output_in Text requested audit = ended (report_lines (has_rows requested) audit)
+output_in Json requested audit = json_text (has_rows requested) audit
+
+-- the report in the requested format
 abbrev pub output : RequestValue → AuditValue → List ℕ
-output requested audit =
-    if requested.is_json then json_text (has_rows requested) audit
-    else ended (report_lines (has_rows requested) audit)
+output requested audit = output_in requested.format requested audit
 
 -- the name of the file before a warning, so that editors can open it
 abbrev pub shown_name : Option (List ℕ) → List ℕ
 shown_name None = codes "robots.txt"
 shown_name (Some name) = name
 
--- the message on standard error: the warnings, unless they are in the JSON
+-- the message with a report in this format: the warnings, unless they are in the report
+abbrev pub message_in : Format → RequestValue → AuditValue → List ℕ
+message_in Text requested audit = ended (warning_lines (shown_name requested.file) audit.warnings)
+message_in Json requested audit = []
+
+-- the message on standard error
 abbrev pub message : RequestValue → AuditValue → List ℕ
-message requested audit =
-    if requested.is_json then [] else ended (warning_lines (shown_name requested.file) audit.warnings)
+message requested audit = message_in requested.format requested audit
 
 -- a warning is at the level of `--strict`, or at a more serious one
 abbrev pub is_warned : Option Level → List WarningValue → Bool

@@ -9,6 +9,7 @@ use Rattle.texting_robots.specs.Callers.{delay_for, is_named, lines_read, placed
 use Rattle.texting_robots.specs.Group.{is_agent}
 use Rattle.texting_robots.specs.declared.decision.Decision.{Decision}
 use Rattle.robots_io.specs.Verdicts.{IsDecisionOn}
+use Rattle.robots_audit.specs.declared.command.Format.{Format}
 use Rattle.robots_audit.specs.declared.group.Group.{Group}
 use Rattle.robots_audit.specs.declared.group.Group.TheVariants.{Everyone, Named, Nobody, Star}
 use Rattle.robots_warnings.specs.Facts.{facts_of}
@@ -18,7 +19,7 @@ use Rattle.robots_warnings.specs.Warnings.{WarningValue, warnings}
 use Rattle.robots_audit.specs.Chosen.{chosen}
 
 -- a request: the name of the file, or `None` for standard input; the crawler, or `None` for `*` and each that
--- the file names; the URLs; whether the rows are left out; whether the report is JSON; the level of `--strict`,
+-- the file names; the URLs; whether the rows are left out; how the report is written; the level of `--strict`,
 -- if it is given; the names of the warnings that are reported, where an empty list means all; and the names of
 -- those that are left out
 pub record RequestValue : Type 0 where
@@ -26,7 +27,7 @@ pub record RequestValue : Type 0 where
   pub agent : Option (List ℕ)
   pub urls : List (List ℕ)
   pub is_quiet : Bool
-  pub is_json : Bool
+  pub format : Format
   pub strict : Option Level
   pub only : List (List ℕ)
   pub ignored : List (List ℕ)

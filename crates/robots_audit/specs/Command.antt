@@ -7,6 +7,8 @@ use Rattle.std.specs.List.{list_all}
 use Rattle.std.specs.Option.{option_map_or}
 use Rattle.clap.specs.Words.{first_value, found_of, matched_of, one_text, raw_values}
 use Rattle.clap.specs.declared.parser.matches.ArgMatches.{ArgMatches}
+use Rattle.robots_audit.specs.declared.command.Format.{Format}
+use Rattle.robots_audit.specs.declared.command.Format.TheVariants.{Json, Text}
 use Rattle.robots_audit.specs.declared.command.Request.{Request}
 use Rattle.robots_audit.specs.declared.fault.Fault.{Fault}
 use Rattle.robots_audit.specs.declared.fault.Fault.TheVariants.{Memory, UnknownWarning, Usage}
@@ -45,6 +47,19 @@ level_named word =
     if bytes_eq word (codes "error") then level.Error
     else if bytes_eq word (codes "note") then level.Note else level.Warning
 
+-- the format with this name; `clap` accepts no others
+abbrev pub format_named : List ℕ → Format
+format_named name = if bytes_eq name (codes "json") then Json else Text
+
+-- the format that `--json`, if it is given, and the value of `--format` request
+abbrev pub requested_format : Bool → Option (List ℕ) → Format
+requested_format is_json name = if is_json then Json else option_map_or format_named name Text
+
+-- the format is the one that the options request
+abbrev pub IsFormatOf : ArgMatches → Format → Type 0
+IsFormatOf matches format = (is_json : Bool) × IsOn matches (codes "json") is_json
+    × (format ≡ requested_format is_json (value_of matches (codes "format")))
+
 -- the arguments are a product token and URLs; without a crawler they are all URLs
 abbrev pub AreWordsOf : Option (List ℕ) → List (List ℕ) → List (List ℕ) → Type 0
 AreWordsOf (Some agent) urls words = words ≡ agent ∷ urls
@@ -58,7 +73,7 @@ pub record AreNamesOf (matches : ArgMatches) (id : List ℕ) (names : List (List
 pub record IsRequestOf (matches : ArgMatches) (request : Request) : Type 0 where
   pub file : option_map (λ name. name.now) request.file ≡ file_read (value_of matches (codes "file"))
   pub quiet : IsOn matches (codes "quiet") request.is_quiet
-  pub json : IsOn matches (codes "json") request.is_json
+  pub format : IsFormatOf matches request.format
   pub strict : request.strict ≡ option_map level_named (value_of matches (codes "strict"))
   pub agents : IsOn matches (codes "agents") (is_none request.agent)
   pub words : AreWordsOf (option_map (λ agent. agent.now) request.agent)

@@ -2,7 +2,7 @@
 ghost use Rattle.std.specs.Prelude.{◌≡◌, ◌++◌, IfErr, IfOk, IsTrue, OnOk, map, option_map};
 ghost use Rattle.std.specs.List.{list_all};
 ghost use Rattle.robots_warnings.specs.Table.{is_name};
-ghost use Rattle.robots_audit.specs.Command.{AreNamesOf, Asks, IsUnknown, IsUnknownIn, file_read, level_named, values_of, words_of};
+ghost use Rattle.robots_audit.specs.Command.{AreNamesOf, Asks, IsUnknown, IsUnknownIn, file_read, format_named, level_named, requested_format, values_of, words_of};
 
 use crate::fault::Fault;
 use clap::builder::ValueParser;
@@ -12,6 +12,15 @@ use robots_warnings::level::Level;
 use robots_warnings::table::is_name;
 use std::alloc::{AllocError, Global};
 
+/// How a report is written.
+#[derive(Clone, Copy)]
+pub enum Format {
+    /// Lines of text, and warnings on standard error.
+    Text,
+    /// One line of JSON, with the warnings in it.
+    Json,
+}
+
 /// The parsed command line.
 #[derive(Drop)]
 pub struct Request<'a> {
@@ -19,8 +28,8 @@ pub struct Request<'a> {
     pub file: Option<&'a str>,
     /// Whether the rows are left out of the report.
     pub is_quiet: bool,
-    /// Whether the report is JSON.
-    pub is_json: bool,
+    /// How the report is written.
+    pub format: Format,
     /// A warning at this level, or at a more serious one, leads to exit status 3; `None` if no warning does.
     pub strict: Option<Level>,
     /// The product token of the crawler; `None` for `*` and each crawler that the file names.
@@ -72,7 +81,19 @@ fn strict<'a>(alloc: Global) -> Arg<'a> {
         .help("Exit with status 3 if there is a warning at this level or a more serious one")
 }
 
-/// Adds the options without a value, and `--strict`.
+/// Adds the option `--format`, and its short form `--json`, of which only one can be given.
+fn with_format<'a>(alloc: Global, called: Command<'a>) -> Result<Command<'a>, AllocError> {
+    let format = Arg::new(alloc, "format")
+        .long("format")
+        .value_name("FORMAT")
+        .value_parser(ValueParser::Names(&["text", "json"]))
+        .help("Write the report as text (default), or as json with the warnings in it");
+    let called = called.arg(format)?;
+    let json = switch(alloc, "json", "The same as --format json");
+    called.arg(json.conflicts_with("format")?)
+}
+
+/// Adds the options without a value, `--format` and `--strict`.
 fn with_switches<'a>(alloc: Global, called: Command<'a>) -> Result<Command<'a>, AllocError> {
     let agents = switch(
         alloc,
@@ -82,9 +103,7 @@ fn with_switches<'a>(alloc: Global, called: Command<'a>) -> Result<Command<'a>, 
     let called = called.arg(agents.short('a'))?;
     let quiet = switch(alloc, "quiet", "Don't list the lines of the file");
     let called = called.arg(quiet.short('q'))?;
-    let json = switch(alloc, "json", "Write JSON, with the warnings in it");
-    let called = called.arg(json)?;
-    called.arg(strict(alloc))
+    with_format(alloc, called)?.arg(strict(alloc))
 }
 
 /// An option whose value is the name of a warning, and which can be repeated.
@@ -115,7 +134,7 @@ fn with_names<'a>(alloc: Global, called: Command<'a>) -> Result<Command<'a>, All
 /// Adds the option `--expect`, which excludes all others but `--file`.
 fn with_expect<'a>(alloc: Global, called: Command<'a>) -> Result<Command<'a>, AllocError> {
     let others = [
-        "agent", "url", "agents", "quiet", "json", "strict", "only", "ignore",
+        "agent", "url", "agents", "quiet", "format", "json", "strict", "only", "ignore",
     ];
     let expect = Arg::new(alloc, "expect")
         .long("expect")
@@ -165,6 +184,28 @@ fn strict_level(word: Option<&str>) -> Option<Level>
     match word {
         Some(word) => Some(level_named(word)),
         None => None,
+    }
+}
+
+/// The format with this name. `clap` accepts no others.
+fn format_named(name: &str) -> Format
+    ensures { result ≡ format_named name.now }
+{
+    if name == "json" {
+        Format::Json
+    } else {
+        Format::Text
+    }
+}
+
+/// The format that `--json` and the value of `--format` request.
+fn requested_format(is_json: bool, name: Option<&str>) -> Format
+    ensures { result ≡ requested_format is_json (option_map (λ name. name.now) name.entry) }
+{
+    match name {
+        _ if is_json => Format::Json,
+        Some(name) => format_named(name),
+        None => Format::Text,
     }
 }
 
@@ -256,7 +297,7 @@ pub fn requested<'a>(alloc: Global, matches: &ArgMatches<'a>) -> Result<Request<
     Ok(Request {
         file: file_read(matches.get_str("file")),
         is_quiet: matches.get_flag("quiet"),
-        is_json: matches.get_flag("json"),
+        format: requested_format(matches.get_flag("json"), matches.get_str("format")),
         strict: strict_level(matches.get_str("strict")),
         agent,
         urls,

@@ -5,7 +5,7 @@ ghost use Rattle.robots_audit.specs.Internal.{audit_value};
 ghost use Rattle.robots_warnings.specs.Internal.{warning_value};
 
 use crate::audit::{Audit, all_allowed, audit_of, rejects_some};
-use crate::command::Request;
+use crate::command::{Format, Request};
 use crate::fault::{Fault, Outcome};
 use crate::json::json_text;
 use crate::report::{report_text, warning_lines};
@@ -56,19 +56,22 @@ fn shows_rows(request: &Request<'_>) -> bool
     !request.is_quiet && request.agent.is_some()
 }
 
-/// The report on an audit, as lines or as JSON.
-fn output(alloc: Global, request: &Request<'_>, audit: &Audit<'_, '_>) -> Result<String, AllocError>
-    ensures { IfOk result (λ text. string_bytes text ≡ output (requested_by request.now) (audit_value audit.now)) }
+/// The report on an audit, in the requested format.
+fn output(
+    alloc: Global,
+    request: &Request<'_>,
+    audit: &Audit<'_, '_>,
+) -> Result<Vec<u8>, AllocError>
+    ensures { IfOk result (λ report. report.items ≡ output (requested_by request.now) (audit_value audit.now)) }
 {
     let has_rows = shows_rows(request);
-    if request.is_json {
-        json_text(alloc, has_rows, audit)
-    } else {
-        report_text(alloc, has_rows, audit)
+    match request.format {
+        Format::Text => Ok(report_text(alloc, has_rows, audit)?.into_bytes()),
+        Format::Json => Ok(json_text(alloc, has_rows, audit)?.into_bytes()),
     }
 }
 
-/// The message on standard error after an audit: the warnings, unless they are in the JSON.
+/// The message on standard error after an audit: the warnings, unless they are in the report.
 fn message(
     alloc: Global,
     request: &Request<'_>,
@@ -76,10 +79,9 @@ fn message(
 ) -> Result<String, AllocError>
     ensures { IfOk result (λ text. string_bytes text ≡ message (requested_by request.now) (audit_value audit.now)) }
 {
-    if request.is_json {
-        Ok(String::new(alloc))
-    } else {
-        warning_lines(alloc, shown_name(request.file), &audit.warnings)
+    match request.format {
+        Format::Text => warning_lines(alloc, shown_name(request.file), &audit.warnings),
+        Format::Json => Ok(String::new(alloc)),
     }
 }
 
@@ -107,9 +109,9 @@ pub fn run<R: Read, W: Write>(
 {
     let input = read_all(alloc, reader)?;
     let audit = audit_of(alloc, request, input.as_slice())?;
-    let text = output(alloc, request, &audit)?;
+    let report = output(alloc, request, &audit)?;
     let warnings = message(alloc, request, &audit)?;
-    write_out(writer, text.as_bytes())?;
+    write_out(writer, &report)?;
     Ok(Outcome {
         is_rejected: rejects_some(&audit.agents),
         all_allowed: all_allowed(&audit.agents),

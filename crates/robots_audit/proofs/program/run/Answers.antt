@@ -9,7 +9,7 @@ returns-in_err-write_out g c =
     broken_off _ _ c.from_residual-in_err-write_out.result _ (search rules) c.in_ok-input.ensures.all (
       audit_value c.in_ok-audit.audit,
       rw c.as_slice.ensures.value at c.in_ok-audit.ensures.ok,
-      rw (c.as_bytes.ensures.value, c.in_ok-text.ensures) at c.write_out.ensures.beginning,
+      rw (c.deref.ensures.value, c.in_ok-report.ensures) at c.write_out.ensures.beginning,
     )
 
 pub returns-in_err-audit : goal.returns-in_err-audit
@@ -18,9 +18,9 @@ returns-in_err-audit g c =
     (λ same. cc) tt
     (search rules)
 
-pub returns-in_err-text : goal.returns-in_err-text
-returns-in_err-text g c =
-    failed _ _ c.from_residual-in_err-text.result _ Memory (search rules) c.in_ok-input.ensures.all (λ same. cc) tt
+pub returns-in_err-report : goal.returns-in_err-report
+returns-in_err-report g c =
+    failed _ _ c.from_residual-in_err-report.result _ Memory (search rules) c.in_ok-input.ensures.all (λ same. cc) tt
     (search rules)
 
 pub returns-in_err-warnings : goal.returns-in_err-warnings
@@ -42,11 +42,11 @@ returns g c = record {
       audit_value c.in_ok-audit.audit,
       rw c.as_slice.ensures.value at c.in_ok-audit.ensures.ok,
       (
-        rw (c.as_bytes.ensures.value, c.in_ok-text.ensures) at c.in_ok-write_out.ensures.ok,
+        rw (c.deref.ensures.value, c.in_ok-report.ensures) at c.in_ok-write_out.ensures.ok,
         record {
-          rejected = rw c.deref.ensures.value at c.rejects_some.ensures;
-          allowed = rw c.deref-2.ensures.value at c.all_allowed.ensures;
-          warned = rw c.deref-3.ensures.value at c.is_warned.ensures;
+          rejected = rw c.deref-2.ensures.value at c.rejects_some.ensures;
+          allowed = rw c.deref-3.ensures.value at c.all_allowed.ensures;
+          warned = rw c.deref-4.ensures.value at c.is_warned.ensures;
           warnings = c.in_ok-warnings.ensures;
         },
       ),
