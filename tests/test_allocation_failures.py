@@ -103,6 +103,7 @@ AUDIT_RUNS = {
     "the example": AUDIT_ARGS,
     "a named file": ["--file", CRATES / "robots_audit/stdin", "Ferris", *URLS],
     "each agent": ["--agents", *URLS],
+    "agents by name": ["--agent", "Ferris", "--agent", "other", *URLS],
     "JSON": ["--json", "Ferris", *URLS],
     "wrong arguments": ["--none", "Ferris"],
     "a name after the first 512,000 bytes": ["--file", BEYOND, "Ferris"],

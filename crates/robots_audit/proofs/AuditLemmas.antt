@@ -67,14 +67,14 @@ pub lines_labeled : (agent : List ℕ) (lines : List LineValue) → lines_of (la
 lines_labeled agent lines = lines_from (group_name agent lines) lines lines 0
 
 -- the crawlers requested, computed from labels, are those computed from the lines
-pub names_requested : (agent : Option (List ℕ)) (labeling : List ℕ) (lines : List LineValue)
+pub names_requested : (agents : List (List ℕ)) (labeling : List ℕ) (lines : List LineValue)
     (labels others : List LabeledLine) (names : List (List ℕ))
-    → names ≡ agents_requested agent (lines_of (map label_by_value others)) → others ≡ labels
-    → map label_by_value labels ≡ labels_for labeling lines → names ≡ agents_requested agent lines
-names_requested agent labeling lines labels others names requested same are =
-    requested ∙ ap (λ labels. agents_requested agent (lines_of (map label_by_value labels))) same
-    ∙ ap (λ labels. agents_requested agent (lines_of labels)) are
-    ∙ ap (agents_requested agent) (lines_labeled labeling lines)
+    → names ≡ agents_requested agents (lines_of (map label_by_value others)) → others ≡ labels
+    → map label_by_value labels ≡ labels_for labeling lines → names ≡ agents_requested agents lines
+names_requested agents labeling lines labels others names requested same are =
+    requested ∙ ap (λ labels. agents_requested agents (lines_of (map label_by_value labels))) same
+    ∙ ap (λ labels. agents_requested agents (lines_of labels)) are
+    ∙ ap (agents_requested agents) (lines_labeled labeling lines)
 
 -- ---- the audit for a crawler
 

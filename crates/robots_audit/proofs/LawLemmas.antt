@@ -126,7 +126,7 @@ pub one_audit : (requested : RequestValue) (file : List ℕ) (audit other : Audi
 one_audit requested file audit other is too =
     let lines = lines_read file in
     let agents = zip_once (IsAgentAudit requested.urls lines) (agent_once requested.urls lines)
-    (agents_requested requested.agent lines) audit.agents other.agents is.agents_are too.agents_are in
+    (agents_requested requested.agents lines) audit.agents other.agents is.agents_are too.agents_are in
     ap₂ (λ labels warnings. record { labels = labels; agents = audit.agents; warnings = warnings })
     (is.labels_are ∙ sym too.labels_are) (is.warnings_are ∙ sym too.warnings_are)
     ∙ ap (λ agents. record { labels = other.labels; agents = agents; warnings = other.warnings }) agents
@@ -236,7 +236,7 @@ pub some_audit : (requested : RequestValue) (file : List ℕ) → (audit : Audit
 some_audit requested file =
     let lines = lines_read file in
     let labels = labels_requested requested file in
-    let (agents, are) = zip_some (IsAgentAudit requested.urls lines) (agents_requested requested.agent lines)
+    let (agents, are) = zip_some (IsAgentAudit requested.urls lines) (agents_requested requested.agents lines)
     (λ agent has. some_agent requested.urls lines agent) in (
       record {
         labels = labels;

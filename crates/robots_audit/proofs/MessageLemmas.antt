@@ -90,7 +90,7 @@ unknown_in_printable names fault (inr (name, among, unknown, is)) = unknown_prin
 
 pub request_printable : (matches : ArgMatches) (fault : Fault) → Asks matches (Err fault)
     → IsPrintable (fault_text fault)
-request_printable matches fault (inl (off, none, is)) =
+request_printable matches fault (inl (lacks, is)) =
     subst (λ (fault : Fault). IsPrintable (fault_text fault)) (sym is)
     (ascii_printable true (fault_text Usage) refl)
 request_printable matches fault (inr (inl is)) = unknown_in_printable _ fault is

@@ -35,6 +35,7 @@ abbrev pub requested_by : Request → RequestValue
 requested_by request = record {
   file = option_map (λ name. name.now) request.file;
   agent = option_map (λ agent. agent.now) request.agent;
+  agents = map (λ agent. agent.now) request.agents.items;
   urls = map (λ url. url.now) request.urls.items;
   is_quiet = request.is_quiet;
   format = request.format;

@@ -18,13 +18,14 @@ use Rattle.robots_warnings.specs.declared.level.Level.{Level}
 use Rattle.robots_warnings.specs.Warnings.{WarningValue, warnings}
 use Rattle.robots_audit.specs.Chosen.{chosen}
 
--- a request: the name of the file, or `None` for standard input; the crawler, or `None` for `*` and each that
--- the file names; the URLs; whether the rows are left out; how the report is written; the level of `--strict`,
--- if it is given; the names of the warnings that are reported, where an empty list means all; and the names of
--- those that are left out
+-- a request: the name of the file, or `None` for standard input; the crawler, if the report is about a single
+-- one; the crawlers, where an empty list means `*` and each that the file names; the URLs; whether the rows are
+-- left out; how the report is written; the level of `--strict`, if it is given; the names of the warnings that
+-- are reported, where an empty list means all; and the names of those that are left out
 pub record RequestValue : Type 0 where
   pub file : Option (List ℕ)
   pub agent : Option (List ℕ)
+  pub agents : List (List ℕ)
   pub urls : List (List ℕ)
   pub is_quiet : Bool
   pub format : Format
@@ -54,9 +55,10 @@ with_names names (line ∷ lines) = with_names (with_name names line) lines
 abbrev pub agents_in : List LineValue → List (List ℕ)
 agents_in lines = with_names (codes "*" ∷ []) lines
 
-abbrev pub agents_requested : Option (List ℕ) → List LineValue → List (List ℕ)
-agents_requested (Some agent) lines = agent ∷ []
-agents_requested None lines = agents_in lines
+-- the crawlers that are given, or if none is, those that the lines name
+abbrev pub agents_requested : List (List ℕ) → List LineValue → List (List ℕ)
+agents_requested [] lines = agents_in lines
+agents_requested (agent ∷ agents) lines = agent ∷ agents
 
 -- ---- what a file means for a crawler
 
@@ -119,13 +121,13 @@ labels_requested requested file = labels_for (labeling_agent requested.agent) (l
 abbrev pub warnings_requested : RequestValue → List ℕ → List Label → List WarningValue
 warnings_requested requested file labels =
     chosen requested.only requested.ignored
-    (warnings requested.agent (agents_requested requested.agent (lines_read file)) requested.urls file
+    (warnings requested.agent (agents_requested requested.agents (lines_read file)) requested.urls file
     (facts_of file labels) labels (lines_read file))
 
 pub record IsAuditOf (requested : RequestValue) (file : List ℕ) (audit : AuditValue) : Type 0 where
   pub labels_are : audit.labels ≡ labels_requested requested file
   pub agents_are : AllZip (IsAgentAudit requested.urls (lines_read file))
-      (agents_requested requested.agent (lines_read file)) audit.agents
+      (agents_requested requested.agents (lines_read file)) audit.agents
   pub warnings_are : audit.warnings ≡ warnings_requested requested file (labels_requested requested file)
 
 -- all of these verdicts are "allowed"

@@ -1,7 +1,7 @@
 -- The request that the arguments contain, specified by what `clap` found in them.
 use Rattle.std.specs.Prelude.{◌≡◌, ◌⊎◌, ℕ, Bool, true, false, List, [], ◌∷◌, ◌++◌}
 use Rattle.std.specs.Prelude.{Option, Some, None}
-use Rattle.std.specs.Prelude.{Contains, IsTrue, Result, Ok, Err, bytes_eq, codes, if◌then◌else◌, is_none, map}
+use Rattle.std.specs.Prelude.{Contains, IsTrue, Result, Ok, Err, bytes_eq, codes, if◌then◌else◌, map}
 use Rattle.std.specs.Prelude.{option_map, string_bytes}
 use Rattle.std.specs.List.{list_all}
 use Rattle.std.specs.Option.{option_map_or}
@@ -60,10 +60,29 @@ abbrev pub IsFormatOf : ArgMatches → Format → Type 0
 IsFormatOf matches format = (is_json : Bool) × IsOn matches (codes "json") is_json
     × (format ≡ requested_format is_json (value_of matches (codes "format")))
 
--- the arguments are a product token and URLs; without a crawler they are all URLs
-abbrev pub AreWordsOf : Option (List ℕ) → List (List ℕ) → List (List ℕ) → Type 0
-AreWordsOf (Some agent) urls words = words ≡ agent ∷ urls
-AreWordsOf None urls words = words ≡ urls
+-- the crawlers and the URLs, where these names are the values of `--agent`: without it, the first argument is a
+-- product token; otherwise all arguments are URLs
+abbrev pub AreWordsOf : List (List ℕ) → List (List ℕ) → List (List ℕ) → List (List ℕ) → Type 0
+AreWordsOf [] words agents urls = (agent : List ℕ) × (words ≡ agent ∷ urls) × (agents ≡ agent ∷ [])
+AreWordsOf (name ∷ names) words agents urls = (words ≡ urls) × (agents ≡ name ∷ names)
+
+-- the crawlers and the URLs of these arguments; with `--agents` no crawler is given, and all arguments are URLs
+abbrev pub HasCrawlers : ArgMatches → List (List ℕ) → List (List ℕ) → List (List ℕ) → Type 0
+HasCrawlers matches words agents urls =
+    (IsOn matches (codes "agents") true × (words ≡ urls) × (agents ≡ []))
+    ⊎ (IsOn matches (codes "agents") false
+    × AreWordsOf (values_of matches (codes "crawler")) words agents urls)
+
+-- neither `--agents` nor `--agent` nor AGENT is given
+pub record LacksAgent (matches : ArgMatches) (words : List (List ℕ)) : Type 0 where
+  pub off : IsOn matches (codes "agents") false
+  pub unnamed : values_of matches (codes "crawler") ≡ []
+  pub missing : words ≡ []
+
+-- the crawler, if there is a single one
+abbrev pub single : List (List ℕ) → Option (List ℕ)
+single (agent ∷ []) = Some agent
+single agents = None
 
 -- the names given with this option; each is that of a warning
 pub record AreNamesOf (matches : ArgMatches) (id : List ℕ) (names : List (List ℕ)) : Type 0 where
@@ -75,9 +94,10 @@ pub record IsRequestOf (matches : ArgMatches) (request : Request) : Type 0 where
   pub quiet : IsOn matches (codes "quiet") request.is_quiet
   pub format : IsFormatOf matches request.format
   pub strict : request.strict ≡ option_map level_named (value_of matches (codes "strict"))
-  pub agents : IsOn matches (codes "agents") (is_none request.agent)
-  pub words : AreWordsOf (option_map (λ agent. agent.now) request.agent)
-      (map (λ url. url.now) request.urls.items) (words_of matches)
+  pub words : HasCrawlers matches (words_of matches) (map (λ agent. agent.now) request.agents.items)
+      (map (λ url. url.now) request.urls.items)
+  pub agent : option_map (λ agent. agent.now) request.agent
+      ≡ single (map (λ agent. agent.now) request.agents.items)
   pub only : AreNamesOf matches (codes "only") (map (λ name. name.now) request.only.items)
   pub ignored : AreNamesOf matches (codes "ignore") (map (λ name. name.now) request.ignored.items)
 
@@ -91,11 +111,10 @@ abbrev pub IsUnknownIn : List (List ℕ) → Fault → Type 0
 IsUnknownIn names fault =
     (fault ≡ Memory) ⊎ ((name : List ℕ) × Contains names name × (is_name name ≡ false) × IsUnknown name fault)
 
--- a request, or an error: AGENT is missing without `--agents`, no warning has a given name, or an allocation
--- failed
+-- a request, or an error: no crawler is given, no warning has a given name, or an allocation failed
 abbrev pub Asks : ArgMatches → Result Request Fault → Type 0
 Asks matches (Ok request) = IsRequestOf matches request
 Asks matches (Err fault) =
-    (IsOn matches (codes "agents") false × (words_of matches ≡ []) × (fault ≡ Usage))
+    (LacksAgent matches (words_of matches) × (fault ≡ Usage))
     ⊎ (IsUnknownIn (values_of matches (codes "only")) fault
     ⊎ IsUnknownIn (values_of matches (codes "ignore")) fault)

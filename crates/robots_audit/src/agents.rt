@@ -1,5 +1,5 @@
-//! The crawlers that a report covers: the one that was requested, or `*` and each that the file names.
-ghost use Rattle.std.specs.Prelude.{◌≡◌, ◌++◌, ◌∷◌, [], IfOk, MatchOption, OnOk, false, if◌then◌else◌, true, map, option_map, string_bytes};
+//! The crawlers that a report covers: those that were requested, or `*` and each that the file names.
+ghost use Rattle.std.specs.Prelude.{◌≡◌, ◌++◌, ◌∷◌, [], IfOk, MatchOption, OnOk, false, if◌then◌else◌, true, map, string_bytes};
 ghost use Rattle.std.specs.Str.{is_utf8};
 ghost use Rattle.texting_robots.specs.Callers.{by_value, label_by_value};
 ghost use Rattle.robots_audit.specs.Audit.{agents_requested, agents_in};
@@ -54,12 +54,14 @@ fn add_agent(
     }
 }
 
-/// A list of one name.
-fn only(alloc: Global, name: &str) -> Result<Vec<String>, AllocError>
-    ensures { IfOk result (λ names. map string_bytes names.items ≡ name.now ∷ []) }
+/// A list of these names.
+fn list_of(alloc: Global, given: &[&str]) -> Result<Vec<String>, AllocError>
+    ensures { IfOk result (λ names. map string_bytes names.items ≡ map (λ name. name.now) given.now) }
 {
-    let mut names = Vec::new(alloc);
-    names.push(String::from_str(alloc, name)?)?;
+    let mut names = Vec::with_capacity(alloc, given.len())?;
+    for name in given {
+        names.push(String::from_str(alloc, name)?)?;
+    }
     Ok(names)
 }
 
@@ -70,24 +72,25 @@ fn agents_in(alloc: Global, labels: &[LabeledLine<'_>]) -> Result<Vec<String>, A
 {
     let mut met = BTreeSet::new(alloc);
     add_name(alloc, &mut met, b"*")?;
-    let mut names = only(alloc, "*")?;
+    let mut names = list_of(alloc, &["*"])?;
     for labeled in labels {
         add_agent(alloc, &mut met, &mut names, labeled.line)?;
     }
     Ok(names)
 }
 
-/// The crawlers that a report covers: the given one, or with `None` `*` and each that the lines name.
+/// The crawlers that a report covers: the given ones, or if there is none `*` and each that the lines name.
 pub(crate) fn agents_requested(
     alloc: Global,
-    agent: Option<&str>,
+    given: &[&str],
     labels: &[LabeledLine<'_>],
 ) -> Result<Vec<String>, AllocError>
     ensures { IfOk result (λ names. map string_bytes names.items
-        ≡ agents_requested (option_map (λ agent. agent.now) agent.entry) (lines_of (map label_by_value labels.now))) }
+        ≡ agents_requested (map (λ name. name.now) given.now) (lines_of (map label_by_value labels.now))) }
 {
-    match agent {
-        Some(agent) => only(alloc, agent),
-        None => agents_in(alloc, labels),
+    if given.is_empty() {
+        agents_in(alloc, labels)
+    } else {
+        list_of(alloc, given)
     }
 }

@@ -204,7 +204,7 @@ pub(crate) fn audit_of<'a, 'b>(
 {
     let labels = labels_for(alloc, labeling_agent(request.agent), file)?;
     let facts = facts_of(file, &labels);
-    let names = agents_requested(alloc, request.agent, &labels)?;
+    let names = agents_requested(alloc, &request.agents, &labels)?;
     let site = Site::new(alloc, file)?;
     let has_agents = facts.kinds.user_agent;
     let agents = agent_audits(alloc, &names, file, &site, has_agents, &request.urls)?;

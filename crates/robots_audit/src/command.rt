@@ -1,8 +1,9 @@
 //! The command line: its options, and the request that they result in.
-ghost use Rattle.std.specs.Prelude.{◌≡◌, ◌++◌, IfErr, IfOk, IsTrue, OnOk, map, option_map};
+ghost use Rattle.std.specs.Prelude.{◌≡◌, ◌≢◌, ◌++◌, IfErr, IfOk, IsTrue, OnOk, map, option_map};
 ghost use Rattle.std.specs.List.{list_all};
 ghost use Rattle.robots_warnings.specs.Table.{is_name};
-ghost use Rattle.robots_audit.specs.Command.{AreNamesOf, Asks, IsUnknown, IsUnknownIn, file_read, format_named, level_named, requested_format, values_of, words_of};
+ghost use Rattle.robots_audit.specs.Command.{AreNamesOf, Asks, HasCrawlers, IsUnknown, IsUnknownIn, LacksAgent};
+ghost use Rattle.robots_audit.specs.Command.{file_read, format_named, level_named, requested_format, single, values_of, words_of};
 
 use crate::fault::Fault;
 use clap::builder::ValueParser;
@@ -32,8 +33,10 @@ pub struct Request<'a> {
     pub format: Format,
     /// A warning at this level, or at a more serious one, leads to exit status 3; `None` if no warning does.
     pub strict: Option<Level>,
-    /// The product token of the crawler; `None` for `*` and each crawler that the file names.
+    /// The product token of the crawler, if the report is about a single one.
     pub agent: Option<&'a str>,
+    /// The product tokens of the crawlers; empty for `*` and each crawler that the file names.
+    pub agents: Vec<&'a str>,
     /// The URLs or paths to check.
     pub urls: Vec<&'a str>,
     /// The names of the warnings that are reported; empty for all.
@@ -106,13 +109,25 @@ fn with_switches<'a>(alloc: Global, called: Command<'a>) -> Result<Command<'a>, 
     with_format(alloc, called)?.arg(strict(alloc))
 }
 
-/// An option whose value is the name of a warning, and which can be repeated.
+/// An option whose value is a name, and which can be repeated.
 fn naming<'a>(alloc: Global, name: &'a str, help: &'a str) -> Arg<'a> {
     Arg::new(alloc, name)
         .long(name)
         .value_name("NAME")
         .action(ArgAction::Append)
         .help(help)
+}
+
+/// Adds the option `--agent`, which excludes `--agents`.
+fn with_crawlers<'a>(alloc: Global, called: Command<'a>) -> Result<Command<'a>, AllocError> {
+    let crawlers = naming(
+        alloc,
+        "crawler",
+        "Report on this crawler, instead of AGENT; may be repeated",
+    )
+    .long("agent")
+    .conflicts_with("agents")?;
+    called.arg(crawlers)
 }
 
 /// Adds the options that choose warnings by name.
@@ -134,7 +149,7 @@ fn with_names<'a>(alloc: Global, called: Command<'a>) -> Result<Command<'a>, All
 /// Adds the option `--expect`, which excludes all others but `--file`.
 fn with_expect<'a>(alloc: Global, called: Command<'a>) -> Result<Command<'a>, AllocError> {
     let others = [
-        "agent", "url", "agents", "quiet", "format", "json", "strict", "only", "ignore",
+        "agent", "url", "agents", "crawler", "quiet", "format", "json", "strict", "only", "ignore",
     ];
     let expect = Arg::new(alloc, "expect")
         .long("expect")
@@ -150,7 +165,8 @@ pub fn command<'a>(alloc: Global) -> Result<Command<'a>, AllocError> {
         .version("0.1.0")
         .about("Explains how a crawler interprets a robots.txt file")
         .override_usage("robots_audit [OPTIONS] AGENT [URL]..");
-    let called = with_switches(alloc, with_words(alloc, called)?)?;
+    let called = with_crawlers(alloc, with_words(alloc, called)?)?;
+    let called = with_switches(alloc, called)?;
     with_expect(alloc, with_names(alloc, called)?)
 }
 
@@ -281,25 +297,54 @@ fn names_of<'a>(alloc: Global, matches: &ArgMatches<'a>, id: &str) -> Result<Vec
     Ok(names)
 }
 
+/// The crawlers that `--agent` or else AGENT names; none with `--agents`. AGENT is removed from the arguments.
+fn crawlers<'a>(
+    alloc: Global,
+    matches: &ArgMatches<'a>,
+    words: &mut Vec<&'a str>,
+) -> Result<Vec<&'a str>, Fault>
+    ensures ok { IfOk result (λ agents. HasCrawlers matches.now (map (λ word. word.now) words.old.items)
+        (map (λ agent. agent.now) agents.items) (map (λ word. word.now) words.new.items)) }
+    ensures fault { IfErr result (λ fault. fault ≢ Fault.Memory
+        → LacksAgent matches.now (map (λ word. word.now) words.old.items) × (fault ≡ Fault.Usage)) }
+{
+    if matches.get_flag("agents") {
+        return Ok(Vec::new(alloc));
+    }
+    let mut agents = values_of(alloc, matches, "crawler")?;
+    if agents.is_empty() {
+        if words.is_empty() {
+            return Err(Fault::Usage);
+        }
+        agents.push(words.remove(0))?;
+    }
+    Ok(agents)
+}
+
+/// The crawler, if there is a single one.
+fn single<'a>(agents: &[&'a str]) -> Option<&'a str>
+    ensures { option_map (λ agent. agent.now) result ≡ single (map (λ agent. agent.now) agents.now) }
+{
+    match agents {
+        [agent] => Some(*agent),
+        _ => None,
+    }
+}
+
 /// The request that the arguments contain. Fails if AGENT is missing, if no warning has a given name, or if an
 /// allocation fails.
 pub fn requested<'a>(alloc: Global, matches: &ArgMatches<'a>) -> Result<Request<'a>, Fault>
     ensures { Asks matches.now result }
 {
     let mut urls = words_of(alloc, matches)?;
-    let agent = if matches.get_flag("agents") {
-        None
-    } else if urls.is_empty() {
-        return Err(Fault::Usage);
-    } else {
-        Some(urls.remove(0))
-    };
+    let agents = crawlers(alloc, matches, &mut urls)?;
     Ok(Request {
         file: file_read(matches.get_str("file")),
         is_quiet: matches.get_flag("quiet"),
         format: requested_format(matches.get_flag("json"), matches.get_str("format")),
         strict: strict_level(matches.get_str("strict")),
-        agent,
+        agent: single(&agents),
+        agents,
         urls,
         only: names_of(alloc, matches, "only")?,
         ignored: names_of(alloc, matches, "ignore")?,

@@ -16,17 +16,18 @@ agent_audits-requires-clause-agents c =
 
 pub returns-clause-ok : goal.returns-clause-ok
 returns-clause-ok c =
-    let names = names_requested (requested_by c.args.request.now).agent c.labeling_agent.result.now
-    (lines_read c.args.file.now) c.in_ok-labels.labels.items c.deref-2.result.now
-    (map string_bytes c.in_ok-names.names.items) c.in_ok-names.ensures c.deref-2.ensures.value
+    let names = names_requested (requested_by c.args.request.now).agents c.labeling_agent.result.now
+    (lines_read c.args.file.now) c.in_ok-labels.labels.items c.deref-3.result.now
+    (map string_bytes c.in_ok-names.names.items) (rw c.deref-2.ensures.value at c.in_ok-names.ensures)
+    c.deref-3.ensures.value
     c.in_ok-labels.ensures in
     record {
       labels_are = rw c.labeling_agent.ensures at c.in_ok-labels.ensures;
-      agents_are = rw (c.deref-3.ensures.value, names, c.deref-4.ensures.value) at c.in_ok-agents.ensures.ok;
+      agents_are = rw (c.deref-4.ensures.value, names, c.deref-5.ensures.value) at c.in_ok-agents.ensures.ok;
       warnings_are = rw (
-        c.deref-5.ensures.value,
-        names,
         c.deref-6.ensures.value,
+        names,
+        c.deref-7.ensures.value,
         c.facts_of-facts.ensures,
         c.deref.ensures.value,
         c.in_ok-labels.ensures,
