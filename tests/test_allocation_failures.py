@@ -105,6 +105,7 @@ AUDIT_RUNS = {
     "each agent": ["--agents", *URLS],
     "agents by name": ["--agent", "Ferris", "--agent", "other", *URLS],
     "JSON": ["--json", "Ferris", *URLS],
+    "URLs in a file": ["--urls", CRATES / "robots_audit/args", "--denied", "Ferris", *URLS],
     "wrong arguments": ["--none", "Ferris"],
     "a name after the first 512,000 bytes": ["--file", BEYOND, "Ferris"],
 }

@@ -254,6 +254,7 @@ ERRORS = {
     "unknown option": {"args": ["--bogus"]},
     "AGENT is missing": {},
     "an argument isn't UTF-8": {"args": [b"\xff"]},
+    "standard input would be read twice": {"args": ["--urls", "-", "B"]},
     "no warning has this name": {"args": ["--ignore", "NAME", "B"]},
     "a file can't be opened or read": {"args": ["-f", "NAME", "B"]},
     "standard input can't be read": {"args": ["B"], "stdin": "/"},

@@ -1,8 +1,8 @@
 -- How a text is cut into parts, and the expectations in it are found.
-use Rattle.std.proofs.Common.{◌≡◌, ◌≢◌, ◌∙◌, ℕ, zero, suc, ◌+◌, ◌<◌, List, [], ◌∷◌, ◌++◌}
+use Rattle.std.proofs.Common.{◌≡◌, ◌≢◌, ◌∙◌, ℕ, zero, suc, ◌+◌, List, [], ◌∷◌, ◌++◌}
 use Rattle.std.proofs.Common.{Result, Ok, Err, ap, arith, drop, length, refl, sym, take}
 use Rattle.std.proofs.lemmas.Bool.{cond-false, cond-true}
-use Rattle.robots_audit.specs.Expect.{ExpectationValue, parts, with_byte}
+use Rattle.robots_audit.specs.Expect.{parts, with_byte}
 use Rattle.robots_audit.specs.Internal.Expect.{HasNone, IsFirstSeparator}
 
 no_length : (text : List ℕ) → length text ≡ 0 → text ≡ []
@@ -49,7 +49,7 @@ cut_nowhere separators text rest some none empty =
 
 -- ---- a text
 
--- the expectations after these
-abbrev pub after_these : List ExpectationValue → Result (List ExpectationValue) ℕ → Result (List ExpectationValue) ℕ
+-- the entries after these
+abbrev pub after_these : {X : Type 0} → List X → Result (List X) ℕ → Result (List X) ℕ
 after_these found (Ok others) = Ok (found ++ others)
 after_these found (Err number) = Err number

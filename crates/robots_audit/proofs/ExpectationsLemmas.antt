@@ -1,5 +1,5 @@
 -- How expectations are checked, and the results of a run.
-use Rattle.std.proofs.Common.{◌≡◌, ◌≢◌, ◌∙◌, ℕ, ◌+◌, ◌<◌, ◌==◌, Bool, true, List, [], ◌∷◌, ◌++◌, IfSome, Option}
+use Rattle.std.proofs.Common.{◌≡◌, ◌≢◌, ◌∙◌, ℕ, ◌+◌, ◌<◌, ◌==◌, Bool, true, List, [], ◌∷◌, ◌++◌, IfSome}
 use Rattle.std.proofs.Common.{Result, Ok, Err, IsErrOf, ap, arith, codes, decimal, filter, length, map, refl}
 use Rattle.std.proofs.Common.{slice_index_or, string_bytes, subst, sym, take}
 use Rattle.std.specs.List.{AllByRecursion as Each}
@@ -23,8 +23,8 @@ use Rattle.robots_audit.specs.declared.expectations.Finding.{Finding}
 use Rattle.robots_audit.specs.declared.expectations.Finding.TheVariants.{Decided, Rejected}
 use Rattle.robots_audit.specs.declared.fault.Fault.{Fault}
 use Rattle.robots_audit.specs.declared.fault.Fault.TheVariants.{File, Malformed, Memory}
-use Rattle.robots_audit.specs.declared.fault.Fault.TheVariants.{NotUtf8, Read, UnknownWarning, Usage, Words}
-use Rattle.robots_audit.specs.declared.fault.Fault.TheVariants.{Write}
+use Rattle.robots_audit.specs.declared.fault.Fault.TheVariants.{NotUtf8, Read, StdinTwice, UnknownWarning}
+use Rattle.robots_audit.specs.declared.fault.Fault.TheVariants.{UrlNotUtf8, Usage, Words, Write}
 use Rattle.robots_audit.specs.declared.fault.Outcome.{Outcome}
 use Rattle.robots_audit.specs.Answer.{Ends}
 use Rattle.robots_audit.specs.Expect.{ExpectationValue, expectations_in}
@@ -130,6 +130,8 @@ malformed_fault name text number Usage is specified = absurd (cc)
 malformed_fault name text number NotUtf8 is specified = absurd (cc)
 malformed_fault name text number (UnknownWarning shown) is specified = absurd (cc)
 malformed_fault name text number (File shown) is specified = absurd (cc)
+malformed_fault name text number (UrlNotUtf8 place) is specified = absurd (cc)
+malformed_fault name text number StdinTwice is specified = absurd (cc)
 malformed_fault name text number Read is specified = absurd (cc)
 malformed_fault name text number Write is specified = absurd (cc)
 
@@ -184,7 +186,7 @@ write_failed name text ends (Err fault) file is read begun =
 
 -- ---- the message on standard error
 
-place_printable : (name : List ℕ) (number : ℕ) → IsPrintable (place_text name number)
+pub place_printable : (name : List ℕ) (number : ℕ) → IsPrintable (place_text name number)
 place_printable name number =
     append_printable true (sanitized name ++ codes ":") (decimal number)
     (append_printable true (sanitized name) (codes ":") (sanitized_printable name)
@@ -204,6 +206,8 @@ fault_printable name text Usage is = absurd is
 fault_printable name text NotUtf8 is = absurd is
 fault_printable name text (UnknownWarning shown) is = absurd is
 fault_printable name text (File shown) is = absurd is
+fault_printable name text (UrlNotUtf8 place) is = absurd is
+fault_printable name text StdinTwice is = absurd is
 
 pub checked_printable : (name text : List ℕ) (ends : Ends) (result : Result Outcome Fault)
     → Checks name text ends result → IsPrintable (message_after result)

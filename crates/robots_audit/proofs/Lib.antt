@@ -2,6 +2,7 @@ pub mod AgentLemmas
 pub mod AnswerLemmas
 pub mod AuditLemmas
 pub mod DelayLemmas
+pub mod DeniedLemmas
 pub mod ExpectLemmas
 pub mod ExpectationsLemmas
 pub mod JsonLemmas
@@ -10,4 +11,5 @@ pub mod MessageLemmas
 pub mod PrintableLemmas
 pub mod RowLemmas
 pub mod SpaceLemmas
+pub mod UrlListLemmas
 pub mod WarningLemmas

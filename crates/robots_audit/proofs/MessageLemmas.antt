@@ -10,8 +10,8 @@ use Rattle.robots_io.proofs.SanitizeLemmas.{sanitized_lines_printable, sanitized
 use Rattle.robots_audit.specs.declared.command.Request.{Request}
 use Rattle.robots_audit.specs.declared.fault.Fault.{Fault}
 use Rattle.robots_audit.specs.declared.fault.Fault.TheVariants.{File, Malformed, Memory}
-use Rattle.robots_audit.specs.declared.fault.Fault.TheVariants.{NotUtf8, Read, UnknownWarning, Usage, Words}
-use Rattle.robots_audit.specs.declared.fault.Fault.TheVariants.{Write}
+use Rattle.robots_audit.specs.declared.fault.Fault.TheVariants.{NotUtf8, Read, StdinTwice, UnknownWarning}
+use Rattle.robots_audit.specs.declared.fault.Fault.TheVariants.{UrlNotUtf8, Usage, Words, Write}
 use Rattle.robots_audit.specs.declared.fault.Outcome.{Outcome}
 use Rattle.robots_audit.specs.Answer.{Audits, Ends, Helps, IsFileUnreadable, IsRejection, requested_by}
 use Rattle.robots_audit.specs.Command.{Asks, IsUnknown, IsUnknownIn}
@@ -37,6 +37,8 @@ may_fail_printable NotUtf8 may = absurd may
 may_fail_printable (UnknownWarning name) may = absurd may
 may_fail_printable (File name) may = absurd may
 may_fail_printable (Malformed place) may = absurd may
+may_fail_printable (UrlNotUtf8 place) may = absurd may
+may_fail_printable StdinTwice may = absurd may
 may_fail_printable Read may = ascii_printable true (fault_text Read) refl
 may_fail_printable Write may = ascii_printable true (fault_text Write) refl
 may_fail_printable Memory may = ascii_printable true (fault_text Memory) refl
@@ -49,6 +51,8 @@ rejection_printable text NotUtf8 is = cc
 rejection_printable text (UnknownWarning name) is = cc
 rejection_printable text (File name) is = cc
 rejection_printable text (Malformed place) is = cc
+rejection_printable text (UrlNotUtf8 place) is = cc
+rejection_printable text StdinTwice is = cc
 rejection_printable text Read is = cc
 rejection_printable text Write is = cc
 rejection_printable text Memory is = memory_printable Memory refl
@@ -64,6 +68,8 @@ unreadable_printable name (File shown) is =
     (ascii_printable true (codes "cannot read ") refl)
     (subst IsPrintable (sym is) (sanitized_printable name)) (nil_printable true)
 unreadable_printable name (Malformed place) is = cc
+unreadable_printable name (UrlNotUtf8 place) is = cc
+unreadable_printable name StdinTwice is = cc
 unreadable_printable name Read is = cc
 unreadable_printable name Write is = cc
 unreadable_printable name Memory is = memory_printable Memory refl
@@ -79,6 +85,8 @@ unknown_printable name (UnknownWarning shown) is =
     (subst IsPrintable (sym is) (sanitized_printable name)) (ascii_printable true usage refl)
 unknown_printable name (File other) is = cc
 unknown_printable name (Malformed place) is = cc
+unknown_printable name (UrlNotUtf8 place) is = cc
+unknown_printable name StdinTwice is = cc
 unknown_printable name Read is = cc
 unknown_printable name Write is = cc
 unknown_printable name Memory is = memory_printable Memory refl
@@ -93,8 +101,11 @@ pub request_printable : (matches : ArgMatches) (fault : Fault) → Asks matches 
 request_printable matches fault (inl (lacks, is)) =
     subst (λ (fault : Fault). IsPrintable (fault_text fault)) (sym is)
     (ascii_printable true (fault_text Usage) refl)
-request_printable matches fault (inr (inl is)) = unknown_in_printable _ fault is
-request_printable matches fault (inr (inr is)) = unknown_in_printable _ fault is
+request_printable matches fault (inr (inl (twice, is))) =
+    subst (λ (fault : Fault). IsPrintable (fault_text fault)) (sym is)
+    (ascii_printable true (fault_text StdinTwice) refl)
+request_printable matches fault (inr (inr (inl is))) = unknown_in_printable _ fault is
+request_printable matches fault (inr (inr (inr is))) = unknown_in_printable _ fault is
 
 -- ---- results
 

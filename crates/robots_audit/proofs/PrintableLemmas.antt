@@ -10,18 +10,17 @@ use Rattle.texting_robots.specs.Callers.{UserAgent}
 use Rattle.texting_robots.specs.declared.labels.Membership.{Membership}
 use Rattle.texting_robots.specs.declared.labels.Membership.TheVariants.{Other, Ungrouped, Own}
 use Rattle.texting_robots.proofs.TrimLemmas.{each_append}
-use Rattle.robots_io.specs.Lines.{ended}
 use Rattle.robots_io.specs.Verdicts.{verdict_front}
 use Rattle.robots_audit.specs.declared.command.Format.{Format}
 use Rattle.robots_audit.specs.declared.command.Format.TheVariants.{Json, Text}
 use Rattle.robots_audit.specs.declared.group.Group.{Group}
 use Rattle.robots_audit.specs.declared.group.Group.TheVariants.{Everyone, Named, Nobody, Star}
 use Rattle.robots_audit.specs.Answer.{has_rows, message, message_in, output, output_in, shown_name}
-use Rattle.robots_audit.specs.Audit.{AgentValue, RequestValue, AuditValue, VerdictValue}
+use Rattle.robots_audit.specs.Answer.{total_lines}
+use Rattle.robots_audit.specs.Audit.{AgentValue, RequestValue, AuditValue, VerdictValue, shown}
 use Rattle.robots_audit.specs.Delay.{delay_line, delay_text, fraction, million, seconds}
 use Rattle.robots_audit.specs.Report.{agent_lines, group_line, nobody_text, rejected_lines, report_lines}
-use Rattle.robots_audit.specs.Report.{verdict_line}
-use Rattle.robots_audit.specs.Report.{warning_lines}
+use Rattle.robots_audit.specs.Report.{total_line, verdict_line, warning_lines}
 use Rattle.robots_warnings.specs.File.{space}
 use Rattle.robots_audit.specs.Rows.{has_value, kind_text, label_text, right_aligned, row, rows}
 use Rattle.robots_audit.specs.Rows.{value_text, word_and_value, word_width}
@@ -190,12 +189,21 @@ report_printable true audit =
     (each_flat agent_lines agent_printable audit.agents)
 report_printable false audit = each_flat agent_lines agent_printable audit.agents
 
+totals_printable : (has_totals : Bool) (agents : List AgentValue)
+    → Each IsPrintable (if has_totals then total_line agents ∷ [] else [])
+totals_printable true agents = (search (append_printable true, ascii_printable true, decimal_printable true), tt)
+totals_printable false agents = tt
+
 output_in_printable : (format : Format) (requested : RequestValue) (audit : AuditValue)
     → IsPrintable (output_in format requested audit)
 output_in_printable Text requested audit =
-    let rows = has_rows requested in
-    ended_printable (report_lines rows audit) (report_printable rows audit)
-output_in_printable Json requested audit = json_printable (has_rows requested) audit
+    let reported = report_lines (has_rows requested) (shown requested.is_denied_only audit) in
+    ended_printable (reported ++ total_lines requested audit)
+    (each_append IsPrintable reported (total_lines requested audit)
+    (report_printable (has_rows requested) (shown requested.is_denied_only audit))
+    (totals_printable requested.has_totals audit.agents))
+output_in_printable Json requested audit =
+    json_printable (has_rows requested) (shown requested.is_denied_only audit)
 
 pub output_printable : (requested : RequestValue) (audit : AuditValue) → IsPrintable (output requested audit)
 output_printable requested audit = output_in_printable requested.format requested audit

@@ -1,6 +1,6 @@
 -- The result of a run. `Appends` and `Keeps` claim nothing about a writer whose bytes the specification
 -- can't observe.
-use Rattle.std.specs.Prelude.{◌≡◌, ◌≢◌, ℕ, Bool, true, false, List, [], None, Option, Some}
+use Rattle.std.specs.Prelude.{◌≡◌, ◌≢◌, ℕ, Bool, true, false, List, [], ◌∷◌, ◌++◌, None, Option, Some}
 use Rattle.std.specs.Prelude.{Result, codes, if◌then◌else◌, is_some}
 use Rattle.std.specs.Prelude.{IfErr, IfOk, IfSome, IsErrOf, map, option_map, string_bytes}
 use Rattle.std.specs.List.{list_any}
@@ -13,10 +13,10 @@ use Rattle.robots_audit.specs.declared.command.Request.{Request}
 use Rattle.robots_audit.specs.declared.fault.Fault.{Fault}
 use Rattle.robots_audit.specs.declared.fault.Fault.TheVariants.{File, Memory, Words, Write}
 use Rattle.robots_audit.specs.declared.fault.Outcome.{Outcome}
-use Rattle.robots_audit.specs.Audit.{RequestValue, AuditValue, IsAuditOf, all_allowed, rejects_some}
+use Rattle.robots_audit.specs.Audit.{RequestValue, AuditValue, IsAuditOf, all_allowed, rejects_some, shown}
 use Rattle.robots_audit.specs.Fault.{MayFail}
 use Rattle.robots_audit.specs.Json.{json_text}
-use Rattle.robots_audit.specs.Report.{report_lines, warning_lines}
+use Rattle.robots_audit.specs.Report.{report_lines, total_line, warning_lines}
 use Rattle.robots_io.specs.Sanitize.{sanitized, sanitized_lines}
 use Rattle.robots_warnings.specs.declared.level.Level.{Level}
 use Rattle.robots_warnings.specs.Level.{reaches}
@@ -42,6 +42,8 @@ requested_by request = record {
   strict = request.strict;
   only = map (λ name. name.now) request.only.items;
   ignored = map (λ name. name.now) request.ignored.items;
+  is_denied_only = request.is_denied_only;
+  has_totals = request.has_totals;
 }
 
 -- ---- the report and the warnings
@@ -50,10 +52,16 @@ requested_by request = record {
 abbrev pub has_rows : RequestValue → Bool
 has_rows requested = if requested.is_quiet then false else is_some requested.agent
 
+-- the last line has the numbers of allowed and denied URLs, with `--urls` or `--denied`
+abbrev pub total_lines : RequestValue → AuditValue → List (List ℕ)
+total_lines requested audit = if requested.has_totals then total_line audit.agents ∷ [] else []
+
 -- the report in this format
 abbrev pub output_in : Format → RequestValue → AuditValue → List ℕ
-output_in Text requested audit = ended (report_lines (has_rows requested) audit)
-output_in Json requested audit = json_text (has_rows requested) audit
+output_in Text requested audit =
+    ended (report_lines (has_rows requested) (shown requested.is_denied_only audit)
+    ++ total_lines requested audit)
+output_in Json requested audit = json_text (has_rows requested) (shown requested.is_denied_only audit)
 
 -- the report in the requested format
 abbrev pub output : RequestValue → AuditValue → List ℕ

@@ -1,6 +1,6 @@
 -- The audit of a file: its lines, what applies to each requested crawler, and the warnings.
 use Rattle.std.specs.Prelude.{◌≡◌, ℕ, Bool, List, [], ◌∷◌, ◌++◌, Option, Some, None}
-use Rattle.std.specs.Prelude.{bytes_eq, codes, is_some}
+use Rattle.std.specs.Prelude.{bytes_eq, codes, count_by, filter, is_some, map, not, sum_by}
 use Rattle.std.specs.Prelude.{if◌then◌else◌}
 use Rattle.std.specs.List.{AllZip, list_all, list_any}
 use Rattle.std.specs.Str.{is_utf8, str_to_ascii_lowercase}
@@ -21,7 +21,8 @@ use Rattle.robots_audit.specs.Chosen.{chosen}
 -- a request: the name of the file, or `None` for standard input; the crawler, if the report is about a single
 -- one; the crawlers, where an empty list means `*` and each that the file names; the URLs; whether the rows are
 -- left out; how the report is written; the level of `--strict`, if it is given; the names of the warnings that
--- are reported, where an empty list means all; and the names of those that are left out
+-- are reported, where an empty list means all; the names of those that are left out; whether only denied URLs
+-- are listed; and whether the report ends with the numbers of allowed and denied URLs
 pub record RequestValue : Type 0 where
   pub file : Option (List ℕ)
   pub agent : Option (List ℕ)
@@ -32,6 +33,8 @@ pub record RequestValue : Type 0 where
   pub strict : Option Level
   pub only : List (List ℕ)
   pub ignored : List (List ℕ)
+  pub is_denied_only : Bool
+  pub has_totals : Bool
 
 -- ---- the crawlers of a report
 
@@ -129,6 +132,29 @@ pub record IsAuditOf (requested : RequestValue) (file : List ℕ) (audit : Audit
   pub agents_are : AllZip (IsAgentAudit requested.urls (lines_read file))
       (agents_requested requested.agents (lines_read file)) audit.agents
   pub warnings_are : audit.warnings ≡ warnings_requested requested file (labels_requested requested file)
+
+-- ---- denied URLs
+
+abbrev pub is_allowed : VerdictValue → Bool
+is_allowed verdict = verdict.decision.allowed
+
+abbrev pub is_denied : VerdictValue → Bool
+is_denied verdict = not verdict.decision.allowed
+
+-- what the file means for a crawler, with the denied URLs alone
+abbrev pub with_denied : AgentValue → AgentValue
+with_denied agent = record agent { verdicts = filter is_denied agent.verdicts }
+
+-- the audit that is reported: with `--denied`, that with the denied URLs alone
+abbrev pub shown : Bool → AuditValue → AuditValue
+shown denied_only audit =
+    if denied_only then record audit { agents = map with_denied audit.agents } else audit
+
+-- how many verdicts of all crawlers pass this test
+abbrev pub total : (VerdictValue → Bool) → List AgentValue → ℕ
+total test agents = sum_by (λ (agent : AgentValue). count_by test agent.verdicts) agents
+
+-- ---- the outcome
 
 -- all of these verdicts are "allowed"
 abbrev pub allows_all : List VerdictValue → Bool

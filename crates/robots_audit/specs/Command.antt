@@ -1,7 +1,7 @@
 -- The request that the arguments contain, specified by what `clap` found in them.
 use Rattle.std.specs.Prelude.{◌≡◌, ◌⊎◌, ℕ, Bool, true, false, List, [], ◌∷◌, ◌++◌}
 use Rattle.std.specs.Prelude.{Option, Some, None}
-use Rattle.std.specs.Prelude.{Contains, IsTrue, Result, Ok, Err, bytes_eq, codes, if◌then◌else◌, map}
+use Rattle.std.specs.Prelude.{Contains, IsTrue, Result, Ok, Err, bytes_eq, codes, if◌then◌else◌, is_some, map, ◌||◌}
 use Rattle.std.specs.Prelude.{option_map, string_bytes}
 use Rattle.std.specs.List.{list_all}
 use Rattle.std.specs.Option.{option_map_or}
@@ -11,7 +11,7 @@ use Rattle.robots_audit.specs.declared.command.Format.{Format}
 use Rattle.robots_audit.specs.declared.command.Format.TheVariants.{Json, Text}
 use Rattle.robots_audit.specs.declared.command.Request.{Request}
 use Rattle.robots_audit.specs.declared.fault.Fault.{Fault}
-use Rattle.robots_audit.specs.declared.fault.Fault.TheVariants.{Memory, UnknownWarning, Usage}
+use Rattle.robots_audit.specs.declared.fault.Fault.TheVariants.{Memory, StdinTwice, UnknownWarning, Usage}
 use Rattle.robots_io.specs.Sanitize.{sanitized}
 use Rattle.robots_warnings.specs.declared.level.Level.{Level}
 use Rattle.robots_warnings.specs.declared.level.Level.TheVariants as level
@@ -40,6 +40,11 @@ IsOn matches id answer =
 abbrev pub file_read : Option (List ℕ) → Option (List ℕ)
 file_read None = None
 file_read (Some name) = if bytes_eq name (codes "-") then None else Some name
+
+-- both the URLs and the robots.txt file would be read from standard input
+pub record ReadsStdinTwice (matches : ArgMatches) : Type 0 where
+  pub urls : value_of matches (codes "urls") ≡ Some (codes "-")
+  pub file : file_read (value_of matches (codes "file")) ≡ None
 
 -- the level with this word; `clap` accepts none but those of the three levels
 abbrev pub level_named : List ℕ → Level
@@ -90,9 +95,12 @@ pub record AreNamesOf (matches : ArgMatches) (id : List ℕ) (names : List (List
   pub known : IsTrue (list_all is_name names)
 
 pub record IsRequestOf (matches : ArgMatches) (request : Request) : Type 0 where
+  pub once : ¬ ReadsStdinTwice matches
   pub file : option_map (λ name. name.now) request.file ≡ file_read (value_of matches (codes "file"))
   pub quiet : IsOn matches (codes "quiet") request.is_quiet
   pub format : IsFormatOf matches request.format
+  pub denied : IsOn matches (codes "denied") request.is_denied_only
+  pub totals : request.has_totals ≡ (request.is_denied_only || is_some (value_of matches (codes "urls")))
   pub strict : request.strict ≡ option_map level_named (value_of matches (codes "strict"))
   pub words : HasCrawlers matches (words_of matches) (map (λ agent. agent.now) request.agents.items)
       (map (λ url. url.now) request.urls.items)
@@ -111,10 +119,12 @@ abbrev pub IsUnknownIn : List (List ℕ) → Fault → Type 0
 IsUnknownIn names fault =
     (fault ≡ Memory) ⊎ ((name : List ℕ) × Contains names name × (is_name name ≡ false) × IsUnknown name fault)
 
--- a request, or an error: no crawler is given, no warning has a given name, or an allocation failed
+-- a request, or an error: no crawler is given, standard input would be read twice, no warning has a given name,
+-- or an allocation failed
 abbrev pub Asks : ArgMatches → Result Request Fault → Type 0
 Asks matches (Ok request) = IsRequestOf matches request
 Asks matches (Err fault) =
     (LacksAgent matches (words_of matches) × (fault ≡ Usage))
+    ⊎ ((ReadsStdinTwice matches × (fault ≡ StdinTwice))
     ⊎ (IsUnknownIn (values_of matches (codes "only")) fault
-    ⊎ IsUnknownIn (values_of matches (codes "ignore")) fault)
+    ⊎ IsUnknownIn (values_of matches (codes "ignore")) fault))

@@ -1,5 +1,5 @@
--- The expectations in the file of `--expect`, one per line.
-use Rattle.std.specs.Prelude.{◌≡◌, ℕ, suc, ◌==◌, Bool, true, false, not, ◌&&◌, List, [], ◌∷◌}
+-- The lines of a text and the entries in them, and the expectations in the file of `--expect`, one per line.
+use Rattle.std.specs.Prelude.{ℕ, suc, ◌==◌, Bool, true, false, not, ◌&&◌, List, [], ◌∷◌}
 use Rattle.std.specs.Prelude.{Option, Some, None, Result, Ok, Err}
 use Rattle.std.specs.Prelude.{bytes_eq, codes, filter, if◌then◌else◌, length}
 use Rattle.std.specs.List.{list_any}
@@ -38,6 +38,23 @@ is_word word = not (length word == 0)
 
 abbrev pub words : List ℕ → List (List ℕ)
 words line = filter is_word (parts word_separators line)
+
+-- ---- entries, of which a line has at most one
+
+-- a line's entry before those of later lines; the first malformed line counts
+abbrev pub before_others : {X : Type 0} → Result (Option X) ℕ → Result (List X) ℕ → Result (List X) ℕ
+before_others (Err number) others = Err number
+before_others (Ok None) others = others
+before_others (Ok (Some first)) (Ok others) = Ok (first ∷ others)
+before_others (Ok (Some first)) (Err number) = Err number
+
+-- the entries of these lines, of which the first has this number, or the number of the first malformed line;
+-- `entry` is the entry of a line, if it has one, or the number of the line if it is malformed
+abbrev pub entries_from : {X : Type 0} → (ℕ → List ℕ → Result (Option X) ℕ) → ℕ → List (List ℕ)
+    → Result (List X) ℕ
+entries_from entry number [] = Ok []
+entries_from entry number (line ∷ others) =
+    before_others (entry number line) (entries_from entry (suc number) others)
 
 -- ---- expectations
 
@@ -78,21 +95,6 @@ words_expect number (word ∷ others) =
 abbrev pub expectation_in : ℕ → List ℕ → Result (Option ExpectationValue) ℕ
 expectation_in number line = words_expect number (words line)
 
--- a line's expectation before those of later lines; the first malformed line counts
-abbrev pub before_others : Result (Option ExpectationValue) ℕ → Result (List ExpectationValue) ℕ
-    → Result (List ExpectationValue) ℕ
-before_others (Err number) others = Err number
-before_others (Ok None) others = others
-before_others (Ok (Some first)) (Ok others) = Ok (first ∷ others)
-before_others (Ok (Some first)) (Err number) = Err number
-
--- the expectations of these lines, of which the first has this number, or the number of the first malformed
--- line
-abbrev pub expectations_from : ℕ → List (List ℕ) → Result (List ExpectationValue) ℕ
-expectations_from number [] = Ok []
-expectations_from number (line ∷ others) =
-    before_others (expectation_in number line) (expectations_from (suc number) others)
-
 -- the expectations in a text, or the number of its first malformed line
 abbrev pub expectations_in : List ℕ → Result (List ExpectationValue) ℕ
-expectations_in text = expectations_from 1 (lines text)
+expectations_in text = entries_from expectation_in 1 (lines text)

@@ -6,7 +6,6 @@ use Rattle.std.specs.List.{AllByRecursion as Each}
 use Rattle.std.specs.Io.KnownBytes.{Appends, Keeps}
 use Rattle.texting_robots.specs.Callers.{IsFirstOverlong, IsRejected, LineValue, lines_read, placed_rules}
 use Rattle.texting_robots.specs.Callers.{prepared, robots_file}
-use Rattle.texting_robots.specs.declared.decision.Decision.{Decision}
 use Rattle.robots_io.specs.Lines.{ended}
 use Rattle.robots_io.specs.Sanitize.{sanitized}
 use Rattle.robots_io.specs.Streams.{AppendsBeginning}
@@ -47,7 +46,7 @@ fails checked = fails_at checked.expectation.allowed checked.finding
 
 -- ---- the report
 
--- the name of the file with the expectations, and the number of a line
+-- the name of a file, and the number of a line
 abbrev pub place_text : List ℕ → ℕ → List ℕ
 place_text name number = sanitized name ++ codes ":" ++ decimal number
 

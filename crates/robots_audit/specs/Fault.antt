@@ -6,8 +6,8 @@ use Rattle.robots_io.specs.declared.streams.ReadFault.{ReadFault}
 use Rattle.robots_io.specs.declared.streams.ReadFault.TheVariants as read
 use Rattle.robots_audit.specs.declared.fault.Fault.{Fault}
 use Rattle.robots_audit.specs.declared.fault.Fault.TheVariants.{File, Malformed, Memory}
-use Rattle.robots_audit.specs.declared.fault.Fault.TheVariants.{NotUtf8, Read, UnknownWarning, Usage, Words}
-use Rattle.robots_audit.specs.declared.fault.Fault.TheVariants.{Write}
+use Rattle.robots_audit.specs.declared.fault.Fault.TheVariants.{NotUtf8, Read, StdinTwice, UnknownWarning}
+use Rattle.robots_audit.specs.declared.fault.Fault.TheVariants.{UrlNotUtf8, Usage, Words, Write}
 use Rattle.robots_audit.specs.declared.fault.Outcome.{Outcome}
 
 -- the message for an error
@@ -19,6 +19,8 @@ reason_of (UnknownWarning name) = codes "unknown warning " ++ string_bytes name
 reason_of (File name) = codes "cannot read " ++ string_bytes name
 reason_of (Malformed place) =
     string_bytes place ++ codes ": write \"allow AGENT URL\" or \"deny AGENT URL\""
+reason_of (UrlNotUtf8 place) = string_bytes place ++ codes ": the URL isn't valid UTF-8"
+reason_of StdinTwice = codes "standard input can't be both robots.txt and the URLs (use --file)"
 reason_of Read = codes "cannot read standard input"
 reason_of Write = codes "cannot write the report"
 reason_of Memory = codes "out of memory"
@@ -31,6 +33,8 @@ usage_after NotUtf8 = codes "; usage: robots_audit [OPTIONS] AGENT [URL].."
 usage_after (UnknownWarning name) = codes "; usage: robots_audit [OPTIONS] AGENT [URL].."
 usage_after (File name) = []
 usage_after (Malformed place) = []
+usage_after (UrlNotUtf8 place) = []
+usage_after StdinTwice = codes "; usage: robots_audit [OPTIONS] AGENT [URL].."
 usage_after Read = []
 usage_after Write = []
 usage_after Memory = []
@@ -64,6 +68,8 @@ MayFail NotUtf8 = ⊥
 MayFail (UnknownWarning name) = ⊥
 MayFail (File name) = ⊥
 MayFail (Malformed place) = ⊥
+MayFail (UrlNotUtf8 place) = ⊥
+MayFail StdinTwice = ⊥
 MayFail Read = ⊤
 MayFail Write = ⊤
 MayFail Memory = ⊤

@@ -9,4 +9,5 @@ pub mod Json
 pub mod Answer
 pub mod Expect
 pub mod Expectations
+pub mod UrlList
 pub mod Internal

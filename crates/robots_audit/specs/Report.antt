@@ -5,7 +5,7 @@ use Rattle.std.specs.Prelude.{if◌then◌else◌, map}
 use Rattle.robots_io.specs.Verdicts.{verdict_front}
 use Rattle.robots_audit.specs.declared.group.Group.{Group}
 use Rattle.robots_audit.specs.declared.group.Group.TheVariants.{Everyone, Named, Nobody, Star}
-use Rattle.robots_audit.specs.Audit.{AgentValue, AuditValue, VerdictValue}
+use Rattle.robots_audit.specs.Audit.{AgentValue, AuditValue, VerdictValue, is_allowed, is_denied, total}
 use Rattle.robots_audit.specs.Delay.{delay_line}
 use Rattle.robots_audit.specs.Rows.{rows}
 use Rattle.robots_io.specs.Sanitize.{sanitized}
@@ -53,6 +53,14 @@ agent_lines agent =
 abbrev pub report_lines : Bool → AuditValue → List (List ℕ)
 report_lines has_rows audit =
     (if has_rows then rows audit.labels else []) ++ flat_map agent_lines audit.agents
+
+-- two numbers of URLs, up to the last word
+abbrev pub total_front : ℕ → ℕ → List ℕ
+total_front allowed denied = decimal allowed ++ codes " allowed, " ++ decimal denied
+
+-- how many of all URLs are allowed, and how many are denied
+abbrev pub total_line : List AgentValue → List ℕ
+total_line agents = total_front (total is_allowed agents) (total is_denied agents) ++ codes " denied"
 
 -- ---- warnings
 

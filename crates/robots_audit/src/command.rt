@@ -1,8 +1,8 @@
 //! The command line: its options, and the request that they result in.
-ghost use Rattle.std.specs.Prelude.{◌≡◌, ◌≢◌, ◌++◌, IfErr, IfOk, IsTrue, OnOk, map, option_map};
+ghost use Rattle.std.specs.Prelude.{◌≡◌, ◌≢◌, ◌↔◌, ◌++◌, IfErr, IfOk, IsTrue, OnOk, is_some, map, option_map, ◌||◌};
 ghost use Rattle.std.specs.List.{list_all};
 ghost use Rattle.robots_warnings.specs.Table.{is_name};
-ghost use Rattle.robots_audit.specs.Command.{AreNamesOf, Asks, HasCrawlers, IsUnknown, IsUnknownIn, LacksAgent};
+ghost use Rattle.robots_audit.specs.Command.{AreNamesOf, Asks, HasCrawlers, IsUnknown, IsUnknownIn, LacksAgent, ReadsStdinTwice};
 ghost use Rattle.robots_audit.specs.Command.{file_read, format_named, level_named, requested_format, single, values_of, words_of};
 
 use crate::fault::Fault;
@@ -43,6 +43,10 @@ pub struct Request<'a> {
     pub only: Vec<&'a str>,
     /// The names of the warnings that are left out.
     pub ignored: Vec<&'a str>,
+    /// Whether only denied URLs are listed.
+    pub is_denied_only: bool,
+    /// Whether the report ends with the numbers of allowed and denied URLs.
+    pub has_totals: bool,
 }
 
 /// An option without a value.
@@ -82,6 +86,15 @@ fn strict<'a>(alloc: Global) -> Arg<'a> {
         .default_missing_value("warning")
         .value_parser(ValueParser::Names(&["error", "warning", "note"]))
         .help("Exit with status 3 if there is a warning at this level or a more serious one")
+}
+
+/// Adds the options `--urls` and `--denied`.
+fn with_list<'a>(alloc: Global, called: Command<'a>) -> Result<Command<'a>, AllocError> {
+    let urls = Arg::new(alloc, "urls").long("urls").value_name("FILE").help(
+        "Check the URLs in this file too, one per line (-: standard input)",
+    );
+    let denied = switch(alloc, "denied", "List only the URLs that are denied");
+    called.arg(urls)?.arg(denied)
 }
 
 /// Adds the option `--format`, and its short form `--json`, of which only one can be given.
@@ -149,7 +162,8 @@ fn with_names<'a>(alloc: Global, called: Command<'a>) -> Result<Command<'a>, All
 /// Adds the option `--expect`, which excludes all others but `--file`.
 fn with_expect<'a>(alloc: Global, called: Command<'a>) -> Result<Command<'a>, AllocError> {
     let others = [
-        "agent", "url", "agents", "crawler", "quiet", "format", "json", "strict", "only", "ignore",
+        "agent", "url", "agents", "crawler", "urls", "denied", "quiet", "format", "json", "strict",
+        "only", "ignore",
     ];
     let expect = Arg::new(alloc, "expect")
         .long("expect")
@@ -165,8 +179,8 @@ pub fn command<'a>(alloc: Global) -> Result<Command<'a>, AllocError> {
         .version("0.1.0")
         .about("Explains how a crawler interprets a robots.txt file")
         .override_usage("robots_audit [OPTIONS] AGENT [URL]..");
-    let called = with_crawlers(alloc, with_words(alloc, called)?)?;
-    let called = with_switches(alloc, called)?;
+    let called = with_list(alloc, with_words(alloc, called)?)?;
+    let called = with_switches(alloc, with_crawlers(alloc, called)?)?;
     with_expect(alloc, with_names(alloc, called)?)
 }
 
@@ -177,6 +191,16 @@ pub fn file_read<'a>(name: Option<&'a str>) -> Option<&'a str>
     match name {
         Some(name) if name != "-" => Some(name),
         _ => None,
+    }
+}
+
+/// Whether both the URLs and the robots.txt file would be read from standard input.
+fn reads_stdin_twice(matches: &ArgMatches<'_>) -> bool
+    ensures { IsTrue result ↔ ReadsStdinTwice matches.now }
+{
+    match matches.get_str("urls") {
+        Some(name) => name == "-" && file_read(matches.get_str("file")).is_none(),
+        None => false,
     }
 }
 
@@ -331,13 +355,24 @@ fn single<'a>(agents: &[&'a str]) -> Option<&'a str>
     }
 }
 
-/// The request that the arguments contain. Fails if AGENT is missing, if no warning has a given name, or if an
-/// allocation fails.
+/// Whether the report ends with the numbers of allowed and denied URLs: with `--denied` or `--urls`.
+fn has_totals(is_denied_only: bool, urls: Option<&str>) -> bool
+    ensures { result ≡ (is_denied_only || is_some (option_map (λ name. name.now) urls.entry)) }
+{
+    is_denied_only || urls.is_some()
+}
+
+/// The request that the arguments contain, without the URLs in a file. Fails if AGENT is missing, if standard input would
+/// be read twice, if no warning has a given name, or if an allocation fails.
 pub fn requested<'a>(alloc: Global, matches: &ArgMatches<'a>) -> Result<Request<'a>, Fault>
     ensures { Asks matches.now result }
 {
     let mut urls = words_of(alloc, matches)?;
     let agents = crawlers(alloc, matches, &mut urls)?;
+    if reads_stdin_twice(matches) {
+        return Err(Fault::StdinTwice);
+    }
+    let is_denied_only = matches.get_flag("denied");
     Ok(Request {
         file: file_read(matches.get_str("file")),
         is_quiet: matches.get_flag("quiet"),
@@ -348,5 +383,7 @@ pub fn requested<'a>(alloc: Global, matches: &ArgMatches<'a>) -> Result<Request<
         urls,
         only: names_of(alloc, matches, "only")?,
         ignored: names_of(alloc, matches, "ignore")?,
+        is_denied_only,
+        has_totals: has_totals(is_denied_only, matches.get_str("urls")),
     })
 }

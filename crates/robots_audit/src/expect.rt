@@ -1,4 +1,4 @@
-//! The expectations in the file of `--expect`, one per line.
+//! The expectations in the file of `--expect`, one per line, and how a text is cut into parts.
 ghost use Rattle.std.specs.Prelude.{◌≡◌, ◌≢◌, ◌<◌, ◌∷◌, ◌++◌, [], IfErr, IfOk, MatchOption, Ok, OnOk, if◌then◌else◌, length, map, option_map};
 ghost use Rattle.std.specs.Option.{option_to_list};
 ghost use Rattle.robots_audit.specs.Expect.{expectation_in, expectations_in, expects, is_comment, is_in, is_word, parts, words};
@@ -18,7 +18,7 @@ pub(crate) struct Expectation<'a> {
     pub(crate) url: &'a str,
 }
 
-/// Why the expectations can't be read.
+/// Why the entries of a text can't be read.
 #[derive(Drop)]
 pub(crate) enum ParseFault {
     /// The line with this number is malformed.
@@ -70,7 +70,7 @@ fn find_separator(separators: &[u8], text: &[u8]) -> Option<usize>
 }
 
 /// The first part of a text, and what follows its separator.
-fn cut<'a>(separators: &[u8], text: &'a [u8]) -> (&'a [u8], &'a [u8])
+pub(crate) fn cut<'a>(separators: &[u8], text: &'a [u8]) -> (&'a [u8], &'a [u8])
     requires { text.now ≢ [] }
     ensures parts { parts separators.now text.now ≡ result.0.now ∷ parts separators.now result.1.now }
     ensures shorter { length result.1.now < length text.now }

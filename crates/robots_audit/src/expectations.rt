@@ -88,8 +88,8 @@ fn fails(allowed: bool, finding: &Finding) -> bool
     }
 }
 
-/// Appends the name of the file with the expectations, and the number of a line.
-fn push_place(text: &mut String, name: &str, number: usize) -> Result<(), AllocError>
+/// Appends the name of a file, and the number of a line.
+pub(crate) fn push_place(text: &mut String, name: &str, number: usize) -> Result<(), AllocError>
     ensures { OnOk result (string_bytes text.new ≡ string_bytes text.old ++ place_text name.now number) }
 {
     push_sanitized(text, name.as_bytes())?;

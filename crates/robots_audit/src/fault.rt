@@ -34,6 +34,10 @@ pub enum Fault {
     File(String),
     /// The line with the expectations that this text names is malformed: a file's sanitized name, and a number.
     Malformed(String),
+    /// The URL of the line that this text names isn't UTF-8: a file's sanitized name, and a number.
+    UrlNotUtf8(String),
+    /// Standard input would have to be both the robots.txt file and the URLs.
+    StdinTwice,
     /// A read failed, or the input didn't end within the maximum number of reads.
     Read,
     /// A write or a flush failed, or a write accepted no bytes.
@@ -60,6 +64,10 @@ impl fmt::Display for Fault {
                     f,
                     "{place}: write \"allow AGENT URL\" or \"deny AGENT URL\""
                 )
+            }
+            Fault::UrlNotUtf8(place) => write!(f, "{place}: the URL isn't valid UTF-8"),
+            Fault::StdinTwice => {
+                f.write_str("standard input can't be both robots.txt and the URLs (use --file)")
             }
             Fault::Read => f.write_str("cannot read standard input"),
             Fault::Write => f.write_str("cannot write the report"),
@@ -120,7 +128,7 @@ fn usage_after(fault: &Fault) -> &'static str
     ensures { result.now ≡ usage_after fault.now }
 {
     match fault {
-        Fault::Usage | Fault::NotUtf8 | Fault::UnknownWarning(_) =>
+        Fault::Usage | Fault::NotUtf8 | Fault::UnknownWarning(_) | Fault::StdinTwice =>
             "; usage: robots_audit [OPTIONS] AGENT [URL]..",
         _ => "",
     }

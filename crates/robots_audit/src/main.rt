@@ -22,6 +22,7 @@ mod audit;
 mod chosen;
 mod command;
 mod delay;
+mod denied;
 mod expect;
 mod expectations;
 mod fault;
@@ -31,6 +32,7 @@ mod laws;
 mod program;
 mod report;
 mod rows;
+mod url_list;
 
 use clap::ArgMatches;
 use clap::error::ErrorKind as WordsKind;
@@ -44,6 +46,7 @@ use std::env;
 use std::fs::File;
 use std::io::ErrorKind;
 use std::process::ExitCode;
+use url_list::with_urls;
 
 /// The command line, including the program's name.
 fn words(rt: &HostRuntime) -> Result<Vec<String>, Fault>
@@ -84,14 +87,33 @@ fn audit_named(rt: &HostRuntime, request: &Request<'_>, name: &str) -> Result<Ou
     outcome
 }
 
+/// Audits the file that the request names, or standard input.
+fn audit_requested(rt: &HostRuntime, request: &Request<'_>) -> Result<Outcome, Fault>
+    ensures { IsPrintable (message_after result) }
+{
+    match request.file {
+        Some(name) => audit_named(rt, request, name),
+        None => run(rt.alloc(), request, &mut rt.stdin(), &mut rt.stdout()),
+    }
+}
+
+/// Audits that file, and checks the URLs in the file with this name too.
+fn audit_with_urls(rt: &HostRuntime, request: Request<'_>, name: &str) -> Result<Outcome, Fault>
+    ensures { IsPrintable (message_after result) }
+{
+    let text = read_named_or_stdin(rt, name)?;
+    let extended = with_urls(rt.alloc(), request, name, &text)?;
+    audit_requested(rt, &extended)
+}
+
 /// Audits the file that the parsed arguments name, or standard input.
 fn audited(rt: &HostRuntime, matches: &ArgMatches<'_>) -> Result<Outcome, Fault>
     ensures { IsPrintable (message_after result) }
 {
     let request = requested(rt.alloc(), matches)?;
-    match request.file {
-        Some(name) => audit_named(rt, &request, name),
-        None => run(rt.alloc(), &request, &mut rt.stdin(), &mut rt.stdout()),
+    match matches.get_str("urls") {
+        Some(name) => audit_with_urls(rt, request, name),
+        None => audit_requested(rt, &request),
     }
 }
 
@@ -106,6 +128,16 @@ fn read_named(rt: &HostRuntime, name: &str) -> Result<Vec<u8>, Fault>
         Ok(bytes) => Ok(bytes),
         Err(ReadFault::Read) => Err(unread(rt.alloc(), name)),
         Err(ReadFault::Memory) => Err(Fault::Memory),
+    }
+}
+
+/// The bytes of the file with this name, or of standard input for `-`.
+fn read_named_or_stdin(rt: &HostRuntime, name: &str) -> Result<Vec<u8>, Fault>
+    ensures { IfErr result (λ fault. IsPrintable (fault_text fault)) }
+{
+    match file_read(Some(name)) {
+        Some(name) => read_named(rt, name),
+        None => Ok(read_all(rt.alloc(), &mut rt.stdin())?),
     }
 }
 

@@ -6,9 +6,10 @@ ghost use Rattle.robots_warnings.specs.Internal.{warning_value};
 
 use crate::audit::{Audit, all_allowed, audit_of, rejects_some};
 use crate::command::{Format, Request};
+use crate::denied::{shown, totals_of};
 use crate::fault::{Fault, Outcome};
 use crate::json::json_text;
-use crate::report::{report_text, warning_lines};
+use crate::report::{push_totals, report_text, warning_lines};
 use robots_io::sanitize::{push_sanitized, push_sanitized_lines};
 use robots_io::streams::{read_all, write_out};
 use robots_warnings::level::Level;
@@ -57,17 +58,21 @@ fn shows_rows(request: &Request<'_>) -> bool
 }
 
 /// The report on an audit, in the requested format.
-fn output(
-    alloc: Global,
-    request: &Request<'_>,
-    audit: &Audit<'_, '_>,
-) -> Result<Vec<u8>, AllocError>
-    ensures { IfOk result (λ report. report.items ≡ output (requested_by request.now) (audit_value audit.now)) }
+fn output(alloc: Global, request: &Request<'_>, audit: Audit<'_, '_>) -> Result<Vec<u8>, AllocError>
+    ensures { IfOk result (λ report. report.items ≡ output (requested_by request.now) (audit_value audit.entry)) }
 {
     let has_rows = shows_rows(request);
+    let totals = totals_of(&audit.agents);
+    let reported = shown(request.is_denied_only, audit);
     match request.format {
-        Format::Text => Ok(report_text(alloc, has_rows, audit)?.into_bytes()),
-        Format::Json => Ok(json_text(alloc, has_rows, audit)?.into_bytes()),
+        Format::Text => {
+            let mut text = report_text(alloc, has_rows, &reported)?;
+            if request.has_totals {
+                push_totals(&mut text, totals)?;
+            }
+            Ok(text.into_bytes())
+        }
+        Format::Json => Ok(json_text(alloc, has_rows, &reported)?.into_bytes()),
     }
 }
 
@@ -109,15 +114,16 @@ pub fn run<R: Read, W: Write>(
 {
     let input = read_all(alloc, reader)?;
     let audit = audit_of(alloc, request, input.as_slice())?;
-    let report = output(alloc, request, &audit)?;
     let warnings = message(alloc, request, &audit)?;
-    write_out(writer, &report)?;
-    Ok(Outcome {
+    let outcome = Outcome {
         is_rejected: rejects_some(&audit.agents),
         all_allowed: all_allowed(&audit.agents),
         is_warned: is_warned(request.strict, &audit.warnings),
         warnings,
-    })
+    };
+    let report = output(alloc, request, audit)?;
+    write_out(writer, &report)?;
+    Ok(outcome)
 }
 
 /// Writes the help or the version, which `clap` returned as `text`.

@@ -1,7 +1,8 @@
 //! The audit as lines of text.
-ghost use Rattle.std.specs.Prelude.{◌≡◌, ◌++◌, ◌∷◌, [], IfOk, OnOk, flat_map, map, string_bytes};
+ghost use Rattle.std.specs.Prelude.{◌≡◌, ◌++◌, ◌∷◌, [], IfOk, OnOk, codes, flat_map, map, string_bytes};
 ghost use Rattle.robots_io.specs.Lines.{ended};
-ghost use Rattle.robots_audit.specs.Report.{agent_lines, group_line, group_text, nobody_text, rejected_front, rejected_lines, report_lines, verdict_line, warning_lines};
+ghost use Rattle.robots_audit.specs.Report.{agent_lines, group_line, group_text, nobody_text};
+ghost use Rattle.robots_audit.specs.Report.{rejected_front, rejected_lines, report_lines, total_front, verdict_line, warning_lines};
 ghost use Rattle.robots_io.specs.Sanitize.{sanitized};
 ghost use Rattle.robots_warnings.specs.Internal.{warning_value};
 ghost use Rattle.robots_warnings.specs.Warnings.{warning_line};
@@ -9,6 +10,7 @@ ghost use Rattle.robots_audit.specs.Internal.{agent_value, audit_value, verdict_
 
 use crate::audit::{AgentAudit, Audit, Verdict};
 use crate::delay::push_delay;
+use crate::denied::Totals;
 use crate::group::Group;
 use crate::rows::push_rows;
 use robots_io::lines::{push_line, push_number};
@@ -152,6 +154,25 @@ pub(crate) fn report_text(
     }
     push_agents(&mut text, &audit.agents)?;
     Ok(text)
+}
+
+/// Appends two numbers of URLs, up to the last word of the line.
+fn push_total_front(text: &mut String, totals: Totals) -> Result<(), AllocError>
+    ensures { OnOk result (string_bytes text.new ≡ string_bytes text.old
+        ++ total_front totals.allowed totals.denied) }
+{
+    push_number(text, totals.allowed)?;
+    text.push_str(" allowed, ")?;
+    push_number(text, totals.denied)
+}
+
+/// Appends the line with the numbers of allowed and denied URLs.
+pub(crate) fn push_totals(text: &mut String, totals: Totals) -> Result<(), AllocError>
+    ensures { OnOk result (string_bytes text.new ≡ string_bytes text.old
+        ++ ended ((total_front totals.allowed totals.denied ++ codes " denied") ∷ [])) }
+{
+    push_total_front(text, totals)?;
+    push_line(text, " denied", "")
 }
 
 /// Appends the line with a warning about the file with this name.

@@ -1,9 +1,6 @@
 use Rattle.std.proofs.Common.{rules}
-use Rattle.robots_audit.proofs.MessageLemmas.{audited_printable, request_outcome}
+use Rattle.robots_audit.proofs.MessageLemmas.{request_outcome}
 use Rattle.robots_audit.proofs.audited.Goals as goal
 
 pub returns-in_err-request : goal.returns-in_err-request
 returns-in_err-request c = request_outcome _ _ c.from_residual.result (search rules) c.in_err-request.ensures
-
-pub returns : goal.returns
-returns c = audited_printable _ _ _ c.run.ensures

@@ -1,5 +1,5 @@
 -- The expectations as the code finds them.
-use Rattle.std.specs.Prelude.{◌≡◌, ℕ, ◌<◌, true, false, List, Option, Result, Err, length, slice_index, ⊤}
+use Rattle.std.specs.Prelude.{◌≡◌, ℕ, ◌<◌, true, false, List, Result, Err, length, slice_index, ⊤}
 use Rattle.robots_audit.specs.declared.expect.Expectation.{Expectation}
 use Rattle.robots_audit.specs.declared.expect.ParseFault.{ParseFault}
 use Rattle.robots_audit.specs.declared.expect.ParseFault.TheVariants.{Malformed, Memory}

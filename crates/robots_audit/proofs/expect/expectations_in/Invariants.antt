@@ -1,5 +1,5 @@
 use Rattle.std.proofs.Common.{◌≡◌, ◌+◌, ◌≤◌, length, map}
-use Rattle.robots_audit.specs.Expect.{expectations_from, expectations_in, lines}
+use Rattle.robots_audit.specs.Expect.{entries_from, expectation_in, expectations_in, lines}
 use Rattle.robots_audit.specs.Internal.Expect.{expectation_value}
 use Rattle.robots_audit.proofs.ExpectLemmas.{after_these}
 use Rattle.robots_audit.proofs.expect.expectations_in.Given as goal
@@ -7,7 +7,8 @@ use Rattle.robots_audit.proofs.expect.expectations_in.Given as goal
 abbrev pub invariant-loop-rest : goal.invariant-loop-rest
 invariant-loop-rest l = record {
   counted : l.number + length l.rest ≤ length l.text + 1;
-  so_far : after_these (map expectation_value l.found.items) (expectations_from l.number (lines l.rest))
+  so_far : after_these (map expectation_value l.found.items)
+      (entries_from expectation_in l.number (lines l.rest))
       ≡ expectations_in l.text;
 }
 

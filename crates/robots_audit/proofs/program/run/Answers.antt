@@ -1,4 +1,4 @@
-use Rattle.std.proofs.Common.{refl, rules}
+use Rattle.std.proofs.Common.{rules}
 use Rattle.robots_audit.specs.Internal.{audit_value}
 use Rattle.robots_audit.specs.declared.fault.Fault.TheVariants.{Memory}
 use Rattle.robots_audit.proofs.AnswerLemmas.{broken_off, failed, failed_to_read, no_fault}
@@ -9,7 +9,7 @@ returns-in_err-write_out g c =
     broken_off _ _ c.from_residual-in_err-write_out.result _ (search rules) c.in_ok-input.ensures.all (
       audit_value c.in_ok-audit.audit,
       rw c.as_slice.ensures.value at c.in_ok-audit.ensures.ok,
-      rw (c.deref.ensures.value, c.in_ok-report.ensures) at c.write_out.ensures.beginning,
+      rw (c.deref-4.ensures.value, c.in_ok-report.ensures) at c.write_out.ensures.beginning,
     )
 
 pub returns-in_err-audit : goal.returns-in_err-audit
@@ -42,11 +42,11 @@ returns g c = record {
       audit_value c.in_ok-audit.audit,
       rw c.as_slice.ensures.value at c.in_ok-audit.ensures.ok,
       (
-        rw (c.deref.ensures.value, c.in_ok-report.ensures) at c.in_ok-write_out.ensures.ok,
+        rw (c.deref-4.ensures.value, c.in_ok-report.ensures) at c.in_ok-write_out.ensures.ok,
         record {
-          rejected = rw c.deref-2.ensures.value at c.rejects_some.ensures;
-          allowed = rw c.deref-3.ensures.value at c.all_allowed.ensures;
-          warned = rw c.deref-4.ensures.value at c.is_warned.ensures;
+          rejected = rw c.deref.ensures.value at c.rejects_some.ensures;
+          allowed = rw c.deref-2.ensures.value at c.all_allowed.ensures;
+          warned = rw c.deref-3.ensures.value at c.is_warned.ensures;
           warnings = c.in_ok-warnings.ensures;
         },
       ),

@@ -1,0 +1,54 @@
+-- The URLs in the file of `--urls`, one per line.
+use Rattle.std.specs.Prelude.{◌≡◌, ℕ, ◌-◌, not, List, ◌++◌, Option, Some, None, Result, Ok, Err}
+use Rattle.std.specs.Prelude.{drop, if◌then◌else◌, length, string_bytes, take}
+use Rattle.std.specs.Char.{is_ascii_whitespace}
+use Rattle.std.specs.List.{prefix_len, suffix_len}
+use Rattle.std.specs.Str.{is_utf8}
+use Rattle.robots_audit.specs.Audit.{RequestValue}
+use Rattle.robots_audit.specs.Expect.{entries_from, is_word, lines}
+use Rattle.robots_audit.specs.Expectations.{place_text}
+use Rattle.robots_audit.specs.declared.fault.Fault.{Fault}
+use Rattle.robots_audit.specs.declared.fault.Fault.TheVariants.{Memory, UrlNotUtf8}
+
+-- the line without ASCII white space at its start
+abbrev pub without_front : List ℕ → List ℕ
+without_front line = drop (prefix_len is_ascii_whitespace line) line
+
+-- the line without ASCII white space at its end
+abbrev pub without_back : List ℕ → List ℕ
+without_back line = take (length line - suffix_len is_ascii_whitespace line) line
+
+-- the line without ASCII white space (space, tab, CR, form feed) at its start and end
+abbrev pub trimmed : List ℕ → List ℕ
+trimmed line = without_back (without_front line)
+
+-- the URL of the line with this number, if the line isn't blank, or the number if the URL isn't UTF-8
+abbrev pub url_in : ℕ → List ℕ → Result (Option (List ℕ)) ℕ
+url_in number line =
+    if not (is_utf8 (trimmed line)) then Err number
+    else if is_word (trimmed line) then Ok (Some (trimmed line)) else Ok None
+
+-- the URLs in a text, or the number of the first line that isn't UTF-8
+abbrev pub urls_in : List ℕ → Result (List (List ℕ)) ℕ
+urls_in text = entries_from url_in 1 (lines text)
+
+-- the request has these URLs as well, after its own
+abbrev pub with_urls : List (List ℕ) → RequestValue → RequestValue
+with_urls urls requested = record requested { urls = requested.urls ++ urls }
+
+-- the request has the URLs in a text as well
+pub record HasUrlsIn (text : List ℕ) (requested extended : RequestValue) : Type 0 where
+  pub urls : List (List ℕ)
+  pub listed : urls_in text ≡ Ok urls
+  pub extended_is : extended ≡ with_urls urls requested
+
+-- the error names this line, whose URL isn't UTF-8, or an allocation failed
+abbrev pub IsNotUtf8 : List ℕ → ℕ → Fault → Type 0
+IsNotUtf8 name number (UrlNotUtf8 place) = string_bytes place ≡ place_text name number
+IsNotUtf8 name number fault = fault ≡ Memory
+
+-- the error names the first line of the text whose URL isn't UTF-8, or an allocation failed
+abbrev pub IsUrlFault : List ℕ → List ℕ → Fault → Type 0
+IsUrlFault name text (UrlNotUtf8 place) =
+    (number : ℕ) × (urls_in text ≡ Err number) × (string_bytes place ≡ place_text name number)
+IsUrlFault name text fault = fault ≡ Memory

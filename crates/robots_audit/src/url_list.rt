@@ -1,0 +1,89 @@
+//! The URLs in the file of `--urls`, one per line.
+ghost use Rattle.std.specs.Prelude.{◌≡◌, IfErr, IfOk, Ok, map, option_map};
+ghost use Rattle.robots_audit.specs.Answer.{requested_by};
+ghost use Rattle.robots_audit.specs.Internal.Expect.{IsParseFault};
+ghost use Rattle.robots_audit.specs.UrlList.{HasUrlsIn, IsNotUtf8, IsUrlFault, trimmed, url_in, urls_in};
+
+use crate::agents::as_text;
+use crate::command::Request;
+use crate::expect::{ParseFault, cut};
+use crate::expectations::push_place;
+use crate::fault::Fault;
+use std::alloc::{AllocError, Global};
+
+/// The line without white space at its start and end.
+fn trimmed<'a>(line: &'a [u8]) -> &'a [u8]
+    ensures { result.now ≡ trimmed line.now }
+{
+    line.trim_ascii()
+}
+
+/// The URL of the line with this number, if the line isn't blank.
+fn url_in<'a>(number: usize, line: &'a [u8]) -> Result<Option<&'a str>, ParseFault>
+    ensures ok { IfOk result (λ found. url_in number line.now ≡ Ok (option_map (λ url. url.now) found)) }
+    ensures fault { IfErr result (IsParseFault (url_in number line.now)) }
+{
+    match as_text(trimmed(line)) {
+        Some(url) if url.is_empty() => Ok(None),
+        Some(url) => Ok(Some(url)),
+        None => Err(ParseFault::Malformed(number)),
+    }
+}
+
+/// The URLs in a text.
+///
+/// # Errors
+///
+/// `ParseFault::Malformed` with the number of the first line whose URL isn't UTF-8, and `ParseFault::Memory` if an
+/// allocation fails.
+fn urls_in<'a>(alloc: Global, text: &'a [u8]) -> Result<Vec<&'a str>, ParseFault>
+    ensures ok { IfOk result (λ found. urls_in text.now ≡ Ok (map (λ url. url.now) found.items)) }
+    ensures fault { IfErr result (IsParseFault (urls_in text.now)) }
+{
+    let mut found = Vec::new(alloc);
+    let mut rest = text;
+    let mut number = 1;
+    while !rest.is_empty() {
+        let (line, later) = cut(b"\n", rest);
+        if let Some(url) = url_in(number, line)? {
+            found.push(url)?;
+        }
+        rest = later;
+        number += 1;
+    }
+    Ok(found)
+}
+
+/// The error for a line whose URL isn't UTF-8; `Fault::Memory` if an allocation fails.
+fn not_utf8(alloc: Global, name: &str, number: usize) -> Fault
+    ensures { IsNotUtf8 name.now number result }
+{
+    let mut place = String::new(alloc);
+    match push_place(&mut place, name, number) {
+        Ok(()) => Fault::UrlNotUtf8(place),
+        Err(AllocError) => Fault::Memory,
+    }
+}
+
+/// The request with the URLs in a text, of a file with this name, after its own.
+///
+/// # Errors
+///
+/// `Fault::UrlNotUtf8` if a URL isn't UTF-8, and `Fault::Memory` if an allocation fails.
+pub fn with_urls<'a>(
+    alloc: Global,
+    request: Request<'a>,
+    name: &str,
+    text: &'a [u8],
+) -> Result<Request<'a>, Fault>
+    ensures ok { IfOk result (λ extended. HasUrlsIn text.now (requested_by request.entry) (requested_by extended)) }
+    ensures fault { IfErr result (IsUrlFault name.now text.now) }
+{
+    let mut extended = request;
+    match urls_in(alloc, text) {
+        Ok(urls) => extended.urls.extend_from_slice(&urls)?,
+        Err(ParseFault::Malformed(number)) => return Err(not_utf8(alloc, name, number)),
+        Err(ParseFault::Memory) => return Err(Fault::Memory),
+    }
+    Ok(extended)
+}

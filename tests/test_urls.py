@@ -1,0 +1,105 @@
+"""`robots_audit --urls` and `--denied`: which URLs are checked and listed, and how many are allowed and denied."""
+
+import json
+
+import pytest
+from support import run
+
+ROBOTS = b"""User-agent: *
+Disallow: /private/
+
+User-agent: GPTBot
+Disallow: /
+Allow: /a
+
+User-agent: Longbot
+Disallow: /""" + b"x" * 4096 + b"$\n"
+
+USAGE = "usage: robots_audit [OPTIONS] AGENT [URL].."
+
+LISTED = {
+    "one line": (b"/private/tea\n", "deny 2 /private/tea\n0 allowed, 1 denied\n"),
+    "no last line end": (b"/tea\n/private/", "allow - /tea\ndeny 2 /private/\n1 allowed, 1 denied\n"),
+    "CR LF": (b"/tea\r\n/private/\r\n", "allow - /tea\ndeny 2 /private/\n1 allowed, 1 denied\n"),
+    "white space and blank lines": (b"\n \t/tea \t\n\r\n  \n\t/private/ tea\r\n", "allow - /tea\ndeny 2 /private/ tea\n1 allowed, 1 denied\n"),
+    "the same URL twice": (b"/tea\n/tea\n", "allow - /tea\nallow - /tea\n2 allowed, 0 denied\n"),
+    "nothing": (b"", "0 allowed, 0 denied\n"),
+    "blank lines": (b"\n  \n", "0 allowed, 0 denied\n"),
+}
+
+
+def outcome(result):
+    return result.status, result.out, result.err
+
+
+def check(folder, text, *args, robots=ROBOTS):
+    """The result for a text of URLs, in a file `list.txt`."""
+    (folder / "list.txt").write_bytes(text)
+    return run("robots_audit", ["-q", "--urls", "list.txt", *args], robots, cwd=folder)
+
+
+@pytest.mark.parametrize("text, lines", LISTED.values(), ids=LISTED)
+def test_each_line_is_a_url(tmp_path, text, lines):
+    out = "group: * (Ferris has no group of its own)\ndelay: none\n" + lines
+    assert outcome(check(tmp_path, text, "Ferris")) == (1 if "deny" in out else 0, out, "")
+
+
+def test_urls_of_the_command_line_come_first(tmp_path):
+    out = "group: * (Ferris has no group of its own)\ndelay: none\nallow - /b\nallow - /a\ndeny 2 /private/\n2 allowed, 1 denied\n"
+    assert outcome(check(tmp_path, b"/a\n/private/\n", "Ferris", "/b")) == (1, out, "")
+
+
+def test_warnings_are_about_listed_urls_too(tmp_path):
+    result = check(tmp_path, b"example.com/a\n", "Ferris")
+    assert result.err.startswith("robots.txt: warning: URL 'example.com/a': ") and result.err.endswith(" [not-a-url-or-path]\n")
+
+
+def test_urls_from_standard_input(tmp_path):
+    (tmp_path / "robots.txt").write_bytes(ROBOTS)
+    result = run("robots_audit", ["-q", "-f", "robots.txt", "--urls", "-", "GPTBot"], b"/a\n/b\n", cwd=tmp_path)
+    assert outcome(result) == (1, "group: GPTBot\ndelay: none\nallow 6 /a\ndeny 5 /b\n1 allowed, 1 denied\n", "")
+
+
+@pytest.mark.parametrize("file", [[], ["-f", "-"]], ids=["by default", "by name"])
+def test_standard_input_is_read_once(file):
+    message = f"robots_audit: standard input can't be both robots.txt and the URLs (use --file); {USAGE}\n"
+    assert outcome(run("robots_audit", ["--urls", "-", *file, "Ferris"], ROBOTS)) == (2, "", message)
+
+
+@pytest.mark.parametrize("text, line", [(b"\xff", 1), (b"/a\n\n/\xe9 \n/\xff\n", 3)])
+def test_a_url_that_is_not_utf_8(tmp_path, text, line):
+    assert outcome(check(tmp_path, text, "Ferris")) == (2, "", f"robots_audit: list.txt:{line}: the URL isn't valid UTF-8\n")
+
+
+def test_missing_file(tmp_path):
+    result = run("robots_audit", ["--urls", "missing.txt", "Ferris"], ROBOTS, cwd=tmp_path)
+    assert outcome(result) == (2, "", "robots_audit: cannot read missing.txt\n")
+
+
+def test_denied_urls_alone(tmp_path):
+    out = "group: * (Ferris has no group of its own)\ndelay: none\ndeny 2 /private/\n2 allowed, 1 denied\n"
+    assert outcome(check(tmp_path, b"/a\n/private/\n/b\n", "--denied", "Ferris")) == (1, out, "")
+    assert outcome(run("robots_audit", ["-q", "--denied", "Ferris", "/a", "/private/", "/b"], ROBOTS)) == (1, out, "")
+    out = "group: * (Ferris has no group of its own)\ndelay: none\n1 allowed, 0 denied\n"
+    assert outcome(run("robots_audit", ["-q", "--denied", "Ferris", "/a"], ROBOTS)) == (0, out, "")
+
+
+def test_numbers_are_those_of_all_crawlers(tmp_path):
+    out = "group: * (Ferris has no group of its own)\ndelay: none\ndeny 2 /private/\n"
+    out += "group: GPTBot\ndelay: none\ndeny 5 /b\ndeny 5 /private/\n"
+    out += "group: Longbot\ndelay: none\n"
+    out += "rejected for Longbot: line 9: a pattern with $ longer than 4,096 bytes isn't supported; shorten it\n3 allowed, 3 denied\n"
+    agents = ["--agent=Ferris", "--agent=GPTBot", "--agent=Longbot"]
+    assert outcome(check(tmp_path, b"/a\n/b\n/private/\n", "--denied", *agents)) == (2, out, "")
+
+
+def test_denied_urls_as_json():
+    result = run("robots_audit", ["--json", "--denied", "Ferris", "/a", "/private/"], ROBOTS)
+    verdicts = json.loads(result.out)["agents"][0]["verdicts"]
+    assert (result.status, verdicts) == (1, [{"allowed": False, "line": 2, "url": "/private/"}])
+
+
+def test_ten_thousand_urls(tmp_path):
+    text = b"".join(b"/%d\n/private/%d\n" % (n, n) for n in range(5_000))
+    lines = check(tmp_path, text, "--denied", "Ferris").out.splitlines()
+    assert (len(lines), lines[-2:]) == (5_003, ["deny 2 /private/4999", "5000 allowed, 5000 denied"])
