@@ -98,7 +98,7 @@ def test_robots_verdict(failing_heap, later):
     fail_each_allocation(program, VERDICT, Result(4, "", "robots_verdict: out of memory\n"), later)
 
 
-BEYOND = "BEYOND"
+BEYOND, JUNK = "BEYOND", "JUNK"
 AUDIT_RUNS = {
     "the example": AUDIT_ARGS,
     "a named file": ["--file", CRATES / "robots_audit/stdin", "Ferris", *URLS],
@@ -108,20 +108,23 @@ AUDIT_RUNS = {
     "URLs in a file": ["--urls", CRATES / "robots_audit/args", "--denied", "Ferris", *URLS],
     "wrong arguments": ["--none", "Ferris"],
     "a name after the first 512,000 bytes": ["--file", BEYOND, "Ferris"],
+    "more than twenty warnings with one name": ["--file", JUNK, "Ferris"],
 }
 
 
 @pytest.fixture
-def beyond(tmp_path):
-    path = tmp_path / "beyond"
-    path.write_bytes(b"#" * 512_000 + b"\nUser-agent: a\n")
-    return path
+def made(tmp_path):
+    """The paths of the files that runs name."""
+    texts = {BEYOND: b"#" * 512_000 + b"\nUser-agent: a\n", JUNK: b"Disallow: /a\n" + b"hello\nHost: a\n" * 22}
+    for name, text in texts.items():
+        (tmp_path / name).write_bytes(text)
+    return {name: tmp_path / name for name in texts}
 
 
 @later
 @pytest.mark.parametrize("what", AUDIT_RUNS)
-def test_robots_audit(failing_heap, beyond, what, later):
-    args = [beyond if word == BEYOND else word for word in AUDIT_RUNS[what]]
+def test_robots_audit(failing_heap, made, what, later):
+    args = [made.get(word, word) for word in AUDIT_RUNS[what]]
     program = Failing(failing_heap, "robots_audit", args, AUDIT_INPUT)
     right = AUDIT if what == "the example" else program()
     fail_each_allocation(program, right, Result(2, "", "robots_audit: out of memory\n"), later)

@@ -7,6 +7,7 @@ pub mod ExpectLemmas
 pub mod ExpectationsLemmas
 pub mod JsonLemmas
 pub mod LawLemmas
+pub mod ListedLemmas
 pub mod MessageLemmas
 pub mod PrintableLemmas
 pub mod RowLemmas

@@ -18,16 +18,17 @@ use Rattle.robots_audit.specs.declared.group.Group.TheVariants.{Everyone, Named,
 use Rattle.robots_audit.specs.Answer.{has_rows, message, message_in, output, output_in, shown_name}
 use Rattle.robots_audit.specs.Answer.{total_lines}
 use Rattle.robots_audit.specs.Audit.{AgentValue, RequestValue, AuditValue, VerdictValue, shown}
+use Rattle.robots_audit.specs.Listed.{listed, more, more_of, unlisted}
 use Rattle.robots_audit.specs.Delay.{delay_line, delay_text, fraction, million, seconds}
 use Rattle.robots_audit.specs.Report.{agent_lines, group_line, nobody_text, rejected_lines, report_lines}
-use Rattle.robots_audit.specs.Report.{total_line, verdict_line, warning_lines}
+use Rattle.robots_audit.specs.Report.{listed_lines, more_line, total_line, verdict_line, warning_lines}
 use Rattle.robots_warnings.specs.File.{space}
 use Rattle.robots_audit.specs.Rows.{has_value, kind_text, label_text, right_aligned, row, rows}
 use Rattle.robots_audit.specs.Rows.{value_text, word_and_value, word_width}
 use Rattle.robots_io.specs.Sanitize.{IsPrintable}
-use Rattle.robots_warnings.specs.Warnings.{warning_line}
+use Rattle.robots_warnings.specs.Warnings.{WarningValue, warning_line}
 use Rattle.robots_audit.proofs.JsonLemmas.{json_printable, kind_printable}
-use Rattle.robots_warnings.proofs.PrintableLemmas.{line_printable}
+use Rattle.robots_warnings.proofs.PrintableLemmas.{line_printable, names_printable}
 use Rattle.robots_io.proofs.SanitizeLemmas.{append_printable, ascii_printable, blanks_printable}
 use Rattle.robots_io.proofs.SanitizeLemmas.{decimal_printable}
 use Rattle.robots_io.proofs.SanitizeLemmas.{ended_printable, nil_printable, sanitized_printable}
@@ -51,12 +52,36 @@ either_printable false one two is too = too
 
 -- ---- warnings
 
+more_printable : (file : List ℕ) (warnings : List WarningValue) (warning : WarningValue)
+    → IsPrintable (more_line file (more_of warnings warning))
+more_printable file warnings warning =
+    search (
+      append_printable true,
+      ascii_printable true,
+      decimal_printable true,
+      names_printable,
+      sanitized_printable,
+    )
+    depth 9
+
+each_more : (file : List ℕ) (warnings others : List WarningValue)
+    → Each IsPrintable (map (more_line file) (map (more_of warnings) others))
+each_more file warnings [] = tt
+each_more file warnings (warning ∷ others) =
+    (more_printable file warnings warning, each_more file warnings others)
+
+listed_printable : (file : List ℕ) (warnings : List WarningValue)
+    → Each IsPrintable (listed_lines file warnings)
+listed_printable file warnings =
+    each_append IsPrintable (warning_lines file (listed warnings)) (map (more_line file) (more warnings))
+    (each_map (warning_line file) (line_printable file) (listed warnings))
+    (each_more file warnings (unlisted warnings))
+
 message_in_printable : (format : Format) (requested : RequestValue) (audit : AuditValue)
     → IsPrintable (message_in format requested audit)
 message_in_printable Text requested audit =
-    let file = shown_name requested.file in
-    ended_printable (warning_lines file audit.warnings)
-    (each_map (warning_line file) (line_printable file) audit.warnings)
+    ended_printable (listed_lines (shown_name requested.file) audit.warnings)
+    (listed_printable (shown_name requested.file) audit.warnings)
 message_in_printable Json requested audit = nil_printable true
 
 pub message_printable : (requested : RequestValue) (audit : AuditValue)

@@ -16,7 +16,7 @@ use Rattle.robots_audit.specs.declared.fault.Outcome.{Outcome}
 use Rattle.robots_audit.specs.Audit.{RequestValue, AuditValue, IsAuditOf, all_allowed, rejects_some, shown}
 use Rattle.robots_audit.specs.Fault.{MayFail}
 use Rattle.robots_audit.specs.Json.{json_text}
-use Rattle.robots_audit.specs.Report.{report_lines, total_line, warning_lines}
+use Rattle.robots_audit.specs.Report.{listed_lines, report_lines, total_line}
 use Rattle.robots_io.specs.Sanitize.{sanitized, sanitized_lines}
 use Rattle.robots_warnings.specs.declared.level.Level.{Level}
 use Rattle.robots_warnings.specs.Level.{reaches}
@@ -72,9 +72,10 @@ abbrev pub shown_name : Option (List ℕ) → List ℕ
 shown_name None = codes "robots.txt"
 shown_name (Some name) = name
 
--- the message with a report in this format: the warnings, unless they are in the report
+-- the message with a report in this format: of each name the first twenty warnings and the number of the others,
+-- unless they are in the report
 abbrev pub message_in : Format → RequestValue → AuditValue → List ℕ
-message_in Text requested audit = ended (warning_lines (shown_name requested.file) audit.warnings)
+message_in Text requested audit = ended (listed_lines (shown_name requested.file) audit.warnings)
 message_in Json requested audit = []
 
 -- the message on standard error

@@ -2,6 +2,7 @@
 pub mod Agents
 pub mod Expect
 pub mod Expectations
+pub mod Listed
 use Rattle.std.specs.Prelude.{ℕ, List, map, string_bytes, take}
 use Rattle.texting_robots.specs.Callers.{IsFirstOverlong, IsRobotOfFile, file_limit, lines_read}
 use Rattle.texting_robots.specs.Callers.{label_by_value}

@@ -8,6 +8,7 @@ use Rattle.robots_audit.specs.declared.group.Group.TheVariants.{Everyone, Named,
 use Rattle.robots_audit.specs.Audit.{AgentValue, AuditValue, VerdictValue, is_allowed, is_denied, total}
 use Rattle.robots_audit.specs.Delay.{delay_line}
 use Rattle.robots_audit.specs.Rows.{rows}
+use Rattle.robots_audit.specs.Listed.{MoreValue, listed, more}
 use Rattle.robots_io.specs.Sanitize.{sanitized}
 use Rattle.robots_warnings.specs.Warnings.{WarningValue, warning_line}
 
@@ -67,3 +68,15 @@ total_line agents = total_front (total is_allowed agents) (total is_denied agent
 -- the warnings about the file with this name
 abbrev pub warning_lines : List ℕ → List WarningValue → List (List ℕ)
 warning_lines file warnings = map (warning_line file) warnings
+
+-- how many more warnings there are, up to their name
+abbrev pub more_front : List ℕ → ℕ → List ℕ
+more_front file number = sanitized file ++ codes ": and " ++ decimal number ++ codes " more ["
+
+-- how many more warnings have this name, such as `robots.txt: and 42 more [unrecognized-line]`
+abbrev pub more_line : List ℕ → MoreValue → List ℕ
+more_line file more = more_front file more.number ++ (more.name ++ codes "]")
+
+-- the warnings that are listed, and how many more there are
+abbrev pub listed_lines : List ℕ → List WarningValue → List (List ℕ)
+listed_lines file warnings = warning_lines file (listed warnings) ++ map (more_line file) (more warnings)

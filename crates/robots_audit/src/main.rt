@@ -29,6 +29,7 @@ mod fault;
 mod group;
 mod json;
 mod laws;
+mod listed;
 mod program;
 mod report;
 mod rows;

@@ -9,7 +9,7 @@ use crate::command::{Format, Request};
 use crate::denied::{shown, totals_of};
 use crate::fault::{Fault, Outcome};
 use crate::json::json_text;
-use crate::report::{push_totals, report_text, warning_lines};
+use crate::report::{listed_lines, push_totals, report_text};
 use robots_io::sanitize::{push_sanitized, push_sanitized_lines};
 use robots_io::streams::{read_all, write_out};
 use robots_warnings::level::Level;
@@ -85,7 +85,7 @@ fn message(
     ensures { IfOk result (λ text. string_bytes text ≡ message (requested_by request.now) (audit_value audit.now)) }
 {
     match request.format {
-        Format::Text => warning_lines(alloc, shown_name(request.file), &audit.warnings),
+        Format::Text => listed_lines(alloc, shown_name(request.file), &audit.warnings),
         Format::Json => Ok(String::new(alloc)),
     }
 }

@@ -1,17 +1,19 @@
 //! The audit as lines of text.
 ghost use Rattle.std.specs.Prelude.{◌≡◌, ◌++◌, ◌∷◌, [], IfOk, OnOk, codes, flat_map, map, string_bytes};
 ghost use Rattle.robots_io.specs.Lines.{ended};
-ghost use Rattle.robots_audit.specs.Report.{agent_lines, group_line, group_text, nobody_text};
+ghost use Rattle.robots_audit.specs.Report.{agent_lines, group_line, group_text, listed_lines, more_front, more_line, nobody_text};
 ghost use Rattle.robots_audit.specs.Report.{rejected_front, rejected_lines, report_lines, total_front, verdict_line, warning_lines};
 ghost use Rattle.robots_io.specs.Sanitize.{sanitized};
 ghost use Rattle.robots_warnings.specs.Internal.{warning_value};
 ghost use Rattle.robots_warnings.specs.Warnings.{warning_line};
 ghost use Rattle.robots_audit.specs.Internal.{agent_value, audit_value, verdict_value};
+ghost use Rattle.robots_audit.specs.Internal.Listed.{more_value};
 
 use crate::audit::{AgentAudit, Audit, Verdict};
 use crate::delay::push_delay;
 use crate::denied::Totals;
 use crate::group::Group;
+use crate::listed::{More, listing_of};
 use crate::rows::push_rows;
 use robots_io::lines::{push_line, push_number};
 use robots_io::sanitize::push_sanitized;
@@ -186,17 +188,49 @@ fn push_warning_line(text: &mut String, file: &str, warning: &Warning<'_>) -> Re
 }
 
 /// The warnings about the file with this name, one per line.
-pub(crate) fn warning_lines(
-    alloc: Global,
-    file: &str,
-    warnings: &[Warning<'_>],
-) -> Result<String, AllocError>
+fn warning_lines(alloc: Global, file: &str, warnings: &[Warning<'_>]) -> Result<String, AllocError>
     ensures { IfOk result (λ text. string_bytes text
         ≡ ended (warning_lines file.now (map warning_value warnings.now))) }
 {
     let mut text = String::new(alloc);
     for warning in warnings {
         push_warning_line(&mut text, file, warning)?;
+    }
+    Ok(text)
+}
+
+/// Appends how many more warnings there are about a file, up to their name.
+fn push_more_front(text: &mut String, file: &str, number: usize) -> Result<(), AllocError>
+    ensures { OnOk result (string_bytes text.new ≡ string_bytes text.old ++ more_front file.now number) }
+{
+    push_sanitized(text, file.as_bytes())?;
+    text.push_str(": and ")?;
+    push_number(text, number)?;
+    text.push_str(" more [")
+}
+
+/// Appends how many more warnings about a file have a name.
+fn push_more_line(text: &mut String, file: &str, more: &More) -> Result<(), AllocError>
+    ensures { OnOk result (string_bytes text.new ≡ string_bytes text.old
+        ++ ended (more_line file.now (more_value more.now) ∷ [])) }
+{
+    push_more_front(text, file, more.number)?;
+    push_line(text, more.name, "]")
+}
+
+/// The warnings about the file with this name that are listed, and how many more there are.
+pub(crate) fn listed_lines(
+    alloc: Global,
+    file: &str,
+    warnings: &[Warning<'_>],
+) -> Result<String, AllocError>
+    ensures { IfOk result (λ text. string_bytes text
+        ≡ ended (listed_lines file.now (map warning_value warnings.now))) }
+{
+    let found = listing_of(alloc, warnings)?;
+    let mut text = warning_lines(alloc, file, &found.warnings)?;
+    for more in &found.more {
+        push_more_line(&mut text, file, more)?;
     }
     Ok(text)
 }
