@@ -8,7 +8,7 @@ use Rattle.std.specs.Str.{bytes_eq}
 use Rattle.std.proofs.lemmas.Bool.{and_parts, cases_Bool, eqb-true}
 use Rattle.std.proofs.lemmas.List.{append-nil}
 use Rattle.std.proofs.lemmas.Slice.Eq.{bytes_eq-Decides}
-use Rattle.robots_html.specs.Html.{AreAttributes, Attribute, Html, IsContent, IsHtml, attribute}
+use Rattle.robots_html.specs.Html.{AreAttributes, Attribute, Html, IsContent, IsHtml, IsText, attribute}
 use Rattle.robots_html.specs.Html.{attribute_bytes, document, element, escaped, escaped_byte, has_attribute}
 use Rattle.robots_html.specs.Html.{is_among, is_character, is_css, is_letter, is_name, is_name_byte}
 use Rattle.robots_html.specs.Html.{is_ordinary, is_style, is_text, is_title, special_names, style}
@@ -188,7 +188,7 @@ module _ (opened : List Opened) where
       refl)))
 
   attributes_read : (content : Html) (label : List ℕ) (before attributes : List Attribute)
-      → AreAttributes before attributes
+      → AreAttributes IsText before attributes
       → run (reader (after_attribute_value (new_tag label before)) opened content)
       (flat_map attribute_bytes attributes)
       ≡ reader (after_attribute_value (new_tag label (before ++ attributes))) opened content
@@ -219,7 +219,7 @@ module _ (opened : List Opened) where
 
   -- a tag up to its end, which is `>` or `/>`
   tag_read : (content : Html) (name : List ℕ) (attributes : List Attribute) (byte : ℕ) (bytes : List ℕ)
-      → has_elements (kind_of opened) ≡ true → IsTrue (is_name name) → AreAttributes [] attributes
+      → has_elements (kind_of opened) ≡ true → IsTrue (is_name name) → AreAttributes IsText [] attributes
       → is_name_byte byte ≡ false
       → run (reader data_state opened content)
       (60 ∷ (name ++ (flat_map attribute_bytes attributes ++ byte ∷ bytes)))
@@ -241,7 +241,7 @@ module _ (opened : List Opened) where
 
   start_read : (content : Html) (name : List ℕ) (attributes : List Attribute)
       → has_elements (kind_of opened) ≡ true → IsTrue (is_name name) → IsTrue (is_ordinary name)
-      → AreAttributes [] attributes
+      → AreAttributes IsText [] attributes
       → run (reader data_state opened content) (html.start_tag name attributes)
       ≡ reader data_state (record { before = content; tag = new_tag name attributes } ∷ opened) (text [])
   unfolding html.tag_open html.tag_close
@@ -254,7 +254,7 @@ module _ (opened : List Opened) where
 
   void_read : (content : Html) (name : List ℕ) (attributes : List Attribute)
       → has_elements (kind_of opened) ≡ true → IsTrue (is_name name) → IsTrue (is_among void_names name)
-      → AreAttributes [] attributes
+      → AreAttributes IsText [] attributes
       → run (reader data_state opened content) (html.void_tag name attributes)
       ≡ reader data_state opened (content ⊕ void [] name attributes (text []))
   unfolding html.tag_open html.void_close
@@ -335,7 +335,7 @@ child_kind name isnt =
     either false = refl
 
 content_read : (elements : Bool) (opened : List Opened) (content tree : Html)
-    → kind_of opened ≡ kind_for elements → IsContent elements tree
+    → kind_of opened ≡ kind_for elements → IsContent IsText elements tree
     → run (reader data_state opened content) (written tree) ≡ reader data_state opened (content ⊕ tree)
 content_read elements opened content (text bytes) kind is =
     text_read opened content bytes (references_in elements (kind_of opened) kind) is
@@ -385,7 +385,8 @@ content_read elements opened content (void before name attributes rest) kind
     ∙ ap (reader data_state opened) (placed content before item rest (void before name attributes rest)
     (ap (λ (t : List ℕ). void t name attributes (with_text [] rest)) (append-nil before)
     ∙ ap (void before name attributes) (with_text-nil rest)))
-content_read elements opened content (style before css rest) kind (allowed, is_before, are, later) =
+content_read elements opened content (style before css rest) kind
+    (allowed, is_before, are, plain, later) =
     let item = style [] css (text []) in
     let outer = content ⊕ text before in
     chained (reader data_state opened content) (reader data_state opened outer) (escaped before)

@@ -1,10 +1,8 @@
 -- What is written for trees one after the other, and when they can be read back.
-use Rattle.std.proofs.Common.{ℕ, Bool, List, [], ◌∷◌, ◌++◌, ap, append_assoc, refl, sym, ◌≡◌, ◌∙◌}
-use Rattle.std.specs.Bool.{IsTrue}
-use Rattle.std.proofs.lemmas.List.Folds.{list_all-append}
+use Rattle.std.proofs.Common.{ℕ, Bool, List, [], ◌∷◌, ◌++◌, ap, append_assoc, flat_map, not, refl, ◌≡◌, ◌∙◌}
 use Rattle.std.proofs.lemmas.List.{append-nil}
-use Rattle.robots_html.specs.Html.{Html, IsContent, each, element, end_tag, escaped}
-use Rattle.robots_html.specs.Html.{is_text, start_tag, style, style_bytes, text}
+use Rattle.robots_html.specs.Html.{AreAttributes, Attribute, Html, IsContent, each, element, end_tag}
+use Rattle.robots_html.specs.Html.{escaped, is_title, start_tag, style, style_bytes, text}
 use Rattle.robots_html.specs.Html.{void, void_tag, with_text, written, ◌⊕◌}
 use Rattle.robots_html.proofs.TextLemmas.{escaped-append}
 
@@ -47,46 +45,79 @@ written-followed (style before css after) two =
     ap (λ (b : List ℕ). escaped before ++ (style_bytes css ++ b)) (written-followed after two)
     ∙ regroup_two (escaped before) (style_bytes css) (written after) (written two)
 
--- what is written for a list grows with the list, as in a loop
-pub written-each-append : {X : Type 0} (tree : X → Html) (xs ys : List X)
-    → written (each tree (xs ++ ys)) ≡ written (each tree xs) ++ written (each tree ys)
-written-each-append tree [] ys = refl
-written-each-append tree (x ∷ xs) ys =
-    written-followed (tree x) (each tree (xs ++ ys))
-    ∙ ap (λ (b : List ℕ). written (tree x) ++ b) (written-each-append tree xs ys)
-    ∙ sym (append_assoc (written (tree x)) (written (each tree xs)) (written (each tree ys)))
-    ∙ ap (λ (b : List ℕ). b ++ written (each tree ys)) (sym (written-followed (tree x) (each tree xs)))
+-- what is written for a list, item by item, as in a loop
+pub written-each : {X : Type 0} (tree : X → Html) (xs : List X)
+    → written (each tree xs) ≡ flat_map (λ x. written (tree x)) xs
+written-each tree [] = refl
+written-each tree (x ∷ xs) =
+    written-followed (tree x) (each tree xs)
+    ∙ ap (λ (b : List ℕ). written (tree x) ++ b) (written-each tree xs)
 
 -- for `using` at a function that writes several pieces: they are joined to what is written for a tree
-pub ruleset joined = (append_assoc, append-nil, written-followed, written-with_text, written-each-append)
+pub ruleset joined = (append_assoc, append-nil, written-followed, written-with_text)
 
--- ---- trees that can be read back
+-- ---- content
 
-module _ (elements : Bool) where
-  pub text_content : (bytes : List ℕ) (tree : Html) → IsTrue (is_text bytes) → IsContent elements tree
-      → IsContent elements (with_text bytes tree)
-  text_content bytes (text more) are is = rw (list_all-append, are) is
-  text_content bytes (element before name attributes children after) are
-      (allowed, is, rest, more, list, child, later) =
-      (allowed, rw (list_all-append, are) is, rest, more, list, child, later)
-  text_content bytes (void before name attributes after) are (allowed, is, rest, more, list, later) =
-      (allowed, rw (list_all-append, are) is, rest, more, list, later)
-  text_content bytes (style before css after) are (allowed, is, rest, later) =
-      (allowed, rw (list_all-append, are) is, rest, later)
+-- a property of texts that holds of two, one after the other, if it holds of each
+module _ (P : List ℕ → Type 0) (both : (one two : List ℕ) → P one → P two → P (one ++ two)) (elements : Bool)
+  where
+    pub text_content : (bytes : List ℕ) (tree : Html) → P bytes → IsContent P elements tree
+        → IsContent P elements (with_text bytes tree)
+    text_content bytes (text more) are is = both bytes more are is
+    text_content bytes (element before name attributes children after) are
+        (allowed, is, rest, more, list, child, later) =
+        (allowed, both bytes before are is, rest, more, list, child, later)
+    text_content bytes (void before name attributes after) are (allowed, is, rest, more, list, later) =
+        (allowed, both bytes before are is, rest, more, list, later)
+    text_content bytes (style before css after) are (allowed, is, rest, plain, later) =
+        (allowed, both bytes before are is, rest, plain, later)
 
-  pub followed_content : (one two : Html) → IsContent elements one → IsContent elements two
-      → IsContent elements (one ⊕ two)
-  followed_content (text bytes) two is too = text_content bytes two is too
-  followed_content (element before name attributes children after) two
-      (allowed, is, rest, more, list, child, later) too =
-      (allowed, is, rest, more, list, child, followed_content after two later too)
-  followed_content (void before name attributes after) two (allowed, is, rest, more, list, later) too =
-      (allowed, is, rest, more, list, followed_content after two later too)
-  followed_content (style before css after) two (allowed, is, rest, later) too =
-      (allowed, is, rest, followed_content after two later too)
+    pub followed_content : (one two : Html) → IsContent P elements one → IsContent P elements two
+        → IsContent P elements (one ⊕ two)
+    followed_content (text bytes) two is too = text_content bytes two is too
+    followed_content (element before name attributes children after) two
+        (allowed, is, rest, more, list, child, later) too =
+        (allowed, is, rest, more, list, child, followed_content after two later too)
+    followed_content (void before name attributes after) two (allowed, is, rest, more, list, later) too =
+        (allowed, is, rest, more, list, followed_content after two later too)
+    followed_content (style before css after) two (allowed, is, rest, plain, later) too =
+        (allowed, is, rest, plain, followed_content after two later too)
 
-  pub each_content : {X : Type 0} (tree : X → Html) → ((x : X) → IsContent elements (tree x))
-      → (xs : List X) → IsContent elements (each tree xs)
-  each_content tree is [] = refl
-  each_content tree is (x ∷ xs) =
-      followed_content (tree x) (each tree xs) (is x) (each_content tree is xs)
+    pub each_content : {X : Type 0} (tree : X → Html) → P [] → ((x : X) → IsContent P elements (tree x))
+        → (xs : List X) → IsContent P elements (each tree xs)
+    each_content tree none is [] = none
+    each_content tree none is (x ∷ xs) =
+        followed_content (tree x) (each tree xs) (is x) (each_content tree none is xs)
+
+-- a property that implies another one
+module _ (P Q : List ℕ → Type 0) (weaker : (bytes : List ℕ) → P bytes → Q bytes) where
+  attributes_weaker : (before attributes : List Attribute) → AreAttributes P before attributes
+      → AreAttributes Q before attributes
+  attributes_weaker before [] are = tt
+  attributes_weaker before (a ∷ attributes) (named, new, is, rest) =
+      (named, new, weaker a.value is, attributes_weaker (before ++ a ∷ []) attributes rest)
+
+  pub content_weaker : (elements : Bool) (tree : Html) → IsContent P elements tree
+      → IsContent Q elements tree
+  content_weaker elements (text bytes) is = weaker bytes is
+  content_weaker elements (element before name attributes children after)
+      (allowed, is, named, ordinary, are, child, later) =
+      let inside = content_weaker (not (is_title name)) children child in (
+        allowed,
+        weaker before is,
+        named,
+        ordinary,
+        attributes_weaker [] attributes are,
+        inside,
+        content_weaker elements after later,
+      )
+  content_weaker elements (void before name attributes after) (allowed, is, named, among, are, later) = (
+    allowed,
+    weaker before is,
+    named,
+    among,
+    attributes_weaker [] attributes are,
+    content_weaker elements after later,
+  )
+  content_weaker elements (style before css after) (allowed, is, are, plain, later) =
+      (allowed, weaker before is, are, weaker css plain, content_weaker elements after later)

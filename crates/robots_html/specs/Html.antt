@@ -170,24 +170,28 @@ is_title name = bytes_eq name (codes "title")
 abbrev pub is_ordinary : List ℕ → Bool
 is_ordinary name = not (is_style name) && not (is_among (void_names ++ special_names) name)
 
--- attributes after those before them: no name occurs twice
-abbrev pub AreAttributes : List Attribute → List Attribute → Type 0
-AreAttributes before [] = Unit {0}
-AreAttributes before (a ∷ attributes) =
-    IsTrue (is_name a.name) × IsTrue (not (has_attribute before a.name)) × IsTrue (is_text a.value)
-    × AreAttributes (before ++ a ∷ []) attributes
+-- attributes after those before them: no name occurs twice, and each value has the property P
+abbrev pub AreAttributes : (List ℕ → Type 0) → List Attribute → List Attribute → Type 0
+AreAttributes P before [] = Unit {0}
+AreAttributes P before (a ∷ attributes) =
+    IsTrue (is_name a.name) × IsTrue (not (has_attribute before a.name)) × P a.value
+    × AreAttributes P (before ++ a ∷ []) attributes
 
--- content that can be read back where elements may occur or, in a `title`, not
-abbrev pub IsContent : Bool → Html → Type 0
-IsContent elements (text bytes) = IsTrue (is_text bytes)
-IsContent elements (element before name attributes children after) =
-    IsTrue elements × IsTrue (is_text before) × IsTrue (is_name name) × IsTrue (is_ordinary name)
-    × AreAttributes [] attributes × IsContent (not (is_title name)) children × IsContent elements after
-IsContent elements (void before name attributes after) =
-    IsTrue elements × IsTrue (is_text before) × IsTrue (is_name name) × IsTrue (is_among void_names name)
-    × AreAttributes [] attributes × IsContent elements after
-IsContent elements (style before css after) =
-    IsTrue elements × IsTrue (is_text before) × IsTrue (is_css css) × IsContent elements after
+-- content where elements may occur or, in a `title`, not; its texts, values and CSS have the property P
+abbrev pub IsContent : (List ℕ → Type 0) → Bool → Html → Type 0
+IsContent P elements (text bytes) = P bytes
+IsContent P elements (element before name attributes children after) =
+    IsTrue elements × P before × IsTrue (is_name name) × IsTrue (is_ordinary name)
+    × AreAttributes P [] attributes × IsContent P (not (is_title name)) children × IsContent P elements after
+IsContent P elements (void before name attributes after) =
+    IsTrue elements × P before × IsTrue (is_name name) × IsTrue (is_among void_names name)
+    × AreAttributes P [] attributes × IsContent P elements after
+IsContent P elements (style before css after) =
+    IsTrue elements × P before × IsTrue (is_css css) × P css × IsContent P elements after
 
+abbrev pub IsText : List ℕ → Type 0
+IsText bytes = IsTrue (is_text bytes)
+
+-- a tree that can be read back
 abbrev pub IsHtml : Html → Type 0
-IsHtml html = IsContent true html
+IsHtml html = IsContent IsText true html
