@@ -87,7 +87,7 @@ def test_files_by_name(tmp_path):
     assert outcome(missing) == (2, "", "robots_audit: cannot read missing.txt\n")
 
 
-@pytest.mark.parametrize("more", ["Ferris", "--agents", "--agent=Ferris", "--urls=list.txt", "--denied", "-q", "--format=text", "--json", "--strict", "--only=missing-slash", "--ignore=missing-slash"])
+@pytest.mark.parametrize("more", ["Ferris", "--agents", "--agent=Ferris", "--urls=list.txt", "--denied", "-q", "--format=text", "--json", "--html", "--strict", "--only=missing-slash", "--ignore=missing-slash"])
 def test_other_arguments_conflict(tmp_path, more):
     result = check(tmp_path, HOLDING, more)
     assert (result.status, result.out) == (2, "") and "cannot be used with" in result.err

@@ -266,7 +266,7 @@ agent_has agent = (
   ),
 )
 
-membership_printable : (membership : Membership) → IsPrintable (membership_word membership)
+pub membership_printable : (membership : Membership) → IsPrintable (membership_word membership)
 membership_printable Own = ascii_printable true (codes "own") refl
 membership_printable Other = ascii_printable true (codes "other") refl
 membership_printable Ungrouped = ascii_printable true (codes "ungrouped") refl

@@ -12,16 +12,14 @@ use Rattle.texting_robots.specs.declared.labels.Membership.TheVariants.{Other, U
 use Rattle.texting_robots.proofs.TrimLemmas.{each_append}
 use Rattle.robots_io.specs.Verdicts.{verdict_front}
 use Rattle.robots_audit.specs.declared.command.Format.{Format}
-use Rattle.robots_audit.specs.declared.command.Format.TheVariants.{Json, Text}
+use Rattle.robots_audit.specs.declared.command.Format.TheVariants.{Html, Json, Text}
 use Rattle.robots_audit.specs.declared.group.Group.{Group}
 use Rattle.robots_audit.specs.declared.group.Group.TheVariants.{Everyone, Named, Nobody, Star}
-use Rattle.robots_audit.specs.Answer.{has_rows, message, message_in, output, output_in, shown_name}
-use Rattle.robots_audit.specs.Answer.{total_lines}
-use Rattle.robots_audit.specs.Audit.{AgentValue, RequestValue, AuditValue, VerdictValue, shown}
+use Rattle.robots_audit.specs.Answer.{message, message_in, shown_name}
+use Rattle.robots_audit.specs.Audit.{AgentValue, AuditValue, RequestValue, VerdictValue}
 use Rattle.robots_audit.specs.Listed.{listed, more, more_of, unlisted}
 use Rattle.robots_audit.specs.Delay.{delay_line, delay_text, fraction, million, seconds}
-use Rattle.robots_audit.specs.Report.{agent_lines, group_line, nobody_text, rejected_lines, report_lines}
-use Rattle.robots_audit.specs.Report.{listed_lines, more_line, total_line, verdict_line, warning_lines}
+use Rattle.robots_audit.specs.Report.{agent_lines, group_line, group_text, listed_lines, more_line, nobody_text, rejected_lines, report_lines, total_line, verdict_line, warning_lines}
 use Rattle.robots_warnings.specs.File.{space}
 use Rattle.robots_audit.specs.Rows.{has_value, kind_text, label_text, right_aligned, row, rows}
 use Rattle.robots_audit.specs.Rows.{value_text, word_and_value, word_width}
@@ -83,6 +81,7 @@ message_in_printable Text requested audit =
     ended_printable (listed_lines (shown_name requested.file) audit.warnings)
     (listed_printable (shown_name requested.file) audit.warnings)
 message_in_printable Json requested audit = nil_printable true
+message_in_printable Html requested audit = nil_printable true
 
 pub message_printable : (requested : RequestValue) (audit : AuditValue)
     → IsPrintable (message requested audit)
@@ -109,10 +108,10 @@ seconds_printable micros =
     append_printable true (decimal (micros / million)) _ (decimal_printable true (micros / million))
     (either_printable (millionths == 0) [] after (nil_printable true) point)
 
-delay_printable : (micros : ℕ) → IsPrintable (delay_text micros)
+pub delay_printable : (micros : ℕ) → IsPrintable (delay_text micros)
 delay_printable micros = search (append_printable true, ascii_printable true, seconds_printable)
 
-value_printable : (line : LineValue) → IsPrintable (value_text line)
+pub value_printable : (line : LineValue) → IsPrintable (value_text line)
 value_printable (UserAgent value) = sanitized_printable value
 value_printable (Allow value) = sanitized_printable value
 value_printable (Disallow value) = sanitized_printable value
@@ -155,17 +154,19 @@ row_printable width label =
 
 -- ---- the part for a crawler
 
-group_printable : (agent : List ℕ) (group : Group) → IsPrintable (group_line agent group)
-group_printable agent Named = search (append_printable true, ascii_printable true, sanitized_printable)
-group_printable agent Star = search (append_printable true, ascii_printable true, sanitized_printable)
-group_printable agent Nobody =
-    let nobody : IsPrintable (nobody_text agent) =
+pub group_text_printable : (agent : List ℕ) (group : Group) → IsPrintable (group_text agent group)
+group_text_printable agent Named = sanitized_printable agent
+group_text_printable agent Star = search (append_printable true, ascii_printable true, sanitized_printable)
+group_text_printable agent Nobody =
     either_printable (bytes_eq agent (codes "*")) (codes "none (no group for *; everything is allowed)") _
     (ascii_printable true (codes "none (no group for *; everything is allowed)") refl)
-    (search (append_printable true, ascii_printable true, sanitized_printable)) in
-    append_printable true (codes "group: ") (nobody_text agent)
-    (ascii_printable true (codes "group: ") refl) nobody
-group_printable agent Everyone = ascii_printable true (group_line agent Everyone) refl
+    (search (append_printable true, ascii_printable true, sanitized_printable))
+group_text_printable agent Everyone = ascii_printable true (group_text agent Everyone) refl
+
+group_printable : (agent : List ℕ) (group : Group) → IsPrintable (group_line agent group)
+group_printable agent group =
+    append_printable true (codes "group: ") (group_text agent group)
+    (ascii_printable true (codes "group: ") refl) (group_text_printable agent group)
 
 delay_line_printable : (delay : Option ℕ) → IsPrintable (delay_line delay)
 delay_line_printable None = ascii_printable true (codes "delay: none") refl
@@ -204,9 +205,9 @@ agent_printable agent = (
   ),
 )
 
--- ---- the complete output
+-- ---- the complete report
 
-report_printable : (has_rows : Bool) (audit : AuditValue) → Each IsPrintable (report_lines has_rows audit)
+pub report_printable : (has_rows : Bool) (audit : AuditValue) → Each IsPrintable (report_lines has_rows audit)
 report_printable true audit =
     each_append IsPrintable (rows audit.labels) (flat_map agent_lines audit.agents)
     (each_map (row (length (decimal (length audit.labels))))
@@ -214,21 +215,7 @@ report_printable true audit =
     (each_flat agent_lines agent_printable audit.agents)
 report_printable false audit = each_flat agent_lines agent_printable audit.agents
 
-totals_printable : (has_totals : Bool) (agents : List AgentValue)
+pub totals_printable : (has_totals : Bool) (agents : List AgentValue)
     → Each IsPrintable (if has_totals then total_line agents ∷ [] else [])
 totals_printable true agents = (search (append_printable true, ascii_printable true, decimal_printable true), tt)
 totals_printable false agents = tt
-
-output_in_printable : (format : Format) (requested : RequestValue) (audit : AuditValue)
-    → IsPrintable (output_in format requested audit)
-output_in_printable Text requested audit =
-    let reported = report_lines (has_rows requested) (shown requested.is_denied_only audit) in
-    ended_printable (reported ++ total_lines requested audit)
-    (each_append IsPrintable reported (total_lines requested audit)
-    (report_printable (has_rows requested) (shown requested.is_denied_only audit))
-    (totals_printable requested.has_totals audit.agents))
-output_in_printable Json requested audit =
-    json_printable (has_rows requested) (shown requested.is_denied_only audit)
-
-pub output_printable : (requested : RequestValue) (audit : AuditValue) → IsPrintable (output requested audit)
-output_printable requested audit = output_in_printable requested.format requested audit

@@ -5,10 +5,11 @@ use Rattle.std.specs.Prelude.{Result, codes, if◌then◌else◌, is_some}
 use Rattle.std.specs.Prelude.{IfErr, IfOk, IfSome, IsErrOf, map, option_map, string_bytes}
 use Rattle.std.specs.List.{list_any}
 use Rattle.std.specs.Io.KnownBytes.{Appends, Keeps}
+use Rattle.robots_html.specs.Html.{document}
 use Rattle.robots_io.specs.Streams.{AppendsBeginning}
 use Rattle.robots_io.specs.Lines.{ended}
 use Rattle.robots_audit.specs.declared.command.Format.{Format}
-use Rattle.robots_audit.specs.declared.command.Format.TheVariants.{Json, Text}
+use Rattle.robots_audit.specs.declared.command.Format.TheVariants.{Html, Json, Text}
 use Rattle.robots_audit.specs.declared.command.Request.{Request}
 use Rattle.robots_audit.specs.declared.fault.Fault.{Fault}
 use Rattle.robots_audit.specs.declared.fault.Fault.TheVariants.{File, Memory, Words, Write}
@@ -17,6 +18,7 @@ use Rattle.robots_audit.specs.Audit.{RequestValue, AuditValue, IsAuditOf, all_al
 use Rattle.robots_audit.specs.Fault.{MayFail}
 use Rattle.robots_audit.specs.Json.{json_text}
 use Rattle.robots_audit.specs.Report.{listed_lines, report_lines, total_line}
+use Rattle.robots_audit.specs.Page.{page}
 use Rattle.robots_io.specs.Sanitize.{sanitized, sanitized_lines}
 use Rattle.robots_warnings.specs.declared.level.Level.{Level}
 use Rattle.robots_warnings.specs.Level.{reaches}
@@ -62,6 +64,7 @@ output_in Text requested audit =
     ended (report_lines (has_rows requested) (shown requested.is_denied_only audit)
     ++ total_lines requested audit)
 output_in Json requested audit = json_text (has_rows requested) (shown requested.is_denied_only audit)
+output_in Html requested audit = document (page requested (shown requested.is_denied_only audit))
 
 -- the report in the requested format
 abbrev pub output : RequestValue → AuditValue → List ℕ
@@ -77,6 +80,7 @@ shown_name (Some name) = name
 abbrev pub message_in : Format → RequestValue → AuditValue → List ℕ
 message_in Text requested audit = ended (listed_lines (shown_name requested.file) audit.warnings)
 message_in Json requested audit = []
+message_in Html requested audit = []
 
 -- the message on standard error
 abbrev pub message : RequestValue → AuditValue → List ℕ

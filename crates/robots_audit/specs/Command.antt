@@ -8,7 +8,7 @@ use Rattle.std.specs.Option.{option_map_or}
 use Rattle.clap.specs.Words.{first_value, found_of, matched_of, one_text, raw_values}
 use Rattle.clap.specs.declared.parser.matches.ArgMatches.{ArgMatches}
 use Rattle.robots_audit.specs.declared.command.Format.{Format}
-use Rattle.robots_audit.specs.declared.command.Format.TheVariants.{Json, Text}
+use Rattle.robots_audit.specs.declared.command.Format.TheVariants.{Html, Json, Text}
 use Rattle.robots_audit.specs.declared.command.Request.{Request}
 use Rattle.robots_audit.specs.declared.fault.Fault.{Fault}
 use Rattle.robots_audit.specs.declared.fault.Fault.TheVariants.{Memory, StdinTwice, UnknownWarning, Usage}
@@ -54,16 +54,20 @@ level_named word =
 
 -- the format with this name; `clap` accepts no others
 abbrev pub format_named : List ℕ → Format
-format_named name = if bytes_eq name (codes "json") then Json else Text
+format_named name =
+    if bytes_eq name (codes "json") then Json
+    else if bytes_eq name (codes "html") then Html else Text
 
--- the format that `--json`, if it is given, and the value of `--format` request
-abbrev pub requested_format : Bool → Option (List ℕ) → Format
-requested_format is_json name = if is_json then Json else option_map_or format_named name Text
+-- the format that `--json` and `--html`, if they are given, and the value of `--format` request
+abbrev pub requested_format : (is_json is_html : Bool) → Option (List ℕ) → Format
+requested_format is_json is_html name =
+    if is_json then Json else if is_html then Html else option_map_or format_named name Text
 
 -- the format is the one that the options request
 abbrev pub IsFormatOf : ArgMatches → Format → Type 0
-IsFormatOf matches format = (is_json : Bool) × IsOn matches (codes "json") is_json
-    × (format ≡ requested_format is_json (value_of matches (codes "format")))
+IsFormatOf matches format = (is_json is_html : Bool) × IsOn matches (codes "json") is_json
+    × IsOn matches (codes "html") is_html
+    × (format ≡ requested_format is_json is_html (value_of matches (codes "format")))
 
 -- the crawlers and the URLs, where these names are the values of `--agent`: without it, the first argument is a
 -- product token; otherwise all arguments are URLs

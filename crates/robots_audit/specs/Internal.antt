@@ -1,5 +1,6 @@
 -- The program's own types, by value.
 pub mod Agents
+pub mod ByLine
 pub mod Expect
 pub mod Expectations
 pub mod Listed

@@ -7,6 +7,7 @@ pub mod Chosen
 pub mod Listed
 pub mod Report
 pub mod Json
+pub mod Page
 pub mod Answer
 pub mod Expect
 pub mod Expectations

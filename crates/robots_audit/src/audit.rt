@@ -163,7 +163,7 @@ fn agent_audits<'a>(
 }
 
 /// The crawler for which lines are labeled: with `None`, `*`.
-fn labeling_agent<'a>(agent: Option<&'a str>) -> &'a str
+pub(crate) fn labeling_agent<'a>(agent: Option<&'a str>) -> &'a str
     ensures { result.now ≡ labeling_agent (option_map (λ agent. agent.now) agent.entry) }
 {
     match agent {

@@ -20,6 +20,8 @@ pub enum Format {
     Text,
     /// One line of JSON, with the warnings in it.
     Json,
+    /// An HTML page, with the lines and the warnings in it.
+    Html,
 }
 
 /// The parsed command line.
@@ -97,16 +99,20 @@ fn with_list<'a>(alloc: Global, called: Command<'a>) -> Result<Command<'a>, Allo
     called.arg(urls)?.arg(denied)
 }
 
-/// Adds the option `--format`, and its short form `--json`, of which only one can be given.
+/// Adds the option `--format`, and its short forms `--json` and `--html`, of which only one can be given.
 fn with_format<'a>(alloc: Global, called: Command<'a>) -> Result<Command<'a>, AllocError> {
     let format = Arg::new(alloc, "format")
         .long("format")
         .value_name("FORMAT")
-        .value_parser(ValueParser::Names(&["text", "json"]))
-        .help("Write the report as text (default), or as json with the warnings in it");
+        .value_parser(ValueParser::Names(&["text", "json", "html"]))
+        .help(
+            "Write the report as text (default), or as json or an html page with the warnings in it",
+        );
     let called = called.arg(format)?;
     let json = switch(alloc, "json", "The same as --format json");
-    called.arg(json.conflicts_with("format")?)
+    let called = called.arg(json.conflicts_with("format")?)?;
+    let html = switch(alloc, "html", "The same as --format html");
+    called.arg(html.conflicts_with("format")?.conflicts_with("json")?)
 }
 
 /// Adds the options without a value, `--format` and `--strict`.
@@ -162,8 +168,8 @@ fn with_names<'a>(alloc: Global, called: Command<'a>) -> Result<Command<'a>, All
 /// Adds the option `--expect`, which excludes all others but `--file`.
 fn with_expect<'a>(alloc: Global, called: Command<'a>) -> Result<Command<'a>, AllocError> {
     let others = [
-        "agent", "url", "agents", "crawler", "urls", "denied", "quiet", "format", "json", "strict",
-        "only", "ignore",
+        "agent", "url", "agents", "crawler", "urls", "denied", "quiet", "format", "json", "html",
+        "strict", "only", "ignore",
     ];
     let expect = Arg::new(alloc, "expect")
         .long("expect")
@@ -233,17 +239,20 @@ fn format_named(name: &str) -> Format
 {
     if name == "json" {
         Format::Json
+    } else if name == "html" {
+        Format::Html
     } else {
         Format::Text
     }
 }
 
-/// The format that `--json` and the value of `--format` request.
-fn requested_format(is_json: bool, name: Option<&str>) -> Format
-    ensures { result ≡ requested_format is_json (option_map (λ name. name.now) name.entry) }
+/// The format that `--json`, `--html` and the value of `--format` request.
+fn requested_format(is_json: bool, is_html: bool, name: Option<&str>) -> Format
+    ensures { result ≡ requested_format is_json is_html (option_map (λ name. name.now) name.entry) }
 {
     match name {
         _ if is_json => Format::Json,
+        _ if is_html => Format::Html,
         Some(name) => format_named(name),
         None => Format::Text,
     }
@@ -376,7 +385,11 @@ pub fn requested<'a>(alloc: Global, matches: &ArgMatches<'a>) -> Result<Request<
     Ok(Request {
         file: file_read(matches.get_str("file")),
         is_quiet: matches.get_flag("quiet"),
-        format: requested_format(matches.get_flag("json"), matches.get_str("format")),
+        format: requested_format(
+            matches.get_flag("json"),
+            matches.get_flag("html"),
+            matches.get_str("format"),
+        ),
         strict: strict_level(matches.get_str("strict")),
         agent: single(&agents),
         agents,

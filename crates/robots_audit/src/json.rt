@@ -103,7 +103,7 @@ impl<'a> Json for AgentAudit<'a> {
 }
 
 /// The name of a membership in the JSON.
-fn membership_word(membership: Membership) -> &'static str
+pub(crate) fn membership_word(membership: Membership) -> &'static str
     ensures { result.now ≡ membership_word membership }
 {
     match membership {
@@ -171,7 +171,10 @@ fn add_sitemap<'a>(sitemaps: &mut Vec<&'a [u8]>, line: Line<'a>) -> Result<(), A
 
 /// The sitemaps that the file lists, in order.
 #[tactic(auto, using(crate::proofs::JsonLemmas::sitemaps_next))]
-fn sitemaps_of<'a>(alloc: Global, labels: &[LabeledLine<'a>]) -> Result<Vec<&'a [u8]>, AllocError>
+pub(crate) fn sitemaps_of<'a>(
+    alloc: Global,
+    labels: &[LabeledLine<'a>],
+) -> Result<Vec<&'a [u8]>, AllocError>
     ensures { IfOk result (λ sitemaps. map (λ sitemap. sitemap.now) sitemaps.items
         ≡ sitemaps_in (lines_of (map label_by_value labels.now))) }
 {

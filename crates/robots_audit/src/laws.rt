@@ -10,7 +10,10 @@ ghost use Rattle.robots_warnings.specs.Rules.{begins_oddly, has_dollar_inside};
 ghost use Rattle.robots_warnings.specs.Tokens.{has_space_around};
 ghost use Rattle.robots_warnings.specs.Urls.{is_invalid_url};
 ghost use Rattle.robots_audit.specs.Answer.{output, message};
+ghost use Rattle.robots_html.specs.Html.{document};
+ghost use Rattle.robots_html.specs.Reader.{read_document};
 ghost use Rattle.robots_audit.specs.Audit.{RequestValue, AuditValue, IsAuditOf};
+ghost use Rattle.robots_audit.specs.Page.{page};
 ghost use Rattle.robots_io.specs.Sanitize.{IsPrintable};
 
 /// A request and a file have at most one audit, and so at most one report.
@@ -30,6 +33,13 @@ pub fn each_file_has_an_audit()
 pub fn no_terminal_is_steered()
     ensures written { (requested : RequestValue) (audit : AuditValue) → IsPrintable (output requested audit) }
     ensures message { (requested : RequestValue) (audit : AuditValue) → IsPrintable (message requested audit) }
+{}
+
+/// Reading a page yields the same tree again. So each text from a file, a crawler's name or a URL is exactly one text of
+/// the page, whatever its bytes are, and none of them becomes markup.
+pub fn pages_are_read_back()
+    ensures { (requested : RequestValue) (audit : AuditValue)
+        → read_document (document (page requested audit)) ≡ Some (page requested audit) }
 {}
 
 /// `allowed-and-disallowed` is given for a line exactly if it has a Disallow that applies to one of the crawlers reported

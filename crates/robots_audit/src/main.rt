@@ -2,7 +2,7 @@
 //! for each line of the first 512,000 bytes, with its number, whether it is in the crawler's group, and its directive;
 //! then the group and the delay that apply to the crawler; then for each URL whether the crawler may fetch it, and
 //! which line decides. Warnings about lines that probably don't do what was intended go to standard error. All of this
-//! can be written as JSON instead.
+//! can be written as JSON or as an HTML page instead.
 //!
 //! `robots_audit [OPTIONS] AGENT [URL]..`
 //!
@@ -30,6 +30,7 @@ mod group;
 mod json;
 mod laws;
 mod listed;
+mod page;
 mod program;
 mod report;
 mod rows;

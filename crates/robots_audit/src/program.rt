@@ -9,6 +9,7 @@ use crate::command::{Format, Request};
 use crate::denied::{shown, totals_of};
 use crate::fault::{Fault, Outcome};
 use crate::json::json_text;
+use crate::page::page_text;
 use crate::report::{listed_lines, push_totals, report_text};
 use robots_io::sanitize::{push_sanitized, push_sanitized_lines};
 use robots_io::streams::{read_all, write_out};
@@ -73,6 +74,7 @@ fn output(alloc: Global, request: &Request<'_>, audit: Audit<'_, '_>) -> Result<
             Ok(text.into_bytes())
         }
         Format::Json => Ok(json_text(alloc, has_rows, &reported)?.into_bytes()),
+        Format::Html => page_text(alloc, request, &reported),
     }
 }
 
@@ -86,7 +88,7 @@ fn message(
 {
     match request.format {
         Format::Text => listed_lines(alloc, shown_name(request.file), &audit.warnings),
-        Format::Json => Ok(String::new(alloc)),
+        Format::Json | Format::Html => Ok(String::new(alloc)),
     }
 }
 

@@ -51,7 +51,11 @@ fn push_nobody(text: &mut String, agent: &str) -> Result<(), AllocError>
 }
 
 /// Appends the group that applies to a crawler, and the reason if it isn't the crawler's own group.
-fn push_group_text(text: &mut String, agent: &str, group: Group) -> Result<(), AllocError>
+pub(crate) fn push_group_text(
+    text: &mut String,
+    agent: &str,
+    group: Group,
+) -> Result<(), AllocError>
     ensures { OnOk result (string_bytes text.new ≡ string_bytes text.old ++ group_text agent.now group) }
 {
     match group {

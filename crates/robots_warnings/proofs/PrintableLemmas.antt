@@ -65,7 +65,7 @@ level_printable cause =
     append_printable true (level_word (level_of cause)) (codes ": ") (word_printable (level_of cause))
     (ascii_printable true (codes ": ") refl)
 
-name_printable : (cause : Cause) → IsPrintable (name_text cause)
+pub name_printable : (cause : Cause) → IsPrintable (name_text cause)
 name_printable cause = search (append_printable true, ascii_printable true, names_printable)
 
 pub line_printable : (file : List ℕ) (warning : WarningValue) → IsPrintable (warning_line file warning)

@@ -71,7 +71,7 @@ fn push_name(text: &mut String, cause: Cause) -> Result<(), AllocError>
 }
 
 /// Appends the message and the name of a warning.
-fn push_reported(text: &mut String, warning: &Warning<'_>) -> Result<(), AllocError>
+pub fn push_reported(text: &mut String, warning: &Warning<'_>) -> Result<(), AllocError>
     ensures { OnOk result (string_bytes text.new ≡ string_bytes text.old
         ++ (warning_text (warning_value warning.now) ++ name_text warning.now.cause)) }
 {

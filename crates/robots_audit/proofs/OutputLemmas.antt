@@ -1,0 +1,28 @@
+-- A report is printable in each format.
+use Rattle.std.proofs.Common.{ℕ, List, ◌++◌}
+use Rattle.texting_robots.proofs.TrimLemmas.{each_append}
+use Rattle.robots_io.specs.Sanitize.{IsPrintable}
+use Rattle.robots_io.proofs.SanitizeLemmas.{ended_printable}
+use Rattle.robots_audit.specs.declared.command.Format.{Format}
+use Rattle.robots_audit.specs.declared.command.Format.TheVariants.{Html, Json, Text}
+use Rattle.robots_audit.specs.Answer.{has_rows, output, output_in, total_lines}
+use Rattle.robots_audit.specs.Audit.{AuditValue, RequestValue, shown}
+use Rattle.robots_audit.specs.Report.{report_lines}
+use Rattle.robots_audit.proofs.JsonLemmas.{json_printable}
+use Rattle.robots_audit.proofs.PageLemmas.{page_printable}
+use Rattle.robots_audit.proofs.PrintableLemmas.{report_printable, totals_printable}
+
+output_in_printable : (format : Format) (requested : RequestValue) (audit : AuditValue)
+    → IsPrintable (output_in format requested audit)
+output_in_printable Text requested audit =
+    let rows = has_rows requested in
+    let listed = shown requested.is_denied_only audit in
+    ended_printable (report_lines rows listed ++ total_lines requested audit)
+    (each_append IsPrintable (report_lines rows listed) (total_lines requested audit)
+    (report_printable rows listed) (totals_printable requested.has_totals audit.agents))
+output_in_printable Json requested audit =
+    json_printable (has_rows requested) (shown requested.is_denied_only audit)
+output_in_printable Html requested audit = page_printable requested (shown requested.is_denied_only audit)
+
+pub output_printable : (requested : RequestValue) (audit : AuditValue) → IsPrintable (output requested audit)
+output_printable requested audit = output_in_printable requested.format requested audit

@@ -1,0 +1,200 @@
+//! The warnings of a page: the list at the top, and the rows below their lines.
+#![tactic(auto, using(robots_html::proofs::WritingLemmas::joined))]
+
+ghost use Rattle.std.specs.Prelude.{◌≡◌, ◌<◌, ◌++◌, IfOk, OnOk, map, string_bytes, take};
+ghost use Rattle.robots_html.specs.Html.{each, written};
+ghost use Rattle.robots_warnings.specs.Internal.{warning_value};
+ghost use Rattle.robots_audit.specs.Page.{level_name, listed_warnings, rest_note, rest_words, warning_entry};
+ghost use Rattle.robots_audit.specs.Page.{warning_item, warning_list, warning_place, warning_row};
+ghost use Rattle.robots_audit.specs.Page.{warning_words};
+
+use crate::page::parts::{numbered, push_line_link, push_simple, push_start_with};
+use crate::page::style::WARNING_TERM;
+use robots_html::write::{push_end, push_start, push_text};
+use robots_warnings::level::Level;
+use robots_warnings::warning::{Warning, push_reported};
+use std::alloc::{AllocError, Global};
+
+/// How many warnings are listed at the top.
+const LISTED_WARNINGS: usize = 100;
+
+/// The level of a warning, as its text on a page begins.
+fn level_name(level: Level) -> &'static str
+    ensures { result.now ≡ level_name level }
+{
+    match level {
+        Level::Error => "Error: ",
+        Level::Warning => "Warning: ",
+        Level::Note => "Note: ",
+    }
+}
+
+/// The level of a warning, its message and its name.
+fn warning_words(alloc: Global, warning: &Warning<'_>) -> Result<String, AllocError>
+    ensures { IfOk result (λ text. string_bytes text ≡ warning_words (warning_value warning.now)) }
+{
+    let mut text = String::from_str(alloc, level_name(warning.cause.level()))?;
+    push_reported(&mut text, warning)?;
+    Ok(text)
+}
+
+/// The first of these warnings.
+#[tactic(auto)]
+fn listed<'a, 'b>(warnings: &'b [Warning<'a>]) -> &'b [Warning<'a>]
+    ensures { result.now ≡ take listed_warnings warnings.now }
+{
+    if warnings.len() > LISTED_WARNINGS {
+        &warnings[..LISTED_WARNINGS]
+    } else {
+        warnings
+    }
+}
+
+/// Appends a link to the line of a warning, if it is about one.
+#[tactic(auto, using(robots_html::proofs::WritingLemmas::joined), unfolding(crate::specs::Page::warning_place))]
+fn push_warning_place(
+    alloc: Global,
+    out: &mut Vec<u8>,
+    line: Option<usize>,
+) -> Result<(), AllocError>
+    ensures { OnOk result (out.new.items ≡ out.old.items ++ written (warning_place line)) }
+{
+    let Some(number) = line else {
+        return Ok(());
+    };
+    push_line_link(alloc, out, number)?;
+    push_text(out, b": ")
+}
+
+/// Appends a warning to the list at the top.
+#[tactic(auto, using(robots_html::proofs::WritingLemmas::joined), unfolding(crate::specs::Page::warning_item))]
+fn push_warning_item(
+    alloc: Global,
+    out: &mut Vec<u8>,
+    warning: &Warning<'_>,
+) -> Result<(), AllocError>
+    ensures { OnOk result (out.new.items ≡ out.old.items
+        ++ written (warning_item (warning_value warning.now))) }
+{
+    let words = warning_words(alloc, warning)?;
+    push_start(out, "li")?;
+    push_warning_place(alloc, out, warning.line)?;
+    push_text(out, words.as_bytes())?;
+    push_end(out, "li")
+}
+
+/// Appends these warnings to the list at the top.
+fn push_warning_items(
+    alloc: Global,
+    out: &mut Vec<u8>,
+    warnings: &[Warning<'_>],
+) -> Result<(), AllocError>
+    ensures { OnOk result (out.new.items ≡ out.old.items
+        ++ written (each warning_item (map warning_value warnings.now))) }
+{
+    for warning in warnings {
+        push_warning_item(alloc, out, warning)?;
+    }
+    Ok(())
+}
+
+/// Appends the first of these warnings to the list at the top.
+fn push_listed_items(
+    alloc: Global,
+    out: &mut Vec<u8>,
+    warnings: &[Warning<'_>],
+) -> Result<(), AllocError>
+    ensures { OnOk result (out.new.items ≡ out.old.items
+        ++ written (each warning_item (take listed_warnings (map warning_value warnings.now)))) }
+{
+    push_warning_items(alloc, out, listed(warnings))
+}
+
+/// The number of the warnings that aren't listed at the top.
+fn rest_words(alloc: Global, count: usize) -> Result<String, AllocError>
+    requires { listed_warnings < count }
+    ensures { IfOk result (λ text. string_bytes text ≡ rest_words count) }
+{
+    let mut text = numbered(alloc, "and ", count - LISTED_WARNINGS)?;
+    text.push_str(" more")?;
+    Ok(text)
+}
+
+/// Appends the number of the warnings that aren't listed at the top.
+#[tactic(auto, using(robots_html::proofs::WritingLemmas::joined), unfolding(crate::specs::Page::rest_note))]
+fn push_rest_note(alloc: Global, out: &mut Vec<u8>, count: usize) -> Result<(), AllocError>
+    ensures { OnOk result (out.new.items ≡ out.old.items ++ written (rest_note count)) }
+{
+    if count <= LISTED_WARNINGS {
+        return Ok(());
+    }
+    let words = rest_words(alloc, count)?;
+    push_simple(out, "p", &words)
+}
+
+/// Appends the number of warnings, and the list.
+#[tactic(auto, using(robots_html::proofs::WritingLemmas::joined), unfolding(crate::specs::Page::warning_list))]
+fn push_warning_list(
+    alloc: Global,
+    out: &mut Vec<u8>,
+    warnings: &[Warning<'_>],
+) -> Result<(), AllocError>
+    ensures { OnOk result (out.new.items ≡ out.old.items
+        ++ written (warning_list (map warning_value warnings.now))) }
+{
+    let count = numbered(alloc, "", warnings.len())?;
+    push_text(out, count.as_bytes())?;
+    push_start(out, "ul")?;
+    push_listed_items(alloc, out, warnings)?;
+    push_end(out, "ul")?;
+    push_rest_note(alloc, out, warnings.len())
+}
+
+/// Appends the warnings at the top.
+#[tactic(auto, using(robots_html::proofs::WritingLemmas::joined), unfolding(crate::specs::Page::warning_entry))]
+pub(crate) fn push_warning_entry(
+    alloc: Global,
+    out: &mut Vec<u8>,
+    warnings: &[Warning<'_>],
+) -> Result<(), AllocError>
+    ensures { OnOk result (out.new.items ≡ out.old.items
+        ++ written (warning_entry (map warning_value warnings.now))) }
+{
+    push_simple(out, "dt", WARNING_TERM)?;
+    push_start(out, "dd")?;
+    push_warning_list(alloc, out, warnings)?;
+    push_end(out, "dd")
+}
+
+/// Appends the row of a warning.
+#[tactic(auto, using(robots_html::proofs::WritingLemmas::joined), unfolding(crate::specs::Page::warning_row))]
+fn push_warning_row(
+    alloc: Global,
+    out: &mut Vec<u8>,
+    warning: &Warning<'_>,
+) -> Result<(), AllocError>
+    ensures { OnOk result (out.new.items ≡ out.old.items
+        ++ written (warning_row (warning_value warning.now))) }
+{
+    let words = warning_words(alloc, warning)?;
+    push_start_with(out, "tr", "class", warning.cause.level().word())?;
+    push_start_with(out, "td", "colspan", "4")?;
+    push_text(out, words.as_bytes())?;
+    push_end(out, "td")?;
+    push_end(out, "tr")
+}
+
+/// Appends the row of each of these warnings.
+pub(crate) fn push_warning_rows(
+    alloc: Global,
+    out: &mut Vec<u8>,
+    warnings: &[Warning<'_>],
+) -> Result<(), AllocError>
+    ensures { OnOk result (out.new.items ≡ out.old.items
+        ++ written (each warning_row (map warning_value warnings.now))) }
+{
+    for warning in warnings {
+        push_warning_row(alloc, out, warning)?;
+    }
+    Ok(())
+}
