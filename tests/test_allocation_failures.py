@@ -106,6 +106,8 @@ AUDIT_RUNS = {
     "agents by name": ["--agent", "Ferris", "--agent", "other", *URLS],
     "JSON": ["--json", "Ferris", *URLS],
     "URLs in a file": ["--urls", CRATES / "robots_audit/args", "--denied", "Ferris", *URLS],
+    "a page": ["--html", "Ferris", *URLS],
+    "a page about each agent": ["--html", "--agents", *URLS],
     "wrong arguments": ["--none", "Ferris"],
     "a name after the first 512,000 bytes": ["--file", BEYOND, "Ferris"],
     "more than twenty warnings with one name": ["--file", JUNK, "Ferris"],
@@ -146,7 +148,7 @@ def test_robots_audit_reports_a_failed_read(failing_heap, long_file, is_named):
     break_each(program, "READ", lambda result, right, number: result == Result(2, "", f"robots_audit: {why}\n"))
 
 
-@pytest.mark.parametrize("options", [[], ["--json"]], ids=["text", "JSON"])
+@pytest.mark.parametrize("options", [[], ["--json"], ["--html"]], ids=["text", "JSON", "page"])
 def test_robots_audit_reports_a_failed_write(failing_heap, long_file, options):
     """It writes a beginning of its report and says that it can't write the rest, or the whole report and a beginning of what it says on
     standard error."""

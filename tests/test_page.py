@@ -1,0 +1,280 @@
+"""The HTML page: it has what the JSON has, untrusted text becomes no element, and a browser displays it without a message or a request.
+What html.parser reads is checked everywhere; Chromium, where it is installed, has to read the same."""
+
+import json
+import re
+import shutil
+from html.parser import HTMLParser
+
+import page_style
+import pytest
+from browser import Browser
+from support import ROOT, run, text_of
+
+SOURCE, STYLE = page_style.SOURCE.read_text(), page_style.STYLE.read_text()
+
+EXAMPLE = (ROOT / "examples/robots.txt").read_bytes()
+URLS = ["https://example.com/search/tea", "/drafts/tea", "/a?x=1&y=2"]
+
+# What an HTML parser or a terminal could take for something else than text.
+HOSTILE = [
+    b"<script>document.title='x'</script>",
+    b"</code></td></tr></table></main><h1 id=L1>x</h1>",
+    b'" onmouseover="x',
+    b"'><img src=x onerror=x>",
+    b"&lt;b&gt; &amp; &#60; &notit;",
+    b"]]><!-- <![CDATA[ -->",
+    b"</title></style><style>*{display:none}",
+    b"a\0b\x01\x1b[31m\x7f",
+    b"\xff\xc3(\x80\xed\xa0\x80",
+    "\u202e\u2066\u200f\u2028\u0085\ufeff".encode(),
+]
+
+
+# ---- the style
+
+
+def constant(name):
+    """The value of a string constant: a backslash at the end of a line leaves out the line end and the spaces after it."""
+    return re.sub(r"\\\n\s*", "", re.search(rf'const {name}: &str =\s*"((?:[^"\\]|\\\n)*)";', SOURCE)[1])
+
+
+def test_style_is_the_file():
+    assert constant("CSS") == STYLE and page_style.embedded(SOURCE, STYLE) == SOURCE
+
+
+def test_policy_permits_the_style_by_its_hash():
+    policy = f"default-src 'none'; style-src '{page_style.hash_of(STYLE)}'; base-uri 'none'; form-action 'none'"
+    assert constant("POLICY") == policy
+
+
+def contrast(one, other):
+    """The contrast of two colors, by the definition in WCAG 2.2."""
+
+    def luminance(color):
+        channels = [int(color[1 + i] * 2, 16) if len(color) == 4 else int(color[1 + 2 * i : 3 + 2 * i], 16) for i in range(3)]
+        linear = [c / 255 / 12.92 if c / 255 <= 0.04045 else ((c / 255 + 0.055) / 1.055) ** 2.4 for c in channels]
+        return sum(weight * channel for weight, channel in zip((0.2126, 0.7152, 0.0722), linear, strict=True))
+
+    high, low = sorted((luminance(one), luminance(other)), reverse=True)
+    return (high + 0.05) / (low + 0.05)
+
+
+def test_texts_have_contrast():
+    """In light and dark mode and in print, each color of a text has a contrast of at least 4.5 to each background that it occurs on."""
+    schemes = [dict(re.findall(r"--(\w+): (#\w+)", block)) for block in re.findall(r":root \{([^}]*)\}", STYLE)]
+    assert len(schemes) == 3
+    used = {"fg": "bg head alert warn hint hit", "dim": "bg head hit", "link": "bg", "yes": "bg", "no": "bg"}
+    pairs = [(scheme[text], scheme[back]) for scheme in schemes for text, backs in used.items() for back in backs.split()]
+    assert [pair for pair in pairs if contrast(*pair) < 4.5] == []
+
+
+# ---- the page
+
+
+class Reader(HTMLParser):
+    """The elements of a page in order: name, attributes, text."""
+
+    def __init__(self, text):
+        super().__init__()
+        self.elements, self.opened = [], []
+        self.feed(text)
+        self.close()
+        assert not self.opened
+        self.elements = [(name, attributes, "".join(texts)) for name, attributes, texts in self.elements]
+
+    def handle_starttag(self, tag, attrs):
+        self.handle_startendtag(tag, attrs)
+        self.opened.append(self.elements[-1])
+
+    def handle_startendtag(self, tag, attrs):
+        assert len(dict(attrs)) == len(attrs)
+        self.elements.append((tag, dict(attrs), []))
+
+    def handle_endtag(self, tag):
+        assert self.opened.pop()[0] == tag
+
+    def handle_data(self, data):
+        for _, _, texts in self.opened:
+            texts.append(data)
+
+    def handle_comment(self, data):
+        raise AssertionError(data)
+
+
+def page(*args, file=EXAMPLE):
+    """The page on a file."""
+    ended = run("robots_audit", ["--html", *args], file)
+    assert ended.status in (0, 1, 2) and ended.err == ""
+    return ended.out
+
+
+def audit(*args, file=EXAMPLE):
+    """The JSON on a file."""
+    return json.loads(run("robots_audit", ["--json", *args], file).out)
+
+
+def texts(elements, tag, **attributes):
+    """The texts of the elements with this name and these attributes."""
+    return [text for name, own, text in elements if name == tag and attributes.items() <= own.items()]
+
+
+def children(elements, tag):
+    """Each element with this name: its attributes, and the texts of the elements between it and the next one."""
+    rows = []
+    for name, attributes, text in elements:
+        if name == tag:
+            rows.append((attributes, []))
+        elif rows and name in ("th", "td"):
+            rows[-1][1].append(text)
+    return rows
+
+
+def words(warning):
+    return f"{warning['level'].capitalize()}: {warning['text']} [{warning['name']}]"
+
+
+def rows_of(found):
+    """The rows that the lines and the warnings of a report have."""
+    rows = []
+    for line in found["lines"]:
+        cells = [str(line["number"]), line["membership"], line["kind"], line["value"] or ""]
+        rows.append(({"id": f"L{line['number']}", "class": line["membership"]}, cells))
+        rows += [({"class": it["level"]}, [words(it)]) for it in found["warnings"] if it["line"] == line["number"]]
+    return rows
+
+
+SMALL = """<!DOCTYPE html><html lang="en"><head><meta charset="utf-8"/>
+<meta http-equiv="Content-Security-Policy" content="{policy}"/>
+<meta name="viewport" content="width=device-width, initial-scale=1"/>
+<style>{style}</style><title>robots.txt for Ferris</title></head>
+<body><main><h1>robots.txt for Ferris</h1>
+<dl><dt>Group</dt><dd>* (Ferris has no group of its own)</dd><dt>Crawl delay</dt><dd>none</dd>
+<dt>Sitemaps</dt><dd><ul></ul></dd>
+<dt>Warnings</dt><dd>1<ul><li><a href="#L2">line 2</a>: {warning}</li></ul></dd></dl>
+<h2>URLs</h2><table class="urls"><caption>May the crawler fetch it?</caption>
+<thead><tr><th scope="col">URL</th><th scope="col">Verdict</th></tr></thead>
+<tbody><tr><th scope="row"><code dir="ltr">/a&lt;b</code></th><td class="allowed">allowed, no line</td></tr></tbody></table>
+<h2>File</h2><table class="lines"><caption>Lines, and whether they are in the group of Ferris</caption>
+<thead><tr><th scope="col">Line</th><th scope="col">Group</th><th scope="col">Directive</th><th scope="col">Value</th></tr></thead>
+<tbody><tr id="L1" class="own"><th scope="row">1</th><td>own</td><td>user-agent</td><td dir="ltr">*</td></tr>
+<tr id="L2" class="own"><th scope="row">2</th><td>own</td><td>disallow</td><td dir="ltr">search</td></tr>
+<tr class="error"><td colspan="4">{warning}</td></tr></tbody></table></main></body></html>"""
+
+
+def test_page_on_a_small_file():
+    """Apart from the style, a page has no line ends."""
+    warning = f"Error: {text_of('missing-slash')} [missing-slash]"
+    wanted = SMALL.replace("\n", "").format(policy=constant("POLICY"), style=STYLE, warning=warning)
+    assert page("Ferris", "/a<b", file=b"User-agent: *\nDisallow: search\n") == wanted
+
+
+def test_page_has_the_lines_and_warnings_of_the_json():
+    elements, found = Reader(page("FerrisBot", *URLS)).elements, audit("FerrisBot", *URLS)
+    rows = rows_of(found)
+    assert len(rows) > len(found["lines"]) and [row for row in children(elements, "tr") if row[0]] == rows
+    listed = [f"line {it['line']}: {words(it)}" if it["line"] else words(it) for it in found["warnings"]]
+    assert texts(elements, "li") == [*found["sitemaps"], *listed]
+
+
+def verdict(it):
+    return f"{'allowed' if it['allowed'] else 'denied'}, {'no line' if it['line'] is None else 'line ' + str(it['line'])}"
+
+
+def test_page_has_the_verdicts_of_the_json():
+    elements, found = Reader(page("FerrisBot", *URLS)).elements, audit("FerrisBot", *URLS)
+    rows = [["URL", "Verdict"], *([it["url"], verdict(it)] for it in found["agents"][0]["verdicts"])]
+    assert [cells for _, cells in children(elements, "tr")][: len(rows)] == rows
+
+
+def test_page_about_all_crawlers():
+    elements, found = Reader(page("--agents", *URLS)).elements, audit("--agents", *URLS)
+    rows = [["Crawler", "Group", "Crawl delay", *URLS]]
+    for it in found["agents"]:
+        delay = f"{it['delay'] / 1e6:g} s" if it["delay"] is not None else "none"
+        rows.append([it["agent"], it["agent"], delay, *map(verdict, it["verdicts"])])
+    assert [cells for _, cells in children(elements, "tr")][: len(rows)] == rows
+    assert [row for row in children(elements, "tr") if row[0]] == rows_of({**audit("*"), "warnings": found["warnings"]})
+
+
+def test_at_most_100_warnings_are_listed():
+    elements = Reader(page("FerrisBot", file=b"hello there\n" * 103 + b"User-agent: *\n")).elements
+    assert len(texts(elements, "li")) == 100 and "and 4 more" in texts(elements, "p")
+    assert len(texts(elements, "tr", **{"class": "warning"})) == 104
+
+
+def test_page_is_accessible():
+    """Each link has its target, headings are in order, a table has a caption, and a heading of a row or column says so."""
+    for args in (["FerrisBot", *URLS], ["--agents", *URLS]):
+        elements = Reader(page(*args)).elements
+        ids = [own["id"] for _, own, _ in elements if "id" in own]
+        links = [own["href"] for name, own, _ in elements if name == "a"]
+        assert links and len(set(ids)) == len(ids) and {link.removeprefix("#") for link in links} <= set(ids)
+        headings = [name for name, _, _ in elements if re.fullmatch(r"h\d", name)]
+        assert headings[0] == "h1" and set(headings[1:]) == {"h2"}
+        names = [name for name, _, _ in elements]
+        assert [names[at + 1] for at, name in enumerate(names) if name == "table"] == ["caption"] * 2
+        assert all(own["scope"] in ("row", "col") for name, own, _ in elements if name == "th")
+        assert elements[0][:2] == ("html", {"lang": "en"}) and ("meta", {"charset": "utf-8"}, "") in elements
+
+
+def with_text(text):
+    """A file with this text in a rule, a sitemap and a line that is ignored."""
+    return b"User-agent: *\nDisallow: /" + text + b"\nSitemap: /" + text + b"\nx " + text + b"\n"
+
+
+def shape(elements):
+    return [element[:2] for element in elements]
+
+
+@pytest.mark.parametrize("text", HOSTILE)
+def test_text_of_a_file_becomes_no_element(text):
+    args = ["--only", "sitemap-not-absolute", "FerrisBot", "/x"]
+    elements = [Reader(page(*args, file=with_text(it))).elements for it in (text, b"harmless")]
+    assert shape(elements[0]) == shape(elements[1])
+
+
+@pytest.mark.parametrize("text", [text.replace(b"\0", b"").decode() for text in HOSTILE if b"\xff" not in text])
+@pytest.mark.parametrize("args", [["{}", "/{}"], ["--agents", "/{}"]])
+def test_name_and_url_become_no_element(text, args):
+    ready = [["--only", "host-line", *(word.format(it) for word in args)] for it in (text, "harmless")]
+    assert shape(Reader(page(*ready[0])).elements) == shape(Reader(page(*ready[1])).elements)
+
+
+# ---- in a browser
+
+
+@pytest.fixture(scope="module")
+def browser(tmp_path_factory):
+    path = shutil.which("chromium")
+    if path is None:
+        pytest.skip("chromium isn't installed")
+    opened = Browser(path, tmp_path_factory.mktemp("chromium"))
+    yield opened
+    opened.close()
+
+
+PAGES = {
+    "one crawler": (["FerrisBot", *URLS], EXAMPLE),
+    "all crawlers": (["--agents", *URLS], EXAMPLE),
+    "neither URLs nor lines": (["FerrisBot"], b""),
+    "a rejected file": (["FerrisBot", "/"], b"User-agent: *\nDisallow: /" + b"a" * 4096 + b"$\n"),
+    **{f"hostile text {at}": (["<b>&lt;\u202e", "/<i>"], with_text(text)) for at, text in enumerate(HOSTILE)},
+    "hostile text of all crawlers": (["--agents", "/<i>"], b"".join(b"User-agent: " + text + b"\nDisallow: /\n" for text in HOSTILE)),
+}
+
+
+@pytest.mark.parametrize("name", PAGES)
+def test_browser_reads_the_page(browser, tmp_path, name):
+    """It reads the same elements as html.parser, reports nothing, requests nothing else, applies the style and needs no sideways
+    scrolling."""
+    args, file = PAGES[name]
+    path = tmp_path / "page.html"
+    path.write_text(page(*args, file=file), newline="")
+    for width in (360, 1000):
+        browser.open(path, width)
+        assert browser.elements() == Reader(path.read_text()).elements
+        assert browser.messages() == [] and browser.requests() == [path.as_uri()]
+        assert browser.value("document.documentElement.scrollWidth") <= width
+        assert browser.value("getComputedStyle(document.querySelector('main')).maxWidth") == "1024px"
+        assert browser.value("document.compatMode + document.characterSet") == "CSS1CompatUTF-8"
