@@ -12,7 +12,7 @@ import tempfile
 from itertools import count
 
 import pytest
-from support import CRATES, Result, run, warning_line
+from support import CRATES, ROOT, Result, run, warning_line
 
 CALLS = [line.removesuffix(": right") for line in (CRATES / "robots_fault_injection/stdout").read_text().splitlines()]
 WITHOUT_MEMORY = [name for name in CALLS if name.endswith(" without memory")]
@@ -27,6 +27,7 @@ VERDICT = Result(0, (CRATES / "robots_verdict/stdout").read_bytes(), "")
 AUDIT_WARNINGS = "".join(map(warning_line, ["nul-ends-line", "5 several-values", "6 rule-not-utf-8", "11 noindex-line", "2 rule-before-user-agent"]))
 AUDIT = Result(1, (CRATES / "robots_audit/stdout").read_bytes(), AUDIT_WARNINGS)
 URLS = ["https://example.com/b", "/a%20b/c"]
+OLDER = ROOT / "examples/robots.txt"
 
 
 class Failing:
@@ -108,6 +109,7 @@ AUDIT_RUNS = {
     "URLs in a file": ["--urls", CRATES / "robots_audit/args", "--denied", "Ferris", *URLS],
     "a page": ["--html", "Ferris", *URLS],
     "a page about each agent": ["--html", "--agents", *URLS],
+    "a comparison": ["--compare", OLDER, "--agents", *URLS],
     "wrong arguments": ["--none", "Ferris"],
     "a name after the first 512,000 bytes": ["--file", BEYOND, "Ferris"],
     "more than twenty warnings with one name": ["--file", JUNK, "Ferris"],
@@ -148,7 +150,7 @@ def test_robots_audit_reports_a_failed_read(failing_heap, long_file, is_named):
     break_each(program, "READ", lambda result, right, number: result == Result(2, "", f"robots_audit: {why}\n"))
 
 
-@pytest.mark.parametrize("options", [[], ["--json"], ["--html"]], ids=["text", "JSON", "page"])
+@pytest.mark.parametrize("options", [[], ["--json"], ["--html"], ["--compare", OLDER]], ids=["text", "JSON", "page", "a comparison"])
 def test_robots_audit_reports_a_failed_write(failing_heap, long_file, options):
     """It writes a beginning of its report and says that it can't write the rest, or the whole report and a beginning of what it says on
     standard error."""

@@ -20,7 +20,8 @@ use Rattle.robots_audit.specs.Audit.{AgentValue, IsAgentAudit, IsRuling, IsVerdi
 use Rattle.robots_audit.specs.Audit.{agents_requested, all_allowed, allows_all, group_of, rejects_some}
 use Rattle.robots_audit.specs.Internal.{agent_value, verdict_value}
 
-zip_push : {B V : Type 0} (R : B → V → Type 0) (items : List B) (found : List V) (item : B) (next : V)
+-- one more item, and the result for it
+pub zip_push : {B V : Type 0} (R : B → V → Type 0) (items : List B) (found : List V) (item : B) (next : V)
     → AllZip R items found → R item next → AllZip R (items ++ item ∷ []) (found ++ next ∷ [])
 zip_push R [] [] item next are is = (is, tt)
 zip_push R [] (_ ∷ _) item next are is = absurd are

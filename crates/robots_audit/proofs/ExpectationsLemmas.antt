@@ -100,7 +100,8 @@ failures_next name file old new items place d how finding below are read by adde
           ∙ sym (failures_more name are.checked next);
     }
 
-lines_empty : (lines : List (List ℕ)) → (length (ended lines) == 0) ≡ (length lines == 0)
+-- no lines make an empty text, and others don't
+pub lines_empty : (lines : List (List ℕ)) → (length (ended lines) == 0) ≡ (length lines == 0)
 lines_empty [] = refl
 lines_empty ([] ∷ lines) = grind (arith, nat_tests)
 lines_empty ((b ∷ line) ∷ lines) = grind (arith, nat_tests)

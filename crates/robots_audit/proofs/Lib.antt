@@ -2,6 +2,8 @@ pub mod AgentLemmas
 pub mod AnswerLemmas
 pub mod AuditLemmas
 pub mod ByLineLemmas
+pub mod CompareLemmas
+pub mod ComparePrintableLemmas
 pub mod DelayLemmas
 pub mod DeniedLemmas
 pub mod ExpectLemmas
@@ -15,6 +17,7 @@ pub mod OutputLemmas
 pub mod PageLemmas
 pub mod PrintableLemmas
 pub mod RowLemmas
+pub mod RuleSetLemmas
 pub mod SpaceLemmas
 pub mod UrlListLemmas
 pub mod WarningLemmas

@@ -33,12 +33,12 @@ use Rattle.robots_io.proofs.SanitizeLemmas.{ended_printable, nil_printable, sani
 
 -- ---- lists and cases
 
-each_map : {X : Type 0} (f : X → List ℕ) → ((x : X) → IsPrintable (f x)) → (xs : List X)
+pub each_map : {X : Type 0} (f : X → List ℕ) → ((x : X) → IsPrintable (f x)) → (xs : List X)
     → Each IsPrintable (map f xs)
 each_map f are [] = tt
 each_map f are (x ∷ xs) = (are x, each_map f are xs)
 
-each_flat : {X : Type 0} (f : X → List (List ℕ)) → ((x : X) → Each IsPrintable (f x)) → (xs : List X)
+pub each_flat : {X : Type 0} (f : X → List (List ℕ)) → ((x : X) → Each IsPrintable (f x)) → (xs : List X)
     → Each IsPrintable (flat_map f xs)
 each_flat f are [] = tt
 each_flat f are (x ∷ xs) = each_append IsPrintable (f x) (flat_map f xs) (are x) (each_flat f are xs)
@@ -189,7 +189,7 @@ front_printable false (Some line) = search (
 verdict_printable : (verdict : VerdictValue) → IsPrintable (verdict_line verdict)
 verdict_printable verdict = search (append_printable true, front_printable, sanitized_printable)
 
-rejected_printable : (agent : List ℕ) (rejected : Option ℕ) → Each IsPrintable (rejected_lines agent rejected)
+pub rejected_printable : (agent : List ℕ) (rejected : Option ℕ) → Each IsPrintable (rejected_lines agent rejected)
 rejected_printable agent None = tt
 rejected_printable agent (Some line) =
     (search (append_printable true, ascii_printable true, decimal_printable true, sanitized_printable), tt)

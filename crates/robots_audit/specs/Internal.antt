@@ -1,6 +1,7 @@
 -- The program's own types, by value.
 pub mod Agents
 pub mod ByLine
+pub mod Compare
 pub mod Expect
 pub mod Expectations
 pub mod Listed

@@ -12,4 +12,5 @@ pub mod Answer
 pub mod Expect
 pub mod Expectations
 pub mod UrlList
+pub mod Compare
 pub mod Internal

@@ -102,7 +102,7 @@ fn verdicts_on<'a>(
 }
 
 /// What the file means for one crawler. `has_agents` is true if the file has a user-agent line.
-fn agent_audit<'a>(
+pub(crate) fn agent_audit<'a>(
     alloc: Global,
     agent: &str,
     file: &[u8],

@@ -179,6 +179,20 @@ fn with_expect<'a>(alloc: Global, called: Command<'a>) -> Result<Command<'a>, Al
     called.arg(expect)
 }
 
+/// Adds the option `--compare`, which excludes those about warnings and the form of the report.
+fn with_compare<'a>(alloc: Global, called: Command<'a>) -> Result<Command<'a>, AllocError> {
+    let others = [
+        "expect", "crawler", "urls", "denied", "quiet", "format", "json", "html", "strict", "only",
+        "ignore",
+    ];
+    let compare = Arg::new(alloc, "compare")
+        .long("compare")
+        .value_name("OLD")
+        .help("Report instead what differs from this older version of the file")
+        .conflicts_with_all(&others)?;
+    called.arg(compare)
+}
+
 /// The program's options and arguments.
 pub fn command<'a>(alloc: Global) -> Result<Command<'a>, AllocError> {
     let called = Command::new(alloc, "robots_audit")
@@ -187,7 +201,8 @@ pub fn command<'a>(alloc: Global) -> Result<Command<'a>, AllocError> {
         .override_usage("robots_audit [OPTIONS] AGENT [URL]..");
     let called = with_list(alloc, with_words(alloc, called)?)?;
     let called = with_switches(alloc, with_crawlers(alloc, called)?)?;
-    with_expect(alloc, with_names(alloc, called)?)
+    let called = with_expect(alloc, with_names(alloc, called)?)?;
+    with_compare(alloc, called)
 }
 
 /// The name of the file that is read; `None` for standard input, which `-` means too.

@@ -1,8 +1,8 @@
 //! Theorems about the specification, each written as the contract of an empty function.
-ghost use Rattle.std.specs.Prelude.{◌≡◌, ◌↔◌, ◌∷◌, ◌+◌, ℕ, Any, Bool, Contains, IsTrue, List, Some, false, if◌then◌else◌, slice_get, true};
+ghost use Rattle.std.specs.Prelude.{◌≡◌, ◌↔◌, ◌∷◌, ◌+◌, ◌||◌, ℕ, Any, Bool, Contains, IsTrue, List, [], Some, false, if◌then◌else◌, slice_get, true};
 ghost use Rattle.std.specs.Str.{IsUtf8, byte, is_utf8};
-ghost use Rattle.texting_robots.specs.Callers.{Allow, AreLabelsOf, AreRulesFor, Disallow, HoldsRule, IsDecidingLine, Label, LineValue};
-ghost use Rattle.texting_robots.specs.Callers.{Matches, PlacedRule, Rule, UserAgent, escaped, file_lines, is_named, prepared};
+ghost use Rattle.texting_robots.specs.Callers.{Allow, AreLabelsOf, AreRulesFor, Disallow, HoldsRule, IsDecidingLine, IsVerdict, Label, LineValue};
+ghost use Rattle.texting_robots.specs.Callers.{Matches, PlacedRule, Rule, UserAgent, escaped, file_lines, is_named, prepared, rules_for};
 ghost use Rattle.robots_warnings.specs.Conflicts.{IsConflict, is_conflict};
 ghost use Rattle.robots_warnings.specs.NamesPastLimit.{names_past_limit};
 ghost use Rattle.robots_warnings.specs.Positions.{is_above_agents};
@@ -14,6 +14,8 @@ ghost use Rattle.robots_html.specs.Html.{document};
 ghost use Rattle.robots_html.specs.Reader.{read_document};
 ghost use Rattle.robots_audit.specs.Audit.{RequestValue, AuditValue, IsAuditOf};
 ghost use Rattle.robots_audit.specs.Page.{page};
+ghost use Rattle.robots_audit.specs.Compare.{ComparedValue, IsCompared, has_same_rules, is_unchanged, report_lines, rules_only_in};
+ghost use Rattle.robots_io.specs.Lines.{ended};
 ghost use Rattle.robots_io.specs.Sanitize.{IsPrintable};
 
 /// A request and a file have at most one audit, and so at most one report.
@@ -40,6 +42,11 @@ pub fn no_terminal_is_steered()
 pub fn pages_are_read_back()
     ensures { (requested : RequestValue) (audit : AuditValue)
         → read_document (document (page requested audit)) ≡ Some (page requested audit) }
+{}
+
+/// Nor does the report of `--compare` contain such characters.
+pub fn no_comparison_steers_a_terminal()
+    ensures { (compared : List ComparedValue) → IsPrintable (ended (report_lines compared)) }
 {}
 
 /// `allowed-and-disallowed` is given for a line exactly if it has a Disallow that applies to one of the crawlers reported
@@ -85,6 +92,18 @@ pub fn dollar_not_at_end()
 /// that starts with a slash, as all paths do.
 pub fn missing_slash()
     ensures { (value text : List ℕ) → begins_oddly value ≡ true → ¬ Matches (escaped value) (byte "/" ∷ text) }
+{}
+
+/// If a crawler has the same rules in two files, in whatever lines, both files give each text the same verdict. So they do
+/// if `--compare` reports that nothing differs for a crawler, or that its rules are the same.
+pub fn same_rules_decide_alike()
+    ensures rules { (agent : List ℕ) (older newer : List LineValue) (text : List ℕ) (allowed : Bool)
+        → rules_only_in older newer agent ≡ [] → rules_only_in newer older agent ≡ []
+        → IsVerdict (rules_for agent older) text allowed ↔ IsVerdict (rules_for agent newer) text allowed }
+    ensures reported { (urls : List (List ℕ)) (older newer : List LineValue) (agent : List ℕ) (compared : ComparedValue)
+        (text : List ℕ) (allowed : Bool) → IsCompared urls older newer agent compared
+        → (is_unchanged compared || has_same_rules compared) ≡ true
+        → IsVerdict (rules_for agent older) text allowed ↔ IsVerdict (rules_for agent newer) text allowed }
 {}
 
 /// A URL with `invalid-url` is matched as the escaped string.

@@ -6,6 +6,8 @@
 //!
 //! `robots_audit [OPTIONS] AGENT [URL]..`
 //!
+//! With `--compare` it writes instead what differs from an older version of the file.
+//!
 //! With `--expect` it checks instead whether crawlers may fetch what a file of expectations says, and writes a line for
 //! each that fails.
 //!
@@ -21,8 +23,11 @@ mod agents;
 mod audit;
 mod chosen;
 mod command;
+mod compare;
+mod compared;
 mod delay;
 mod denied;
+mod differences;
 mod expect;
 mod expectations;
 mod fault;
@@ -34,11 +39,13 @@ mod page;
 mod program;
 mod report;
 mod rows;
+mod rule_sets;
 mod url_list;
 
 use clap::ArgMatches;
 use clap::error::ErrorKind as WordsKind;
 use command::{Request, command, file_read, requested};
+use compare::compare;
 use expectations::check;
 use fault::{Fault, Outcome, StderrMessage, status_after};
 use program::{help, rejected, run, unread};
@@ -174,12 +181,54 @@ fn checked(rt: &HostRuntime, matches: &ArgMatches<'_>, expected: &str) -> Result
     }
 }
 
+/// Compares an older file with the file with this name.
+fn compare_named(
+    rt: &HostRuntime,
+    request: &Request<'_>,
+    older: &[u8],
+    name: &str,
+) -> Result<Outcome, Fault>
+    ensures { IsPrintable (message_after result) }
+{
+    let Ok(mut file) = File::open(rt, name) else {
+        return Err(unread(rt.alloc(), name));
+    };
+    let (agent, urls) = (request.agent, &request.urls);
+    let outcome = compare(rt.alloc(), agent, urls, older, &mut file, &mut rt.stdout());
+    if let Err(Fault::Read) = &outcome {
+        return Err(unread(rt.alloc(), name));
+    }
+    outcome
+}
+
+/// Compares the file `older` with the file that the parsed arguments name, or standard input.
+fn compared_with(rt: &HostRuntime, matches: &ArgMatches<'_>, older: &str) -> Result<Outcome, Fault>
+    ensures { IsPrintable (message_after result) }
+{
+    let request = requested(rt.alloc(), matches)?;
+    let text = read_named(rt, older)?;
+    match request.file {
+        Some(name) => compare_named(rt, &request, &text, name),
+        None => compare(
+            rt.alloc(),
+            request.agent,
+            &request.urls,
+            &text,
+            &mut rt.stdin(),
+            &mut rt.stdout(),
+        ),
+    }
+}
+
 /// Does what the parsed arguments request.
 fn done(rt: &HostRuntime, matches: &ArgMatches<'_>) -> Result<Outcome, Fault>
     ensures { IsPrintable (message_after result) }
 {
-    match matches.get_str("expect") {
-        Some(expected) => checked(rt, matches, expected),
+    if let Some(expected) = matches.get_str("expect") {
+        return checked(rt, matches, expected);
+    }
+    match matches.get_str("compare") {
+        Some(older) => compared_with(rt, matches, older),
         None => audited(rt, matches),
     }
 }

@@ -112,7 +112,11 @@ pub(crate) fn push_rejected_front(
 }
 
 /// Appends the line that the file is rejected for the crawler, if it is.
-fn push_rejected(text: &mut String, agent: &str, rejected: Option<usize>) -> Result<(), AllocError>
+pub(crate) fn push_rejected(
+    text: &mut String,
+    agent: &str,
+    rejected: Option<usize>,
+) -> Result<(), AllocError>
     ensures { OnOk result (string_bytes text.new ≡ string_bytes text.old
         ++ ended (rejected_lines agent.now rejected)) }
 {

@@ -1,0 +1,149 @@
+"""`robots_audit --compare`: what differs between two versions of a file, for each crawler and URL."""
+
+import pytest
+from support import run
+
+OLD = b"""User-agent: *
+Disallow: /search
+Allow: /search/tea
+Crawl-delay: 2
+
+User-agent: GPTBot
+Disallow: /
+"""
+
+NEW = b"""User-agent: *
+Disallow: /search
+Disallow: /products
+
+User-agent: Googlebot
+Disallow: /cart
+Crawl-delay: 0.5
+
+User-agent: GPTBot
+Disallow: /
+"""
+
+GOOGLEBOT = """Googlebot: group * -> Googlebot
+Googlebot: delay 2 s -> 0.5 s
+Googlebot: - Disallow: /search (line 2)
+Googlebot: - Allow: /search/tea (line 3)
+Googlebot: + Disallow: /cart (line 6)
+"""
+
+STAR = """*: delay 2 s -> none
+*: - Allow: /search/tea (line 3)
+*: + Disallow: /products (line 3)
+"""
+
+NOTHING = "no differences, so no URL's verdict differs\n"
+OTHERS = "other crawlers: no differences, so no URL's verdict differs\n"
+SAME = "Ferris: same rules, so no URL's verdict differs\n"
+TOO_LONG = b"User-agent: *\nDisallow: /" + b"x" * 4096 + b"$\n"
+REASON = "a pattern with $ longer than 4,096 bytes isn't supported; shorten it\n"
+
+# two versions of a file, and the lines about Ferris and the URL /a
+DIFFERENCES = {
+    "another kind": (b"Disallow: /a", b"Allow: /a", "Ferris: - Disallow: /a (line 1)\nFerris: + Allow: /a (line 1)\nFerris /a: deny 1 -> allow 1\n"),
+    "a rule in another line": (b"Disallow: /a", b"# tea\nDisallow: /a", "Ferris /a: deny 1 -> deny 2\n" + SAME),
+    "rules in another order": (b"Disallow: /a\nDisallow: /b", b"Disallow: /b\nDisallow: /a", "Ferris /a: deny 1 -> deny 2\n" + SAME),
+    "a second one": (b"Disallow: /a", b"Disallow: /a\nDisallow: /a", ""),
+    "two added": (b"", b"Disallow: /b\nDisallow: /b", "Ferris: + Disallow: /b (line 1)\nFerris: + Disallow: /b (line 2)\n"),
+    "the same after escaping": (b"Disallow: /\xc3\xa4", b"disallow /%C3%A4", ""),
+    "escaped": (b"", b"Disallow: /\xc3\xa4", "Ferris: + Disallow: /%C3%A4 (line 1)\n"),
+    "an empty Disallow": (b"", b"Disallow:", "Ferris: + Allow: / (line 1)\nFerris /a: allow -> allow 1\n"),
+    "a rule that isn't UTF-8": (b"", b"Disallow: /\xe4", ""),
+    "a comment, a sitemap and a stray line": (b"Disallow: /b", b"Disallow: /b # tea\nSitemap: https://e.com/s\ntea", ""),
+    "a group of everyone": (b"", b"User-agent: *\nDisallow: /b", "Ferris: group everyone -> *\nFerris: + Disallow: /b (line 2)\n"),
+    "no group": (b"User-agent: Ferris", b"User-agent: Other", "Ferris: group Ferris -> none\n" + SAME),
+    "a delay": (b"", b"Crawl-delay: 10", "Ferris: delay none -> 10 s\n" + SAME),
+    "past the size limit": (b"", b"#" * 512_000 + b"\nDisallow: /a", ""),
+}
+
+
+def compare(folder, old, new, *words):
+    """The result for two files."""
+    (folder / "old.txt").write_bytes(old)
+    return run("robots_audit", ["--compare", "old.txt", *words], new, cwd=folder)
+
+
+def outcome(result):
+    return result.status, result.out, result.err
+
+
+def test_one_crawler(tmp_path):
+    urls = ["/search/tea", "/", "https://shop.example/search/milk", "/cart"]
+    lines = """Googlebot /search/tea: allow 3 -> allow
+Googlebot https://shop.example/search/milk: deny 2 -> allow
+Googlebot /cart: allow -> deny 6
+"""
+    assert outcome(compare(tmp_path, OLD, NEW, "Googlebot", *urls)) == (1, GOOGLEBOT + lines, "")
+
+
+def test_all_crawlers(tmp_path):
+    assert outcome(compare(tmp_path, OLD, NEW, "--agents")) == (1, STAR + GOOGLEBOT + OTHERS, "")
+
+
+def test_all_crawlers_and_a_url(tmp_path):
+    gptbot = "GPTBot /search/tea: deny 7 -> deny 10\nGPTBot: same rules, so no URL's verdict differs\n"
+    lines = STAR + "* /search/tea: allow 3 -> deny 2\n" + gptbot + GOOGLEBOT + "Googlebot /search/tea: allow 3 -> allow\n"
+    assert outcome(compare(tmp_path, OLD, NEW, "-a", "/search/tea")) == (1, lines, "")
+
+
+@pytest.mark.parametrize("old, new, lines", DIFFERENCES.values(), ids=DIFFERENCES)
+def test_difference(tmp_path, old, new, lines):
+    assert outcome(compare(tmp_path, old, new, "Ferris", "/a")) == ((1, lines, "") if lines else (0, NOTHING, ""))
+
+
+@pytest.mark.parametrize("words", [["Ferris"], ["GPTBot", "/a", "/b"], ["--agents", "/search/tea"]], ids=" ".join)
+def test_no_difference(tmp_path, words):
+    assert outcome(compare(tmp_path, OLD, OLD, *words)) == (0, NOTHING, "")
+
+
+def test_rejected_files(tmp_path):
+    old = f"the old file is rejected for Ferris: line 2: {REASON}"
+    new = f"the new file is rejected for Ferris: line 2: {REASON}"
+    assert outcome(compare(tmp_path, TOO_LONG, OLD, "Ferris", "/a")) == (2, old, "")
+    assert outcome(compare(tmp_path, OLD, TOO_LONG, "Ferris", "/a")) == (2, new, "")
+    assert outcome(compare(tmp_path, TOO_LONG, TOO_LONG, "Ferris", "/a")) == (2, old + new, "")
+
+
+def test_other_crawlers_than_one_for_which_a_file_is_rejected(tmp_path):
+    line = f"the new file is rejected for *: line 2: {REASON}"
+    new = TOO_LONG + b"User-agent: GPTBot\nDisallow: /"
+    assert outcome(compare(tmp_path, OLD, new, "--agents")) == (2, line + OTHERS, "")
+
+
+def test_untrusted_text(tmp_path):
+    lines = "a%1Bb: + Disallow: /%07 (line 1)\na%1Bb /%07: allow -> deny 1\n"
+    assert outcome(compare(tmp_path, b"", b"Disallow: /\x07", "a\x1bb", "/\x07")) == (1, lines, "")
+
+
+def test_files_by_name(tmp_path):
+    (tmp_path / "robots.txt").write_bytes(OLD)
+    assert outcome(compare(tmp_path, OLD, NEW, "-f", "robots.txt", "Ferris")) == (0, NOTHING, "")
+    assert outcome(compare(tmp_path, OLD, NEW, "-f", "missing", "Ferris")) == (2, "", "robots_audit: cannot read missing\n")
+    missing = run("robots_audit", ["--compare", "missing.txt", "Ferris"], NEW, cwd=tmp_path)
+    assert outcome(missing) == (2, "", "robots_audit: cannot read missing.txt\n")
+
+
+def test_agent_is_missing(tmp_path):
+    message = "robots_audit: missing AGENT (or use --agents); usage: robots_audit [OPTIONS] AGENT [URL]..\n"
+    assert outcome(compare(tmp_path, OLD, NEW)) == (2, "", message)
+
+
+@pytest.mark.parametrize("more", ["--expect=old.txt", "-q", "--json", "--strict", "--only=missing-slash", "--ignore=missing-slash"])
+def test_other_options_conflict(tmp_path, more):
+    result = compare(tmp_path, OLD, NEW, more, "Ferris")
+    assert (result.status, result.out) == (2, "") and "cannot be used with" in result.err
+
+
+def test_many_rules(tmp_path):
+    def rules(front):
+        return b"".join(b"Disallow: /%b%05d\n" % (front, n) for n in range(30_000))
+
+    old, new = rules(b"a"), rules(b"b")
+    assert outcome(compare(tmp_path, old, old, "Ferris")) == (0, NOTHING, "")
+    result = compare(tmp_path, old, new, "Ferris")
+    assert (result.status, result.out.count("\n")) == (1, 60_000)
+    assert result.out.splitlines()[29_999] == "Ferris: - Disallow: /a29999 (line 30000)"
