@@ -199,14 +199,14 @@ reports_next urls older newer agents agent old new compared report upto is on ad
       };
     }
 
-pub comparison_made : (agent : Option (List ℕ)) (urls : List (List ℕ)) (older newer : List ℕ)
+pub comparison_made : (given : List (List ℕ)) (urls : List (List ℕ)) (older newer : List ℕ)
     (agents : List (List ℕ)) (old new : Comparison) → IsReportUpto urls older newer agents old
-    → agents ≡ agents_requested agent (lines_read older ++ lines_read newer)
+    → agents ≡ agents_requested given (lines_read older ++ lines_read newer)
     → string_bytes new.report
     ≡ string_bytes old.report ++ ended (unchanged_lines old.all_unchanged old.some_unchanged)
     → new.is_rejected ≡ old.is_rejected → new.some_unchanged ≡ old.some_unchanged
-    → new.all_unchanged ≡ old.all_unchanged → IsComparisonOf agent urls older newer new
-comparison_made agent urls older newer agents old new upto names added rejected some every =
+    → new.all_unchanged ≡ old.all_unchanged → IsComparisonOf given urls older newer new
+comparison_made given urls older newer agents old new upto names added rejected some every =
     let has = upto.has in
     record {
       compared = upto.compared;
@@ -226,12 +226,12 @@ comparison_made agent urls older newer agents old new upto names added rejected 
     }
 
 -- the same of files that have the same bytes
-pub comparison_of_same : (agent : Option (List ℕ)) (urls : List (List ℕ)) (one other older newer : List ℕ)
-    (found : Comparison) → one ≡ older → other ≡ newer → IsComparisonOf agent urls one other found
-    → IsComparisonOf agent urls older newer found
-comparison_of_same agent urls one other older newer found first second is =
-    subst (λ file. IsComparisonOf agent urls file newer found) first
-    (subst (λ file. IsComparisonOf agent urls one file found) second is)
+pub comparison_of_same : (given : List (List ℕ)) (urls : List (List ℕ)) (one other older newer : List ℕ)
+    (found : Comparison) → one ≡ older → other ≡ newer → IsComparisonOf given urls one other found
+    → IsComparisonOf given urls older newer found
+comparison_of_same given urls one other older newer found first second is =
+    subst (λ file. IsComparisonOf given urls file newer found) first
+    (subst (λ file. IsComparisonOf given urls one file found) second is)
 
 -- two lists appended to an empty one
 pub joined : {X : Type 0} (none one two first second all older newer : List X) → none ≡ []
@@ -252,23 +252,23 @@ lines_of_both one other all older newer is first second =
     ∙ ap (λ lines. older ++ lines) second
 
 -- the crawlers that are requested for the labels of both files are those for the lines of both
-pub agents_made : {E : Type 0} (agent : Option (List ℕ)) (one other all : List LabeledLine)
+pub agents_made : {E : Type 0} (given : List (List ℕ)) (one other all : List LabeledLine)
     (older newer : List LineValue) (result : Result (Vec (String Global)) E)
     → IfOk result (λ names. map string_bytes names.items
-    ≡ agents_requested agent (lines_of (map label_by_value all)))
+    ≡ agents_requested given (lines_of (map label_by_value all)))
     → lines_of (map label_by_value one) ≡ older → lines_of (map label_by_value other) ≡ newer
     → all ≡ one ++ other
-    → IfOk result (λ names. map string_bytes names.items ≡ agents_requested agent (older ++ newer))
-agents_made agent one other all older newer (Err error) are first second is = tt
-agents_made agent one other all older newer (Ok names) are first second is =
-    are ∙ ap (agents_requested agent) (lines_of_both one other all older newer is first second)
+    → IfOk result (λ names. map string_bytes names.items ≡ agents_requested given (older ++ newer))
+agents_made given one other all older newer (Err error) are first second is = tt
+agents_made given one other all older newer (Ok names) are first second is =
+    are ∙ ap (agents_requested given) (lines_of_both one other all older newer is first second)
 
 -- ---- a run
 
-pub report_made : (agent : Option (List ℕ)) (urls : List (List ℕ)) (older newer : List ℕ) (found : Comparison)
-    → IsComparisonOf agent urls older newer found
-    → IsComparison agent urls older newer (string_bytes found.report) found.is_rejected found.all_unchanged
-report_made agent urls older newer found is = record {
+pub report_made : (given : List (List ℕ)) (urls : List (List ℕ)) (older newer : List ℕ) (found : Comparison)
+    → IsComparisonOf given urls older newer found
+    → IsComparison given urls older newer (string_bytes found.report) found.is_rejected found.all_unchanged
+report_made given urls older newer found is = record {
   compared = is.compared;
   all = is.all;
   whole = is.has.text;
@@ -277,12 +277,12 @@ report_made agent urls older newer found is = record {
 }
 
 -- a run that failed before it wrote anything
-pub stopped : (agent : Option (List ℕ)) (urls : List (List ℕ)) (older : List ℕ) (ends : Ends)
+pub stopped : (given : List (List ℕ)) (urls : List (List ℕ)) (older : List ℕ) (ends : Ends)
     (result : Result Outcome Fault) (newer : List ℕ) (fault : Fault) → IsErrOf result fault
     → IfSome ends.left (λ left. newer ≡ left) → MayFail fault × (fault ≢ Write) → Keeps ends.old ends.new
-    → Compares agent urls older ends result
-stopped agent urls older ends (Ok outcome) newer fault is read may kept = absurd (cc)
-stopped agent urls older ends (Err found) newer fault is read may kept =
+    → Compares given urls older ends result
+stopped given urls older ends (Ok outcome) newer fault is read may kept = absurd (cc)
+stopped given urls older ends (Err found) newer fault is read may kept =
     let same : fault ≡ found = cc in
     record {
       newer = newer;
@@ -294,20 +294,20 @@ stopped agent urls older ends (Err found) newer fault is read may kept =
     }
 
 -- such a run that didn't read the newer file
-pub unread : (agent : Option (List ℕ)) (urls : List (List ℕ)) (older : List ℕ) (ends : Ends)
+pub unread : (given : List (List ℕ)) (urls : List (List ℕ)) (older : List ℕ) (ends : Ends)
     (result : Result Outcome Fault) (why : ReadFault) → IsErrOf result (fault_of_read why)
-    → Keeps ends.old ends.new → Compares agent urls older ends result
-unread agent urls older ends result why is kept =
-    stopped agent urls older ends result (bytes_left ends.left) (fault_of_read why) is
+    → Keeps ends.old ends.new → Compares given urls older ends result
+unread given urls older ends result why is kept =
+    stopped given urls older ends result (bytes_left ends.left) (fault_of_read why) is
     (bytes_are_left ends.left) (read_may_fail why) kept
 
 -- a run whose write failed after a prefix of the report
-pub write_failed : (agent : Option (List ℕ)) (urls : List (List ℕ)) (older : List ℕ) (ends : Ends)
+pub write_failed : (given : List (List ℕ)) (urls : List (List ℕ)) (older : List ℕ) (ends : Ends)
     (result : Result Outcome Fault) (newer : List ℕ) → IsErrOf result Write
-    → IfSome ends.left (λ left. newer ≡ left) → WritesBeginning agent urls older ends newer
-    → Compares agent urls older ends result
-write_failed agent urls older ends (Ok outcome) newer is read begun = absurd (cc)
-write_failed agent urls older ends (Err fault) newer is read begun =
+    → IfSome ends.left (λ left. newer ≡ left) → WritesBeginning given urls older ends newer
+    → Compares given urls older ends result
+write_failed given urls older ends (Ok outcome) newer is read begun = absurd (cc)
+write_failed given urls older ends (Err fault) newer is read begun =
     let same : Write ≡ fault = cc in
     record {
       newer = newer;
@@ -318,9 +318,9 @@ write_failed agent urls older ends (Err fault) newer is read begun =
       nothing_written = λ other. absurd (other (sym same));
     }
 
-pub compared_printable : (agent : Option (List ℕ)) (urls : List (List ℕ)) (older : List ℕ) (ends : Ends)
-    (result : Result Outcome Fault) → Compares agent urls older ends result
+pub compared_printable : (given : List (List ℕ)) (urls : List (List ℕ)) (older : List ℕ) (ends : Ends)
+    (result : Result Outcome Fault) → Compares given urls older ends result
     → IsPrintable (message_after result)
-compared_printable agent urls older ends (Ok outcome) is =
+compared_printable given urls older ends (Ok outcome) is =
     let (report, made, written, quiet) = is.ok in subst IsPrintable (sym quiet.silent) (nil_printable true)
-compared_printable agent urls older ends (Err fault) is = may_fail_printable fault is.fault
+compared_printable given urls older ends (Err fault) is = may_fail_printable fault is.fault

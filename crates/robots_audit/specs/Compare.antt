@@ -210,13 +210,13 @@ report_lines compared =
     flat_map agent_lines compared
     ++ unchanged_lines (list_all is_unchanged compared) (list_any is_unchanged compared)
 
--- the report on the crawler, or with `None` on `*` and each crawler that one of the files names; whether a
--- file is rejected for one of them, and whether all of them are unchanged
-pub record IsComparison (agent : Option (List ℕ)) (urls : List (List ℕ)) (older newer report : List ℕ)
+-- the report on these crawlers, or if there are none on `*` and each that one of the files names; whether a file
+-- is rejected for one of them, and whether all of them are unchanged
+pub record IsComparison (agents : List (List ℕ)) (urls : List (List ℕ)) (older newer report : List ℕ)
     (rejected unchanged : Bool) : Type 0 where
   pub compared : List ComparedValue
   pub all : AllZip (IsCompared urls (lines_read older) (lines_read newer))
-      (agents_requested agent (lines_read older ++ lines_read newer)) compared
+      (agents_requested agents (lines_read older ++ lines_read newer)) compared
   pub whole : report ≡ ended (report_lines compared)
   pub rejects : rejected ≡ list_any is_rejected compared
   pub same : unchanged ≡ list_all is_unchanged compared
@@ -229,25 +229,25 @@ pub record IsSilent (outcome : Outcome) : Type 0 where
   pub silent : string_bytes outcome.warnings ≡ []
 
 -- the report on both files is written, and the outcome is that of the report
-abbrev pub WritesReport : Option (List ℕ) → List (List ℕ) → List ℕ → Ends → List ℕ → Outcome → Type 0
-WritesReport agent urls older ends newer outcome =
-    (report : List ℕ) × IsComparison agent urls older newer report outcome.is_rejected outcome.all_allowed
+abbrev pub WritesReport : List (List ℕ) → List (List ℕ) → List ℕ → Ends → List ℕ → Outcome → Type 0
+WritesReport agents urls older ends newer outcome =
+    (report : List ℕ) × IsComparison agents urls older newer report outcome.is_rejected outcome.all_allowed
     × Appends ends.old ends.new report × IsSilent outcome
 
 -- a prefix of the report on both files is written
-abbrev pub WritesBeginning : Option (List ℕ) → List (List ℕ) → List ℕ → Ends → List ℕ → Type 0
-WritesBeginning agent urls older ends newer =
+abbrev pub WritesBeginning : List (List ℕ) → List (List ℕ) → List ℕ → Ends → List ℕ → Type 0
+WritesBeginning agents urls older ends newer =
     (report : List ℕ) × (rejected : Bool) × (unchanged : Bool)
-    × IsComparison agent urls older newer report rejected unchanged
+    × IsComparison agents urls older newer report rejected unchanged
     × AppendsBeginning ends.old ends.new report
 
 -- the older file is compared with a newer one, which is what the reader has left if that can be observed;
 -- after an error other than a failed write nothing has been written
-pub record Compares (agent : Option (List ℕ)) (urls : List (List ℕ)) (older : List ℕ) (ends : Ends)
+pub record Compares (agents : List (List ℕ)) (urls : List (List ℕ)) (older : List ℕ) (ends : Ends)
     (result : Result Outcome Fault) : Type 0 where
   pub newer : List ℕ
   pub read : IfSome ends.left (λ left. newer ≡ left)
-  pub ok : IfOk result (WritesReport agent urls older ends newer)
+  pub ok : IfOk result (WritesReport agents urls older ends newer)
   pub fault : IfErr result MayFail
-  pub beginning : IsErrOf result Write → WritesBeginning agent urls older ends newer
+  pub beginning : IsErrOf result Write → WritesBeginning agents urls older ends newer
   pub nothing_written : IfErr result (λ fault. fault ≢ Write → Keeps ends.old ends.new)

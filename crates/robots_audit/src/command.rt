@@ -182,8 +182,7 @@ fn with_expect<'a>(alloc: Global, called: Command<'a>) -> Result<Command<'a>, Al
 /// Adds the option `--compare`, which excludes those about warnings and the form of the report.
 fn with_compare<'a>(alloc: Global, called: Command<'a>) -> Result<Command<'a>, AllocError> {
     let others = [
-        "expect", "crawler", "urls", "denied", "quiet", "format", "json", "html", "strict", "only",
-        "ignore",
+        "expect", "urls", "denied", "quiet", "format", "json", "html", "strict", "only", "ignore",
     ];
     let compare = Arg::new(alloc, "compare")
         .long("compare")

@@ -1,5 +1,5 @@
 //! Two versions of a robots.txt file compared, and the report on what differs.
-ghost use Rattle.std.specs.Prelude.{◌≡◌, ◌++◌, IfErr, IfOk, OnOk, false, map, option_map, string_bytes, true};
+ghost use Rattle.std.specs.Prelude.{◌≡◌, ◌++◌, IfErr, IfOk, OnOk, false, map, string_bytes, true};
 ghost use Rattle.texting_robots.specs.Callers.{lines_read};
 ghost use Rattle.robots_io.specs.Lines.{ended};
 ghost use Rattle.robots_audit.specs.Audit.{agents_requested as specified_agents};
@@ -36,23 +36,23 @@ struct Comparison {
     all_unchanged: bool,
 }
 
-/// The given crawler, or with `None` `*` and each that one of the files names.
+/// The given crawlers, or if there are none `*` and each that one of the files names.
 fn agents_of<'a>(
     alloc: Global,
-    agent: Option<&str>,
+    agents: &[&str],
     older: &Version<'a>,
     newer: &Version<'a>,
 ) -> Result<Vec<String>, AllocError>
     requires older { IsVersion older.now }
     requires newer { IsVersion newer.now }
     ensures { IfOk result (λ names. map string_bytes names.items
-        ≡ specified_agents (option_map (λ agent. agent.now) agent.entry)
+        ≡ specified_agents (map (λ agent. agent.now) agents.now)
         (lines_read older.now.bytes.now ++ lines_read newer.now.bytes.now)) }
 {
     let mut labels = Vec::new(alloc);
     labels.extend_from_slice(&older.labels)?;
     labels.extend_from_slice(&newer.labels)?;
-    agents_requested(alloc, agent, &labels)
+    agents_requested(alloc, agents, &labels)
 }
 
 /// Whether one of the files is rejected for the crawler.
@@ -166,25 +166,25 @@ fn push_unchanged(text: &mut String, all: bool, some: bool) -> Result<(), AllocE
 /// The report on two files.
 fn compare_bytes<'a>(
     alloc: Global,
-    agent: Option<&str>,
+    agents: &[&str],
     urls: &[&str],
     older: &'a [u8],
     newer: &'a [u8],
 ) -> Result<Comparison, Fault>
-    ensures ok { IfOk result (IsComparisonOf (option_map (λ agent. agent.now) agent.entry)
+    ensures ok { IfOk result (IsComparisonOf (map (λ agent. agent.now) agents.now)
         (map (λ url. url.now) urls.now) older.now newer.now) }
     ensures fault { IfErr result (λ fault. fault ≡ Fault.Memory) }
 {
     let older = read_version(alloc, older)?;
     let newer = read_version(alloc, newer)?;
-    let names = agents_of(alloc, agent, &older, &newer)?;
+    let names = agents_of(alloc, agents, &older, &newer)?;
     let mut found = reports(alloc, &names, &older, &newer, urls)?;
     push_unchanged(&mut found.report, found.all_unchanged, found.some_unchanged)?;
     Ok(found)
 }
 
 /// Compares an older file with a newer one, which is read to its end, and then writes what differs for the given
-/// crawler, or with `None` for `*` and each crawler that one of the files names, and for each URL.
+/// crawlers, or if there are none for `*` and each crawler that one of the files names, and for each URL.
 ///
 /// The contract applies to a reader and a writer whose bytes the specification can observe; it claims nothing about the
 /// bytes of standard input and output.
@@ -194,20 +194,20 @@ fn compare_bytes<'a>(
 /// Those of [`crate::program::run`].
 pub fn compare<R: Read, W: Write>(
     alloc: Global,
-    agent: Option<&str>,
+    agents: &[&str],
     urls: &[&str],
     older: &[u8],
     reader: &mut R,
     writer: &mut W,
 ) -> Result<Outcome, Fault>
-    ensures { Compares (option_map (λ agent. agent.now) agent.entry) (map (λ url. url.now) urls.now) older.now (record {
+    ensures { Compares (map (λ agent. agent.now) agents.now) (map (λ url. url.now) urls.now) older.now (record {
       left = R.remaining reader.old;
       old = W.contents writer.old;
       new = W.contents writer.new;
     }) result }
 {
     let newer = read_all(alloc, reader)?;
-    let found = compare_bytes(alloc, agent, urls, older, &newer)?;
+    let found = compare_bytes(alloc, agents, urls, older, &newer)?;
     write_out(writer, found.report.as_bytes())?;
     Ok(Outcome {
         is_rejected: found.is_rejected,

@@ -193,8 +193,8 @@ fn compare_named(
     let Ok(mut file) = File::open(rt, name) else {
         return Err(unread(rt.alloc(), name));
     };
-    let (agent, urls) = (request.agent, &request.urls);
-    let outcome = compare(rt.alloc(), agent, urls, older, &mut file, &mut rt.stdout());
+    let (agents, urls) = (&request.agents, &request.urls);
+    let outcome = compare(rt.alloc(), agents, urls, older, &mut file, &mut rt.stdout());
     if let Err(Fault::Read) = &outcome {
         return Err(unread(rt.alloc(), name));
     }
@@ -211,7 +211,7 @@ fn compared_with(rt: &HostRuntime, matches: &ArgMatches<'_>, older: &str) -> Res
         Some(name) => compare_named(rt, &request, &text, name),
         None => compare(
             rt.alloc(),
-            request.agent,
+            &request.agents,
             &request.urls,
             &text,
             &mut rt.stdin(),

@@ -152,8 +152,13 @@ no_space (c ∷ text) plain =
 next_value : (c : ℕ) (text : List ℕ) → is_plain_byte c ≡ true → are_plain text ≡ true
     → begins_next_value (c ∷ text) ≡ false
 next_value c text plain rest =
-    rw (differs c 44 plain refl, differs c 60 plain refl, other 0xC2 c plain refl, other 0xE2 c plain refl,
-    other 0xEF c plain refl) refl
+    rw (
+      differs c 44 plain refl,
+      differs c 60 plain refl,
+      other 0xC2 c plain refl,
+      other 0xE2 c plain refl,
+      other 0xEF c plain refl,
+    ) refl
 
 several : (text : List ℕ) → are_plain text ≡ true → has_several_values text ≡ false
 several text plain = either_false _ _ (no_space text plain) (never begins_next_value next_value text plain)

@@ -82,9 +82,9 @@ pub record IsReportUpto (urls : List (List ℕ)) (older newer : List ℕ) (agent
   pub has : HasLines compared (flat_map agent_lines compared) found
 
 -- the whole report
-pub record IsComparisonOf (agent : Option (List ℕ)) (urls : List (List ℕ)) (older newer : List ℕ)
+pub record IsComparisonOf (agents : List (List ℕ)) (urls : List (List ℕ)) (older newer : List ℕ)
     (found : Comparison) : Type 0 where
   pub compared : List ComparedValue
   pub all : AllZip (IsCompared urls (lines_read older) (lines_read newer))
-      (agents_requested agent (lines_read older ++ lines_read newer)) compared
+      (agents_requested agents (lines_read older ++ lines_read newer)) compared
   pub has : HasLines compared (report_lines compared) found
