@@ -117,12 +117,13 @@ text_checks text comment =
     ∷ (cause.ControlInComment, has_odd_comment comment)
     ∷ []
 
--- the position of a line, determined by the number of the last rule or delay and by what precedes the line
-abbrev pub position_checks : Option ℕ → Preceding → Label → List Check
-position_checks last preceding label =
+-- the position of a line, determined by the number of the last rule or delay, by what precedes the line, and by
+-- the lines from this one on
+abbrev pub position_checks : Option ℕ → Preceding → Label → List LineValue → List Check
+position_checks last preceding label lines =
     (cause.RuleBeforeUserAgent, is_above_agents label)
     ∷ (cause.EmptyGroup, is_empty_group last label)
-    ∷ (cause.DelaySplitsGroup, is_split preceding label)
+    ∷ (cause.DelaySplitsGroup, is_split preceding label lines)
     ∷ []
 
 -- ---- a line

@@ -1,6 +1,6 @@
 -- Conditions on the position of a line.
-use Rattle.std.specs.Prelude.{ℕ, Bool, true, false, nat_lt, ◌&&◌, List, [], ◌∷◌, Option, None, Some}
-use Rattle.std.specs.Prelude.{if◌then◌else◌}
+use Rattle.std.specs.Prelude.{ℕ, Bool, true, false, nat_lt, not, ◌||◌, ◌&&◌, List, [], ◌∷◌, Option, None, Some}
+use Rattle.std.specs.Prelude.{bytes_eq, codes, if◌then◌else◌}
 use Rattle.std.specs.Option.{option_or}
 use Rattle.texting_robots.specs.Callers.{Allow, CrawlDelay, Disallow, LineValue, Label, Raw, Sitemap}
 use Rattle.texting_robots.specs.Callers.{UserAgent}
@@ -46,6 +46,18 @@ abbrev pub is_after : Option ℕ → ℕ → Bool
 is_after None number = true
 is_after (Some last) number = nat_lt last number
 
+-- these lines begin with user-agent lines, none of which names `*`, and a rule follows in their group, that is,
+-- before the next user-agent line; `begun`: a delay of the group is above these lines
+abbrev pub begin_with_rules : Bool → List LineValue → Bool
+begin_with_rules begun [] = false
+begin_with_rules begun (UserAgent value ∷ lines) =
+    not (begun || bytes_eq value (codes "*")) && begin_with_rules begun lines
+begin_with_rules begun (Allow value ∷ lines) = true
+begin_with_rules begun (Disallow value ∷ lines) = true
+begin_with_rules begun (CrawlDelay delay ∷ lines) = begin_with_rules true lines
+begin_with_rules begun (Sitemap value ∷ lines) = begin_with_rules begun lines
+begin_with_rules begun (Raw body ∷ lines) = begin_with_rules begun lines
+
 -- ---- conditions on a line
 
 -- the line belongs to no group
@@ -61,6 +73,9 @@ is_above_agents label = is_rule label.line && is_outside label.membership
 abbrev pub is_empty_group : Option ℕ → Label → Bool
 is_empty_group last label = is_agent label.line && is_after last label.number
 
--- the line is a user-agent line that delays separate from one above it
-abbrev pub is_split : Preceding → Label → Bool
-is_split preceding label = is_agent label.line && is_delay preceding
+-- the line is a user-agent line that only delays separate from one above it, and its group has rules, but isn't
+-- the group of `*`; `lines` are those from this line on. For a crawler that ignores delays, the names above are in
+-- this group too, and get its rules
+abbrev pub is_split : Preceding → Label → List LineValue → Bool
+is_split preceding label lines =
+    (is_agent label.line && is_delay preceding) && begin_with_rules false lines

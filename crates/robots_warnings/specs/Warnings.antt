@@ -103,7 +103,7 @@ file_lines_warnings facts everywhere labels bodies =
 abbrev pub positions_from : Option ℕ → Preceding → List Label → List WarningValue
 positions_from last preceding [] = []
 positions_from last preceding (label ∷ labels) =
-    warned (Some label.number) None (position_checks last preceding label)
+    warned (Some label.number) None (position_checks last preceding label (lines_of (label ∷ labels)))
     ++ positions_from last (preceding_with preceding label.line) labels
 
 -- warnings about the positions of all lines

@@ -1,9 +1,9 @@
 //! The condition of each warning, grouped by what it inspects, in the order of output.
-ghost use Rattle.std.specs.Prelude.{◌≡◌, IfOk};
+ghost use Rattle.std.specs.Prelude.{◌≡◌, IfOk, map};
 ghost use Rattle.texting_robots.specs.Callers.{label_by_value};
 ghost use Rattle.robots_warnings.specs.FieldNames.{is_without_colon};
-ghost use Rattle.robots_warnings.specs.Checks.{agent_checks, cut_checks, delay_checks, delay_text_checks, field_checks, file_checks, ignored_checks};
-ghost use Rattle.robots_warnings.specs.Checks.{position_checks, rule_checks, sitemap_checks, space_checks, text_checks, url_checks, user_agent_checks};
+ghost use Rattle.robots_warnings.specs.Checks.{agent_checks, cut_checks, delay_checks, delay_text_checks, field_checks, file_checks, ignored_checks, position_checks, rule_checks, sitemap_checks, space_checks, text_checks, url_checks, user_agent_checks};
+ghost use Rattle.robots_warnings.specs.File.{lines_of};
 
 use crate::contents::{
     has_odd_comment, has_odd_delay, has_odd_space, is_cut_short, is_cut_to_root,
@@ -163,17 +163,23 @@ pub(crate) fn text_checks(text: &[u8], comment: &[u8]) -> [Check; 2]
     ]
 }
 
-/// Checks of the position of a line; `last` is the number of the last rule or delay.
+/// Checks of the position of a line; `last` is the number of the last rule or delay, and `from_here` are the lines from
+/// this one on.
 pub(crate) fn position_checks(
     last: Option<usize>,
     preceding: Preceding,
     labeled: &LabeledLine<'_>,
+    from_here: &[LabeledLine<'_>],
 ) -> [Check; 3]
-    ensures { result ≡ position_checks last preceding (label_by_value labeled.now) }
+    ensures { result ≡ position_checks last preceding (label_by_value labeled.now)
+        (lines_of (map label_by_value from_here.now)) }
 {
     [
         (Cause::RuleBeforeUserAgent, is_above_agents(labeled)),
         (Cause::EmptyGroup, is_empty_group(last, labeled)),
-        (Cause::DelaySplitsGroup, is_split(preceding, labeled)),
+        (
+            Cause::DelaySplitsGroup,
+            is_split(preceding, labeled, from_here),
+        ),
     ]
 }

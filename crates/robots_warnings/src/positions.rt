@@ -1,8 +1,9 @@
 //! Conditions on the position of a line.
-ghost use Rattle.std.specs.Prelude.{◌≡◌, map};
+ghost use Rattle.std.specs.Prelude.{◌≡◌, false, map};
 ghost use Rattle.texting_robots.specs.Callers.{by_value, label_by_value};
-ghost use Rattle.robots_warnings.specs.Positions.{group_number, is_above_agents, is_after, is_empty_group, is_split};
-ghost use Rattle.robots_warnings.specs.Positions.{last_group, preceding_with};
+ghost use Rattle.robots_warnings.specs.File.{lines_of};
+ghost use Rattle.robots_warnings.specs.Positions.{begin_with_rules, group_number, is_above_agents, is_after, is_empty_group};
+ghost use Rattle.robots_warnings.specs.Positions.{is_split, last_group, preceding_with};
 
 use texting_robots::labels::{LabeledLine, Membership};
 use texting_robots::parser::Line;
@@ -80,9 +81,33 @@ pub(crate) fn is_empty_group(last: Option<usize>, labeled: &LabeledLine<'_>) -> 
     matches!(labeled.line, Line::UserAgent(_)) && is_after(last, labeled.number)
 }
 
-/// Whether the line is a user-agent line that delays separate from one above it.
-pub(crate) fn is_split(preceding: Preceding, labeled: &LabeledLine<'_>) -> bool
-    ensures { result ≡ is_split preceding (label_by_value labeled.now) }
+/// Whether these lines begin with user-agent lines, none of which names `*`, and a rule follows in their group.
+#[tactic(auto, using(crate::proofs::PositionLemmas::rules_from))]
+fn begin_with_rules(labels: &[LabeledLine<'_>]) -> bool
+    ensures { result ≡ begin_with_rules false (lines_of (map label_by_value labels.now)) }
 {
-    matches!(labeled.line, Line::UserAgent(_)) && preceding == Preceding::Delay
+    let mut begun = false;
+    for labeled in labels {
+        match labeled.line {
+            Line::UserAgent(value) if begun || value == b"*".as_slice() => return false,
+            Line::Allow(_) | Line::Disallow(_) => return true,
+            Line::CrawlDelay(_) => begun = true,
+            Line::UserAgent(_) | Line::Sitemap(_) | Line::Raw(_) => {}
+        }
+    }
+    false
+}
+
+/// Whether the line is a user-agent line that only delays separate from one above it, and its group has rules, but isn't
+/// the group of `*`. `from_here` are the lines from this one on.
+pub(crate) fn is_split(
+    preceding: Preceding,
+    labeled: &LabeledLine<'_>,
+    from_here: &[LabeledLine<'_>],
+) -> bool
+    ensures { result ≡ is_split preceding (label_by_value labeled.now) (lines_of (map label_by_value from_here.now)) }
+{
+    matches!(labeled.line, Line::UserAgent(_))
+        && preceding == Preceding::Delay
+        && begin_with_rules(from_here)
 }

@@ -200,7 +200,7 @@ pub static WARNINGS: [(Cause, Level, &str, &str); 55] = [
     (Cause::EmptyGroup, Level::Warning, "empty-group",
         "no rule that is read follows this User-agent line, so its group is empty: if the name has no other group, it may fetch everything; add rules or delete the line"),
     (Cause::DelaySplitsGroup, Level::Warning, "delay-splits-group",
-        "the Crawl-delay above separates this line from the User-agent lines before it, so they don't share the rules below; move it below all of them (some crawlers ignore it)"),
+        "only a Crawl-delay ends the group above; crawlers that ignore it, such as Google's, apply the rules below to that group too; add an empty Disallow: to that group, or move the Crawl-delay down to join the two"),
     (Cause::GroupPastSizeLimit, Level::Warning, "group-past-size-limit",
         "this name isn't in the first 512,000 bytes, so its group is ignored; move the group up or shorten the file"),
     (Cause::AllowedAndDisallowed, Level::Warning, "allowed-and-disallowed",

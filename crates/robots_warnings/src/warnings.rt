@@ -285,10 +285,12 @@ fn warn_of_positions(found: &mut Found<'_>, labels: &[LabeledLine<'_>]) -> Resul
 {
     let last = last_group(labels);
     let mut preceding = Preceding::Other;
-    for labeled in labels {
-        let checks = position_checks(last, preceding, labeled);
+    let mut rest = labels;
+    while let [labeled, after @ ..] = rest {
+        let checks = position_checks(last, preceding, labeled, rest);
         warn(found, Some(labeled.number), None, &checks)?;
         preceding = preceding_with(preceding, labeled.line);
+        rest = after;
     }
     Ok(())
 }
