@@ -111,6 +111,19 @@ def warning_line(warning, file="robots.txt"):
     return f"{file}:{line or ''}{':' if line else ''} {level}: {text} [{name}]\n"
 
 
+def warning_lines(warnings, file="robots.txt"):
+    """The lines for such warnings: of each name the first twenty, and then how many more there are."""
+    shown, counts = [], {}
+    for warning in warnings:
+        name = re.sub(r"^\d+ ", "", warning).split()[0]
+        counts[name] = counts.get(name, 0) + 1
+        shown += [warning_line(warning, file)] * (counts[name] <= 20)
+        if counts[name] == 21:  # the numbers are in the order of these
+            counts[name] = counts.pop(name)
+    more = [f"{file}: and {count - 20} more [{name}]\n" for name, count in counts.items() if count > 20]
+    return "".join(shown + more)
+
+
 KEYS = set("like args agent robots file from pieces room out more warn err status indented".split())
 
 
@@ -167,4 +180,4 @@ def wanted_of(case):
     warnings = spelled(case.get("warn", "")).decode().splitlines()
     named = re.search(r"(?:-q?f[ =]?|--file[ =])(?!- )(\S+)", case.get("args", ""))
     file = named[1] if named else "robots.txt"
-    return Result(case.get("status", 0), out, lines(case.get("err", "")) + "".join(warning_line(it, file) for it in warnings).encode())
+    return Result(case.get("status", 0), out, lines(case.get("err", "")) + warning_lines(warnings, file).encode())

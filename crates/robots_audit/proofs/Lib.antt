@@ -2,6 +2,7 @@ pub mod AgentLemmas
 pub mod AnswerLemmas
 pub mod AuditLemmas
 pub mod ByLineLemmas
+pub mod ClosedLemmas
 pub mod CompareLemmas
 pub mod ComparePrintableLemmas
 pub mod DelayLemmas

@@ -32,12 +32,12 @@ use Rattle.robots_warnings.specs.Urls.{is_invalid_url}
 
 -- ---- allowed-and-disallowed
 
-both : (a b : Bool) → (a && b) ≡ true → (a ≡ true) × (b ≡ true)
+pub both : (a b : Bool) → (a && b) ≡ true → (a ≡ true) × (b ≡ true)
 both true true is = (refl, refl)
 both true false is = cc
 both false b is = cc
 
-none : (a : Bool) → not a ≡ true → a ≡ false
+pub none : (a : Bool) → not a ≡ true → a ≡ false
 none true is = cc
 none false is = refl
 

@@ -1,8 +1,9 @@
 //! Theorems about the specification, each written as the contract of an empty function.
-ghost use Rattle.std.specs.Prelude.{◌≡◌, ◌↔◌, ◌∷◌, ◌+◌, ◌||◌, ℕ, Any, Bool, Contains, IsTrue, List, [], Some, false, if◌then◌else◌, slice_get, true};
+ghost use Rattle.std.specs.Prelude.{Any, Bool, Contains, IsTrue, List, Some, [], false, if◌then◌else◌, slice_get, true, ℕ, ◌+◌, ◌||◌, ◌↔◌, ◌∷◌, ◌≡◌, ◌≢◌};
 ghost use Rattle.std.specs.Str.{IsUtf8, byte, is_utf8};
-ghost use Rattle.texting_robots.specs.Callers.{Allow, AreLabelsOf, AreRulesFor, Disallow, HoldsRule, IsDecidingLine, IsVerdict, Label, LineValue};
-ghost use Rattle.texting_robots.specs.Callers.{Matches, PlacedRule, Rule, UserAgent, escaped, file_lines, is_named, prepared, rules_for};
+ghost use Rattle.texting_robots.specs.Callers.{Allow, AreLabelsOf, AreRulesFor, Disallow, HoldsRule, IsDecidingLine, IsDenied, IsVerdict, Label, LineValue, Matches, PlacedRule, Rule, UserAgent, escaped, file_lines, is_named, prepared, rules_for, unplaced};
+ghost use Rattle.texting_robots.specs.Verdict.{robots_file};
+ghost use Rattle.robots_warnings.specs.Closed.{is_closed_for};
 ghost use Rattle.robots_warnings.specs.Conflicts.{IsConflict, is_conflict};
 ghost use Rattle.robots_warnings.specs.NamesPastLimit.{names_past_limit};
 ghost use Rattle.robots_warnings.specs.Positions.{is_above_agents};
@@ -60,6 +61,14 @@ pub fn allowed_and_disallowed()
 pub fn allowed_and_disallowed_never_decides()
     ensures { (agent : List ℕ) (lines : List LineValue) (rules : List PlacedRule) (number : ℕ) (text : List ℕ)
         → IsConflict agent lines number → AreRulesFor agent lines rules → ¬ IsDecidingLine rules text (Some number) }
+{}
+
+/// If `closes-everything` is given because of the rules of a crawler, every path is denied to the crawler, except
+/// `/robots.txt`.
+pub fn closes_everything()
+    ensures { (agent : List ℕ) (lines : List LineValue) (rules : List PlacedRule) (number : ℕ) (text : List ℕ)
+        → is_closed_for lines number agent ≡ true → AreRulesFor agent lines rules
+        → byte "/" ∷ text ≢ robots_file → IsDenied (unplaced rules) (byte "/" ∷ text) }
 {}
 
 /// A line with `group-past-size-limit` is a user-agent line whose name none of the lines within the size limit has.

@@ -1,3 +1,4 @@
+pub mod ClosedLemmas
 pub mod ConflictLemmas
 pub mod FactLemmas
 pub mod FileLemmas
@@ -6,5 +7,8 @@ pub mod NamesPastLimitLemmas
 pub mod PositionLemmas
 pub mod PlainLemmas
 pub mod PrintableLemmas
+pub mod RepeatedLemmas
+pub mod ReplacedLemmas
 pub mod RuleLemmas
+pub mod SpellingLemmas
 pub mod TableLemmas

@@ -1,10 +1,13 @@
 -- Sets of product tokens.
 use Rattle.std.proofs.Common.{◌≡◌, ◌||◌, Bool, cond, false, true, ℕ, List, [], ◌∷◌, ◌++◌, ap, refl}
-use Rattle.std.proofs.Common.{bytes_eq, not, ◌∙◌}
+use Rattle.std.proofs.Common.{◌+◌, ◌<◌, String, bytes_eq, length, map, not, slice_index_or, string_bytes, sym}
+use Rattle.std.proofs.Common.{take, ◌∙◌}
+use Rattle.std.specs.Global.{Global}
 use Rattle.std.specs.BTreeSet.{BTreeSet, Updates, contains}
 use Rattle.std.specs.List.{list_any}
 use Rattle.std.specs.Str.{str_to_ascii_lowercase}
 use Rattle.std.proofs.Math.Bool.{or-false}
+use Rattle.std.proofs.lemmas.List.{map-append, take_more}
 use Rattle.std.proofs.lemmas.List.Folds.{list_any-append}
 use Rattle.std.proofs.lemmas.Map.Text.{is_eq-slice_cmp}
 use Rattle.robots_warnings.specs.Internal.Names.{AddsName, Key, key_cmp}
@@ -30,6 +33,18 @@ name_added old new lowered name is_new spells is updates = record {
       ∙ either has (bytes_eq lowered.items key.items)
       ∙ ap (λ (items : List ℕ). has || bytes_eq items key.items) spells;
 }
+
+-- whether a test holds for one of the first names, in terms of the last of these
+pub any_next : (test : List ℕ → Bool) (names : List (String Global)) (at : ℕ) (item : String Global)
+    {before after : Bool} {name : List ℕ}
+    → at < length names → item ≡ slice_index_or names at item → name ≡ string_bytes item
+    → before ≡ list_any test (map string_bytes (take at names)) → after ≡ (before || test name)
+    → after ≡ list_any test (map string_bytes (take (at + 1) names))
+any_next test names at item {name} below here is was now =
+    let front = list_any test (map string_bytes (take at names)) in
+    now ∙ ap (λ (b : Bool). b || test name) was
+    ∙ ap (λ (n : List ℕ). front || test n) (is ∙ ap string_bytes here)
+    ∙ sym (rw (take_more names at item below) (simp (map-append, list_any-append, or-false)))
 
 -- whether a test holds for some item of a list with one more item
 pub any_last : {X : Type 0} (test : X → Bool) (xs : List X) (x : X)

@@ -13,7 +13,7 @@ use Rattle.robots_warnings.specs.NamesPastLimit.{is_past_limit}
 use Rattle.robots_warnings.specs.Internal.Names.{HasNames, IsFoundUpto, Key, MeetsLine, past_limit_from}
 
 -- the numbers of one item more, if it is taken
-picked : {X : Type 0} (number : X → ℕ) (cause : Bool) (x : X) (xs : List X)
+pub picked : {X : Type 0} (number : X → ℕ) (cause : Bool) (x : X) (xs : List X)
     → map number (cond cause (x ∷ xs) xs)
     ≡ (if cause then number x ∷ [] else []) ++ map number xs
 picked number true x xs = refl

@@ -12,7 +12,7 @@ use Rattle.std.proofs.lemmas.Str.{IsUtf8-from_ascii, is_utf8-from_IsUtf8}
 use Rattle.std.proofs.lemmas.Str.Ascii.{IsAscii-cons, IsAscii-nil}
 use Rattle.robots_warnings.specs.Checks.{Check, rule_checks}
 use Rattle.robots_warnings.specs.Internal.Plain.{is_plain, is_plain_byte}
-use Rattle.robots_warnings.specs.Rules.{after_byte, before_byte, begins_class, begins_dot_segment, begins_odd_escape}
+use Rattle.robots_warnings.specs.Rules.{after_byte, before_byte, begins_class, begins_dot_segment}
 use Rattle.robots_warnings.specs.Rules.{begins_range, begins_sign, has, has_choice, has_dollar_inside, has_final_plus}
 use Rattle.robots_warnings.specs.Rules.{has_dot_segment, holds_otherwise, is_expression, is_quoted}
 use Rattle.robots_warnings.specs.Rules.{is_written_otherwise, somewhere, stands_around}
@@ -114,10 +114,6 @@ sign c text plain rest =
     let class : begins_class (c ∷ text) ≡ false = rw (differs c 92 plain refl) refl in
     rw (range, dot_star, class) refl
 
-escape : (c : ℕ) (text : List ℕ) → is_plain_byte c ≡ true → are_plain text ≡ true
-    → begins_odd_escape (c ∷ text) ≡ false
-escape c text plain rest = rw (differs c 37 plain refl) refl
-
 dots : (c : ℕ) (text : List ℕ) → is_plain_byte c ≡ true → are_plain text ≡ true
     → begins_dot_segment (c ∷ text) ≡ false
 dots c [] plain rest = grind (arith, nat_tests)
@@ -181,7 +177,6 @@ below_root line about rest plain =
       quoted,
       expression value plain,
       dollar value plain,
-      never begins_odd_escape escape value plain,
       dotless,
       several value plain,
     ) refl

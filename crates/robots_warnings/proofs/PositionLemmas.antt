@@ -16,7 +16,8 @@ pub last_from : (labels : List LabeledLine) (at : ℕ) (labeled : LabeledLine) �
 last_from labels at labeled below = rw (drop_more labels at labeled below) refl
 
 -- whether the lines from index `at` on begin with rules, in terms of the line there
-pub rules_from : (begun : Bool) (labels : List LabeledLine) (at : ℕ) (labeled : LabeledLine) → at < length labels
+pub rules_from : (begun : Bool) (labels : List LabeledLine) (at : ℕ) (labeled : LabeledLine)
+    → at < length labels
     → begin_with_rules begun (lines_of (map label_by_value (drop at labels)))
     ≡ begin_with_rules begun (by_value (slice_index_or labels at labeled).line
     ∷ lines_of (map label_by_value (drop (at + 1) labels)))

@@ -3,7 +3,8 @@ use Rattle.std.specs.Prelude.{ℕ, Bool, true, false, List, [], ◌∷◌, ◌++
 use Rattle.std.specs.Prelude.{nat_lt, not, ◌&&◌}
 use Rattle.std.specs.Str.{is_utf8}
 use Rattle.texting_robots.specs.Callers.{Allow, CrawlDelay, Disallow, LineValue, Label, Raw, Sitemap}
-use Rattle.texting_robots.specs.Callers.{UserAgent}
+use Rattle.texting_robots.specs.Callers.{UserAgent, is_own}
+use Rattle.texting_robots.specs.declared.labels.Membership.{Membership}
 use Rattle.robots_warnings.specs.declared.facts.FileFacts.{FileFacts}
 use Rattle.robots_warnings.specs.declared.positions.Preceding.{Preceding}
 use Rattle.robots_warnings.specs.declared.table.Cause.{Cause}
@@ -11,9 +12,8 @@ use Rattle.robots_warnings.specs.declared.table.Cause.TheVariants as cause
 use Rattle.robots_warnings.specs.Contents.{comment_of, has_odd_comment, has_odd_delay, has_odd_space, is_cut_short, is_cut_to_root, text_of}
 use Rattle.robots_warnings.specs.FieldNames.{has_inner_field, is_misspelled, is_without_colon, meant_by}
 use Rattle.robots_warnings.specs.File.{is_blank}
-use Rattle.robots_warnings.specs.Positions.{is_above_agents, is_empty_group, is_split}
-use Rattle.robots_warnings.specs.Rules.{begins_odd_escape, has_dollar_inside, has_dot_segment, has_odd_start}
-use Rattle.robots_warnings.specs.Rules.{holds_otherwise, is_expression, is_quoted, somewhere}
+use Rattle.robots_warnings.specs.Positions.{is_above_agents, is_empty_group, is_other_delay, is_split}
+use Rattle.robots_warnings.specs.Rules.{has_dollar_inside, has_dot_segment, has_odd_start, holds_otherwise, is_expression, is_quoted}
 use Rattle.robots_warnings.specs.SeveralValues.{has_several_values}
 use Rattle.robots_warnings.specs.Tokens.{has_slash, has_space_around, is_invalid_name, is_unusual_name}
 use Rattle.robots_warnings.specs.Urls.{begins_as_url, is_absolute_url, is_invalid_url, is_url_or_path}
@@ -90,7 +90,6 @@ rule_checks value =
     ∷ (cause.QuotedRule, is_quoted value)
     ∷ (cause.RegexSyntax, is_expression value)
     ∷ (cause.DollarNotAtEnd, has_dollar_inside value)
-    ∷ (cause.NonstandardEscape, somewhere begins_odd_escape value)
     ∷ (cause.DotSegment, has_dot_segment value)
     ∷ (cause.SeveralValues, has_several_values value)
     ∷ []
@@ -117,13 +116,14 @@ text_checks text comment =
     ∷ (cause.ControlInComment, has_odd_comment comment)
     ∷ []
 
--- the position of a line, determined by the number of the last rule or delay, by what precedes the line, and by
--- the lines from this one on
-abbrev pub position_checks : Option ℕ → Preceding → Label → List LineValue → List Check
-position_checks last preceding label lines =
+-- the position of a line, determined by the number of the last rule or delay, by what precedes the line, by
+-- the first delay of its group above it, and by the lines from this one on
+abbrev pub position_checks : Option ℕ → Preceding → Option ℕ → Label → List LineValue → List Check
+position_checks last preceding delay label lines =
     (cause.RuleBeforeUserAgent, is_above_agents label)
     ∷ (cause.EmptyGroup, is_empty_group last label)
     ∷ (cause.DelaySplitsGroup, is_split preceding label lines)
+    ∷ (cause.TwoDelays, is_other_delay delay label)
     ∷ []
 
 -- ---- a line
@@ -132,6 +132,10 @@ position_checks last preceding label lines =
 abbrev pub is_directive : LineValue → Bool
 is_directive (Raw body) = false
 is_directive _ = true
+
+-- the rules that are checked: all if `everywhere`, else those of the crawler's group
+abbrev pub is_in_scope_of : Bool → Membership → Bool
+is_in_scope_of everywhere membership = if everywhere then true else is_own membership
 
 -- the value of a line; rules are only checked if `is_in_scope` is true
 abbrev pub value_checks : Bool → LineValue → List Check

@@ -2,6 +2,9 @@
 pub mod Conflicts
 pub mod Names
 pub mod Plain
+pub mod Repeated
+pub mod Replaced
+pub mod Spellings
 use Rattle.std.specs.Prelude.{◌≡◌, ℕ, ◌||◌, ◌++◌, List, Some, map, option_map, slice_get}
 use Rattle.std.specs.Borrow.{Bor}
 use Rattle.texting_robots.specs.Callers.{LineValue}

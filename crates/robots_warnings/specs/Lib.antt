@@ -11,6 +11,11 @@ pub mod Positions
 pub mod Contents
 pub mod Checks
 pub mod Conflicts
+pub mod Closed
+pub mod Google
 pub mod NamesPastLimit
+pub mod Spellings
+pub mod Repeated
+pub mod Replaced
 pub mod Warnings
 pub mod Internal

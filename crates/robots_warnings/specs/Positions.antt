@@ -1,12 +1,14 @@
 -- Conditions on the position of a line.
-use Rattle.std.specs.Prelude.{ℕ, Bool, true, false, nat_lt, not, ◌||◌, ◌&&◌, List, [], ◌∷◌, Option, None, Some}
-use Rattle.std.specs.Prelude.{bytes_eq, codes, if◌then◌else◌}
+use Rattle.std.specs.Prelude.{ℕ, Bool, true, false, nat_lt, not, ◌||◌, ◌&&◌, List, [], ◌∷◌, Option, None}
+use Rattle.std.specs.Prelude.{Some}
+use Rattle.std.specs.Prelude.{◌==◌, bytes_eq, codes, if◌then◌else◌}
 use Rattle.std.specs.Option.{option_or}
 use Rattle.texting_robots.specs.Callers.{Allow, CrawlDelay, Disallow, LineValue, Label, Raw, Sitemap}
 use Rattle.texting_robots.specs.Callers.{UserAgent}
 use Rattle.texting_robots.specs.declared.labels.Membership.{Membership}
 use Rattle.texting_robots.specs.declared.labels.Membership.TheVariants.{Ungrouped}
 use Rattle.texting_robots.specs.Group.{is_agent, is_group}
+use Rattle.texting_robots.specs.Line.{delay_in}
 use Rattle.robots_warnings.specs.declared.positions.Preceding.{Preceding}
 use Rattle.robots_warnings.specs.declared.positions.Preceding.TheVariants.{Agent, Delay, Other}
 use Rattle.robots_warnings.specs.Facts.{is_rule}
@@ -30,6 +32,12 @@ abbrev pub is_delay : Preceding → Bool
 is_delay Delay = true
 is_delay _ = false
 
+-- the first delay of the group of this line and of those above it; `first` is that of the lines above it
+abbrev pub first_delay : Option ℕ → LineValue → Option ℕ
+first_delay first (UserAgent value) = None
+first_delay first (CrawlDelay delay) = option_or first delay
+first_delay first _ = first
+
 -- ---- what follows a line
 
 -- the number of the line, if it is a rule or a delay
@@ -46,8 +54,8 @@ abbrev pub is_after : Option ℕ → ℕ → Bool
 is_after None number = true
 is_after (Some last) number = nat_lt last number
 
--- these lines begin with user-agent lines, none of which names `*`, and a rule follows in their group, that is,
--- before the next user-agent line; `begun`: a delay of the group is above these lines
+-- these lines begin with user-agent lines, none of which names `*`, and a rule follows in their group, that
+-- is, before the next user-agent line; `begun`: a delay of the group is above these lines
 abbrev pub begin_with_rules : Bool → List LineValue → Bool
 begin_with_rules begun [] = false
 begin_with_rules begun (UserAgent value ∷ lines) =
@@ -69,13 +77,23 @@ is_outside _ = false
 abbrev pub is_above_agents : Label → Bool
 is_above_agents label = is_rule label.line && is_outside label.membership
 
+-- the two are different delays
+abbrev pub are_different : Option ℕ → Option ℕ → Bool
+are_different (Some one) (Some other) = not (one == other)
+are_different _ _ = false
+
+-- the line is a delay in a group, and differs from the first delay of this group
+abbrev pub is_other_delay : Option ℕ → Label → Bool
+is_other_delay first label =
+    not (is_outside label.membership) && are_different first (delay_in label.line)
+
 -- the line is a user-agent line with no rule or delay after it
 abbrev pub is_empty_group : Option ℕ → Label → Bool
 is_empty_group last label = is_agent label.line && is_after last label.number
 
--- the line is a user-agent line that only delays separate from one above it, and its group has rules, but isn't
--- the group of `*`; `lines` are those from this line on. For a crawler that ignores delays, the names above are in
--- this group too, and get its rules
+-- the line is a user-agent line that only delays separate from one above it, and its group has rules, but
+-- isn't the group of `*`; `lines` are those from this line on. For a crawler that ignores delays, the names
+-- above are in this group too, and get its rules
 abbrev pub is_split : Preceding → Label → List LineValue → Bool
 is_split preceding label lines =
     (is_agent label.line && is_delay preceding) && begin_with_rules false lines

@@ -1,20 +1,27 @@
 -- All warnings about a file and a request: what is valid but probably not intended.
-use Rattle.std.specs.Prelude.{ℕ, Bool, true, List, [], ◌∷◌, ◌++◌, Option, Some, None}
+use Rattle.std.specs.Prelude.{ℕ, Bool, List, [], ◌∷◌, ◌++◌, Option, Some, None}
 use Rattle.std.specs.Prelude.{codes, decimal, flat_map, if◌then◌else◌, is_none, map, not, ◌||◌}
-use Rattle.texting_robots.specs.Callers.{LineValue, Label, bodies_read, is_own}
-use Rattle.texting_robots.specs.declared.labels.Membership.{Membership}
+use Rattle.texting_robots.specs.Callers.{LineValue, Label, bodies_read}
 use Rattle.robots_warnings.specs.declared.facts.FileFacts.{FileFacts}
 use Rattle.robots_warnings.specs.declared.positions.Preceding.{Preceding}
 use Rattle.robots_warnings.specs.declared.positions.Preceding.TheVariants.{Other}
 use Rattle.robots_warnings.specs.declared.table.Cause.{Cause}
 use Rattle.robots_warnings.specs.declared.table.Cause.TheVariants.{AllowedAndDisallowed, GroupPastSizeLimit}
+use Rattle.robots_warnings.specs.declared.table.Cause.TheVariants.{ClosesEverything, NonstandardEscape}
+use Rattle.robots_warnings.specs.declared.table.Cause.TheVariants.{RepeatedRule}
+use Rattle.robots_warnings.specs.declared.table.Cause.TheVariants.{ReplacesStar}
+use Rattle.robots_warnings.specs.Closed.{is_closed}
 use Rattle.robots_warnings.specs.Conflicts.{is_conflict}
+use Rattle.robots_warnings.specs.Google.{google_checks}
 use Rattle.robots_warnings.specs.Checks.{Check, agent_checks, file_checks, line_checks, position_checks}
-use Rattle.robots_warnings.specs.Checks.{url_checks}
+use Rattle.robots_warnings.specs.Checks.{is_in_scope_of, url_checks}
 use Rattle.robots_warnings.specs.Facts.{suppresses_line_warnings}
 use Rattle.robots_warnings.specs.File.{lines_of}
 use Rattle.robots_warnings.specs.NamesPastLimit.{names_past_limit}
-use Rattle.robots_warnings.specs.Positions.{last_group, preceding_with}
+use Rattle.robots_warnings.specs.Positions.{first_delay, last_group, preceding_with}
+use Rattle.robots_warnings.specs.Repeated.{repeated}
+use Rattle.robots_warnings.specs.Replaced.{replacing}
+use Rattle.robots_warnings.specs.Spellings.{nonstandard_escapes}
 use Rattle.robots_io.specs.Sanitize.{sanitized}
 use Rattle.robots_warnings.specs.Level.{level_word}
 use Rattle.robots_warnings.specs.Table.{level_of, name_of, text_of}
@@ -77,10 +84,6 @@ agent_warnings (Some agent) = warned None None (agent_checks agent)
 abbrev pub url_warnings : List ℕ → List WarningValue
 url_warnings url = warned None (Some url) (url_checks url)
 
--- the rules that are checked: all if `everywhere`, else those of the crawler's group
-abbrev pub is_in_scope_of : Bool → Membership → Bool
-is_in_scope_of everywhere membership = if everywhere then true else is_own membership
-
 -- warnings about a line with this content
 abbrev pub line_warnings : Bool → Label → List ℕ → List WarningValue
 line_warnings everywhere label body =
@@ -98,17 +101,17 @@ abbrev pub file_lines_warnings : FileFacts → Bool → List Label → List (Lis
 file_lines_warnings facts everywhere labels bodies =
     if suppresses_line_warnings facts then [] else lines_warnings everywhere bodies labels
 
--- warnings about the positions of these lines; `last` is the number of the last rule or delay, and
--- `preceding` is what precedes the first of them
-abbrev pub positions_from : Option ℕ → Preceding → List Label → List WarningValue
-positions_from last preceding [] = []
-positions_from last preceding (label ∷ labels) =
-    warned (Some label.number) None (position_checks last preceding label (lines_of (label ∷ labels)))
-    ++ positions_from last (preceding_with preceding label.line) labels
+-- warnings about the positions of these lines; `last` is the number of the last rule or delay, `preceding` is
+-- what precedes the first of them, and `delay` is the first delay of its group above it
+abbrev pub positions_from : Option ℕ → Preceding → Option ℕ → List Label → List WarningValue
+positions_from last preceding delay [] = []
+positions_from last preceding delay (label ∷ labels) =
+    warned (Some label.number) None (position_checks last preceding delay label (lines_of (label ∷ labels)))
+    ++ positions_from last (preceding_with preceding label.line) (first_delay delay label.line) labels
 
 -- warnings about the positions of all lines
 abbrev pub position_warnings : List Label → List WarningValue
-position_warnings labels = positions_from (last_group labels) Other labels
+position_warnings labels = positions_from (last_group labels) Other None labels
 
 -- warnings about names past the size limit, if lines are checked
 abbrev pub past_limit_warnings : FileFacts → List ℕ → List Label → List WarningValue
@@ -116,11 +119,21 @@ past_limit_warnings facts file labels =
     if not facts.is_too_large || suppresses_line_warnings facts then []
     else warned_at GroupPastSizeLimit (names_past_limit (lines_of labels) file)
 
--- warnings about rules that are allowed and disallowed for one of these crawlers
-abbrev pub conflict_warnings : List (List ℕ) → List LineValue → List Label → List WarningValue
-conflict_warnings agents lines labels = flat_map
+-- warnings about the rules of these crawlers
+abbrev pub crawler_warnings : List (List ℕ) → List LineValue → List Label → List WarningValue
+crawler_warnings agents lines labels = flat_map
     (λ label. warned (Some label.number) None
-    ((AllowedAndDisallowed, is_conflict agents lines label.number) ∷ [])) labels
+    ((AllowedAndDisallowed, is_conflict agents lines label.number)
+    ∷ (ClosesEverything, is_closed agents lines label.number) ∷ [])) labels
+
+-- warnings about the rules of a group or of a crawler as a whole
+abbrev pub group_warnings : Bool → List (List ℕ) → List LineValue → List Label → List WarningValue
+group_warnings everywhere agents lines labels =
+    warned_at NonstandardEscape (nonstandard_escapes everywhere labels)
+    ++ (crawler_warnings agents lines labels
+    ++ (warned_at ReplacesStar (replacing everywhere lines labels)
+    ++ (warned_at RepeatedRule (repeated everywhere labels)
+    ++ warned None None (google_checks lines agents))))
 
 -- ---- all
 
@@ -137,4 +150,4 @@ warnings agent agents urls file facts labels lines =
     general_warnings facts agent urls
     ++ (file_lines_warnings facts (is_none agent) labels (bodies_read file)
     ++ (position_warnings labels
-    ++ (past_limit_warnings facts file labels ++ conflict_warnings agents lines labels)))
+    ++ (past_limit_warnings facts file labels ++ group_warnings (is_none agent) agents lines labels)))

@@ -2,7 +2,7 @@
 ghost use Rattle.std.specs.Prelude.{◌≡◌, IfOk, map};
 ghost use Rattle.texting_robots.specs.Callers.{label_by_value};
 ghost use Rattle.robots_warnings.specs.FieldNames.{is_without_colon};
-ghost use Rattle.robots_warnings.specs.Checks.{agent_checks, cut_checks, delay_checks, delay_text_checks, field_checks, file_checks, ignored_checks, position_checks, rule_checks, sitemap_checks, space_checks, text_checks, url_checks, user_agent_checks};
+ghost use Rattle.robots_warnings.specs.Checks.{agent_checks, cut_checks, delay_checks, delay_text_checks, field_checks, file_checks, ignored_checks, is_in_scope_of, position_checks, rule_checks, sitemap_checks, space_checks, text_checks, url_checks, user_agent_checks};
 ghost use Rattle.robots_warnings.specs.File.{lines_of};
 
 use crate::contents::{
@@ -10,17 +10,17 @@ use crate::contents::{
 };
 use crate::facts::FileFacts;
 use crate::field_names::{has_inner_field, is_misspelled, meant_by};
-use crate::positions::{Preceding, is_above_agents, is_empty_group, is_split};
+use crate::positions::{Preceding, is_above_agents, is_empty_group, is_other_delay, is_split};
 use crate::rules::{
-    has_dollar_inside, has_dot_segment, has_odd_escape, has_odd_start, holds_otherwise,
-    is_expression, is_quoted, is_utf8,
+    has_dollar_inside, has_dot_segment, has_odd_start, holds_otherwise, is_expression, is_quoted,
+    is_utf8,
 };
 use crate::several_values::has_several_values;
 use crate::table::Cause;
 use crate::tokens::{has_slash, has_space_around, is_invalid_name, is_unusual_name};
 use crate::urls::{begins_as_url, is_absolute_url, is_invalid_url, is_url_or_path};
 use std::alloc::{AllocError, Global};
-use texting_robots::labels::LabeledLine;
+use texting_robots::labels::{LabeledLine, Membership};
 
 /// A warning, and whether its condition holds.
 pub(crate) type Check = (Cause, bool);
@@ -118,8 +118,15 @@ pub(crate) fn user_agent_checks(value: &[u8]) -> [Check; 2]
     ]
 }
 
+/// Whether a rule with this membership is checked.
+pub(crate) fn is_in_scope_of(everywhere: bool, membership: Membership) -> bool
+    ensures { result ≡ is_in_scope_of everywhere membership }
+{
+    everywhere || membership == Membership::Own
+}
+
 /// Checks of the value of an Allow or a Disallow.
-pub(crate) fn rule_checks(value: &[u8]) -> [Check; 10]
+pub(crate) fn rule_checks(value: &[u8]) -> [Check; 9]
     ensures { result ≡ rule_checks value.now }
 {
     [
@@ -130,7 +137,6 @@ pub(crate) fn rule_checks(value: &[u8]) -> [Check; 10]
         (Cause::QuotedRule, is_quoted(value)),
         (Cause::RegexSyntax, is_expression(value)),
         (Cause::DollarNotAtEnd, has_dollar_inside(value)),
-        (Cause::NonstandardEscape, has_odd_escape(value)),
         (Cause::DotSegment, has_dot_segment(value)),
         (Cause::SeveralValues, has_several_values(value)),
     ]
@@ -163,15 +169,16 @@ pub(crate) fn text_checks(text: &[u8], comment: &[u8]) -> [Check; 2]
     ]
 }
 
-/// Checks of the position of a line; `last` is the number of the last rule or delay, and `from_here` are the lines from
-/// this one on.
+/// Checks of the position of a line; `last` is the number of the last rule or delay, `delay` is the first delay of the
+/// line's group above it, and `from_here` are the lines from this one on.
 pub(crate) fn position_checks(
     last: Option<usize>,
     preceding: Preceding,
+    delay: Option<u64>,
     labeled: &LabeledLine<'_>,
     from_here: &[LabeledLine<'_>],
-) -> [Check; 3]
-    ensures { result ≡ position_checks last preceding (label_by_value labeled.now)
+) -> [Check; 4]
+    ensures { result ≡ position_checks last preceding delay (label_by_value labeled.now)
         (lines_of (map label_by_value from_here.now)) }
 {
     [
@@ -181,5 +188,6 @@ pub(crate) fn position_checks(
             Cause::DelaySplitsGroup,
             is_split(preceding, labeled, from_here),
         ),
+        (Cause::TwoDelays, is_other_delay(delay, labeled)),
     ]
 }

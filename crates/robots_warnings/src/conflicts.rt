@@ -15,12 +15,12 @@ use texting_robots::parser::Line;
 use texting_robots::push_escaped_bytes;
 use texting_robots::site::{GroupLine, Site};
 
-type Patterns = HashSet<String>;
+pub(crate) type Patterns = HashSet<String>;
 
 pub(crate) type Numbers = BTreeSet<usize>;
 
 /// The pattern of a rule with this value, if it is UTF-8.
-fn pattern_of(alloc: Global, value: &[u8]) -> Result<Option<String>, AllocError>
+pub(crate) fn pattern_of(alloc: Global, value: &[u8]) -> Result<Option<String>, AllocError>
     ensures { IfOk result (λ pattern. option_map string_bytes pattern
         ≡ (if is_utf8 value.now then Some (escaped value.now) else None)) }
 {
@@ -78,7 +78,11 @@ fn is_allowed_too(
 }
 
 /// Inserts the number if `cause` is true.
-fn add_number(numbers: &mut Numbers, cause: bool, number: usize) -> Result<(), AllocError>
+pub(crate) fn add_number(
+    numbers: &mut Numbers,
+    cause: bool,
+    number: usize,
+) -> Result<(), AllocError>
     ensures { OnOk result ((other : ℕ) → contains nat_cmp numbers.new other
         ≡ (contains nat_cmp numbers.old other || (cause && number == other))) }
 {

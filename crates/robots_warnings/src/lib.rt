@@ -3,17 +3,22 @@
 #![tactic(auto)]
 
 pub mod checks;
+mod closed;
 mod conflicts;
 pub mod contents;
 pub mod facts;
 pub mod field_names;
 pub mod file;
+mod google;
 pub mod level;
 pub mod names;
 mod names_past_limit;
 pub mod positions;
+mod repeated;
+mod replaced;
 pub mod rules;
 pub mod several_values;
+mod spellings;
 pub mod table;
 pub mod tokens;
 pub mod urls;

@@ -34,7 +34,7 @@ fn names_read(alloc: Global, labels: &[LabeledLine<'_>]) -> Result<Names, AllocE
 }
 
 /// Appends the number if `cause` is true.
-fn add(found: &mut Vec<usize>, cause: bool, number: usize) -> Result<(), AllocError>
+pub(crate) fn add(found: &mut Vec<usize>, cause: bool, number: usize) -> Result<(), AllocError>
     ensures { OnOk result (found.new.items ≡ found.old.items ++ (if cause then number ∷ [] else [])) }
 {
     if cause {

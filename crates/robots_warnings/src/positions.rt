@@ -2,8 +2,9 @@
 ghost use Rattle.std.specs.Prelude.{◌≡◌, false, map};
 ghost use Rattle.texting_robots.specs.Callers.{by_value, label_by_value};
 ghost use Rattle.robots_warnings.specs.File.{lines_of};
-ghost use Rattle.robots_warnings.specs.Positions.{begin_with_rules, group_number, is_above_agents, is_after, is_empty_group};
-ghost use Rattle.robots_warnings.specs.Positions.{is_split, last_group, preceding_with};
+ghost use Rattle.texting_robots.specs.Line.{delay_in};
+ghost use Rattle.robots_warnings.specs.Positions.{are_different, begin_with_rules, first_delay, group_number, is_above_agents};
+ghost use Rattle.robots_warnings.specs.Positions.{is_after, is_empty_group, is_other_delay, is_split, last_group, preceding_with};
 
 use texting_robots::labels::{LabeledLine, Membership};
 use texting_robots::parser::Line;
@@ -31,6 +32,17 @@ pub(crate) fn preceding_with(preceding: Preceding, line: Line<'_>) -> Preceding
             Preceding::Agent | Preceding::Delay => Preceding::Delay,
         },
         Line::Sitemap(_) | Line::Raw(_) => preceding,
+    }
+}
+
+/// The first delay of the line's group in this line and those above it; `first` is that of the lines above it.
+pub(crate) fn first_delay(first: Option<u64>, line: Line<'_>) -> Option<u64>
+    ensures { result ≡ first_delay first (by_value line.entry) }
+{
+    match line {
+        Line::UserAgent(_) => None,
+        Line::CrawlDelay(delay) => first.or(delay),
+        Line::Allow(_) | Line::Disallow(_) | Line::Sitemap(_) | Line::Raw(_) => first,
     }
 }
 
@@ -110,4 +122,31 @@ pub(crate) fn is_split(
     matches!(labeled.line, Line::UserAgent(_))
         && preceding == Preceding::Delay
         && begin_with_rules(from_here)
+}
+
+/// Whether the two are different delays.
+fn are_different(one: Option<u64>, other: Option<u64>) -> bool
+    ensures { result ≡ are_different one other }
+{
+    match (one, other) {
+        (Some(one), Some(other)) => one != other,
+        _ => false,
+    }
+}
+
+/// The delay in the line.
+fn delay_in(line: Line<'_>) -> Option<u64>
+    ensures { result ≡ delay_in (by_value line.entry) }
+{
+    match line {
+        Line::CrawlDelay(delay) => delay,
+        _ => None,
+    }
+}
+
+/// Whether the line is a delay in a group, and differs from the first delay of this group.
+pub(crate) fn is_other_delay(first: Option<u64>, labeled: &LabeledLine<'_>) -> bool
+    ensures { result ≡ is_other_delay first (label_by_value labeled.now) }
+{
+    labeled.membership != Membership::Ungrouped && are_different(first, delay_in(labeled.line))
 }

@@ -168,14 +168,14 @@ pub(crate) fn has_dollar_inside(value: &[u8]) -> bool
 }
 
 /// Whether a byte needs no escape anywhere in a URL.
-fn needs_no_escape(byte: u8) -> bool
+pub(crate) fn needs_no_escape(byte: u8) -> bool
     ensures { result ≡ needs_no_escape byte }
 {
     byte.is_ascii_alphanumeric() || has(byte, b"-._~")
 }
 
 /// The value of a hexadecimal digit.
-fn hex_value(digit: u8) -> u8
+pub(crate) fn hex_value(digit: u8) -> u8
     requires { is_ascii_hexdigit digit ≡ true }
     ensures value { result ≡ digit_value digit }
     ensures bound { result < 16 }

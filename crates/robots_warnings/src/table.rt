@@ -78,11 +78,18 @@ pub enum Cause {
     DelaySplitsGroup,
     GroupPastSizeLimit,
     AllowedAndDisallowed,
+    // the groups
+    TwoDelays,
+    ClosesEverything,
+    ReplacesStar,
+    RepeatedRule,
+    GooglebotGroup,
+    GoogleIgnoresStar,
 }
 
 /// The warnings with their levels, names and messages.
 #[rattlefmt::skip]
-pub static WARNINGS: [(Cause, Level, &str, &str); 55] = [
+pub static WARNINGS: [(Cause, Level, &str, &str); 61] = [
     // the file
     (Cause::LooksLikeHtml, Level::Error, "looks-like-html",
         "no usable line found; the first character is <, so it may be an HTML page; serve a plain-text robots.txt instead"),
@@ -205,6 +212,19 @@ pub static WARNINGS: [(Cause, Level, &str, &str); 55] = [
         "this name isn't in the first 512,000 bytes, so its group is ignored; move the group up or shorten the file"),
     (Cause::AllowedAndDisallowed, Level::Warning, "allowed-and-disallowed",
         "a crawler that gets this Disallow also gets an Allow with the same path, and the Allow wins here; delete the one you don't want"),
+    // the groups
+    (Cause::TwoDelays, Level::Warning, "two-delays",
+        "the delay differs from one above it in the same group, and only the first is used here; other crawlers may use another one; delete all but one"),
+    (Cause::ClosesEverything, Level::Note, "closes-everything",
+        "a crawler that gets this rule may fetch nothing but /robots.txt; if the site isn't meant to be closed to it, delete the rule or add an Allow"),
+    (Cause::ReplacesStar, Level::Note, "replaces-star",
+        "the group has none of the Disallow rules of *, and a crawler with a group of its own doesn't get them; repeat in this group those that should apply to it"),
+    (Cause::RepeatedRule, Level::Note, "repeated-rule",
+        "the same rule is above in the same group, so this one changes no verdict; delete it, or correct it if another path is meant"),
+    (Cause::GooglebotGroup, Level::Note, "googlebot-group",
+        "AGENT has no group of its own, so Google applies the group of Googlebot to it, not the one that is reported here; pass Googlebot as AGENT, or add a group"),
+    (Cause::GoogleIgnoresStar, Level::Note, "google-ignores-star",
+        "AGENT has no group of its own, and Google doesn't apply the group of * to this crawler, so it may fetch everything; add a group for it"),
 ];
 
 /// The row at this index.

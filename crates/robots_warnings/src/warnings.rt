@@ -4,27 +4,32 @@ ghost use Rattle.texting_robots.specs.Callers.{bodies_read, by_value, file_lines
 ghost use Rattle.robots_warnings.specs.Checks.{directive_checks, is_directive, raw_checks, raw_rule_checks, rule_checks, value_checks};
 ghost use Rattle.robots_warnings.specs.Contents.{comment_of, text_of};
 ghost use Rattle.robots_warnings.specs.Internal.{Adds, warning_value};
-ghost use Rattle.robots_warnings.specs.Warnings.{agent_warnings, conflict_warnings, file_lines_warnings, general_warnings};
-ghost use Rattle.robots_warnings.specs.Warnings.{is_in_scope_of, line_warnings, lines_warnings};
+ghost use Rattle.robots_warnings.specs.Warnings.{agent_warnings, crawler_warnings, file_lines_warnings, general_warnings};
+ghost use Rattle.robots_warnings.specs.Warnings.{group_warnings, line_warnings, lines_warnings};
 ghost use Rattle.robots_warnings.specs.Warnings.{past_limit_warnings, position_warnings, warned, warned_at, warnings};
 
 use crate::checks::{
     Check, agent_checks, cut_checks, delay_checks, delay_text_checks, field_checks, file_checks,
-    ignored_checks, position_checks, rule_checks, sitemap_checks, space_checks, text_checks,
-    url_checks, user_agent_checks,
+    ignored_checks, is_in_scope_of, position_checks, rule_checks, sitemap_checks, space_checks,
+    text_checks, url_checks, user_agent_checks,
 };
+use crate::closed::closed;
 use crate::conflicts::conflicts;
 use crate::contents::split_comment;
 use crate::facts::{FileFacts, suppresses_line_warnings};
 use crate::field_names::is_without_colon;
 use crate::file::{counted, is_blank};
+use crate::google::google_checks;
 use crate::names_past_limit::names_past_limit;
-use crate::positions::{Preceding, last_group, preceding_with};
+use crate::positions::{Preceding, first_delay, last_group, preceding_with};
+use crate::repeated::repeated;
+use crate::replaced::replacing;
 use crate::rules::is_plain;
+use crate::spellings::nonstandard_escapes;
 use crate::table::Cause;
 use crate::warning::Warning;
 use std::alloc::{AllocError, Global};
-use texting_robots::labels::{LabeledLine, Membership};
+use texting_robots::labels::LabeledLine;
 use texting_robots::parser::{Line, file_bodies};
 use texting_robots::site::Site;
 
@@ -212,13 +217,6 @@ fn warn_of_content(
     }
 }
 
-/// Whether a rule with this membership is checked.
-fn is_in_scope_of(everywhere: bool, membership: Membership) -> bool
-    ensures { result ≡ is_in_scope_of everywhere membership }
-{
-    everywhere || membership == Membership::Own
-}
-
 /// Appends the warnings about a line with this content.
 fn warn_of_line(
     alloc: Global,
@@ -285,11 +283,13 @@ fn warn_of_positions(found: &mut Found<'_>, labels: &[LabeledLine<'_>]) -> Resul
 {
     let last = last_group(labels);
     let mut preceding = Preceding::Other;
+    let mut delay = None;
     let mut rest = labels;
     while let [labeled, after @ ..] = rest {
-        let checks = position_checks(last, preceding, labeled, rest);
+        let checks = position_checks(last, preceding, delay, labeled, rest);
         warn(found, Some(labeled.number), None, &checks)?;
         preceding = preceding_with(preceding, labeled.line);
+        delay = first_delay(delay, labeled.line);
         rest = after;
     }
     Ok(())
@@ -312,8 +312,8 @@ fn warn_past_limit(
     warn_at(found, Cause::GroupPastSizeLimit, &numbers)
 }
 
-/// Appends the warnings about rules that are allowed and disallowed for one of these crawlers.
-fn warn_of_conflicts(
+/// Appends the warnings about the rules of these crawlers.
+fn warn_of_crawlers(
     alloc: Global,
     found: &mut Found<'_>,
     site: &Site,
@@ -321,15 +321,42 @@ fn warn_of_conflicts(
     labels: &[LabeledLine<'_>],
 ) -> Result<(), AllocError>
     ensures { OnOk result (Adds found.old.items found.new.items
-        (conflict_warnings (map string_bytes agents.now) (file_lines site.now) (map label_by_value labels.now))) }
+        (crawler_warnings (map string_bytes agents.now) (file_lines site.now) (map label_by_value labels.now))) }
 {
-    let numbers = conflicts(alloc, site, agents)?;
+    let conflicts = conflicts(alloc, site, agents)?;
+    let closed = closed(alloc, site, agents)?;
     for labeled in labels {
-        let is = numbers.contains(&labeled.number);
-        let checks = [(Cause::AllowedAndDisallowed, is)];
+        let is_conflict = conflicts.contains(&labeled.number);
+        let is_closed = closed.contains(&labeled.number);
+        let checks = [
+            (Cause::AllowedAndDisallowed, is_conflict),
+            (Cause::ClosesEverything, is_closed),
+        ];
         warn(found, Some(labeled.number), None, &checks)?;
     }
     Ok(())
+}
+
+/// Appends the warnings about the rules of a group or of a crawler as a whole.
+fn warn_of_groups(
+    alloc: Global,
+    found: &mut Found<'_>,
+    everywhere: bool,
+    site: &Site,
+    agents: &[String],
+    labels: &[LabeledLine<'_>],
+) -> Result<(), AllocError>
+    ensures { OnOk result (Adds found.old.items found.new.items (group_warnings everywhere
+        (map string_bytes agents.now) (file_lines site.now) (map label_by_value labels.now))) }
+{
+    let escapes = nonstandard_escapes(alloc, everywhere, labels)?;
+    warn_at(found, Cause::NonstandardEscape, &escapes)?;
+    warn_of_crawlers(alloc, found, site, agents, labels)?;
+    let replacing = replacing(alloc, everywhere, site, labels)?;
+    warn_at(found, Cause::ReplacesStar, &replacing)?;
+    let repeated = repeated(alloc, everywhere, labels)?;
+    warn_at(found, Cause::RepeatedRule, &repeated)?;
+    warn(found, None, None, &google_checks(site, agents))
 }
 
 /// Whether all groups are checked: the request isn't about a single crawler.
@@ -364,6 +391,6 @@ pub fn warnings<'a>(
     warn_of_file_lines(alloc, &mut found, facts, everywhere, labels, file)?;
     warn_of_positions(&mut found, labels)?;
     warn_past_limit(alloc, &mut found, facts, file, labels)?;
-    warn_of_conflicts(alloc, &mut found, site, agents, labels)?;
+    warn_of_groups(alloc, &mut found, everywhere, site, agents, labels)?;
     Ok(found)
 }

@@ -14,4 +14,4 @@ returns c =
     c.in_ok-warn_in_general.ensures
     (rw c.covers_all_crawlers-everywhere.ensures at c.in_ok-warn_of_file_lines.ensures)
     c.in_ok-warn_of_positions.ensures c.in_ok-warn_past_limit.ensures
-    c.in_ok-warn_of_conflicts.ensures
+    (rw c.covers_all_crawlers-everywhere.ensures at c.in_ok-warn_of_groups.ensures)

@@ -1,0 +1,82 @@
+-- Rules for a whole site: their values and their patterns.
+use Rattle.std.proofs.Common.{◌≡◌, ℕ, ◌==◌, ◌&&◌, Bool, false, true, List, [], ◌∷◌, ap}
+use Rattle.std.proofs.Common.{arith, inl, inr, length, not, refl, subst, suc, sym, ◌∙◌}
+use Rattle.std.proofs.lemmas.Bool.{cases_Bool, eqb-true}
+use Rattle.std.proofs.lemmas.Bool.Decides.{nat_tests}
+use Rattle.std.specs.List.{list_all}
+use Rattle.std.specs.Option.{option_map_or}
+use Rattle.std.specs.Str.{byte, is_utf8}
+use Rattle.texting_robots.specs.Callers.{Allow, Disallow, escaped}
+use Rattle.texting_robots.specs.Escape.{is_escaped}
+use Rattle.texting_robots.specs.Executable.{rule_in}
+use Rattle.texting_robots.specs.Internal.Group.{placed}
+use Rattle.robots_warnings.specs.Closed.{is_closing, is_opening, is_whole_site}
+
+abbrev only_stars : List ℕ → Bool
+only_stars text = list_all (λ c. c == byte "*") text
+
+-- stars aren't escaped, and no escape has one
+stars_escaped : (value : List ℕ) → only_stars (escaped value) ≡ only_stars value
+stars_escaped [] = refl
+stars_escaped (b ∷ value) = elim (cases_Bool (b == byte "*")) [
+  | inl is ↦
+      subst (λ b. only_stars (escaped (b ∷ value)) ≡ only_stars (b ∷ value)) (sym (eqb-true b (byte "*") is))
+      (stars_escaped value)
+  | inr other ↦ elim (cases_Bool (is_escaped b)) [
+    | inl bad ↦ rw (bad, other) refl
+    | inr good ↦ rw (good, other) refl
+  ]
+]
+
+whole_site_escaped : (value : List ℕ) → is_whole_site (escaped value) ≡ is_whole_site value
+whole_site_escaped [] = refl
+whole_site_escaped (b ∷ value) = elim (cases_Bool (b == byte "/")) [
+  | inl is ↦
+      subst (λ b. is_whole_site (escaped (b ∷ value)) ≡ is_whole_site (b ∷ value))
+      (sym (eqb-true b (byte "/") is)) (stars_escaped value)
+  | inr plain ↦ elim (cases_Bool (b == byte "*")) [
+    | inl is ↦
+        subst (λ b. is_whole_site (escaped (b ∷ value)) ≡ is_whole_site (b ∷ value))
+        (sym (eqb-true b (byte "*") is)) (stars_escaped value)
+    | inr other ↦ elim (cases_Bool (is_escaped b)) [
+      | inl bad ↦ rw (bad, plain, other) refl
+      | inr good ↦ rw (good, plain, other) refl
+    ]
+  ]
+]
+
+some_bytes : (n : ℕ) → (suc n == 0) ≡ false
+some_bytes n = grind (arith, nat_tests)
+
+none_escaped : (value : List ℕ) → (length (escaped value) == 0) ≡ (length value == 0)
+none_escaped [] = refl
+none_escaped (b ∷ value) = elim (cases_Bool (is_escaped b)) [
+  | inl bad ↦ rw bad (some_bytes _ ∙ sym (some_bytes (length value)))
+  | inr good ↦ rw good (some_bytes _ ∙ sym (some_bytes (length value)))
+]
+
+and_false : (a : Bool) → (a && false) ≡ false
+and_false true = refl
+and_false false = refl
+
+and_true : (a : Bool) → (a && true) ≡ a
+and_true true = refl
+and_true false = refl
+
+-- whether a Disallow with this value closes the whole site
+pub closing_value : (number : ℕ) (value : List ℕ)
+    → option_map_or is_closing (placed number (rule_in (Disallow value))) false
+    ≡ (is_whole_site value && is_utf8 value)
+closing_value number value = elim (cases_Bool (is_utf8 value)) [
+  | inl is ↦ rw is (whole_site_escaped value ∙ sym (and_true (is_whole_site value)))
+  | inr isnt ↦ rw isnt (sym (and_false (is_whole_site value)))
+]
+
+-- whether an Allow with this value has a pattern that isn't empty
+pub opening_value : (number : ℕ) (value : List ℕ)
+    → option_map_or is_opening (placed number (rule_in (Allow value))) false
+    ≡ (not (length value == 0) && is_utf8 value)
+opening_value number value = elim (cases_Bool (is_utf8 value)) [
+  | inl is ↦ rw is (ap not (none_escaped value) ∙ sym (and_true (not (length value == 0))))
+  | inr isnt ↦ rw isnt (sym (and_false (not (length value == 0))))
+]

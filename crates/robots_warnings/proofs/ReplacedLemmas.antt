@@ -1,0 +1,47 @@
+-- Groups that have none of the Disallow rules of `*`.
+use Rattle.std.proofs.Common.{◌≡◌, ℕ, ◌+◌, ◌<◌, ◌||◌, Bool, true, false, List, ◌∷◌, Some, None, ap, drop}
+use Rattle.std.proofs.Common.{String, bytes_eq, if◌then◌else◌, length, map, refl, slice_index_or}
+use Rattle.std.proofs.Common.{string_bytes}
+use Rattle.std.proofs.Common.{◌∙◌}
+use Rattle.std.specs.HashSet.{Updates, contains_text}
+use Rattle.std.specs.Global.{Global}
+use Rattle.std.specs.Option.{option_map_or}
+use Rattle.std.specs.Str.{is_utf8}
+use Rattle.std.specs.String.{string_eq}
+use Rattle.std.proofs.lemmas.List.{drop_more}
+use Rattle.std.proofs.lemmas.Map.Text.{hash_set_updates_text}
+use Rattle.texting_robots.specs.declared.labels.LabeledLine.{LabeledLine}
+use Rattle.texting_robots.specs.Callers.{Disallow, PlacedRule, by_value, escaped, label_by_value}
+use Rattle.texting_robots.specs.Executable.{rule_in}
+use Rattle.texting_robots.specs.Internal.Group.{placed}
+use Rattle.robots_warnings.specs.File.{lines_of}
+use Rattle.robots_warnings.specs.Internal.Conflicts.{Patterns}
+use Rattle.robots_warnings.specs.Internal.Replaced.{AddsDenied}
+use Rattle.robots_warnings.specs.Replaced.{keep_none}
+use Rattle.robots_warnings.proofs.NameLemmas.{either}
+
+-- inserting the pattern of a Disallow makes the set that `AddsDenied` describes
+pub denied_added : {S : Type 0} (old new : Patterns S) (key : String Global) (number : ℕ) (value : List ℕ)
+    → Some (string_bytes key) ≡ (if is_utf8 value then Some (escaped value) else None)
+    → Updates string_eq old new key true → AddsDenied old new (placed number (rule_in (Disallow value)))
+denied_added old new key number value is updates = at (is_utf8 value) is
+  where
+    at : (utf8 : Bool) → Some (string_bytes key) ≡ (if utf8 then Some (escaped value) else None)
+        → AddsDenied old new (placed number (if utf8 then Some (escaped value, false) else None))
+    at false is = cc
+    at true is = record {
+      each = λ pattern.
+          hash_set_updates_text (string_bytes key) old new true updates pattern
+          ∙ either (contains_text old pattern) (bytes_eq (string_bytes key) pattern)
+          ∙ ap (λ found. contains_text old pattern || option_map_or
+          (λ bytes. bytes_eq bytes pattern) found false)
+          is;
+    }
+
+-- whether the lines from index `at` on keep none of the rules, in terms of the line there
+pub none_from : (rules : List PlacedRule) (begun : Bool) (labels : List LabeledLine) (at : ℕ)
+    (labeled : LabeledLine) → at < length labels
+    → keep_none rules begun (lines_of (map label_by_value (drop at labels)))
+    ≡ keep_none rules begun (by_value (slice_index_or labels at labeled).line
+    ∷ lines_of (map label_by_value (drop (at + 1) labels)))
+none_from rules begun labels at labeled below = rw (drop_more labels at labeled below) refl

@@ -1,0 +1,14 @@
+use Rattle.std.proofs.Common.{◌≡◌, ◌++◌, drop, filter, map}
+use Rattle.texting_robots.specs.Callers.{Label, label_by_value}
+use Rattle.robots_warnings.specs.File.{lines_of}
+use Rattle.robots_warnings.specs.Spellings.{is_unpaired_at, unpaired_in}
+use Rattle.robots_warnings.proofs.spellings.add_unpaired.Given as goal
+
+-- the numbers found and those among the remaining lines are all numbers
+abbrev pub invariant-loop-labeled : goal.invariant-loop-labeled
+invariant-loop-labeled l =
+    let group = map label_by_value l.group in
+    l.found.items ++ map (λ (label : Label). label.number)
+    (filter (is_unpaired_at l.everywhere (lines_of group))
+    (map label_by_value (drop l.labeled-index l.group)))
+    ≡ l.fn.found.items ++ unpaired_in l.everywhere group

@@ -1,0 +1,30 @@
+-- Rules that repeat a rule above them in their group.
+use Rattle.std.specs.Prelude.{ℕ, Bool, true, false, ◌&&◌, List, [], ◌∷◌, ◌++◌, if◌then◌else◌}
+use Rattle.std.specs.List.{list_any}
+use Rattle.texting_robots.specs.Callers.{Allow, Disallow, LineValue, Label}
+use Rattle.texting_robots.specs.Group.{is_agent}
+use Rattle.robots_warnings.specs.Checks.{is_in_scope_of}
+use Rattle.robots_warnings.specs.Spellings.{is_rule_with}
+
+-- the line is a rule, and one of the lines above it in its group is a rule of the same kind with the same
+-- value
+abbrev pub is_repeated : List LineValue → LineValue → Bool
+is_repeated above (Allow value) = list_any (is_rule_with true value) above
+is_repeated above (Disallow value) = list_any (is_rule_with false value) above
+is_repeated above _ = false
+
+-- the lines of the group above the next line
+abbrev pub above_next : List LineValue → LineValue → List LineValue
+above_next above line = if is_agent line then [] else above ++ line ∷ []
+
+-- the numbers of such rules that are checked, among these lines; `above` are the lines of their group above
+-- them
+abbrev pub repeated_from : Bool → List LineValue → List Label → List ℕ
+repeated_from everywhere above [] = []
+repeated_from everywhere above (label ∷ labels) =
+    (if is_in_scope_of everywhere label.membership && is_repeated above label.line
+    then label.number ∷ [] else [])
+    ++ repeated_from everywhere (above_next above label.line) labels
+
+abbrev pub repeated : Bool → List Label → List ℕ
+repeated everywhere labels = repeated_from everywhere [] labels

@@ -1,0 +1,80 @@
+//! Rules that repeat a rule above them in their group.
+ghost use Rattle.std.specs.Prelude.{◌≡◌, ◌&&◌, IfOk, [], map};
+ghost use Rattle.texting_robots.specs.Callers.{by_value, label_by_value};
+ghost use Rattle.robots_warnings.specs.Checks.{is_in_scope_of};
+ghost use Rattle.robots_warnings.specs.Internal.Repeated.{HasMet, MeetsLine};
+ghost use Rattle.robots_warnings.specs.Internal.Spellings.{MeetsValue};
+ghost use Rattle.robots_warnings.specs.Repeated.{repeated};
+
+use crate::checks::is_in_scope_of;
+use crate::names_past_limit::add;
+use crate::spellings::Values;
+use std::alloc::{AllocError, Global};
+use std::collections::BTreeSet;
+use texting_robots::labels::{LabeledLine, Membership};
+use texting_robots::parser::Line;
+
+/// The rules of a group that were met, by their values.
+#[derive(Drop)]
+struct Met {
+    allows: Values,
+    disallows: Values,
+}
+
+/// No rules.
+fn nothing(alloc: Global) -> Met
+    ensures { HasMet result [] }
+{
+    Met {
+        allows: BTreeSet::new(alloc),
+        disallows: BTreeSet::new(alloc),
+    }
+}
+
+/// Inserts the value, and returns whether the set had it already.
+fn meet(alloc: Global, values: &mut Values, value: &[u8]) -> Result<bool, AllocError>
+    ensures { IfOk result (λ is. MeetsValue values.old values.new value.now is) }
+{
+    Ok(!values.insert(value.to_vec(alloc)?)?)
+}
+
+/// Meets a line, and returns whether it repeats a rule.
+fn meet_line(alloc: Global, met: &mut Met, line: Line<'_>) -> Result<bool, AllocError>
+    ensures { IfOk result (λ is. MeetsLine met.old met.new (by_value line.entry) is) }
+{
+    match line {
+        Line::Allow(value) => meet(alloc, &mut met.allows, value),
+        Line::Disallow(value) => meet(alloc, &mut met.disallows, value),
+        Line::UserAgent(_) => {
+            *met = nothing(alloc);
+            Ok(false)
+        }
+        Line::CrawlDelay(_) | Line::Sitemap(_) | Line::Raw(_) => Ok(false),
+    }
+}
+
+/// Whether a rule with this membership is checked, and `is` is true.
+fn is_checked(everywhere: bool, membership: Membership, is: bool) -> bool
+    ensures { result ≡ (is_in_scope_of everywhere membership && is) }
+{
+    is_in_scope_of(everywhere, membership) && is
+}
+
+/// The numbers of the rules that are checked and repeat a rule above them in their group.
+#[tactic(auto, using(crate::proofs::RepeatedLemmas::found_next))]
+pub(crate) fn repeated(
+    alloc: Global,
+    everywhere: bool,
+    labels: &[LabeledLine<'_>],
+) -> Result<Vec<usize>, AllocError>
+    ensures { IfOk result (λ found. found.items ≡ repeated everywhere (map label_by_value labels.now)) }
+{
+    let mut met = nothing(alloc);
+    let mut found = Vec::new(alloc);
+    for labeled in labels {
+        let is = meet_line(alloc, &mut met, labeled.line)?;
+        let repeats = is_checked(everywhere, labeled.membership, is);
+        add(&mut found, repeats, labeled.number)?;
+    }
+    Ok(found)
+}

@@ -1,0 +1,214 @@
+//! Rules with a nonstandard percent escape, for which the group has no rule in the standard spelling.
+ghost use Rattle.std.specs.Prelude.{◌≡◌, ◌<◌, ◌++◌, ◌&&◌, Bool, List, IfOk, OnOk, false, length, map, slice_index, true};
+ghost use Rattle.std.specs.Char.{is_ascii_hexdigit};
+ghost use Rattle.std.specs.List.{list_any, slice_split};
+ghost use Rattle.texting_robots.specs.Callers.{LineValue, by_value, label_by_value};
+ghost use Rattle.robots_warnings.specs.File.{lines_of};
+ghost use Rattle.robots_warnings.specs.Internal.Spellings.{AddsValue, HasValues, has_odd_line};
+ghost use Rattle.robots_warnings.specs.Spellings.{is_agent_line, is_escape, is_unpaired, is_unpaired_at, nonstandard_escapes};
+ghost use Rattle.robots_warnings.specs.Spellings.{standard_escape, standard_spelling, unpaired_in};
+
+use crate::checks::is_in_scope_of;
+use crate::names_past_limit::add;
+use crate::rules::{has_odd_escape, hex_value, needs_no_escape};
+use std::alloc::{AllocError, Global};
+use std::collections::BTreeSet;
+use texting_robots::labels::LabeledLine;
+use texting_robots::parser::Line;
+
+/// The values of rules.
+pub(crate) type Values = BTreeSet<Vec<u8>>;
+
+/// Whether the text starts with a percent escape.
+fn begins_escape(text: &[u8]) -> bool
+    ensures value { result ≡ is_escape (slice_index text.now 0) (slice_index text.now 1) (slice_index text.now 2) }
+    ensures within { result ≡ true → 2 < length text.now }
+{
+    match text {
+        [first, high, low, ..] => {
+            *first == b'%' && high.is_ascii_hexdigit() && low.is_ascii_hexdigit()
+        }
+        _ => false,
+    }
+}
+
+/// Appends the escape with these digits in its standard spelling.
+fn push_standard_escape(text: &mut Vec<u8>, high: u8, low: u8) -> Result<(), AllocError>
+    requires high { is_ascii_hexdigit high ≡ true }
+    requires low { is_ascii_hexdigit low ≡ true }
+    ensures { OnOk result (text.new.items ≡ text.old.items ++ standard_escape high low) }
+{
+    let byte = hex_value(high) * 16 + hex_value(low);
+    if needs_no_escape(byte) {
+        text.push(byte)?;
+        return Ok(());
+    }
+    text.push(b'%')?;
+    text.push(high.to_ascii_uppercase())?;
+    text.push(low.to_ascii_uppercase())?;
+    Ok(())
+}
+
+/// The value with each percent escape in its standard spelling.
+fn standard_spelling(alloc: Global, value: &[u8]) -> Result<Vec<u8>, AllocError>
+    ensures { IfOk result (λ text. text.items ≡ standard_spelling value.now) }
+{
+    let mut text = Vec::new(alloc);
+    let mut rest = value;
+    while let [first, next @ ..] = rest {
+        if begins_escape(rest) {
+            push_standard_escape(&mut text, rest[1], rest[2])?;
+            rest = &rest[3..];
+        } else {
+            text.push(*first)?;
+            rest = next;
+        }
+    }
+    Ok(text)
+}
+
+/// Inserts the value of the line, if it is a rule of this kind.
+#[tactic(auto, using(crate::proofs::SpellingLemmas::value_added))]
+fn add_value(
+    alloc: Global,
+    values: &mut Values,
+    is_allow: bool,
+    line: Line<'_>,
+) -> Result<(), AllocError>
+    ensures { OnOk result (AddsValue values.old values.new is_allow (by_value line.entry)) }
+{
+    let value = match line {
+        Line::Allow(value) if is_allow => value,
+        Line::Disallow(value) if !is_allow => value,
+        _ => return Ok(()),
+    };
+    values.insert(value.to_vec(alloc)?)?;
+    Ok(())
+}
+
+/// The values of the rules of this kind in the group.
+#[tactic(auto, using(crate::proofs::SpellingLemmas::values_more))]
+fn values_of(alloc: Global, is_allow: bool, group: &[LabeledLine<'_>]) -> Result<Values, AllocError>
+    ensures { IfOk result (λ values. HasValues values is_allow (lines_of (map label_by_value group.now))) }
+{
+    let mut values = BTreeSet::new(alloc);
+    for labeled in group {
+        add_value(alloc, &mut values, is_allow, labeled.line)?;
+    }
+    Ok(values)
+}
+
+/// Whether the value has a nonstandard escape, and its standard spelling isn't one of these values.
+fn is_unpaired(alloc: Global, values: &Values, value: &[u8]) -> Result<bool, AllocError>
+    ensures { IfOk result (λ is. (is_allow : Bool) (lines : List LineValue) → HasValues values.now is_allow lines
+        → is ≡ is_unpaired lines is_allow value.now) }
+{
+    if !has_odd_escape(value) {
+        return Ok(false);
+    }
+    let spelling = standard_spelling(alloc, value)?;
+    Ok(!values.contains(&spelling))
+}
+
+/// Whether the line is a rule that is checked and has a nonstandard escape, and its standard spelling isn't among the
+/// values of its kind.
+fn is_unpaired_at(
+    alloc: Global,
+    everywhere: bool,
+    allows: &Values,
+    disallows: &Values,
+    labeled: &LabeledLine<'_>,
+) -> Result<bool, AllocError>
+    ensures { IfOk result (λ is. (lines : List LineValue) → HasValues allows.now true lines
+        → HasValues disallows.now false lines
+        → is ≡ is_unpaired_at everywhere lines (label_by_value labeled.now)) }
+{
+    if !is_in_scope_of(everywhere, labeled.membership) {
+        return Ok(false);
+    }
+    match labeled.line {
+        Line::Allow(value) => is_unpaired(alloc, allows, value),
+        Line::Disallow(value) => is_unpaired(alloc, disallows, value),
+        _ => Ok(false),
+    }
+}
+
+/// Whether the line is a rule with a nonstandard escape.
+fn has_odd_line(labeled: &LabeledLine<'_>) -> bool
+    ensures { result ≡ has_odd_line (label_by_value labeled.now) }
+{
+    match labeled.line {
+        Line::Allow(value) | Line::Disallow(value) => has_odd_escape(value),
+        _ => false,
+    }
+}
+
+/// Whether one of the lines is such a rule.
+#[tactic(auto, using(crate::proofs::SpellingLemmas::odd_from))]
+fn has_odd_lines(group: &[LabeledLine<'_>]) -> bool
+    ensures { result ≡ list_any has_odd_line (map label_by_value group.now) }
+{
+    for labeled in group {
+        if has_odd_line(labeled) {
+            return true;
+        }
+    }
+    false
+}
+
+/// Appends the numbers of the rules of a group that are checked, have a nonstandard escape, and whose standard spelling
+/// isn't a rule of their kind in the group.
+#[tactic(auto, using(crate::proofs::SpellingLemmas::unpaired_from, crate::proofs::SpellingLemmas::none_unpaired))]
+fn add_unpaired(
+    alloc: Global,
+    found: &mut Vec<usize>,
+    everywhere: bool,
+    group: &[LabeledLine<'_>],
+) -> Result<(), AllocError>
+    ensures { OnOk result (found.new.items ≡ found.old.items ++ unpaired_in everywhere (map label_by_value group.now)) }
+{
+    if !has_odd_lines(group) {
+        return Ok(());
+    }
+    let allows = values_of(alloc, true, group)?;
+    let disallows = values_of(alloc, false, group)?;
+    for labeled in group {
+        let is = is_unpaired_at(alloc, everywhere, &allows, &disallows, labeled)?;
+        add(found, is, labeled.number)?;
+    }
+    Ok(())
+}
+
+/// Whether the line is a user-agent line.
+fn is_agent_line(labeled: &LabeledLine<'_>) -> bool
+    ensures { result ≡ is_agent_line (label_by_value labeled.now) }
+{
+    matches!(labeled.line, Line::UserAgent(_))
+}
+
+/// The lines between user-agent lines.
+fn groups<'a, 'b>(
+    alloc: Global,
+    labels: &'a [LabeledLine<'b>],
+) -> Result<Vec<&'a [LabeledLine<'b>]>, AllocError>
+    ensures { IfOk result (λ groups. map (λ group. map label_by_value group.now) groups.items
+        ≡ slice_split is_agent_line (map label_by_value labels.now)) }
+{
+    labels.split(is_agent_line).collect(alloc)
+}
+
+/// The numbers of the rules that are checked, have a nonstandard escape, and whose standard spelling isn't a rule of
+/// their kind in their group.
+pub(crate) fn nonstandard_escapes(
+    alloc: Global,
+    everywhere: bool,
+    labels: &[LabeledLine<'_>],
+) -> Result<Vec<usize>, AllocError>
+    ensures { IfOk result (λ found. found.items ≡ nonstandard_escapes everywhere (map label_by_value labels.now)) }
+{
+    let mut found = Vec::new(alloc);
+    for group in &groups(alloc, labels)? {
+        add_unpaired(alloc, &mut found, everywhere, group)?;
+    }
+    Ok(found)
+}
