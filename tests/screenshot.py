@@ -16,8 +16,7 @@ def main():
         page = Path(folder) / "report.html"
         page.write_text(run("robots_audit", shlex.split(args), (ROOT / file).read_bytes()).out, newline="")
         browser = Browser(shutil.which("chromium"), Path(folder) / "profile")
-        browser.open(page, width=900, height=400)
-        browser.open(page, width=900, height=browser.value("document.documentElement.scrollHeight"))
+        browser.open(page, width=760, height=800)
         (ROOT / "docs/report.png").write_bytes(browser.screenshot())
         browser.close()
 

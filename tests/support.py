@@ -178,6 +178,6 @@ def wanted_of(case):
     if "room" in case:
         out = out[: case["room"] if case["room"] != "closed" else 0]
     warnings = spelled(case.get("warn", "")).decode().splitlines()
-    named = re.search(r"(?:-q?f[ =]?|--file[ =])(?!- )(\S+)", case.get("args", ""))
+    named = re.search(r"(?:(?<!-)-q?f[ =]?|--file[ =])(?!- )(\S+)", case.get("args", ""))
     file = named[1] if named else "robots.txt"
     return Result(case.get("status", 0), out, lines(case.get("err", "")) + warning_lines(warnings, file).encode())

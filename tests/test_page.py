@@ -134,11 +134,16 @@ def words(warning):
     return f"{warning['level'].capitalize()}: {warning['text']} [{warning['name']}]"
 
 
+def delay(micros):
+    return "none" if micros is None else f"{micros / 1e6:g} s"
+
+
 def rows_of(found):
     """The rows that the lines and the warnings of a report have."""
     rows = []
     for line in found["lines"]:
-        cells = [str(line["number"]), line["membership"], line["kind"], line["value"] or ""]
+        value = delay(line["value"]) if line["kind"] == "crawl-delay" else line["value"] or ""
+        cells = [str(line["number"]), line["membership"], line["kind"], value]
         rows.append(({"id": f"L{line['number']}", "class": line["membership"]}, cells))
         rows += [({"class": it["level"]}, [words(it)]) for it in found["warnings"] if it["line"] == line["number"]]
     return rows
@@ -191,8 +196,7 @@ def test_page_about_all_crawlers():
     elements, found = Reader(page("--agents", *URLS)).elements, audit("--agents", *URLS)
     rows = [["Crawler", "Group", "Crawl delay", *URLS]]
     for it in found["agents"]:
-        delay = f"{it['delay'] / 1e6:g} s" if it["delay"] is not None else "none"
-        rows.append([it["agent"], it["agent"], delay, *map(verdict, it["verdicts"])])
+        rows.append([it["agent"], it["agent"], delay(it["delay"]), *map(verdict, it["verdicts"])])
     assert [cells for _, cells in children(elements, "tr")][: len(rows)] == rows
     assert [row for row in children(elements, "tr") if row[0]] == rows_of({**audit("*"), "warnings": found["warnings"]})
 
@@ -223,6 +227,11 @@ def with_text(text):
     return b"User-agent: *\nDisallow: /" + text + b"\nSitemap: /" + text + b"\nx " + text + b"\n"
 
 
+def harmless(text):
+    """A text that makes the same lines: NUL ends a line, and a sitemap that isn't UTF-8 isn't listed."""
+    return re.sub(rb"[^\0]+", b"\xff" if b"\xff" in text else b"harmless", text)
+
+
 def shape(elements):
     return [element[:2] for element in elements]
 
@@ -230,7 +239,7 @@ def shape(elements):
 @pytest.mark.parametrize("text", HOSTILE)
 def test_text_of_a_file_becomes_no_element(text):
     args = ["--only", "sitemap-not-absolute", "FerrisBot", "/x"]
-    elements = [Reader(page(*args, file=with_text(it))).elements for it in (text, b"harmless")]
+    elements = [Reader(page(*args, file=with_text(it))).elements for it in (text, harmless(text))]
     assert shape(elements[0]) == shape(elements[1])
 
 
