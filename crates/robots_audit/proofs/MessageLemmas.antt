@@ -1,7 +1,8 @@
 -- The message on standard error contains no control or bidirectional-formatting characters other than LF,
 -- whatever the run returns.
 use Rattle.std.proofs.Common.{◌≡◌, ℕ, true, List, [], ◌∷◌, ◌++◌, Result, Ok, Err, Option}
-use Rattle.std.proofs.Common.{codes, inl, inr, refl, string_bytes, subst, sym, IfErr, IsErrOf}
+use Rattle.std.proofs.Common.{codes, inl, inr, refl, string_bytes, subst, sym, IfErr, IsErrAnd, IsErrOf}
+use Rattle.std.proofs.lemmas.Bool.{cases_Bool}
 use Rattle.clap.specs.declared.parser.matches.ArgMatches.{ArgMatches}
 use Rattle.robots_io.specs.Lines.{lf}
 use Rattle.robots_io.specs.Sanitize.{IsPrintable}
@@ -13,9 +14,11 @@ use Rattle.robots_audit.specs.declared.fault.Fault.TheVariants.{File, Malformed,
 use Rattle.robots_audit.specs.declared.fault.Fault.TheVariants.{NotUtf8, Read, StdinTwice, UnknownWarning}
 use Rattle.robots_audit.specs.declared.fault.Fault.TheVariants.{UrlNotUtf8, Usage, Words, Write}
 use Rattle.robots_audit.specs.declared.fault.Outcome.{Outcome}
-use Rattle.robots_audit.specs.Answer.{Audits, Ends, Helps, IsFileUnreadable, IsRejection, requested_by}
+use Rattle.robots_audit.specs.Answer.{Audits, Ends, IsFileUnreadable, IsRejection, Prints, requested_by}
 use Rattle.robots_audit.specs.Command.{Asks, IsUnknown, IsUnknownIn}
+use Rattle.robots_audit.specs.Explain.{Explains, MayPrint, explanation}
 use Rattle.robots_audit.specs.Fault.{MayFail, fault_text, message_after}
+use Rattle.robots_warnings.specs.Table.{is_name}
 use Rattle.robots_audit.proofs.PrintableLemmas.{message_printable}
 
 -- the message for an error with a name
@@ -74,7 +77,7 @@ unreadable_printable name Read is = cc
 unreadable_printable name Write is = cc
 unreadable_printable name Memory is = memory_printable Memory refl
 
-unknown_printable : (name : List ℕ) (fault : Fault) → IsUnknown name fault → IsPrintable (fault_text fault)
+pub unknown_printable : (name : List ℕ) (fault : Fault) → IsUnknown name fault → IsPrintable (fault_text fault)
 unknown_printable name (Words text) is = cc
 unknown_printable name Usage is = cc
 unknown_printable name NotUtf8 is = cc
@@ -133,11 +136,28 @@ audited_printable request ends (Ok outcome) is =
     subst IsPrintable (sym found.warnings) (message_printable (requested_by request) audit)
 audited_printable request ends (Err fault) is = may_fail_printable fault is.reported.fault
 
-pub help_printable : (text : List ℕ) (old new : Option (List ℕ)) (result : Result Outcome Fault)
-    → Helps text old new result → IsPrintable (message_after result)
-help_printable text old new (Ok outcome) is =
+pub print_printable : (text : List ℕ) (old new : Option (List ℕ)) (result : Result Outcome Fault)
+    → Prints text old new result → IsPrintable (message_after result)
+print_printable text old new (Ok outcome) is =
     let (accepted, allowed, relaxed, silent) = is.quiet in
     subst IsPrintable (sym silent) (nil_printable true)
-help_printable text old new (Err fault) is =
+print_printable text old new (Err fault) is =
     subst (λ (fault : Fault). IsPrintable (fault_text fault)) (sym is.fault)
     (ascii_printable true (fault_text Write) refl)
+
+pub may_print_printable : (text : List ℕ) (old new : Option (List ℕ)) (result : Result Outcome Fault)
+    → MayPrint text old new result → IsPrintable (message_after result)
+may_print_printable text old new result (inl is) = print_printable text old new result is
+may_print_printable text old new result (inr (is, kept)) = memory_outcome result is
+
+pub explain_printable : (name : List ℕ) (old new : Option (List ℕ)) (result : Result Outcome Fault)
+    → Explains name old new result → IsPrintable (message_after result)
+explain_printable name old new result is = elim (cases_Bool (is_name name)) [
+  | inl known ↦ may_print_printable (explanation name) old new result (is.known known)
+  | inr unknown ↦ refused result (is.unknown unknown).0
+]
+  where
+    refused : (result : Result Outcome Fault) → IsErrAnd result (IsUnknown name)
+        → IsPrintable (message_after result)
+    refused (Ok outcome) is = absurd is
+    refused (Err fault) is = unknown_printable name fault is

@@ -123,9 +123,9 @@ pub record Audits (request : Request) (ends : Ends) (result : Result Outcome Fau
   pub reported : AuditsFile request ends result file
   pub nothing_written : IfErr result (λ fault. fault ≢ Write → Keeps ends.old ends.new)
 
--- the help or the version is written, or if the write fails a prefix of it; the outcome has no warnings,
+-- the text, such as the help, is written, or if the write fails a prefix of it; the outcome has no warnings,
 -- and leads to exit status 0
-pub record Helps (text : List ℕ) (old new : Option (List ℕ)) (result : Result Outcome Fault)
+pub record Prints (text : List ℕ) (old new : Option (List ℕ)) (result : Result Outcome Fault)
     : Type 0 where
   pub ok : IfOk result (λ outcome. Appends old new text)
   pub quiet : IfOk result (λ outcome. (outcome.is_rejected ≡ false) × (outcome.all_allowed ≡ true)

@@ -9,6 +9,7 @@ pub mod Report
 pub mod Json
 pub mod Page
 pub mod Answer
+pub mod Explain
 pub mod Expect
 pub mod Expectations
 pub mod UrlList

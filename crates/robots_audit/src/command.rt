@@ -165,17 +165,19 @@ fn with_names<'a>(alloc: Global, called: Command<'a>) -> Result<Command<'a>, All
     called.arg(ignored)
 }
 
+/// The arguments and options of an audit, other than `--file`.
+static OF_AUDITS: [&str; 13] = [
+    "agent", "url", "agents", "crawler", "urls", "denied", "quiet", "format", "json", "html",
+    "strict", "only", "ignore",
+];
+
 /// Adds the option `--expect`, which excludes all others but `--file`.
 fn with_expect<'a>(alloc: Global, called: Command<'a>) -> Result<Command<'a>, AllocError> {
-    let others = [
-        "agent", "url", "agents", "crawler", "urls", "denied", "quiet", "format", "json", "html",
-        "strict", "only", "ignore",
-    ];
     let expect = Arg::new(alloc, "expect")
         .long("expect")
         .value_name("FILE")
         .help("Check the lines \"allow AGENT URL\" and \"deny AGENT URL\" of this file instead")
-        .conflicts_with_all(&others)?;
+        .conflicts_with_all(&OF_AUDITS)?;
     called.arg(expect)
 }
 
@@ -192,6 +194,25 @@ fn with_compare<'a>(alloc: Global, called: Command<'a>) -> Result<Command<'a>, A
     called.arg(compare)
 }
 
+/// Adds the options `--list-warnings` and `--explain`, which exclude all others.
+fn with_lists<'a>(alloc: Global, called: Command<'a>) -> Result<Command<'a>, AllocError> {
+    let list = switch(
+        alloc,
+        "list-warnings",
+        "List all warnings with their levels and messages",
+    )
+    .conflicts_with_all(&OF_AUDITS)?
+    .conflicts_with_all(&["file", "expect", "compare"])?;
+    let called = called.arg(list)?;
+    let explain = Arg::new(alloc, "explain")
+        .long("explain")
+        .value_name("NAME")
+        .help("Show the level, the message and an example of the warning with this name")
+        .conflicts_with_all(&OF_AUDITS)?
+        .conflicts_with_all(&["file", "expect", "compare", "list-warnings"])?;
+    called.arg(explain)
+}
+
 /// The program's options and arguments.
 pub fn command<'a>(alloc: Global) -> Result<Command<'a>, AllocError> {
     let called = Command::new(alloc, "robots_audit")
@@ -201,7 +222,7 @@ pub fn command<'a>(alloc: Global) -> Result<Command<'a>, AllocError> {
     let called = with_list(alloc, with_words(alloc, called)?)?;
     let called = with_switches(alloc, with_crawlers(alloc, called)?)?;
     let called = with_expect(alloc, with_names(alloc, called)?)?;
-    with_compare(alloc, called)
+    with_lists(alloc, with_compare(alloc, called)?)
 }
 
 /// The name of the file that is read; `None` for standard input, which `-` means too.
@@ -311,7 +332,7 @@ fn values_of<'a>(
 }
 
 /// The error for a name that no warning has; `Fault::Memory` if an allocation fails.
-fn unknown(alloc: Global, name: &str) -> Fault
+pub(crate) fn unknown(alloc: Global, name: &str) -> Fault
     ensures { IsUnknown name.now result }
 {
     let mut sanitized = String::new(alloc);

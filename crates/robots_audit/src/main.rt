@@ -8,6 +8,8 @@
 //!
 //! With `--compare` it writes instead what differs from an older version of the file.
 //!
+//! With `--list-warnings` or `--explain` it writes what warnings there are, or what one means, and reads nothing.
+//!
 //! With `--expect` it checks instead whether crawlers may fetch what a file of expectations says, and writes a line for
 //! each that fails.
 //!
@@ -30,6 +32,7 @@ mod denied;
 mod differences;
 mod expect;
 mod expectations;
+mod explain;
 mod fault;
 mod group;
 mod json;
@@ -47,8 +50,9 @@ use clap::error::ErrorKind as WordsKind;
 use command::{Request, command, file_read, requested};
 use compare::compare;
 use expectations::check;
+use explain::{explain, list_warnings};
 use fault::{Fault, Outcome, StderrMessage, status_after};
-use program::{help, rejected, run, unread};
+use program::{print, rejected, run, unread};
 use robots_io::streams::{ReadFault, read_all};
 use std::alloc::Global;
 use std::env;
@@ -78,7 +82,7 @@ fn reported(rt: &HostRuntime, error: clap::Error) -> Result<Outcome, Fault>
     if error.use_stderr() {
         Err(rejected(rt.alloc(), &text))
     } else {
-        help(rt.alloc(), &text, &mut rt.stdout())
+        print(rt.alloc(), text.as_bytes(), &mut rt.stdout())
     }
 }
 
@@ -224,6 +228,12 @@ fn compared_with(rt: &HostRuntime, matches: &ArgMatches<'_>, older: &str) -> Res
 fn done(rt: &HostRuntime, matches: &ArgMatches<'_>) -> Result<Outcome, Fault>
     ensures { IsPrintable (message_after result) }
 {
+    if matches.get_flag("list-warnings") {
+        return list_warnings(rt.alloc(), &mut rt.stdout());
+    }
+    if let Some(name) = matches.get_str("explain") {
+        return explain(rt.alloc(), name, &mut rt.stdout());
+    }
     if let Some(expected) = matches.get_str("expect") {
         return checked(rt, matches, expected);
     }

@@ -1,6 +1,6 @@
 //! The program for any reader and writer, without the command line.
 ghost use Rattle.std.specs.Prelude.{◌≡◌, IfOk, Some, map, option_map, string_bytes};
-ghost use Rattle.robots_audit.specs.Answer.{Audits, Helps, IsRejection, IsFileUnreadable, requested_by, has_rows, is_warned, output, message, shown_name};
+ghost use Rattle.robots_audit.specs.Answer.{Audits, Prints, IsRejection, IsFileUnreadable, requested_by, has_rows, is_warned, output, message, shown_name};
 ghost use Rattle.robots_audit.specs.Internal.{audit_value};
 ghost use Rattle.robots_warnings.specs.Internal.{warning_value};
 
@@ -128,11 +128,11 @@ pub fn run<R: Read, W: Write>(
     Ok(outcome)
 }
 
-/// Writes the help or the version, which `clap` returned as `text`.
-pub fn help<W: Write>(alloc: Global, text: &str, writer: &mut W) -> Result<Outcome, Fault>
-    ensures { Helps text.now (W.contents writer.old) (W.contents writer.new) result }
+/// Writes a text that is no report, such as the help.
+pub fn print<W: Write>(alloc: Global, text: &[u8], writer: &mut W) -> Result<Outcome, Fault>
+    ensures { Prints text.now (W.contents writer.old) (W.contents writer.new) result }
 {
-    write_out(writer, text.as_bytes())?;
+    write_out(writer, text)?;
     Ok(Outcome {
         is_rejected: false,
         all_allowed: true,

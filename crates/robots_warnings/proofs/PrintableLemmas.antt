@@ -4,7 +4,8 @@ use Rattle.std.proofs.Common.{codes, refl}
 use Rattle.std.{specs.List.list_all, specs.Prelude.slice_index_or, proofs.lemmas.Bool.and_parts}
 use Rattle.robots_warnings.specs.declared.table.Cause.{Cause}
 use Rattle.robots_warnings.specs.declared.table.TheConstants.{WARNINGS}
-use Rattle.robots_warnings.specs.Table.{level_of, name_of, number_of, text_of}
+use Rattle.robots_warnings.specs.declared.examples.TheConstants.{EXAMPLES}
+use Rattle.robots_warnings.specs.Table.{example_of, level_of, name_of, number_of, text_of}
 use Rattle.robots_warnings.specs.declared.level.Level.{Level}
 use Rattle.robots_warnings.specs.declared.level.Level.TheVariants.{Error, Note, Warning}
 use Rattle.robots_warnings.specs.Level.{level_word}
@@ -34,10 +35,16 @@ unfolding name_of
 names_printable cause =
     ascii_printable true (name_of cause) (each_ascii (map (λ row. row.2.now) WARNINGS) (number_of cause) refl)
 
-texts_printable : (cause : Cause) → IsPrintable (text_of cause)
+pub texts_printable : (cause : Cause) → IsPrintable (text_of cause)
 unfolding text_of
 texts_printable cause =
     ascii_printable true (text_of cause) (each_ascii (map (λ row. row.3.now) WARNINGS) (number_of cause) refl)
+
+pub example_printable : (cause : Cause) → IsPrintable (example_of cause)
+unfolding example_of
+example_printable cause =
+    ascii_printable true (example_of cause)
+    (each_ascii (map (λ row. row.1.now) EXAMPLES) (number_of cause) refl)
 
 -- ---- a warning
 

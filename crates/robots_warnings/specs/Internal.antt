@@ -41,6 +41,14 @@ name_value row = (row.0.now, row.1)
 abbrev pub Row : Type 0
 Row = Cause × Level × Bor (List ℕ) × Bor (List ℕ)
 
+-- a row of the table of examples
+abbrev pub Example : Type 0
+Example = Cause × Bor (List ℕ)
+
+-- the item is at this index
+pub record IsAt {X : Type 0} (items : List X) (number : ℕ) (item : X) : Type 0 where
+  pub found : slice_get items number ≡ Some item
+
 -- the row is at this index
-pub record IsRowAt (rows : List Row) (number : ℕ) (row : Row) : Type 0 where
-  pub found : slice_get rows number ≡ Some row
+abbrev pub IsRowAt : List Row → ℕ → Row → Type 0
+IsRowAt rows number row = IsAt rows number row

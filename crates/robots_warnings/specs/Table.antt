@@ -1,4 +1,4 @@
--- Every warning, with its level, its name and its message, as in the table of src/table.rt.
+-- Every warning, with its level, its name and its message, as in the table of src/table.rt, and its example.
 use Rattle.std.specs.Prelude.{ℕ, Bool, List, [], bytes_eq, map, slice_index_or}
 use Rattle.std.specs.List.{list_any}
 use denote.Enum.Declared.{tag_of}
@@ -6,6 +6,7 @@ use Rattle.robots_warnings.specs.contracts.table.Cause.{the_type}
 use Rattle.robots_warnings.specs.declared.level.Level.{Level}
 use Rattle.robots_warnings.specs.declared.level.Level.TheVariants as level
 use Rattle.robots_warnings.specs.declared.table.Cause.{Cause}
+use Rattle.robots_warnings.specs.declared.examples.TheConstants.{EXAMPLES}
 use Rattle.robots_warnings.specs.declared.table.TheConstants.{WARNINGS}
 
 -- the index of a warning in the table
@@ -23,6 +24,14 @@ name_of cause = slice_index_or (map (λ row. row.2.now) WARNINGS) (number_of cau
 -- the message of a warning
 unfoldable pub text_of : Cause → List ℕ
 text_of cause = slice_index_or (map (λ row. row.3.now) WARNINGS) (number_of cause) []
+
+-- an example of a warning
+unfoldable pub example_of : Cause → List ℕ
+example_of cause = slice_index_or (map (λ row. row.1.now) EXAMPLES) (number_of cause) []
+
+-- the reasons for all warnings
+unfoldable pub all_causes : List Cause
+all_causes = map (λ row. row.0) WARNINGS
 
 -- some warning has this name
 unfoldable pub is_name : List ℕ → Bool

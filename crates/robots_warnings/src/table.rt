@@ -1,11 +1,12 @@
 //! Every warning, in the order of output: its level, its name, which is shown in `[..]` and is the `name` in JSON, and
 //! its message, which states what is wrong, what happens, and what to do. `checks` has the condition of each.
-ghost use Rattle.std.specs.Prelude.{◌≡◌, ◌<◌, bytes_eq, length};
+ghost use Rattle.std.specs.Prelude.{◌≡◌, ◌<◌, IfOk, bytes_eq, length, map};
 ghost use Rattle.std.specs.List.{list_any};
 ghost use Rattle.robots_warnings.specs.Internal.{IsRowAt};
-ghost use Rattle.robots_warnings.specs.Table.{is_name, level_of, name_of, text_of};
+ghost use Rattle.robots_warnings.specs.Table.{all_causes, is_name, level_of, name_of, text_of};
 
 use crate::level::Level;
+use std::alloc::{AllocError, Global};
 
 /// The reason for a warning. Each has a row in [`WARNINGS`].
 #[derive(Clone, Copy, PartialEq, Eq)]
@@ -251,6 +252,28 @@ pub fn is_name(name: &str) -> bool
     ensures { result ≡ is_name name.now }
 {
     has_name(&WARNINGS, name)
+}
+
+/// The reasons in these rows.
+fn causes_in(
+    alloc: Global,
+    rows: &'static [(Cause, Level, &'static str, &'static str)],
+) -> Result<Vec<Cause>, AllocError>
+    ensures { IfOk result (λ causes. causes.items ≡ map (λ row. row.0) rows.now) }
+{
+    let mut causes = Vec::with_capacity(alloc, rows.len())?;
+    for row in rows {
+        causes.push(row.0)?;
+    }
+    Ok(causes)
+}
+
+/// The reasons for all warnings, in the order of [`WARNINGS`].
+#[tactic(auto, unfolding(crate::specs::Table::all_causes))]
+pub fn causes(alloc: Global) -> Result<Vec<Cause>, AllocError>
+    ensures { IfOk result (λ causes. causes.items ≡ all_causes) }
+{
+    causes_in(alloc, &WARNINGS)
 }
 
 impl Cause {

@@ -1,5 +1,5 @@
 use Rattle.std.proofs.Common.{rules}
-use Rattle.robots_audit.proofs.MessageLemmas.{help_printable, memory_outcome, rejection_printable}
+use Rattle.robots_audit.proofs.MessageLemmas.{memory_outcome, print_printable, rejection_printable}
 use Rattle.robots_audit.proofs.reported.Goals as goal
 
 pub returns-in_err-text : goal.returns-in_err-text
@@ -9,4 +9,4 @@ pub returns-then-use_stderr : goal.returns-then-use_stderr
 returns-then-use_stderr c = rejection_printable _ _ c.rejected.ensures
 
 pub returns : goal.returns
-returns c = help_printable _ _ _ _ c.help.ensures
+returns c = print_printable _ _ _ _ c.print.ensures

@@ -6,7 +6,7 @@ use Rattle.robots_warnings.proofs.TableLemmas.{own_row, part_at}
 use Rattle.robots_warnings.proofs.table.Cause.row.Goals as goal
 
 pub returns-clause-own : goal.returns-clause-own
-returns-clause-own c = own_row c.args.self c.row_at.ensures refl
+returns-clause-own c = own_row (λ (row : Row). row.0) c.args.self c.row_at.ensures refl
 
 pub returns-clause-level : goal.returns-clause-level
 unfolding level_of
