@@ -110,6 +110,10 @@ AUDIT_RUNS = {
     "a page": ["--html", "Ferris", *URLS],
     "a page about each agent": ["--html", "--agents", *URLS],
     "a comparison": ["--compare", OLDER, "--agents", *URLS],
+    "annotations": ["--format", "github", "Ferris", *URLS],
+    "SARIF": ["--format", "sarif", "Ferris", *URLS],
+    "the list of warnings": ["--list-warnings"],
+    "an explanation": ["--explain", "missing-slash"],
     "wrong arguments": ["--none", "Ferris"],
     "a name after the first 512,000 bytes": ["--file", BEYOND, "Ferris"],
     "more than twenty warnings with one name": ["--file", JUNK, "Ferris"],
@@ -150,7 +154,11 @@ def test_robots_audit_reports_a_failed_read(failing_heap, long_file, is_named):
     break_each(program, "READ", lambda result, right, number: result == Result(2, "", f"robots_audit: {why}\n"))
 
 
-@pytest.mark.parametrize("options", [[], ["--json"], ["--html"], ["--compare", OLDER]], ids=["text", "JSON", "page", "a comparison"])
+@pytest.mark.parametrize(
+    "options",
+    [[], ["--json"], ["--html"], ["--format", "sarif"], ["--compare", OLDER]],
+    ids=["text", "JSON", "page", "SARIF", "a comparison"],
+)
 def test_robots_audit_reports_a_failed_write(failing_heap, long_file, options):
     """It writes a beginning of its report and says that it can't write the rest, or the whole report and a beginning of what it says on
     standard error."""

@@ -6,7 +6,7 @@ use Rattle.std.proofs.Common.{drop, flat_map, get_or, inl, inr, length, map, ref
 use Rattle.std.proofs.Common.{subst, sym, ◌∙◌}
 use Rattle.std.specs.Prelude.{IsTrue, codes, if◌then◌else◌, not, ◌||◌}
 use Rattle.std.specs.Char.{IsScalar, encode_utf8}
-use Rattle.std.specs.List.{list_all}
+use Rattle.std.specs.List.{AllByRecursion as Each, list_all}
 use Rattle.std.specs.Str.{all_scalars, chars, encode_utf8_all}
 use Rattle.std.proofs.lemmas.Bool.{agree_below, agree_below_at, and_parts, cases_lt}
 use Rattle.std.proofs.lemmas.Bool.Decides.{nat_tests}
@@ -83,7 +83,7 @@ value_without_float (CrawlDelay delay) = number_without_float delay
 value_without_float (Sitemap value) = text_without_float _ _
 value_without_float (Raw body) = text_without_float _ _
 
-list_without_float : {X : Type 0} (value : X → Data) → ((x : X) → has_float (value x) ≡ false)
+pub list_without_float : {X : Type 0} (value : X → Data) → ((x : X) → has_float (value x) ≡ false)
     → (xs : List X) → has_float (list_json value xs) ≡ false
 list_without_float value are [] = refl
 list_without_float value are (x ∷ xs) = rw (are x) (list_without_float value are xs)
@@ -157,11 +157,15 @@ module _ (escape : ℕ → List ℕ) (stay : agree_below (stays_printable escape
       (append_printable true (flat_map escape front) (flat_map escape rest)
       (char_escaped char is.0 plain.0) (text_escaped cs is.1 plain.1))
 
+  pub escaped_printable : (text : List ℕ) → IsPrintable text → IsPrintable (flat_map escape text)
+  escaped_printable text is =
+      subst (λ t. IsPrintable (flat_map escape t)) (encodes-chars text is.utf8)
+      (text_escaped (chars text) (scalars-chars text is.utf8) is.all)
+
   in_quotes : (text : List ℕ) → IsPrintable text → IsPrintable (34 ∷ (flat_map escape text ++ 34 ∷ []))
   in_quotes text is =
       let quote = ascii_printable true (34 ∷ []) refl in
-      let inside = subst (λ t. IsPrintable (flat_map escape t)) (encodes-chars text is.utf8)
-      (text_escaped (chars text) (scalars-chars text is.utf8) is.all) in
+      let inside = escaped_printable text is in
       append_printable true (34 ∷ []) (flat_map escape text ++ 34 ∷ []) quote
       (append_printable true (flat_map escape text) (34 ∷ []) inside quote)
 
@@ -173,7 +177,7 @@ quoted_printable text is = in_quotes _ refl (λ byte high. grind (arith, nat_tes
 
 -- all strings in the value are printable, and the names of its members are printable ASCII
 abbrev mutual
-  HasPrintable : Data → Type 0
+  pub HasPrintable : Data → Type 0
   HasPrintable null = Unit {0}
   HasPrintable (boolean b) = Unit {0}
   HasPrintable (number n) = IsPrintable (number_text n)
@@ -200,7 +204,7 @@ comma_then true text is = byte_then 44 refl text is
 comma_then false text is = is
 
 mutual
-  data_printable : (value : Data) → HasPrintable value → IsPrintable (compact_text value)
+  pub data_printable : (value : Data) → HasPrintable value → IsPrintable (compact_text value)
   data_printable null are = ascii_printable true (compact_text null) refl
   data_printable (boolean true) are = ascii_printable true (compact_text (boolean true)) refl
   data_printable (boolean false) are = ascii_printable true (compact_text (boolean false)) refl
@@ -231,6 +235,11 @@ mutual
       (data_printable value are.1) (members_printable true members are.2))))
 
 -- ---- the strings of an audit
+
+pub each_has : {X : Type 0} (value : X → Data) (xs : List X) → Each (λ x. HasPrintable (value x)) xs
+    → HasPrintable (list_json value xs)
+each_has value [] are = tt
+each_has value (x ∷ xs) (first, later) = (first, each_has value xs later)
 
 list_has : {X : Type 0} (value : X → Data) → ((x : X) → HasPrintable (value x)) → (xs : List X)
     → HasPrintable (list_json value xs)

@@ -9,6 +9,8 @@ pub mod DelayLemmas
 pub mod DeniedLemmas
 pub mod ExpectLemmas
 pub mod ExpectationsLemmas
+pub mod FindingLemmas
+pub mod GithubLemmas
 pub mod HtmlLemmas
 pub mod JsonLemmas
 pub mod LawLemmas
@@ -19,6 +21,7 @@ pub mod PageLemmas
 pub mod PrintableLemmas
 pub mod RowLemmas
 pub mod RuleSetLemmas
+pub mod SarifLemmas
 pub mod SpaceLemmas
 pub mod UrlListLemmas
 pub mod WarningLemmas

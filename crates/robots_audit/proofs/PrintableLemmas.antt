@@ -12,7 +12,7 @@ use Rattle.texting_robots.specs.declared.labels.Membership.TheVariants.{Other, U
 use Rattle.texting_robots.proofs.TrimLemmas.{each_append}
 use Rattle.robots_io.specs.Verdicts.{verdict_front}
 use Rattle.robots_audit.specs.declared.command.Format.{Format}
-use Rattle.robots_audit.specs.declared.command.Format.TheVariants.{Html, Json, Text}
+use Rattle.robots_audit.specs.declared.command.Format.TheVariants.{Github, Html, Json, Sarif, Text}
 use Rattle.robots_audit.specs.declared.group.Group.{Group}
 use Rattle.robots_audit.specs.declared.group.Group.TheVariants.{Everyone, Named, Nobody, Star}
 use Rattle.robots_audit.specs.Answer.{message, message_in, shown_name}
@@ -82,6 +82,8 @@ message_in_printable Text requested audit =
     (listed_printable (shown_name requested.file) audit.warnings)
 message_in_printable Json requested audit = nil_printable true
 message_in_printable Html requested audit = nil_printable true
+message_in_printable Github requested audit = nil_printable true
+message_in_printable Sarif requested audit = nil_printable true
 
 pub message_printable : (requested : RequestValue) (audit : AuditValue)
     → IsPrintable (message requested audit)

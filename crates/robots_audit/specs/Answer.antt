@@ -9,16 +9,19 @@ use Rattle.robots_html.specs.Html.{document}
 use Rattle.robots_io.specs.Streams.{AppendsBeginning}
 use Rattle.robots_io.specs.Lines.{ended}
 use Rattle.robots_audit.specs.declared.command.Format.{Format}
-use Rattle.robots_audit.specs.declared.command.Format.TheVariants.{Html, Json, Text}
+use Rattle.robots_audit.specs.declared.command.Format.TheVariants.{Github, Html, Json, Sarif, Text}
 use Rattle.robots_audit.specs.declared.command.Request.{Request}
 use Rattle.robots_audit.specs.declared.fault.Fault.{Fault}
 use Rattle.robots_audit.specs.declared.fault.Fault.TheVariants.{File, Memory, Words, Write}
 use Rattle.robots_audit.specs.declared.fault.Outcome.{Outcome}
 use Rattle.robots_audit.specs.Audit.{RequestValue, AuditValue, IsAuditOf, all_allowed, rejects_some, shown}
 use Rattle.robots_audit.specs.Fault.{MayFail}
+use Rattle.robots_audit.specs.Findings.{findings}
+use Rattle.robots_audit.specs.Github.{github_text}
 use Rattle.robots_audit.specs.Json.{json_text}
-use Rattle.robots_audit.specs.Report.{listed_lines, report_lines, total_line}
+use Rattle.robots_audit.specs.Report.{listed_lines, report_lines, total_line, warning_lines}
 use Rattle.robots_audit.specs.Page.{page}
+use Rattle.robots_audit.specs.Sarif.{sarif_text}
 use Rattle.robots_io.specs.Sanitize.{sanitized, sanitized_lines}
 use Rattle.robots_warnings.specs.declared.level.Level.{Level}
 use Rattle.robots_warnings.specs.Level.{reaches}
@@ -54,6 +57,11 @@ requested_by request = record {
 abbrev pub has_rows : RequestValue → Bool
 has_rows requested = if requested.is_quiet then false else is_some requested.agent
 
+-- the name of the file in a report, so that editors can open it
+abbrev pub shown_name : Option (List ℕ) → List ℕ
+shown_name None = codes "robots.txt"
+shown_name (Some name) = name
+
 -- the last line has the numbers of allowed and denied URLs, with `--urls` or `--denied`
 abbrev pub total_lines : RequestValue → AuditValue → List (List ℕ)
 total_lines requested audit = if requested.has_totals then total_line audit.agents ∷ [] else []
@@ -65,15 +73,14 @@ output_in Text requested audit =
     ++ total_lines requested audit)
 output_in Json requested audit = json_text (has_rows requested) (shown requested.is_denied_only audit)
 output_in Html requested audit = document (page requested (shown requested.is_denied_only audit))
+output_in Github requested audit =
+    github_text (shown_name requested.file) (findings (shown requested.is_denied_only audit))
+output_in Sarif requested audit =
+    sarif_text (shown_name requested.file) (findings (shown requested.is_denied_only audit))
 
 -- the report in the requested format
 abbrev pub output : RequestValue → AuditValue → List ℕ
 output requested audit = output_in requested.format requested audit
-
--- the name of the file before a warning, so that editors can open it
-abbrev pub shown_name : Option (List ℕ) → List ℕ
-shown_name None = codes "robots.txt"
-shown_name (Some name) = name
 
 -- the message with a report in this format: of each name the first twenty warnings and the number of the others,
 -- unless they are in the report
@@ -81,6 +88,8 @@ abbrev pub message_in : Format → RequestValue → AuditValue → List ℕ
 message_in Text requested audit = ended (listed_lines (shown_name requested.file) audit.warnings)
 message_in Json requested audit = []
 message_in Html requested audit = []
+message_in Github requested audit = []
+message_in Sarif requested audit = []
 
 -- the message on standard error
 abbrev pub message : RequestValue → AuditValue → List ℕ

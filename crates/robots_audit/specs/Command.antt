@@ -8,7 +8,7 @@ use Rattle.std.specs.Option.{option_map_or}
 use Rattle.clap.specs.Words.{first_value, found_of, matched_of, one_text, raw_values}
 use Rattle.clap.specs.declared.parser.matches.ArgMatches.{ArgMatches}
 use Rattle.robots_audit.specs.declared.command.Format.{Format}
-use Rattle.robots_audit.specs.declared.command.Format.TheVariants.{Html, Json, Text}
+use Rattle.robots_audit.specs.declared.command.Format.TheVariants.{Github, Html, Json, Sarif, Text}
 use Rattle.robots_audit.specs.declared.command.Request.{Request}
 use Rattle.robots_audit.specs.declared.fault.Fault.{Fault}
 use Rattle.robots_audit.specs.declared.fault.Fault.TheVariants.{Memory, StdinTwice, UnknownWarning, Usage}
@@ -56,7 +56,9 @@ level_named word =
 abbrev pub format_named : List ℕ → Format
 format_named name =
     if bytes_eq name (codes "json") then Json
-    else if bytes_eq name (codes "html") then Html else Text
+    else if bytes_eq name (codes "html") then Html
+    else if bytes_eq name (codes "github") then Github
+    else if bytes_eq name (codes "sarif") then Sarif else Text
 
 -- the format that `--json` and `--html`, if they are given, and the value of `--format` request
 abbrev pub requested_format : (is_json is_html : Bool) → Option (List ℕ) → Format

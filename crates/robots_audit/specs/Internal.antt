@@ -14,11 +14,26 @@ use Rattle.robots_audit.specs.declared.audit.Reading.TheVariants.{Accepted, Reje
 use Rattle.robots_audit.specs.declared.audit.AgentAudit.{AgentAudit}
 use Rattle.robots_audit.specs.declared.audit.Audit.{Audit}
 use Rattle.robots_audit.specs.declared.audit.Verdict.{Verdict}
+use Rattle.robots_audit.specs.declared.findings.Finding.{Finding}
+use Rattle.robots_audit.specs.declared.sarif.Rule.{Rule}
 use Rattle.robots_audit.specs.Audit.{AgentValue, AuditValue, VerdictValue}
+use Rattle.robots_audit.specs.Findings.{FindingValue}
+use Rattle.robots_audit.specs.Sarif.{RuleValue}
 use Rattle.robots_warnings.specs.Internal.{warning_value}
 
 abbrev pub verdict_value : Verdict → VerdictValue
 verdict_value verdict = record { url = verdict.url.now; decision = verdict.decision }
+
+abbrev pub finding_value : Finding → FindingValue
+finding_value finding = record {
+  level = finding.level;
+  line = finding.line;
+  name = finding.name.now;
+  message = string_bytes finding.message;
+}
+
+abbrev pub rule_value : Rule → RuleValue
+rule_value rule = record { name = rule.name.now; level = rule.level; text = rule.text.now }
 
 abbrev pub agent_value : AgentAudit → AgentValue
 agent_value audit = record {

@@ -8,6 +8,9 @@ pub mod Listed
 pub mod Report
 pub mod Json
 pub mod Page
+pub mod Findings
+pub mod Github
+pub mod Sarif
 pub mod Answer
 pub mod Explain
 pub mod Expect

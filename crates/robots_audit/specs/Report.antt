@@ -37,12 +37,15 @@ verdict_line verdict =
 abbrev pub rejected_front : List ℕ → ℕ → List ℕ
 rejected_front agent line = codes "rejected for " ++ sanitized agent ++ codes ": line " ++ decimal line
 
--- the same with the reason, if the file is rejected
+-- the same with the reason
+abbrev pub rejected_text : List ℕ → ℕ → List ℕ
+rejected_text agent line =
+    rejected_front agent line ++ codes ": a pattern with $ longer than 4,096 bytes isn't supported; shorten it"
+
+-- the line about it, if the file is rejected
 abbrev pub rejected_lines : List ℕ → Option ℕ → List (List ℕ)
 rejected_lines agent None = []
-rejected_lines agent (Some line) =
-    (rejected_front agent line
-    ++ codes ": a pattern with $ longer than 4,096 bytes isn't supported; shorten it") ∷ []
+rejected_lines agent (Some line) = rejected_text agent line ∷ []
 
 -- the group that applies to a crawler, its delay, whether the file is rejected for it, and its verdicts
 abbrev pub agent_lines : AgentValue → List (List ℕ)

@@ -13,6 +13,9 @@ use robots_warnings::level::Level;
 use robots_warnings::table::is_name;
 use std::alloc::{AllocError, Global};
 
+/// The version of the program.
+pub(crate) const VERSION: &str = "0.1.0";
+
 /// How a report is written.
 #[derive(Clone, Copy)]
 pub enum Format {
@@ -22,6 +25,10 @@ pub enum Format {
     Json,
     /// An HTML page, with the lines and the warnings in it.
     Html,
+    /// Annotations for a workflow on GitHub.
+    Github,
+    /// A log of SARIF 2.1.0.
+    Sarif,
 }
 
 /// The parsed command line.
@@ -104,9 +111,11 @@ fn with_format<'a>(alloc: Global, called: Command<'a>) -> Result<Command<'a>, Al
     let format = Arg::new(alloc, "format")
         .long("format")
         .value_name("FORMAT")
-        .value_parser(ValueParser::Names(&["text", "json", "html"]))
+        .value_parser(ValueParser::Names(&[
+            "text", "json", "html", "github", "sarif",
+        ]))
         .help(
-            "Write the report as text (default), or as json or an html page with the warnings in it",
+            "How to write the report: text (default), json, an html page, annotations for github, or sarif 2.1.0",
         );
     let called = called.arg(format)?;
     let json = switch(alloc, "json", "The same as --format json");
@@ -216,7 +225,7 @@ fn with_lists<'a>(alloc: Global, called: Command<'a>) -> Result<Command<'a>, All
 /// The program's options and arguments.
 pub fn command<'a>(alloc: Global) -> Result<Command<'a>, AllocError> {
     let called = Command::new(alloc, "robots_audit")
-        .version("0.1.0")
+        .version(VERSION)
         .about("Explains how a crawler interprets a robots.txt file")
         .override_usage("robots_audit [OPTIONS] AGENT [URL]..");
     let called = with_list(alloc, with_words(alloc, called)?)?;
@@ -276,6 +285,10 @@ fn format_named(name: &str) -> Format
         Format::Json
     } else if name == "html" {
         Format::Html
+    } else if name == "github" {
+        Format::Github
+    } else if name == "sarif" {
+        Format::Sarif
     } else {
         Format::Text
     }

@@ -17,6 +17,8 @@ ghost use Rattle.robots_audit.specs.Audit.{RequestValue, AuditValue, IsAuditOf};
 ghost use Rattle.robots_audit.specs.Page.{page};
 ghost use Rattle.robots_audit.specs.Compare.{ComparedValue, IsCompared, has_same_rules, is_unchanged, report_lines, rules_only_in};
 ghost use Rattle.robots_io.specs.Lines.{ended};
+ghost use Rattle.robots_audit.specs.Findings.{FindingValue};
+ghost use Rattle.robots_audit.specs.Github.{command, is_in_line, is_in_property, property_text};
 ghost use Rattle.robots_io.specs.Sanitize.{IsPrintable};
 
 /// A request and a file have at most one audit, and so at most one report.
@@ -48,6 +50,13 @@ pub fn pages_are_read_back()
 /// Nor does the report of `--compare` contain such characters.
 pub fn no_comparison_steers_a_terminal()
     ensures { (compared : List ComparedValue) → IsPrintable (ended (report_lines compared)) }
+{}
+
+/// In a workflow command for GitHub, whatever the name of the file and the texts are: no text ends the line, and no text
+/// in a property ends the property.
+pub fn no_text_ends_a_command()
+    ensures line { (file : List ℕ) (finding : FindingValue) → IsTrue (is_in_line (command file finding)) }
+    ensures property { (text : List ℕ) → IsTrue (is_in_property (property_text text)) }
 {}
 
 /// `allowed-and-disallowed` is given for a line exactly if it has a Disallow that applies to one of the crawlers reported

@@ -34,6 +34,8 @@ mod expect;
 mod expectations;
 mod explain;
 mod fault;
+mod findings;
+mod github;
 mod group;
 mod json;
 mod laws;
@@ -43,6 +45,7 @@ mod program;
 mod report;
 mod rows;
 mod rule_sets;
+mod sarif;
 mod url_list;
 
 use clap::ArgMatches;

@@ -8,9 +8,11 @@ use crate::audit::{Audit, all_allowed, audit_of, rejects_some};
 use crate::command::{Format, Request};
 use crate::denied::{shown, totals_of};
 use crate::fault::{Fault, Outcome};
+use crate::github::github_text;
 use crate::json::json_text;
 use crate::page::page_text;
-use crate::report::{listed_lines, push_totals, report_text};
+use crate::report::{listed_lines, push_totals, report_text, warning_lines};
+use crate::sarif::sarif_text;
 use robots_io::sanitize::{push_sanitized, push_sanitized_lines};
 use robots_io::streams::{read_all, write_out};
 use robots_warnings::level::Level;
@@ -41,7 +43,7 @@ fn is_warned(strict: Option<Level>, warnings: &[Warning<'_>]) -> bool
     }
 }
 
-/// The name of the file before a warning.
+/// The name of the file in a report.
 fn shown_name<'a>(file: Option<&'a str>) -> &'a str
     ensures { result.now ≡ shown_name (option_map (λ name. name.now) file.entry) }
 {
@@ -75,6 +77,10 @@ fn output(alloc: Global, request: &Request<'_>, audit: Audit<'_, '_>) -> Result<
         }
         Format::Json => Ok(json_text(alloc, has_rows, &reported)?.into_bytes()),
         Format::Html => page_text(alloc, request, &reported),
+        Format::Github => github_text(alloc, shown_name(request.file), &reported),
+        Format::Sarif => {
+            Ok(sarif_text(alloc, shown_name(request.file), &reported)?.into_bytes())
+        }
     }
 }
 
@@ -88,7 +94,7 @@ fn message(
 {
     match request.format {
         Format::Text => listed_lines(alloc, shown_name(request.file), &audit.warnings),
-        Format::Json | Format::Html => Ok(String::new(alloc)),
+        Format::Json | Format::Html | Format::Github | Format::Sarif => Ok(String::new(alloc)),
     }
 }
 

@@ -1,8 +1,7 @@
 //! The audit as lines of text.
 ghost use Rattle.std.specs.Prelude.{◌≡◌, ◌++◌, ◌∷◌, [], IfOk, OnOk, codes, flat_map, map, string_bytes};
 ghost use Rattle.robots_io.specs.Lines.{ended};
-ghost use Rattle.robots_audit.specs.Report.{agent_lines, group_line, group_text, listed_lines, more_front, more_line, nobody_text};
-ghost use Rattle.robots_audit.specs.Report.{rejected_front, rejected_lines, report_lines, total_front, verdict_line, warning_lines};
+ghost use Rattle.robots_audit.specs.Report.{agent_lines, group_line, group_text, listed_lines, more_front, more_line, nobody_text, rejected_front, rejected_lines, rejected_text, report_lines, total_front, verdict_line, warning_lines};
 ghost use Rattle.robots_io.specs.Sanitize.{sanitized};
 ghost use Rattle.robots_warnings.specs.Internal.{warning_value};
 ghost use Rattle.robots_warnings.specs.Warnings.{warning_line};
@@ -15,7 +14,7 @@ use crate::denied::Totals;
 use crate::group::Group;
 use crate::listed::{More, listing_of};
 use crate::rows::push_rows;
-use robots_io::lines::{push_line, push_number};
+use robots_io::lines::push_number;
 use robots_io::sanitize::push_sanitized;
 use robots_io::verdicts::push_decision;
 use robots_warnings::warning::{Warning, push_warning};
@@ -111,6 +110,18 @@ pub(crate) fn push_rejected_front(
     Ok(())
 }
 
+/// Appends the same with the reason.
+pub(crate) fn push_rejected_text(
+    text: &mut String,
+    agent: &str,
+    line: usize,
+) -> Result<(), AllocError>
+    ensures { OnOk result (string_bytes text.new ≡ string_bytes text.old ++ rejected_text agent.now line) }
+{
+    push_rejected_front(text, agent, line)?;
+    text.push_str(": a pattern with $ longer than 4,096 bytes isn't supported; shorten it")
+}
+
 /// Appends the line that the file is rejected for the crawler, if it is.
 pub(crate) fn push_rejected(
     text: &mut String,
@@ -123,9 +134,8 @@ pub(crate) fn push_rejected(
     let Some(line) = rejected else {
         return Ok(());
     };
-    push_rejected_front(text, agent, line)?;
-    let reason = ": a pattern with $ longer than 4,096 bytes isn't supported; shorten it";
-    push_line(text, reason, "")
+    push_rejected_text(text, agent, line)?;
+    text.push('\n')
 }
 
 /// Appends the lines about a crawler: its group, its delay, whether the file is rejected for it, and its verdicts.

@@ -1,0 +1,5 @@
+use Rattle.robots_audit.proofs.GithubLemmas.{command_in_line, property_inside}
+use Rattle.robots_audit.proofs.laws.no_text_ends_a_command.Goals as goal
+
+pub returns : goal.returns
+returns c = record { line = command_in_line; property = property_inside }

@@ -1,0 +1,56 @@
+-- What an audit found, as one list, for formats that don't distinguish verdicts and warnings.
+use Rattle.std.specs.Prelude.{ℕ, Bool, List, [], ◌∷◌, ◌++◌, Option, Some, None, codes, flat_map}
+use Rattle.std.specs.Prelude.{if◌then◌else◌, map}
+use Rattle.robots_io.specs.Sanitize.{sanitized}
+use Rattle.robots_warnings.specs.declared.level.Level.{Level}
+use Rattle.robots_warnings.specs.declared.level.Level.TheVariants.{Error}
+use Rattle.robots_warnings.specs.Table.{level_of, name_of}
+use Rattle.robots_warnings.specs.Warnings.{WarningValue, warning_text}
+use Rattle.robots_audit.specs.Audit.{AgentValue, AuditValue, VerdictValue}
+use Rattle.robots_audit.specs.Report.{rejected_text}
+
+pub record FindingValue : Type 0 where
+  pub level : Level
+  pub line : Option ℕ
+  pub name : List ℕ
+  pub message : List ℕ
+
+abbrev pub denied_text : List ℕ → List ℕ → List ℕ
+denied_text agent url = sanitized agent ++ (codes " may not fetch " ++ sanitized url)
+
+-- a denied URL is an error in the line that decides
+abbrev pub denied : List ℕ → VerdictValue → FindingValue
+denied agent verdict = record {
+  level = Error;
+  line = verdict.decision.line;
+  name = codes "denied";
+  message = denied_text agent verdict.url;
+}
+
+abbrev pub denials : List ℕ → VerdictValue → List FindingValue
+denials agent verdict = if verdict.decision.allowed then [] else denied agent verdict ∷ []
+
+-- a rejected file is an error in the line of the crawler's first overlong rule
+abbrev pub rejections : List ℕ → Option ℕ → List FindingValue
+rejections agent None = []
+rejections agent (Some line) = record {
+  level = Error;
+  line = Some line;
+  name = codes "rejected";
+  message = rejected_text agent line;
+} ∷ []
+
+abbrev pub agent_findings : AgentValue → List FindingValue
+agent_findings agent = rejections agent.agent agent.rejected ++ flat_map (denials agent.agent) agent.verdicts
+
+abbrev pub warning_finding : WarningValue → FindingValue
+warning_finding warning = record {
+  level = level_of warning.cause;
+  line = warning.line;
+  name = name_of warning.cause;
+  message = warning_text warning;
+}
+
+-- for each crawler why the file is rejected or which URLs are denied, and then the warnings
+abbrev pub findings : AuditValue → List FindingValue
+findings audit = flat_map agent_findings audit.agents ++ map warning_finding audit.warnings

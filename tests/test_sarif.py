@@ -1,0 +1,105 @@
+"""`robots_audit --format sarif`: the log has the members that the schema of SARIF 2.1.0 requires, and no others than it allows; results
+and rules are those of the warnings and verdicts."""
+
+import json
+import re
+from urllib.parse import unquote
+
+import pytest
+from support import LEVELS, WARNINGS, run
+
+ROBOTS = b"""User-agent: *
+Disallow: search
+Disallow: /b
+Clean-param: ref /
+Noindex: /x
+"""
+
+# By the definition in https://json.schemastore.org/sarif-2.1.0.json: the required members of an object and the others that are written.
+# Each has the definition of its value, in brackets if the value is a list of such; the rest are strings and numbers.
+SCHEMA = {
+    "log": ({"version": None, "runs": ["run"]}, {"$schema": None}),
+    "run": ({"tool": "tool"}, {"results": ["result"]}),
+    "tool": ({"driver": "toolComponent"}, {}),
+    "toolComponent": ({"name": None}, {"version": None, "rules": ["reportingDescriptor"]}),
+    "reportingDescriptor": ({"id": None}, {"shortDescription": "message", "defaultConfiguration": "reportingConfiguration"}),
+    "reportingConfiguration": ({}, {"level": None}),
+    "result": ({"message": "message"}, {"ruleId": None, "level": None, "locations": ["location"]}),
+    "message": ({"text": None}, {}),
+    "location": ({}, {"physicalLocation": "physicalLocation"}),
+    "physicalLocation": ({"artifactLocation": "artifactLocation"}, {"region": "region"}),
+    "artifactLocation": ({}, {"uri": None}),
+    "region": ({}, {"startLine": None}),
+}
+
+
+def assert_meets(name, value):
+    """Fails unless the value is as the schema's definition of this name says."""
+    if name is None:
+        assert isinstance(value, (str, int))
+        return
+    if isinstance(name, list):
+        assert isinstance(value, list)
+        for item in value:
+            assert_meets(name[0], item)
+        return
+    required, others = SCHEMA[name]
+    assert required.keys() <= value.keys() <= {**required, **others}.keys()
+    for member, of in {**required, **others}.items():
+        if member in value:
+            assert_meets(of, value[member])
+
+
+def log(*args, file=ROBOTS, status=0, **options):
+    result = run("robots_audit", ["--format", "sarif", *args], file, **options)
+    assert (result.status, result.err, result.out.count("\n")) == (status, "", 1)
+    return json.loads(result.out)
+
+
+def results(log):
+    """Level, rule, message, file and line of each result."""
+    for it in log["runs"][0]["results"]:
+        place = it["locations"][0]["physicalLocation"]
+        yield it["level"], it["ruleId"], it["message"]["text"], place["artifactLocation"]["uri"], place.get("region", {}).get("startLine")
+
+
+@pytest.mark.parametrize("args", [["Ferris/1", "/b"], ["-a", "/b"]], ids=["one crawler", "all"])
+def test_schema(args):
+    found = log(*args, status=1)
+    assert_meets("log", found)
+    assert (found["version"], len(found["runs"])) == ("2.1.0", 1)
+    assert {it["level"] for it in found["runs"][0]["results"]} == {"error", "warning", "note"}
+
+
+def test_results():
+    assert list(results(log("Ferris", "/b", "/c", status=1))) == [
+        ("error", "denied", "Ferris may not fetch /b", "robots.txt", 3),
+        ("error", "missing-slash", WARNINGS["missing-slash"][0], "robots.txt", 2),
+        ("note", "clean-param-line", WARNINGS["clean-param-line"][0], "robots.txt", 4),
+        ("warning", "noindex-line", WARNINGS["noindex-line"][0], "robots.txt", 5),
+    ]
+    assert list(results(log("Ferris/1", file=b""))) == [("warning", "version-in-agent", WARNINGS["version-in-agent"][0], "robots.txt", None)]
+
+
+def test_rejected_file():
+    text = "rejected for Ferris: line 2: a pattern with $ longer than 4,096 bytes isn't supported; shorten it"
+    file = b"User-agent: *\nDisallow: /" + b"a" * 4095 + b"$"
+    assert list(results(log("Ferris", "/b", file=file, status=2))) == [("error", "rejected", text, "robots.txt", 2)]
+
+
+def test_rules():
+    driver = log("Ferris")["runs"][0]["tool"]["driver"]
+    assert (driver["name"], run("robots_audit", ["--version"]).out) == ("robots_audit", f"robots_audit {driver['version']}\n")
+    rules = [(it["id"], it["defaultConfiguration"]["level"]) for it in driver["rules"]]
+    assert rules == [("denied", "error"), ("rejected", "error"), *LEVELS.items()]
+    texts = {it["id"]: it["shortDescription"]["text"] for it in driver["rules"]}
+    assert all(texts[name] == found[0].replace("KEY", "User-agent") for name, found in WARNINGS.items())
+
+
+@pytest.mark.parametrize("name", ["a b.txt", "a:b/c,d%41#e?f.txt", "gr\u00f6\u00dfe\x1b~_-.txt", "[a]+;@&=$!'()*"])
+def test_uri(tmp_path, name):
+    path = tmp_path / name
+    path.parent.mkdir(exist_ok=True)
+    path.write_bytes(ROBOTS)
+    (_, _, _, uri, _), *_ = results(log("-f", name, "Ferris", cwd=tmp_path))
+    assert re.fullmatch(r"(?:[A-Za-z0-9._~/-]|%[0-9A-F]{2})+", uri) and unquote(uri) == name
