@@ -262,7 +262,7 @@ file_table agent audit =
 -- ---- the page
 
 abbrev pub title_text : Option (List ℕ) → List ℕ
-title_text None = codes "robots.txt for all crawlers"
+title_text None = codes "robots.txt for several crawlers"
 title_text (Some agent) = codes "robots.txt for " ++ sanitized agent
 
 unfoldable pub charset : Html

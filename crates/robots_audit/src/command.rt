@@ -111,9 +111,7 @@ fn with_format<'a>(alloc: Global, called: Command<'a>) -> Result<Command<'a>, Al
     let format = Arg::new(alloc, "format")
         .long("format")
         .value_name("FORMAT")
-        .value_parser(ValueParser::Names(&[
-            "text", "json", "html", "github", "sarif",
-        ]))
+        .value_parser(ValueParser::Names(&["text", "json", "html", "github", "sarif"]))
         .help(
             "How to write the report: text (default), json, an html page, annotations for github, or sarif 2.1.0",
         );

@@ -34,7 +34,7 @@ fn title_text(alloc: Global, agent: Option<&str>) -> Result<String, AllocError>
         ≡ title_text (option_map (λ agent. agent.now) agent.entry)) }
 {
     let Some(agent) = agent else {
-        return String::from_str(alloc, "robots.txt for all crawlers");
+        return String::from_str(alloc, "robots.txt for several crawlers");
     };
     let mut text = String::from_str(alloc, "robots.txt for ")?;
     push_sanitized(&mut text, agent.as_bytes())?;
