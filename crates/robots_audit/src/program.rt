@@ -11,7 +11,7 @@ use crate::fault::{Fault, Outcome};
 use crate::github::github_text;
 use crate::json::json_text;
 use crate::page::page_text;
-use crate::report::{listed_lines, push_totals, report_text, warning_lines};
+use crate::report::{listed_lines, push_totals, report_text};
 use crate::sarif::sarif_text;
 use robots_io::sanitize::{push_sanitized, push_sanitized_lines};
 use robots_io::streams::{read_all, write_out};

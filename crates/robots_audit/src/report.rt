@@ -14,7 +14,7 @@ use crate::denied::Totals;
 use crate::group::Group;
 use crate::listed::{More, listing_of};
 use crate::rows::push_rows;
-use robots_io::lines::push_number;
+use robots_io::lines::{push_line, push_number};
 use robots_io::sanitize::push_sanitized;
 use robots_io::verdicts::push_decision;
 use robots_warnings::warning::{Warning, push_warning};
