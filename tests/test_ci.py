@@ -76,3 +76,8 @@ def test_hook_checks_what_is_committed(folder):
     (folder / "robots.txt").write_text(BAD["an expectation fails"])
     assert ran(folder, "git commit -q --allow-empty -m other") == 0
     assert ran(folder, "git commit -qam robots") != 0
+
+
+def test_hook_stops_a_commit_without_robots_txt(folder):
+    assert hook(folder) == 0
+    assert ran(folder, "git rm -q robots.txt && git commit -qm gone") != 0

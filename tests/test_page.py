@@ -162,8 +162,8 @@ SMALL = """<!DOCTYPE html><html lang="en"><head><meta charset="utf-8"/>
 <tbody><tr><th scope="row"><code dir="ltr">/a&lt;b</code></th><td class="allowed">allowed, no line</td></tr></tbody></table>
 <h2>File</h2><table class="lines"><caption>Lines, and whether they are in the group of Ferris</caption>
 <thead><tr><th scope="col">Line</th><th scope="col">Group</th><th scope="col">Directive</th><th scope="col">Value</th></tr></thead>
-<tbody><tr id="L1" class="own"><th scope="row">1</th><td>own</td><td>user-agent</td><td dir="ltr">*</td></tr>
-<tr id="L2" class="own"><th scope="row">2</th><td>own</td><td>disallow</td><td dir="ltr">search</td></tr>
+<tbody><tr id="L1" class="own"><th scope="row">1</th><td>own</td><td>user-agent</td><td>*</td></tr>
+<tr id="L2" class="own"><th scope="row">2</th><td>own</td><td>disallow</td><td>search</td></tr>
 <tr class="error"><td colspan="4">{warning}</td></tr></tbody></table></main></body></html>"""
 
 
@@ -199,6 +199,13 @@ def test_page_about_all_crawlers():
         rows.append([it["agent"], it["agent"], delay(it["delay"]), *map(verdict, it["verdicts"])])
     assert [cells for _, cells in children(elements, "tr")][: len(rows)] == rows
     assert [row for row in children(elements, "tr") if row[0]] == rows_of({**audit("*"), "warnings": found["warnings"]})
+
+
+@pytest.mark.parametrize("agents", [["--agents"], ["FerrisBot"]], ids=["all crawlers", "one crawler"])
+def test_page_has_allowed_urls_too(agents):
+    """The tables have a row or a column for each URL, so `--denied` leaves nothing out."""
+    whole = run("robots_audit", ["--html", *agents, *URLS], EXAMPLE)
+    assert run("robots_audit", ["--html", "--denied", *agents, *URLS], EXAMPLE) == whole
 
 
 def test_at_most_100_warnings_are_listed():

@@ -57,7 +57,7 @@ def test_warnings_are_about_listed_urls_too(tmp_path):
 def test_urls_from_standard_input(tmp_path):
     (tmp_path / "robots.txt").write_bytes(ROBOTS)
     result = run("robots_audit", ["-q", "-f", "robots.txt", "--urls", "-", "GPTBot"], b"/a\n/b\n", cwd=tmp_path)
-    assert outcome(result) == (1, "group: GPTBot\ndelay: none\nallow 6 /a\ndeny 5 /b\n1 allowed, 1 denied\n", "")
+    assert (result.status, result.out) == (1, "group: GPTBot\ndelay: none\nallow 6 /a\ndeny 5 /b\n1 allowed, 1 denied\n")
 
 
 @pytest.mark.parametrize("file", [[], ["-f", "-"]], ids=["by default", "by name"])
@@ -90,7 +90,8 @@ def test_numbers_are_those_of_all_crawlers(tmp_path):
     out += "group: Longbot\ndelay: none\n"
     out += "rejected for Longbot: line 9: a pattern with $ longer than 4,096 bytes isn't supported; shorten it\n3 allowed, 3 denied\n"
     agents = ["--agent=Ferris", "--agent=GPTBot", "--agent=Longbot"]
-    assert outcome(check(tmp_path, b"/a\n/b\n/private/\n", "--denied", *agents)) == (2, out, "")
+    result = check(tmp_path, b"/a\n/b\n/private/\n", "--denied", *agents)
+    assert (result.status, result.out) == (2, out)
 
 
 def test_denied_urls_as_json():

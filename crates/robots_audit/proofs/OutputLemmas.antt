@@ -5,8 +5,8 @@ use Rattle.robots_io.specs.Sanitize.{IsPrintable}
 use Rattle.robots_io.proofs.SanitizeLemmas.{ended_printable}
 use Rattle.robots_audit.specs.declared.command.Format.{Format}
 use Rattle.robots_audit.specs.declared.command.Format.TheVariants.{Github, Html, Json, Sarif, Text}
-use Rattle.robots_audit.specs.Answer.{has_rows, output, output_in, shown_name, total_lines}
-use Rattle.robots_audit.specs.Audit.{AuditValue, RequestValue, shown}
+use Rattle.robots_audit.specs.Answer.{has_rows, output, output_in, reported, shown_name, total_lines}
+use Rattle.robots_audit.specs.Audit.{AuditValue, RequestValue}
 use Rattle.robots_audit.specs.Findings.{findings}
 use Rattle.robots_audit.specs.Report.{report_lines}
 use Rattle.robots_audit.proofs.FindingLemmas.{findings_have}
@@ -20,18 +20,18 @@ output_in_printable : (format : Format) (requested : RequestValue) (audit : Audi
     → IsPrintable (output_in format requested audit)
 output_in_printable Text requested audit =
     let rows = has_rows requested in
-    let listed = shown requested.is_denied_only audit in
+    let listed = reported requested audit in
     ended_printable (report_lines rows listed ++ total_lines requested audit)
     (each_append IsPrintable (report_lines rows listed) (total_lines requested audit)
     (report_printable rows listed) (totals_printable requested.has_totals audit.agents))
 output_in_printable Json requested audit =
-    json_printable (has_rows requested) (shown requested.is_denied_only audit)
-output_in_printable Html requested audit = page_printable requested (shown requested.is_denied_only audit)
+    json_printable (has_rows requested) (reported requested audit)
+output_in_printable Html requested audit = page_printable requested (reported requested audit)
 output_in_printable Github requested audit =
-    let listed = shown requested.is_denied_only audit in
+    let listed = reported requested audit in
     github_printable (shown_name requested.file) (findings listed) (findings_have listed)
 output_in_printable Sarif requested audit =
-    let listed = shown requested.is_denied_only audit in
+    let listed = reported requested audit in
     sarif_printable (shown_name requested.file) (findings listed) (findings_have listed)
 
 pub output_printable : (requested : RequestValue) (audit : AuditValue) → IsPrintable (output requested audit)

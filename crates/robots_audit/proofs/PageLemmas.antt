@@ -291,7 +291,7 @@ number_cell_is number =
 value_cell_is : (line : LineValue) → IsPart (value_cell line)
 unfolding value_cell
 value_cell_is line =
-    (refl, none, refl, refl, (refl, refl, ascii (codes "ltr") refl, tt), value_printable line, none)
+    simple_is (codes "td") (value_text line) refl refl (value_printable line)
 
 line_cells_is : (label : Label) → IsPart (line_cells label)
 unfolding line_cells

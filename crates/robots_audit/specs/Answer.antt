@@ -1,7 +1,7 @@
 -- The result of a run. `Appends` and `Keeps` claim nothing about a writer whose bytes the specification
 -- can't observe.
 use Rattle.std.specs.Prelude.{◌≡◌, ◌≢◌, ℕ, Bool, true, false, List, [], ◌∷◌, ◌++◌, None, Option, Some}
-use Rattle.std.specs.Prelude.{Result, codes, if◌then◌else◌, is_some}
+use Rattle.std.specs.Prelude.{Result, codes, if◌then◌else◌, is_some, not, ◌&&◌}
 use Rattle.std.specs.Prelude.{IfErr, IfOk, IfSome, IsErrOf, map, option_map, string_bytes}
 use Rattle.std.specs.List.{list_any}
 use Rattle.std.specs.Io.KnownBytes.{Appends, Keeps}
@@ -66,17 +66,28 @@ shown_name (Some name) = name
 abbrev pub total_lines : RequestValue → AuditValue → List (List ℕ)
 total_lines requested audit = if requested.has_totals then total_line audit.agents ∷ [] else []
 
+-- a page has all URLs, since its tables have a row or a column for each
+abbrev pub has_all_urls : Format → Bool
+has_all_urls Html = true
+has_all_urls Text = false
+has_all_urls Json = false
+has_all_urls Github = false
+has_all_urls Sarif = false
+
+-- the audit that is reported: with `--denied` without the URLs that are allowed, except in a page
+abbrev pub reported : RequestValue → AuditValue → AuditValue
+reported requested audit = shown (requested.is_denied_only && not (has_all_urls requested.format)) audit
+
 -- the report in this format
 abbrev pub output_in : Format → RequestValue → AuditValue → List ℕ
 output_in Text requested audit =
-    ended (report_lines (has_rows requested) (shown requested.is_denied_only audit)
-    ++ total_lines requested audit)
-output_in Json requested audit = json_text (has_rows requested) (shown requested.is_denied_only audit)
-output_in Html requested audit = document (page requested (shown requested.is_denied_only audit))
+    ended (report_lines (has_rows requested) (reported requested audit) ++ total_lines requested audit)
+output_in Json requested audit = json_text (has_rows requested) (reported requested audit)
+output_in Html requested audit = document (page requested (reported requested audit))
 output_in Github requested audit =
-    github_text (shown_name requested.file) (findings (shown requested.is_denied_only audit))
+    github_text (shown_name requested.file) (findings (reported requested audit))
 output_in Sarif requested audit =
-    sarif_text (shown_name requested.file) (findings (shown requested.is_denied_only audit))
+    sarif_text (shown_name requested.file) (findings (reported requested audit))
 
 -- the report in the requested format
 abbrev pub output : RequestValue → AuditValue → List ℕ

@@ -204,9 +204,9 @@ sitemap_entry labels =
 unfoldable pub number_cell : ℕ → Html
 number_cell number = tag (codes "th") (with (codes "scope") (codes "row")) (text (decimal number))
 
--- the value of a line, displayed from left to right as in `code`
+-- the value of a line; a cell is displayed from left to right, as the page is
 unfoldable pub value_cell : LineValue → Html
-value_cell line = tag (codes "td") (with (codes "dir") (codes "ltr")) (text (value_text line))
+value_cell line = simple (codes "td") (value_text line)
 
 unfoldable pub line_cells : Label → Html
 line_cells label =

@@ -173,18 +173,21 @@ fn with_names<'a>(alloc: Global, called: Command<'a>) -> Result<Command<'a>, All
 }
 
 /// The arguments and options of an audit, other than `--file`.
-static OF_AUDITS: [&str; 13] = [
-    "agent", "url", "agents", "crawler", "urls", "denied", "quiet", "format", "json", "html",
-    "strict", "only", "ignore",
-];
+fn of_audits<'a>() -> [&'a str; 13] {
+    [
+        "agent", "url", "agents", "crawler", "urls", "denied", "quiet", "format", "json", "html",
+        "strict", "only", "ignore",
+    ]
+}
 
 /// Adds the option `--expect`, which excludes all others but `--file`.
 fn with_expect<'a>(alloc: Global, called: Command<'a>) -> Result<Command<'a>, AllocError> {
+    let others = of_audits();
     let expect = Arg::new(alloc, "expect")
         .long("expect")
         .value_name("FILE")
         .help("Check the lines \"allow AGENT URL\" and \"deny AGENT URL\" of this file instead")
-        .conflicts_with_all(&OF_AUDITS)?;
+        .conflicts_with_all(&others)?;
     called.arg(expect)
 }
 
@@ -203,20 +206,26 @@ fn with_compare<'a>(alloc: Global, called: Command<'a>) -> Result<Command<'a>, A
 
 /// Adds the options `--list-warnings` and `--explain`, which exclude all others.
 fn with_lists<'a>(alloc: Global, called: Command<'a>) -> Result<Command<'a>, AllocError> {
+    let others = of_audits();
     let list = switch(
         alloc,
         "list-warnings",
         "List all warnings with their levels and messages",
     )
-    .conflicts_with_all(&OF_AUDITS)?
-    .conflicts_with_all(&["file", "expect", "compare"])?;
+    .conflicts_with_all(&others)?
+    .conflicts_with("file")?
+    .conflicts_with("expect")?
+    .conflicts_with("compare")?;
     let called = called.arg(list)?;
     let explain = Arg::new(alloc, "explain")
         .long("explain")
         .value_name("NAME")
         .help("Show the level, the message and an example of the warning with this name")
-        .conflicts_with_all(&OF_AUDITS)?
-        .conflicts_with_all(&["file", "expect", "compare", "list-warnings"])?;
+        .conflicts_with_all(&others)?
+        .conflicts_with("file")?
+        .conflicts_with("expect")?
+        .conflicts_with("compare")?
+        .conflicts_with("list-warnings")?;
     called.arg(explain)
 }
 

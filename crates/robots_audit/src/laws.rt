@@ -40,7 +40,7 @@ pub fn no_terminal_is_steered()
     ensures message { (requested : RequestValue) (audit : AuditValue) → IsPrintable (message requested audit) }
 {}
 
-/// Reading a page yields the same tree again. So each text from a file, a crawler's name or a URL is exactly one text of
+/// Reading a page yields the same tree again. So each text from a file, a crawler's name or a URL is within one text of
 /// the page, whatever its bytes are, and none of them becomes markup.
 pub fn pages_are_read_back()
     ensures { (requested : RequestValue) (audit : AuditValue)

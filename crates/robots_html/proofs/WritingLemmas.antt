@@ -1,8 +1,10 @@
 -- What is written for trees one after the other, and when they can be read back.
-use Rattle.std.proofs.Common.{ℕ, Bool, List, [], ◌∷◌, ◌++◌, ap, append_assoc, flat_map, not, refl, ◌≡◌, ◌∙◌}
+use Rattle.std.proofs.Common.{ℕ, Bool, List, [], ◌∷◌, ◌++◌, ap, append_assoc, codes, flat_map, not, refl, ◌≡◌}
+use Rattle.std.proofs.Common.{◌∙◌}
 use Rattle.std.proofs.lemmas.List.{append-nil}
-use Rattle.robots_html.specs.Html.{AreAttributes, Attribute, Html, IsContent, each, element, end_tag}
-use Rattle.robots_html.specs.Html.{escaped, is_title, start_tag, style, style_bytes, text}
+use Rattle.robots_html.specs.Html.{AreAttributes, Attribute, Html, IsContent, each, element, end_tag, escaped}
+use Rattle.robots_html.specs.Html.{is_title, start_tag, style}
+use Rattle.robots_html.specs.Html.{style_bytes, tag, tag_close, tag_open, text}
 use Rattle.robots_html.specs.Html.{void, void_tag, with_text, written, ◌⊕◌}
 use Rattle.robots_html.proofs.TextLemmas.{escaped-append}
 
@@ -55,6 +57,17 @@ written-each tree (x ∷ xs) =
 
 -- for `using` at a function that writes several pieces: they are joined to what is written for a tree
 pub ruleset joined = (append_assoc, append-nil, written-followed, written-with_text)
+
+-- elements whose tags are constants
+three_pieces : (out start value end : List ℕ) → ((out ++ start) ++ value) ++ end ≡ out ++ (start ++ (value ++ end))
+three_pieces out start value end =
+    append_assoc (out ++ start) value end ∙ append_assoc out start (value ++ end)
+
+pub cell_pieces : (out value : List ℕ)
+    → ((out ++ codes "<td>") ++ escaped value) ++ codes "</td>"
+    ≡ out ++ written (tag (codes "td") [] (text value))
+unfolding tag_open tag_close end_tag
+cell_pieces out value = three_pieces out (codes "<td>") (escaped value) (codes "</td>")
 
 -- ---- content
 

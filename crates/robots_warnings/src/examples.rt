@@ -38,7 +38,7 @@ pub static EXAMPLES: [(Cause, &str); 61] = [
     (Cause::LikeUserAgent, "User-agent: *\nUser-agnet: a"),
     (Cause::LikeAllow, "User-agent: *\nAlow: /a"),
     (Cause::LikeDisallow, "User-agent: *\nDisalow; /a"),
-    (Cause::LikeSitemap, "User-agent: *\nSite-map: https://example.com/s.xml"),
+    (Cause::LikeSitemap, "User-agent: *\nSitemaps: https://example.com/s.xml"),
     (Cause::LikeCrawlDelay, "User-agent: *\nCrawl-dely: 1"),
     (Cause::UnrecognizedLine, "User-agent: *\nhello"),
     // the field name of a line

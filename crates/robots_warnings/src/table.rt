@@ -1,4 +1,4 @@
-//! Every warning, in the order of output: its level, its name, which is shown in `[..]` and is the `name` in JSON, and
+//! Every warning: its level, its name, which is shown in `[..]` and is the `name` in JSON, and
 //! its message, which states what is wrong, what happens, and what to do. `checks` has the condition of each.
 ghost use Rattle.std.specs.Prelude.{◌≡◌, ◌<◌, IfOk, bytes_eq, length, map};
 ghost use Rattle.std.specs.List.{list_any};
@@ -93,7 +93,7 @@ pub enum Cause {
 pub static WARNINGS: [(Cause, Level, &str, &str); 61] = [
     // the file
     (Cause::LooksLikeHtml, Level::Error, "looks-like-html",
-        "no usable line found; the first character is <, so it may be an HTML page; serve a plain-text robots.txt instead"),
+        "no usable line found; the text starts with <, so it may be an HTML page; serve a plain-text robots.txt instead"),
     (Cause::LooksLikeUtf16, Level::Error, "looks-like-utf-16",
         "no usable line found; the file looks like UTF-16; save it as UTF-8"),
     (Cause::NoDirectives, Level::Error, "no-directives",
@@ -103,9 +103,9 @@ pub static WARNINGS: [(Cause, Level, &str, &str); 61] = [
     (Cause::NoUserAgent, Level::Warning, "no-user-agent",
         "there are rules but no User-agent line; valid rules are applied here, but Google ignores them; add User-agent: * above them"),
     (Cause::DamagedByteOrderMark, Level::Warning, "damaged-byte-order-mark",
-        "the file starts with a part of a byte order mark, which is skipped here; other crawlers may not recognize the first line; save the file as UTF-8"),
+        "the file starts with the byte EF, BB or BF, as a damaged byte order mark does; it is skipped here, but other crawlers may not recognize the first line; delete it, and save the file as UTF-8"),
     (Cause::NulEndsLine, Level::Warning, "nul-ends-line",
-        "the file contains a NUL byte, which ends a line here, but may not in other crawlers; delete it, and save the file as UTF-8"),
+        "the file contains a NUL byte, which ends a line here, but may not in other crawlers; put a line end in its place, or delete it at the end of a line"),
     // the crawler
     (Cause::SpaceAroundAgent, Level::Warning, "space-around-agent",
         "AGENT has leading or trailing white space, so it matches no User-agent line; remove the spaces"),
@@ -165,7 +165,7 @@ pub static WARNINGS: [(Cause, Level, &str, &str); 61] = [
         "not a valid product token (ASCII letters, _ and - only); some crawlers have such names, but others compare only a part of it; check the crawler's documentation"),
     // a rule
     (Cause::HashLeavesRoot, Level::Error, "hash-cuts-rule",
-        "everything from # on is a comment, so only / or nothing is left of the rule, which is about the whole site; write %23 for a # in a path"),
+        "everything from # on is a comment, so only / or nothing is left of the rule, for the whole site; rules can't be about the part of a URL after #; if a path has one, write %23"),
     (Cause::HashCutsRule, Level::Warning, "hash-cuts-rule",
         "everything from # on is a comment, so the rule is shorter and matches more paths; write %23 for a # in a path, or a space before a comment"),
     (Cause::RuleNotUtf8, Level::Warning, "rule-not-utf-8",
@@ -201,7 +201,7 @@ pub static WARNINGS: [(Cause, Level, &str, &str); 61] = [
     (Cause::OneLine, Level::Error, "one-line",
         "another field name follows in the same line, where it isn't recognized; write each User-agent, Allow, Disallow, Crawl-delay and Sitemap on a line of its own"),
     (Cause::ControlInComment, Level::Note, "control-in-comment",
-        "the comment contains a control character or isn't valid UTF-8, which RFC 9309 doesn't allow; it has no effect here; save the file as UTF-8"),
+        "the comment contains a control character or isn't valid UTF-8, which RFC 9309 doesn't allow; it has no effect here; delete the character, or save the file as UTF-8"),
     // the position of a line
     (Cause::RuleBeforeUserAgent, Level::Error, "rule-before-user-agent",
         "the rule comes before the first User-agent line, so it belongs to no group and is ignored; move it below the User-agent line it is meant for"),
@@ -217,7 +217,7 @@ pub static WARNINGS: [(Cause, Level, &str, &str); 61] = [
     (Cause::TwoDelays, Level::Warning, "two-delays",
         "the delay differs from one above it in the same group, and only the first is used here; other crawlers may use another one; delete all but one"),
     (Cause::ClosesEverything, Level::Note, "closes-everything",
-        "a crawler that gets this rule may fetch nothing but /robots.txt; if the site isn't meant to be closed to it, delete the rule or add an Allow"),
+        "at least one crawler that gets this rule may fetch nothing but /robots.txt; if that isn't meant, delete the rule or add an Allow"),
     (Cause::ReplacesStar, Level::Note, "replaces-star",
         "the group has none of the Disallow rules of *, and a crawler with a group of its own doesn't get them; repeat in this group those that should apply to it"),
     (Cause::RepeatedRule, Level::Note, "repeated-rule",

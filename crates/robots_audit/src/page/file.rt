@@ -16,7 +16,7 @@ use crate::audit::{Audit, labeling_agent};
 use crate::json::{membership_word, sitemaps_of};
 use crate::page::by_line::by_line;
 use crate::page::parts::{
-    numbered, push_column, push_sanitized_code, push_simple, push_start_with,
+    numbered, push_column, push_sanitized_code, push_simple, push_start_with, push_text_cell,
 };
 use crate::page::style::{DIRECTIVE, SITEMAP_TERM};
 use crate::page::warnings::push_warning_rows;
@@ -88,9 +88,7 @@ fn push_value_cell(alloc: Global, out: &mut Vec<u8>, line: Line<'_>) -> Result<(
 {
     let mut value = String::new(alloc);
     push_value(&mut value, line)?;
-    push_start_with(out, "td", "dir", "ltr")?;
-    push_text(out, value.as_bytes())?;
-    push_end(out, "td")
+    push_text_cell(out, &value)
 }
 
 /// Appends the cells of a line.
@@ -104,8 +102,8 @@ fn push_line_cells(
         ++ written (line_cells (label_by_value label.now))) }
 {
     push_number_cell(alloc, out, label.number)?;
-    push_simple(out, "td", membership_word(label.membership))?;
-    push_simple(out, "td", kind_text(label.line))?;
+    push_text_cell(out, membership_word(label.membership))?;
+    push_text_cell(out, kind_text(label.line))?;
     push_value_cell(alloc, out, label.line)
 }
 

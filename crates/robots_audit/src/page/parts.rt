@@ -1,14 +1,14 @@
 //! Parts of a page that consist of few elements.
 #![tactic(auto, using(robots_html::proofs::WritingLemmas::joined))]
 
-ghost use Rattle.std.specs.Prelude.{◌≡◌, ◌++◌, IfOk, OnOk, decimal, string_bytes};
+ghost use Rattle.std.specs.Prelude.{◌≡◌, ◌++◌, IfOk, OnOk, codes, decimal, string_bytes};
 ghost use Rattle.robots_html.specs.Html.{start_tag, written};
 ghost use Rattle.robots_io.specs.Sanitize.{sanitized};
 ghost use Rattle.robots_audit.specs.Page.{code, column, delay_name, line_link, row_name, simple, with};
 
 use crate::delay::push_delay_text;
 use robots_html::write::{
-    push_attribute, push_close, push_element, push_end, push_open, push_text,
+    push_attribute, push_cell, push_close, push_element, push_end, push_open, push_text,
 };
 use robots_io::lines::push_number;
 use robots_io::sanitize::push_sanitized;
@@ -18,7 +18,7 @@ use std::alloc::{AllocError, Global};
 pub(crate) fn numbered(alloc: Global, before: &str, number: usize) -> Result<String, AllocError>
     ensures { IfOk result (λ text. string_bytes text ≡ before.now ++ decimal number) }
 {
-    let mut text = String::new(alloc);
+    let mut text = String::with_capacity(alloc, 32)?;
     text.push_str(before)?;
     push_number(&mut text, number)?;
     Ok(text)
@@ -115,6 +115,14 @@ pub(crate) fn push_simple(out: &mut Vec<u8>, name: &str, value: &str) -> Result<
         ++ written (simple name.now value.now)) }
 {
     push_element(out, name, value.as_bytes())
+}
+
+/// Appends a cell that contains a text.
+#[tactic(auto, using(robots_html::proofs::WritingLemmas::joined), unfolding(crate::specs::Page::simple))]
+pub(crate) fn push_text_cell(out: &mut Vec<u8>, value: &str) -> Result<(), AllocError>
+    ensures { OnOk result (out.new.items ≡ out.old.items ++ written (simple (codes "td") value.now)) }
+{
+    push_cell(out, value.as_bytes())
 }
 
 /// Appends the name of a row, which is untrusted.

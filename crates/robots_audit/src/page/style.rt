@@ -22,7 +22,8 @@ h1 { font-size: 1.5rem; line-height: 1.25; margin: .25rem 0 1rem }
 h2 { font-size: 1.15rem; margin: 2rem 0 .5rem }
 h1, dd, td, th, li, p, caption { overflow-wrap: anywhere }
 a { color: var(--link) }
-code, .lines [dir] { font: .9em/1.5 ui-monospace, monospace; white-space: pre-wrap; word-break: break-all }
+code, .lines td:nth-child(4) { font: .9em/1.5 ui-monospace, monospace; white-space: pre-wrap }
+code, .lines td:nth-child(4) { word-break: break-all }
 dl { margin: 0; display: grid; grid-template-columns: max-content minmax(0, 1fr); gap: .35rem 1rem }
 dt { color: var(--dim) }
 dd, p { margin: 0 }
@@ -72,7 +73,7 @@ tr:target { background: var(--hit) }
   .urls tr { grid-template-columns: minmax(0, 1fr) 8.5rem }
   .lines tr { grid-template-columns: 3.5rem 5.75rem minmax(0, 1fr) }
   .lines tr > :nth-child(4) { grid-column: 2 / -1; padding-top: 0 }
-  .lines [dir]:empty { display: none }
+  .lines td:nth-child(4):empty { display: none }
   .lines tbody th { padding-right: .5rem }
   .agents th, .agents td { flex-basis: 7.5rem }
 }
@@ -95,7 +96,7 @@ tr:target { background: var(--hit) }
 
 /// The policy of a page, which permits its own style only, by the SHA-256 hash that a test computes again.
 pub(crate) const POLICY: &str = "default-src 'none'; \
-    style-src 'sha256-UmKj1AzKGbu+3nfhQse+/FBgS/4suLjvBLQLp5SN3YA='; \
+    style-src 'sha256-HP7kUGYquPnlWU9zCshzCUBzDrXY2Q/uRF5LDjMeFGY='; \
     base-uri 'none'; form-action 'none'";
 
 pub(crate) const HTTP_EQUIV: &str = "http-equiv";
