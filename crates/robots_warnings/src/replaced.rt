@@ -5,7 +5,7 @@ ghost use Rattle.std.specs.Option.{option_map_or};
 ghost use Rattle.texting_robots.specs.Callers.{PlacedRule, by_value, file_lines, label_by_value};
 ghost use Rattle.texting_robots.specs.Internal.Site.{rule_of, tag_of};
 ghost use Rattle.robots_warnings.specs.File.{lines_of};
-ghost use Rattle.robots_warnings.specs.Internal.Replaced.{AddsDenied, HasDenied};
+ghost use Rattle.robots_warnings.specs.Internal.Replaced.{AddsDenied, HasDenied, is_other_name};
 ghost use Rattle.robots_warnings.specs.Replaced.{is_disallow, is_first_name, is_kept, is_replacing, keep_none, replacing, star_rules};
 
 use crate::checks::is_in_scope_of;
@@ -144,6 +144,31 @@ fn is_replacing(
     keep_none(alloc, denied, from_here)
 }
 
+/// Whether the line is a user-agent line that is checked, and its name isn't `*`.
+fn is_other_name(everywhere: bool, labeled: &LabeledLine<'_>) -> bool
+    ensures { result ≡ is_other_name everywhere (label_by_value labeled.now) }
+{
+    match labeled.line {
+        Line::UserAgent(value) => {
+            is_in_scope_of(everywhere, labeled.membership) && value != b"*".as_slice()
+        }
+        _ => false,
+    }
+}
+
+/// Whether there is such a line.
+#[tactic(auto, using(crate::proofs::ReplacedLemmas::others_from))]
+fn has_other_names(everywhere: bool, labels: &[LabeledLine<'_>]) -> bool
+    ensures { result ≡ list_any (is_other_name everywhere) (map label_by_value labels.now) }
+{
+    for labeled in labels {
+        if is_other_name(everywhere, labeled) {
+            return true;
+        }
+    }
+    false
+}
+
 /// The numbers of the first user-agent lines of groups that are checked and have none of the Disallow rules of `*`, if
 /// `*` has such rules.
 pub(crate) fn replacing(
@@ -156,6 +181,10 @@ pub(crate) fn replacing(
         ≡ replacing everywhere (file_lines site.now) (map label_by_value labels.now)) }
 {
     let mut found = Vec::new(alloc);
+    // without such a name, the patterns aren't needed
+    if !has_other_names(everywhere, labels) {
+        return Ok(found);
+    }
     if !has_disallow(site) {
         return Ok(found);
     }
