@@ -74,9 +74,13 @@ has_all_urls Json = false
 has_all_urls Github = false
 has_all_urls Sarif = false
 
--- the audit that is reported: with `--denied` without the URLs that are allowed, except in a page
+-- `--denied` leaves out the URLs that are allowed, except in a page
+abbrev pub leaves_out_allowed : RequestValue → Bool
+leaves_out_allowed requested = requested.is_denied_only && not (has_all_urls requested.format)
+
+-- the audit that is reported
 abbrev pub reported : RequestValue → AuditValue → AuditValue
-reported requested audit = shown (requested.is_denied_only && not (has_all_urls requested.format)) audit
+reported requested audit = shown (leaves_out_allowed requested) audit
 
 -- the report in this format
 abbrev pub output_in : Format → RequestValue → AuditValue → List ℕ

@@ -1,6 +1,6 @@
 //! The program for any reader and writer, without the command line.
 ghost use Rattle.std.specs.Prelude.{◌≡◌, IfOk, Some, map, option_map, string_bytes};
-ghost use Rattle.robots_audit.specs.Answer.{Audits, Prints, IsRejection, IsFileUnreadable, has_all_urls, has_rows, is_warned, requested_by, output, message, shown_name};
+ghost use Rattle.robots_audit.specs.Answer.{Audits, Prints, IsRejection, IsFileUnreadable, has_all_urls, has_rows, is_warned, leaves_out_allowed, requested_by, output, message, shown_name};
 ghost use Rattle.robots_audit.specs.Internal.{audit_value};
 ghost use Rattle.robots_warnings.specs.Internal.{warning_value};
 
@@ -67,14 +67,20 @@ fn has_all_urls(format: Format) -> bool
     matches!(format, Format::Html)
 }
 
+/// Whether allowed URLs are left out of the report.
+fn leaves_out_allowed(request: &Request<'_>) -> bool
+    ensures { result ≡ leaves_out_allowed (requested_by request.now) }
+{
+    request.is_denied_only && !has_all_urls(request.format)
+}
+
 /// The report on an audit, in the requested format.
 fn output(alloc: Global, request: &Request<'_>, audit: Audit<'_, '_>) -> Result<Vec<u8>, AllocError>
     ensures { IfOk result (λ report. report.items ≡ output (requested_by request.now) (audit_value audit.entry)) }
 {
     let has_rows = shows_rows(request);
     let totals = totals_of(&audit.agents);
-    let is_denied_only = request.is_denied_only && !has_all_urls(request.format);
-    let reported = shown(is_denied_only, audit);
+    let reported = shown(leaves_out_allowed(request), audit);
     match request.format {
         Format::Text => {
             let mut text = report_text(alloc, has_rows, &reported)?;

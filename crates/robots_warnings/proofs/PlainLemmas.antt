@@ -16,7 +16,7 @@ use Rattle.robots_warnings.specs.Rules.{after_byte, before_byte, begins_class, b
 use Rattle.robots_warnings.specs.Rules.{begins_range, begins_sign, has, has_choice, has_dollar_inside, has_final_plus}
 use Rattle.robots_warnings.specs.Rules.{has_dot_segment, holds_otherwise, is_expression, is_quoted}
 use Rattle.robots_warnings.specs.Rules.{is_written_otherwise, somewhere, stands_around}
-use Rattle.robots_warnings.specs.SeveralValues.{begins_next_value, has_several_values, has_space}
+use Rattle.robots_warnings.specs.SeveralValues.{begins_next_value, has_several_values}
 use Rattle.robots_warnings.specs.Warnings.{warned}
 
 abbrev are_plain : List ℕ → Bool
@@ -138,26 +138,21 @@ expression text plain =
 dollar : (text : List ℕ) → are_plain text ≡ true → has_dollar_inside text ≡ false
 dollar text plain = rw (nothing_after 36 text plain refl) refl
 
-no_space : (text : List ℕ) → are_plain text ≡ true → has_space text ≡ false
-no_space [] plain = refl
-no_space (c ∷ text) plain =
-    let both = and_parts (is_plain_byte c) (are_plain text) plain in
-    let visible : nat_le c 32 ≡ false = grind (arith, nat_tests) in
-    rw (visible, no_space text both.1) refl
-
 next_value : (c : ℕ) (text : List ℕ) → is_plain_byte c ≡ true → are_plain text ≡ true
     → begins_next_value (c ∷ text) ≡ false
 next_value c text plain rest =
+    let visible : nat_le c 32 ≡ false = grind (arith, nat_tests) in
     rw (
+      visible,
       differs c 44 plain refl,
       differs c 60 plain refl,
-      other 0xC2 c plain refl,
-      other 0xE2 c plain refl,
-      other 0xEF c plain refl,
+      differs c 0xC2 plain refl,
+      differs c 0xE2 plain refl,
+      differs c 0xEF plain refl,
     ) refl
 
 several : (text : List ℕ) → are_plain text ≡ true → has_several_values text ≡ false
-several text plain = either_false _ _ (no_space text plain) (never begins_next_value next_value text plain)
+several text plain = never begins_next_value next_value text plain
 
 -- ---- all checks
 

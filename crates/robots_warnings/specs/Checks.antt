@@ -9,7 +9,7 @@ use Rattle.robots_warnings.specs.declared.facts.FileFacts.{FileFacts}
 use Rattle.robots_warnings.specs.declared.positions.Preceding.{Preceding}
 use Rattle.robots_warnings.specs.declared.table.Cause.{Cause}
 use Rattle.robots_warnings.specs.declared.table.Cause.TheVariants as cause
-use Rattle.robots_warnings.specs.Contents.{comment_of, has_odd_comment, has_odd_delay, has_odd_space, is_cut_short, is_cut_to_root, text_of}
+use Rattle.robots_warnings.specs.Contents.{comment_of, has_odd_comment, has_odd_delay, has_odd_space, is_cut_short, is_cut_to_root, tail_of}
 use Rattle.robots_warnings.specs.FieldNames.{has_inner_field, is_misspelled, is_without_colon, meant_by}
 use Rattle.robots_warnings.specs.File.{is_blank}
 use Rattle.robots_warnings.specs.Positions.{is_above_agents, is_empty_group, is_other_delay, is_split}
@@ -58,20 +58,22 @@ field_checks body =
     ∷ (cause.MissingColon, is_without_colon body)
     ∷ []
 
--- the white space around the value of a line with this text before its comment
-abbrev pub space_checks : (value text : List ℕ) → List Check
-space_checks value text = (cause.SpaceAroundValue, has_odd_space value text) ∷ []
+-- the white space around the value of a line with this tail
+abbrev pub space_checks : (value tail : List ℕ) → List Check
+space_checks value tail = (cause.SpaceAroundValue, has_odd_space value tail) ∷ []
 
--- the text of a delay
-abbrev pub delay_text_checks : List ℕ → List Check
-delay_text_checks text = (cause.DelayNotation, has_odd_delay text) ∷ []
-
--- the comment after the value of an Allow or a Disallow
-abbrev pub cut_checks : (value text comment : List ℕ) → List Check
-cut_checks value text comment =
-    (cause.HashLeavesRoot, is_cut_to_root value text comment)
-    ∷ (cause.HashCutsRule, is_cut_short value text comment)
+-- the white space and the comment after the value of an Allow or a Disallow; comments are only checked if
+-- `is_in_scope` is true
+abbrev pub raw_rule_checks : Bool → (value tail comment : List ℕ) → List Check
+raw_rule_checks is_in_scope value tail comment =
+    (cause.SpaceAroundValue, has_odd_space value tail)
+    ∷ (cause.HashLeavesRoot, is_in_scope && is_cut_to_root value tail comment)
+    ∷ (cause.HashCutsRule, is_in_scope && is_cut_short value tail comment)
     ∷ []
+
+-- how a delay is written
+abbrev pub delay_text_checks : List ℕ → List Check
+delay_text_checks tail = (cause.DelayNotation, has_odd_delay tail) ∷ []
 
 -- the value of a user-agent line
 abbrev pub user_agent_checks : List ℕ → List Check
@@ -109,10 +111,10 @@ sitemap_checks value =
     ∷ (cause.SitemapNotAbsolute, not (is_absolute_url value))
     ∷ []
 
--- the text and the comment of any line
-abbrev pub text_checks : (text comment : List ℕ) → List Check
-text_checks text comment =
-    (cause.OneLine, has_inner_field text)
+-- the tail and the comment of any line
+abbrev pub text_checks : (tail comment : List ℕ) → List Check
+text_checks tail comment =
+    (cause.OneLine, has_inner_field tail)
     ∷ (cause.ControlInComment, has_odd_comment comment)
     ∷ []
 
@@ -147,28 +149,23 @@ value_checks is_in_scope (CrawlDelay (Some micros)) = delay_checks micros
 value_checks is_in_scope (Sitemap value) = sitemap_checks value
 value_checks is_in_scope (Raw body) = if is_blank body then [] else ignored_checks body
 
--- what a rule with a colon has besides its value; comments are only checked if `is_in_scope` is true
-abbrev pub raw_rule_checks : Bool → (value text comment : List ℕ) → List Check
-raw_rule_checks is_in_scope value text comment =
-    space_checks value text ++ (if is_in_scope then cut_checks value text comment else [])
-
 -- what a directive with a colon has besides its value
-abbrev pub raw_checks : Bool → LineValue → (text comment : List ℕ) → List Check
-raw_checks is_in_scope (UserAgent value) text comment = space_checks value text
-raw_checks is_in_scope (Allow value) text comment = raw_rule_checks is_in_scope value text comment
-raw_checks is_in_scope (Disallow value) text comment = raw_rule_checks is_in_scope value text comment
-raw_checks is_in_scope (CrawlDelay delay) text comment = delay_text_checks text
-raw_checks is_in_scope (Sitemap value) text comment = space_checks value text
-raw_checks is_in_scope (Raw content) text comment = []
+abbrev pub raw_checks : Bool → LineValue → (tail comment : List ℕ) → List Check
+raw_checks is_in_scope (UserAgent value) tail comment = space_checks value tail
+raw_checks is_in_scope (Allow value) tail comment = raw_rule_checks is_in_scope value tail comment
+raw_checks is_in_scope (Disallow value) tail comment = raw_rule_checks is_in_scope value tail comment
+raw_checks is_in_scope (CrawlDelay delay) tail comment = delay_text_checks tail
+raw_checks is_in_scope (Sitemap value) tail comment = space_checks value tail
+raw_checks is_in_scope (Raw content) tail comment = []
 
 -- what a directive with this content has besides its value
 abbrev pub directive_checks : Bool → LineValue → List ℕ → List Check
 directive_checks is_in_scope line body =
     field_checks body
-    ++ (if is_without_colon body then [] else raw_checks is_in_scope line (text_of body) (comment_of body))
+    ++ (if is_without_colon body then [] else raw_checks is_in_scope line (tail_of body) (comment_of body))
 
 -- a line with this content
 abbrev pub line_checks : Bool → LineValue → List ℕ → List Check
 line_checks is_in_scope line body =
     (if is_directive line then directive_checks is_in_scope line body else [])
-    ++ (value_checks is_in_scope line ++ text_checks (text_of body) (comment_of body))
+    ++ (value_checks is_in_scope line ++ text_checks (tail_of body) (comment_of body))

@@ -9,48 +9,48 @@ use Rattle.robots_warnings.specs.FieldNames.{without_end, without_front}
 use Rattle.robots_warnings.specs.File.{hash, tab}
 use Rattle.robots_warnings.specs.Rules.{after_byte, before_byte, has}
 
--- ---- the two parts of a line's content
+-- ---- the parts of a line's content
 
--- the text before the comment
-abbrev pub text_of : List ℕ → List ℕ
-text_of body = before_byte hash body
+-- what is between the first colon and the comment
+abbrev pub tail_of : List ℕ → List ℕ
+tail_of body = after_byte (byte ":") (before_byte hash body)
 
 -- the comment, which starts with the first `#`; empty if there is none
 abbrev pub comment_of : List ℕ → List ℕ
 comment_of body = drop (position_or_len (λ b. b == hash) body) body
 
--- the raw value in a text: what follows the colon, without spaces and tabs at both ends
+-- the raw value: the tail without spaces and tabs at both ends
 abbrev pub raw_value : List ℕ → List ℕ
-raw_value text = without_end (without_front (after_byte (byte ":") text))
+raw_value tail = without_end (without_front tail)
 
 -- ---- white space around a value
 
 -- `value` is the value of the line: the raw value without white space of any kind at both ends, or `/` for an
 -- empty Disallow; so other white space than spaces and tabs was dropped
-abbrev pub has_odd_space : (value text : List ℕ) → Bool
-has_odd_space value text = not (length (raw_value text) == 0) && not (bytes_eq (raw_value text) value)
+abbrev pub has_odd_space : (value tail : List ℕ) → Bool
+has_odd_space value tail = not (length (raw_value tail) == 0) && not (bytes_eq (raw_value tail) value)
 
 -- ---- a comment that cuts a rule
 
 -- a comment directly follows the value, which isn't empty
-abbrev pub is_cut : (value text comment : List ℕ) → Bool
-is_cut value text comment =
-    not (length comment == 0) && (not (length value == 0) && ends_with nat_eq text value)
+abbrev pub is_cut : (value tail comment : List ℕ) → Bool
+is_cut value tail comment =
+    not (length comment == 0) && (not (length value == 0) && ends_with nat_eq tail value)
 
 -- nothing precedes the comment, which is written as a path: `#/a` or `#!/a`
-abbrev pub has_path_in_comment : (text comment : List ℕ) → Bool
-has_path_in_comment text comment =
+abbrev pub has_path_in_comment : (tail comment : List ℕ) → Bool
+has_path_in_comment tail comment =
     (starts_with nat_eq comment (codes "#/") || starts_with nat_eq comment (codes "#!/"))
-    && length (raw_value text) == 0
+    && length (raw_value tail) == 0
 
 -- only `/` or nothing is left of the rule
-abbrev pub is_cut_to_root : (value text comment : List ℕ) → Bool
-is_cut_to_root value text comment =
-    (is_cut value text comment && bytes_eq value (codes "/")) || has_path_in_comment text comment
+abbrev pub is_cut_to_root : (value tail comment : List ℕ) → Bool
+is_cut_to_root value tail comment =
+    (is_cut value tail comment && bytes_eq value (codes "/")) || has_path_in_comment tail comment
 
 -- more than `/` is left of the rule
-abbrev pub is_cut_short : (value text comment : List ℕ) → Bool
-is_cut_short value text comment = is_cut value text comment && not (bytes_eq value (codes "/"))
+abbrev pub is_cut_short : (value tail comment : List ℕ) → Bool
+is_cut_short value tail comment = is_cut value tail comment && not (bytes_eq value (codes "/"))
 
 -- ---- a delay
 
@@ -66,7 +66,7 @@ is_plain_number text =
 
 -- the delay is written otherwise
 abbrev pub has_odd_delay : List ℕ → Bool
-has_odd_delay text = not (is_plain_number (raw_value text))
+has_odd_delay tail = not (is_plain_number (raw_value tail))
 
 -- ---- a comment
 

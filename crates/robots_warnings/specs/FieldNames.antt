@@ -11,7 +11,7 @@ use Rattle.texting_robots.specs.Statement.{field_names}
 use Rattle.texting_robots.specs.declared.parser.statement.Kind.{Kind}
 use Rattle.texting_robots.specs.declared.parser.statement.Kind.TheVariants as kind
 use Rattle.robots_warnings.specs.File.{space, tab}
-use Rattle.robots_warnings.specs.Rules.{before_byte, somewhere}
+use Rattle.robots_warnings.specs.Rules.{before_byte, has, somewhere}
 use Rattle.robots_warnings.specs.declared.field_names.TheConstants.{DIRECTIVES, KINDS, UNSUPPORTED}
 use Rattle.robots_warnings.specs.declared.table.Cause.{Cause}
 use Rattle.robots_warnings.specs.declared.table.Cause.TheVariants.{InvalidDelay, UnrecognizedLine}
@@ -127,9 +127,9 @@ abbrev pub begins_inner_field : List ℕ → Bool
 begins_inner_field text =
     is_space_or_tab (slice_index text 0) && list_any (λ row. begins_field row.0.now (drop 1 text)) DIRECTIVES
 
--- such a text occurs in the text of a line, after its first word
+-- what follows the first colon of a line has a colon too, and contains such a text
 abbrev pub has_inner_field : List ℕ → Bool
-has_inner_field text = somewhere begins_inner_field (without_front text)
+has_inner_field tail = has (byte ":") tail && somewhere begins_inner_field tail
 
 -- there is no colon after the field name
 abbrev pub is_without_colon : List ℕ → Bool

@@ -1,8 +1,8 @@
 -- Values of a rule or a sitemap that seem to be several ones.
-use Rattle.std.specs.Prelude.{ℕ, ◌==◌, nat_eq, nat_le, Bool, ◌||◌, ◌&&◌, List, [], ◌∷◌, codes, drop}
-use Rattle.std.specs.Prelude.{slice_index}
+use Rattle.std.specs.Prelude.{ℕ, ◌==◌, nat_eq, nat_le, Bool, false, ◌||◌, ◌&&◌, List, [], ◌∷◌, codes}
+use Rattle.std.specs.Prelude.{drop, slice_index}
 use Rattle.std.specs.Char.{is_ascii_alphabetic}
-use Rattle.std.specs.List.{list_any, starts_with}
+use Rattle.std.specs.List.{starts_with}
 use Rattle.std.specs.Str.{byte}
 use Rattle.robots_warnings.specs.Rules.{somewhere}
 
@@ -19,24 +19,26 @@ begins_tag text =
     && (is_ascii_alphabetic (slice_index text 1)
     || (slice_index text 1 == byte "/" || slice_index text 1 == byte "!"))
 
--- the text starts with a character that can't be seen: a no-break space, a soft hyphen, a zero-width space, a
--- word joiner or a zero-width no-break space
+-- the text starts with a space or a control character of ASCII other than DEL
+abbrev pub begins_space : List ℕ → Bool
+begins_space [] = false
+begins_space (b ∷ text) = nat_le b 32
+
+-- the text starts with a character that can't be seen: U+00A0 (a no-break space), U+00AD (a soft hyphen),
+-- U+200B (a zero-width space), U+2060 (a word joiner) or U+FEFF (a zero-width no-break space), in UTF-8
 abbrev pub begins_unseen : List ℕ → Bool
 begins_unseen text =
-    starts_with nat_eq text (0xC2 ∷ 0xA0 ∷ [])
-    || (starts_with nat_eq text (0xC2 ∷ 0xAD ∷ [])
-    || (starts_with nat_eq text (0xE2 ∷ 0x80 ∷ 0x8B ∷ [])
-    || (starts_with nat_eq text (0xE2 ∷ 0x81 ∷ 0xA0 ∷ [])
-    || starts_with nat_eq text (0xEF ∷ 0xBB ∷ 0xBF ∷ []))))
+    let first = slice_index text 0 in
+    let second = slice_index text 1 in
+    let third = slice_index text 2 in
+    (first == 0xC2 && (second == 0xA0 || second == 0xAD))
+    || ((first == 0xE2 && ((second == 0x80 && third == 0x8B) || (second == 0x81 && third == 0xA0)))
+    || (first == 0xEF && (second == 0xBB && third == 0xBF)))
 
--- one of these
+-- the text starts with one of these
 abbrev pub begins_next_value : List ℕ → Bool
-begins_next_value text = begins_list text || (begins_tag text || begins_unseen text)
+begins_next_value text = begins_space text || (begins_list text || (begins_tag text || begins_unseen text))
 
--- the value contains a space or a control character of ASCII other than DEL
-abbrev pub has_space : List ℕ → Bool
-has_space value = list_any (λ b. nat_le b 32) value
-
--- the value contains such a byte, or one of the above
+-- the value contains one of these
 abbrev pub has_several_values : List ℕ → Bool
-has_several_values value = has_space value || somewhere begins_next_value value
+has_several_values value = somewhere begins_next_value value

@@ -2,7 +2,7 @@
 ghost use Rattle.std.specs.Prelude.{◌≡◌, IfOk, map};
 ghost use Rattle.texting_robots.specs.Callers.{label_by_value};
 ghost use Rattle.robots_warnings.specs.FieldNames.{is_without_colon};
-ghost use Rattle.robots_warnings.specs.Checks.{agent_checks, cut_checks, delay_checks, delay_text_checks, field_checks, file_checks, ignored_checks, is_in_scope_of, position_checks, rule_checks, sitemap_checks, space_checks, text_checks, url_checks, user_agent_checks};
+ghost use Rattle.robots_warnings.specs.Checks.{agent_checks, delay_checks, delay_text_checks, field_checks, file_checks, ignored_checks, is_in_scope_of, position_checks, raw_rule_checks, rule_checks, sitemap_checks, space_checks, text_checks, url_checks, user_agent_checks};
 ghost use Rattle.robots_warnings.specs.File.{lines_of};
 
 use crate::contents::{
@@ -84,28 +84,41 @@ pub(crate) fn field_checks(body: &[u8], lacks_colon: bool) -> [Check; 2]
     ]
 }
 
-/// Checks of the white space around the value of a line with this text before its comment.
-pub(crate) fn space_checks(value: &[u8], text: &[u8]) -> [Check; 1]
-    ensures { result ≡ space_checks value.now text.now }
+/// Checks of the white space around the value of a line with this tail.
+pub(crate) fn space_checks(value: &[u8], tail: &[u8]) -> [Check; 1]
+    ensures { result ≡ space_checks value.now tail.now }
 {
-    [(Cause::SpaceAroundValue, has_odd_space(value, text))]
+    [(Cause::SpaceAroundValue, has_odd_space(value, tail))]
 }
 
-/// Checks of the text of a delay.
-pub(crate) fn delay_text_checks(text: &[u8]) -> [Check; 1]
-    ensures { result ≡ delay_text_checks text.now }
-{
-    [(Cause::DelayNotation, has_odd_delay(text))]
-}
-
-/// Checks of the comment after the value of an Allow or a Disallow.
-pub(crate) fn cut_checks(value: &[u8], text: &[u8], comment: &[u8]) -> [Check; 2]
-    ensures { result ≡ cut_checks value.now text.now comment.now }
+/// Checks of the white space and the comment after the value of an Allow or a Disallow. Comments are only checked if
+/// `is_in_scope` is true.
+pub(crate) fn raw_rule_checks(
+    is_in_scope: bool,
+    value: &[u8],
+    tail: &[u8],
+    comment: &[u8],
+) -> [Check; 3]
+    ensures { result ≡ raw_rule_checks is_in_scope value.now tail.now comment.now }
 {
     [
-        (Cause::HashLeavesRoot, is_cut_to_root(value, text, comment)),
-        (Cause::HashCutsRule, is_cut_short(value, text, comment)),
+        (Cause::SpaceAroundValue, has_odd_space(value, tail)),
+        (
+            Cause::HashLeavesRoot,
+            is_in_scope && is_cut_to_root(value, tail, comment),
+        ),
+        (
+            Cause::HashCutsRule,
+            is_in_scope && is_cut_short(value, tail, comment),
+        ),
     ]
+}
+
+/// Checks of how a delay is written.
+pub(crate) fn delay_text_checks(tail: &[u8]) -> [Check; 1]
+    ensures { result ≡ delay_text_checks tail.now }
+{
+    [(Cause::DelayNotation, has_odd_delay(tail))]
 }
 
 /// Checks of the value of a user-agent line.
@@ -159,12 +172,12 @@ pub(crate) fn sitemap_checks(alloc: Global, value: &[u8]) -> Result<[Check; 2], 
     ])
 }
 
-/// Checks of the text and the comment of any line.
-pub(crate) fn text_checks(text: &[u8], comment: &[u8]) -> [Check; 2]
-    ensures { result ≡ text_checks text.now comment.now }
+/// Checks of the tail and the comment of any line.
+pub(crate) fn text_checks(tail: &[u8], comment: &[u8]) -> [Check; 2]
+    ensures { result ≡ text_checks tail.now comment.now }
 {
     [
-        (Cause::OneLine, has_inner_field(text)),
+        (Cause::OneLine, has_inner_field(tail)),
         (Cause::ControlInComment, has_odd_comment(comment)),
     ]
 }

@@ -5,60 +5,71 @@ ghost use Rattle.std.specs.Char.{is_ascii_digit};
 ghost use Rattle.std.specs.List.{list_all, list_any};
 ghost use Rattle.robots_warnings.specs.Contents.{are_digits, comment_of, has_odd_comment, has_odd_delay, has_odd_space};
 ghost use Rattle.robots_warnings.specs.Contents.{has_path_in_comment, is_control, is_cut, is_cut_short, is_cut_to_root};
-ghost use Rattle.robots_warnings.specs.Contents.{is_plain_number, raw_value, text_of};
+ghost use Rattle.robots_warnings.specs.Contents.{is_plain_number, raw_value, tail_of};
+ghost use Rattle.robots_warnings.specs.File.{hash};
+ghost use Rattle.robots_warnings.specs.Rules.{before_byte};
 
 use crate::field_names::{without_end, without_front};
 use crate::rules::{after_byte, before_byte, has, is_utf8, place};
 
-/// The text before the comment, and the comment, which starts with `#` and is empty if there is none.
-pub(crate) fn split_comment<'a>(body: &'a [u8]) -> (&'a [u8], &'a [u8])
-    ensures text { result.0.now ≡ text_of body.now }
+/// What precedes the comment, and the comment, which starts with `#` and is empty if there is none.
+fn split_comment<'a>(body: &'a [u8]) -> (&'a [u8], &'a [u8])
+    ensures text { result.0.now ≡ before_byte hash body.now }
     ensures comment { result.1.now ≡ comment_of body.now }
 {
     body.split_at(place(b'#', body))
 }
 
-/// The raw value in a text: what follows the colon, without spaces and tabs at both ends.
-fn raw_value<'a>(text: &'a [u8]) -> &'a [u8]
-    ensures { result.now ≡ raw_value text.now }
+/// The tail, which is between the first colon and the comment, and the comment.
+pub(crate) fn split_content<'a>(body: &'a [u8]) -> (&'a [u8], &'a [u8])
+    ensures tail { result.0.now ≡ tail_of body.now }
+    ensures comment { result.1.now ≡ comment_of body.now }
 {
-    without_end(without_front(after_byte(b':', text)))
+    let (text, comment) = split_comment(body);
+    (after_byte(b':', text), comment)
+}
+
+/// The raw value: the tail without spaces and tabs at both ends.
+fn raw_value<'a>(tail: &'a [u8]) -> &'a [u8]
+    ensures { result.now ≡ raw_value tail.now }
+{
+    without_end(without_front(tail))
 }
 
 /// Whether other white space than spaces and tabs was dropped around the value of the line.
-pub(crate) fn has_odd_space(value: &[u8], text: &[u8]) -> bool
-    ensures { result ≡ has_odd_space value.now text.now }
+pub(crate) fn has_odd_space(value: &[u8], tail: &[u8]) -> bool
+    ensures { result ≡ has_odd_space value.now tail.now }
 {
-    let raw = raw_value(text);
+    let raw = raw_value(tail);
     !raw.is_empty() && raw != value
 }
 
 /// Whether a comment directly follows the value, which isn't empty.
-fn is_cut(value: &[u8], text: &[u8], comment: &[u8]) -> bool
-    ensures { result ≡ is_cut value.now text.now comment.now }
+fn is_cut(value: &[u8], tail: &[u8], comment: &[u8]) -> bool
+    ensures { result ≡ is_cut value.now tail.now comment.now }
 {
-    !comment.is_empty() && !value.is_empty() && text.ends_with(value)
+    !comment.is_empty() && !value.is_empty() && tail.ends_with(value)
 }
 
 /// Whether nothing precedes the comment, which is written as a path.
-fn has_path_in_comment(text: &[u8], comment: &[u8]) -> bool
-    ensures { result ≡ has_path_in_comment text.now comment.now }
+fn has_path_in_comment(tail: &[u8], comment: &[u8]) -> bool
+    ensures { result ≡ has_path_in_comment tail.now comment.now }
 {
-    (comment.starts_with(b"#/") || comment.starts_with(b"#!/")) && raw_value(text).is_empty()
+    (comment.starts_with(b"#/") || comment.starts_with(b"#!/")) && raw_value(tail).is_empty()
 }
 
 /// Whether a comment leaves only `/` or nothing of the rule.
-pub(crate) fn is_cut_to_root(value: &[u8], text: &[u8], comment: &[u8]) -> bool
-    ensures { result ≡ is_cut_to_root value.now text.now comment.now }
+pub(crate) fn is_cut_to_root(value: &[u8], tail: &[u8], comment: &[u8]) -> bool
+    ensures { result ≡ is_cut_to_root value.now tail.now comment.now }
 {
-    (is_cut(value, text, comment) && value == b"/".as_slice()) || has_path_in_comment(text, comment)
+    (is_cut(value, tail, comment) && value == b"/".as_slice()) || has_path_in_comment(tail, comment)
 }
 
 /// Whether a comment directly follows the value of the rule, which is more than `/`.
-pub(crate) fn is_cut_short(value: &[u8], text: &[u8], comment: &[u8]) -> bool
-    ensures { result ≡ is_cut_short value.now text.now comment.now }
+pub(crate) fn is_cut_short(value: &[u8], tail: &[u8], comment: &[u8]) -> bool
+    ensures { result ≡ is_cut_short value.now tail.now comment.now }
 {
-    is_cut(value, text, comment) && value != b"/".as_slice()
+    is_cut(value, tail, comment) && value != b"/".as_slice()
 }
 
 /// Whether each byte is a digit.
@@ -83,24 +94,29 @@ fn is_plain_number(text: &[u8]) -> bool
 }
 
 /// Whether a delay is written in another way.
-pub(crate) fn has_odd_delay(text: &[u8]) -> bool
-    ensures { result ≡ has_odd_delay text.now }
+pub(crate) fn has_odd_delay(tail: &[u8]) -> bool
+    ensures { result ≡ has_odd_delay tail.now }
 {
-    !is_plain_number(raw_value(text))
+    !is_plain_number(raw_value(tail))
 }
 
 /// Whether the byte is a control character of ASCII other than a tab and DEL.
 fn is_control(byte: u8) -> bool
     ensures { result ≡ is_control byte }
 {
-    byte < b' ' && byte != b'\t'
+    (byte < b' ') & (byte != b'\t')
 }
 
-/// Whether the text contains such a character.
+/// Whether the text contains such a character. It tests all bytes without an early exit, so that the compiler can
+/// vectorize the loop.
 fn has_control(text: &[u8]) -> bool
     ensures { result ≡ list_any is_control text.now }
 {
-    text.iter().any(|byte| is_control(*byte))
+    let mut has = false;
+    for byte in text {
+        has |= is_control(*byte);
+    }
+    has
 }
 
 /// Whether the comment contains such a character or isn't UTF-8.

@@ -6,7 +6,7 @@ ghost use Rattle.robots_warnings.specs.FieldNames.{is_near, is_space_or_tab, is_
 ghost use Rattle.robots_warnings.specs.FieldNames.{meant_among, meant_by, name_in, without_end, without_front};
 ghost use Rattle.robots_warnings.specs.Internal.{name_value};
 
-use crate::rules::{before_byte, somewhere};
+use crate::rules::{before_byte, has, somewhere};
 use crate::table::Cause;
 use std::alloc::{AllocError, Global};
 use strsim::generic_levenshtein;
@@ -251,11 +251,11 @@ fn begins_inner_field(text: &[u8]) -> bool
     }
 }
 
-/// Whether such a text occurs in the text of a line, after its first word.
-pub(crate) fn has_inner_field(text: &[u8]) -> bool
-    ensures { result ≡ has_inner_field text.now }
+/// Whether such a text occurs in what follows the first colon of a line.
+pub(crate) fn has_inner_field(tail: &[u8]) -> bool
+    ensures { result ≡ has_inner_field tail.now }
 {
-    somewhere(without_front(text), begins_inner_field)
+    has(b':', tail) && somewhere(tail, begins_inner_field)
 }
 
 /// Whether a directive with this content has no colon after the field name.

@@ -1,21 +1,21 @@
 //! All warnings about a file and a request: what is valid but probably not intended.
 ghost use Rattle.std.specs.Prelude.{◌≡◌, [], IfOk, OnOk, if◌then◌else◌, is_none, map, option_map, string_bytes};
 ghost use Rattle.texting_robots.specs.Callers.{bodies_read, by_value, file_lines, label_by_value};
-ghost use Rattle.robots_warnings.specs.Checks.{directive_checks, is_directive, raw_checks, raw_rule_checks, rule_checks, value_checks};
-ghost use Rattle.robots_warnings.specs.Contents.{comment_of, text_of};
+ghost use Rattle.robots_warnings.specs.Checks.{directive_checks, is_directive, raw_checks, rule_checks, value_checks};
+ghost use Rattle.robots_warnings.specs.Contents.{comment_of, tail_of};
 ghost use Rattle.robots_warnings.specs.Internal.{Adds, warning_value};
 ghost use Rattle.robots_warnings.specs.Warnings.{agent_warnings, crawler_warnings, file_lines_warnings, general_warnings};
 ghost use Rattle.robots_warnings.specs.Warnings.{group_warnings, line_warnings, lines_warnings};
 ghost use Rattle.robots_warnings.specs.Warnings.{past_limit_warnings, position_warnings, warned, warned_at, warnings};
 
 use crate::checks::{
-    Check, agent_checks, cut_checks, delay_checks, delay_text_checks, field_checks, file_checks,
-    ignored_checks, is_in_scope_of, position_checks, rule_checks, sitemap_checks, space_checks,
-    text_checks, url_checks, user_agent_checks,
+    Check, agent_checks, delay_checks, delay_text_checks, field_checks, file_checks,
+    ignored_checks, is_in_scope_of, position_checks, raw_rule_checks, rule_checks, sitemap_checks,
+    space_checks, text_checks, url_checks, user_agent_checks,
 };
 use crate::closed::closed;
 use crate::conflicts::conflicts;
-use crate::contents::split_comment;
+use crate::contents::split_content;
 use crate::facts::{FileFacts, suppresses_line_warnings};
 use crate::field_names::is_without_colon;
 use crate::file::{counted, is_blank};
@@ -129,27 +129,7 @@ fn warn_of_value(
     }
 }
 
-/// Appends the warnings about what a rule with a colon has besides its value. Comments are only checked if
-/// `is_in_scope` is true.
-fn warn_of_raw_rule(
-    found: &mut Found<'_>,
-    is_in_scope: bool,
-    number: usize,
-    value: &[u8],
-    parts: (&[u8], &[u8]),
-) -> Result<(), AllocError>
-    ensures { OnOk result (Adds found.old.items found.new.items
-        (warned (Some number) None (raw_rule_checks is_in_scope value.now parts.entry.0.now parts.entry.1.now))) }
-{
-    let (text, comment) = parts;
-    warn(found, Some(number), None, &space_checks(value, text))?;
-    if !is_in_scope {
-        return Ok(());
-    }
-    warn(found, Some(number), None, &cut_checks(value, text, comment))
-}
-
-/// Appends the warnings about what a directive with a colon, whose text and comment are `parts`, has besides its value.
+/// Appends the warnings about what a directive with a colon, whose tail and comment are `parts`, has besides its value.
 fn warn_of_raw_value(
     found: &mut Found<'_>,
     is_in_scope: bool,
@@ -166,14 +146,15 @@ fn warn_of_raw_value(
             warn(found, at, None, &space_checks(value, parts.0))
         }
         Line::Allow(value) | Line::Disallow(value) => {
-            warn_of_raw_rule(found, is_in_scope, number, value, parts)
+            let checks = raw_rule_checks(is_in_scope, value, parts.0, parts.1);
+            warn(found, at, None, &checks)
         }
         Line::CrawlDelay(_) => warn(found, at, None, &delay_text_checks(parts.0)),
         Line::Raw(_) => Ok(()),
     }
 }
 
-/// Appends the warnings about what a directive with this content, whose text and comment are `parts`, has besides its
+/// Appends the warnings about what a directive with this content, whose tail and comment are `parts`, has besides its
 /// value.
 fn warn_of_directive(
     found: &mut Found<'_>,
@@ -182,7 +163,7 @@ fn warn_of_directive(
     body: &[u8],
     parts: (&[u8], &[u8]),
 ) -> Result<(), AllocError>
-    requires text { parts.0.now ≡ text_of body.now }
+    requires text { parts.0.now ≡ tail_of body.now }
     requires comment { parts.1.now ≡ comment_of body.now }
     ensures { OnOk result (Adds found.old.items found.new.items
         (warned (Some labeled.now.number) None (directive_checks is_in_scope (by_value labeled.now.line) body.now))) }
@@ -196,7 +177,7 @@ fn warn_of_directive(
     warn_of_raw_value(found, is_in_scope, number, labeled.line, parts)
 }
 
-/// Appends the warnings about what a line with this content, whose text and comment are `parts`, has besides its value,
+/// Appends the warnings about what a line with this content, whose tail and comment are `parts`, has besides its value,
 /// if it is a directive.
 fn warn_of_content(
     found: &mut Found<'_>,
@@ -205,7 +186,7 @@ fn warn_of_content(
     body: &[u8],
     parts: (&[u8], &[u8]),
 ) -> Result<(), AllocError>
-    requires text { parts.0.now ≡ text_of body.now }
+    requires text { parts.0.now ≡ tail_of body.now }
     requires comment { parts.1.now ≡ comment_of body.now }
     ensures { OnOk result (Adds found.old.items found.new.items (warned (Some labeled.now.number) None
         (if is_directive (by_value labeled.now.line)
@@ -228,15 +209,11 @@ fn warn_of_line(
     ensures { OnOk result (Adds found.old.items found.new.items (line_warnings everywhere (label_by_value labeled.now) body.now)) }
 {
     let is_in_scope = is_in_scope_of(everywhere, labeled.membership);
-    let (text, comment) = split_comment(body);
-    warn_of_content(found, is_in_scope, labeled, body, (text, comment))?;
+    let (tail, comment) = split_content(body);
+    warn_of_content(found, is_in_scope, labeled, body, (tail, comment))?;
     warn_of_value(alloc, found, is_in_scope, labeled.number, labeled.line)?;
-    warn(
-        found,
-        Some(labeled.number),
-        None,
-        &text_checks(text, comment),
-    )
+    let checks = text_checks(tail, comment);
+    warn(found, Some(labeled.number), None, &checks)
 }
 
 /// Appends the warnings about the lines of a file, which are given with their labels.
