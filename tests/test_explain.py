@@ -53,7 +53,7 @@ def test_example_triggers_its_warning(name):
 def test_example_is_the_documented_one(name, args, file):
     examples = [spelled(re.sub("^    ", "", example, flags=re.M).removesuffix("\n")) for _, example in explained(name)]
     command = b" ".join([b"robots_audit", *(word if isinstance(word, bytes) else word.encode() for word in args)])
-    shown = {file, b"# " + command + b"\n" + file} if file else {command, command.replace(args[-1], b"'" + args[-1] + b"'")}
+    shown = {file, file.removeprefix(b"User-agent: *\n"), b"# " + command + b"\n" + file} if file else {command, command.replace(args[-1], b"'" + args[-1] + b"'")}
     assert shown & set(examples)
 
 

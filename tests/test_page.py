@@ -9,7 +9,7 @@ from html.parser import HTMLParser
 import page_style
 import pytest
 from browser import Browser
-from support import ROOT, run, text_of
+from support import ROOT, level_and_text, run
 
 SOURCE, STYLE = page_style.SOURCE.read_text(), page_style.STYLE.read_text()
 
@@ -169,7 +169,7 @@ SMALL = """<!DOCTYPE html><html lang="en"><head><meta charset="utf-8"/>
 
 def test_page_on_a_small_file():
     """Apart from the style, a page has no line ends."""
-    warning = f"Error: {text_of('missing-slash')} [missing-slash]"
+    warning = f"Error: {level_and_text('missing-slash')[1]} [missing-slash]"
     wanted = SMALL.replace("\n", "").format(policy=constant("POLICY"), style=STYLE, warning=warning)
     assert page("Ferris", "/a<b", file=b"User-agent: *\nDisallow: search\n") == wanted
 

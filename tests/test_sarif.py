@@ -6,7 +6,7 @@ import re
 from urllib.parse import unquote
 
 import pytest
-from support import LEVELS, WARNINGS, run
+from support import WARNINGS, run
 
 ROBOTS = b"""User-agent: *
 Disallow: search
@@ -56,6 +56,11 @@ def log(*args, file=ROBOTS, status=0, **options):
     return json.loads(result.out)
 
 
+def message(name):
+    """The message of the first warning with this name."""
+    return WARNINGS[name][0][1]
+
+
 def results(log):
     """Level, rule, message, file and line of each result."""
     for it in log["runs"][0]["results"]:
@@ -74,11 +79,11 @@ def test_schema(args):
 def test_results():
     assert list(results(log("Ferris", "/b", "/c", status=1))) == [
         ("error", "denied", "Ferris may not fetch /b", "robots.txt", 3),
-        ("error", "missing-slash", WARNINGS["missing-slash"][0], "robots.txt", 2),
-        ("note", "clean-param-line", WARNINGS["clean-param-line"][0], "robots.txt", 4),
-        ("warning", "noindex-line", WARNINGS["noindex-line"][0], "robots.txt", 5),
+        ("error", "missing-slash", message("missing-slash"), "robots.txt", 2),
+        ("note", "clean-param-line", message("clean-param-line"), "robots.txt", 4),
+        ("warning", "noindex-line", message("noindex-line"), "robots.txt", 5),
     ]
-    assert list(results(log("Ferris/1", file=b""))) == [("warning", "version-in-agent", WARNINGS["version-in-agent"][0], "robots.txt", None)]
+    assert list(results(log("Ferris/1", file=b""))) == [("warning", "version-in-agent", message("version-in-agent"), "robots.txt", None)]
 
 
 def test_rejected_file():
@@ -91,9 +96,9 @@ def test_rules():
     driver = log("Ferris")["runs"][0]["tool"]["driver"]
     assert (driver["name"], run("robots_audit", ["--version"]).out) == ("robots_audit", f"robots_audit {driver['version']}\n")
     rules = [(it["id"], it["defaultConfiguration"]["level"]) for it in driver["rules"]]
-    assert rules == [("denied", "error"), ("rejected", "error"), *LEVELS.items()]
+    assert rules == [("denied", "error"), ("rejected", "error"), *((name, its[0][0]) for name, its in WARNINGS.items())]
     texts = {it["id"]: it["shortDescription"]["text"] for it in driver["rules"]}
-    assert all(texts[name] == found[0].replace("KEY", "User-agent") for name, found in WARNINGS.items())
+    assert all(texts[name] == message(name).replace("KEY", "User-agent") for name in WARNINGS)
 
 
 @pytest.mark.parametrize("name", ["a b.txt", "a:b/c,d%41#e?f.txt", "gr\u00f6\u00dfe\x1b~_-.txt", "[a]+;@&=$!'()*"])

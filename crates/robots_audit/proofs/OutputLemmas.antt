@@ -1,5 +1,5 @@
 -- A report is printable in each format.
-use Rattle.std.proofs.Common.{ℕ, List, ◌++◌}
+use Rattle.std.proofs.Common.{◌++◌}
 use Rattle.texting_robots.proofs.TrimLemmas.{each_append}
 use Rattle.robots_io.specs.Sanitize.{IsPrintable}
 use Rattle.robots_io.proofs.SanitizeLemmas.{ended_printable}

@@ -16,12 +16,10 @@ use Rattle.robots_io.proofs.SanitizeLemmas.{append_printable, ascii_printable, d
 use Rattle.robots_io.proofs.SanitizeLemmas.{nil_printable, sanitized_printable}
 use Rattle.robots_warnings.specs.declared.level.Level.{Level}
 use Rattle.robots_warnings.specs.declared.level.Level.TheVariants.{Error, Note, Warning}
-use Rattle.robots_warnings.specs.Level.{level_word}
 use Rattle.robots_warnings.specs.Table.{level_of}
-use Rattle.robots_warnings.specs.Warnings.{WarningValue, name_text, warning_text}
+use Rattle.robots_warnings.specs.Warnings.{WarningValue}
 use Rattle.robots_warnings.proofs.PrintableLemmas.{name_printable, text_printable, word_printable}
-use Rattle.robots_audit.specs.declared.group.Group.{Group}
-use Rattle.robots_audit.specs.Audit.{AgentValue, AuditValue, RequestValue, VerdictValue, labeling_agent}
+use Rattle.robots_audit.specs.Audit.{AgentValue, AuditValue, RequestValue, VerdictValue}
 use Rattle.robots_audit.specs.declared.page.style.TheConstants.{CSS, HTTP_EQUIV}
 use Rattle.robots_audit.specs.declared.page.style.TheConstants.{POLICY, POLICY_NAME, REJECTED}
 use Rattle.robots_audit.specs.declared.page.style.TheConstants.{VIEWPORT, VIEWPORT_NAME}
@@ -39,8 +37,7 @@ use Rattle.robots_audit.specs.Page.{url_column, url_columns, url_part, url_row, 
 use Rattle.robots_audit.specs.Page.{verdict_cell, verdict_name, verdict_part, warning_at, warning_entry}
 use Rattle.robots_audit.specs.Page.{warning_item, warning_list, warning_place, warning_row, warning_words}
 use Rattle.robots_audit.specs.Report.{group_text}
-use Rattle.robots_audit.specs.Rows.{kind_text, value_text}
-use Rattle.robots_audit.specs.Json.{membership_word}
+use Rattle.robots_audit.specs.Rows.{value_text}
 use Rattle.robots_audit.proofs.JsonLemmas.{kind_printable, membership_printable}
 use Rattle.robots_audit.proofs.PrintableLemmas.{delay_printable, group_text_printable, value_printable}
 

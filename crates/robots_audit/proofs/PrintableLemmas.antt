@@ -19,13 +19,13 @@ use Rattle.robots_audit.specs.Answer.{message, message_in, shown_name}
 use Rattle.robots_audit.specs.Audit.{AgentValue, AuditValue, RequestValue, VerdictValue}
 use Rattle.robots_audit.specs.Listed.{listed, more, more_of, unlisted}
 use Rattle.robots_audit.specs.Delay.{delay_line, delay_text, fraction, million, seconds}
-use Rattle.robots_audit.specs.Report.{agent_lines, group_line, group_text, listed_lines, more_line, nobody_text, rejected_lines, report_lines, total_line, verdict_line, warning_lines}
+use Rattle.robots_audit.specs.Report.{agent_lines, group_line, group_text, listed_lines, more_line, rejected_lines, report_lines, total_line, verdict_line, warning_lines}
 use Rattle.robots_warnings.specs.File.{space}
 use Rattle.robots_audit.specs.Rows.{has_value, kind_text, label_text, right_aligned, row, rows}
 use Rattle.robots_audit.specs.Rows.{value_text, word_and_value, word_width}
 use Rattle.robots_io.specs.Sanitize.{IsPrintable}
 use Rattle.robots_warnings.specs.Warnings.{WarningValue, warning_line}
-use Rattle.robots_audit.proofs.JsonLemmas.{json_printable, kind_printable}
+use Rattle.robots_audit.proofs.JsonLemmas.{kind_printable}
 use Rattle.robots_warnings.proofs.PrintableLemmas.{line_printable, names_printable}
 use Rattle.robots_io.proofs.SanitizeLemmas.{append_printable, ascii_printable, blanks_printable}
 use Rattle.robots_io.proofs.SanitizeLemmas.{decimal_printable}

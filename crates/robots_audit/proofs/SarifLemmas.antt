@@ -1,14 +1,13 @@
 -- The SARIF log contains no floating-point number, and no control or bidirectional-formatting characters other
 -- than LF.
 use Rattle.std.proofs.Common.{◌≡◌, ℕ, ◌+◌, ◌/◌, ◌%◌, ◌<◌, Bool, true, false, List, [], ◌∷◌, ◌++◌, Option, Some, None, arith, codes}
-use Rattle.std.proofs.Common.{drop, flat_map, inl, inr, length, refl, slice_index_or}
+use Rattle.std.proofs.Common.{drop, inl, inr, length, refl, slice_index_or}
 use Rattle.std.specs.Prelude.{bytes_eq, if◌then◌else◌, not, ◌||◌}
 use Rattle.std.specs.List.{AllByRecursion as Each}
 use Rattle.std.specs.Fmt.{digit_glyph}
 use Rattle.std.proofs.lemmas.Bool.{agree_below_at, cases_Bool, cases_lt}
 use Rattle.std.proofs.lemmas.Bool.Decides.{nat_tests}
 use Rattle.std.proofs.lemmas.List.{drop_more}
-use Rattle.serde_json.specs.Data.{Data}
 use Rattle.serde_json.specs.Written.{compact_text, has_float}
 use Rattle.texting_robots.proofs.TrimLemmas.{each_append}
 use Rattle.robots_io.specs.Lines.{lf}
@@ -20,7 +19,7 @@ use Rattle.robots_warnings.specs.declared.table.Cause.{Cause}
 use Rattle.robots_warnings.specs.Table.{all_causes, level_of, name_of}
 use Rattle.robots_warnings.proofs.PrintableLemmas.{names_printable, texts_printable, word_printable}
 use Rattle.robots_audit.specs.Findings.{FindingValue}
-use Rattle.robots_audit.specs.Sarif.{RuleValue, all_rules, location_json, log_json, place_json, result_json}
+use Rattle.robots_audit.specs.Sarif.{RuleValue, all_rules, log_json, place_json, result_json}
 use Rattle.robots_audit.specs.Sarif.{rule_if_new, rule_json, rule_of, rules_after, sarif_text, tool_json}
 use Rattle.robots_audit.specs.Sarif.{is_uri_byte, uri_byte, uri_of}
 use Rattle.robots_audit.proofs.FindingLemmas.{HasPrintableTexts}

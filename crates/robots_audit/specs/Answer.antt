@@ -19,7 +19,7 @@ use Rattle.robots_audit.specs.Fault.{MayFail}
 use Rattle.robots_audit.specs.Findings.{findings}
 use Rattle.robots_audit.specs.Github.{github_text}
 use Rattle.robots_audit.specs.Json.{json_text}
-use Rattle.robots_audit.specs.Report.{listed_lines, report_lines, total_line, warning_lines}
+use Rattle.robots_audit.specs.Report.{listed_lines, report_lines, total_line}
 use Rattle.robots_audit.specs.Page.{page}
 use Rattle.robots_audit.specs.Sarif.{sarif_text}
 use Rattle.robots_io.specs.Sanitize.{sanitized, sanitized_lines}

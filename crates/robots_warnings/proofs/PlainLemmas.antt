@@ -10,12 +10,12 @@ use Rattle.std.proofs.lemmas.Bool.Decides.{nat_tests}
 use Rattle.std.proofs.lemmas.List.{drop_all}
 use Rattle.std.proofs.lemmas.Str.{IsUtf8-from_ascii, is_utf8-from_IsUtf8}
 use Rattle.std.proofs.lemmas.Str.Ascii.{IsAscii-cons, IsAscii-nil}
-use Rattle.robots_warnings.specs.Checks.{Check, rule_checks}
+use Rattle.robots_warnings.specs.Checks.{rule_checks}
 use Rattle.robots_warnings.specs.Internal.Plain.{is_plain, is_plain_byte}
-use Rattle.robots_warnings.specs.Rules.{after_byte, before_byte, begins_class, begins_dot_segment}
-use Rattle.robots_warnings.specs.Rules.{begins_range, begins_sign, has, has_choice, has_dollar_inside, has_final_plus}
+use Rattle.robots_warnings.specs.Rules.{after_byte, begins_class, begins_dot_segment}
+use Rattle.robots_warnings.specs.Rules.{begins_range, begins_sign, has_choice, has_dollar_inside, has_final_plus}
 use Rattle.robots_warnings.specs.Rules.{has_dot_segment, holds_otherwise, is_expression, is_quoted}
-use Rattle.robots_warnings.specs.Rules.{is_written_otherwise, somewhere, stands_around}
+use Rattle.robots_warnings.specs.Rules.{is_written_otherwise, somewhere}
 use Rattle.robots_warnings.specs.SeveralValues.{begins_next_value, has_several_values}
 use Rattle.robots_warnings.specs.Warnings.{warned}
 

@@ -24,7 +24,7 @@ use Rattle.robots_warnings.specs.declared.positions.Preceding.TheVariants.{Agent
 use Rattle.robots_warnings.specs.Checks.{is_in_scope_of}
 use Rattle.robots_warnings.specs.Positions.{preceding_with}
 use Rattle.robots_warnings.specs.Internal.Replaced.{AddsDenied, has_other_name, is_other_name}
-use Rattle.robots_warnings.specs.Replaced.{is_disallow, is_first_name, is_replacing, keep_none, replacing}
+use Rattle.robots_warnings.specs.Replaced.{is_disallow, is_first_name, keep_none, replacing}
 use Rattle.robots_warnings.specs.Replaced.{replacing_from, star_rules}
 use Rattle.robots_warnings.proofs.NameLemmas.{either}
 use Rattle.robots_warnings.proofs.SpellingLemmas.{and_false, neither}

@@ -1,5 +1,5 @@
 -- The comparison of two files as the code does it.
-use Rattle.std.specs.Prelude.{◌≡◌, ℕ, Bool, ◌&&◌, ◌||◌, List, ◌++◌, Option, flat_map, if◌then◌else◌, map}
+use Rattle.std.specs.Prelude.{◌≡◌, ℕ, Bool, ◌&&◌, ◌||◌, List, ◌++◌, flat_map, if◌then◌else◌, map}
 use Rattle.std.specs.Prelude.{string_bytes, take}
 use Rattle.std.specs.BTreeSet.{contains_text}
 use Rattle.std.specs.List.{AllZip, list_all, list_any}

@@ -1,4 +1,4 @@
-use Rattle.std.proofs.Common.{◌≡◌, ℕ, map, take}
+use Rattle.std.proofs.Common.{map, take}
 use Rattle.robots_warnings.specs.Internal.{warning_value}
 use Rattle.robots_audit.specs.Internal.ByLine.{AreByLine}
 use Rattle.robots_audit.proofs.page.by_line.by_line.Given as goal
