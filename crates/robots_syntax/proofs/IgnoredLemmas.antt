@@ -1,0 +1,54 @@
+-- An ignored line that isn't blank has a warning about its syntax.
+use Rattle.std.proofs.Common.{◌≡◌, inl, inr, ℕ, ◌||◌, Bool, true, false, List, [], ◌∷◌, None, Option, Some}
+use Rattle.std.proofs.Common.{if◌then◌else◌, not, refl, sym, unwrap_or, ◌∙◌}
+use Rattle.std.specs.List.{list_all}
+use Rattle.std.specs.Option.{option_or}
+use Rattle.std.proofs.lemmas.Bool.{and_parts, cases_Bool, false≢true, not-true}
+use Rattle.robots_warnings.specs.FieldNames.{Row, directive_in, directives, first_that, first_word}
+use Rattle.robots_warnings.specs.FieldNames.{is_either, may_either_mean, meant_by, name_in, unsupported}
+use Rattle.robots_warnings.specs.FieldNames.{unsupported_in}
+use Rattle.robots_warnings.specs.declared.table.Cause.{Cause}
+use Rattle.robots_warnings.specs.declared.table.Cause.TheVariants as cause
+use Rattle.robots_syntax.specs.Syntax.{is_about_meaning, is_quiet}
+
+-- the warning, if there is one, is about syntax
+abbrev IsAboutSyntax : Option Cause → Type 0
+IsAboutSyntax None = Unit {0}
+IsAboutSyntax (Some cause) = is_about_meaning cause ≡ false
+
+first_one : (test : List ℕ → Bool) (rows : List Row)
+    → list_all (λ (row : Row). not (is_about_meaning row.1)) rows ≡ true
+    → IsAboutSyntax (first_that test rows)
+first_one test [] all = tt
+first_one test (row ∷ rows) all =
+    let both = and_parts (not (is_about_meaning row.1)) _ all in
+    elim (cases_Bool (test row.0)) [
+      | inl is ↦ rw is (not-true _ both.0)
+      | inr isnt ↦ rw isnt (first_one test rows both.1)
+    ]
+
+either : (one other : Option Cause) → IsAboutSyntax one → IsAboutSyntax other
+    → is_about_meaning (unwrap_or (option_or one other) cause.UnrecognizedLine) ≡ false
+either None None first second = refl
+either None (Some other) first second = second
+either (Some one) other first second = first
+
+delay_or : (b : Bool) (other : Cause) → is_about_meaning other ≡ false
+    → is_about_meaning (if b then cause.InvalidDelay else other) ≡ false
+delay_or true other is = refl
+delay_or false other is = is
+
+meant : (body : List ℕ) → is_about_meaning (meant_by body) ≡ false
+meant body =
+    let name = name_in body in
+    let word = first_word body in
+    delay_or _ _ (either (unsupported_in name word) (directive_in name word)
+    (first_one (is_either name word) unsupported refl)
+    (first_one (may_either_mean name word) directives refl))
+
+pub not_quiet : (body : List ℕ) → is_quiet (meant_by body, true) ≡ true → ⊥
+not_quiet body is = false≢true (sym (none (is_about_meaning (meant_by body)) (meant body)) ∙ is)
+  where
+    none : (b : Bool) → b ≡ false → (b || not true) ≡ false
+    none true is = is
+    none false is = refl

@@ -1,0 +1,12 @@
+use Rattle.robots_syntax.proofs.SyntaxLemmas.{no_warnings, robot_stated, silence}
+use Rattle.robots_syntax.proofs.silence_means_syntax.Goals as goal
+
+pub returns-clause-syntax : goal.returns-clause-syntax
+returns-clause-syntax c = silence
+
+pub returns-clause-none : goal.returns-clause-none
+returns-clause-none c = no_warnings
+
+pub returns-clause-robot : goal.returns-clause-robot
+returns-clause-robot c = λ agents urls file agent robot silent is.
+    robot_stated agents urls file silent agent robot is

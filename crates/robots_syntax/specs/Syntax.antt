@@ -1,0 +1,100 @@
+-- What the silence of an audit means: a file without warnings about its syntax follows the extended grammar
+-- of RFC 9309 (`IsFile`).
+use Rattle.std.specs.Prelude.{◌≡◌, ℕ, Bool, true, false, not, ◌||◌, List, None, codes, take}
+use Rattle.std.specs.List.{AllByRecursion as Each}
+use Rattle.texting_robots.specs.Callers.{Allow, CrawlDelay, Disallow, LineValue, Raw, Sitemap}
+use Rattle.texting_robots.specs.Callers.{RobotValue, UserAgent, file_limit, lines_read}
+use Rattle.robots_rfc9309.specs.LineForms as form
+use Rattle.robots_rfc9309.specs.LineForms.{Form}
+use Rattle.robots_rfc9309.specs.Rfc9309 as rfc
+use Rattle.robots_rfc9309.specs.StandardRobot.{IsFileWith, IsRobotAs}
+use Rattle.robots_warnings.specs.Checks.{Check, line_checks}
+use Rattle.robots_warnings.specs.Facts.{facts_of}
+use Rattle.robots_warnings.specs.File.{labels_for}
+use Rattle.robots_warnings.specs.Warnings.{WarningValue, warnings}
+use Rattle.robots_warnings.specs.declared.table.Cause.{Cause}
+use Rattle.robots_warnings.specs.declared.table.Cause.TheVariants as cause
+
+-- ---- warnings about syntax
+
+-- The warning isn't about syntax: it is about the request, the size of the file, or what a file of the
+-- grammar means. All other warnings are about syntax, notes included.
+abbrev pub is_about_meaning : Cause → Bool
+-- the request
+is_about_meaning cause.SpaceAroundAgent = true
+is_about_meaning cause.VersionInAgent = true
+is_about_meaning cause.NotAUrlOrPath = true
+is_about_meaning cause.InvalidUrl = true
+-- the size
+is_about_meaning cause.FileTooLarge = true
+is_about_meaning cause.GroupPastSizeLimit = true
+-- a line
+is_about_meaning cause.HashLeavesRoot = true
+is_about_meaning cause.HashCutsRule = true
+is_about_meaning cause.UnencodedCharacter = true
+is_about_meaning cause.RegexSyntax = true
+is_about_meaning cause.DollarNotAtEnd = true
+is_about_meaning cause.NonstandardEscape = true
+is_about_meaning cause.DotSegment = true
+is_about_meaning cause.DelayOverADay = true
+is_about_meaning cause.OneLine = true
+-- groups
+is_about_meaning cause.EmptyGroup = true
+is_about_meaning cause.DelaySplitsGroup = true
+is_about_meaning cause.AllowedAndDisallowed = true
+is_about_meaning cause.TwoDelays = true
+is_about_meaning cause.ClosesEverything = true
+is_about_meaning cause.ReplacesStar = true
+is_about_meaning cause.RepeatedRule = true
+is_about_meaning cause.GooglebotGroup = true
+is_about_meaning cause.GoogleIgnoresStar = true
+is_about_meaning _ = false
+
+abbrev pub IsAboutMeaning : WarningValue → Type 0
+IsAboutMeaning warning = is_about_meaning warning.cause ≡ true
+
+-- the warnings about a file if all groups are checked, as with `--agents`; `agents` are the crawlers that are
+-- reported on
+abbrev pub warnings_of : (agents urls : List (List ℕ)) → List ℕ → List WarningValue
+warnings_of agents urls file =
+    let lines = lines_read file in
+    let labels = labels_for (codes "*") lines in
+    warnings None agents urls file (facts_of file labels) labels lines
+
+-- none of these warnings is about the syntax of the file
+abbrev pub IsSilentOn : (agents urls : List (List ℕ)) → List ℕ → Type 0
+IsSilentOn agents urls file = Each IsAboutMeaning (warnings_of agents urls file)
+
+-- what is read of the file follows the extended grammar
+abbrev pub HasSyntax : List ℕ → Type 0
+HasSyntax file = (groups : List rfc.Group) × rfc.IsFile groups (take file_limit file)
+
+-- what is read of the file follows the extended grammar, and the robot has the rules, the delay and the
+-- sitemaps that the file states for the crawler
+abbrev pub IsRobotStated : List ℕ → List ℕ → RobotValue → Type 0
+IsRobotStated agent file robot =
+    (groups : List rfc.Group) × (numbers : List (List ℕ)) × (addresses : List (List ℕ))
+    × IsFileWith numbers groups (take file_limit file) × rfc.ListsSitemaps addresses (take file_limit file)
+    × IsRobotAs agent (rfc.merged groups) numbers addresses robot
+
+-- ---- lines
+
+-- the check makes no warning about syntax
+abbrev pub is_quiet : Check → Bool
+is_quiet check = is_about_meaning check.0 || not check.1
+
+abbrev pub AreQuiet : List Check → Type 0
+AreQuiet checks = Each (λ check. is_quiet check ≡ true) checks
+
+-- there is no warning about the syntax of this line with this content
+abbrev pub IsQuietLine : LineValue → List ℕ → Type 0
+IsQuietLine line body = AreQuiet (line_checks true line body)
+
+-- the form of such a line; an ignored line has to be blank
+abbrev pub form_of : LineValue → Form
+form_of (UserAgent value) = form.Agent
+form_of (Allow value) = form.Rule
+form_of (Disallow value) = form.Rule
+form_of (CrawlDelay delay) = form.Delay
+form_of (Sitemap value) = form.Sitemap
+form_of (Raw body) = form.Empty

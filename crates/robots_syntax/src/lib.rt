@@ -1,0 +1,35 @@
+//! What the silence of an audit means: a file without warnings about its syntax follows the grammar of RFC 9309,
+//! section 2.2, extended as `robots_rfc9309` says. Theorems about the specification, each the contract of an empty
+//! function.
+#![tactic(auto)]
+
+ghost use Rattle.std.specs.Prelude.{◌≡◌, ℕ, List, [], take};
+ghost use Rattle.texting_robots.specs.Callers.{IsLineOf, IsRobotOfFile, LineValue, RobotValue, file_limit};
+ghost use Rattle.robots_rfc9309.specs.LineForms.{HasForm};
+ghost use Rattle.robots_syntax.specs.Examples as example;
+ghost use Rattle.robots_syntax.specs.Syntax.{HasSyntax, IsQuietLine, IsRobotStated, IsSilentOn, form_of, warnings_of};
+
+/// A line without a warning about its syntax is a line of the grammar, of the form that belongs to its kind.
+pub fn quiet_lines_have_forms()
+    ensures { (line : LineValue) (body : List ℕ) → IsLineOf line body → IsQuietLine line body
+        → HasForm (form_of line) body }
+{}
+
+/// What the silence of an audit of all groups means, used by owners who want each crawler to read the same:
+///
+/// - `syntax`: without a warning about the syntax of a file, what crawlers read of it follows the extended grammar.
+/// - `none`: so it does if there is no warning at all.
+/// - `robot`: `Robot::new` then has the rules, the delay and the sitemaps that the file states for the crawler.
+pub fn silence_means_syntax()
+    ensures syntax { (agents urls : List (List ℕ)) (file : List ℕ) → IsSilentOn agents urls file → HasSyntax file }
+    ensures none { (agents urls : List (List ℕ)) (file : List ℕ) → warnings_of agents urls file ≡ [] → HasSyntax file }
+    ensures robot { (agents urls : List (List ℕ)) (file agent : List ℕ) (robot : RobotValue)
+        → IsSilentOn agents urls file → IsRobotOfFile agent (take file_limit file) robot
+        → IsRobotStated agent file robot }
+{}
+
+/// Worked examples: a file without warnings about its syntax, and one with such a warning.
+pub fn examples()
+    ensures silent { example.silent }
+    ensures warned { example.warned }
+{}
