@@ -30,6 +30,9 @@ BY_HAND = {
     "Ord for MinRegex": "puts a longer pattern first",
     "PartialOrd for MinRegex": "agrees with `Ord`, which is written by hand",
     "Debug for Rules": "prints the rules, and not the tables that are computed from them",
+    "Hash for Value": "hashes the bytes in one piece",
+    "PartialEq for Value": "says that it is `bytes_eq`, for the proofs",
+    "Eq for Value": "requires `PartialEq`, which is written by hand",
 }
 
 

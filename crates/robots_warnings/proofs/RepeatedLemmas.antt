@@ -1,43 +1,45 @@
 -- How rules are met.
 use Rattle.std.proofs.Common.{◌≡◌, ℕ, ◌||◌, ◌&&◌, Bool, true, false, List, [], ◌∷◌, ◌++◌, ◌∙◌, ap}
 use Rattle.std.proofs.Common.{◌+◌, ◌<◌, append_assoc, drop, if◌then◌else◌, length, map, not, refl}
-use Rattle.std.proofs.Common.{slice_index_or, sym}
+use Rattle.std.proofs.Common.{bytes_eq, slice_index_or, sym}
 use Rattle.std.proofs.Math.Bool.{or-false}
 use Rattle.std.proofs.lemmas.List.{drop_more}
-use Rattle.std.specs.BTreeSet.{BTreeSet, Updates, contains}
+use Rattle.std.specs.HashSet.{Updates, contains}
 use Rattle.texting_robots.specs.declared.labels.LabeledLine.{LabeledLine}
 use Rattle.texting_robots.specs.Callers.{Allow, Disallow, Label, LineValue, by_value, label_by_value}
 use Rattle.robots_warnings.specs.declared.repeated.Met.{Met}
+use Rattle.robots_warnings.specs.declared.values.Value.{Value}
 use Rattle.robots_warnings.specs.Checks.{is_in_scope_of}
-use Rattle.robots_warnings.specs.Internal.Names.{Key, key_cmp}
 use Rattle.robots_warnings.specs.Internal.Repeated.{HasMet, IsFoundUpto, MeetsLine}
-use Rattle.robots_warnings.specs.Internal.Spellings.{HasValues, MeetsValue}
+use Rattle.robots_warnings.specs.Internal.Values.{HasValues, MeetsValue, Values, value_eq}
 use Rattle.robots_warnings.specs.Repeated.{above_next, repeated_from}
 use Rattle.robots_warnings.specs.Spellings.{is_rule_with}
-use Rattle.robots_warnings.proofs.NameLemmas.{any_last}
-use Rattle.robots_warnings.proofs.SpellingLemmas.{value_added}
+use Rattle.robots_warnings.proofs.NameLemmas.{any_last, either}
 
 not_not : (a b : Bool) → b ≡ not a → not b ≡ a
 not_not true b is = rw is refl
 not_not false b is = rw is refl
 
 -- inserting a value
-pub value_met : (old new : BTreeSet Key) (key : Key) (is_new : Bool) → is_new ≡ not (contains key_cmp old key)
-    → Updates key_cmp old new key true → MeetsValue old new key.items (not is_new)
+pub value_met : {S : Type 0} (old new : Values S) (key : Value) (is_new : Bool)
+    → is_new ≡ not (contains value_eq old key)
+    → Updates value_eq old new key true → MeetsValue old new key.bytes.now (not is_new)
 value_met old new key is_new added updates = record {
-  was = λ is_allow lines has. not_not (contains key_cmp old key) is_new added ∙ has.each key;
-  each = value_added old new key updates;
+  was = λ is_allow lines has. not_not (contains value_eq old key) is_new added ∙ has.each key;
+  each = λ other.
+      updates.0 other
+      ∙ either (contains value_eq old other) (bytes_eq key.bytes.now other.bytes.now);
 }
 
-more : (values met : BTreeSet Key) (is_allow : Bool) (above : List LineValue) (line : LineValue)
+more : {S : Type 0} (values met : Values S) (is_allow : Bool) (above : List LineValue) (line : LineValue)
     → HasValues values is_allow above
-    → ((key : Key) → contains key_cmp met key
-    ≡ (contains key_cmp values key || is_rule_with is_allow key.items line))
+    → ((key : Value) → contains value_eq met key
+    ≡ (contains value_eq values key || is_rule_with is_allow key.bytes.now line))
     → HasValues met is_allow (above ++ line ∷ [])
 more values met is_allow above line has each = record {
   each = λ key. each key
-      ∙ ap (λ (b : Bool). b || is_rule_with is_allow key.items line) (has.each key)
-      ∙ sym (any_last (is_rule_with is_allow key.items) above line);
+      ∙ ap (λ (b : Bool). b || is_rule_with is_allow key.bytes.now line) (has.each key)
+      ∙ sym (any_last (is_rule_with is_allow key.bytes.now) above line);
 }
 
 -- an Allow is met
@@ -48,7 +50,7 @@ met_allow old new value is meets same = record {
   has = λ above has. record {
     allows = more old.allows new.allows true above (Allow value) has.allows meets.each;
     disallows = more old.disallows new.disallows false above (Allow value) has.disallows
-        (λ key. rw same (sym (or-false (contains key_cmp old.disallows key))));
+        (λ key. rw same (sym (or-false (contains value_eq old.disallows key))));
   };
 }
 
@@ -59,7 +61,7 @@ met_disallow old new value is meets same = record {
   was = λ above has. meets.was false above has.disallows;
   has = λ above has. record {
     allows = more old.allows new.allows true above (Disallow value) has.allows
-        (λ key. rw same (sym (or-false (contains key_cmp old.allows key))));
+        (λ key. rw same (sym (or-false (contains value_eq old.allows key))));
     disallows = more old.disallows new.disallows false above (Disallow value) has.disallows meets.each;
   };
 }
@@ -70,9 +72,9 @@ pub met_other : (met : Met) (line : LineValue) → ((is_allow : Bool) (value : L
     → HasMet met (above ++ line ∷ [])
 met_other met line none above has = record {
   allows = more met.allows met.allows true above line has.allows
-      (λ key. rw (none true key.items) (sym (or-false (contains key_cmp met.allows key))));
+      (λ key. rw (none true key.bytes.now) (sym (or-false (contains value_eq met.allows key))));
   disallows = more met.disallows met.disallows false above line has.disallows
-      (λ key. rw (none false key.items) (sym (or-false (contains key_cmp met.disallows key))));
+      (λ key. rw (none false key.bytes.now) (sym (or-false (contains value_eq met.disallows key))));
 }
 
 -- loop step: one more line was met, and its number was taken if it repeats a rule

@@ -5,6 +5,7 @@ pub mod Plain
 pub mod Repeated
 pub mod Replaced
 pub mod Spellings
+pub mod Values
 use Rattle.std.specs.Prelude.{◌≡◌, ℕ, ◌||◌, ◌++◌, List, Some, map, option_map, slice_get}
 use Rattle.std.specs.Borrow.{Bor}
 use Rattle.texting_robots.specs.Callers.{LineValue}

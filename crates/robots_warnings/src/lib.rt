@@ -23,5 +23,6 @@ mod spellings;
 pub mod table;
 pub mod tokens;
 pub mod urls;
+mod values;
 pub mod warning;
 pub mod warnings;

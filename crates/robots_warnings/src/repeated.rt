@@ -3,48 +3,48 @@ ghost use Rattle.std.specs.Prelude.{◌≡◌, ◌&&◌, IfOk, [], map};
 ghost use Rattle.texting_robots.specs.Callers.{by_value, label_by_value};
 ghost use Rattle.robots_warnings.specs.Checks.{is_in_scope_of};
 ghost use Rattle.robots_warnings.specs.Internal.Repeated.{HasMet, MeetsLine};
-ghost use Rattle.robots_warnings.specs.Internal.Spellings.{MeetsValue};
+ghost use Rattle.robots_warnings.specs.Internal.Values.{MeetsValue};
 ghost use Rattle.robots_warnings.specs.Repeated.{repeated};
 
 use crate::checks::is_in_scope_of;
 use crate::names_past_limit::add;
-use crate::spellings::Values;
+use crate::values::{Value, Values};
 use std::alloc::{AllocError, Global};
-use std::collections::BTreeSet;
+use std::collections::HashSet;
 use texting_robots::labels::{LabeledLine, Membership};
 use texting_robots::parser::Line;
 
 /// The rules of a group that were met, by their values.
 #[derive(Drop)]
-struct Met {
-    allows: Values,
-    disallows: Values,
+struct Met<'a> {
+    allows: Values<'a>,
+    disallows: Values<'a>,
 }
 
 /// No rules.
-fn nothing(alloc: Global) -> Met
+fn nothing<'a>(alloc: Global) -> Met<'a>
     ensures { HasMet result [] }
 {
     Met {
-        allows: BTreeSet::new(alloc),
-        disallows: BTreeSet::new(alloc),
+        allows: HashSet::new(alloc),
+        disallows: HashSet::new(alloc),
     }
 }
 
 /// Inserts the value, and returns whether the set had it already.
-fn meet(alloc: Global, values: &mut Values, value: &[u8]) -> Result<bool, AllocError>
-    ensures { IfOk result (λ is. MeetsValue values.old values.new value.now is) }
+fn meet<'a>(values: &mut Values<'a>, bytes: &'a [u8]) -> Result<bool, AllocError>
+    ensures { IfOk result (λ is. MeetsValue values.old values.new bytes.now is) }
 {
-    Ok(!values.insert(value.to_vec(alloc)?)?)
+    Ok(!values.insert(Value { bytes })?)
 }
 
 /// Meets a line, and returns whether it repeats a rule.
-fn meet_line(alloc: Global, met: &mut Met, line: Line<'_>) -> Result<bool, AllocError>
+fn meet_line<'a>(alloc: Global, met: &mut Met<'a>, line: Line<'a>) -> Result<bool, AllocError>
     ensures { IfOk result (λ is. MeetsLine met.old met.new (by_value line.entry) is) }
 {
     match line {
-        Line::Allow(value) => meet(alloc, &mut met.allows, value),
-        Line::Disallow(value) => meet(alloc, &mut met.disallows, value),
+        Line::Allow(value) => meet(&mut met.allows, value),
+        Line::Disallow(value) => meet(&mut met.disallows, value),
         Line::UserAgent(_) => {
             *met = nothing(alloc);
             Ok(false)

@@ -17,7 +17,7 @@ use texting_robots::labels::LabeledLine;
 use texting_robots::parser::Line;
 
 /// The values of rules.
-pub(crate) type Values = BTreeSet<Vec<u8>>;
+type Values = BTreeSet<Vec<u8>>;
 
 /// Whether the text starts with a percent escape.
 fn begins_escape(text: &[u8]) -> bool

@@ -2,7 +2,7 @@
 use Rattle.std.specs.Prelude.{◌≡◌, ℕ, Bool, true, false, ◌++◌, List}
 use Rattle.texting_robots.specs.Callers.{LineValue, Label}
 use Rattle.robots_warnings.specs.declared.repeated.Met.{Met}
-use Rattle.robots_warnings.specs.Internal.Spellings.{HasValues}
+use Rattle.robots_warnings.specs.Internal.Values.{HasValues}
 use Rattle.robots_warnings.specs.Repeated.{above_next, is_repeated, repeated, repeated_from}
 
 -- the sets have exactly the values of the rules in these lines

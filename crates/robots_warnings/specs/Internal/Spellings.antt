@@ -1,5 +1,5 @@
 -- Sets of the values of rules.
-use Rattle.std.specs.Prelude.{◌≡◌, ℕ, Bool, List, ◌||◌, bytes_eq, false}
+use Rattle.std.specs.Prelude.{◌≡◌, Bool, List, ◌||◌, false}
 use Rattle.std.specs.BTreeSet.{BTreeSet, contains}
 use Rattle.std.specs.List.{list_any}
 use Rattle.texting_robots.specs.Callers.{Allow, Disallow, Label, LineValue}
@@ -15,12 +15,6 @@ pub record HasValues (values : BTreeSet Key) (is_allow : Bool) (lines : List Lin
 pub record AddsValue (old new : BTreeSet Key) (is_allow : Bool) (line : LineValue) : Type 0 where
   pub each : (key : Key) → contains key_cmp new key
       ≡ (contains key_cmp old key || is_rule_with is_allow key.items line)
-
--- the value was inserted, and `is` is true if the set had it already
-pub record MeetsValue (old new : BTreeSet Key) (value : List ℕ) (is : Bool) : Type 0 where
-  pub was : (is_allow : Bool) (lines : List LineValue) → HasValues old is_allow lines
-      → is ≡ list_any (is_rule_with is_allow value) lines
-  pub each : (key : Key) → contains key_cmp new key ≡ (contains key_cmp old key || bytes_eq value key.items)
 
 -- the line is a rule with a nonstandard escape
 abbrev pub has_odd_value : LineValue → Bool
