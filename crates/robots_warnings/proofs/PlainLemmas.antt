@@ -151,8 +151,8 @@ next_value c text plain rest =
       differs c 0xEF plain refl,
     ) refl
 
-several : (text : List ℕ) → are_plain text ≡ true → has_several_values text ≡ false
-several text plain = never begins_next_value next_value text plain
+several : (text : List ℕ) → are_plain text ≡ true → (is_utf8 text && has_several_values text) ≡ false
+several text plain = both_false (is_utf8 text) _ (never begins_next_value next_value text plain)
 
 -- ---- all checks
 

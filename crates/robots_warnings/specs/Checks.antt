@@ -93,7 +93,7 @@ rule_checks value =
     ∷ (cause.RegexSyntax, is_expression value)
     ∷ (cause.DollarNotAtEnd, has_dollar_inside value)
     ∷ (cause.DotSegment, has_dot_segment value)
-    ∷ (cause.SeveralValues, has_several_values value)
+    ∷ (cause.SeveralValues, is_utf8 value && has_several_values value)
     ∷ []
 
 -- microseconds per day

@@ -5,9 +5,10 @@ use Rattle.std.specs.Prelude.{nat_lt}
 use Rattle.std.specs.Char.{is_ascii_digit}
 use Rattle.std.specs.List.{ends_with, list_all, list_any, position_or_len, starts_with}
 use Rattle.std.specs.Str.{byte, is_utf8}
+use Rattle.robots_warnings.specs.Closed.{is_whole_site}
 use Rattle.robots_warnings.specs.FieldNames.{without_end, without_front}
 use Rattle.robots_warnings.specs.File.{hash, tab}
-use Rattle.robots_warnings.specs.Rules.{after_byte, before_byte, has}
+use Rattle.robots_warnings.specs.Rules.{after_byte, before_byte, begins_oddly, has}
 
 -- ---- the parts of a line's content
 
@@ -43,14 +44,16 @@ has_path_in_comment tail comment =
     (starts_with nat_eq comment (codes "#/") || starts_with nat_eq comment (codes "#!/"))
     && length (raw_value tail) == 0
 
--- only `/` or nothing is left of the rule
+-- what is left of the rule is the whole site, or nothing
 abbrev pub is_cut_to_root : (value tail comment : List ℕ) → Bool
 is_cut_to_root value tail comment =
-    (is_cut value tail comment && bytes_eq value (codes "/")) || has_path_in_comment tail comment
+    (is_cut value tail comment && is_whole_site value) || has_path_in_comment tail comment
 
--- more than `/` is left of the rule
+-- a rule that is read and matches some paths, but not the whole site, is left
 abbrev pub is_cut_short : (value tail comment : List ℕ) → Bool
-is_cut_short value tail comment = is_cut value tail comment && not (bytes_eq value (codes "/"))
+is_cut_short value tail comment =
+    is_cut value tail comment
+    && ((is_utf8 value && not (begins_oddly value)) && not (is_whole_site value))
 
 -- ---- a delay
 

@@ -151,7 +151,10 @@ pub(crate) fn rule_checks(value: &[u8]) -> [Check; 9]
         (Cause::RegexSyntax, is_expression(value)),
         (Cause::DollarNotAtEnd, has_dollar_inside(value)),
         (Cause::DotSegment, has_dot_segment(value)),
-        (Cause::SeveralValues, has_several_values(value)),
+        (
+            Cause::SeveralValues,
+            is_utf8(value) && has_several_values(value),
+        ),
     ]
 }
 

@@ -9,8 +9,9 @@ ghost use Rattle.robots_warnings.specs.Contents.{is_plain_number, raw_value, tai
 ghost use Rattle.robots_warnings.specs.File.{hash};
 ghost use Rattle.robots_warnings.specs.Rules.{before_byte};
 
+use crate::closed::is_whole_site;
 use crate::field_names::{without_end, without_front};
-use crate::rules::{after_byte, before_byte, has, is_utf8, place};
+use crate::rules::{after_byte, before_byte, begins_oddly, has, is_utf8, place};
 
 /// What precedes the comment, and the comment, which starts with `#` and is empty if there is none.
 fn split_comment<'a>(body: &'a [u8]) -> (&'a [u8], &'a [u8])
@@ -58,18 +59,18 @@ fn has_path_in_comment(tail: &[u8], comment: &[u8]) -> bool
     (comment.starts_with(b"#/") || comment.starts_with(b"#!/")) && raw_value(tail).is_empty()
 }
 
-/// Whether a comment leaves only `/` or nothing of the rule.
+/// Whether a comment leaves a rule for the whole site, or nothing.
 pub(crate) fn is_cut_to_root(value: &[u8], tail: &[u8], comment: &[u8]) -> bool
     ensures { result ≡ is_cut_to_root value.now tail.now comment.now }
 {
-    (is_cut(value, tail, comment) && value == b"/".as_slice()) || has_path_in_comment(tail, comment)
+    (is_cut(value, tail, comment) && is_whole_site(value)) || has_path_in_comment(tail, comment)
 }
 
-/// Whether a comment directly follows the value of the rule, which is more than `/`.
+/// Whether a comment directly follows the value of a rule that is read and matches some paths, but not the whole site.
 pub(crate) fn is_cut_short(value: &[u8], tail: &[u8], comment: &[u8]) -> bool
     ensures { result ≡ is_cut_short value.now tail.now comment.now }
 {
-    is_cut(value, tail, comment) && value != b"/".as_slice()
+    is_cut(value, tail, comment) && is_utf8(value) && !begins_oddly(value) && !is_whole_site(value)
 }
 
 /// Whether each byte is a digit.

@@ -74,7 +74,7 @@ pub(crate) fn is_utf8(value: &[u8]) -> bool
 }
 
 /// Whether the value isn't empty and doesn't start with a slash or a star.
-fn begins_oddly(value: &[u8]) -> bool
+pub(crate) fn begins_oddly(value: &[u8]) -> bool
     ensures { result ≡ begins_oddly value.now }
 {
     !matches!(value, [] | [b'/' | b'*', ..])
