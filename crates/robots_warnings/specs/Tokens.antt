@@ -18,6 +18,9 @@ has_slash text = list_any (λ b. b == byte "/") text
 abbrev pub is_token_byte : ℕ → Bool
 is_token_byte b = is_ascii_alphabetic b || b == byte "_" || b == byte "-"
 
+abbrev pub ends_token : ℕ → Bool
+ends_token b = not (is_token_byte b)
+
 -- the value is a product token, or `*`, which means every crawler
 abbrev pub is_product_token : List ℕ → Bool
 is_product_token value =

@@ -223,9 +223,9 @@ pub static WARNINGS: [(Cause, Level, &str, &str); 61] = [
     (Cause::RepeatedRule, Level::Note, "repeated-rule",
         "the same rule is above in the same group, so this one changes no verdict; delete it, or correct it if another path is meant"),
     (Cause::GooglebotGroup, Level::Note, "googlebot-group",
-        "AGENT has no group of its own, so Google applies the group of Googlebot to it, not the one that is reported here; pass Googlebot as AGENT, or add a group"),
+        "AGENT, or an --agent, has no group of its own, so Google applies the group of Googlebot to it, and that may not be the one that is reported here; pass Googlebot as AGENT, or add a group"),
     (Cause::GoogleIgnoresStar, Level::Note, "google-ignores-star",
-        "AGENT has no group of its own, and Google doesn't apply the group of * to this crawler, so it may fetch everything; add a group for it"),
+        "AGENT, or an --agent, has no group of its own, and Google doesn't apply the group of * to this crawler, so it may fetch everything; add a group for it"),
 ];
 
 /// The row at this index.

@@ -1,8 +1,8 @@
 //! Conditions on the name of a crawler.
-ghost use Rattle.std.specs.Prelude.{◌≡◌, codes};
-ghost use Rattle.std.specs.List.{list_all};
+ghost use Rattle.std.specs.Prelude.{◌≡◌, ◌≤◌, codes, length};
+ghost use Rattle.std.specs.List.{before_first, list_all, position_or_len};
 ghost use Rattle.robots_warnings.specs.Urls.{begins_in_any_case};
-ghost use Rattle.robots_warnings.specs.Tokens.{has_slash, has_space_around, is_invalid_name, is_name_byte, is_product_token};
+ghost use Rattle.robots_warnings.specs.Tokens.{ends_token, has_slash, has_space_around, is_invalid_name, is_name_byte, is_product_token};
 ghost use Rattle.robots_warnings.specs.Tokens.{is_token_byte, is_unusual_name, is_usual_name, seems_several_names, without_star};
 
 use crate::rules::somewhere;
@@ -34,6 +34,28 @@ fn are_token_bytes(bytes: &[u8]) -> bool
     ensures { result ≡ list_all is_token_byte bytes.now }
 {
     bytes.iter().all(|byte| is_token_byte(*byte))
+}
+
+/// Whether the byte can't occur in a product token.
+fn ends_token(byte: u8) -> bool
+    ensures { result ≡ ends_token byte }
+{
+    !is_token_byte(byte)
+}
+
+/// The number of bytes before the first one that can't occur in a product token.
+fn token_len(value: &[u8]) -> usize
+    ensures value { result ≡ position_or_len ends_token value.now }
+    ensures within { result ≤ length value.now }
+{
+    value.iter().take_while(|byte| !ends_token(**byte)).count()
+}
+
+/// The bytes before the first one that can't occur in a product token.
+pub(crate) fn token_front(value: &[u8]) -> &[u8]
+    ensures { result.now ≡ before_first ends_token value.now }
+{
+    &value[..token_len(value)]
 }
 
 /// Whether the value of a user-agent line is a product token, or `*`.
