@@ -3,7 +3,7 @@ use Rattle.std.proofs.Common.{◌≡◌, ℕ, suc, zero, ◌+◌, ◌-◌, nat_l
 use Rattle.std.proofs.Common.{ap, arith, drop, false, length, not, refl, subst, sym, take, true, ◌∙◌}
 use Rattle.std.proofs.Common.{eqb}
 use Rattle.std.specs.Cmp.Lexicographic.{pointwise}
-use Rattle.std.specs.List.{list_all, position_or_len, starts_with}
+use Rattle.std.specs.List.{list_all, position_or_len}
 use Rattle.std.specs.Str.{IsAscii, is_utf8}
 use Rattle.std.proofs.lemmas.Bool.{and_parts, eqb-true, false≢true, ne_eqb}
 use Rattle.std.proofs.lemmas.Bool.Decides.{nat_tests}
@@ -12,7 +12,7 @@ use Rattle.std.proofs.lemmas.Str.{IsUtf8-from_ascii, is_utf8-from_IsUtf8}
 use Rattle.std.proofs.lemmas.Str.Ascii.{IsAscii-cons, IsAscii-nil}
 use Rattle.robots_warnings.specs.Checks.{rule_checks}
 use Rattle.robots_warnings.specs.Internal.Plain.{is_plain, is_plain_byte}
-use Rattle.robots_warnings.specs.Rules.{after_byte, begins_class, begins_dot_segment}
+use Rattle.robots_warnings.specs.Rules.{after_byte, begins_any, begins_class, begins_dot_segment}
 use Rattle.robots_warnings.specs.Rules.{begins_range, begins_sign, has_choice, has_dollar_inside, has_final_plus}
 use Rattle.robots_warnings.specs.Rules.{has_dot_segment, holds_otherwise, is_expression, is_quoted}
 use Rattle.robots_warnings.specs.Rules.{is_written_otherwise, somewhere}
@@ -106,13 +106,19 @@ otherwise in_query (c ∷ text) plain =
     let both = and_parts (is_plain_byte c) (are_plain text) plain in
     rw (written in_query c both.0) (otherwise (in_query || c == 63) text both.1)
 
+any : (c : ℕ) (text : List ℕ) → is_plain_byte c ≡ true → are_plain text ≡ true
+    → begins_any (c ∷ text) ≡ false
+any c [] plain rest = grind (arith, nat_tests)
+any c (d ∷ text) plain rest =
+    let dot = other 46 d (and_parts (is_plain_byte d) (are_plain text) rest).0 refl in
+    rw (other 40 c plain refl, other 46 c plain refl, dot) (grind (arith, nat_tests))
+
 sign : (c : ℕ) (text : List ℕ) → is_plain_byte c ≡ true → are_plain text ≡ true
     → begins_sign (c ∷ text) ≡ false
 sign c text plain rest =
     let range : begins_range (c ∷ text) ≡ false = both_false _ _ (both_left _ _ (differs c 91 plain refl)) in
-    let dot_star : starts_with eqb (c ∷ text) (46 ∷ 42 ∷ []) ≡ false = rw (other 46 c plain refl) refl in
     let class : begins_class (c ∷ text) ≡ false = rw (differs c 92 plain refl) refl in
-    rw (range, dot_star, class) refl
+    rw (range, any c text plain rest, class) refl
 
 dots : (c : ℕ) (text : List ℕ) → is_plain_byte c ≡ true → are_plain text ≡ true
     → begins_dot_segment (c ∷ text) ≡ false
@@ -122,13 +128,17 @@ dots c (d ∷ text) plain rest =
     let after_dot = differs d 46 (and_parts (is_plain_byte d) (are_plain text) rest).0 refl in
     grind (arith, nat_tests)
 
-no_plus : (text : List ℕ) → are_plain text ≡ true → pointwise eqb (43 ∷ []) text ≡ false
-no_plus [] plain = refl
-no_plus (c ∷ text) plain =
-    rw (other 43 c (and_parts (is_plain_byte c) (are_plain text) plain).0 refl) refl
+no_start : (b : ℕ) (text : List ℕ) → are_plain text ≡ true → is_plain_byte b ≡ false
+    → pointwise eqb (b ∷ 43 ∷ []) text ≡ false
+no_start b [] plain is = refl
+no_start b (c ∷ text) plain is =
+    rw (other b c (and_parts (is_plain_byte c) (are_plain text) plain).0 is) refl
 
 final_plus : (text : List ℕ) → are_plain text ≡ true → has_final_plus text ≡ false
-final_plus text plain = rw (no_plus (drop (length text - 1) text) (after (length text - 1) text plain)) refl
+final_plus text plain =
+    let end = drop (length text - 2) text in
+    let none = after (length text - 2) text plain in
+    rw (no_start 46 end none refl, no_start 93 end none refl, no_start 41 end none refl) refl
 
 expression : (text : List ℕ) → are_plain text ≡ true → is_expression text ≡ false
 expression text plain =

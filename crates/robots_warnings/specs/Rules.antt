@@ -79,15 +79,24 @@ begins_range text =
 abbrev pub begins_class : List ℕ → Bool
 begins_class text = slice_index text 0 == byte "\\" && is_ascii_alphanumeric (slice_index text 1)
 
--- the text starts with a range, `.*` or a character class
+-- the text starts with `.*` after a slash or `(`, or before `$`; elsewhere it is part of paths such as
+-- `/index.*`
+abbrev pub begins_any : List ℕ → Bool
+begins_any text =
+    starts_with nat_eq text (codes "/.*")
+    || (starts_with nat_eq text (codes "(.*") || starts_with nat_eq text (codes ".*$"))
+
+-- the text starts with a range, such a `.*` or a character class
 abbrev pub begins_sign : List ℕ → Bool
-begins_sign text = begins_range text || (starts_with nat_eq text (codes ".*") || begins_class text)
+begins_sign text = begins_range text || (begins_any text || begins_class text)
 
--- the value ends with a single `+`; `++` is part of names such as `/tag/c++`
+-- the value ends with a `+` after a dot, `]` or `)`; others are part of names such as `/canal+`
 abbrev pub has_final_plus : List ℕ → Bool
-has_final_plus value = ends_with nat_eq value (codes "+") && not (ends_with nat_eq value (codes "++"))
+has_final_plus value =
+    ends_with nat_eq value (codes ".+")
+    || (ends_with nat_eq value (codes "]+") || ends_with nat_eq value (codes ")+"))
 
--- the value has an alternative, contains a range, `.*` or a character class, or ends with a single `+`
+-- the value has an alternative, contains a range, such a `.*` or a character class, or ends with such a `+`
 abbrev pub is_expression : List ℕ → Bool
 is_expression value = has_choice value || (somewhere begins_sign value || has_final_plus value)
 

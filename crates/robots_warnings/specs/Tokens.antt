@@ -1,9 +1,9 @@
 -- The name of a crawler, in a request or in a user-agent line.
 use Rattle.std.specs.Prelude.{ℕ, ◌-◌, ◌==◌, nat_eq, Bool, not, ◌||◌, ◌&&◌, List, bytes_eq, codes, length}
-use Rattle.std.specs.Prelude.{if◌then◌else◌, take}
+use Rattle.std.specs.Prelude.{drop, if◌then◌else◌, take}
 use Rattle.std.specs.List.{ends_with, list_all, list_any}
 use Rattle.std.specs.Char.{is_ascii_alphabetic, is_ascii_digit}
-use Rattle.std.specs.Str.{byte, trim}
+use Rattle.std.specs.Str.{byte, str_eq_ignore_ascii_case, trim}
 use Rattle.robots_warnings.specs.Rules.{somewhere}
 use Rattle.robots_warnings.specs.Urls.{begins_in_any_case}
 
@@ -34,9 +34,24 @@ is_name_byte b = is_token_byte b || (is_ascii_digit b || (b == byte "." || b == 
 abbrev pub without_star : List ℕ → List ℕ
 without_star value = if ends_with nat_eq value (codes "*") then take (length value - 1) value else value
 
--- a space follows `bot`, so the value seems to be several names
+-- the text starts with a word for a crawler
+abbrev pub begins_crawler_word : List ℕ → Bool
+begins_crawler_word text =
+    begins_in_any_case (codes "bot") text
+    || (begins_in_any_case (codes "crawler") text || begins_in_any_case (codes "spider") text)
+
+-- the text contains such a word, and isn't just `bot`
+abbrev pub is_another_name : List ℕ → Bool
+is_another_name text =
+    somewhere begins_crawler_word text && not (str_eq_ignore_ascii_case text (codes "bot"))
+
+-- the text starts with `bot` and a space, and another name follows
+abbrev pub begins_names : List ℕ → Bool
+begins_names text = begins_in_any_case (codes "bot ") text && is_another_name (drop 4 text)
+
+-- the value seems to be several names, such as `Googlebot Bingbot`, but not `Brightbot 1.0` or `Echobot Bot`
 abbrev pub seems_several_names : List ℕ → Bool
-seems_several_names value = somewhere (begins_in_any_case (codes "bot ")) value
+seems_several_names value = somewhere begins_names value
 
 -- the value is written as names of real crawlers that aren't product tokens are, such as `MJ12bot`,
 -- `Offline Explorer` and, with a star at its end, `Mediapartners-Google*`

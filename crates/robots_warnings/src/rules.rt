@@ -6,7 +6,7 @@ ghost use Rattle.std.specs.List.{list_all, position_or_len};
 ghost use Rattle.std.specs.Str.{is_utf8};
 ghost use Rattle.robots_warnings.specs.Rules.{are_odd_digits, before_byte, begins_class};
 ghost use Rattle.robots_warnings.specs.Rules.{begins_dot_segment, begins_odd_escape};
-ghost use Rattle.robots_warnings.specs.Rules.{begins_oddly, begins_range, begins_sign, after_byte, has};
+ghost use Rattle.robots_warnings.specs.Rules.{begins_any, begins_oddly, begins_range, begins_sign, after_byte, has};
 ghost use Rattle.robots_warnings.specs.Rules.{has_choice, has_dollar_inside, has_dot_segment, has_final_plus, has_odd_start, holds_otherwise};
 ghost use Rattle.robots_warnings.specs.Rules.{is_expression, is_quoted, is_written_otherwise, needs_no_escape};
 ghost use Rattle.robots_warnings.specs.Rules.{somewhere};
@@ -137,21 +137,29 @@ fn begins_class(text: &[u8]) -> bool
     }
 }
 
-/// Whether the text starts with a range, `.*` or a character class.
+/// Whether the text starts with `.*` after a slash or `(`, or before `$`.
+fn begins_any(text: &[u8]) -> bool
+    ensures { result ≡ begins_any text.now }
+{
+    text.starts_with(b"/.*") || text.starts_with(b"(.*") || text.starts_with(b".*$")
+}
+
+/// Whether the text starts with a range, such a `.*` or a character class.
 fn begins_sign(text: &[u8]) -> bool
     ensures { result ≡ begins_sign text.now }
 {
-    begins_range(text) || text.starts_with(b".*") || begins_class(text)
+    begins_range(text) || begins_any(text) || begins_class(text)
 }
 
-/// Whether the value ends with a single `+`.
+/// Whether the value ends with a `+` after a dot, `]` or `)`.
 fn has_final_plus(value: &[u8]) -> bool
     ensures { result ≡ has_final_plus value.now }
 {
-    value.ends_with(b"+") && !value.ends_with(b"++")
+    value.ends_with(b".+") || value.ends_with(b"]+") || value.ends_with(b")+")
 }
 
-/// Whether the value has an alternative, contains a range, `.*` or a character class, or ends with a single `+`.
+/// Whether the value has an alternative, contains a range, such a `.*` or a character class, or ends with such a
+/// `+`.
 pub(crate) fn is_expression(value: &[u8]) -> bool
     ensures { result ≡ is_expression value.now }
 {

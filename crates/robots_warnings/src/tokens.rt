@@ -1,9 +1,8 @@
 //! Conditions on the name of a crawler.
-ghost use Rattle.std.specs.Prelude.{◌≡◌, ◌≤◌, codes, length};
+ghost use Rattle.std.specs.Prelude.{◌≡◌, ◌≤◌, length};
 ghost use Rattle.std.specs.List.{before_first, list_all, position_or_len};
-ghost use Rattle.robots_warnings.specs.Urls.{begins_in_any_case};
-ghost use Rattle.robots_warnings.specs.Tokens.{ends_token, has_slash, has_space_around, is_invalid_name, is_name_byte, is_product_token};
-ghost use Rattle.robots_warnings.specs.Tokens.{is_token_byte, is_unusual_name, is_usual_name, seems_several_names, without_star};
+ghost use Rattle.robots_warnings.specs.Tokens.{begins_crawler_word, begins_names, ends_token, has_slash, has_space_around, is_invalid_name, is_name_byte, is_product_token};
+ghost use Rattle.robots_warnings.specs.Tokens.{is_another_name, is_token_byte, is_unusual_name, is_usual_name, seems_several_names, without_star};
 
 use crate::rules::somewhere;
 use crate::urls::begins_in_any_case;
@@ -89,18 +88,37 @@ fn without_star(value: &[u8]) -> &[u8]
     }
 }
 
-/// Whether the text starts with `bot` and a space.
-fn begins_bot(text: &[u8]) -> bool
-    ensures { result ≡ begins_in_any_case (codes "bot ") text.now }
+/// Whether the text starts with a word for a crawler.
+fn begins_crawler_word(text: &[u8]) -> bool
+    ensures { result ≡ begins_crawler_word text.now }
 {
-    begins_in_any_case(b"bot ", text)
+    begins_in_any_case(b"bot", text)
+        || begins_in_any_case(b"crawler", text)
+        || begins_in_any_case(b"spider", text)
 }
 
-/// Whether a space follows `bot`, so that the value seems to be several names.
+/// Whether the text contains such a word, and isn't just `bot`.
+fn is_another_name(text: &[u8]) -> bool
+    ensures { result ≡ is_another_name text.now }
+{
+    somewhere(text, begins_crawler_word) && !text.eq_ignore_ascii_case(b"bot")
+}
+
+/// Whether the text starts with `bot` and a space, and another name follows.
+fn begins_names(text: &[u8]) -> bool
+    ensures { result ≡ begins_names text.now }
+{
+    match text {
+        [_, _, _, _, rest @ ..] => begins_in_any_case(b"bot ", text) && is_another_name(rest),
+        _ => false,
+    }
+}
+
+/// Whether the value seems to be several names.
 fn seems_several_names(value: &[u8]) -> bool
     ensures { result ≡ seems_several_names value.now }
 {
-    somewhere(value, begins_bot)
+    somewhere(value, begins_names)
 }
 
 /// Whether the value is written as names of real crawlers that aren't product tokens are.
