@@ -119,12 +119,13 @@ text_checks tail comment =
     ∷ []
 
 -- the position of a line, determined by the number of the last rule or delay, by what precedes the line, by
--- the first delay of its group above it, and by the lines from this one on
-abbrev pub position_checks : Option ℕ → Preceding → Option ℕ → Label → List LineValue → List Check
-position_checks last preceding delay label lines =
+-- the only name and the first delay of the group above it, and by the lines from this one on
+abbrev pub position_checks : Option ℕ → Preceding → Option (List ℕ) → Option ℕ → Label → List LineValue
+    → List Check
+position_checks last preceding above delay label lines =
     (cause.RuleBeforeUserAgent, is_above_agents label)
     ∷ (cause.EmptyGroup, is_empty_group last label)
-    ∷ (cause.DelaySplitsGroup, is_split preceding label lines)
+    ∷ (cause.DelaySplitsGroup, is_split preceding above label lines)
     ∷ (cause.TwoDelays, is_other_delay delay label)
     ∷ []
 

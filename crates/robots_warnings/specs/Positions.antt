@@ -3,6 +3,7 @@ use Rattle.std.specs.Prelude.{ℕ, Bool, true, false, nat_lt, not, ◌||◌, ◌
 use Rattle.std.specs.Prelude.{Some}
 use Rattle.std.specs.Prelude.{◌==◌, bytes_eq, codes, if◌then◌else◌}
 use Rattle.std.specs.Option.{option_or}
+use Rattle.std.specs.Str.{str_eq_ignore_ascii_case}
 use Rattle.texting_robots.specs.Callers.{Allow, CrawlDelay, Disallow, LineValue, Label, Raw, Sitemap}
 use Rattle.texting_robots.specs.Callers.{UserAgent}
 use Rattle.texting_robots.specs.declared.labels.Membership.{Membership}
@@ -38,6 +39,17 @@ first_delay first (UserAgent value) = None
 first_delay first (CrawlDelay delay) = option_or first delay
 first_delay first _ = first
 
+-- neither of these
+abbrev pub is_other : Preceding → Bool
+is_other Other = true
+is_other _ = false
+
+-- the name in the user-agent lines since the last rule above the next line, if there is only one such line;
+-- `name` is that for this line
+abbrev pub sole_name : Preceding → Option (List ℕ) → LineValue → Option (List ℕ)
+sole_name preceding name (UserAgent value) = if is_other preceding then Some value else None
+sole_name preceding name _ = name
+
 -- ---- what follows a line
 
 -- the number of the line, if it is a rule or a delay
@@ -66,6 +78,22 @@ begin_with_rules begun (CrawlDelay delay ∷ lines) = begin_with_rules true line
 begin_with_rules begun (Sitemap value ∷ lines) = begin_with_rules begun lines
 begin_with_rules begun (Raw body ∷ lines) = begin_with_rules begun lines
 
+-- these lines begin with user-agent lines, one of which has this name
+abbrev pub begin_with_name : List ℕ → List LineValue → Bool
+begin_with_name name [] = false
+begin_with_name name (UserAgent value ∷ lines) =
+    str_eq_ignore_ascii_case value name || begin_with_name name lines
+begin_with_name name (Allow value ∷ lines) = false
+begin_with_name name (Disallow value ∷ lines) = false
+begin_with_name name (CrawlDelay delay ∷ lines) = false
+begin_with_name name (Sitemap value ∷ lines) = begin_with_name name lines
+begin_with_name name (Raw body ∷ lines) = begin_with_name name lines
+
+-- there is such a name, and these lines begin with it
+abbrev pub name_again : Option (List ℕ) → List LineValue → Bool
+name_again None lines = false
+name_again (Some name) lines = begin_with_name name lines
+
 -- ---- conditions on a line
 
 -- the line belongs to no group
@@ -93,7 +121,9 @@ is_empty_group last label = is_agent label.line && is_after last label.number
 
 -- the line is a user-agent line that only delays separate from one above it, and its group has rules, but
 -- isn't the group of `*`; `lines` are those from this line on. For a crawler that ignores delays, the names
--- above are in this group too, and get its rules
-abbrev pub is_split : Preceding → Label → List LineValue → Bool
-is_split preceding label lines =
-    (is_agent label.line && is_delay preceding) && begin_with_rules false lines
+-- above are in this group too, and get its rules. If `above`, the only name there, is in this group anyway,
+-- nothing differs
+abbrev pub is_split : Preceding → Option (List ℕ) → Label → List LineValue → Bool
+is_split preceding above label lines =
+    (is_agent label.line && is_delay preceding)
+    && (begin_with_rules false lines && not (name_again above lines))

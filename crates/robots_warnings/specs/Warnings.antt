@@ -18,7 +18,7 @@ use Rattle.robots_warnings.specs.Checks.{is_in_scope_of, url_checks}
 use Rattle.robots_warnings.specs.Facts.{suppresses_line_warnings}
 use Rattle.robots_warnings.specs.File.{lines_of}
 use Rattle.robots_warnings.specs.NamesPastLimit.{names_past_limit}
-use Rattle.robots_warnings.specs.Positions.{first_delay, last_group, preceding_with}
+use Rattle.robots_warnings.specs.Positions.{first_delay, last_group, preceding_with, sole_name}
 use Rattle.robots_warnings.specs.Repeated.{repeated}
 use Rattle.robots_warnings.specs.Replaced.{replacing}
 use Rattle.robots_warnings.specs.Spellings.{nonstandard_escapes}
@@ -102,16 +102,20 @@ file_lines_warnings facts everywhere labels bodies =
     if suppresses_line_warnings facts then [] else lines_warnings everywhere bodies labels
 
 -- warnings about the positions of these lines; `last` is the number of the last rule or delay, `preceding` is
--- what precedes the first of them, and `delay` is the first delay of its group above it
-abbrev pub positions_from : Option ℕ → Preceding → Option ℕ → List Label → List WarningValue
-positions_from last preceding delay [] = []
-positions_from last preceding delay (label ∷ labels) =
-    warned (Some label.number) None (position_checks last preceding delay label (lines_of (label ∷ labels)))
-    ++ positions_from last (preceding_with preceding label.line) (first_delay delay label.line) labels
+-- what precedes the first of them, and `above` and `delay` are the only name and the first delay of the group
+-- above it
+abbrev pub positions_from : Option ℕ → Preceding → Option (List ℕ) → Option ℕ → List Label
+    → List WarningValue
+positions_from last preceding above delay [] = []
+positions_from last preceding above delay (label ∷ labels) =
+    warned (Some label.number) None
+    (position_checks last preceding above delay label (lines_of (label ∷ labels)))
+    ++ positions_from last (preceding_with preceding label.line) (sole_name preceding above label.line)
+    (first_delay delay label.line) labels
 
 -- warnings about the positions of all lines
 abbrev pub position_warnings : List Label → List WarningValue
-position_warnings labels = positions_from (last_group labels) Other None labels
+position_warnings labels = positions_from (last_group labels) Other None None labels
 
 -- warnings about names past the size limit, if lines are checked
 abbrev pub past_limit_warnings : FileFacts → List ℕ → List Label → List WarningValue

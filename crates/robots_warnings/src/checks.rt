@@ -1,5 +1,5 @@
 //! The condition of each warning, grouped by what it inspects, in the order of output.
-ghost use Rattle.std.specs.Prelude.{◌≡◌, IfOk, map};
+ghost use Rattle.std.specs.Prelude.{◌≡◌, IfOk, map, option_map};
 ghost use Rattle.texting_robots.specs.Callers.{label_by_value};
 ghost use Rattle.robots_warnings.specs.FieldNames.{is_without_colon};
 ghost use Rattle.robots_warnings.specs.Checks.{agent_checks, delay_checks, delay_text_checks, field_checks, file_checks, ignored_checks, is_in_scope_of, position_checks, raw_rule_checks, rule_checks, sitemap_checks, space_checks, text_checks, url_checks, user_agent_checks};
@@ -185,24 +185,25 @@ pub(crate) fn text_checks(tail: &[u8], comment: &[u8]) -> [Check; 2]
     ]
 }
 
-/// Checks of the position of a line; `last` is the number of the last rule or delay, `delay` is the first delay of the
-/// line's group above it, and `from_here` are the lines from this one on.
+/// Checks of the position of a line; `last` is the number of the last rule or delay, `above` and `delay` are the only
+/// name and the first delay of the group above it, and `from_here` are the lines from this one on.
 pub(crate) fn position_checks(
     last: Option<usize>,
     preceding: Preceding,
+    above: Option<&[u8]>,
     delay: Option<u64>,
     labeled: &LabeledLine<'_>,
     from_here: &[LabeledLine<'_>],
 ) -> [Check; 4]
-    ensures { result ≡ position_checks last preceding delay (label_by_value labeled.now)
-        (lines_of (map label_by_value from_here.now)) }
+    ensures { result ≡ position_checks last preceding (option_map (λ name. name.now) above.entry) delay
+        (label_by_value labeled.now) (lines_of (map label_by_value from_here.now)) }
 {
     [
         (Cause::RuleBeforeUserAgent, is_above_agents(labeled)),
         (Cause::EmptyGroup, is_empty_group(last, labeled)),
         (
             Cause::DelaySplitsGroup,
-            is_split(preceding, labeled, from_here),
+            is_split(preceding, above, labeled, from_here),
         ),
         (Cause::TwoDelays, is_other_delay(delay, labeled)),
     ]

@@ -1,9 +1,11 @@
 //! Conditions on the position of a line.
-ghost use Rattle.std.specs.Prelude.{◌≡◌, false, map};
+ghost use Rattle.std.specs.Prelude.{◌≡◌, false, map, option_map};
+ghost use Rattle.std.specs.Str.{str_eq_ignore_ascii_case};
 ghost use Rattle.texting_robots.specs.Callers.{by_value, label_by_value};
 ghost use Rattle.robots_warnings.specs.File.{lines_of};
 ghost use Rattle.texting_robots.specs.Line.{delay_in};
 ghost use Rattle.robots_warnings.specs.Positions.{are_different, begin_with_rules, first_delay, group_number, is_above_agents};
+ghost use Rattle.robots_warnings.specs.Positions.{begin_with_name, name_again, sole_name};
 ghost use Rattle.robots_warnings.specs.Positions.{is_after, is_empty_group, is_other_delay, is_split, last_group, preceding_with};
 
 use texting_robots::labels::{LabeledLine, Membership};
@@ -43,6 +45,23 @@ pub(crate) fn first_delay(first: Option<u64>, line: Line<'_>) -> Option<u64>
         Line::UserAgent(_) => None,
         Line::CrawlDelay(delay) => first.or(delay),
         Line::Allow(_) | Line::Disallow(_) | Line::Sitemap(_) | Line::Raw(_) => first,
+    }
+}
+
+/// The name in the user-agent lines since the last rule above the next line, if there is only one such line; `name` is
+/// that for this line.
+pub(crate) fn sole_name<'a>(
+    preceding: Preceding,
+    name: Option<&'a [u8]>,
+    line: Line<'a>,
+) -> Option<&'a [u8]>
+    ensures { option_map (λ name. name.now) result
+        ≡ sole_name preceding (option_map (λ name. name.now) name.entry) (by_value line.entry) }
+{
+    match line {
+        Line::UserAgent(value) if preceding == Preceding::Other => Some(value),
+        Line::UserAgent(_) => None,
+        _ => name,
     }
 }
 
@@ -110,18 +129,53 @@ fn begin_with_rules(labels: &[LabeledLine<'_>]) -> bool
     false
 }
 
+/// Whether the two names are the same, ASCII letters in any case.
+fn is_same_name(one: &[u8], other: &[u8]) -> bool
+    ensures { result ≡ str_eq_ignore_ascii_case one.now other.now }
+{
+    one.eq_ignore_ascii_case(other)
+}
+
+/// Whether these lines begin with user-agent lines, one of which has this name.
+#[tactic(auto, using(crate::proofs::PositionLemmas::name_from))]
+fn begin_with_name(name: &[u8], labels: &[LabeledLine<'_>]) -> bool
+    ensures { result ≡ begin_with_name name.now (lines_of (map label_by_value labels.now)) }
+{
+    for labeled in labels {
+        match labeled.line {
+            Line::UserAgent(value) if is_same_name(value, name) => return true,
+            Line::Allow(_) | Line::Disallow(_) | Line::CrawlDelay(_) => return false,
+            Line::UserAgent(_) | Line::Sitemap(_) | Line::Raw(_) => {}
+        }
+    }
+    false
+}
+
+/// Whether there is such a name, and these lines begin with it.
+fn name_again(name: Option<&[u8]>, labels: &[LabeledLine<'_>]) -> bool
+    ensures { result ≡ name_again (option_map (λ name. name.now) name.entry) (lines_of (map label_by_value labels.now)) }
+{
+    match name {
+        Some(name) => begin_with_name(name, labels),
+        None => false,
+    }
+}
+
 /// Whether the line is a user-agent line that only delays separate from one above it, and its group has rules, but isn't
-/// the group of `*`. `from_here` are the lines from this one on.
+/// the group of `*`, and doesn't have `above`, the only name above it. `from_here` are the lines from this one on.
 pub(crate) fn is_split(
     preceding: Preceding,
+    above: Option<&[u8]>,
     labeled: &LabeledLine<'_>,
     from_here: &[LabeledLine<'_>],
 ) -> bool
-    ensures { result ≡ is_split preceding (label_by_value labeled.now) (lines_of (map label_by_value from_here.now)) }
+    ensures { result ≡ is_split preceding (option_map (λ name. name.now) above.entry) (label_by_value labeled.now)
+        (lines_of (map label_by_value from_here.now)) }
 {
     matches!(labeled.line, Line::UserAgent(_))
         && preceding == Preceding::Delay
         && begin_with_rules(from_here)
+        && !name_again(above, from_here)
 }
 
 /// Whether the two are different delays.

@@ -21,7 +21,7 @@ use crate::field_names::is_without_colon;
 use crate::file::{counted, is_blank};
 use crate::google::google_checks;
 use crate::names_past_limit::names_past_limit;
-use crate::positions::{Preceding, first_delay, last_group, preceding_with};
+use crate::positions::{Preceding, first_delay, last_group, preceding_with, sole_name};
 use crate::repeated::repeated;
 use crate::replaced::replacing;
 use crate::rules::is_plain;
@@ -260,11 +260,13 @@ fn warn_of_positions(found: &mut Found<'_>, labels: &[LabeledLine<'_>]) -> Resul
 {
     let last = last_group(labels);
     let mut preceding = Preceding::Other;
+    let mut above = None;
     let mut delay = None;
     let mut rest = labels;
     while let [labeled, after @ ..] = rest {
-        let checks = position_checks(last, preceding, delay, labeled, rest);
+        let checks = position_checks(last, preceding, above, delay, labeled, rest);
         warn(found, Some(labeled.number), None, &checks)?;
+        above = sole_name(preceding, above, labeled.line);
         preceding = preceding_with(preceding, labeled.line);
         delay = first_delay(delay, labeled.line);
         rest = after;
