@@ -9,7 +9,7 @@ use Rattle.robots_rfc9309.specs.LineForms.{HasForm}
 use Rattle.robots_warnings.specs.Checks.{Check, file_checks, line_checks, position_checks}
 use Rattle.robots_warnings.specs.Facts.{suppresses_line_warnings}
 use Rattle.robots_warnings.specs.File.{lines_of}
-use Rattle.robots_warnings.specs.Positions.{first_delay, is_above_agents, preceding_with}
+use Rattle.robots_warnings.specs.Positions.{first_delay, is_above_agents, preceding_with, sole_name}
 use Rattle.robots_warnings.specs.Warnings.{WarningValue, line_warnings, lines_warnings}
 use Rattle.robots_warnings.specs.Warnings.{positions_from, warned, warning_of}
 use Rattle.robots_warnings.specs.declared.facts.FileFacts.{FileFacts}
@@ -84,17 +84,20 @@ lines_forms (body ∷ bodies) (label ∷ labels) reads all =
 
 -- ---- the positions
 
-pub none_above : (last : Option ℕ) (preceding : Preceding) (delay : Option ℕ) (labels : List Label)
-    → Each IsAboutMeaning (positions_from last preceding delay labels)
+pub none_above : (last : Option ℕ) (preceding : Preceding) (above : Option (List ℕ)) (delay : Option ℕ)
+    (labels : List Label)
+    → Each IsAboutMeaning (positions_from last preceding above delay labels)
     → Each (λ label. is_above_agents label ≡ false) labels
-none_above last preceding delay [] all = tt
-none_above last preceding delay (label ∷ labels) all =
-    let checks : List Check = position_checks last preceding delay label (lines_of (label ∷ labels)) in
+none_above last preceding above delay [] all = tt
+none_above last preceding above delay (label ∷ labels) all =
+    let checks : List Check =
+    position_checks last preceding above delay label (lines_of (label ∷ labels)) in
     let first : List WarningValue = warned (Some label.number) None checks in
     let next = preceding_with preceding label.line in
+    let name : Option (List ℕ) = sole_name preceding above label.line in
     let after : Option ℕ = first_delay delay label.line in
-    let rest : List WarningValue = positions_from last next after labels in
+    let rest : List WarningValue = positions_from last next name after labels in
     let quiets = warned_quiet (Some label.number) None checks (each_front IsAboutMeaning first rest all) in (
       not-true _ quiets.0,
-      none_above last next after labels (each_back IsAboutMeaning first rest all),
+      none_above last next name after labels (each_back IsAboutMeaning first rest all),
     )

@@ -101,7 +101,7 @@ module _ (agents urls : List (List ℕ)) (file : List ℕ) (silent : IsSilentOn 
     each = lines_forms (file_bodies text) labels reads
         (shown _ (lines_warnings true (file_bodies text) labels) quiets.shown silent_lines);
     below = rules_below name labels (subst (λ l. AreLabelsOf name l labels) (sym same) are) quiets.with_agent
-        (none_above (last_group labels) Other None labels silent_positions);
+        (none_above (last_group labels) Other None None labels silent_positions);
   }
 
   pub silence : HasSyntax file
