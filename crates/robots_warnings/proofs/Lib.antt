@@ -6,6 +6,7 @@ pub mod NameLemmas
 pub mod NamesPastLimitLemmas
 pub mod PositionLemmas
 pub mod PlainLemmas
+pub mod PlainLineLemmas
 pub mod PrintableLemmas
 pub mod RepeatedLemmas
 pub mod ReplacedLemmas

@@ -19,14 +19,14 @@ use Rattle.robots_warnings.specs.Rules.{is_written_otherwise, somewhere}
 use Rattle.robots_warnings.specs.SeveralValues.{begins_next_value, has_several_values}
 use Rattle.robots_warnings.specs.Warnings.{warned}
 
-abbrev are_plain : List ℕ → Bool
+abbrev pub are_plain : List ℕ → Bool
 are_plain text = list_all is_plain_byte text
 
-both_false : (x y : Bool) → y ≡ false → (x && y) ≡ false
+pub both_false : (x y : Bool) → y ≡ false → (x && y) ≡ false
 both_false true y is = is
 both_false false y is = refl
 
-both_left : (x y : Bool) → x ≡ false → (x && y) ≡ false
+pub both_left : (x y : Bool) → x ≡ false → (x && y) ≡ false
 both_left x y is = rw is refl
 
 either_false : (x y : Bool) → x ≡ false → y ≡ false → (x || y) ≡ false
@@ -35,7 +35,7 @@ either_false x y one two = rw one two
 -- ---- bytes
 
 -- a plain byte isn't one that isn't plain
-differs : (c b : ℕ) → is_plain_byte c ≡ true → is_plain_byte b ≡ false → (c == b) ≡ false
+pub differs : (c b : ℕ) → is_plain_byte c ≡ true → is_plain_byte b ≡ false → (c == b) ≡ false
 differs c b plain is = ne_eqb c b (λ same. false≢true (sym is ∙ ap is_plain_byte (sym same) ∙ plain))
 
 other : (b c : ℕ) → is_plain_byte c ≡ true → is_plain_byte b ≡ false → (b == c) ≡ false
@@ -50,11 +50,11 @@ ascii (c ∷ text) plain =
     let low : c < 128 = grind (arith, nat_tests) in
     IsAscii-cons c text low (ascii text both.1)
 
-utf8 : (text : List ℕ) → are_plain text ≡ true → not (is_utf8 text) ≡ false
+pub utf8 : (text : List ℕ) → are_plain text ≡ true → not (is_utf8 text) ≡ false
 utf8 text plain = ap not (is_utf8-from_IsUtf8 text (IsUtf8-from_ascii text (ascii text plain)))
 
 -- a byte that isn't plain is nowhere in a plain text
-nowhere : (b : ℕ) (text : List ℕ) → are_plain text ≡ true → is_plain_byte b ≡ false
+pub nowhere : (b : ℕ) (text : List ℕ) → are_plain text ≡ true → is_plain_byte b ≡ false
     → position_or_len (λ c. c == b) text ≡ length text
 nowhere b [] plain is = refl
 nowhere b (c ∷ text) plain is =

@@ -14,6 +14,7 @@ mod google;
 pub mod level;
 pub mod names;
 mod names_past_limit;
+mod plain;
 pub mod positions;
 mod repeated;
 mod replaced;

@@ -2,7 +2,7 @@
 ghost use Rattle.std.specs.Prelude.{◌≡◌, ◌<◌, ◌≤◌, ◌==◌, ℕ, Bool, List, false, length, true};
 ghost use Rattle.std.specs.Char.{digit_value, is_ascii_hexdigit};
 ghost use Rattle.std.specs.Fn.{FnReturnsAt};
-ghost use Rattle.std.specs.List.{list_all, position_or_len};
+ghost use Rattle.std.specs.List.{position_or_len};
 ghost use Rattle.std.specs.Str.{is_utf8};
 ghost use Rattle.robots_warnings.specs.Rules.{are_odd_digits, before_byte, begins_class};
 ghost use Rattle.robots_warnings.specs.Rules.{begins_dot_segment, begins_odd_escape};
@@ -10,7 +10,6 @@ ghost use Rattle.robots_warnings.specs.Rules.{begins_any, begins_oddly, begins_r
 ghost use Rattle.robots_warnings.specs.Rules.{has_choice, has_dollar_inside, has_dot_segment, has_final_plus, has_odd_start, holds_otherwise};
 ghost use Rattle.robots_warnings.specs.Rules.{is_expression, is_quoted, is_written_otherwise, needs_no_escape};
 ghost use Rattle.robots_warnings.specs.Rules.{somewhere};
-ghost use Rattle.robots_warnings.specs.Internal.Plain.{is_plain, is_plain_byte};
 
 use crate::urls::begins_as_url;
 
@@ -247,26 +246,4 @@ pub(crate) fn has_dot_segment(value: &[u8]) -> bool
     ensures { result ≡ has_dot_segment value.now }
 {
     somewhere(before_byte(b'?', value), begins_dot_segment)
-}
-
-/// Whether no check of a rule looks for the byte, other than as the first one.
-fn is_plain_byte(byte: u8) -> bool
-    ensures { result ≡ is_plain_byte byte }
-{
-    byte.is_ascii_alphanumeric() || matches!(byte, b'/' | b'*' | b'-' | b'_' | b'=' | b'&' | b'?')
-}
-
-/// Whether all bytes of the value are plain.
-fn are_plain(value: &[u8]) -> bool
-    ensures { result ≡ list_all is_plain_byte value.now }
-{
-    value.iter().all(|byte| is_plain_byte(*byte))
-}
-
-/// Whether the value starts with a slash and has no byte that a check of a rule looks for, so that none of these checks
-/// holds. Most rules are plain.
-pub(crate) fn is_plain(value: &[u8]) -> bool
-    ensures { result ≡ is_plain value.now }
-{
-    value.starts_with(b"/") && are_plain(value)
 }

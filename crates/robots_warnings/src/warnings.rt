@@ -21,10 +21,10 @@ use crate::field_names::is_without_colon;
 use crate::file::{counted, is_blank};
 use crate::google::google_checks;
 use crate::names_past_limit::names_past_limit;
+use crate::plain::{is_plain, is_plain_line};
 use crate::positions::{Preceding, first_delay, last_group, preceding_with, sole_name};
 use crate::repeated::repeated;
 use crate::replaced::replacing;
-use crate::rules::is_plain;
 use crate::spellings::nonstandard_escapes;
 use crate::table::Cause;
 use crate::warning::Warning;
@@ -208,6 +208,9 @@ fn warn_of_line(
 ) -> Result<(), AllocError>
     ensures { OnOk result (Adds found.old.items found.new.items (line_warnings everywhere (label_by_value labeled.now) body.now)) }
 {
+    if is_plain_line(labeled.line, body) {
+        return Ok(());
+    }
     let is_in_scope = is_in_scope_of(everywhere, labeled.membership);
     let (tail, comment) = split_content(body);
     warn_of_content(found, is_in_scope, labeled, body, (tail, comment))?;
