@@ -4,12 +4,14 @@ use Rattle.std.proofs.Common.{if◌then◌else◌, not, refl, sym, unwrap_or, �
 use Rattle.std.specs.List.{list_all}
 use Rattle.std.specs.Option.{option_or}
 use Rattle.std.proofs.lemmas.Bool.{and_parts, cases_Bool, false≢true, not-true}
+use Rattle.texting_robots.specs.declared.parser.statement.Kind.TheVariants as kind
 use Rattle.robots_warnings.specs.FieldNames.{Row, directive_in, directives, first_that, first_word}
-use Rattle.robots_warnings.specs.FieldNames.{is_either, may_either_mean, meant_by, name_in, unsupported}
+use Rattle.robots_warnings.specs.FieldNames.{is_accepted, is_either, may_either_mean, meant_by, name_in, unsupported}
 use Rattle.robots_warnings.specs.FieldNames.{unsupported_in}
+use Rattle.robots_warnings.specs.Table.{is_about_meaning}
 use Rattle.robots_warnings.specs.declared.table.Cause.{Cause}
 use Rattle.robots_warnings.specs.declared.table.Cause.TheVariants as cause
-use Rattle.robots_syntax.specs.Syntax.{is_about_meaning, is_quiet}
+use Rattle.robots_syntax.specs.Syntax.{is_quiet}
 
 -- the warning, if there is one, is about syntax
 abbrev IsAboutSyntax : Option Cause → Type 0
@@ -42,7 +44,8 @@ meant : (body : List ℕ) → is_about_meaning (meant_by body) ≡ false
 meant body =
     let name = name_in body in
     let word = first_word body in
-    delay_or _ _ (either (unsupported_in name word) (directive_in name word)
+    delay_or (is_accepted kind.CrawlDelay name || is_accepted kind.CrawlDelay word)
+    (unwrap_or (option_or (unsupported_in name word) (directive_in name word)) cause.UnrecognizedLine) (either (unsupported_in name word) (directive_in name word)
     (first_one (is_either name word) unsupported refl)
     (first_one (may_either_mean name word) directives refl))
 

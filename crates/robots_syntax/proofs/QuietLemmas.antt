@@ -17,7 +17,7 @@ use Rattle.robots_warnings.specs.Checks.{rule_checks, text_checks, value_checks}
 use Rattle.robots_warnings.specs.Contents.{comment_of, has_odd_comment, has_odd_space, raw_value, tail_of}
 use Rattle.robots_warnings.specs.FieldNames.{is_misspelled, is_without_colon}
 use Rattle.robots_warnings.specs.Rules.{begins_oddly, has_odd_start, is_quoted, somewhere}
-use Rattle.robots_warnings.specs.SeveralValues.{begins_next_value}
+use Rattle.robots_warnings.specs.SeveralValues.{begins_next_value, has_several_values}
 use Rattle.robots_warnings.specs.Urls.{begins_as_url}
 use Rattle.robots_syntax.proofs.{LineLemmas.utf8_after, TextLemmas.around}
 use Rattle.robots_syntax.specs.Syntax.{AreQuiet, is_quiet}
@@ -140,6 +140,10 @@ later : (b : ℕ) (text : List ℕ) → somewhere begins_next_value (b ∷ text)
     → somewhere begins_next_value text ≡ false
 later b text none = (or_parts (begins_next_value (b ∷ text)) (somewhere begins_next_value text) none).1
 
+second : (x y : Bool) → x ≡ true → (x && y) ≡ false → y ≡ false
+second true y is both = both
+second false y is both = absurd (false≢true is)
+
 pub rule_value : (value : List ℕ) → AreQuiet (rule_checks value) → Each (λ b. b ≢ 35) value
     → IsRuleValue value
 rule_value [] all plain = Empty refl
@@ -147,8 +151,8 @@ rule_value (b ∷ text) (utf8, (starts, (url, (escapes, (quoted, (regex, (dollar
     plain =
     let first = first_byte b text (started (b ∷ text) starts url quoted) in
     let one = not-false (is_utf8 (b ∷ text)) (not-true _ utf8) in
-    let units = value_units text (utf8_after b text one (small b first))
-    (later b text (not-true _ several)) plain.1 in
+    let single = second (is_utf8 (b ∷ text)) (has_several_values (b ∷ text)) one (not-true _ several) in
+    let units = value_units text (utf8_after b text one (small b first)) (later b text single) plain.1 in
     elim first [
       | inl slash ↦ Path (record { text = text; is_text = units; whole = ap (λ c. c ∷ text) slash })
       | inr star ↦ Star (record { text = text; is_text = units; whole = ap (λ c. c ∷ text) star })

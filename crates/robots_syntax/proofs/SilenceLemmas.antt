@@ -10,12 +10,13 @@ use Rattle.robots_warnings.specs.Checks.{Check, file_checks, line_checks, positi
 use Rattle.robots_warnings.specs.Facts.{suppresses_line_warnings}
 use Rattle.robots_warnings.specs.File.{lines_of}
 use Rattle.robots_warnings.specs.Positions.{first_delay, is_above_agents, preceding_with, sole_name}
+use Rattle.robots_warnings.specs.Table.{is_about_meaning}
 use Rattle.robots_warnings.specs.Warnings.{WarningValue, line_warnings, lines_warnings}
 use Rattle.robots_warnings.specs.Warnings.{positions_from, warned, warning_of}
 use Rattle.robots_warnings.specs.declared.facts.FileFacts.{FileFacts}
 use Rattle.robots_warnings.specs.declared.positions.Preceding.{Preceding}
 use Rattle.robots_syntax.proofs.{PlainFormLemmas.line_form, QuietLemmas.each_back}
-use Rattle.robots_syntax.specs.Syntax.{AreQuiet, IsAboutMeaning, form_of, is_about_meaning, is_quiet}
+use Rattle.robots_syntax.specs.Syntax.{AreQuiet, IsAboutMeaning, form_of, is_quiet}
 
 -- ---- checks
 

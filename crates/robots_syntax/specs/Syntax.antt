@@ -1,6 +1,6 @@
 -- What the silence of an audit means: a file without warnings about its syntax follows the extended grammar
 -- of RFC 9309 (`IsFile`).
-use Rattle.std.specs.Prelude.{◌≡◌, ℕ, Bool, true, false, not, ◌||◌, List, None, codes, take}
+use Rattle.std.specs.Prelude.{◌≡◌, ℕ, Bool, true, not, ◌||◌, List, None, codes, take}
 use Rattle.std.specs.List.{AllByRecursion as Each}
 use Rattle.texting_robots.specs.Callers.{Allow, CrawlDelay, Disallow, LineValue, Raw, Sitemap}
 use Rattle.texting_robots.specs.Callers.{RobotValue, UserAgent, file_limit, lines_read}
@@ -11,45 +11,12 @@ use Rattle.robots_rfc9309.specs.StandardRobot.{IsFileWith, IsRobotAs}
 use Rattle.robots_warnings.specs.Checks.{Check, line_checks}
 use Rattle.robots_warnings.specs.Facts.{facts_of}
 use Rattle.robots_warnings.specs.File.{labels_for}
+use Rattle.robots_warnings.specs.Table.{is_about_meaning}
 use Rattle.robots_warnings.specs.Warnings.{WarningValue, warnings}
-use Rattle.robots_warnings.specs.declared.table.Cause.{Cause}
-use Rattle.robots_warnings.specs.declared.table.Cause.TheVariants as cause
 
 -- ---- warnings about syntax
 
--- The warning isn't about syntax: it is about the request, the size of the file, or what a file of the
--- grammar means. All other warnings are about syntax, notes included.
-abbrev pub is_about_meaning : Cause → Bool
--- the request
-is_about_meaning cause.SpaceAroundAgent = true
-is_about_meaning cause.VersionInAgent = true
-is_about_meaning cause.NotAUrlOrPath = true
-is_about_meaning cause.InvalidUrl = true
--- the size
-is_about_meaning cause.FileTooLarge = true
-is_about_meaning cause.GroupPastSizeLimit = true
--- a line
-is_about_meaning cause.HashLeavesRoot = true
-is_about_meaning cause.HashCutsRule = true
-is_about_meaning cause.UnencodedCharacter = true
-is_about_meaning cause.RegexSyntax = true
-is_about_meaning cause.DollarNotAtEnd = true
-is_about_meaning cause.NonstandardEscape = true
-is_about_meaning cause.DotSegment = true
-is_about_meaning cause.DelayOverADay = true
-is_about_meaning cause.OneLine = true
--- groups
-is_about_meaning cause.EmptyGroup = true
-is_about_meaning cause.DelaySplitsGroup = true
-is_about_meaning cause.AllowedAndDisallowed = true
-is_about_meaning cause.TwoDelays = true
-is_about_meaning cause.ClosesEverything = true
-is_about_meaning cause.ReplacesStar = true
-is_about_meaning cause.RepeatedRule = true
-is_about_meaning cause.GooglebotGroup = true
-is_about_meaning cause.GoogleIgnoresStar = true
-is_about_meaning _ = false
-
+-- the warning isn't about syntax (`ABOUT_MEANING` in `table.rt` of robots_warnings); all others are, notes included
 abbrev pub IsAboutMeaning : WarningValue → Type 0
 IsAboutMeaning warning = is_about_meaning warning.cause ≡ true
 

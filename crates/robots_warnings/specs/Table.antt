@@ -1,5 +1,5 @@
 -- Every warning, with its level, its name and its message, as in the table of src/table.rt, and its example.
-use Rattle.std.specs.Prelude.{ℕ, Bool, List, [], bytes_eq, map, slice_index_or}
+use Rattle.std.specs.Prelude.{ℕ, ◌==◌, Bool, List, [], bytes_eq, map, slice_index_or}
 use Rattle.std.specs.List.{list_any}
 use denote.Enum.Declared.{tag_of}
 use Rattle.robots_warnings.specs.contracts.table.Cause.{the_type}
@@ -7,7 +7,7 @@ use Rattle.robots_warnings.specs.declared.level.Level.{Level}
 use Rattle.robots_warnings.specs.declared.level.Level.TheVariants as level
 use Rattle.robots_warnings.specs.declared.table.Cause.{Cause}
 use Rattle.robots_warnings.specs.declared.examples.TheConstants.{EXAMPLES}
-use Rattle.robots_warnings.specs.declared.table.TheConstants.{WARNINGS}
+use Rattle.robots_warnings.specs.declared.table.TheConstants.{ABOUT_MEANING, WARNINGS}
 
 -- the index of a warning in the table
 abbrev pub number_of : Cause → ℕ
@@ -28,6 +28,11 @@ text_of cause = slice_index_or (map (λ row. row.3.now) WARNINGS) (number_of cau
 -- an example of a warning
 unfoldable pub example_of : Cause → List ℕ
 example_of cause = slice_index_or (map (λ row. row.1.now) EXAMPLES) (number_of cause) []
+
+-- the warning isn't about the syntax of a file, but about the request, the size of the file, or what a file of
+-- the standard's grammar means
+abbrev pub is_about_meaning : Cause → Bool
+is_about_meaning cause = list_any (λ other. number_of other == number_of cause) ABOUT_MEANING
 
 -- the reasons for all warnings
 unfoldable pub all_causes : List Cause

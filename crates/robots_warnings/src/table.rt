@@ -3,7 +3,7 @@
 ghost use Rattle.std.specs.Prelude.{◌≡◌, ◌<◌, IfOk, bytes_eq, length, map};
 ghost use Rattle.std.specs.List.{list_any};
 ghost use Rattle.robots_warnings.specs.Internal.{IsRowAt};
-ghost use Rattle.robots_warnings.specs.Table.{all_causes, is_name, level_of, name_of, text_of};
+ghost use Rattle.robots_warnings.specs.Table.{all_causes, is_about_meaning, is_name, level_of, name_of, text_of};
 
 use crate::level::Level;
 use std::alloc::{AllocError, Global};
@@ -228,6 +228,40 @@ pub static WARNINGS: [(Cause, Level, &str, &str); 61] = [
         "AGENT, or an --agent, has no group of its own, and Google doesn't apply the group of * to this crawler, so it may fetch everything; add a group for it"),
 ];
 
+/// The warnings that aren't about the syntax of a file, but about the request, the size of the file, or what a file of
+/// the standard's grammar means. All others are about syntax, notes included.
+#[rattlefmt::skip]
+pub static ABOUT_MEANING: [Cause; 24] = [
+    // the request
+    Cause::SpaceAroundAgent,
+    Cause::VersionInAgent,
+    Cause::NotAUrlOrPath,
+    Cause::InvalidUrl,
+    // the size
+    Cause::FileTooLarge,
+    Cause::GroupPastSizeLimit,
+    // a line
+    Cause::HashLeavesRoot,
+    Cause::HashCutsRule,
+    Cause::UnencodedCharacter,
+    Cause::RegexSyntax,
+    Cause::DollarNotAtEnd,
+    Cause::NonstandardEscape,
+    Cause::DotSegment,
+    Cause::DelayOverADay,
+    Cause::OneLine,
+    // groups
+    Cause::EmptyGroup,
+    Cause::DelaySplitsGroup,
+    Cause::AllowedAndDisallowed,
+    Cause::TwoDelays,
+    Cause::ClosesEverything,
+    Cause::ReplacesStar,
+    Cause::RepeatedRule,
+    Cause::GooglebotGroup,
+    Cause::GoogleIgnoresStar,
+];
+
 /// The row at this index.
 fn row_at(
     rows: &'static [(Cause, Level, &'static str, &'static str)],
@@ -299,6 +333,13 @@ impl Cause {
         ensures { result.now ≡ name_of self }
     {
         self.row().2
+    }
+
+    /// Whether the warning isn't about the syntax of a file.
+    pub fn is_about_meaning(self) -> bool
+        ensures { result ≡ is_about_meaning self }
+    {
+        ABOUT_MEANING.contains(&self)
     }
 
     /// The message of the warning.
