@@ -66,12 +66,11 @@ abbrev pub is_after : Option ℕ → ℕ → Bool
 is_after None number = true
 is_after (Some last) number = nat_lt last number
 
--- these lines begin with user-agent lines, none of which names `*`, and a rule follows in their group, that
--- is, before the next user-agent line; `begun`: a delay of the group is above these lines
+-- these lines begin with user-agent lines, and a rule follows in their group, that is, before the next
+-- user-agent line; `begun`: a delay of the group is above these lines
 abbrev pub begin_with_rules : Bool → List LineValue → Bool
 begin_with_rules begun [] = false
-begin_with_rules begun (UserAgent value ∷ lines) =
-    not (begun || bytes_eq value (codes "*")) && begin_with_rules begun lines
+begin_with_rules begun (UserAgent value ∷ lines) = not begun && begin_with_rules begun lines
 begin_with_rules begun (Allow value ∷ lines) = true
 begin_with_rules begun (Disallow value ∷ lines) = true
 begin_with_rules begun (CrawlDelay delay ∷ lines) = begin_with_rules true lines
@@ -93,6 +92,16 @@ begin_with_name name (Raw body ∷ lines) = begin_with_name name lines
 abbrev pub name_again : Option (List ℕ) → List LineValue → Bool
 name_again None lines = false
 name_again (Some name) lines = begin_with_name name lines
+
+-- one of these lines names `*`, and no rule is above it
+abbrev pub name_star : List LineValue → Bool
+name_star [] = false
+name_star (UserAgent value ∷ lines) = bytes_eq value (codes "*") || name_star lines
+name_star (Allow value ∷ lines) = false
+name_star (Disallow value ∷ lines) = false
+name_star (CrawlDelay delay ∷ lines) = name_star lines
+name_star (Sitemap value ∷ lines) = name_star lines
+name_star (Raw body ∷ lines) = name_star lines
 
 -- ---- conditions on a line
 
@@ -119,11 +128,19 @@ is_other_delay first label =
 abbrev pub is_empty_group : Option ℕ → Label → Bool
 is_empty_group last label = is_agent label.line && is_after last label.number
 
--- the line is a user-agent line that only delays separate from one above it, and its group has rules, but
--- isn't the group of `*`; `lines` are those from this line on. For a crawler that ignores delays, the names
--- above are in this group too, and get its rules. If `above`, the only name there, is in this group anyway,
--- nothing differs
+-- the line is a user-agent line that only delays separate from one above it, and its group has rules; `lines`
+-- are those from this line on. For a crawler that ignores delays, the names above are in this group too, and
+-- get its rules. If `above`, the only name there, is in this group anyway, nothing differs
 abbrev pub is_split : Preceding → Option (List ℕ) → Label → List LineValue → Bool
 is_split preceding above label lines =
     (is_agent label.line && is_delay preceding)
     && (begin_with_rules false lines && not (name_again above lines))
+
+-- and its group is that of `*`, as in many healthy files
+abbrev pub is_split_from_star : Preceding → Option (List ℕ) → Label → List LineValue → Bool
+is_split_from_star preceding above label lines = is_split preceding above label lines && name_star lines
+
+-- or it isn't
+abbrev pub is_split_from_others : Preceding → Option (List ℕ) → Label → List LineValue → Bool
+is_split_from_others preceding above label lines =
+    is_split preceding above label lines && not (name_star lines)

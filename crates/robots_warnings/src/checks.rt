@@ -10,7 +10,10 @@ use crate::contents::{
 };
 use crate::facts::FileFacts;
 use crate::field_names::{has_inner_field, is_misspelled, meant_by};
-use crate::positions::{Preceding, is_above_agents, is_empty_group, is_other_delay, is_split};
+use crate::positions::{
+    Preceding, is_above_agents, is_empty_group, is_other_delay, is_split_from_others,
+    is_split_from_star,
+};
 use crate::rules::{
     has_dollar_inside, has_dot_segment, has_odd_start, holds_otherwise, is_expression, is_quoted,
     is_utf8,
@@ -194,7 +197,7 @@ pub(crate) fn position_checks(
     delay: Option<u64>,
     labeled: &LabeledLine<'_>,
     from_here: &[LabeledLine<'_>],
-) -> [Check; 4]
+) -> [Check; 5]
     ensures { result ≡ position_checks last preceding (option_map (λ name. name.now) above.entry) delay
         (label_by_value labeled.now) (lines_of (map label_by_value from_here.now)) }
 {
@@ -202,8 +205,12 @@ pub(crate) fn position_checks(
         (Cause::RuleBeforeUserAgent, is_above_agents(labeled)),
         (Cause::EmptyGroup, is_empty_group(last, labeled)),
         (
+            Cause::DelayAboveStar,
+            is_split_from_star(preceding, above, labeled, from_here),
+        ),
+        (
             Cause::DelaySplitsGroup,
-            is_split(preceding, above, labeled, from_here),
+            is_split_from_others(preceding, above, labeled, from_here),
         ),
         (Cause::TwoDelays, is_other_delay(delay, labeled)),
     ]

@@ -8,7 +8,7 @@ use crate::table::Cause;
 /// For each warning, in the order of [`crate::table::WARNINGS`], a file that triggers it for FerrisBot, or for
 /// the crawler in its first line, or a command. In a file, `\xFF` is a byte, and `\{512000 a}` is 512,000 times an `a`.
 #[rattlefmt::skip]
-pub static EXAMPLES: [(Cause, &str); 61] = [
+pub static EXAMPLES: [(Cause, &str); 62] = [
     // the file
     (Cause::LooksLikeHtml, "<html>\n</html>"),
     (Cause::LooksLikeUtf16, "\\xFF\\xFED\\x00"),
@@ -73,6 +73,7 @@ pub static EXAMPLES: [(Cause, &str); 61] = [
     // the position of a line
     (Cause::RuleBeforeUserAgent, "Disallow: /a\nUser-agent: *"),
     (Cause::EmptyGroup, "Disallow: /a\nUser-agent: *"),
+    (Cause::DelayAboveStar, "User-agent: a\nCrawl-delay: 1\nUser-agent: *\nDisallow: /b"),
     (Cause::DelaySplitsGroup, "User-agent: a\nCrawl-delay: 1\nUser-agent: b\nDisallow: /"),
     (Cause::GroupPastSizeLimit, "\\{512000 #}\nUser-agent: a"),
     (Cause::AllowedAndDisallowed, "Allow: /a\nDisallow: /a"),

@@ -5,7 +5,7 @@ ghost use Rattle.texting_robots.specs.Callers.{by_value, label_by_value};
 ghost use Rattle.robots_warnings.specs.File.{lines_of};
 ghost use Rattle.texting_robots.specs.Line.{delay_in};
 ghost use Rattle.robots_warnings.specs.Positions.{are_different, begin_with_rules, first_delay, group_number, is_above_agents};
-ghost use Rattle.robots_warnings.specs.Positions.{begin_with_name, name_again, sole_name};
+ghost use Rattle.robots_warnings.specs.Positions.{begin_with_name, is_split_from_others, is_split_from_star, name_again, name_star, sole_name};
 ghost use Rattle.robots_warnings.specs.Positions.{is_after, is_empty_group, is_other_delay, is_split, last_group, preceding_with};
 
 use texting_robots::labels::{LabeledLine, Membership};
@@ -112,7 +112,7 @@ pub(crate) fn is_empty_group(last: Option<usize>, labeled: &LabeledLine<'_>) -> 
     matches!(labeled.line, Line::UserAgent(_)) && is_after(last, labeled.number)
 }
 
-/// Whether these lines begin with user-agent lines, none of which names `*`, and a rule follows in their group.
+/// Whether these lines begin with user-agent lines, and a rule follows in their group.
 #[tactic(auto, using(crate::proofs::PositionLemmas::rules_from))]
 fn begin_with_rules(labels: &[LabeledLine<'_>]) -> bool
     ensures { result ≡ begin_with_rules false (lines_of (map label_by_value labels.now)) }
@@ -120,7 +120,7 @@ fn begin_with_rules(labels: &[LabeledLine<'_>]) -> bool
     let mut begun = false;
     for labeled in labels {
         match labeled.line {
-            Line::UserAgent(value) if begun || value == b"*".as_slice() => return false,
+            Line::UserAgent(_) if begun => return false,
             Line::Allow(_) | Line::Disallow(_) => return true,
             Line::CrawlDelay(_) => begun = true,
             Line::UserAgent(_) | Line::Sitemap(_) | Line::Raw(_) => {}
@@ -161,9 +161,24 @@ fn name_again(name: Option<&[u8]>, labels: &[LabeledLine<'_>]) -> bool
     }
 }
 
-/// Whether the line is a user-agent line that only delays separate from one above it, and its group has rules, but isn't
-/// the group of `*`, and doesn't have `above`, the only name above it. `from_here` are the lines from this one on.
-pub(crate) fn is_split(
+/// Whether one of these lines names `*`, and no rule is above it.
+#[tactic(auto, using(crate::proofs::PositionLemmas::star_from))]
+fn name_star(labels: &[LabeledLine<'_>]) -> bool
+    ensures { result ≡ name_star (lines_of (map label_by_value labels.now)) }
+{
+    for labeled in labels {
+        match labeled.line {
+            Line::UserAgent(value) if value == b"*".as_slice() => return true,
+            Line::Allow(_) | Line::Disallow(_) => return false,
+            Line::UserAgent(_) | Line::CrawlDelay(_) | Line::Sitemap(_) | Line::Raw(_) => {}
+        }
+    }
+    false
+}
+
+/// Whether the line is a user-agent line that only delays separate from one above it, and its group has rules, but
+/// doesn't have `above`, the only name above it. `from_here` are the lines from this one on.
+fn is_split(
     preceding: Preceding,
     above: Option<&[u8]>,
     labeled: &LabeledLine<'_>,
@@ -176,6 +191,32 @@ pub(crate) fn is_split(
         && preceding == Preceding::Delay
         && begin_with_rules(from_here)
         && !name_again(above, from_here)
+}
+
+/// Whether this is so, and the group is that of `*`.
+pub(crate) fn is_split_from_star(
+    preceding: Preceding,
+    above: Option<&[u8]>,
+    labeled: &LabeledLine<'_>,
+    from_here: &[LabeledLine<'_>],
+) -> bool
+    ensures { result ≡ is_split_from_star preceding (option_map (λ name. name.now) above.entry)
+        (label_by_value labeled.now) (lines_of (map label_by_value from_here.now)) }
+{
+    is_split(preceding, above, labeled, from_here) && name_star(from_here)
+}
+
+/// Whether this is so, and the group isn't that of `*`.
+pub(crate) fn is_split_from_others(
+    preceding: Preceding,
+    above: Option<&[u8]>,
+    labeled: &LabeledLine<'_>,
+    from_here: &[LabeledLine<'_>],
+) -> bool
+    ensures { result ≡ is_split_from_others preceding (option_map (λ name. name.now) above.entry)
+        (label_by_value labeled.now) (lines_of (map label_by_value from_here.now)) }
+{
+    is_split(preceding, above, labeled, from_here) && !name_star(from_here)
 }
 
 /// Whether the two are different delays.

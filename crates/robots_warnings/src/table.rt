@@ -76,6 +76,7 @@ pub enum Cause {
     // the position of a line
     RuleBeforeUserAgent,
     EmptyGroup,
+    DelayAboveStar,
     DelaySplitsGroup,
     GroupPastSizeLimit,
     AllowedAndDisallowed,
@@ -90,7 +91,7 @@ pub enum Cause {
 
 /// The warnings with their levels, names and messages.
 #[rattlefmt::skip]
-pub static WARNINGS: [(Cause, Level, &str, &str); 61] = [
+pub static WARNINGS: [(Cause, Level, &str, &str); 62] = [
     // the file
     (Cause::LooksLikeHtml, Level::Error, "looks-like-html",
         "no usable line found; the text starts with <, so it may be an HTML page; serve a plain-text robots.txt instead"),
@@ -207,6 +208,8 @@ pub static WARNINGS: [(Cause, Level, &str, &str); 61] = [
         "the rule comes before the first User-agent line, so it belongs to no group and is ignored; move it below the User-agent line it is meant for"),
     (Cause::EmptyGroup, Level::Warning, "empty-group",
         "no rule that is read follows this User-agent line, so its group is empty: if the name has no other group, it may fetch everything; add rules or delete the line"),
+    (Cause::DelayAboveStar, Level::Note, "delay-splits-group",
+        "only a Crawl-delay ends the group above, so it has none of the rules of * below; crawlers that ignore the delay, such as Google's, apply these to that group too; add to it those meant for it, or, if its names have no other group, an empty Disallow"),
     (Cause::DelaySplitsGroup, Level::Warning, "delay-splits-group",
         "only a Crawl-delay ends the group above; crawlers that ignore it, such as Google's, apply the rules below to that group too; add to that group the rules meant for it, or move the Crawl-delay down to join the two"),
     (Cause::GroupPastSizeLimit, Level::Warning, "group-past-size-limit",
@@ -231,7 +234,7 @@ pub static WARNINGS: [(Cause, Level, &str, &str); 61] = [
 /// The warnings that aren't about the syntax of a file, but about the request, the size of the file, or what a file of
 /// the standard's grammar means. All others are about syntax, notes included.
 #[rattlefmt::skip]
-pub static ABOUT_MEANING: [Cause; 24] = [
+pub static ABOUT_MEANING: [Cause; 25] = [
     // the request
     Cause::SpaceAroundAgent,
     Cause::VersionInAgent,
@@ -253,6 +256,7 @@ pub static ABOUT_MEANING: [Cause; 24] = [
     // groups
     Cause::EmptyGroup,
     Cause::DelaySplitsGroup,
+    Cause::DelayAboveStar,
     Cause::AllowedAndDisallowed,
     Cause::TwoDelays,
     Cause::ClosesEverything,
