@@ -1,9 +1,14 @@
 -- Escaping byte by byte, while the bytes from `copied` on aren't copied yet.
-use Rattle.std.proofs.Common.{ℕ, ◌+◌, ◌-◌, ◌<◌, ◌≤◌, List, [], ◌∷◌, ◌++◌, ap, append_assoc, arith}
-use Rattle.std.proofs.Common.{drop, flat_map, refl, get_or, length, length-drop, sym, take, ◌≡◌, ◌∙◌}
+use Rattle.std.proofs.Common.{ℕ, zero, suc, ◌+◌, ◌-◌, ◌/◌, ◌%◌, ◌<◌, ◌≤◌, ◌==◌, true, false, List, [], ◌∷◌, ◌++◌}
+use Rattle.std.proofs.Common.{ap, append_assoc, arith, decimal, drop, flat_map, inl, inr, refl, get_or, length}
+use Rattle.std.proofs.Common.{length-drop, sym, take, ◌≡◌, ◌∙◌}
+use Rattle.std.specs.Fmt.{digit_glyph, digits, digits_onto}
+use Rattle.std.specs.List.{list_all}
+use Rattle.std.proofs.lemmas.Bool.{and_parts, cases_Bool}
+use Rattle.std.proofs.lemmas.Bool.Decides.{nat_tests}
 use Rattle.std.proofs.lemmas.Grind.{flat_map-append}
 use Rattle.std.proofs.lemmas.List.{append-nil, get_or-drop, take_more}
-use Rattle.robots_html.specs.Html.{escaped, escaped_byte, escaped_bytes}
+use Rattle.robots_html.specs.Html.{escaped, escaped_byte, escaped_bytes, is_plain}
 
 pub escaped-is : (bytes : List ℕ) → escaped bytes ≡ flat_map escaped_byte bytes
 unfolding escaped_bytes
@@ -13,6 +18,38 @@ escaped-is (byte ∷ bytes) = refl
 pub escaped-append : (one two : List ℕ) → escaped (one ++ two) ≡ escaped one ++ escaped two
 escaped-append one two =
     rw (escaped-is (one ++ two), escaped-is one, escaped-is two) (flat_map-append escaped_byte one two)
+
+plain_byte : (byte : ℕ) → is_plain byte ≡ true → escaped_byte byte ≡ byte ∷ []
+plain_byte byte plain = grind (arith, nat_tests)
+
+-- a text without bytes that need a reference is written unchanged
+pub plain_text : (text : List ℕ) → list_all is_plain text ≡ true → escaped text ≡ text
+plain_text text are = escaped-is text ∙ unchanged text are
+  where
+    unchanged : (text : List ℕ) → list_all is_plain text ≡ true → flat_map escaped_byte text ≡ text
+    unchanged [] are = refl
+    unchanged (byte ∷ text) are =
+        let both = and_parts (is_plain byte) (list_all is_plain text) are in
+        rw (plain_byte byte both.0) (ap (λ (b : List ℕ). byte ∷ b) (unchanged text both.1))
+
+-- and so are decimal digits
+pub decimal_plain : (n : ℕ) → list_all is_plain (decimal n) ≡ true
+unfolding digits
+decimal_plain n = onto 64 n [] refl
+  where
+    glyph : (digit : ℕ) → digit < 10 → is_plain (digit_glyph false digit) ≡ true
+    glyph digit below = grind (arith, nat_tests)
+
+    onto : (k n : ℕ) (text : List ℕ) → list_all is_plain text ≡ true
+        → list_all is_plain (digits_onto k 10 false n text) ≡ true
+    onto zero n text are = are
+    onto (suc k) n text are =
+        let more : list_all is_plain (digit_glyph false (n % 10) ∷ text) ≡ true =
+        rw (glyph (n % 10) (omega arith)) are in
+        elim (cases_Bool (n / 10 == 0)) [
+          | inl last ↦ rw last more
+          | inr other ↦ rw other (onto k (n / 10) (digit_glyph false (n % 10) ∷ text) more)
+        ]
 
 escaped_more : (text : List ℕ) (at : ℕ) → at < length text
     → escaped (take (at + 1) text) ≡ escaped (take at text) ++ escaped_byte (get_or text at 0)

@@ -1,8 +1,9 @@
 //! Writes HTML piece by piece, so that a page of any length needs no tree in memory.
 ghost use Rattle.std.specs.Prelude.{◌≡◌, ◌++◌, ◌∷◌, [], MatchOption, OnOk, codes};
+ghost use Rattle.std.specs.List.{list_all};
 ghost use Rattle.robots_html.specs.Html.{attribute, attribute_bytes, doctype, end_tag, escaped};
-ghost use Rattle.robots_html.specs.Html.{escaped_byte, start_tag, style_bytes, tag, tag_close, tag_open};
-ghost use Rattle.robots_html.specs.Html.{text, void_close, written};
+ghost use Rattle.robots_html.specs.Html.{escaped_byte, is_plain, start_tag, style_bytes, tag, tag_close};
+ghost use Rattle.robots_html.specs.Html.{tag_open, text, void_close, written};
 
 use std::alloc::AllocError;
 
@@ -19,8 +20,26 @@ fn reference(byte: u8) -> Option<&'static [u8]>
     }
 }
 
-/// Appends a text, which may come from anyone: it is escaped.
-pub fn push_text(out: &mut Vec<u8>, text: &[u8]) -> Result<(), AllocError>
+/// Whether a byte needs no character reference.
+fn is_plain(byte: u8) -> bool
+    ensures { result ≡ is_plain byte }
+{
+    (byte != b'&') & (byte != b'<') & (byte != b'>') & (byte != b'"')
+}
+
+/// Whether no byte needs one. The loop doesn't stop at the first that does, since usually none does.
+fn are_plain(bytes: &[u8]) -> bool
+    ensures { result ≡ list_all is_plain bytes.now }
+{
+    let mut all = true;
+    for byte in bytes {
+        all &= is_plain(*byte);
+    }
+    all
+}
+
+/// Appends a text with its references, byte by byte.
+fn push_escaped(out: &mut Vec<u8>, text: &[u8]) -> Result<(), AllocError>
     ensures { OnOk result (out.new.items ≡ out.old.items ++ escaped text.now) }
 {
     let mut copied = 0;
@@ -32,6 +51,17 @@ pub fn push_text(out: &mut Vec<u8>, text: &[u8]) -> Result<(), AllocError>
         }
     }
     out.extend_from_slice(&text[copied..])
+}
+
+/// Appends a text, which may come from anyone: it is escaped.
+#[tactic(auto, using(crate::proofs::TextLemmas::plain_text))]
+pub fn push_text(out: &mut Vec<u8>, text: &[u8]) -> Result<(), AllocError>
+    ensures { OnOk result (out.new.items ≡ out.old.items ++ escaped text.now) }
+{
+    if are_plain(text) {
+        return out.extend_from_slice(text);
+    }
+    push_escaped(out, text)
 }
 
 /// Appends the document type, with which a page begins.

@@ -1,6 +1,6 @@
 use Rattle.std.proofs.Common.{◌≡◌, ◌++◌, ◌-◌, ◌≤◌, drop, take}
 use Rattle.robots_html.specs.Html.{escaped}
-use Rattle.robots_html.proofs.write.push_text.Given as goal
+use Rattle.robots_html.proofs.write.push_escaped.Given as goal
 
 -- the bytes from `copied` on, which need no reference, aren't copied yet
 abbrev pub invariant-loop-at : goal.invariant-loop-at
