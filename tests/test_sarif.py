@@ -22,7 +22,7 @@ SCHEMA = {
     "run": ({"tool": "tool"}, {"results": ["result"]}),
     "tool": ({"driver": "toolComponent"}, {}),
     "toolComponent": ({"name": None}, {"version": None, "rules": ["reportingDescriptor"]}),
-    "reportingDescriptor": ({"id": None}, {"shortDescription": "message", "defaultConfiguration": "reportingConfiguration"}),
+    "reportingDescriptor": ({"id": None}, {"shortDescription": "message", "fullDescription": "message", "help": "message", "defaultConfiguration": "reportingConfiguration"}),
     "reportingConfiguration": ({}, {"level": None}),
     "result": ({"message": "message"}, {"ruleId": None, "level": None, "locations": ["location"]}),
     "message": ({"text": None}, {}),
@@ -61,11 +61,17 @@ def message(name):
     return WARNINGS[name][0][1]
 
 
+def read(message):
+    """The text that a message shows: it has no placeholder and no link, as all braces, brackets and backslashes are escaped."""
+    assert re.fullmatch(r"(?:[^{}\[\]\\]|\{\{|\}\}|\\[\[\]\\])*", message["text"], re.S)
+    return re.sub(r"([{}])\1|\\(.)", lambda it: it[1] or it[2], message["text"])
+
+
 def results(log):
     """Level, rule, message, file and line of each result."""
     for it in log["runs"][0]["results"]:
         place = it["locations"][0]["physicalLocation"]
-        yield it["level"], it["ruleId"], it["message"]["text"], place["artifactLocation"]["uri"], place.get("region", {}).get("startLine")
+        yield it["level"], it["ruleId"], read(it["message"]), place["artifactLocation"]["uri"], place["region"]["startLine"]
 
 
 @pytest.mark.parametrize("args", [["Ferris/1", "/b"], ["-a", "/b"]], ids=["one crawler", "all"])
@@ -77,13 +83,19 @@ def test_schema(args):
 
 
 def test_results():
+    """What isn't about a line is at the first one."""
     assert list(results(log("Ferris", "/b", "/c", status=1))) == [
         ("error", "denied", "Ferris may not fetch /b", "robots.txt", 3),
         ("error", "missing-slash", message("missing-slash"), "robots.txt", 2),
         ("note", "clean-param-line", message("clean-param-line"), "robots.txt", 4),
         ("warning", "noindex-line", message("noindex-line"), "robots.txt", 5),
     ]
-    assert list(results(log("Ferris/1", file=b""))) == [("warning", "version-in-agent", message("version-in-agent"), "robots.txt", None)]
+    assert list(results(log("Ferris/1", file=b""))) == [("warning", "version-in-agent", message("version-in-agent"), "robots.txt", 1)]
+
+
+@pytest.mark.parametrize("url", ["/b{0}", "/b[ok](https://evil.example)", "/b\\[ok](1)", "/b{{}}\\\\[]\u00fc\u20ac\U0001f600"])
+def test_texts_are_neither_placeholders_nor_links(url):
+    assert list(results(log("Ferris", url, "--only=one-line", status=1))) == [("error", "denied", f"Ferris may not fetch {url}", "robots.txt", 3)]
 
 
 def test_rejected_file():
@@ -95,10 +107,18 @@ def test_rejected_file():
 def test_rules():
     driver = log("Ferris")["runs"][0]["tool"]["driver"]
     assert (driver["name"], run("robots_audit", ["--version"]).out) == ("robots_audit", f"robots_audit {driver['version']}\n")
-    rules = [(it["id"], it["defaultConfiguration"]["level"]) for it in driver["rules"]]
-    assert rules == [("denied", "error"), ("rejected", "error"), *((name, its[0][0]) for name, its in WARNINGS.items())]
-    texts = {it["id"]: it["shortDescription"]["text"] for it in driver["rules"]}
-    assert all(texts[name] == message(name).replace("KEY", "User-agent") for name in WARNINGS)
+    levels = [(it["id"], it["defaultConfiguration"]["level"]) for it in driver["rules"]]
+    assert levels == [("denied", "error"), ("rejected", "error"), *((name, its[-1][0]) for name, its in WARNINGS.items())]
+    rules = {it["id"]: it for it in driver["rules"]}
+    for name, its in WARNINGS.items():  # the general message is the last one
+        assert {read(rules[name][key]) for key in ("shortDescription", "fullDescription")} == {its[-1][1]}
+        assert read(rules[name]["help"]) == explained(name)[-1]
+
+
+def explained(name):
+    """The examples that `--explain` prints, without the spaces before their lines."""
+    text = run("robots_audit", ["--explain", name]).out
+    return [re.sub("^    ", "", it, flags=re.M).removesuffix("\n") for it in re.findall(r"^for example:\n(?:    .*\n)+", text, re.M)]
 
 
 @pytest.mark.parametrize("name", ["a b.txt", "a:b/c,d%41#e?f.txt", "gr\u00f6\u00dfe\x1b~_-.txt", "[a]+;@&=$!'()*"])
@@ -108,3 +128,11 @@ def test_uri(tmp_path, name):
     path.write_bytes(ROBOTS)
     (_, _, _, uri, _), *_ = results(log("-f", name, "Ferris", cwd=tmp_path))
     assert re.fullmatch(r"(?:[A-Za-z0-9._~/-]|%[0-9A-F]{2})+", uri) and unquote(uri) == name
+
+
+@pytest.mark.parametrize("slashes", ["/", "//", "///"])
+def test_several_slashes_are_not_before_a_host(tmp_path, slashes):
+    path = tmp_path / "robots.txt"
+    path.write_bytes(ROBOTS)
+    (_, _, _, uri, _), *_ = results(log("-f", f"{slashes}{str(path)[1:]}", "Ferris"))
+    assert unquote(uri) == str(path)

@@ -20,6 +20,7 @@ pub mod OutputLemmas
 pub mod PageLemmas
 pub mod PrintableLemmas
 pub mod RowLemmas
+pub mod RuleLemmas
 pub mod RuleSetLemmas
 pub mod SarifLemmas
 pub mod SpaceLemmas

@@ -1,53 +1,137 @@
 -- The SARIF log contains no floating-point number, and no control or bidirectional-formatting characters other
--- than LF.
-use Rattle.std.proofs.Common.{◌≡◌, ℕ, ◌+◌, ◌/◌, ◌%◌, ◌<◌, Bool, true, false, List, [], ◌∷◌, ◌++◌, Option, Some, None, arith, codes}
-use Rattle.std.proofs.Common.{drop, inl, inr, length, refl, slice_index_or}
-use Rattle.std.specs.Prelude.{bytes_eq, if◌then◌else◌, not, ◌||◌}
-use Rattle.std.specs.List.{AllByRecursion as Each}
+-- than LF. Its messages show the texts that they are made of.
+use Rattle.std.proofs.Common.{◌≡◌, ℕ, ◌/◌, ◌%◌, ◌<◌, ◌==◌, Bool, true, false, List, [], ◌∷◌, ◌++◌, Option, Some, None}
+use Rattle.std.proofs.Common.{ap, append-nil, arith, codes, flat_map, inl, inr, refl, sym, unwrap_or, ◌∙◌}
+use Rattle.std.specs.Prelude.{IsTrue, if◌then◌else◌, not, option_map, ◌&&◌, ◌||◌}
+use Rattle.std.specs.List.{AllByRecursion as Each, list_all}
 use Rattle.std.specs.Fmt.{digit_glyph}
-use Rattle.std.proofs.lemmas.Bool.{agree_below_at, cases_Bool, cases_lt}
+use Rattle.std.specs.Str.{IsUtf8, all_scalars, chars, encode_utf8_all}
+use Rattle.std.proofs.lemmas.Bool.{agree_below_at, and_parts, cases_Bool, cases_lt}
 use Rattle.std.proofs.lemmas.Bool.Decides.{nat_tests}
-use Rattle.std.proofs.lemmas.List.{drop_more}
+use Rattle.std.proofs.lemmas.List.Folds.{list_all-append}
+use Rattle.std.proofs.lemmas.Grind.{flat_map-append}
+use Rattle.std.proofs.lemmas.Str.{chars-encodes, encodes-append, scalars-chars}
 use Rattle.serde_json.specs.Written.{compact_text, has_float}
 use Rattle.texting_robots.proofs.TrimLemmas.{each_append}
 use Rattle.robots_io.specs.Lines.{lf}
 use Rattle.percent_encoding.specs.Percent.{percent_encode_byte}
-use Rattle.robots_io.specs.Sanitize.{IsPrintable, is_printable_byte}
-use Rattle.robots_io.proofs.SanitizeLemmas.{append_printable, ascii_printable, decimal_printable}
-use Rattle.robots_io.proofs.SanitizeLemmas.{flat_printable}
+use Rattle.robots_io.specs.Sanitize.{IsPrintable, is_printable, is_printable_byte}
+use Rattle.robots_io.proofs.SanitizeLemmas.{append_printable, ascii_printable, chars_printable}
+use Rattle.robots_io.proofs.SanitizeLemmas.{decimal_printable, flat_printable}
 use Rattle.robots_warnings.specs.declared.table.Cause.{Cause}
-use Rattle.robots_warnings.specs.Table.{all_causes, level_of, name_of}
-use Rattle.robots_warnings.proofs.PrintableLemmas.{names_printable, texts_printable, word_printable}
+use Rattle.robots_warnings.specs.Table.{all_causes, name_of}
+use Rattle.robots_warnings.proofs.PrintableLemmas.{example_printable, names_printable, texts_printable}
+use Rattle.robots_warnings.proofs.PrintableLemmas.{word_printable}
 use Rattle.robots_audit.specs.Findings.{FindingValue}
-use Rattle.robots_audit.specs.Sarif.{RuleValue, all_rules, log_json, place_json, result_json}
-use Rattle.robots_audit.specs.Sarif.{rule_if_new, rule_json, rule_of, rules_after, sarif_text, tool_json}
-use Rattle.robots_audit.specs.Sarif.{is_uri_byte, uri_byte, uri_of}
+use Rattle.robots_audit.specs.Sarif.{RuleValue, all_rules, denied_rule, has_name, help_text, is_brace, is_escape}
+use Rattle.robots_audit.specs.Sarif.{is_uri_byte, literal_char, literal_text, log_json, message_json, one_slash}
+use Rattle.robots_audit.specs.Sarif.{place_json, rejected_rule, result_json, rule_json, rule_of}
+use Rattle.robots_audit.specs.Sarif.{rule_unless_later, rules_of, sarif_text, shown, shown_after}
+use Rattle.robots_audit.specs.Sarif.{takes_backslash, tool_json, uri_byte, uri_of}
 use Rattle.robots_audit.proofs.FindingLemmas.{HasPrintableTexts}
 use Rattle.robots_audit.proofs.JsonLemmas.{HasPrintable, data_printable, each_has, list_without_float}
-
--- ---- rules
-
--- the rules from index `at` on, in terms of the warning there
-pub rules_next : (before : List ℕ) (causes : List Cause) (at : ℕ) (cause : Cause) → at < length causes
-    → rules_after before (drop at causes)
-    ≡ rule_if_new before (slice_index_or causes at cause)
-    ++ rules_after (name_of (slice_index_or causes at cause)) (drop (at + 1) causes)
-rules_next before causes at cause below = rw (drop_more causes at cause below) refl
+use lib.Utf8.{scalar}
 
 -- ---- floats
 
-place_without_float : (uri : List ℕ) (line : Option ℕ) → has_float (place_json uri line) ≡ false
-place_without_float uri None = refl
-place_without_float uri (Some line) = refl
-
 result_without_float : (uri : List ℕ) (finding : FindingValue) → has_float (result_json uri finding) ≡ false
-result_without_float uri finding = rw (place_without_float uri finding.line) refl
+result_without_float uri finding = refl
 
 pub no_float : (uri : List ℕ) (findings : List FindingValue) → has_float (log_json uri findings) ≡ false
 no_float uri findings = rw (
   list_without_float (result_json uri) (result_without_float uri) findings,
   list_without_float rule_json (λ rule. refl) all_rules,
 ) refl
+
+-- ---- messages
+
+-- loop step: one more character is appended
+pub literal_next : (yielded : List ℕ) (char : ℕ) (message new : List ℕ)
+    → message ≡ encode_utf8_all (flat_map literal_char yielded)
+    → new ≡ message ++ encode_utf8_all (literal_char char)
+    → new ≡ encode_utf8_all (flat_map literal_char (yielded ++ char ∷ []))
+literal_next yielded char message new so_far added =
+    let front = flat_map literal_char yielded in
+    let whole = flat_map-append literal_char yielded (char ∷ [])
+    ∙ ap (λ (last : List ℕ). front ++ last) (append-nil (literal_char char)) in
+    added ∙ ap (λ (text : List ℕ). text ++ encode_utf8_all (literal_char char)) so_far
+    ∙ sym (ap encode_utf8_all whole ∙ encodes-append front (literal_char char))
+
+same_char : (char : ℕ) → (char == char) ≡ true
+same_char char = grind (arith, nat_tests)
+
+escape_begins : (char : ℕ) (message : List ℕ) → (is_brace char || takes_backslash char) ≡ true
+    → shown_after None (char ∷ message) ≡ shown_after (Some char) message
+escape_begins char message is = rw is refl
+
+escape_ends : (first char : ℕ) (message : List ℕ) → is_escape first char ≡ true
+    → shown_after (Some first) (char ∷ message) ≡ option_map (λ shown. char ∷ shown) (shown_after None message)
+escape_ends first char message is = rw is refl
+
+shows_itself : (char : ℕ) (message : List ℕ) → (is_brace char || takes_backslash char) ≡ false
+    → shown_after None (char ∷ message) ≡ option_map (λ shown. char ∷ shown) (shown_after None message)
+shows_itself char message isnt = rw isnt refl
+
+shown_char : (char : ℕ) (message : List ℕ) → shown_after None (literal_char char ++ message)
+    ≡ option_map (λ shown. char ∷ shown) (shown_after None message)
+shown_char char message = elim (cases_Bool (is_brace char)) [
+  | inl brace ↦
+      let special : (is_brace char || takes_backslash char) ≡ true = rw brace refl in
+      let escape : is_escape char char ≡ true = rw (brace, same_char char) refl in
+      rw brace (escape_begins char (char ∷ message) special ∙ escape_ends char char message escape)
+  | inr isnt ↦ elim (cases_Bool (takes_backslash char)) [
+    | inl takes ↦ rw (isnt, takes)
+        (escape_begins 92 (char ∷ message) refl ∙ escape_ends 92 char message takes)
+    | inr ordinary ↦
+        let plain : (is_brace char || takes_backslash char) ≡ false = rw (isnt, ordinary) refl in
+        rw (isnt, ordinary) (shows_itself char message plain)
+  ]
+]
+
+shown_chars : (text : List ℕ) → shown (flat_map literal_char text) ≡ Some text
+shown_chars [] = refl
+shown_chars (char ∷ text) =
+    shown_char char (flat_map literal_char text)
+    ∙ ap (λ shown. option_map (λ (text : List ℕ). char ∷ text) shown) (shown_chars text)
+
+-- if the backslash and a character pass a test, so do all characters of its part of a message
+char_all : (test : ℕ → Bool) → test 92 ≡ true → (char : ℕ) → test char ≡ true
+    → list_all test (literal_char char) ≡ true
+char_all test slash char is = either (is_brace char) (takes_backslash char)
+  where
+    either : (brace takes : Bool) → list_all test (if brace then char ∷ char ∷ []
+        else if takes then 92 ∷ char ∷ [] else char ∷ []) ≡ true
+    either true takes = rw is refl
+    either false true = rw (slash, is) refl
+    either false false = rw is refl
+
+literal_all : (test : ℕ → Bool) → test 92 ≡ true → (text : List ℕ) → list_all test text ≡ true
+    → list_all test (flat_map literal_char text) ≡ true
+literal_all test slash [] all = refl
+literal_all test slash (char ∷ text) all =
+    let both = and_parts (test char) (list_all test text) all in
+    rw (list_all-append, char_all test slash char both.0) (literal_all test slash text both.1)
+
+scalars_are_all : (text : List ℕ) → list_all scalar text ≡ all_scalars text
+scalars_are_all [] = refl
+scalars_are_all (char ∷ text) = ap (λ rest. scalar char && rest) (scalars_are_all text)
+
+literal_scalars : (text : List ℕ) → IsUtf8 text → all_scalars (flat_map literal_char (chars text)) ≡ true
+literal_scalars text is =
+    sym (scalars_are_all (flat_map literal_char (chars text)))
+    ∙ literal_all scalar refl (chars text) (scalars_are_all (chars text) ∙ scalars-chars text is)
+
+pub literal_shown : (text : List ℕ) → IsUtf8 text → shown (chars (literal_text text)) ≡ Some (chars text)
+unfolding literal_text
+literal_shown text is =
+    ap shown (chars-encodes (flat_map literal_char (chars text)) (literal_scalars text is))
+    ∙ shown_chars (chars text)
+
+literal_printable : (text : List ℕ) → IsPrintable text → IsPrintable (literal_text text)
+unfolding literal_text
+literal_printable text is =
+    chars_printable true (flat_map literal_char (chars text)) (literal_scalars text is.utf8)
+    (literal_all (is_printable true) refl (chars text) is.all)
 
 -- ---- strings
 
@@ -79,60 +163,67 @@ uri_byte_printable b = ascii_printable true (uri_byte b) (elim (cases_Bool (is_u
 ])
 
 uri_printable : (file : List ℕ) → IsPrintable (uri_of file)
-uri_printable file = flat_printable true uri_byte uri_byte_printable file
+uri_printable file = flat_printable true uri_byte uri_byte_printable (one_slash file)
+
+message_has : (text : List ℕ) → IsPrintable text → HasPrintable (message_json text)
+message_has text is = (refl, literal_printable text is, tt)
 
 abbrev IsPrintableRule : RuleValue → Type 0
-IsPrintableRule rule = HasPrintable (rule_json rule)
+IsPrintableRule rule = IsPrintable rule.name × IsPrintable rule.text × IsPrintable rule.example
 
-rule_has : (cause : Cause) → IsPrintableRule (rule_of cause)
-rule_has cause = (
+help_printable : (example : List ℕ) → IsPrintable example → IsPrintable (help_text example)
+unfolding help_text
+help_printable example is =
+    append_printable true (codes "for example:\n") example (ascii_printable true (codes "for example:\n") refl) is
+
+rule_has : (rule : RuleValue) → IsPrintableRule rule → HasPrintable (rule_json rule)
+rule_has rule (name, text, example) = (
   refl,
-  (refl, word_printable (level_of cause), tt),
-  (refl, names_printable cause, (refl, (refl, texts_printable cause, tt), tt)),
-)
-
-new_rule_has : (before : List ℕ) (cause : Cause) → Each IsPrintableRule (rule_if_new before cause)
-new_rule_has before cause = either (bytes_eq (name_of cause) before)
-  where
-    either : (known : Bool) → Each IsPrintableRule (if known then [] else rule_of cause ∷ [])
-    either true = tt
-    either false = (rule_has cause, tt)
-
-rules_have : (before : List ℕ) (causes : List Cause) → Each IsPrintableRule (rules_after before causes)
-rules_have before [] = tt
-rules_have before (cause ∷ causes) =
-    each_append IsPrintableRule (rule_if_new before cause) (rules_after (name_of cause) causes)
-    (new_rule_has before cause) (rules_have (name_of cause) causes)
-
-all_rules_have : Each IsPrintableRule all_rules
-all_rules_have = (
+  (refl, word_printable rule.level, tt),
   (
     refl,
-    (refl, ascii_printable true (codes "error") refl, tt),
+    message_has rule.text text,
     (
       refl,
-      ascii_printable true (codes "denied") refl,
-      (refl, (refl, ascii_printable true (codes "a crawler may not fetch a URL") refl, tt), tt),
+      message_has (help_text rule.example) (help_printable rule.example example),
+      (refl, name, (refl, message_has rule.text text, tt)),
     ),
-  ),
-  (
-    (
-      refl,
-      (refl, ascii_printable true (codes "error") refl, tt),
-      (
-        refl,
-        ascii_printable true (codes "rejected") refl,
-        (refl, (refl, ascii_printable true (codes "the file is rejected for a crawler") refl, tt), tt),
-      ),
-    ),
-    rules_have [] all_causes,
   ),
 )
 
+rule_printable : (cause : Cause) → IsPrintableRule (rule_of cause)
+rule_printable cause = (names_printable cause, texts_printable cause, example_printable cause)
+
+rules_printable : (causes : List Cause) → Each IsPrintableRule (rules_of causes)
+rules_printable [] = tt
+rules_printable (cause ∷ later) =
+    each_append IsPrintableRule (rule_unless_later cause later) (rules_of later)
+    (either (has_name (name_of cause) later)) (rules_printable later)
+  where
+    either : (again : Bool) → Each IsPrintableRule (if again then [] else rule_of cause ∷ [])
+    either true = tt
+    either false = (rule_printable cause, tt)
+
+ascii_rule : (rule : RuleValue) → IsTrue (list_all (is_printable_byte true) rule.name)
+    → IsTrue (list_all (is_printable_byte true) rule.text)
+    → IsTrue (list_all (is_printable_byte true) rule.example) → IsPrintableRule rule
+ascii_rule rule name text example =
+    (ascii_printable true rule.name name, ascii_printable true rule.text text, ascii_printable true rule.example example)
+
+all_rules_printable : Each IsPrintableRule all_rules
+all_rules_printable = (
+  ascii_rule denied_rule refl refl refl,
+  (ascii_rule rejected_rule refl refl refl, rules_printable all_causes),
+)
+
+rules_have : (rules : List RuleValue) → Each IsPrintableRule rules
+    → Each (λ rule. HasPrintable (rule_json rule)) rules
+rules_have [] are = tt
+rules_have (rule ∷ rules) (first, later) = (rule_has rule first, rules_have rules later)
+
 place_has : (uri : List ℕ) (line : Option ℕ) → IsPrintable uri → HasPrintable (place_json uri line)
-place_has uri None is = (refl, (refl, is, tt), tt)
-place_has uri (Some line) is =
-    (refl, (refl, is, tt), (refl, (refl, decimal_printable true line, tt), tt))
+place_has uri line is =
+    (refl, (refl, is, tt), (refl, (refl, decimal_printable true (unwrap_or line 1), tt), tt))
 
 result_has : (uri : List ℕ) (finding : FindingValue) → IsPrintable uri → HasPrintableTexts finding
     → HasPrintable (result_json uri finding)
@@ -142,7 +233,7 @@ result_has uri finding is (name, message) = (
   (
     refl,
     ((refl, place_has uri finding.line is, tt), tt),
-    (refl, (refl, message, tt), (refl, name, tt)),
+    (refl, message_has finding.message message, (refl, name, tt)),
   ),
 )
 
@@ -160,7 +251,7 @@ tool_has = (
     ascii_printable true (codes "robots_audit") refl,
     (
       refl,
-      each_has rule_json all_rules all_rules_have,
+      each_has rule_json all_rules (rules_have all_rules all_rules_printable),
       (refl, ascii_printable true (codes "0.1.0") refl, tt),
     ),
   ),

@@ -33,7 +33,12 @@ finding_value finding = record {
 }
 
 abbrev pub rule_value : Rule → RuleValue
-rule_value rule = record { name = rule.name.now; level = rule.level; text = rule.text.now }
+rule_value rule = record {
+  name = rule.name.now;
+  level = rule.level;
+  text = rule.text.now;
+  example = rule.example.now;
+}
 
 abbrev pub agent_value : AgentAudit → AgentValue
 agent_value audit = record {

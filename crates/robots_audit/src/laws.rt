@@ -1,12 +1,14 @@
 //! Theorems about the specification, each written as the contract of an empty function.
-ghost use Rattle.std.specs.Prelude.{Any, Bool, Contains, IsTrue, List, Some, [], false, if◌then◌else◌, slice_get, true, ℕ, ◌+◌, ◌||◌, ◌↔◌, ◌∷◌, ◌≡◌, ◌≢◌};
-ghost use Rattle.std.specs.Str.{IsUtf8, byte, is_utf8};
+ghost use Rattle.std.specs.Prelude.{Any, Bool, Contains, IsTrue, List, Some, [], false, if◌then◌else◌, slice_get, true, ℕ, ◌+◌, ◌==◌, ◌||◌, ◌↔◌, ◌∷◌, ◌≡◌, ◌≢◌};
+ghost use Rattle.std.specs.List.{list_all};
+ghost use Rattle.std.specs.Str.{IsUtf8, byte, chars, is_utf8};
 ghost use Rattle.texting_robots.specs.Callers.{Allow, AreLabelsOf, AreRulesFor, Disallow, HoldsRule, IsDecidingLine, IsDenied, IsVerdict, Label, LineValue, Matches, PlacedRule, Rule, UserAgent, escaped, file_lines, is_named, prepared, rules_for, unplaced};
 ghost use Rattle.texting_robots.specs.Verdict.{robots_file};
 ghost use Rattle.robots_warnings.specs.Closed.{is_closed_for};
 ghost use Rattle.robots_warnings.specs.Conflicts.{IsConflict, is_conflict};
 ghost use Rattle.robots_warnings.specs.NamesPastLimit.{names_past_limit};
 ghost use Rattle.robots_warnings.specs.Positions.{is_above_agents};
+ghost use Rattle.robots_warnings.specs.Table.{all_causes, name_of};
 ghost use Rattle.robots_warnings.specs.Rules.{begins_oddly, has_dollar_inside};
 ghost use Rattle.robots_warnings.specs.Tokens.{has_space_around};
 ghost use Rattle.robots_warnings.specs.Urls.{is_invalid_url};
@@ -19,6 +21,7 @@ ghost use Rattle.robots_audit.specs.Compare.{ComparedValue, IsCompared, has_same
 ghost use Rattle.robots_io.specs.Lines.{ended};
 ghost use Rattle.robots_audit.specs.Findings.{FindingValue};
 ghost use Rattle.robots_audit.specs.Github.{command, is_in_line, is_in_property, property_text};
+ghost use Rattle.robots_audit.specs.Sarif.{literal_text, rules_named, shown};
 ghost use Rattle.robots_io.specs.Sanitize.{IsPrintable};
 
 /// A request and a file have at most one audit, and so at most one report.
@@ -57,6 +60,17 @@ pub fn no_comparison_steers_a_terminal()
 pub fn no_text_ends_a_command()
     ensures line { (file : List ℕ) (finding : FindingValue) → IsTrue (is_in_line (command file finding)) }
     ensures property { (text : List ℕ) → IsTrue (is_in_property (property_text text)) }
+{}
+
+/// A message of a SARIF log that is made of a text shows this text, and has neither a placeholder nor a link, whatever
+/// the text is.
+pub fn no_text_becomes_a_link()
+    ensures { (text : List ℕ) → IsUtf8 text → shown (chars (literal_text text)) ≡ Some (chars text) }
+{}
+
+/// In a SARIF log, each warning has a rule, and no name has two.
+pub fn each_name_has_one_rule()
+    ensures { IsTrue (list_all (λ cause. rules_named (name_of cause) == 1) all_causes) }
 {}
 
 /// `allowed-and-disallowed` is given for a line exactly if it has a Disallow that applies to one of the crawlers reported

@@ -1,11 +1,10 @@
 //! Findings as a log of SARIF 2.1.0, in one line.
-ghost use Rattle.std.specs.Prelude.{◌≡◌, ◌++◌, ◌∷◌, [], IfOk, OnOk, flat_map, map, string_bytes};
+ghost use Rattle.std.specs.Prelude.{◌≡◌, ◌++◌, IfOk, OnOk, encode_utf8_all, map, string_bytes};
 ghost use Rattle.serde_json.specs.View.{view};
-ghost use Rattle.robots_warnings.specs.Table.{all_causes};
 ghost use Rattle.robots_audit.specs.Findings.{findings};
 ghost use Rattle.robots_audit.specs.Internal.{audit_value, finding_value, rule_value};
 ghost use Rattle.robots_audit.specs.Json.{list_json};
-ghost use Rattle.robots_audit.specs.Sarif.{all_rules, is_uri_byte, log_json, log_text, place_json, result_json, rule_if_new, rule_json, rules_after, sarif_text, tool_json, uri_byte, uri_of};
+ghost use Rattle.robots_audit.specs.Sarif.{all_rules, begins_with_slash, has_name, help_text, is_uri_byte, literal_char, literal_text, log_json, log_text, message_json, one_slash, place_json, result_json, rule_json, rule_unless_later, rules_of, sarif_text, tool_json, uri_byte, uri_of};
 
 use crate::audit::Audit;
 use crate::command::VERSION;
@@ -22,6 +21,7 @@ pub(crate) struct Rule {
     pub(crate) name: &'static str,
     pub(crate) level: Level,
     pub(crate) text: &'static str,
+    pub(crate) example: &'static str,
 }
 
 /// Whether a byte of a file's name is unchanged in a URI reference.
@@ -42,42 +42,107 @@ fn push_uri_byte(uri: &mut String, byte: u8) -> Result<(), AllocError>
     }
 }
 
+/// Whether a name begins with a slash.
+fn begins_with_slash(name: &[u8]) -> bool
+    ensures { result ≡ begins_with_slash name.now }
+{
+    matches!(name, [b'/', ..])
+}
+
+/// The name with a single slash at its start in place of several.
+fn one_slash<'a>(file: &'a [u8]) -> &'a [u8]
+    ensures { result.now ≡ one_slash file.now }
+{
+    let mut rest = file;
+    while let [b'/', later @ ..] = rest {
+        if !begins_with_slash(later) {
+            return rest;
+        }
+        rest = later;
+    }
+    rest
+}
+
 /// The file with this name, as a URI reference.
 fn uri_of(alloc: Global, file: &[u8]) -> Result<String, AllocError>
     ensures { IfOk result (λ uri. string_bytes uri ≡ uri_of file.now) }
 {
     let mut uri = String::new(alloc);
-    for byte in file {
+    for byte in one_slash(file) {
         push_uri_byte(&mut uri, *byte)?;
     }
     Ok(uri)
 }
 
-/// Appends the rule of a warning, unless the warning before has the same name.
-fn add_rule(rules: &mut Vec<Rule>, before: &str, cause: Cause) -> Result<(), AllocError>
-    ensures { OnOk result (map rule_value rules.new.items
-        ≡ map rule_value rules.old.items ++ rule_if_new before.now cause) }
+/// Appends a character of a text to the message that shows the text.
+fn push_literal_char(message: &mut String, char: char) -> Result<(), AllocError>
+    ensures { OnOk result (string_bytes message.new
+        ≡ string_bytes message.old ++ encode_utf8_all (literal_char char)) }
 {
-    if cause.name() == before {
+    match char {
+        '{' | '}' => {
+            message.push(char)?;
+            message.push(char)
+        }
+        '[' | ']' | '\\' => {
+            message.push('\\')?;
+            message.push(char)
+        }
+        _ => message.push(char),
+    }
+}
+
+/// The message that shows this text.
+fn literal_text(alloc: Global, text: &str) -> Result<String, AllocError>
+    ensures { IfOk result (λ message. string_bytes message ≡ literal_text text.now) }
+{
+    let mut message = String::with_capacity(alloc, text.len())?;
+    for char in text.chars() {
+        push_literal_char(&mut message, char)?;
+    }
+    Ok(message)
+}
+
+/// The message that shows this text, as a JSON object.
+fn message_json(alloc: Global, text: &str) -> Result<Value, AllocError>
+    ensures { IfOk result (λ value. view value ≡ message_json text.now) }
+{
+    let message = literal_text(alloc, text)?;
+    json!(in alloc; { "text": message.as_str() })
+}
+
+/// Whether one of these warnings has this name.
+fn has_name(causes: &[Cause], name: &str) -> bool
+    ensures { result ≡ has_name name.now causes.now }
+{
+    causes.iter().any(|cause| cause.name() == name)
+}
+
+/// Appends the rule of a warning, unless one of these later ones has the same name.
+fn add_rule(rules: &mut Vec<Rule>, cause: Cause, later: &[Cause]) -> Result<(), AllocError>
+    ensures { OnOk result (map rule_value rules.new.items
+        ≡ map rule_value rules.old.items ++ rule_unless_later cause later.now) }
+{
+    if has_name(later, cause.name()) {
         return Ok(());
     }
     Ok(rules.push(Rule {
         name: cause.name(),
         level: cause.level(),
         text: cause.text(),
+        example: cause.example(),
     })?)
 }
 
 /// Appends the rules of these warnings.
-#[tactic(auto, using(crate::proofs::SarifLemmas::rules_next))]
 fn add_rules(rules: &mut Vec<Rule>, causes: &[Cause]) -> Result<(), AllocError>
     ensures { OnOk result (map rule_value rules.new.items
-        ≡ map rule_value rules.old.items ++ rules_after [] causes.now) }
+        ≡ map rule_value rules.old.items ++ rules_of causes.now) }
 {
-    let mut before = "";
-    for cause in causes {
-        add_rule(rules, before, *cause)?;
-        before = cause.name();
+    let mut rest = causes;
+    while let [cause, later @ ..] = rest {
+        add_rule(rules, *cause, later)?;
+        rest = later;
     }
     Ok(())
 }
@@ -91,24 +156,49 @@ fn all_rules(alloc: Global) -> Result<Vec<Rule>, AllocError>
         name: "denied",
         level: Level::Error,
         text: "a crawler may not fetch a URL",
+        example: "# robots_audit FerrisBot /search\nUser-agent: *\nDisallow: /search",
     })?;
     rules.push(Rule {
         name: "rejected",
         level: Level::Error,
         text: "the file is rejected for a crawler",
+        example: "User-agent: *\nDisallow: /\\{4096 a}$",
     })?;
     add_rules(&mut rules, &causes(alloc)?)?;
     Ok(rules)
+}
+
+/// The documentation of a rule with this example.
+#[tactic(auto, unfolding(crate::specs::Sarif::help_text))]
+fn help_text(alloc: Global, example: &str) -> Result<String, AllocError>
+    ensures { IfOk result (λ text. string_bytes text ≡ help_text example.now) }
+{
+    let mut text = String::from_str(alloc, "for example:\n")?;
+    text.push_str(example)?;
+    Ok(text)
+}
+
+/// The same as a JSON object.
+fn help_json(alloc: Global, example: &str) -> Result<Value, AllocError>
+    ensures { IfOk result (λ value. view value ≡ message_json (help_text example.now)) }
+{
+    let text = help_text(alloc, example)?;
+    message_json(alloc, &text)
 }
 
 /// A rule as a JSON object.
 fn rule_json(alloc: Global, rule: &Rule) -> Result<Value, AllocError>
     ensures { IfOk result (λ value. view value ≡ rule_json (rule_value rule.now)) }
 {
+    let full_description = message_json(alloc, rule.text)?;
+    let help = help_json(alloc, rule.example)?;
+    let short_description = message_json(alloc, rule.text)?;
     json!(in alloc; {
         "defaultConfiguration": { "level": rule.level.word() },
+        "fullDescription": full_description,
+        "help": help,
         "id": rule.name,
-        "shortDescription": { "text": rule.text },
+        "shortDescription": short_description,
     })
 }
 
@@ -123,17 +213,14 @@ fn rules_json(alloc: Global, rules: &[Rule]) -> Result<Value, AllocError>
     Ok(Value::Array(list))
 }
 
-/// The file, and the line if there is one.
+/// The file and the line, or the first one for a finding without a line.
 fn place_json(alloc: Global, uri: &str, line: Option<usize>) -> Result<Value, AllocError>
     ensures { IfOk result (λ value. view value ≡ place_json uri.now line) }
 {
-    match line {
-        Some(line) => json!(in alloc; {
-            "artifactLocation": { "uri": uri },
-            "region": { "startLine": line },
-        }),
-        None => json!(in alloc; { "artifactLocation": { "uri": uri } }),
-    }
+    json!(in alloc; {
+        "artifactLocation": { "uri": uri },
+        "region": { "startLine": line.unwrap_or(1) },
+    })
 }
 
 /// A finding as a JSON object.
@@ -141,10 +228,11 @@ fn result_json(alloc: Global, uri: &str, finding: &Finding) -> Result<Value, All
     ensures { IfOk result (λ value. view value ≡ result_json uri.now (finding_value finding.now)) }
 {
     let place = place_json(alloc, uri, finding.line)?;
+    let message = message_json(alloc, &finding.message)?;
     json!(in alloc; {
         "level": finding.level.word(),
         "locations": [{ "physicalLocation": place }],
-        "message": { "text": finding.message.as_str() },
+        "message": message,
         "ruleId": finding.name,
     })
 }

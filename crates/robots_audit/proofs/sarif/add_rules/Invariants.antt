@@ -1,14 +1,12 @@
-use Rattle.std.proofs.Common.{◌≡◌, ◌++◌, [], drop, map}
-use denote.Shadow.{shadow}
-use denote.Text.{Utf8}
+use Rattle.std.proofs.Common.{◌≡◌, ◌++◌, length, map}
 use Rattle.robots_audit.specs.Internal.{rule_value}
-use Rattle.robots_audit.specs.Sarif.{rules_after}
+use Rattle.robots_audit.specs.Sarif.{rules_of}
 use Rattle.robots_audit.proofs.sarif.add_rules.Given as goal
 
-abbrev pub invariant-loop-cause : goal.invariant-loop-cause
-invariant-loop-cause l = record {
-  text : shadow (Utf8 l.before);
-  rules :
-      map rule_value l.rules.items ++ rules_after l.before (drop l.cause-index l.causes)
-      ≡ map rule_value l.fn.rules.items ++ rules_after [] l.causes;
-}
+abbrev pub invariant-loop-rest : goal.invariant-loop-rest
+invariant-loop-rest l =
+    map rule_value l.rules.items ++ rules_of l.rest
+    ≡ map rule_value l.fn.rules.items ++ rules_of l.causes
+
+abbrev pub decreases-loop-rest : goal.decreases-loop-rest
+decreases-loop-rest l = length l.rest

@@ -1,0 +1,9 @@
+-- In the SARIF log, each name of a warning has one rule.
+use Rattle.std.proofs.Common.{◌≡◌, ◌==◌, true, refl}
+use Rattle.std.specs.List.{list_all}
+use Rattle.robots_warnings.specs.Table.{all_causes, name_of}
+use Rattle.robots_audit.specs.Sarif.{rules_named}
+
+pub one_rule_each : list_all (λ cause. rules_named (name_of cause) == 1) all_causes ≡ true
+unfolding all_causes name_of
+one_rule_each = refl
