@@ -112,15 +112,16 @@ def warning_line(warning, file="robots.txt"):
 
 
 def warning_lines(warnings, file="robots.txt"):
-    """The lines for such warnings: of each name the first twenty, and then how many more there are."""
+    """The lines for such warnings: of each name and level the first twenty, and then how many more there are."""
     shown, counts = [], {}
     for warning in warnings:
-        name = re.sub(r"^\d+ ", "", warning).split()[0]
-        counts[name] = counts.get(name, 0) + 1
-        shown += [warning_line(warning, file)] * (counts[name] <= 20)
-        if counts[name] == 21:  # the numbers are in the order of these
-            counts[name] = counts.pop(name)
-    more = [f"{file}: and {count - 20} more [{name}]\n" for name, count in counts.items() if count > 20]
+        name, _, detail = re.sub(r"^\d+ ", "", warning).partition(" ")
+        kind = level_and_text(name, detail)[0], name
+        counts[kind] = counts.get(kind, 0) + 1
+        shown += [warning_line(warning, file)] * (counts[kind] <= 20)
+        if counts[kind] == 21:  # the numbers are in the order of these
+            counts[kind] = counts.pop(kind)
+    more = [f"{file}: {level}: and {count - 20} more [{name}]\n" for (level, name), count in counts.items() if count > 20]
     return "".join(shown + more)
 
 

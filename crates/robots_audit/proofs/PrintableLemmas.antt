@@ -26,7 +26,7 @@ use Rattle.robots_audit.specs.Rows.{value_text, word_and_value, word_width}
 use Rattle.robots_io.specs.Sanitize.{IsPrintable}
 use Rattle.robots_warnings.specs.Warnings.{WarningValue, warning_line}
 use Rattle.robots_audit.proofs.JsonLemmas.{kind_printable}
-use Rattle.robots_warnings.proofs.PrintableLemmas.{line_printable, names_printable}
+use Rattle.robots_warnings.proofs.PrintableLemmas.{line_printable, names_printable, word_printable}
 use Rattle.robots_io.proofs.SanitizeLemmas.{append_printable, ascii_printable, blanks_printable}
 use Rattle.robots_io.proofs.SanitizeLemmas.{decimal_printable}
 use Rattle.robots_io.proofs.SanitizeLemmas.{ended_printable, nil_printable, sanitized_printable}
@@ -59,8 +59,9 @@ more_printable file warnings warning =
       decimal_printable true,
       names_printable,
       sanitized_printable,
+      word_printable,
     )
-    depth 9
+    depth 12
 
 each_more : (file : List ℕ) (warnings others : List WarningValue)
     → Each IsPrintable (map (more_line file) (map (more_of warnings) others))

@@ -1,44 +1,64 @@
--- Which warnings the text lists: the first twenty of each name. For the others it has their number.
-use Rattle.std.specs.Prelude.{ℕ, ◌-◌, ◌==◌, Bool, List, [], ◌∷◌, ◌++◌, bytes_eq, count_by, if◌then◌else◌, map}
+-- Which warnings the text lists: the first twenty of each name and level. For the others it has their number.
+use Rattle.std.specs.Prelude.{ℕ, ◌-◌, ◌==◌, ◌&&◌, Bool, true, false, List, [], ◌∷◌, ◌++◌, bytes_eq, count_by}
+use Rattle.std.specs.Prelude.{if◌then◌else◌, map}
 use Rattle.std.specs.Bool.{nat_lt}
-use Rattle.robots_warnings.specs.Table.{name_of}
+use Rattle.robots_warnings.specs.declared.level.Level.{Level}
+use Rattle.robots_warnings.specs.declared.level.Level.TheVariants.{Error, Note, Warning}
+use Rattle.robots_warnings.specs.Table.{level_of, name_of}
 use Rattle.robots_warnings.specs.Warnings.{WarningValue}
 
--- how many warnings of one name are listed
+-- how many warnings of one name and level are listed
 abbrev pub most : ℕ
 most = 20
 
--- how many of these warnings have this name
-abbrev pub count_named : List ℕ → List WarningValue → ℕ
-count_named name warnings = count_by (λ (warning : WarningValue). bytes_eq (name_of warning.cause) name) warnings
+abbrev pub is_same_level : Level → Level → Bool
+is_same_level Error Error = true
+is_same_level Warning Warning = true
+is_same_level Note Note = true
+is_same_level one other = false
 
--- those of the warnings for which the number of warnings with the same name before them passes this test; the
--- warnings `before` precede all of them
+-- the warning has this name and this level
+abbrev pub is_one_of : List ℕ → Level → WarningValue → Bool
+is_one_of name level warning =
+    bytes_eq (name_of warning.cause) name && is_same_level (level_of warning.cause) level
+
+-- how many of these warnings have this name and this level
+abbrev pub count_of : List ℕ → Level → List WarningValue → ℕ
+count_of name level warnings = count_by (is_one_of name level) warnings
+
+-- how many of these warnings have the name and the level of this one
+abbrev pub count_like : WarningValue → List WarningValue → ℕ
+count_like warning warnings = count_of (name_of warning.cause) (level_of warning.cause) warnings
+
+-- those of the warnings for which the number of warnings like them before them passes this test; the warnings
+-- `before` precede all of them
 abbrev pub placed : (ℕ → Bool) → List WarningValue → List WarningValue → List WarningValue
 placed test before [] = []
 placed test before (warning ∷ warnings) =
-    (if test (count_named (name_of warning.cause) before) then warning ∷ [] else [])
+    (if test (count_like warning before) then warning ∷ [] else [])
     ++ placed test (before ++ warning ∷ []) warnings
 
--- the first twenty warnings of each name
+-- the first twenty warnings of each name and level
 abbrev pub listed : List WarningValue → List WarningValue
 listed warnings = placed (λ place. nat_lt place most) [] warnings
 
--- the first warning of each name that isn't listed
+-- the first warning of each name and level that isn't listed
 abbrev pub unlisted : List WarningValue → List WarningValue
 unlisted warnings = placed (λ place. place == most) [] warnings
 
--- a name, and how many warnings with it aren't listed
+-- a name and a level, and how many warnings with both aren't listed
 pub record MoreValue : Type 0 where
   pub name : List ℕ
+  pub level : Level
   pub number : ℕ
 
 abbrev pub more_of : List WarningValue → WarningValue → MoreValue
 more_of warnings warning = record {
   name = name_of warning.cause;
-  number = count_named (name_of warning.cause) warnings - most;
+  level = level_of warning.cause;
+  number = count_like warning warnings - most;
 }
 
--- each name with more than twenty warnings
+-- each name and level with more than twenty warnings
 abbrev pub more : List WarningValue → List MoreValue
 more warnings = map (more_of warnings) (unlisted warnings)

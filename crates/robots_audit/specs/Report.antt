@@ -10,6 +10,7 @@ use Rattle.robots_audit.specs.Delay.{delay_line}
 use Rattle.robots_audit.specs.Rows.{rows}
 use Rattle.robots_audit.specs.Listed.{MoreValue, listed, more}
 use Rattle.robots_io.specs.Sanitize.{sanitized}
+use Rattle.robots_warnings.specs.Level.{level_word}
 use Rattle.robots_warnings.specs.Warnings.{WarningValue, warning_line}
 
 -- the file names neither the crawler nor `*`
@@ -73,12 +74,14 @@ abbrev pub warning_lines : List ℕ → List WarningValue → List (List ℕ)
 warning_lines file warnings = map (warning_line file) warnings
 
 -- how many more warnings there are, up to their name
-abbrev pub more_front : List ℕ → ℕ → List ℕ
-more_front file number = sanitized file ++ codes ": and " ++ decimal number ++ codes " more ["
+abbrev pub more_front : List ℕ → MoreValue → List ℕ
+more_front file more =
+    sanitized file ++ codes ": " ++ level_word more.level ++ codes ": and " ++ decimal more.number
+    ++ codes " more ["
 
--- how many more warnings have this name, such as `robots.txt: and 42 more [unrecognized-line]`
+-- how many more warnings have this level and name, as in `robots.txt: warning: and 42 more [unrecognized-line]`
 abbrev pub more_line : List ℕ → MoreValue → List ℕ
-more_line file more = more_front file more.number ++ (more.name ++ codes "]")
+more_line file more = more_front file more ++ (more.name ++ codes "]")
 
 -- the warnings that are listed, and how many more there are
 abbrev pub listed_lines : List ℕ → List WarningValue → List (List ℕ)

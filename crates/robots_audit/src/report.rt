@@ -218,21 +218,24 @@ fn warning_lines(alloc: Global, file: &str, warnings: &[Warning<'_>]) -> Result<
 }
 
 /// Appends how many more warnings there are about a file, up to their name.
-fn push_more_front(text: &mut String, file: &str, number: usize) -> Result<(), AllocError>
-    ensures { OnOk result (string_bytes text.new ≡ string_bytes text.old ++ more_front file.now number) }
+fn push_more_front(text: &mut String, file: &str, more: &More) -> Result<(), AllocError>
+    ensures { OnOk result (string_bytes text.new
+        ≡ string_bytes text.old ++ more_front file.now (more_value more.now)) }
 {
     push_sanitized(text, file.as_bytes())?;
+    text.push_str(": ")?;
+    text.push_str(more.level.word())?;
     text.push_str(": and ")?;
-    push_number(text, number)?;
+    push_number(text, more.number)?;
     text.push_str(" more [")
 }
 
-/// Appends how many more warnings about a file have a name.
+/// Appends how many more warnings about a file have a level and a name.
 fn push_more_line(text: &mut String, file: &str, more: &More) -> Result<(), AllocError>
     ensures { OnOk result (string_bytes text.new ≡ string_bytes text.old
         ++ ended (more_line file.now (more_value more.now) ∷ [])) }
 {
-    push_more_front(text, file, more.number)?;
+    push_more_front(text, file, more)?;
     push_line(text, more.name, "]")
 }
 

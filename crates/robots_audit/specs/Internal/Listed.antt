@@ -5,16 +5,35 @@ use Rattle.std.specs.Borrow.{Bor}
 use Rattle.std.specs.Cmp.Lexicographic.{slice_cmp}
 use Rattle.std.specs.Ordering.{nat_cmp}
 use Rattle.robots_audit.specs.declared.listed.More.{More}
-use Rattle.robots_audit.specs.Listed.{MoreValue, count_named}
+use Rattle.robots_audit.specs.declared.listed.Numbers.{Numbers}
+use Rattle.robots_audit.specs.Listed.{MoreValue, count_of}
+use Rattle.robots_warnings.specs.declared.level.Level.{Level}
+use Rattle.robots_warnings.specs.declared.level.Level.TheVariants.{Error, Note, Warning}
 use Rattle.robots_warnings.specs.Warnings.{WarningValue}
 
 abbrev pub more_value : More → MoreValue
-more_value more = record { name = more.name.now; number = more.number }
+more_value more = record { name = more.name.now; level = more.level; number = more.number }
 
--- the number of a name in the map; zero if it isn't there
-abbrev pub count_of : BTreeMap (Bor (List ℕ)) ℕ → List ℕ → ℕ
-count_of counts name = unwrap_or (get_by (λ key. slice_cmp nat_cmp name key.now) counts) 0
+-- the number of warnings at this level
+abbrev pub number_at : Numbers → Level → ℕ
+number_at numbers Error = numbers.errors
+number_at numbers Warning = numbers.warnings
+number_at numbers Note = numbers.notes
 
--- the map has the number of these warnings with each name
-pub record AreCounts (counts : BTreeMap (Bor (List ℕ)) ℕ) (warnings : List WarningValue) : Type 0 where
-  pub each : (name : List ℕ) → count_of counts name ≡ count_named name warnings
+-- the numbers with another one at this level
+abbrev pub with_number : Numbers → Level → ℕ → Numbers
+with_number numbers Error number = record numbers { errors = number }
+with_number numbers Warning number = record numbers { warnings = number }
+with_number numbers Note number = record numbers { notes = number }
+
+abbrev pub no_numbers : Numbers
+no_numbers = record { errors = 0; warnings = 0; notes = 0 }
+
+-- the numbers of a name in the map; zeros if it isn't there
+abbrev pub numbers_of : BTreeMap (Bor (List ℕ)) Numbers → List ℕ → Numbers
+numbers_of counts name = unwrap_or (get_by (λ key. slice_cmp nat_cmp name key.now) counts) no_numbers
+
+-- the map has the number of these warnings with each name and level
+pub record AreCounts (counts : BTreeMap (Bor (List ℕ)) Numbers) (warnings : List WarningValue) : Type 0 where
+  pub each : (name : List ℕ) (level : Level)
+      → number_at (numbers_of counts name) level ≡ count_of name level warnings
