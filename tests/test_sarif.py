@@ -83,10 +83,10 @@ def test_schema(args):
 
 
 def test_results():
-    """What isn't about a line is at the first one."""
+    """Errors come first, then what crawlers may not fetch, and then other warnings. What isn't about a line is at the first."""
     assert list(results(log("Ferris", "/b", "/c", status=1))) == [
-        ("error", "denied", "Ferris may not fetch /b", "robots.txt", 3),
         ("error", "missing-slash", message("missing-slash"), "robots.txt", 2),
+        ("error", "denied", "Ferris may not fetch /b", "robots.txt", 3),
         ("note", "clean-param-line", message("clean-param-line"), "robots.txt", 4),
         ("warning", "noindex-line", message("noindex-line"), "robots.txt", 5),
     ]

@@ -1,6 +1,6 @@
 -- The texts of findings contain no control or bidirectional-formatting characters other than LF.
-use Rattle.std.proofs.Common.{ℕ, Bool, true, false, List, [], ◌∷◌, Option, Some, None, codes, flat_map}
-use Rattle.std.proofs.Common.{map, refl}
+use Rattle.std.proofs.Common.{ℕ, Bool, true, false, List, [], ◌∷◌, ◌++◌, Option, Some, None, codes, flat_map}
+use Rattle.std.proofs.Common.{refl}
 use Rattle.std.specs.Prelude.{if◌then◌else◌}
 use Rattle.std.specs.List.{AllByRecursion as Each}
 use Rattle.texting_robots.proofs.TrimLemmas.{each_append}
@@ -10,8 +10,8 @@ use Rattle.robots_io.proofs.SanitizeLemmas.{sanitized_printable}
 use Rattle.robots_warnings.specs.Warnings.{WarningValue}
 use Rattle.robots_warnings.proofs.PrintableLemmas.{names_printable, text_printable}
 use Rattle.robots_audit.specs.Audit.{AgentValue, AuditValue, VerdictValue}
-use Rattle.robots_audit.specs.Findings.{FindingValue, agent_findings, denied, denials, findings, rejections}
-use Rattle.robots_audit.specs.Findings.{warning_finding}
+use Rattle.robots_audit.specs.Findings.{FindingValue, agent_findings, denied, denials, finding_in_part, findings}
+use Rattle.robots_audit.specs.Findings.{is_in_part, rejections, warning_finding, warning_findings}
 
 abbrev pub HasPrintableTexts : FindingValue → Type 0
 HasPrintableTexts finding = IsPrintable finding.name × IsPrintable finding.message
@@ -58,12 +58,24 @@ agents_have (agent ∷ agents) =
     each_append HasPrintableTexts (agent_findings agent) (flat_map agent_findings agents) (agent_has agent)
     (agents_have agents)
 
-warnings_have : (warnings : List WarningValue) → Each HasPrintableTexts (map warning_finding warnings)
-warnings_have [] = tt
-warnings_have (warning ∷ warnings) =
-    ((names_printable warning.cause, text_printable warning), warnings_have warnings)
+part_has : (errors : Bool) (warning : WarningValue) → Each HasPrintableTexts (finding_in_part errors warning)
+part_has errors warning = either (is_in_part errors warning)
+  where
+    either : (is : Bool) → Each HasPrintableTexts (if is then warning_finding warning ∷ [] else [])
+    either true = ((names_printable warning.cause, text_printable warning), tt)
+    either false = tt
+
+warnings_have : (errors : Bool) (warnings : List WarningValue)
+    → Each HasPrintableTexts (warning_findings errors warnings)
+warnings_have errors [] = tt
+warnings_have errors (warning ∷ warnings) =
+    each_append HasPrintableTexts (finding_in_part errors warning) (warning_findings errors warnings)
+    (part_has errors warning) (warnings_have errors warnings)
 
 pub findings_have : (audit : AuditValue) → Each HasPrintableTexts (findings audit)
 findings_have audit =
-    each_append HasPrintableTexts (flat_map agent_findings audit.agents) (map warning_finding audit.warnings)
-    (agents_have audit.agents) (warnings_have audit.warnings)
+    let errors = warning_findings true audit.warnings in
+    let agents = flat_map agent_findings audit.agents in
+    each_append HasPrintableTexts (errors ++ agents) (warning_findings false audit.warnings)
+    (each_append HasPrintableTexts errors agents (warnings_have true audit.warnings) (agents_have audit.agents))
+    (warnings_have false audit.warnings)

@@ -1,9 +1,10 @@
 -- What an audit found, as one list, for formats that don't distinguish verdicts and warnings.
-use Rattle.std.specs.Prelude.{ℕ, List, [], ◌∷◌, ◌++◌, Option, Some, None, codes, flat_map}
-use Rattle.std.specs.Prelude.{if◌then◌else◌, map}
+use Rattle.std.specs.Prelude.{ℕ, Bool, true, false, not, List, [], ◌∷◌, ◌++◌, Option, Some, None, codes}
+use Rattle.std.specs.Prelude.{flat_map, if◌then◌else◌}
 use Rattle.robots_io.specs.Sanitize.{sanitized}
 use Rattle.robots_warnings.specs.declared.level.Level.{Level}
 use Rattle.robots_warnings.specs.declared.level.Level.TheVariants.{Error}
+use Rattle.robots_warnings.specs.Level.{reaches}
 use Rattle.robots_warnings.specs.Table.{level_of, name_of}
 use Rattle.robots_warnings.specs.Warnings.{WarningValue, warning_text}
 use Rattle.robots_audit.specs.Audit.{AgentValue, AuditValue, VerdictValue}
@@ -51,6 +52,20 @@ warning_finding warning = record {
   message = warning_text warning;
 }
 
--- for each crawler why the file is rejected or which URLs are denied, and then the warnings
+-- a warning is in the part with the errors, or in the one with the others
+abbrev pub is_in_part : (errors : Bool) → WarningValue → Bool
+is_in_part true warning = reaches (level_of warning.cause) Error
+is_in_part false warning = not (reaches (level_of warning.cause) Error)
+
+abbrev pub finding_in_part : (errors : Bool) → WarningValue → List FindingValue
+finding_in_part errors warning = if is_in_part errors warning then warning_finding warning ∷ [] else []
+
+abbrev pub warning_findings : (errors : Bool) → List WarningValue → List FindingValue
+warning_findings errors warnings = flat_map (finding_in_part errors) warnings
+
+-- first the errors among the warnings, as a service may show only the first findings; then for each crawler why the
+-- file is rejected or which URLs are denied; and then the other warnings
 abbrev pub findings : AuditValue → List FindingValue
-findings audit = flat_map agent_findings audit.agents ++ map warning_finding audit.warnings
+findings audit =
+    warning_findings true audit.warnings ++ flat_map agent_findings audit.agents
+    ++ warning_findings false audit.warnings

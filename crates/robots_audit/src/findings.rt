@@ -2,7 +2,7 @@
 ghost use Rattle.std.specs.Prelude.{◌≡◌, ◌++◌, ◌∷◌, [], IfOk, OnOk, codes, flat_map, map, string_bytes};
 ghost use Rattle.robots_io.specs.Sanitize.{sanitized};
 ghost use Rattle.robots_warnings.specs.Internal.{warning_value};
-ghost use Rattle.robots_audit.specs.Findings.{agent_findings, denials, denied_text, findings, rejections, warning_finding};
+ghost use Rattle.robots_audit.specs.Findings.{agent_findings, denials, denied_text, finding_in_part, findings, is_in_part, rejections, warning_finding, warning_findings};
 ghost use Rattle.robots_audit.specs.Internal.{agent_value, audit_value, finding_value, verdict_value};
 
 use crate::audit::{AgentAudit, Audit, Verdict};
@@ -146,27 +146,54 @@ fn add_warning(alloc: Global, found: &mut Findings, warning: &Warning<'_>) -> Re
     })?)
 }
 
-/// Adds the warnings.
-fn add_warnings(
+/// Whether a warning is in the part with the errors, or in the one with the others.
+fn is_in_part(errors: bool, warning: &Warning<'_>) -> bool
+    ensures { result ≡ is_in_part errors (warning_value warning.now) }
+{
+    let is_error = warning.cause.level().reaches(Level::Error);
+    if errors { is_error } else { !is_error }
+}
+
+/// Adds a warning if it is in this part.
+fn add_in_part(
     alloc: Global,
     found: &mut Findings,
-    warnings: &[Warning<'_>],
+    errors: bool,
+    warning: &Warning<'_>,
 ) -> Result<(), AllocError>
     ensures { OnOk result (map finding_value found.new.items
-        ≡ map finding_value found.old.items ++ map warning_finding (map warning_value warnings.now)) }
+        ≡ map finding_value found.old.items ++ finding_in_part errors (warning_value warning.now)) }
 {
-    for warning in warnings {
+    if is_in_part(errors, warning) {
         add_warning(alloc, found, warning)?;
     }
     Ok(())
 }
 
-/// What an audit found: for each crawler why the file is rejected or which URLs are denied, and then the warnings.
+/// Adds the warnings that are errors, or the others.
+fn add_warnings(
+    alloc: Global,
+    found: &mut Findings,
+    errors: bool,
+    warnings: &[Warning<'_>],
+) -> Result<(), AllocError>
+    ensures { OnOk result (map finding_value found.new.items
+        ≡ map finding_value found.old.items ++ warning_findings errors (map warning_value warnings.now)) }
+{
+    for warning in warnings {
+        add_in_part(alloc, found, errors, warning)?;
+    }
+    Ok(())
+}
+
+/// What an audit found: the errors among the warnings; for each crawler why the file is rejected or which URLs are denied;
+/// and then the other warnings.
 pub(crate) fn findings_of(alloc: Global, audit: &Audit<'_, '_>) -> Result<Findings, AllocError>
     ensures { IfOk result (λ found. map finding_value found.items ≡ findings (audit_value audit.now)) }
 {
     let mut found = Vec::new(alloc);
+    add_warnings(alloc, &mut found, true, &audit.warnings)?;
     add_agents(alloc, &mut found, &audit.agents)?;
-    add_warnings(alloc, &mut found, &audit.warnings)?;
+    add_warnings(alloc, &mut found, false, &audit.warnings)?;
     Ok(found)
 }

@@ -1,6 +1,6 @@
 use Rattle.std.proofs.Common.{◌≡◌, ◌++◌, map, take}
 use Rattle.robots_warnings.specs.Internal.{warning_value}
-use Rattle.robots_audit.specs.Findings.{warning_finding}
+use Rattle.robots_audit.specs.Findings.{warning_findings}
 use Rattle.robots_audit.specs.Internal.{finding_value}
 use Rattle.robots_audit.proofs.findings.add_warnings.Given as goal
 
@@ -8,4 +8,4 @@ abbrev pub invariant-loop-warning : goal.invariant-loop-warning
 invariant-loop-warning l =
     map finding_value l.found.items
     ≡ map finding_value l.fn.found.items
-    ++ map warning_finding (map warning_value (take l.warning-index l.warnings))
+    ++ warning_findings l.errors (map warning_value (take l.warning-index l.warnings))
