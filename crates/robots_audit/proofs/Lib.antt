@@ -8,7 +8,9 @@ pub mod ComparePrintableLemmas
 pub mod DelayLemmas
 pub mod DeniedLemmas
 pub mod ExpectLemmas
+pub mod ExpectPrintableLemmas
 pub mod ExpectationsLemmas
+pub mod ExplainPrintableLemmas
 pub mod FindingLemmas
 pub mod GithubLemmas
 pub mod HtmlLemmas

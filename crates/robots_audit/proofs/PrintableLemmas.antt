@@ -43,7 +43,7 @@ pub each_flat : {X : Type 0} (f : X → List (List ℕ)) → ((x : X) → Each I
 each_flat f are [] = tt
 each_flat f are (x ∷ xs) = each_append IsPrintable (f x) (flat_map f xs) (are x) (each_flat f are xs)
 
-either_printable : (b : Bool) (one two : List ℕ) → IsPrintable one → IsPrintable two
+pub either_printable : (b : Bool) (one two : List ℕ) → IsPrintable one → IsPrintable two
     → IsPrintable (if b then one else two)
 either_printable true one two is too = is
 either_printable false one two is too = too

@@ -18,6 +18,8 @@ ghost use Rattle.robots_html.specs.Reader.{read_document};
 ghost use Rattle.robots_audit.specs.Audit.{RequestValue, AuditValue, IsAuditOf};
 ghost use Rattle.robots_audit.specs.Page.{page};
 ghost use Rattle.robots_audit.specs.Compare.{ComparedValue, IsCompared, has_same_rules, is_unchanged, report_lines, rules_only_in};
+ghost use Rattle.robots_audit.specs.Expectations.{IsReport};
+ghost use Rattle.robots_audit.specs.Explain.{explanation, list_text};
 ghost use Rattle.robots_io.specs.Lines.{ended};
 ghost use Rattle.robots_audit.specs.Findings.{FindingValue};
 ghost use Rattle.robots_audit.specs.Github.{command, is_in_line, is_in_property, property_text};
@@ -53,6 +55,14 @@ pub fn pages_are_read_back()
 /// Nor does the report of `--compare` contain such characters.
 pub fn no_comparison_steers_a_terminal()
     ensures { (compared : List ComparedValue) → IsPrintable (ended (report_lines compared)) }
+{}
+
+/// Nor do the report of `--expect` and the texts of `--list-warnings` and `--explain`.
+pub fn no_other_report_steers_a_terminal()
+    ensures expected { (name text file report : List ℕ) (all_hold : Bool) → IsReport name text file report all_hold
+        → IsPrintable report }
+    ensures list { IsPrintable list_text }
+    ensures explained { (name : List ℕ) → IsPrintable (explanation name) }
 {}
 
 /// In a workflow command for GitHub, whatever the name of the file and the texts are: no text ends the line, and no text

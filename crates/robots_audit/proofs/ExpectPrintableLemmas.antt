@@ -1,0 +1,61 @@
+-- The report on expectations contains no control or bidirectional-formatting characters other than LF.
+use Rattle.std.proofs.Common.{ℕ, Bool, true, false, List, ◌++◌, Option, Some, None, bytes_eq, codes, decimal}
+use Rattle.std.proofs.Common.{filter, map, refl, subst, sym}
+use Rattle.texting_robots.specs.Callers.{prepared, robots_file}
+use Rattle.robots_io.specs.Lines.{ended}
+use Rattle.robots_io.specs.Sanitize.{IsPrintable, sanitized}
+use Rattle.robots_io.proofs.SanitizeLemmas.{append_printable, ascii_printable, decimal_printable}
+use Rattle.robots_io.proofs.SanitizeLemmas.{ended_printable, sanitized_printable}
+use Rattle.robots_audit.specs.declared.expectations.Finding.{Finding}
+use Rattle.robots_audit.specs.declared.expectations.Finding.TheVariants.{Decided, Rejected}
+use Rattle.robots_audit.specs.Expect.{ExpectationValue}
+use Rattle.robots_audit.specs.Expectations.{CheckedValue, IsReport, decision_text, demand_text, demand_word}
+use Rattle.robots_audit.specs.Expectations.{failure_front, failure_line, fails, finding_text, place_text}
+use Rattle.robots_audit.specs.Expectations.{unmatched_text}
+use Rattle.robots_audit.proofs.PrintableLemmas.{each_map, either_printable}
+
+demand_word_printable : (allowed : Bool) → IsPrintable (demand_word allowed)
+demand_word_printable true = ascii_printable true (demand_word true) refl
+demand_word_printable false = ascii_printable true (demand_word false) refl
+
+front_printable : (name : List ℕ) (expectation : ExpectationValue) → IsPrintable (failure_front name expectation)
+front_printable name expectation =
+    let place = place_text name expectation.number in
+    let placed : IsPrintable place =
+    search (append_printable true, ascii_printable true, decimal_printable true, sanitized_printable) in
+    let demanded : IsPrintable (demand_text expectation) =
+    search (append_printable true, demand_word_printable, sanitized_printable) in
+    append_printable true (place ++ codes ": ") (demand_text expectation)
+    (append_printable true place (codes ": ") placed (ascii_printable true (codes ": ") refl)) demanded
+
+decision_printable : (url : List ℕ) (allowed : Bool) (line : Option ℕ) → IsPrintable (decision_text url allowed line)
+decision_printable url allowed None =
+    either_printable (bytes_eq (prepared url) robots_file) (codes "/robots.txt is always allowed")
+    (codes "no rule matches it") (ascii_printable true (codes "/robots.txt is always allowed") refl)
+    (ascii_printable true (codes "no rule matches it") refl)
+decision_printable url true (Some line) =
+    search (append_printable true, ascii_printable true, decimal_printable true)
+decision_printable url false (Some line) =
+    search (append_printable true, ascii_printable true, decimal_printable true)
+
+finding_printable : (agent url : List ℕ) (finding : Finding) → IsPrintable (finding_text agent url finding)
+finding_printable agent url (Rejected line) =
+    search (append_printable true, ascii_printable true, decimal_printable true, sanitized_printable)
+finding_printable agent url (Decided decision) = decision_printable url decision.allowed decision.line
+
+failure_printable : (name : List ℕ) (checked : CheckedValue) → IsPrintable (failure_line name checked)
+failure_printable name checked =
+    let expectation = checked.expectation in
+    let front = failure_front name expectation in
+    let finding = finding_text expectation.agent expectation.url checked.finding in
+    append_printable true (front ++ codes ", but ") finding
+    (append_printable true front (codes ", but ") (front_printable name expectation)
+    (ascii_printable true (codes ", but ") refl))
+    (finding_printable expectation.agent expectation.url checked.finding)
+
+pub expect_printable : (name text file report : List ℕ) (all_hold : Bool)
+    → IsReport name text file report all_hold → IsPrintable report
+expect_printable name text file report all_hold is =
+    let failing = filter fails is.checked in
+    subst IsPrintable (sym is.whole)
+    (ended_printable (map (failure_line name) failing) (each_map (failure_line name) (failure_printable name) failing))
