@@ -1,5 +1,6 @@
-"""The hook, the Makefile rule and the steps of the workflow in docs/CI.md, run on a repository with a good and with a bad robots.txt."""
+"""The hook, the Makefile rule and the steps of the workflows in docs/CI.md, run on a repository with a good and with a bad robots.txt."""
 
+import json
 import os
 import re
 import subprocess
@@ -15,10 +16,16 @@ BAD = {
 }
 
 
-def block(language):
-    """The only code block of the document in this language."""
-    (text,) = re.findall(rf"^```{language}\n(.*?)^```$", DOCUMENTS["docs/CI.md"], re.M | re.S)
-    return text
+def blocks(language):
+    """The code blocks of the document in this language."""
+    return re.findall(rf"^```{language}\n(.*?)^```$", DOCUMENTS["docs/CI.md"], re.M | re.S)
+
+
+def commands(workflow):
+    """The commands of each step of a workflow that has some, and whether the step runs after one that failed."""
+    steps = re.findall(r"^ {6}- (.*\n(?: {8}.*\n)*)", workflow, re.M)
+    runs = [re.match(r"run: (?:\|\n((?: {10}.*\n)*)|(.*)\n)", step) for step in steps]
+    return [(re.sub("^ {10}", "", run[1] or run[2], flags=re.M), "\n        if: always()\n" in step) for step, run in zip(steps, runs) if run]
 
 
 @pytest.fixture
@@ -32,30 +39,36 @@ def folder(tmp_path):
     return tmp_path
 
 
-def ran(folder, command):
-    """The exit status of a shell command in the folder."""
+def ended(folder, command):
+    """What a shell command in the folder ended with."""
     given = {"PATH": f"{folder / 'tools'}:{os.environ['PATH']}", "HOME": str(folder)}
     given |= {f"GIT_{who}_{what}": "a@b.example" for who in ("AUTHOR", "COMMITTER") for what in ("NAME", "EMAIL")}
-    return subprocess.run(command, shell=True, cwd=folder, env=given, capture_output=True, timeout=60).returncode
+    return subprocess.run(["bash", "-ec", command], cwd=folder, env=given, capture_output=True, timeout=60, text=True)
+
+
+def ran(folder, command):
+    """The exit status of a shell command in the folder."""
+    return ended(folder, command).returncode
 
 
 def makefile(folder):
-    (folder / "Makefile").write_text(block("make"))
+    (folder / "Makefile").write_text(blocks("make")[0])
     return ran(folder, "make check-robots")
 
 
 def hook(folder):
     path = folder / ".git/hooks/pre-commit"
     path.parent.mkdir(exist_ok=True)
-    path.write_text(block("sh"))
+    path.write_text(blocks("sh")[0])
     path.chmod(0o755)
     return ran(folder, "git add robots.txt && git commit -qm robots")
 
 
 def workflow(folder):
-    steps = re.findall(r"^ +- run: (.*)$", block("yaml"), re.M)
-    assert len(steps) == 2
-    return ran(folder, " && ".join(steps))
+    """The first status of a step that isn't 0. Each of the later steps runs all the same, as it says."""
+    expectations, *others = commands(blocks("yaml")[0])
+    assert not expectations[1] and len(others) == 2 and all(always for _, always in others)
+    return max([ran(folder, command) for command, _ in (expectations, *others)])
 
 
 @pytest.mark.parametrize("guard", [makefile, hook, workflow])
@@ -81,3 +94,33 @@ def test_hook_checks_what_is_committed(folder):
 def test_hook_stops_a_commit_without_robots_txt(folder):
     assert hook(folder) == 0
     assert ran(folder, "git rm -q robots.txt && git commit -qm gone") != 0
+
+
+def test_workflow_reports_what_changes(folder):
+    *_, (command, _) = commands(blocks("yaml")[0])
+    ran(folder, "git commit -qm one")
+    (folder / "robots.txt").write_text(BAD["an expectation fails"])
+    ran(folder, "git commit -qam two")
+    result = ended(folder, command)
+    assert result.returncode == 0 and "- Disallow: /private/ (line 2)\n" in result.stdout and "+ Disallow: / (line 2)\n" in result.stdout
+    ran(folder, "git commit -q --allow-empty -m three")
+    assert "no differences" in ended(folder, command).stdout
+
+
+def test_workflow_reports_on_a_new_file(folder):
+    """It is compared with an empty one."""
+    *_, (command, _) = commands(blocks("yaml")[0])
+    ran(folder, "git rm -q --cached robots.txt && git commit -qm one && git add robots.txt && git commit -qm two")
+    result = ended(folder, command)
+    assert result.returncode == 0 and "+ Disallow: /private/ (line 2)\n" in result.stdout
+
+
+@pytest.mark.parametrize("robots, status", [(GOOD, 0), (BAD["a warning is an error"], 3)], ids=["good", "bad"])
+def test_scan_writes_a_log_whatever_its_status_is(folder, robots, status):
+    workflow = blocks("yaml")[1]
+    ((command, _),) = commands(workflow)
+    (folder / "robots.txt").write_text(robots)
+    assert ran(folder, command) == status
+    log = json.loads((folder / re.search(r"sarif_file: (.*)", workflow)[1]).read_text())
+    assert log["version"] == "2.1.0" and (status == 0) == all(it["level"] != "error" for it in log["runs"][0]["results"])
+    assert re.search(r"upload-sarif@v\d+\n +if: always\(\)", workflow)
