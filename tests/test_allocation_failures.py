@@ -99,7 +99,7 @@ def test_robots_verdict(failing_heap, later):
     fail_each_allocation(program, VERDICT, Result(4, "", "robots_verdict: out of memory\n"), later)
 
 
-BEYOND, JUNK = "BEYOND", "JUNK"
+BEYOND, JUNK, EXPECTED, ODD, NONE = "BEYOND", "JUNK", "EXPECTED", "ODD", "NONE"
 AUDIT_RUNS = {
     "the example": AUDIT_ARGS,
     "a named file": ["--file", CRATES / "robots_audit/stdin", "Ferris", *URLS],
@@ -110,6 +110,9 @@ AUDIT_RUNS = {
     "a page": ["--html", "Ferris", *URLS],
     "a page about each agent": ["--html", "--agents", *URLS],
     "a comparison": ["--compare", OLDER, "--agents", *URLS],
+    "expectations": ["--expect", EXPECTED],
+    "an expectation about no URL": ["--expect", ODD],
+    "no expectations": ["--expect", NONE],
     "annotations": ["--format", "github", "Ferris", *URLS],
     "SARIF": ["--format", "sarif", "Ferris", *URLS],
     "the list of warnings": ["--list-warnings"],
@@ -124,6 +127,7 @@ AUDIT_RUNS = {
 def made(tmp_path):
     """The paths of the files that runs name."""
     texts = {BEYOND: b"#" * 512_000 + b"\nUser-agent: a\n", JUNK: b"Disallow: /a\n" + b"hello\nHost: a\n" * 22}
+    texts |= {EXPECTED: b"allow Ferris https://e.com/\ndeny other /a", ODD: b"allow Ferris a", NONE: b"# allow Ferris /"}
     for name, text in texts.items():
         (tmp_path / name).write_bytes(text)
     return {name: tmp_path / name for name in texts}

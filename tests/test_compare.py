@@ -24,39 +24,43 @@ User-agent: GPTBot
 Disallow: /
 """
 
-GOOGLEBOT = """Googlebot: group * -> Googlebot
-Googlebot: delay 2 s -> 0.5 s
-Googlebot: - Disallow: /search (line 2)
-Googlebot: - Allow: /search/tea (line 3)
-Googlebot: + Disallow: /cart (line 6)
+GOOGLEBOT = """crawler Googlebot: group * -> Googlebot
+crawler Googlebot: delay 2 s -> 0.5 s
+crawler Googlebot: - Disallow: /search (line 2)
+crawler Googlebot: - Allow: /search/tea (line 3)
+crawler Googlebot: + Disallow: /cart (line 6)
 """
 
-STAR = """*: delay 2 s -> none
-*: - Allow: /search/tea (line 3)
-*: + Disallow: /products (line 3)
+STAR = """crawler *: delay 2 s -> none
+crawler *: - Allow: /search/tea (line 3)
+crawler *: + Disallow: /products (line 3)
 """
 
-NOTHING = "no differences, so no URL's verdict differs\n"
-OTHERS = "other crawlers: no differences, so no URL's verdict differs\n"
-SAME = "Ferris: same rules, so no URL's verdict differs\n"
+USAGE = "usage: robots_audit [-f FILE] [OPTIONS] AGENT [URL].."
+NOTHING = "no group, delay or rule differs, so no URL's verdict does\n"
+OTHERS = "other crawlers: no group, delay or rule differs, so no URL's verdict does\n"
+SAME = "crawler Ferris: same rules, so no URL's verdict differs\n"
 TOO_LONG = b"User-agent: *\nDisallow: /" + b"x" * 4096 + b"$\n"
 REASON = "a pattern with $ longer than 4,096 bytes isn't supported; shorten it\n"
 
 # two versions of a file, and the lines about Ferris and the URL /a
 DIFFERENCES = {
-    "another kind": (b"Disallow: /a", b"Allow: /a", "Ferris: - Disallow: /a (line 1)\nFerris: + Allow: /a (line 1)\nFerris /a: deny 1 -> allow 1\n"),
-    "a rule in another line": (b"Disallow: /a", b"# tea\nDisallow: /a", "Ferris /a: deny 1 -> deny 2\n" + SAME),
-    "rules in another order": (b"Disallow: /a\nDisallow: /b", b"Disallow: /b\nDisallow: /a", "Ferris /a: deny 1 -> deny 2\n" + SAME),
+    "another kind": (b"Disallow: /a", b"Allow: /a", "crawler Ferris: - Disallow: /a (line 1)\ncrawler Ferris: + Allow: /a (line 1)\ncrawler Ferris /a: deny 1 -> allow 1\n"),
+    "a rule in another line": (b"Disallow: /a", b"# tea\nDisallow: /a", ""),
+    "rules in another order": (b"Disallow: /a\nDisallow: /b", b"Disallow: /b\nDisallow: /a", ""),
+    "another rule of the same length in front": (b"Disallow: /a\nDisallow: /*", b"Disallow: /*\nDisallow: /a", ""),
+    "another deciding rule": (b"Disallow: /a\nDisallow: /", b"Disallow: /", "crawler Ferris: - Disallow: /a (line 1)\ncrawler Ferris /a: deny 1 -> deny 1\n"),
+    "a longer deciding rule": (b"Disallow: /", b"#\nDisallow: /a\nDisallow: /", "crawler Ferris: + Disallow: /a (line 2)\ncrawler Ferris /a: deny 1 -> deny 2\n"),
     "a second one": (b"Disallow: /a", b"Disallow: /a\nDisallow: /a", ""),
-    "two added": (b"", b"Disallow: /b\nDisallow: /b", "Ferris: + Disallow: /b (line 1)\nFerris: + Disallow: /b (line 2)\n"),
+    "two added": (b"", b"Disallow: /b\nDisallow: /b", "crawler Ferris: + Disallow: /b (line 1)\ncrawler Ferris: + Disallow: /b (line 2)\n"),
     "the same after escaping": (b"Disallow: /\xc3\xa4", b"disallow /%C3%A4", ""),
-    "escaped": (b"", b"Disallow: /\xc3\xa4", "Ferris: + Disallow: /%C3%A4 (line 1)\n"),
-    "an empty Disallow": (b"", b"Disallow:", "Ferris: + Allow: / (line 1)\nFerris /a: allow -> allow 1\n"),
+    "escaped": (b"", b"Disallow: /\xc3\xa4", "crawler Ferris: + Disallow: /%C3%A4 (line 1)\n"),
+    "an empty Disallow": (b"", b"Disallow:", "crawler Ferris: + Allow: / (line 1)\ncrawler Ferris /a: allow -> allow 1\n"),
     "a rule that isn't UTF-8": (b"", b"Disallow: /\xe4", ""),
     "a comment, a sitemap and a stray line": (b"Disallow: /b", b"Disallow: /b # tea\nSitemap: https://e.com/s\ntea", ""),
-    "a group of everyone": (b"", b"User-agent: *\nDisallow: /b", "Ferris: group everyone -> *\nFerris: + Disallow: /b (line 2)\n"),
-    "no group": (b"User-agent: Ferris", b"User-agent: Other", "Ferris: group Ferris -> none\n" + SAME),
-    "a delay": (b"", b"Crawl-delay: 10", "Ferris: delay none -> 10 s\n" + SAME),
+    "a group of everyone": (b"", b"User-agent: *\nDisallow: /b", "crawler Ferris: group everyone -> *\ncrawler Ferris: + Disallow: /b (line 2)\n"),
+    "no group": (b"User-agent: Ferris", b"User-agent: Other", "crawler Ferris: group Ferris -> none\n" + SAME),
+    "a delay": (b"", b"Crawl-delay: 10", "crawler Ferris: delay none -> 10 s\n" + SAME),
     "past the size limit": (b"", b"#" * 512_000 + b"\nDisallow: /a", ""),
 }
 
@@ -73,9 +77,9 @@ def outcome(result):
 
 def test_one_crawler(tmp_path):
     urls = ["/search/tea", "/", "https://shop.example/search/milk", "/cart"]
-    lines = """Googlebot /search/tea: allow 3 -> allow
-Googlebot https://shop.example/search/milk: deny 2 -> allow
-Googlebot /cart: allow -> deny 6
+    lines = """crawler Googlebot /search/tea: allow 3 -> allow
+crawler Googlebot https://shop.example/search/milk: deny 2 -> allow
+crawler Googlebot /cart: allow -> deny 6
 """
     assert outcome(compare(tmp_path, OLD, NEW, "Googlebot", *urls)) == (1, GOOGLEBOT + lines, "")
 
@@ -85,8 +89,7 @@ def test_all_crawlers(tmp_path):
 
 
 def test_all_crawlers_and_a_url(tmp_path):
-    gptbot = "GPTBot /search/tea: deny 7 -> deny 10\nGPTBot: same rules, so no URL's verdict differs\n"
-    lines = STAR + "* /search/tea: allow 3 -> deny 2\n" + gptbot + GOOGLEBOT + "Googlebot /search/tea: allow 3 -> allow\n"
+    lines = STAR + "crawler * /search/tea: allow 3 -> deny 2\n" + GOOGLEBOT + "crawler Googlebot /search/tea: allow 3 -> allow\n" + OTHERS
     assert outcome(compare(tmp_path, OLD, NEW, "-a", "/search/tea")) == (1, lines, "")
 
 
@@ -115,8 +118,16 @@ def test_other_crawlers_than_one_for_which_a_file_is_rejected(tmp_path):
 
 
 def test_untrusted_text(tmp_path):
-    lines = "a%1Bb: + Disallow: /%07 (line 1)\na%1Bb /%07: allow -> deny 1\n"
+    lines = "crawler a%1Bb: + Disallow: /%07 (line 1)\ncrawler a%1Bb /%07: allow -> deny 1\n"
     assert outcome(compare(tmp_path, b"", b"Disallow: /\x07", "a\x1bb", "/\x07")) == (1, lines, "")
+
+
+def test_a_name_that_looks_like_a_command(tmp_path):
+    new = b"User-agent: ::error title=tea::milk\nDisallow: /"
+    name = "crawler ::error title=tea::milk"
+    lines = "crawler *: group everyone -> none\ncrawler *: same rules, so no URL's verdict differs\n"
+    lines += f"{name}: group everyone -> ::error title=tea::milk\n{name}: + Disallow: / (line 2)\n"
+    assert outcome(compare(tmp_path, b"", new, "--agents")) == (1, lines, "")
 
 
 def test_files_by_name(tmp_path):
@@ -127,8 +138,17 @@ def test_files_by_name(tmp_path):
     assert outcome(missing) == (2, "", "robots_audit: cannot read missing.txt\n")
 
 
+def test_older_file_from_standard_input(tmp_path):
+    (tmp_path / "robots.txt").write_bytes(NEW)
+    result = run("robots_audit", ["--compare", "-", "-f", "robots.txt", "Googlebot"], OLD, cwd=tmp_path)
+    assert outcome(result) == (1, GOOGLEBOT, "")
+    message = f"robots_audit: standard input can't be both robots.txt and another file (use --file); {USAGE}\n"
+    assert outcome(run("robots_audit", ["--compare", "-", "Ferris"], OLD)) == (2, "", message)
+    assert outcome(run("robots_audit", ["--compare", "-", "-f", "-", "Ferris"], OLD)) == (2, "", message)
+
+
 def test_agent_is_missing(tmp_path):
-    message = "robots_audit: missing AGENT (or use --agents); usage: robots_audit [OPTIONS] AGENT [URL]..\n"
+    message = f"robots_audit: missing AGENT (use --agent or --agents); {USAGE}\n"
     assert outcome(compare(tmp_path, OLD, NEW)) == (2, "", message)
 
 
@@ -146,4 +166,4 @@ def test_many_rules(tmp_path):
     assert outcome(compare(tmp_path, old, old, "Ferris")) == (0, NOTHING, "")
     result = compare(tmp_path, old, new, "Ferris")
     assert (result.status, result.out.count("\n")) == (1, 50_000)
-    assert result.out.splitlines()[24_999] == "Ferris: - Disallow: /a24999 (line 25000)"
+    assert result.out.splitlines()[24_999] == "crawler Ferris: - Disallow: /a24999 (line 25000)"

@@ -299,7 +299,7 @@ def test_all_documented_errors_are_tried():
 def test_error_has_the_documented_message(failing_heap, program, name, status, text):
     result = run_into(program, failing_heap, **ERRORS[name])
     assert result.status == status
-    usage = "usage: robots_audit [OPTIONS] AGENT [URL].."
+    usage = "usage: robots_audit [-f FILE] [OPTIONS] AGENT [URL].."
     assert usage in shown(PROGRAMS).splitlines()
     if text.startswith("`"):
         assert result.err == text.strip("`").replace("USAGE", usage).replace("line N:", "line 2:") + "\n"

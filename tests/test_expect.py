@@ -1,4 +1,4 @@
-"""`robots_audit --expect`: a line for each expectation that fails, in order, and nothing about the others."""
+"""`robots_audit --expect`: a line for each expectation that fails, in order, or how many hold if none fails."""
 
 import pytest
 from support import run
@@ -14,7 +14,7 @@ Disallow: /
 User-agent: Longbot
 Disallow: /""" + b"x" * 4096 + b"$\n"
 
-USAGE = "usage: robots_audit [OPTIONS] AGENT [URL].."
+USAGE = "usage: robots_audit [-f FILE] [OPTIONS] AGENT [URL].."
 
 HOLDING = b"""# what must hold after each change
 allow Googlebot /products/tea
@@ -35,14 +35,26 @@ FAILING = {
     "a control character": (b"allow GPTBot /\x07", "1: GPTBot must be allowed /%07, but line 7 denies it"),
 }
 
+FORM = 'write "allow AGENT URL" or "deny AGENT URL"'
+NOT_UTF_8 = "the line isn't valid UTF-8"
+AGENT = "AGENT isn't a product token without a version, such as Googlebot"
+URL = "URL is neither a path that starts with / nor a valid http:// or https:// URL"
+
 MALFORMED = {
-    "two words": (b"allow Googlebot", 1),
-    "four words": (b"allow Googlebot /a /b", 1),
-    "another word": (b"allow Googlebot /a\nforbid Googlebot /b", 2),
-    "capital letters": (b"Allow Googlebot /a", 1),
-    "a comment after an expectation": (b"allow Googlebot /a # tea", 1),
-    "invalid UTF-8": (b"\ndeny Googlebot /\xe9", 2),
-    "the first of two": (b"deny\nallow", 1),
+    "two words": (b"allow Googlebot", 1, FORM),
+    "four words": (b"allow Googlebot /a /b", 1, FORM),
+    "another word": (b"allow Googlebot /a\nforbid Googlebot /b", 2, FORM),
+    "capital letters": (b"Allow Googlebot /a", 1, FORM),
+    "a comment after an expectation": (b"allow Googlebot /a # tea", 1, FORM),
+    "a URL that isn't UTF-8": (b"\ndeny Googlebot /\xe9", 2, NOT_UTF_8),
+    "a name that isn't UTF-8": (b"deny Google\xe9 /", 1, NOT_UTF_8),
+    "a version": (b"allow Googlebot/2.1 /tea", 1, AGENT),
+    "a letter that no product token has": (b"allow Caf\xc3\xa9Bot /tea", 1, AGENT),
+    "a path without a slash": (b"allow Googlebot products/tea", 1, URL),
+    "a host without a scheme": (b"allow Googlebot example.com/tea", 1, URL),
+    "another scheme": (b"allow Googlebot ftp://example.com/tea", 1, URL),
+    "a URL that can't be parsed": (b"allow Googlebot https://exa%mple.com/tea", 1, URL),
+    "the first of two": (b"deny\nallow Googlebot tea", 1, FORM),
 }
 
 
@@ -56,9 +68,22 @@ def outcome(result):
     return result.status, result.out, result.err
 
 
-@pytest.mark.parametrize("text", [HOLDING, HOLDING.rstrip(), b"", b"\n", b"# \xe9"], ids=["all kinds", "no last line end", "empty", "blank", "a comment"])
+HOLD = "5 expectations hold\n"
+
+
+@pytest.mark.parametrize("text", [HOLDING, HOLDING.rstrip(), b"\xef\xbb\xbf" + HOLDING], ids=["all kinds", "no last line end", "a byte order mark"])
 def test_holding_expectations(tmp_path, text):
-    assert outcome(check(tmp_path, text)) == (0, "", "")
+    assert outcome(check(tmp_path, text)) == (0, HOLD, "")
+
+
+@pytest.mark.parametrize("agent", [b"*", b"MJ12bot", b"Google-Extended"])
+def test_one_expectation(tmp_path, agent):
+    assert outcome(check(tmp_path, b"allow " + agent + b" /tea")) == (0, "1 expectation holds\n", "")
+
+
+@pytest.mark.parametrize("text", [b"", b"\n \t\n", b"# \xe9", b"\xef\xbb\xbf# tea"], ids=["empty", "blank", "a comment", "a byte order mark"])
+def test_no_expectations(tmp_path, text):
+    assert outcome(check(tmp_path, text)) == (2, "", "robots_audit: expect.txt: there are no expectations\n")
 
 
 @pytest.mark.parametrize("text, line", FAILING.values(), ids=FAILING)
@@ -73,18 +98,26 @@ def test_failing_expectations_are_in_order(tmp_path):
     assert outcome(check(tmp_path, b"\n".join(texts))) == (1, "".join(lines), "")
 
 
-@pytest.mark.parametrize("text, line", MALFORMED.values(), ids=MALFORMED)
-def test_malformed_line(tmp_path, text, line):
-    message = f'robots_audit: expect.txt:{line}: write "allow AGENT URL" or "deny AGENT URL"\n'
-    assert outcome(check(tmp_path, text)) == (2, "", message)
+@pytest.mark.parametrize("text, line, why", MALFORMED.values(), ids=MALFORMED)
+def test_malformed_line(tmp_path, text, line, why):
+    assert outcome(check(tmp_path, text)) == (2, "", f"robots_audit: expect.txt:{line}: {why}\n")
 
 
 def test_files_by_name(tmp_path):
     (tmp_path / "robots.txt").write_bytes(ROBOTS)
-    assert outcome(check(tmp_path, HOLDING, "-f", "robots.txt", robots=b"User-agent: *\nDisallow: /")) == (0, "", "")
+    assert outcome(check(tmp_path, HOLDING, "-f", "robots.txt", robots=b"User-agent: *\nDisallow: /")) == (0, HOLD, "")
     assert outcome(check(tmp_path, HOLDING, "-f", "missing")) == (2, "", "robots_audit: cannot read missing\n")
     missing = run("robots_audit", ["--expect", "missing.txt"], ROBOTS, cwd=tmp_path)
     assert outcome(missing) == (2, "", "robots_audit: cannot read missing.txt\n")
+
+
+def test_expectations_from_standard_input(tmp_path):
+    (tmp_path / "robots.txt").write_bytes(ROBOTS)
+    result = run("robots_audit", ["--expect", "-", "-f", "robots.txt"], b"allow Googlebot /\nallow GPTBot /\n", cwd=tmp_path)
+    assert outcome(result) == (1, "-:2: GPTBot must be allowed /, but line 7 denies it\n", "")
+    message = f"robots_audit: standard input can't be both robots.txt and another file (use --file); {USAGE}\n"
+    assert outcome(run("robots_audit", ["--expect", "-"], HOLDING)) == (2, "", message)
+    assert outcome(run("robots_audit", ["--expect", "-", "-f", "-"], HOLDING)) == (2, "", message)
 
 
 @pytest.mark.parametrize("more", ["Ferris", "--agents", "--agent=Ferris", "--urls=list.txt", "--denied", "-q", "--format=text", "--json", "--html", "--strict", "--only=missing-slash", "--ignore=missing-slash"])
@@ -95,4 +128,4 @@ def test_other_arguments_conflict(tmp_path, more):
 
 def test_ten_thousand_expectations(tmp_path):
     text = b"".join(b"allow Googlebot /products/%d\ndeny GPTBot /products/%d\n" % (n, n) for n in range(5_000))
-    assert outcome(check(tmp_path, text)) == (0, "", "")
+    assert outcome(check(tmp_path, text)) == (0, "10000 expectations hold\n", "")

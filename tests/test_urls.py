@@ -15,7 +15,7 @@ Allow: /a
 User-agent: Longbot
 Disallow: /""" + b"x" * 4096 + b"$\n"
 
-USAGE = "usage: robots_audit [OPTIONS] AGENT [URL].."
+USAGE = "usage: robots_audit [-f FILE] [OPTIONS] AGENT [URL].."
 
 LISTED = {
     "one line": (b"/private/tea\n", "deny 2 /private/tea\n0 allowed, 1 denied\n"),
@@ -23,6 +23,8 @@ LISTED = {
     "CR LF": (b"/tea\r\n/private/\r\n", "allow - /tea\ndeny 2 /private/\n1 allowed, 1 denied\n"),
     "white space and blank lines": (b"\n \t/tea \t\n\r\n  \n\t/private/ tea\r\n", "allow - /tea\ndeny 2 /private/ tea\n1 allowed, 1 denied\n"),
     "the same URL twice": (b"/tea\n/tea\n", "allow - /tea\nallow - /tea\n2 allowed, 0 denied\n"),
+    "a byte order mark": (b"\xef\xbb\xbf/private/\n", "deny 2 /private/\n0 allowed, 1 denied\n"),
+    "comments": (b"# tea \xe9\n/tea#cup\n \t# /private/\n", "allow - /tea#cup\n1 allowed, 0 denied\n"),
     "nothing": (b"", "0 allowed, 0 denied\n"),
     "blank lines": (b"\n  \n", "0 allowed, 0 denied\n"),
 }
@@ -62,13 +64,13 @@ def test_urls_from_standard_input(tmp_path):
 
 @pytest.mark.parametrize("file", [[], ["-f", "-"]], ids=["by default", "by name"])
 def test_standard_input_is_read_once(file):
-    message = f"robots_audit: standard input can't be both robots.txt and the URLs (use --file); {USAGE}\n"
+    message = f"robots_audit: standard input can't be both robots.txt and another file (use --file); {USAGE}\n"
     assert outcome(run("robots_audit", ["--urls", "-", *file, "Ferris"], ROBOTS)) == (2, "", message)
 
 
 @pytest.mark.parametrize("text, line", [(b"\xff", 1), (b"/a\n\n/\xe9 \n/\xff\n", 3)])
 def test_a_url_that_is_not_utf_8(tmp_path, text, line):
-    assert outcome(check(tmp_path, text, "Ferris")) == (2, "", f"robots_audit: list.txt:{line}: the URL isn't valid UTF-8\n")
+    assert outcome(check(tmp_path, text, "Ferris")) == (2, "", f"robots_audit: list.txt:{line}: the line isn't valid UTF-8\n")
 
 
 def test_missing_file(tmp_path):

@@ -27,7 +27,7 @@ use Rattle.robots_audit.specs.declared.fault.Fault.{Fault}
 use Rattle.robots_audit.specs.declared.fault.Fault.TheVariants.{Write}
 use Rattle.robots_audit.specs.declared.fault.Outcome.{Outcome}
 use Rattle.robots_audit.specs.Answer.{Ends}
-use Rattle.robots_audit.specs.Audit.{VerdictValue, agents_requested}
+use Rattle.robots_audit.specs.Audit.{agents_requested}
 use Rattle.robots_audit.specs.Compare.{ComparedValue, Compares, IsCompared, IsComparison}
 use Rattle.robots_audit.specs.Compare.{agent_lines, differences}
 use Rattle.robots_audit.specs.Compare.{is_rejected, is_unchanged, rejections}
@@ -43,7 +43,7 @@ use Rattle.robots_audit.proofs.AnswerLemmas.{bytes_are_left, bytes_left, read_ma
 use Rattle.robots_audit.proofs.AuditLemmas.{zip_push}
 use Rattle.robots_audit.proofs.ExpectationsLemmas.{lines_empty}
 use Rattle.robots_audit.proofs.MessageLemmas.{may_fail_printable}
-use Rattle.robots_audit.proofs.RuleSetLemmas.{none_of}
+use Rattle.robots_audit.proofs.RuleSetLemmas.{no_verdicts, none_of}
 
 -- ---- lines
 
@@ -69,29 +69,25 @@ rejection_appended start text end file agent None some first second = absurd (cc
 rejection_appended start text end file agent (Some line) some first second =
     begun_line start text end file _ first second
 
-no_verdicts : (agent : List ℕ) (older : List VerdictValue) → verdict_changes agent older [] ≡ []
-no_verdicts agent [] = refl
-no_verdicts agent (_ ∷ _) = refl
-
 -- from an index on, one of the lists has no verdicts
-none_left : (agent : List ℕ) (older newer : List Verdict) (at : ℕ)
+none_left : (compared : ComparedValue) (older newer : List Verdict) (at : ℕ)
     → (at < length older → at < length newer → ⊥)
-    → verdict_changes agent (map verdict_value (drop at older)) (map verdict_value (drop at newer)) ≡ []
-none_left agent [] newer at over = rw (drop-nil at) refl
-none_left agent (one ∷ older) [] at over =
-    rw (drop-nil at) (no_verdicts agent (map verdict_value (drop at (one ∷ older))))
-none_left agent (one ∷ older) (other ∷ newer) zero over = absurd (over (omega arith) (omega arith))
-none_left agent (one ∷ older) (other ∷ newer) (suc at) over =
-    none_left agent older newer at (λ below within. over (omega arith) (omega arith))
+    → verdict_changes compared (map verdict_value (drop at older)) (map verdict_value (drop at newer)) ≡ []
+none_left compared [] newer at over = rw (drop-nil at) refl
+none_left compared (one ∷ older) [] at over =
+    rw (drop-nil at) (no_verdicts compared (map verdict_value (drop at (one ∷ older))))
+none_left compared (one ∷ older) (other ∷ newer) zero over = absurd (over (omega arith) (omega arith))
+none_left compared (one ∷ older) (other ∷ newer) (suc at) over =
+    none_left compared older newer at (λ below within. over (omega arith) (omega arith))
 
-pub verdicts_done : (agent start text : List ℕ) (older newer : List Verdict) (at : ℕ)
+pub verdicts_done : (compared : ComparedValue) (start text : List ℕ) (older newer : List Verdict) (at : ℕ)
     → (at < length older → at < length newer → ⊥)
-    → text ++ ended (verdict_changes agent (map verdict_value (drop at older))
+    → text ++ ended (verdict_changes compared (map verdict_value (drop at older))
     (map verdict_value (drop at newer)))
     ≡ start → text ≡ start
-verdicts_done agent start text older newer at over is =
+verdicts_done compared start text older newer at over is =
     sym (append-nil text)
-    ∙ ap (λ (lines : List (List ℕ)). text ++ ended lines) (sym (none_left agent older newer at over)) ∙ is
+    ∙ ap (λ (lines : List (List ℕ)). text ++ ended lines) (sym (none_left compared older newer at over)) ∙ is
 
 -- ---- the report on a crawler
 

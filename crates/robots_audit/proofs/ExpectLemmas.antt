@@ -2,7 +2,7 @@
 use Rattle.std.proofs.Common.{◌≡◌, ◌≢◌, ◌∙◌, ℕ, zero, suc, ◌+◌, List, [], ◌∷◌, ◌++◌}
 use Rattle.std.proofs.Common.{Result, Ok, Err, ap, arith, drop, length, refl, sym, take}
 use Rattle.std.proofs.lemmas.Bool.{cond-false, cond-true}
-use Rattle.robots_audit.specs.Expect.{parts, with_byte}
+use Rattle.robots_audit.specs.Expect.{MalformedLine, parts, with_byte}
 use Rattle.robots_audit.specs.Internal.Expect.{HasNone, IsFirstSeparator}
 
 no_length : (text : List ℕ) → length text ≡ 0 → text ≡ []
@@ -50,6 +50,6 @@ cut_nowhere separators text rest some none empty =
 -- ---- a text
 
 -- the entries after these
-abbrev pub after_these : {X : Type 0} → List X → Result (List X) ℕ → Result (List X) ℕ
+abbrev pub after_these : {X : Type 0} → List X → Result (List X) MalformedLine → Result (List X) MalformedLine
 after_these found (Ok others) = Ok (found ++ others)
-after_these found (Err number) = Err number
+after_these found (Err malformed) = Err malformed

@@ -1,6 +1,8 @@
 -- The report on expectations contains no control or bidirectional-formatting characters other than LF.
-use Rattle.std.proofs.Common.{ℕ, Bool, true, false, List, ◌++◌, Option, Some, None, bytes_eq, codes, decimal}
-use Rattle.std.proofs.Common.{filter, map, refl, subst, sym}
+use Rattle.std.proofs.Common.{ℕ, ◌==◌, Bool, true, false, List, [], ◌∷◌, ◌++◌, Option, Some, None, bytes_eq, codes}
+use Rattle.std.proofs.Common.{decimal, filter, length, map, refl, subst, sym}
+use Rattle.std.specs.Prelude.{if◌then◌else◌}
+use Rattle.std.specs.List.{AllByRecursion as Each}
 use Rattle.texting_robots.specs.Callers.{prepared, robots_file}
 use Rattle.robots_io.specs.Lines.{ended}
 use Rattle.robots_io.specs.Sanitize.{IsPrintable, sanitized}
@@ -11,7 +13,7 @@ use Rattle.robots_audit.specs.declared.expectations.Finding.TheVariants.{Decided
 use Rattle.robots_audit.specs.Expect.{ExpectationValue}
 use Rattle.robots_audit.specs.Expectations.{CheckedValue, IsReport, decision_text, demand_text, demand_word}
 use Rattle.robots_audit.specs.Expectations.{failure_front, failure_line, fails, finding_text, place_text}
-use Rattle.robots_audit.specs.Expectations.{unmatched_text}
+use Rattle.robots_audit.specs.Expectations.{holding_text, result_lines, unmatched_text}
 use Rattle.robots_audit.proofs.PrintableLemmas.{each_map, either_printable}
 
 demand_word_printable : (allowed : Bool) → IsPrintable (demand_word allowed)
@@ -30,7 +32,7 @@ front_printable name expectation =
 
 decision_printable : (url : List ℕ) (allowed : Bool) (line : Option ℕ) → IsPrintable (decision_text url allowed line)
 decision_printable url allowed None =
-    either_printable (bytes_eq (prepared url) robots_file) (codes "/robots.txt is always allowed")
+    either_printable true (bytes_eq (prepared url) robots_file) (codes "/robots.txt is always allowed")
     (codes "no rule matches it") (ascii_printable true (codes "/robots.txt is always allowed") refl)
     (ascii_printable true (codes "no rule matches it") refl)
 decision_printable url true (Some line) =
@@ -53,9 +55,23 @@ failure_printable name checked =
     (ascii_printable true (codes ", but ") refl))
     (finding_printable expectation.agent expectation.url checked.finding)
 
+holding_printable : (number : ℕ) → IsPrintable (holding_text number)
+holding_printable number =
+    let several : IsPrintable (decimal number ++ codes " expectations hold") =
+    search (append_printable true, ascii_printable true, decimal_printable true) in
+    either_printable true (number == 1) (codes "1 expectation holds") (decimal number ++ codes " expectations hold")
+    (ascii_printable true (codes "1 expectation holds") refl) several
+
+results_printable : (name : List ℕ) (checked : List CheckedValue) → Each IsPrintable (result_lines name checked)
+results_printable name checked = choose (length (filter fails checked) == 0)
+  where
+    choose : (hold : Bool) → Each IsPrintable
+        (if hold then holding_text (length checked) ∷ [] else map (failure_line name) (filter fails checked))
+    choose true = (holding_printable (length checked), tt)
+    choose false = each_map IsPrintable (failure_line name) (failure_printable name) (filter fails checked)
+
 pub expect_printable : (name text file report : List ℕ) (all_hold : Bool)
     → IsReport name text file report all_hold → IsPrintable report
 expect_printable name text file report all_hold is =
-    let failing = filter fails is.checked in
     subst IsPrintable (sym is.whole)
-    (ended_printable (map (failure_line name) failing) (each_map (failure_line name) (failure_printable name) failing))
+    (ended_printable (result_lines name is.checked) (results_printable name is.checked))

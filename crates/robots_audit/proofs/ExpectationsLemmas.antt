@@ -1,7 +1,11 @@
 -- How expectations are checked, and the results of a run.
-use Rattle.std.proofs.Common.{◌≡◌, ◌≢◌, ◌∙◌, ℕ, ◌+◌, ◌<◌, ◌==◌, Bool, true, List, [], ◌∷◌, ◌++◌, IfSome}
-use Rattle.std.proofs.Common.{Result, Ok, Err, IsErrOf, ap, arith, codes, decimal, filter, length, map, refl}
-use Rattle.std.proofs.Common.{slice_index_or, string_bytes, subst, sym, take}
+use Rattle.std.proofs.Common.{◌≡◌, ◌≢◌, ◌∙◌, ℕ, ◌+◌, ◌<◌, ◌==◌, true, false, List, [], ◌∷◌, ◌++◌, IfSome}
+use Rattle.std.proofs.Common.{Result, Ok, Err, IsErrOf, ap, append-nil, arith, codes, decimal, filter, inl, inr}
+use Rattle.std.proofs.Common.{length, map, refl}
+use Rattle.std.specs.Prelude.{if◌then◌else◌}
+use Rattle.std.proofs.lemmas.Bool.{cases_Bool}
+use Rattle.std.proofs.Common.{String, slice_index_or, string_bytes, subst, sym, take}
+use Rattle.std.specs.Global.{Global}
 use Rattle.std.specs.List.{AllByRecursion as Each}
 use Rattle.std.specs.Io.KnownBytes.{Keeps}
 use Rattle.std.proofs.lemmas.Bool.Decides.{nat_tests}
@@ -20,23 +24,27 @@ use Rattle.robots_audit.specs.declared.audit.Reading.{Reading}
 use Rattle.robots_audit.specs.declared.audit.Reading.TheVariants as reading
 use Rattle.robots_audit.specs.declared.expect.Expectation.{Expectation}
 use Rattle.robots_audit.specs.declared.expectations.Finding.{Finding}
+use Rattle.robots_audit.specs.declared.expectations.Results.{Results}
 use Rattle.robots_audit.specs.declared.expectations.Finding.TheVariants.{Decided, Rejected}
 use Rattle.robots_audit.specs.declared.fault.Fault.{Fault}
 use Rattle.robots_audit.specs.declared.fault.Fault.TheVariants.{File, Malformed, Memory}
-use Rattle.robots_audit.specs.declared.fault.Fault.TheVariants.{NotUtf8, Read, StdinTwice, UnknownWarning}
-use Rattle.robots_audit.specs.declared.fault.Fault.TheVariants.{UrlNotUtf8, Usage, Words, Write}
+use Rattle.robots_audit.specs.declared.fault.Fault.TheVariants.{NoExpectations, NotUtf8, Read, StdinTwice}
+use Rattle.robots_audit.specs.declared.fault.Fault.TheVariants.{UnknownWarning, Usage, Words, Write}
+use Rattle.robots_audit.specs.declared.fault.Flaw.{Flaw}
+use Rattle.robots_audit.specs.declared.fault.Flaw.TheVariants as flaw
 use Rattle.robots_audit.specs.declared.fault.Outcome.{Outcome}
 use Rattle.robots_audit.specs.Answer.{Ends}
 use Rattle.robots_audit.specs.Expect.{ExpectationValue, expectations_in}
 use Rattle.robots_audit.specs.Expectations.{CheckedValue, Checks, IsChecked, IsFaultOf, IsFindingOn, IsReport}
-use Rattle.robots_audit.specs.Expectations.{WritesBeginning, failure_line, fails, place_text}
-use Rattle.robots_audit.specs.Fault.{fault_of_read, fault_text, message_after}
+use Rattle.robots_audit.specs.Expectations.{WritesBeginning, failure_line, fails, holding_text, place_text}
+use Rattle.robots_audit.specs.Fault.{fault_of_read, fault_text, flaw_text, message_after}
 use Rattle.robots_audit.specs.Internal.{IsReading}
 use Rattle.robots_audit.specs.Internal.Expect.{expectation_value}
-use Rattle.robots_audit.specs.Internal.Expectations.{AreFailuresOn, IsFindingBy, IsMalformed, checked_value}
-use Rattle.robots_audit.specs.Internal.Expectations.{failures_at}
+use Rattle.robots_audit.specs.Internal.Expectations.{AreFailuresOn, AreResultsOn, IsFindingBy, IsMalformed}
+use Rattle.robots_audit.specs.Internal.Expectations.{IsWithoutExpectations, checked_value, failures_at}
 use Rattle.robots_audit.proofs.AnswerLemmas.{bytes_are_left, bytes_left}
 use Rattle.robots_audit.proofs.MessageLemmas.{memory_printable, named_printable}
+use Rattle.robots_audit.proofs.RuleSetLemmas.{none_of}
 
 -- ---- findings
 
@@ -106,35 +114,115 @@ lines_empty [] = refl
 lines_empty ([] ∷ lines) = grind (arith, nat_tests)
 lines_empty ((b ∷ line) ∷ lines) = grind (arith, nat_tests)
 
-pub report_made : (name text file report : List ℕ) (expectations : List ExpectationValue) (hold : Bool)
-    → expectations_in text ≡ Ok expectations → AreFailuresOn name file expectations report
-    → hold ≡ (length report == 0) → IsReport name text file report hold
-report_made name text file report expectations hold is are empty = record {
+-- whether some expectation fails, by the text of the failures
+none_fails : (name report : List ℕ) (checked : List CheckedValue)
+    → report ≡ ended (map (failure_line name) (filter fails checked))
+    → (length (filter fails checked) == 0) ≡ (length report == 0)
+none_fails name report checked is =
+    sym (ap (λ (text : List ℕ). length text == 0) is
+    ∙ lines_empty (map (failure_line name) (filter fails checked))
+    ∙ ap (λ n. n == 0) (length-map (filter fails checked) (failure_line name)))
+
+some_fail : (name file : List ℕ) (expectations : List ExpectationValue) (text : List ℕ) (results : Results)
+    → AreFailuresOn name file expectations text → (length text == 0) ≡ false → string_bytes results.text ≡ text
+    → results.all_hold ≡ false → AreResultsOn name file expectations results
+some_fail name file expectations text results are some is hold =
+    let fail = none_fails name text are.checked are.whole ∙ some in
+    record {
+      checked = are.checked;
+      all = are.all;
+      found = are.found;
+      whole = rw fail (is ∙ are.whole);
+      hold = hold ∙ sym fail;
+    }
+
+-- as many expectations were checked as there are
+checked_number : (items : List Expectation) (checked : List CheckedValue)
+    → map (λ (one : CheckedValue). one.expectation) checked ≡ map expectation_value items
+    → length items ≡ length checked
+checked_number items checked all =
+    sym (length-map items expectation_value) ∙ sym (ap length all)
+    ∙ length-map checked (λ (one : CheckedValue). one.expectation)
+
+all_hold : (name file : List ℕ) (items : List Expectation) (text : List ℕ) (results : Results)
+    → AreFailuresOn name file (map expectation_value items) text → (length text == 0) ≡ true
+    → string_bytes results.text ≡ text ++ ended (holding_text (length items) ∷ [])
+    → results.all_hold ≡ true → AreResultsOn name file (map expectation_value items) results
+all_hold name file items text results are empty is hold =
+    let fail = none_fails name text are.checked are.whole ∙ empty in
+    let number = checked_number items are.checked are.all in
+    record {
+      checked = are.checked;
+      all = are.all;
+      found = are.found;
+      whole =
+          rw fail (is ∙ ap (λ (front : List ℕ). front ++ ended (holding_text (length items) ∷ []))
+          (none_of text empty) ∙ ap (λ n. ended (holding_text n ∷ [])) number);
+      hold = hold ∙ sym fail;
+    }
+
+pub results_made : (name file : List ℕ) (items : List Expectation) (failures : List ℕ) (number : ℕ)
+    (results : Results) → AreFailuresOn name file (map expectation_value items) failures
+    → number ≡ length items
+    → string_bytes results.text
+    ≡ failures ++ (if length failures == 0 then ended (holding_text number ∷ []) else [])
+    → results.all_hold ≡ (length failures == 0) → AreResultsOn name file (map expectation_value items) results
+results_made name file items failures number results are counted text hold =
+    elim (cases_Bool (length failures == 0)) [
+      | inl empty ↦
+          let whole : string_bytes results.text ≡ failures ++ ended (holding_text number ∷ []) = rw empty at text in
+          all_hold name file items failures results are empty
+          (whole ∙ ap (λ n. failures ++ ended (holding_text n ∷ [])) counted) (hold ∙ empty)
+      | inr some ↦
+          let whole : string_bytes results.text ≡ failures ++ [] = rw some at text in
+          some_fail name file (map expectation_value items) failures results are some
+          (whole ∙ append-nil failures) (hold ∙ some)
+    ]
+
+pub report_made : (name text file : List ℕ) (items : List Expectation) (results : Results)
+    → expectations_in text ≡ Ok (map expectation_value items) → (length items == 0) ≡ false
+    → AreResultsOn name file (map expectation_value items) results
+    → IsReport name text file (string_bytes results.text) results.all_hold
+report_made name text file items results is some are = record {
   checked = are.checked;
   all = is ∙ ap Ok (sym are.all);
   found = are.found;
+  some = ap (λ n. n == 0) (sym (checked_number items are.checked are.all)) ∙ some;
   whole = are.whole;
-  hold =
-      empty ∙ ap (λ (t : List ℕ). length t == 0) are.whole
-      ∙ lines_empty (map (failure_line name) (filter fails are.checked))
-      ∙ ap (λ n. n == 0) (length-map (filter fails are.checked) (failure_line name));
+  hold = are.hold;
 }
 
 -- ---- a run
 
-pub malformed_fault : (name text : List ℕ) (number : ℕ) (fault : Fault) → IsMalformed name number fault
-    → expectations_in text ≡ Err number → IsFaultOf name text fault × (fault ≢ Write)
-malformed_fault name text number (Malformed place) is specified = ((number, specified, is), λ same. cc)
-malformed_fault name text number Memory is specified = (tt, λ same. cc)
-malformed_fault name text number (Words shown) is specified = absurd (cc)
-malformed_fault name text number Usage is specified = absurd (cc)
-malformed_fault name text number NotUtf8 is specified = absurd (cc)
-malformed_fault name text number (UnknownWarning shown) is specified = absurd (cc)
-malformed_fault name text number (File shown) is specified = absurd (cc)
-malformed_fault name text number (UrlNotUtf8 place) is specified = absurd (cc)
-malformed_fault name text number StdinTwice is specified = absurd (cc)
-malformed_fault name text number Read is specified = absurd (cc)
-malformed_fault name text number Write is specified = absurd (cc)
+pub malformed_fault : (name text : List ℕ) (number : ℕ) (flaw : Flaw) (fault : Fault)
+    → IsMalformed name number flaw fault → expectations_in text ≡ Err (number, flaw)
+    → IsFaultOf name text fault × (fault ≢ Write)
+malformed_fault name text number flaw (Malformed place other) (same, is) specified =
+    ((number, subst (λ flaw. expectations_in text ≡ Err (number, flaw)) (sym same) specified, is), λ same. cc)
+malformed_fault name text number flaw Memory is specified = (tt, λ same. cc)
+malformed_fault name text number flaw (NoExpectations shown) is specified = absurd (cc)
+malformed_fault name text number flaw (Words shown) is specified = absurd (cc)
+malformed_fault name text number flaw Usage is specified = absurd (cc)
+malformed_fault name text number flaw NotUtf8 is specified = absurd (cc)
+malformed_fault name text number flaw (UnknownWarning shown) is specified = absurd (cc)
+malformed_fault name text number flaw (File shown) is specified = absurd (cc)
+malformed_fault name text number flaw StdinTwice is specified = absurd (cc)
+malformed_fault name text number flaw Read is specified = absurd (cc)
+malformed_fault name text number flaw Write is specified = absurd (cc)
+
+pub without_fault : (name text : List ℕ) (fault : Fault) → IsWithoutExpectations name fault
+    → expectations_in text ≡ Ok [] → IsFaultOf name text fault × (fault ≢ Write)
+without_fault name text (NoExpectations shown) is specified = ((specified, is), λ same. cc)
+without_fault name text Memory is specified = (tt, λ same. cc)
+without_fault name text (Malformed place flaw) is specified = absurd (cc)
+without_fault name text (Words shown) is specified = absurd (cc)
+without_fault name text Usage is specified = absurd (cc)
+without_fault name text NotUtf8 is specified = absurd (cc)
+without_fault name text (UnknownWarning shown) is specified = absurd (cc)
+without_fault name text (File shown) is specified = absurd (cc)
+without_fault name text StdinTwice is specified = absurd (cc)
+without_fault name text Read is specified = absurd (cc)
+without_fault name text Write is specified = absurd (cc)
 
 pub read_fault : (name text : List ℕ) (why : ReadFault)
     → IsFaultOf name text (fault_of_read why) × (fault_of_read why ≢ Write)
@@ -193,12 +281,26 @@ place_printable name number =
     (append_printable true (sanitized name) (codes ":") (sanitized_printable name)
     (ascii_printable true (codes ":") refl)) (decimal_printable true number)
 
+flaw_printable : (flaw : Flaw) → IsPrintable (codes ": " ++ flaw_text flaw)
+flaw_printable flaw.Form = ascii_printable true (codes ": " ++ flaw_text flaw.Form) refl
+flaw_printable flaw.NotUtf8 = ascii_printable true (codes ": " ++ flaw_text flaw.NotUtf8) refl
+flaw_printable flaw.Agent = ascii_printable true (codes ": " ++ flaw_text flaw.Agent) refl
+flaw_printable flaw.Url = ascii_printable true (codes ": " ++ flaw_text flaw.Url) refl
+
+pub flawed_printable : (name : List ℕ) (number : ℕ) (place : String Global) (flaw : Flaw)
+    → string_bytes place ≡ place_text name number → IsPrintable (fault_text (Malformed place flaw))
+flawed_printable name number place flaw is =
+    named_printable (string_bytes place) (codes ": " ++ flaw_text flaw) []
+    (subst IsPrintable (sym is) (place_printable name number)) (flaw_printable flaw) (nil_printable true)
+
 pub fault_printable : (name text : List ℕ) (fault : Fault) → IsFaultOf name text fault
     → IsPrintable (fault_text fault)
-fault_printable name text (Malformed place) (number, specified, is) =
-    let help = codes ": write \"allow AGENT URL\" or \"deny AGENT URL\"" in
-    named_printable (string_bytes place) help [] (subst IsPrintable (sym is) (place_printable name number))
-    (ascii_printable true help refl) (nil_printable true)
+fault_printable name text (Malformed place flaw) (number, specified, is) =
+    flawed_printable name number place flaw is
+fault_printable name text (NoExpectations shown) (specified, is) =
+    let why = codes ": there are no expectations" in
+    named_printable (string_bytes shown) why [] (subst IsPrintable (sym is) (sanitized_printable name))
+    (ascii_printable true why refl) (nil_printable true)
 fault_printable name text Read is = ascii_printable true (fault_text Read) refl
 fault_printable name text Write is = ascii_printable true (fault_text Write) refl
 fault_printable name text Memory is = memory_printable Memory refl
@@ -207,7 +309,6 @@ fault_printable name text Usage is = absurd is
 fault_printable name text NotUtf8 is = absurd is
 fault_printable name text (UnknownWarning shown) is = absurd is
 fault_printable name text (File shown) is = absurd is
-fault_printable name text (UrlNotUtf8 place) is = absurd is
 fault_printable name text StdinTwice is = absurd is
 
 pub checked_printable : (name text : List ℕ) (ends : Ends) (result : Result Outcome Fault)

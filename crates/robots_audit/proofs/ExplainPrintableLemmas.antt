@@ -26,7 +26,7 @@ listed_printable cause =
     (texts_printable cause))))
 
 pub list_printable : IsPrintable list_text
-list_printable = ended_printable (map listed all_causes) (each_map listed listed_printable all_causes)
+list_printable = ended_printable (map listed all_causes) (each_map IsPrintable listed listed_printable all_causes)
 
 indented_printable : (text : List ℕ) → IsPrintable text → IsPrintable (indented text)
 unfolding indented

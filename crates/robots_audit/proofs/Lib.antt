@@ -20,6 +20,7 @@ pub mod ListedLemmas
 pub mod MessageLemmas
 pub mod OutputLemmas
 pub mod PageLemmas
+pub mod PlainLemmas
 pub mod PrintableLemmas
 pub mod RowLemmas
 pub mod RuleLemmas

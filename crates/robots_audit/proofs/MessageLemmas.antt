@@ -11,8 +11,8 @@ use Rattle.robots_io.proofs.SanitizeLemmas.{sanitized_lines_printable, sanitized
 use Rattle.robots_audit.specs.declared.command.Request.{Request}
 use Rattle.robots_audit.specs.declared.fault.Fault.{Fault}
 use Rattle.robots_audit.specs.declared.fault.Fault.TheVariants.{File, Malformed, Memory}
-use Rattle.robots_audit.specs.declared.fault.Fault.TheVariants.{NotUtf8, Read, StdinTwice, UnknownWarning}
-use Rattle.robots_audit.specs.declared.fault.Fault.TheVariants.{UrlNotUtf8, Usage, Words, Write}
+use Rattle.robots_audit.specs.declared.fault.Fault.TheVariants.{NoExpectations, NotUtf8, Read, StdinTwice}
+use Rattle.robots_audit.specs.declared.fault.Fault.TheVariants.{UnknownWarning, Usage, Words, Write}
 use Rattle.robots_audit.specs.declared.fault.Outcome.{Outcome}
 use Rattle.robots_audit.specs.Answer.{Audits, Ends, IsFileUnreadable, IsRejection, Prints, requested_by}
 use Rattle.robots_audit.specs.Command.{Asks, IsUnknown, IsUnknownIn}
@@ -39,8 +39,8 @@ may_fail_printable Usage may = absurd may
 may_fail_printable NotUtf8 may = absurd may
 may_fail_printable (UnknownWarning name) may = absurd may
 may_fail_printable (File name) may = absurd may
-may_fail_printable (Malformed place) may = absurd may
-may_fail_printable (UrlNotUtf8 place) may = absurd may
+may_fail_printable (Malformed place flaw) may = absurd may
+may_fail_printable (NoExpectations other) may = absurd may
 may_fail_printable StdinTwice may = absurd may
 may_fail_printable Read may = ascii_printable true (fault_text Read) refl
 may_fail_printable Write may = ascii_printable true (fault_text Write) refl
@@ -53,8 +53,8 @@ rejection_printable text Usage is = cc
 rejection_printable text NotUtf8 is = cc
 rejection_printable text (UnknownWarning name) is = cc
 rejection_printable text (File name) is = cc
-rejection_printable text (Malformed place) is = cc
-rejection_printable text (UrlNotUtf8 place) is = cc
+rejection_printable text (Malformed place flaw) is = cc
+rejection_printable text (NoExpectations other) is = cc
 rejection_printable text StdinTwice is = cc
 rejection_printable text Read is = cc
 rejection_printable text Write is = cc
@@ -70,8 +70,8 @@ unreadable_printable name (File shown) is =
     named_printable (codes "cannot read ") (string_bytes shown) []
     (ascii_printable true (codes "cannot read ") refl)
     (subst IsPrintable (sym is) (sanitized_printable name)) (nil_printable true)
-unreadable_printable name (Malformed place) is = cc
-unreadable_printable name (UrlNotUtf8 place) is = cc
+unreadable_printable name (Malformed place flaw) is = cc
+unreadable_printable name (NoExpectations other) is = cc
 unreadable_printable name StdinTwice is = cc
 unreadable_printable name Read is = cc
 unreadable_printable name Write is = cc
@@ -82,13 +82,13 @@ unknown_printable name (Words text) is = cc
 unknown_printable name Usage is = cc
 unknown_printable name NotUtf8 is = cc
 unknown_printable name (UnknownWarning shown) is =
-    let usage = codes "; usage: robots_audit [OPTIONS] AGENT [URL].." in
+    let usage = codes "; usage: robots_audit [-f FILE] [OPTIONS] AGENT [URL].." in
     named_printable (codes "unknown warning ") (string_bytes shown) usage
     (ascii_printable true (codes "unknown warning ") refl)
     (subst IsPrintable (sym is) (sanitized_printable name)) (ascii_printable true usage refl)
 unknown_printable name (File other) is = cc
-unknown_printable name (Malformed place) is = cc
-unknown_printable name (UrlNotUtf8 place) is = cc
+unknown_printable name (Malformed place flaw) is = cc
+unknown_printable name (NoExpectations other) is = cc
 unknown_printable name StdinTwice is = cc
 unknown_printable name Read is = cc
 unknown_printable name Write is = cc

@@ -8,12 +8,14 @@ use Rattle.robots_audit.specs.declared.command.Format.TheVariants.{Github, Html,
 use Rattle.robots_audit.specs.Answer.{has_rows, output, output_in, reported, shown_name, total_lines}
 use Rattle.robots_audit.specs.Audit.{AuditValue, RequestValue}
 use Rattle.robots_audit.specs.Findings.{findings}
+use Rattle.robots_audit.specs.PlainLine.{IsPlainLine}
 use Rattle.robots_audit.specs.Report.{report_lines}
 use Rattle.robots_audit.proofs.FindingLemmas.{findings_have}
 use Rattle.robots_audit.proofs.GithubLemmas.{github_printable}
 use Rattle.robots_audit.proofs.JsonLemmas.{json_printable}
 use Rattle.robots_audit.proofs.PageLemmas.{page_printable}
-use Rattle.robots_audit.proofs.PrintableLemmas.{report_printable, totals_printable}
+use Rattle.robots_audit.proofs.PlainLemmas.{each_printable}
+use Rattle.robots_audit.proofs.PrintableLemmas.{report_plain, totals_plain}
 use Rattle.robots_audit.proofs.SarifLemmas.{sarif_printable}
 
 output_in_printable : (format : Format) (requested : RequestValue) (audit : AuditValue)
@@ -22,8 +24,8 @@ output_in_printable Text requested audit =
     let rows = has_rows requested in
     let listed = reported requested audit in
     ended_printable (report_lines rows listed ++ total_lines requested audit)
-    (each_append IsPrintable (report_lines rows listed) (total_lines requested audit)
-    (report_printable rows listed) (totals_printable requested.has_totals audit.agents))
+    (each_printable _ (each_append IsPlainLine (report_lines rows listed) (total_lines requested audit)
+    (report_plain rows listed) (totals_plain requested.has_totals audit.agents)))
 output_in_printable Json requested audit =
     json_printable (has_rows requested) (reported requested audit)
 output_in_printable Html requested audit = page_printable requested (reported requested audit)

@@ -1,22 +1,28 @@
 -- Sets of rules, and rules that other rules lack.
 use Rattle.std.proofs.Common.{◌≡◌, ◌∙◌, ◌↔◌, ◌||◌, ◌&&◌, ℕ, zero, suc, Bool, true, false, List, []}
-use Rattle.std.proofs.Common.{◌∷◌, ◌++◌, Contains, String, ap, arith, bytes_eq, not, refl}
+use Rattle.std.proofs.Common.{◌∷◌, ◌++◌, Contains, None, Option, Some, String, ap, arith, bytes_eq, not, refl}
 use Rattle.std.proofs.Common.{string_bytes, subst}
 use Rattle.std.proofs.Common.{◌==◌, codes, if◌then◌else◌, length, map, sym}
 use Rattle.std.specs.BTreeSet.{BTreeSet, Updates, contains_text}
 use Rattle.std.specs.Global.{Global}
 use Rattle.std.specs.String.{string_cmp}
-use Rattle.std.proofs.Math.Bool.{or-false}
+use Rattle.std.proofs.Math.Bool.{beq, or-false}
+use Rattle.std.specs.List.{AllZip}
 use Rattle.std.proofs.lemmas.Bool.Decides.{Decides-eqb}
 use Rattle.std.proofs.lemmas.Map.Text.{btree_set_updates_text}
 use Rattle.std.proofs.lemmas.Slice.Eq.{bytes_eq-Decides}
 use Rattle.texting_robots.specs.Callers.{IsDenied, IsVerdict, LineValue, PlacedRule, Rule, placed_rules}
-use Rattle.texting_robots.specs.Callers.{rules_for, unplaced}
+use Rattle.texting_robots.specs.Callers.{prepared, rules_for, unplaced}
 use Rattle.robots_warnings.proofs.NameLemmas.{any_last, either}
 use Rattle.robots_audit.specs.declared.rule_sets.RuleSet.{RuleSet}
 use Rattle.robots_audit.specs.Compare.{ComparedValue, IsCompared, delay_changes, differences, group_changes}
 use Rattle.robots_audit.specs.Compare.{has_rule, has_same_rules, is_rejected, is_same_rule, is_unchanged}
-use Rattle.robots_audit.specs.Compare.{rule_line, rules_lacked, rules_only_in, verdict_changes}
+use Rattle.robots_audit.specs.Compare.{is_in_line_of, is_same_decision, rule_line, rules_lacked, rules_only_in}
+use Rattle.robots_audit.specs.Compare.{verdict_changes}
+use Rattle.robots_audit.specs.Audit.{IsRuling, IsVerdictOn, VerdictValue}
+use Rattle.robots_io.specs.Verdicts.{IsDecisionOn}
+use Rattle.texting_robots.specs.declared.decision.Decision.{Decision}
+use Rattle.texting_robots.proofs.VerdictLemmas.{one_verdict}
 use Rattle.robots_audit.specs.Internal.Compare.{AddsRule, HasRules, contains_rule}
 
 -- ---- insertion
@@ -175,7 +181,7 @@ unchanged_has_same compared is =
     group_changes agent older.group newer.group ++ delay_changes agent older.delay newer.delay in
     let (accepted, none) = both (not (is_rejected compared)) (length (differences compared) == 0) is in
     let (first, verdict) =
-    nothing_in (before ++ rules) (verdict_changes agent older.verdicts newer.verdicts) none in
+    nothing_in (before ++ rules) (verdict_changes compared older.verdicts newer.verdicts) none in
     let (other, rule) = nothing_in before rules first in
     let (removed, added) = nothing_in (map minus compared.removed) (map plus compared.added) rule in
     rw (nothing_mapped minus compared.removed removed, nothing_mapped plus compared.added added) refl
@@ -196,3 +202,66 @@ reported_alike urls older newer agent compared text allowed is said =
         → (unchanged || has_same_rules compared) ≡ true → has_same_rules compared ≡ true
     at true unchanged said = unchanged_has_same compared unchanged
     at false changed said = said
+
+-- ---- URLs
+
+pub no_verdicts : (compared : ComparedValue) (older : List VerdictValue) → verdict_changes compared older [] ≡ []
+no_verdicts compared [] = refl
+no_verdicts compared (_ ∷ _) = refl
+
+same_verdict : (one other : Bool) → one ≡ other → beq one other ≡ true
+same_verdict true true same = refl
+same_verdict true false same = absurd (cc)
+same_verdict false true same = absurd (cc)
+same_verdict false false same = refl
+
+in_no_line : (line : Option ℕ) → is_in_line_of [] line ≡ false
+in_no_line None = refl
+in_no_line (Some line) = refl
+
+module _ (agent : List ℕ) (older newer : List LineValue) (compared : ComparedValue)
+    (removed : compared.removed ≡ []) (added : compared.added ≡ [])
+    (alike : (text : List ℕ) (allowed : Bool) → IsVerdict (rules_for agent older) text allowed
+    → IsVerdict (rules_for agent newer) text allowed) where
+  same_decision : (url : List ℕ) (one other : Decision) → IsDecisionOn (placed_rules agent older) url one
+      → IsDecisionOn (placed_rules agent newer) url other → is_same_decision compared one other ≡ true
+  same_decision url one other is too =
+      let text = prepared url in
+      let same = one_verdict (rules_for agent newer) text one.allowed other.allowed
+      (alike text one.allowed is.verdict) too.verdict in
+      rw (removed, added, in_no_line one.line, in_no_line other.line, same_verdict one.allowed other.allowed same)
+      refl
+
+  none_differs : (urls : List (List ℕ)) (ones others : List VerdictValue)
+      → AllZip (IsVerdictOn (placed_rules agent older)) urls ones
+      → AllZip (IsVerdictOn (placed_rules agent newer)) urls others → verdict_changes compared ones others ≡ []
+  none_differs [] [] [] are too = refl
+  none_differs [] (one ∷ ones) others are too = absurd are
+  none_differs [] [] (other ∷ others) are too = absurd too
+  none_differs (url ∷ urls) [] others are too = absurd are
+  none_differs (url ∷ urls) (one ∷ ones) [] are too = absurd too
+  none_differs (url ∷ urls) (one ∷ ones) (other ∷ others) (is, more) (also, rest) =
+      rw (same_decision url one.decision other.decision is.decided also.decided)
+      (none_differs urls ones others more rest)
+
+  none_ruled : (urls : List (List ℕ)) (one other : Option ℕ) (ones others : List VerdictValue)
+      → IsRuling urls older agent one ones → IsRuling urls newer agent other others
+      → verdict_changes compared ones others ≡ []
+  none_ruled urls None None ones others (accepted, are) (also, too) = none_differs urls ones others are too
+  none_ruled urls (Some line) other ones others (first, none) too = rw none refl
+  none_ruled urls None (Some line) ones others is (first, none) = rw none (no_verdicts compared ones)
+
+-- no URL is listed for a crawler that has the same rules in both files
+pub none_listed : (urls : List (List ℕ)) (older newer : List LineValue) (agent : List ℕ)
+    (compared : ComparedValue) → IsCompared urls older newer agent compared → has_same_rules compared ≡ true
+    → verdict_changes compared compared.older.verdicts compared.newer.verdicts ≡ []
+none_listed urls older newer agent compared is same =
+    let (none, nothing) = both (length compared.removed == 0) (length compared.added == 0) same in
+    let removed = none_of compared.removed none in
+    let added = none_of compared.added nothing in
+    let alike = λ (text : List ℕ) (allowed : Bool).
+    (same_rules_decide_alike agent older newer text allowed (sym is.removed_are ∙ removed)
+    (sym is.added_are ∙ added)).0 in
+    none_ruled agent older newer compared removed added alike urls compared.older.rejected
+    compared.newer.rejected compared.older.verdicts compared.newer.verdicts is.older_is.ruling
+    is.newer_is.ruling

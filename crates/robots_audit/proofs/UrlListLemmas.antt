@@ -1,25 +1,40 @@
--- How the URLs in a text are found, and the message for a line whose URL isn't UTF-8.
-use Rattle.std.proofs.Common.{◌≡◌, ℕ, List, [], Result, Ok, Err, IfErr, IsErrOf, codes, refl, string_bytes, subst, sym}
-use Rattle.std.proofs.Common.{true}
+-- How the URLs in a text are found, and the message for a malformed line.
+use Rattle.std.proofs.Common.{◌≡◌, ℕ, List, Result, Ok, Err, IfErr, IsErrOf, refl, subst, sym}
 use Rattle.std.specs.Str.{IsTrimAscii}
 use Rattle.std.proofs.lemmas.Str.Ascii.{trim_ascii_is}
 use Rattle.robots_io.specs.Sanitize.{IsPrintable}
-use Rattle.robots_io.proofs.SanitizeLemmas.{ascii_printable, nil_printable}
 use Rattle.robots_audit.specs.declared.fault.Fault.{Fault}
 use Rattle.robots_audit.specs.declared.fault.Fault.TheVariants.{File, Malformed, Memory}
-use Rattle.robots_audit.specs.declared.fault.Fault.TheVariants.{NotUtf8, Read, StdinTwice, UnknownWarning}
-use Rattle.robots_audit.specs.declared.fault.Fault.TheVariants.{UrlNotUtf8, Usage, Words, Write}
+use Rattle.robots_audit.specs.declared.fault.Fault.TheVariants.{NoExpectations, NotUtf8, Read, StdinTwice}
+use Rattle.robots_audit.specs.declared.fault.Fault.TheVariants.{UnknownWarning, Usage, Words, Write}
 use Rattle.robots_audit.specs.declared.fault.Outcome.{Outcome}
 use Rattle.robots_audit.specs.Fault.{fault_of_read, fault_text, message_after}
 use Rattle.robots_io.specs.declared.streams.ReadFault.{ReadFault}
 use Rattle.robots_audit.proofs.AnswerLemmas.{read_may_fail}
-use Rattle.robots_audit.specs.UrlList.{IsUrlFault, trimmed}
-use Rattle.robots_audit.proofs.ExpectationsLemmas.{place_printable}
-use Rattle.robots_audit.proofs.MessageLemmas.{may_fail_printable, memory_printable, named_printable}
+use Rattle.robots_audit.specs.declared.fault.Flaw.{Flaw}
+use Rattle.robots_audit.specs.Internal.Expectations.{IsMalformed}
+use Rattle.robots_audit.specs.UrlList.{IsUrlFault, trimmed, urls_in}
+use Rattle.robots_audit.proofs.ExpectationsLemmas.{flawed_printable}
+use Rattle.robots_audit.proofs.MessageLemmas.{may_fail_printable, memory_printable}
 
 -- what `trim_ascii` gives
 pub trimmed_is : (line result : List ℕ) → IsTrimAscii line result → result ≡ trimmed line
 trimmed_is line result is = trim_ascii_is line result _ refl is
+
+pub malformed_url : (name text : List ℕ) (number : ℕ) (flaw : Flaw) (fault : Fault)
+    → IsMalformed name number flaw fault → urls_in text ≡ Err (number, flaw) → IsUrlFault name text fault
+malformed_url name text number flaw (Malformed place other) (same, is) listed =
+    (number, subst (λ flaw. urls_in text ≡ Err (number, flaw)) (sym same) listed, is)
+malformed_url name text number flaw Memory is listed = refl
+malformed_url name text number flaw (NoExpectations shown) is listed = absurd (cc)
+malformed_url name text number flaw (Words shown) is listed = absurd (cc)
+malformed_url name text number flaw Usage is listed = absurd (cc)
+malformed_url name text number flaw NotUtf8 is listed = absurd (cc)
+malformed_url name text number flaw (UnknownWarning shown) is listed = absurd (cc)
+malformed_url name text number flaw (File shown) is listed = absurd (cc)
+malformed_url name text number flaw StdinTwice is listed = absurd (cc)
+malformed_url name text number flaw Read is listed = absurd (cc)
+malformed_url name text number flaw Write is listed = absurd (cc)
 
 url_fault_printable : (name text : List ℕ) (fault : Fault) → IsUrlFault name text fault
     → IsPrintable (fault_text fault)
@@ -28,11 +43,9 @@ url_fault_printable name text Usage is = cc
 url_fault_printable name text NotUtf8 is = cc
 url_fault_printable name text (UnknownWarning shown) is = cc
 url_fault_printable name text (File shown) is = cc
-url_fault_printable name text (Malformed place) is = cc
-url_fault_printable name text (UrlNotUtf8 place) (number, listed, is) =
-    let what = codes ": the URL isn't valid UTF-8" in
-    named_printable (string_bytes place) what [] (subst IsPrintable (sym is) (place_printable name number))
-    (ascii_printable true what refl) (nil_printable true)
+url_fault_printable name text (Malformed place flaw) (number, listed, is) =
+    flawed_printable name number place flaw is
+url_fault_printable name text (NoExpectations shown) is = cc
 url_fault_printable name text StdinTwice is = cc
 url_fault_printable name text Read is = cc
 url_fault_printable name text Write is = cc

@@ -118,7 +118,7 @@ is_warned (Some least) warnings =
 
 pub record IsOutcomeOf (requested : RequestValue) (audit : AuditValue) (outcome : Outcome) : Type 0 where
   pub rejected : outcome.is_rejected ≡ rejects_some audit.agents
-  pub allowed : outcome.all_allowed ≡ all_allowed audit.agents
+  pub allowed : outcome.has_passed ≡ all_allowed audit.agents
   pub warned : outcome.is_warned ≡ is_warned requested.strict audit.warnings
   pub warnings : string_bytes outcome.warnings ≡ message requested audit
 
@@ -152,7 +152,7 @@ pub record Audits (request : Request) (ends : Ends) (result : Result Outcome Fau
 pub record Prints (text : List ℕ) (old new : Option (List ℕ)) (result : Result Outcome Fault)
     : Type 0 where
   pub ok : IfOk result (λ outcome. Appends old new text)
-  pub quiet : IfOk result (λ outcome. (outcome.is_rejected ≡ false) × (outcome.all_allowed ≡ true)
+  pub quiet : IfOk result (λ outcome. (outcome.is_rejected ≡ false) × (outcome.has_passed ≡ true)
       × (outcome.is_warned ≡ false)
       × (string_bytes outcome.warnings ≡ []))
   pub fault : IfErr result (λ fault. fault ≡ Write)

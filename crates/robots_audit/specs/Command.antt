@@ -1,7 +1,7 @@
 -- The request that the arguments contain, specified by what `clap` found in them.
 use Rattle.std.specs.Prelude.{◌≡◌, ◌⊎◌, ℕ, Bool, true, false, List, [], ◌∷◌, ◌++◌}
 use Rattle.std.specs.Prelude.{Option, Some, None}
-use Rattle.std.specs.Prelude.{Contains, IsTrue, Result, Ok, Err, bytes_eq, codes, if◌then◌else◌, is_some, map, ◌||◌}
+use Rattle.std.specs.Prelude.{Contains, IsTrue, Result, Ok, Err, bytes_eq, codes, if◌then◌else◌, is_none, is_some, map, ◌&&◌, ◌||◌}
 use Rattle.std.specs.Prelude.{option_map, string_bytes}
 use Rattle.std.specs.List.{list_all}
 use Rattle.std.specs.Option.{option_map_or}
@@ -41,10 +41,18 @@ abbrev pub file_read : Option (List ℕ) → Option (List ℕ)
 file_read None = None
 file_read (Some name) = if bytes_eq name (codes "-") then None else Some name
 
--- both the URLs and the robots.txt file would be read from standard input
-pub record ReadsStdinTwice (matches : ArgMatches) : Type 0 where
-  pub urls : value_of matches (codes "urls") ≡ Some (codes "-")
-  pub file : file_read (value_of matches (codes "file")) ≡ None
+-- a file with this name is read from standard input; without a name no file is read
+abbrev pub is_stdin : Option (List ℕ) → Bool
+is_stdin None = false
+is_stdin (Some name) = bytes_eq name (codes "-")
+
+-- both the robots.txt file and another one would be read from standard input: the URLs, the expectations or the
+-- older version of the file
+abbrev pub reads_stdin_twice : ArgMatches → Bool
+reads_stdin_twice matches =
+    is_none (file_read (value_of matches (codes "file")))
+    && (is_stdin (value_of matches (codes "urls"))
+    || (is_stdin (value_of matches (codes "expect")) || is_stdin (value_of matches (codes "compare"))))
 
 -- the level with this word; `clap` accepts none but those of the three levels
 abbrev pub level_named : List ℕ → Level
@@ -101,7 +109,7 @@ pub record AreNamesOf (matches : ArgMatches) (id : List ℕ) (names : List (List
   pub known : IsTrue (list_all is_name names)
 
 pub record IsRequestOf (matches : ArgMatches) (request : Request) : Type 0 where
-  pub once : ¬ ReadsStdinTwice matches
+  pub once : reads_stdin_twice matches ≡ false
   pub file : option_map (λ name. name.now) request.file ≡ file_read (value_of matches (codes "file"))
   pub quiet : IsOn matches (codes "quiet") request.is_quiet
   pub format : IsFormatOf matches request.format
@@ -131,6 +139,6 @@ abbrev pub Asks : ArgMatches → Result Request Fault → Type 0
 Asks matches (Ok request) = IsRequestOf matches request
 Asks matches (Err fault) =
     (LacksAgent matches (words_of matches) × (fault ≡ Usage))
-    ⊎ ((ReadsStdinTwice matches × (fault ≡ StdinTwice))
+    ⊎ (((reads_stdin_twice matches ≡ true) × (fault ≡ StdinTwice))
     ⊎ (IsUnknownIn (values_of matches (codes "only")) fault
     ⊎ IsUnknownIn (values_of matches (codes "ignore")) fault))

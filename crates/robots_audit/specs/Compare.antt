@@ -1,5 +1,5 @@
 -- Two versions of a robots.txt file compared: for each crawler the group, the delay and the rules that
--- differ, and the URLs with another verdict or another deciding line.
+-- differ, and the URLs with another verdict or another deciding rule.
 use Rattle.std.specs.Prelude.{◌≡◌, ◌≢◌, ℕ, ◌==◌, Bool, true, false, not, ◌&&◌, ◌||◌, List, [], ◌∷◌, ◌++◌}
 use Rattle.std.specs.Prelude.{Option, Some, None, Result, IfErr, IfOk, IfSome, IsErrOf, bytes_eq, codes}
 use Rattle.std.specs.Prelude.{decimal, filter, flat_map, if◌then◌else◌, is_some, length, map, nat_eq}
@@ -63,9 +63,13 @@ pub record IsCompared (urls : List (List ℕ)) (older newer : List LineValue) (a
 
 -- ---- the lines about a crawler
 
--- a crawler, and what the line about it begins with
+-- each line begins with a word of its own, as the name may come from a file and begin with anything
+abbrev pub crawler_text : List ℕ → List ℕ
+crawler_text agent = codes "crawler " ++ sanitized agent
+
+-- a crawler, and what follows its name
 abbrev pub subject : List ℕ → List ℕ → List ℕ
-subject agent what = sanitized agent ++ what
+subject agent what = crawler_text agent ++ what
 
 -- something that is different in the newer file
 abbrev pub change_text : List ℕ → List ℕ → List ℕ
@@ -124,8 +128,17 @@ rule_changes agent removed added =
 
 -- ---- verdicts
 
-abbrev pub is_same_decision : Decision → Decision → Bool
-is_same_decision one other = beq one.allowed other.allowed && option_eq nat_eq one.line other.line
+-- one of the rules is in this line
+abbrev pub is_in_line_of : List PlacedRule → Option ℕ → Bool
+is_in_line_of rules None = false
+is_in_line_of rules (Some line) = list_any (λ (placed : PlacedRule). placed.line == line) rules
+
+-- both decisions allow or both deny, the rule that decided wasn't removed, and the one that decides now wasn't
+-- added; a rule in another line is the same
+abbrev pub is_same_decision : ComparedValue → Decision → Decision → Bool
+is_same_decision compared older newer =
+    beq older.allowed newer.allowed
+    && not (is_in_line_of compared.removed older.line || is_in_line_of compared.added newer.line)
 
 abbrev pub allowed_word : Bool → List ℕ
 allowed_word true = codes "allow"
@@ -139,22 +152,22 @@ deciding_text (Some line) = codes " " ++ decimal line
 abbrev pub decision_text : Decision → List ℕ
 decision_text decision = allowed_word decision.allowed ++ deciding_text decision.line
 
--- such as `Googlebot /products/tea: allow -> deny 3`
+-- such as `crawler Googlebot /products/tea: allow -> deny 3`
 abbrev pub url_line : List ℕ → List ℕ → Decision → Decision → List ℕ
 url_line agent url older newer =
-    (sanitized agent ++ codes " " ++ sanitized url) ++ codes ": "
+    (crawler_text agent ++ codes " " ++ sanitized url) ++ codes ": "
     ++ change_text (decision_text older) (decision_text newer)
 
 -- the decisions on a URL, if they differ
-abbrev pub url_changes : List ℕ → List ℕ → Decision → Decision → List (List ℕ)
-url_changes agent url older newer =
-    if is_same_decision older newer then [] else url_line agent url older newer ∷ []
+abbrev pub url_changes : ComparedValue → List ℕ → Decision → Decision → List (List ℕ)
+url_changes compared url older newer =
+    if is_same_decision compared older newer then [] else url_line compared.agent url older newer ∷ []
 
 -- the same for each URL
-abbrev pub verdict_changes : List ℕ → List VerdictValue → List VerdictValue → List (List ℕ)
-verdict_changes agent (one ∷ older) (other ∷ newer) =
-    url_changes agent one.url one.decision other.decision ++ verdict_changes agent older newer
-verdict_changes agent _ _ = []
+abbrev pub verdict_changes : ComparedValue → List VerdictValue → List VerdictValue → List (List ℕ)
+verdict_changes compared (one ∷ older) (other ∷ newer) =
+    url_changes compared one.url one.decision other.decision ++ verdict_changes compared older newer
+verdict_changes compared _ _ = []
 
 -- ---- the report
 
@@ -164,7 +177,7 @@ differences compared =
     group_changes compared.agent compared.older.group compared.newer.group
     ++ delay_changes compared.agent compared.older.delay compared.newer.delay
     ++ rule_changes compared.agent compared.removed compared.added
-    ++ verdict_changes compared.agent compared.older.verdicts compared.newer.verdicts
+    ++ verdict_changes compared compared.older.verdicts compared.newer.verdicts
 
 -- one of the files is rejected for the crawler
 abbrev pub is_rejected : ComparedValue → Bool
@@ -202,8 +215,8 @@ agent_lines compared =
 -- that all crawlers are unchanged, or that some are, on which nothing else is reported
 abbrev pub unchanged_lines : Bool → Bool → List (List ℕ)
 unchanged_lines all some =
-    if all then codes "no differences, so no URL's verdict differs" ∷ []
-    else if some then codes "other crawlers: no differences, so no URL's verdict differs" ∷ [] else []
+    if all then codes "no group, delay or rule differs, so no URL's verdict does" ∷ []
+    else if some then codes "other crawlers: no group, delay or rule differs, so no URL's verdict does" ∷ [] else []
 
 abbrev pub report_lines : List ComparedValue → List (List ℕ)
 report_lines compared =
@@ -231,7 +244,7 @@ pub record IsSilent (outcome : Outcome) : Type 0 where
 -- the report on both files is written, and the outcome is that of the report
 abbrev pub WritesReport : List (List ℕ) → List (List ℕ) → List ℕ → Ends → List ℕ → Outcome → Type 0
 WritesReport agents urls older ends newer outcome =
-    (report : List ℕ) × IsComparison agents urls older newer report outcome.is_rejected outcome.all_allowed
+    (report : List ℕ) × IsComparison agents urls older newer report outcome.is_rejected outcome.has_passed
     × Appends ends.old ends.new report × IsSilent outcome
 
 -- a prefix of the report on both files is written

@@ -1,9 +1,14 @@
 -- The lines of a text and the entries in them, and the expectations in the file of `--expect`, one per line.
-use Rattle.std.specs.Prelude.{ℕ, suc, ◌==◌, Bool, true, false, not, ◌&&◌, List, [], ◌∷◌}
+use Rattle.std.specs.Prelude.{ℕ, nat_eq, suc, ◌==◌, Bool, true, false, not, ◌&&◌, ◌||◌, List, [], ◌∷◌}
 use Rattle.std.specs.Prelude.{Option, Some, None, Result, Ok, Err}
 use Rattle.std.specs.Prelude.{bytes_eq, codes, filter, if◌then◌else◌, length}
-use Rattle.std.specs.List.{list_any}
-use Rattle.std.specs.Str.{is_utf8}
+use Rattle.std.specs.List.{list_any, starts_with}
+use Rattle.std.specs.Str.{byte, is_utf8}
+use Rattle.robots_warnings.specs.Facts.{mark, without_start}
+use Rattle.robots_warnings.specs.Tokens.{is_invalid_name}
+use Rattle.robots_warnings.specs.Urls.{is_absolute_url}
+use Rattle.robots_audit.specs.declared.fault.Flaw.{Flaw}
+use Rattle.robots_audit.specs.declared.fault.Flaw.TheVariants.{Agent, Form, NotUtf8, Url}
 
 -- ---- lines and words
 
@@ -26,7 +31,7 @@ parts separators (byte ∷ text) =
 abbrev pub line_separators : List ℕ
 line_separators = codes "\n"
 
--- words are separated by spaces, tabs, and the CR before an LF
+-- words are separated by spaces, tabs and CRs
 abbrev pub word_separators : List ℕ
 word_separators = codes " \t\r"
 
@@ -41,17 +46,22 @@ words line = filter is_word (parts word_separators line)
 
 -- ---- entries, of which a line has at most one
 
+-- the number of a malformed line, and what is wrong with it
+abbrev pub MalformedLine : Type 0
+MalformedLine = ℕ × Flaw
+
 -- a line's entry before those of later lines; the first malformed line counts
-abbrev pub before_others : {X : Type 0} → Result (Option X) ℕ → Result (List X) ℕ → Result (List X) ℕ
-before_others (Err number) others = Err number
+abbrev pub before_others : {X : Type 0} → Result (Option X) MalformedLine → Result (List X) MalformedLine
+    → Result (List X) MalformedLine
+before_others (Err malformed) others = Err malformed
 before_others (Ok None) others = others
 before_others (Ok (Some first)) (Ok others) = Ok (first ∷ others)
-before_others (Ok (Some first)) (Err number) = Err number
+before_others (Ok (Some first)) (Err malformed) = Err malformed
 
--- the entries of these lines, of which the first has this number, or the number of the first malformed line;
--- `entry` is the entry of a line, if it has one, or the number of the line if it is malformed
-abbrev pub entries_from : {X : Type 0} → (ℕ → List ℕ → Result (Option X) ℕ) → ℕ → List (List ℕ)
-    → Result (List X) ℕ
+-- the entries of these lines, of which the first has this number, or the first malformed line; `entry` is the
+-- entry of a line, if it has one, or what is wrong with the line
+abbrev pub entries_from : {X : Type 0} → (ℕ → List ℕ → Result (Option X) MalformedLine) → ℕ
+    → List (List ℕ) → Result (List X) MalformedLine
 entries_from entry number [] = Ok []
 entries_from entry number (line ∷ others) =
     before_others (entry number line) (entries_from entry (suc number) others)
@@ -65,36 +75,42 @@ pub record ExpectationValue : Type 0 where
   pub agent : List ℕ
   pub url : List ℕ
 
--- the word starts a comment
+-- the text starts a comment
 abbrev pub is_comment : List ℕ → Bool
 is_comment [] = false
-is_comment (byte ∷ _) = byte == 35
+is_comment (b ∷ _) = b == byte "#"
 
--- an expectation whose first word is `allow` or `deny`, or the number of the malformed line
-abbrev pub expects : ℕ → List ℕ → List ℕ → List ℕ → Result (Option ExpectationValue) ℕ
+-- the word is a path, or an http(s) URL that can be parsed
+abbrev pub is_path_or_url : List ℕ → Bool
+is_path_or_url word = starts_with nat_eq word (codes "/") || is_absolute_url word
+
+-- the expectation of a line with these words, whose first is `allow` or `deny`, or what is wrong with the line;
+-- what no rule is about, such as a URL without a slash at its start or a name with a version, would be allowed
+-- whatever the file says
+abbrev pub expects : ℕ → List ℕ → List ℕ → List ℕ → Result (Option ExpectationValue) MalformedLine
 expects number word agent url =
-    if not (is_utf8 agent && is_utf8 url) then Err number
-    else if bytes_eq word (codes "allow")
-    then Ok (Some (record { number = number; allowed = true; agent = agent; url = url }))
-    else if bytes_eq word (codes "deny")
-    then Ok (Some (record { number = number; allowed = false; agent = agent; url = url }))
-    else Err number
+    let allowed = bytes_eq word (codes "allow") in
+    if not (allowed || bytes_eq word (codes "deny")) then Err (number, Form)
+    else if not (is_utf8 agent && is_utf8 url) then Err (number, NotUtf8)
+    else if is_invalid_name agent then Err (number, Agent)
+    else if not (is_path_or_url url) then Err (number, Url)
+    else Ok (Some (record { number = number; allowed = allowed; agent = agent; url = url }))
 
 -- a line with three words is an expectation, any other is malformed
-abbrev pub three_words : ℕ → List (List ℕ) → Result (Option ExpectationValue) ℕ
+abbrev pub three_words : ℕ → List (List ℕ) → Result (Option ExpectationValue) MalformedLine
 three_words number (word ∷ agent ∷ url ∷ []) = expects number word agent url
-three_words number _ = Err number
+three_words number _ = Err (number, Form)
 
 -- a line without words is blank, and one whose first word starts with `#` is a comment
-abbrev pub words_expect : ℕ → List (List ℕ) → Result (Option ExpectationValue) ℕ
+abbrev pub words_expect : ℕ → List (List ℕ) → Result (Option ExpectationValue) MalformedLine
 words_expect number [] = Ok None
 words_expect number (word ∷ others) =
     if is_comment word then Ok None else three_words number (word ∷ others)
 
--- the expectation of the line with this number, if it has one, or the number if the line is malformed
-abbrev pub expectation_in : ℕ → List ℕ → Result (Option ExpectationValue) ℕ
+-- the expectation of the line with this number, if it has one, or what is wrong with the line
+abbrev pub expectation_in : ℕ → List ℕ → Result (Option ExpectationValue) MalformedLine
 expectation_in number line = words_expect number (words line)
 
--- the expectations in a text, or the number of its first malformed line
-abbrev pub expectations_in : List ℕ → Result (List ExpectationValue) ℕ
-expectations_in text = entries_from expectation_in 1 (lines text)
+-- the expectations in a text, possibly after a byte order mark, or its first malformed line
+abbrev pub expectations_in : List ℕ → Result (List ExpectationValue) MalformedLine
+expectations_in text = entries_from expectation_in 1 (lines (without_start mark text))

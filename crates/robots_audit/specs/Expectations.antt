@@ -1,7 +1,7 @@
 -- Expectations checked against a robots.txt file, and the report on those that fail.
 use Rattle.std.specs.Prelude.{◌≡◌, ◌≢◌, ℕ, ◌==◌, Bool, true, false, not, List, ◌++◌}
 use Rattle.std.specs.Prelude.{Option, Some, None, Result, Ok, Err, IfErr, IfOk, IfSome, IsErrOf, ⊤}
-use Rattle.std.specs.Prelude.{[], bytes_eq, codes, decimal, filter, if◌then◌else◌, length, map, string_bytes}
+use Rattle.std.specs.Prelude.{[], ◌∷◌, bytes_eq, codes, decimal, filter, if◌then◌else◌, length, map, string_bytes}
 use Rattle.std.specs.List.{AllByRecursion as Each}
 use Rattle.std.specs.Io.KnownBytes.{Appends, Keeps}
 use Rattle.texting_robots.specs.Callers.{IsFirstOverlong, IsRejected, LineValue, lines_read, placed_rules}
@@ -11,7 +11,7 @@ use Rattle.robots_io.specs.Sanitize.{sanitized}
 use Rattle.robots_io.specs.Streams.{AppendsBeginning}
 use Rattle.robots_io.specs.Verdicts.{IsDecisionOn}
 use Rattle.robots_audit.specs.declared.fault.Fault.{Fault}
-use Rattle.robots_audit.specs.declared.fault.Fault.TheVariants.{Malformed, Memory, Read, Write}
+use Rattle.robots_audit.specs.declared.fault.Fault.TheVariants.{Malformed, Memory, NoExpectations, Read, Write}
 use Rattle.robots_audit.specs.declared.fault.Outcome.{Outcome}
 use Rattle.robots_audit.specs.declared.expectations.Finding.{Finding}
 use Rattle.robots_audit.specs.declared.expectations.Finding.TheVariants.{Decided, Rejected}
@@ -86,13 +86,24 @@ failure_line name checked =
     failure_front name checked.expectation ++ codes ", but "
     ++ finding_text checked.expectation.agent checked.expectation.url checked.finding
 
--- the report has a line for each expectation in the text that fails on the file, in order, and says nothing
--- about the others
+-- how many expectations hold
+unfoldable pub holding_text : ℕ → List ℕ
+holding_text number =
+    if number == 1 then codes "1 expectation holds" else decimal number ++ codes " expectations hold"
+
+-- a line for each expectation that fails, in order; if none fails, the number of those that hold
+abbrev pub result_lines : List ℕ → List CheckedValue → List (List ℕ)
+result_lines name checked =
+    if length (filter fails checked) == 0 then holding_text (length checked) ∷ []
+    else map (failure_line name) (filter fails checked)
+
+-- the report on the expectations in the text, of which there are some
 pub record IsReport (name text file report : List ℕ) (all_hold : Bool) : Type 0 where
   pub checked : List CheckedValue
   pub all : expectations_in text ≡ Ok (map (λ (one : CheckedValue). one.expectation) checked)
   pub found : Each (IsChecked (lines_read file)) checked
-  pub whole : report ≡ ended (map (failure_line name) (filter fails checked))
+  pub some : (length checked == 0) ≡ false
+  pub whole : report ≡ ended (result_lines name checked)
   pub hold : all_hold ≡ (length (filter fails checked) == 0)
 
 -- ---- a run
@@ -103,10 +114,13 @@ pub record IsPlain (outcome : Outcome) : Type 0 where
   pub unwarned : outcome.is_warned ≡ false
   pub silent : string_bytes outcome.warnings ≡ []
 
--- the error names the first malformed line of the text; otherwise a read, a write or an allocation failed
+-- the error names the first malformed line of the text, or there are no expectations in the text; otherwise a
+-- read, a write or an allocation failed
 abbrev pub IsFaultOf : List ℕ → List ℕ → Fault → Type 0
-IsFaultOf name text (Malformed place) = (number : ℕ) × (expectations_in text ≡ Err number)
+IsFaultOf name text (Malformed place flaw) = (number : ℕ) × (expectations_in text ≡ Err (number, flaw))
     × (string_bytes place ≡ place_text name number)
+IsFaultOf name text (NoExpectations shown) =
+    (expectations_in text ≡ Ok []) × (string_bytes shown ≡ sanitized name)
 IsFaultOf name text Read = ⊤
 IsFaultOf name text Write = ⊤
 IsFaultOf name text Memory = ⊤
@@ -115,7 +129,7 @@ IsFaultOf name text _ = ⊥
 -- the report on the file is written, and the outcome is that all expectations hold, or that some fail
 abbrev pub WritesReport : List ℕ → List ℕ → Ends → List ℕ → Outcome → Type 0
 WritesReport name text ends file outcome =
-    (report : List ℕ) × IsReport name text file report outcome.all_allowed × Appends ends.old ends.new report
+    (report : List ℕ) × IsReport name text file report outcome.has_passed × Appends ends.old ends.new report
     × IsPlain outcome
 
 -- a prefix of the report on the file is written

@@ -6,21 +6,29 @@ use Rattle.robots_io.specs.declared.streams.ReadFault.{ReadFault}
 use Rattle.robots_io.specs.declared.streams.ReadFault.TheVariants as read
 use Rattle.robots_audit.specs.declared.fault.Fault.{Fault}
 use Rattle.robots_audit.specs.declared.fault.Fault.TheVariants.{File, Malformed, Memory}
-use Rattle.robots_audit.specs.declared.fault.Fault.TheVariants.{NotUtf8, Read, StdinTwice, UnknownWarning}
-use Rattle.robots_audit.specs.declared.fault.Fault.TheVariants.{UrlNotUtf8, Usage, Words, Write}
+use Rattle.robots_audit.specs.declared.fault.Fault.TheVariants.{NoExpectations, NotUtf8, Read, StdinTwice}
+use Rattle.robots_audit.specs.declared.fault.Fault.TheVariants.{UnknownWarning, Usage, Words, Write}
+use Rattle.robots_audit.specs.declared.fault.Flaw.{Flaw}
+use Rattle.robots_audit.specs.declared.fault.Flaw.TheVariants as flaw
 use Rattle.robots_audit.specs.declared.fault.Outcome.{Outcome}
+
+-- what is wrong with a line of the file of `--expect` or `--urls`
+abbrev pub flaw_text : Flaw → List ℕ
+flaw_text flaw.Form = codes "write \"allow AGENT URL\" or \"deny AGENT URL\""
+flaw_text flaw.NotUtf8 = codes "the line isn't valid UTF-8"
+flaw_text flaw.Agent = codes "AGENT isn't a product token without a version, such as Googlebot"
+flaw_text flaw.Url = codes "URL is neither a path that starts with / nor a valid http:// or https:// URL"
 
 -- the message for an error
 abbrev pub reason_of : Fault → List ℕ
 reason_of (Words text) = string_bytes text
-reason_of Usage = codes "missing AGENT (or use --agents)"
+reason_of Usage = codes "missing AGENT (use --agent or --agents)"
 reason_of NotUtf8 = codes "arguments must be valid UTF-8"
 reason_of (UnknownWarning name) = codes "unknown warning " ++ string_bytes name
 reason_of (File name) = codes "cannot read " ++ string_bytes name
-reason_of (Malformed place) =
-    string_bytes place ++ codes ": write \"allow AGENT URL\" or \"deny AGENT URL\""
-reason_of (UrlNotUtf8 place) = string_bytes place ++ codes ": the URL isn't valid UTF-8"
-reason_of StdinTwice = codes "standard input can't be both robots.txt and the URLs (use --file)"
+reason_of (Malformed place flaw) = string_bytes place ++ codes ": " ++ flaw_text flaw
+reason_of (NoExpectations name) = string_bytes name ++ codes ": there are no expectations"
+reason_of StdinTwice = codes "standard input can't be both robots.txt and another file (use --file)"
 reason_of Read = codes "cannot read standard input"
 reason_of Write = codes "cannot write the report"
 reason_of Memory = codes "out of memory"
@@ -28,13 +36,13 @@ reason_of Memory = codes "out of memory"
 -- the usage, after an error in the arguments that `clap` doesn't report
 abbrev pub usage_after : Fault → List ℕ
 usage_after (Words text) = []
-usage_after Usage = codes "; usage: robots_audit [OPTIONS] AGENT [URL].."
-usage_after NotUtf8 = codes "; usage: robots_audit [OPTIONS] AGENT [URL].."
-usage_after (UnknownWarning name) = codes "; usage: robots_audit [OPTIONS] AGENT [URL].."
+usage_after Usage = codes "; usage: robots_audit [-f FILE] [OPTIONS] AGENT [URL].."
+usage_after NotUtf8 = codes "; usage: robots_audit [-f FILE] [OPTIONS] AGENT [URL].."
+usage_after (UnknownWarning name) = codes "; usage: robots_audit [-f FILE] [OPTIONS] AGENT [URL].."
 usage_after (File name) = []
-usage_after (Malformed place) = []
-usage_after (UrlNotUtf8 place) = []
-usage_after StdinTwice = codes "; usage: robots_audit [OPTIONS] AGENT [URL].."
+usage_after (Malformed place flaw) = []
+usage_after (NoExpectations name) = []
+usage_after StdinTwice = codes "; usage: robots_audit [-f FILE] [OPTIONS] AGENT [URL].."
 usage_after Read = []
 usage_after Write = []
 usage_after Memory = []
@@ -49,12 +57,12 @@ abbrev pub message_after : Result Outcome Fault → List ℕ
 message_after (Ok outcome) = string_bytes outcome.warnings
 message_after (Err fault) = fault_text fault
 
--- the exit status: 2 after an error, or if the file is rejected; 1 if some URL is denied; 3 if there is a
--- warning at the level of `--strict`; else 0
+-- the exit status: 2 after an error, or if the file is rejected; 1 if some URL is denied, an expectation fails or
+-- something differs; 3 if there is a warning at the level of `--strict` or a more serious one; else 0
 abbrev pub status_after : Result Outcome Fault → ℕ
 status_after (Ok outcome) =
     if outcome.is_rejected then 2
-    else if not outcome.all_allowed then 1
+    else if not outcome.has_passed then 1
     else if outcome.is_warned then 3 else 0
 status_after (Err fault) = 2
 
@@ -67,8 +75,8 @@ MayFail Usage = ⊥
 MayFail NotUtf8 = ⊥
 MayFail (UnknownWarning name) = ⊥
 MayFail (File name) = ⊥
-MayFail (Malformed place) = ⊥
-MayFail (UrlNotUtf8 place) = ⊥
+MayFail (Malformed place flaw) = ⊥
+MayFail (NoExpectations name) = ⊥
 MayFail StdinTwice = ⊥
 MayFail Read = ⊤
 MayFail Write = ⊤

@@ -6,6 +6,7 @@ pub mod Audit
 pub mod Chosen
 pub mod Listed
 pub mod Report
+pub mod PlainLine
 pub mod Json
 pub mod Page
 pub mod Findings

@@ -5,10 +5,12 @@ use Rattle.std.specs.Char.{is_ascii_whitespace}
 use Rattle.std.specs.List.{prefix_len, suffix_len}
 use Rattle.std.specs.Str.{is_utf8}
 use Rattle.robots_audit.specs.Audit.{RequestValue}
-use Rattle.robots_audit.specs.Expect.{entries_from, is_word, lines}
+use Rattle.robots_audit.specs.Expect.{MalformedLine, entries_from, is_comment, is_word, lines}
 use Rattle.robots_audit.specs.Expectations.{place_text}
 use Rattle.robots_audit.specs.declared.fault.Fault.{Fault}
-use Rattle.robots_audit.specs.declared.fault.Fault.TheVariants.{Memory, UrlNotUtf8}
+use Rattle.robots_audit.specs.declared.fault.Fault.TheVariants.{Malformed, Memory}
+use Rattle.robots_audit.specs.declared.fault.Flaw.TheVariants.{NotUtf8}
+use Rattle.robots_warnings.specs.Facts.{mark, without_start}
 
 -- the line without ASCII white space at its start
 abbrev pub without_front : List ℕ → List ℕ
@@ -22,15 +24,17 @@ without_back line = take (length line - suffix_len is_ascii_whitespace line) lin
 abbrev pub trimmed : List ℕ → List ℕ
 trimmed line = without_back (without_front line)
 
--- the URL of the line with this number, if the line isn't blank, or the number if the URL isn't UTF-8
-abbrev pub url_in : ℕ → List ℕ → Result (Option (List ℕ)) ℕ
+-- the URL of the line with this number, if the line is neither blank nor a comment, which starts with `#` as no
+-- URL does; or that the line isn't UTF-8
+abbrev pub url_in : ℕ → List ℕ → Result (Option (List ℕ)) MalformedLine
 url_in number line =
-    if not (is_utf8 (trimmed line)) then Err number
+    if is_comment (trimmed line) then Ok None
+    else if not (is_utf8 (trimmed line)) then Err (number, NotUtf8)
     else if is_word (trimmed line) then Ok (Some (trimmed line)) else Ok None
 
--- the URLs in a text, or the number of the first line that isn't UTF-8
-abbrev pub urls_in : List ℕ → Result (List (List ℕ)) ℕ
-urls_in text = entries_from url_in 1 (lines text)
+-- the URLs in a text, possibly after a byte order mark, or the first line that isn't UTF-8
+abbrev pub urls_in : List ℕ → Result (List (List ℕ)) MalformedLine
+urls_in text = entries_from url_in 1 (lines (without_start mark text))
 
 -- the request has these URLs as well, after its own
 abbrev pub with_urls : List (List ℕ) → RequestValue → RequestValue
@@ -42,13 +46,8 @@ pub record HasUrlsIn (text : List ℕ) (requested extended : RequestValue) : Typ
   pub listed : urls_in text ≡ Ok urls
   pub extended_is : extended ≡ with_urls urls requested
 
--- the error names this line, whose URL isn't UTF-8, or an allocation failed
-abbrev pub IsNotUtf8 : List ℕ → ℕ → Fault → Type 0
-IsNotUtf8 name number (UrlNotUtf8 place) = string_bytes place ≡ place_text name number
-IsNotUtf8 name number fault = fault ≡ Memory
-
--- the error names the first line of the text whose URL isn't UTF-8, or an allocation failed
+-- the error names the first malformed line of the text, or an allocation failed
 abbrev pub IsUrlFault : List ℕ → List ℕ → Fault → Type 0
-IsUrlFault name text (UrlNotUtf8 place) =
-    (number : ℕ) × (urls_in text ≡ Err number) × (string_bytes place ≡ place_text name number)
+IsUrlFault name text (Malformed place flaw) =
+    (number : ℕ) × (urls_in text ≡ Err (number, flaw)) × (string_bytes place ≡ place_text name number)
 IsUrlFault name text fault = fault ≡ Memory

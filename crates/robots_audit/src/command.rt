@@ -2,8 +2,8 @@
 ghost use Rattle.std.specs.Prelude.{◌≡◌, ◌≢◌, ◌↔◌, ◌++◌, IfErr, IfOk, IsTrue, OnOk, is_some, map, option_map, ◌||◌};
 ghost use Rattle.std.specs.List.{list_all};
 ghost use Rattle.robots_warnings.specs.Table.{is_name};
-ghost use Rattle.robots_audit.specs.Command.{AreNamesOf, Asks, HasCrawlers, IsUnknown, IsUnknownIn, LacksAgent, ReadsStdinTwice};
-ghost use Rattle.robots_audit.specs.Command.{file_read, format_named, level_named, requested_format, single, values_of, words_of};
+ghost use Rattle.robots_audit.specs.Command.{AreNamesOf, Asks, HasCrawlers, IsUnknown, IsUnknownIn, LacksAgent};
+ghost use Rattle.robots_audit.specs.Command.{file_read, format_named, is_stdin, level_named, reads_stdin_twice, requested_format, single, values_of, words_of};
 
 use crate::fault::Fault;
 use clap::builder::ValueParser;
@@ -186,7 +186,9 @@ fn with_expect<'a>(alloc: Global, called: Command<'a>) -> Result<Command<'a>, Al
     let expect = Arg::new(alloc, "expect")
         .long("expect")
         .value_name("FILE")
-        .help("Check the lines \"allow AGENT URL\" and \"deny AGENT URL\" of this file instead")
+        .help(
+            "Check instead the lines \"allow AGENT URL\" and \"deny AGENT URL\" of this file (-: standard input)",
+        )
         .conflicts_with_all(&others)?;
     called.arg(expect)
 }
@@ -199,7 +201,7 @@ fn with_compare<'a>(alloc: Global, called: Command<'a>) -> Result<Command<'a>, A
     let compare = Arg::new(alloc, "compare")
         .long("compare")
         .value_name("OLD")
-        .help("Report instead what differs from this older version of the file")
+        .help("Report instead what differs from OLD (-: standard input) to the file that -f names")
         .conflicts_with_all(&others)?;
     called.arg(compare)
 }
@@ -234,7 +236,7 @@ pub fn command<'a>(alloc: Global) -> Result<Command<'a>, AllocError> {
     let called = Command::new(alloc, "robots_audit")
         .version(VERSION)
         .about("Explains how a crawler interprets a robots.txt file")
-        .override_usage("robots_audit [OPTIONS] AGENT [URL]..");
+        .override_usage("robots_audit [-f FILE] [OPTIONS] AGENT [URL]..");
     let called = with_list(alloc, with_words(alloc, called)?)?;
     let called = with_switches(alloc, with_crawlers(alloc, called)?)?;
     let called = with_expect(alloc, with_names(alloc, called)?)?;
@@ -251,14 +253,25 @@ pub fn file_read<'a>(name: Option<&'a str>) -> Option<&'a str>
     }
 }
 
-/// Whether both the URLs and the robots.txt file would be read from standard input.
-fn reads_stdin_twice(matches: &ArgMatches<'_>) -> bool
-    ensures { IsTrue result ↔ ReadsStdinTwice matches.now }
+/// Whether a file with this name is read from standard input. Without a name, no file is read.
+fn is_stdin(name: Option<&str>) -> bool
+    ensures { result ≡ is_stdin (option_map (λ name. name.now) name.entry) }
 {
-    match matches.get_str("urls") {
-        Some(name) => name == "-" && file_read(matches.get_str("file")).is_none(),
+    match name {
+        Some(name) => name == "-",
         None => false,
     }
+}
+
+/// Whether both the robots.txt file and another one would be read from standard input: the URLs, the expectations or the
+/// older version of the file.
+pub fn reads_stdin_twice(matches: &ArgMatches<'_>) -> bool
+    ensures { result ≡ reads_stdin_twice matches.now }
+{
+    let urls = is_stdin(matches.get_str("urls"));
+    let expected = is_stdin(matches.get_str("expect"));
+    let older = is_stdin(matches.get_str("compare"));
+    file_read(matches.get_str("file")).is_none() && (urls || expected || older)
 }
 
 /// The level with this word. `clap` accepts none but those of the three levels.

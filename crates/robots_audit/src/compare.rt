@@ -155,9 +155,9 @@ fn push_unchanged(text: &mut String, all: bool, some: bool) -> Result<(), AllocE
     ensures { OnOk result (string_bytes text.new ≡ string_bytes text.old ++ ended (unchanged_lines all some)) }
 {
     if all {
-        text.push_str("no differences, so no URL's verdict differs\n")
+        text.push_str("no group, delay or rule differs, so no URL's verdict does\n")
     } else if some {
-        text.push_str("other crawlers: no differences, so no URL's verdict differs\n")
+        text.push_str("other crawlers: no group, delay or rule differs, so no URL's verdict does\n")
     } else {
         Ok(())
     }
@@ -211,7 +211,7 @@ pub fn compare<R: Read, W: Write>(
     write_out(writer, found.report.as_bytes())?;
     Ok(Outcome {
         is_rejected: found.is_rejected,
-        all_allowed: found.all_unchanged,
+        has_passed: found.all_unchanged,
         is_warned: false,
         warnings: String::new(alloc),
     })

@@ -2,8 +2,8 @@
 ghost use Rattle.std.specs.Prelude.{◌≡◌, ◌++◌, ◌∷◌, [], OnOk, codes, map, string_bytes};
 ghost use Rattle.robots_io.specs.Sanitize.{sanitized};
 ghost use Rattle.robots_io.specs.Lines.{ended};
-ghost use Rattle.robots_audit.specs.Compare.{change_text, decision_text, deciding_text, delay_changes, delay_word, differences};
-ghost use Rattle.robots_audit.specs.Compare.{group_changes, group_word, has_same_rules, is_same_decision, is_same_group, kind_word, line_note, rejection};
+ghost use Rattle.robots_audit.specs.Compare.{change_text, crawler_text, decision_text, deciding_text, delay_changes, delay_word, differences};
+ghost use Rattle.robots_audit.specs.Compare.{group_changes, group_word, has_same_rules, is_in_line_of, is_same_decision, is_same_group, kind_word, line_note, rejection};
 ghost use Rattle.robots_audit.specs.Compare.{rejections, rule_changes, rule_line, rule_text, same_rules, subject, url_changes, url_line, verdict_changes};
 ghost use Rattle.robots_audit.specs.Internal.{agent_value, verdict_value};
 ghost use Rattle.robots_audit.specs.Internal.Compare.{compared_value};
@@ -19,12 +19,28 @@ use robots_io::sanitize::push_sanitized;
 use std::alloc::AllocError;
 use texting_robots::robot::Decision;
 
-/// Appends a crawler, and what the line about it begins with.
+/// Appends what a line about a crawler begins with.
+fn push_crawler(text: &mut String, agent: &str) -> Result<(), AllocError>
+    ensures { OnOk result (string_bytes text.new ≡ string_bytes text.old ++ crawler_text agent.now) }
+{
+    text.push_str("crawler ")?;
+    push_sanitized(text, agent.as_bytes())
+}
+
+/// Appends a crawler, and what follows its name.
 fn push_subject(text: &mut String, agent: &str, what: &str) -> Result<(), AllocError>
     ensures { OnOk result (string_bytes text.new ≡ string_bytes text.old ++ subject agent.now what.now) }
 {
-    push_sanitized(text, agent.as_bytes())?;
+    push_crawler(text, agent)?;
     text.push_str(what)
+}
+
+/// Appends a line about a crawler.
+fn push_line_about(text: &mut String, agent: &str, what: &str) -> Result<(), AllocError>
+    ensures { OnOk result (string_bytes text.new ≡ string_bytes text.old ++ ended (subject agent.now what.now ∷ [])) }
+{
+    push_subject(text, agent, what)?;
+    text.push('\n')
 }
 
 /// Whether both groups are determined in the same way.
@@ -184,11 +200,24 @@ fn push_rule_changes(
     Ok(())
 }
 
-/// Whether both decisions allow or both deny, and the same line decides.
-fn is_same_decision(one: &Decision, other: &Decision) -> bool
-    ensures { result ≡ is_same_decision one.now other.now }
+/// Whether one of the rules is in this line.
+fn is_in_line_of(rules: &[Rule], line: Option<usize>) -> bool
+    ensures { result ≡ is_in_line_of rules.now line }
 {
-    one.allowed == other.allowed && one.line == other.line
+    match line {
+        Some(number) => rules.iter().any(|rule| rule.line == number),
+        None => false,
+    }
+}
+
+/// Whether both decisions allow or both deny, the rule that decided wasn't removed, and the one that decides now wasn't
+/// added.
+fn is_same_decision(compared: &Compared<'_>, older: &Decision, newer: &Decision) -> bool
+    ensures { result ≡ is_same_decision (compared_value compared.now) older.now newer.now }
+{
+    let is_removed = is_in_line_of(&compared.removed, older.line);
+    let is_added = is_in_line_of(&compared.added, newer.line);
+    older.allowed == newer.allowed && !(is_removed || is_added)
 }
 
 /// Appends the number of the line that decides, if there is one.
@@ -225,9 +254,9 @@ fn push_decisions(text: &mut String, older: &Decision, newer: &Decision) -> Resu
 /// Appends a crawler and a URL.
 fn push_agent_and_url(text: &mut String, agent: &str, url: &str) -> Result<(), AllocError>
     ensures { OnOk result (string_bytes text.new ≡ string_bytes text.old
-        ++ (sanitized agent.now ++ codes " " ++ sanitized url.now)) }
+        ++ (crawler_text agent.now ++ codes " " ++ sanitized url.now)) }
 {
-    push_sanitized(text, agent.as_bytes())?;
+    push_crawler(text, agent)?;
     text.push_str(" ")?;
     push_sanitized(text, url.as_bytes())
 }
@@ -251,34 +280,35 @@ fn push_url_line(
 /// Appends the decisions on a URL, if they differ.
 fn push_url_changes(
     text: &mut String,
-    agent: &str,
+    compared: &Compared<'_>,
     url: &str,
     older: &Decision,
     newer: &Decision,
 ) -> Result<(), AllocError>
     ensures { OnOk result (string_bytes text.new ≡ string_bytes text.old
-        ++ ended (url_changes agent.now url.now older.now newer.now)) }
+        ++ ended (url_changes (compared_value compared.now) url.now older.now newer.now)) }
 {
-    if is_same_decision(older, newer) {
+    if is_same_decision(compared, older, newer) {
         return Ok(());
     }
-    push_url_line(text, agent, url, older, newer)?;
+    push_url_line(text, &compared.older.agent, url, older, newer)?;
     text.push('\n')
 }
 
 /// Appends the decisions that differ.
 fn push_verdict_changes(
     text: &mut String,
-    agent: &str,
+    compared: &Compared<'_>,
     older: &[Verdict<'_>],
     newer: &[Verdict<'_>],
 ) -> Result<(), AllocError>
     ensures { OnOk result (string_bytes text.new ≡ string_bytes text.old
-        ++ ended (verdict_changes agent.now (map verdict_value older.now) (map verdict_value newer.now))) }
+        ++ ended (verdict_changes (compared_value compared.now)
+        (map verdict_value older.now) (map verdict_value newer.now))) }
 {
     for at in 0..older.len().min(newer.len()) {
         let (one, other) = (&older[at], &newer[at]);
-        push_url_changes(text, agent, one.url, &one.decision, &other.decision)?;
+        push_url_changes(text, compared, one.url, &one.decision, &other.decision)?;
     }
     Ok(())
 }
@@ -292,7 +322,7 @@ pub(crate) fn push_differences(text: &mut String, compared: &Compared<'_>) -> Re
     push_group_changes(text, &older.agent, older.group, newer.group)?;
     push_delay_changes(text, &older.agent, older.delay, newer.delay)?;
     push_rule_changes(text, &older.agent, &compared.removed, &compared.added)?;
-    push_verdict_changes(text, &older.agent, &older.verdicts, &newer.verdicts)?;
+    push_verdict_changes(text, compared, &older.verdicts, &newer.verdicts)?;
     Ok(())
 }
 
@@ -312,8 +342,7 @@ pub(crate) fn push_same_rules(text: &mut String, compared: &Compared<'_>) -> Res
         return Ok(());
     }
     let what = ": same rules, so no URL's verdict differs";
-    push_subject(text, &compared.older.agent, what)?;
-    text.push('\n')
+    push_line_about(text, &compared.older.agent, what)
 }
 
 /// Appends that a file is rejected for a crawler, if it is. `file` says which one it is.

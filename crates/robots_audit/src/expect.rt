@@ -1,10 +1,14 @@
 //! The expectations in the file of `--expect`, one per line, and how a text is cut into parts.
 ghost use Rattle.std.specs.Prelude.{◌≡◌, ◌≢◌, ◌<◌, ◌∷◌, ◌++◌, [], IfErr, IfOk, MatchOption, Ok, OnOk, if◌then◌else◌, length, map, option_map};
 ghost use Rattle.std.specs.Option.{option_to_list};
-ghost use Rattle.robots_audit.specs.Expect.{expectation_in, expectations_in, expects, is_comment, is_in, is_word, parts, words};
+ghost use Rattle.robots_audit.specs.Expect.{entries_from, expectation_in, expectations_in, expects, is_comment, is_in, is_path_or_url, is_word, lines, parts, words};
 ghost use Rattle.robots_audit.specs.Internal.Expect.{HasNone, IsFirstSeparator, IsParseFault, expectation_value};
 
 use crate::agents::as_text;
+use crate::fault::Flaw;
+use robots_warnings::facts::without_mark;
+use robots_warnings::tokens::is_invalid_name;
+use robots_warnings::urls::is_absolute_url;
 use std::alloc::{AllocError, AllocFailed, Global};
 
 /// What has to be allowed or denied.
@@ -22,7 +26,7 @@ pub(crate) struct Expectation<'a> {
 #[derive(Drop)]
 pub(crate) enum ParseFault {
     /// The line with this number is malformed.
-    Malformed(usize),
+    Malformed(usize, Flaw),
     /// An allocation failed.
     Memory,
 }
@@ -106,18 +110,29 @@ fn words<'a>(alloc: Global, line: &'a [u8]) -> Result<Vec<&'a [u8]>, AllocError>
     Ok(found)
 }
 
-/// Whether the word starts a comment.
-fn is_comment(word: &[u8]) -> bool
-    ensures { result ≡ is_comment word.now }
+/// Whether the text starts a comment.
+pub(crate) fn is_comment(text: &[u8]) -> bool
+    ensures { result ≡ is_comment text.now }
 {
-    match word.first() {
+    match text.first() {
         Some(byte) => *byte == b'#',
         None => false,
     }
 }
 
+/// Whether the word is a path, or an http(s) URL that can be parsed.
+fn is_path_or_url(alloc: Global, word: &str) -> Result<bool, AllocError>
+    ensures { IfOk result (λ answer. answer ≡ is_path_or_url word.now) }
+{
+    if word.starts_with("/") {
+        return Ok(true);
+    }
+    is_absolute_url(alloc, word.as_bytes())
+}
+
 /// The expectation of a line with these three words.
 fn expects<'a>(
+    alloc: Global,
     number: usize,
     word: &[u8],
     agent: &'a [u8],
@@ -127,12 +142,18 @@ fn expects<'a>(
         ≡ Ok (option_map expectation_value found)) }
     ensures fault { IfErr result (IsParseFault (expects number word.now agent.now url.now)) }
 {
-    let (Some(agent), Some(url)) = (as_text(agent), as_text(url)) else {
-        return Err(ParseFault::Malformed(number));
-    };
     let allowed = word == b"allow".as_slice();
     if !allowed && word != b"deny".as_slice() {
-        return Err(ParseFault::Malformed(number));
+        return Err(ParseFault::Malformed(number, Flaw::Form));
+    }
+    let (Some(agent), Some(url)) = (as_text(agent), as_text(url)) else {
+        return Err(ParseFault::Malformed(number, Flaw::NotUtf8));
+    };
+    if is_invalid_name(agent.as_bytes()) {
+        return Err(ParseFault::Malformed(number, Flaw::Agent));
+    }
+    if !is_path_or_url(alloc, url)? {
+        return Err(ParseFault::Malformed(number, Flaw::Url));
     }
     Ok(Some(Expectation {
         number,
@@ -159,9 +180,9 @@ fn expectation_in<'a>(
         return Ok(None);
     }
     if words.len() != 3 {
-        return Err(ParseFault::Malformed(number));
+        return Err(ParseFault::Malformed(number, Flaw::Form));
     }
-    expects(number, words[0], words[1], words[2])
+    expects(alloc, number, words[0], words[1], words[2])
 }
 
 /// Appends the expectation of a line, if it has one.
@@ -178,18 +199,11 @@ fn push_expectation<'a>(
     Ok(())
 }
 
-/// The expectations in a text.
-///
-/// # Errors
-///
-/// `ParseFault::Malformed` with the number of the first malformed line, and `ParseFault::Memory` if an allocation
-/// fails.
-pub(crate) fn expectations_in<'a>(
-    alloc: Global,
-    text: &'a [u8],
-) -> Result<Vec<Expectation<'a>>, ParseFault>
-    ensures ok { IfOk result (λ found. expectations_in text.now ≡ Ok (map expectation_value found.items)) }
-    ensures fault { IfErr result (IsParseFault (expectations_in text.now)) }
+/// The expectations in the lines of a text.
+fn line_expectations<'a>(alloc: Global, text: &'a [u8]) -> Result<Vec<Expectation<'a>>, ParseFault>
+    ensures ok { IfOk result (λ found. entries_from expectation_in 1 (lines text.now)
+        ≡ Ok (map expectation_value found.items)) }
+    ensures fault { IfErr result (IsParseFault (entries_from expectation_in 1 (lines text.now))) }
 {
     let mut found = Vec::new(alloc);
     let mut rest = text;
@@ -201,4 +215,19 @@ pub(crate) fn expectations_in<'a>(
         number += 1;
     }
     Ok(found)
+}
+
+/// The expectations in a text, possibly after a byte order mark.
+///
+/// # Errors
+///
+/// `ParseFault::Malformed` for the first malformed line, and `ParseFault::Memory` if an allocation fails.
+pub(crate) fn expectations_in<'a>(
+    alloc: Global,
+    text: &'a [u8],
+) -> Result<Vec<Expectation<'a>>, ParseFault>
+    ensures ok { IfOk result (λ found. expectations_in text.now ≡ Ok (map expectation_value found.items)) }
+    ensures fault { IfErr result (IsParseFault (expectations_in text.now)) }
+{
+    line_expectations(alloc, without_mark(text))
 }

@@ -1,16 +1,16 @@
 //! Expectations checked against a robots.txt file, and the report on those that fail.
-ghost use Rattle.std.specs.Prelude.{◌≡◌, ◌≢◌, ◌++◌, IfErr, IfOk, Ok, OnOk, if◌then◌else◌, codes, decimal, map, string_bytes, take};
+ghost use Rattle.std.specs.Prelude.{◌≡◌, ◌≢◌, ◌==◌, ◌++◌, ◌∷◌, [], IfErr, IfOk, Ok, OnOk, false, if◌then◌else◌, codes, decimal, length, map, string_bytes, take};
 ghost use Rattle.texting_robots.specs.Callers.{file_limit};
 ghost use Rattle.robots_io.specs.Lines.{ended};
 ghost use Rattle.robots_audit.specs.Expect.{expectations_in as specified_in};
-ghost use Rattle.robots_audit.specs.Expectations.{Checks, IsFaultOf, decision_text, demand_text, demand_word, failure_front, failure_line, fails_at, finding_text, place_text, unmatched_text};
+ghost use Rattle.robots_audit.specs.Expectations.{Checks, IsFaultOf, decision_text, demand_text, demand_word, failure_front, failure_line, fails_at, finding_text, holding_text, place_text, unmatched_text};
 ghost use Rattle.robots_audit.specs.Internal.{IsReading};
 ghost use Rattle.robots_audit.specs.Internal.Expect.{expectation_value};
-ghost use Rattle.robots_audit.specs.Internal.Expectations.{AreFailuresOn, IsFindingBy, IsMalformed, IsReadFor, checked_value, failures_at};
+ghost use Rattle.robots_audit.specs.Internal.Expectations.{AreFailuresOn, AreResultsOn, IsFindingBy, IsMalformed, IsReadFor, IsWithoutExpectations, checked_value, failures_at};
 
 use crate::audit::{Reading, read_for};
 use crate::expect::{Expectation, ParseFault, expectations_in};
-use crate::fault::{Fault, Outcome};
+use crate::fault::{Fault, Flaw, Outcome};
 use crate::report::push_rejected_front;
 use robots_io::lines::push_number;
 use robots_io::sanitize::push_sanitized;
@@ -28,6 +28,14 @@ pub(crate) enum Finding {
     Rejected(usize),
     /// The decision on the URL.
     Decided(Decision),
+}
+
+/// The report on expectations.
+#[derive(Drop)]
+struct Results {
+    text: String,
+    /// Whether all expectations hold.
+    all_hold: bool,
 }
 
 /// A crawler, and how the file is read for it.
@@ -89,7 +97,7 @@ fn fails(allowed: bool, finding: &Finding) -> bool
 }
 
 /// Appends the name of a file, and the number of a line.
-pub(crate) fn push_place(text: &mut String, name: &str, number: usize) -> Result<(), AllocError>
+fn push_place(text: &mut String, name: &str, number: usize) -> Result<(), AllocError>
     ensures { OnOk result (string_bytes text.new ≡ string_bytes text.old ++ place_text name.now number) }
 {
     push_sanitized(text, name.as_bytes())?;
@@ -256,38 +264,107 @@ fn failures(
     Ok(report)
 }
 
+/// Appends how many expectations hold.
+#[tactic(auto, unfolding(crate::specs::Expectations::holding_text))]
+fn push_holding_text(text: &mut String, number: usize) -> Result<(), AllocError>
+    ensures { OnOk result (string_bytes text.new ≡ string_bytes text.old ++ holding_text number) }
+{
+    if number == 1 {
+        return text.push_str("1 expectation holds");
+    }
+    push_number(text, number)?;
+    text.push_str(" expectations hold")
+}
+
+/// Appends the line about it.
+fn push_holding(text: &mut String, number: usize) -> Result<(), AllocError>
+    ensures { OnOk result (string_bytes text.new ≡ string_bytes text.old ++ ended (holding_text number ∷ [])) }
+{
+    push_holding_text(text, number)?;
+    text.push('\n')
+}
+
+/// The whole report, made of the lines on the expectations that fail. `number` is that of all expectations.
+fn finished(failures: String, number: usize) -> Result<Results, AllocError>
+    ensures text { IfOk result (λ results. string_bytes results.text ≡ string_bytes failures.entry
+        ++ (if length (string_bytes failures.entry) == 0 then ended (holding_text number ∷ []) else [])) }
+    ensures hold { IfOk result (λ results. results.all_hold ≡ (length (string_bytes failures.entry) == 0)) }
+{
+    let mut text = failures;
+    if !text.is_empty() {
+        return Ok(Results {
+            text,
+            all_hold: false,
+        });
+    }
+    push_holding(&mut text, number)?;
+    Ok(Results {
+        text,
+        all_hold: true,
+    })
+}
+
+/// The report on the expectations: those that fail, or else the number of those that hold.
+fn results_of(
+    alloc: Global,
+    name: &str,
+    expectations: &[Expectation<'_>],
+    file: &[u8],
+) -> Result<Results, Fault>
+    ensures ok { IfOk result (AreResultsOn name.now file.now (map expectation_value expectations.now)) }
+    ensures fault { IfErr result (λ fault. fault ≡ Fault.Memory) }
+{
+    let text = failures(alloc, name, expectations, file)?;
+    let results = finished(text, expectations.len())?;
+    Ok(results)
+}
+
 /// The error for a malformed line; `Fault::Memory` if an allocation fails.
-fn malformed(alloc: Global, name: &str, number: usize) -> Fault
-    ensures { IsMalformed name.now number result }
+pub(crate) fn malformed(alloc: Global, name: &str, number: usize, flaw: Flaw) -> Fault
+    ensures { IsMalformed name.now number flaw result }
 {
     let mut place = String::new(alloc);
     match push_place(&mut place, name, number) {
-        Ok(()) => Fault::Malformed(place),
+        Ok(()) => Fault::Malformed(place, flaw),
         Err(AllocError) => Fault::Memory,
     }
 }
 
-/// The expectations in this text, of a file with this name.
+/// The error for a file without expectations; `Fault::Memory` if an allocation fails.
+fn without_expectations(alloc: Global, name: &str) -> Fault
+    ensures { IsWithoutExpectations name.now result }
+{
+    let mut shown = String::new(alloc);
+    match push_sanitized(&mut shown, name.as_bytes()) {
+        Ok(()) => Fault::NoExpectations(shown),
+        Err(AllocError) => Fault::Memory,
+    }
+}
+
+/// The expectations in this text, of a file with this name. Fails if there are none.
 fn parsed<'a>(alloc: Global, name: &str, text: &'a [u8]) -> Result<Vec<Expectation<'a>>, Fault>
     ensures ok { IfOk result (λ found. specified_in text.now ≡ Ok (map expectation_value found.items)) }
+    ensures some { IfOk result (λ found. (length found.items == 0) ≡ false) }
     ensures fault { IfErr result (λ fault. IsFaultOf name.now text.now fault × (fault ≢ Fault.Write)) }
 {
     match expectations_in(alloc, text) {
+        Ok(found) if found.is_empty() => Err(without_expectations(alloc, name)),
         Ok(found) => Ok(found),
-        Err(ParseFault::Malformed(number)) => Err(malformed(alloc, name, number)),
+        Err(ParseFault::Malformed(number, flaw)) => Err(malformed(alloc, name, number, flaw)),
         Err(ParseFault::Memory) => Err(Fault::Memory),
     }
 }
 
 /// Checks the expectations in a text, of a file with this name, against a robots.txt file, which is read to its end,
-/// and then writes a line for each that fails.
+/// and then writes a line for each that fails, or how many hold if none fails.
 ///
 /// The contract applies to a reader and a writer whose bytes the specification can observe; it claims nothing about the
 /// bytes of standard input and output.
 ///
 /// # Errors
 ///
-/// `Fault::Malformed` if a line of the text is malformed, and the errors of [`crate::program::run`].
+/// `Fault::Malformed` if a line of the text is malformed, `Fault::NoExpectations` if there are no expectations in it,
+/// and the errors of [`crate::program::run`].
 pub fn check<R: Read, W: Write>(
     alloc: Global,
     name: &str,
@@ -303,11 +380,11 @@ pub fn check<R: Read, W: Write>(
 {
     let expectations = parsed(alloc, name, text)?;
     let file = read_all(alloc, reader)?;
-    let report = failures(alloc, name, &expectations, &file)?;
-    write_out(writer, report.as_bytes())?;
+    let results = results_of(alloc, name, &expectations, &file)?;
+    write_out(writer, results.text.as_bytes())?;
     Ok(Outcome {
         is_rejected: false,
-        all_allowed: report.is_empty(),
+        has_passed: results.all_hold,
         is_warned: false,
         warnings: String::new(alloc),
     })

@@ -1,6 +1,6 @@
 //! The end of a run: its outcome or its error, the message on standard error, and the exit status.
 ghost use Rattle.std.specs.Prelude.{◌≡◌};
-ghost use Rattle.robots_audit.specs.Fault.{status_after, usage_after};
+ghost use Rattle.robots_audit.specs.Fault.{flaw_text, status_after, usage_after};
 
 use robots_io::streams::{ReadFault, WriteFault};
 use std::alloc::{AllocError, AllocFailed};
@@ -9,14 +9,29 @@ use std::fmt;
 /// The outcome of a run that wrote its report.
 #[derive(Drop)]
 pub struct Outcome {
-    /// Whether this parser rejects the file for a crawler of the report.
+    /// Whether this parser rejects the file for a crawler of the report. Expectations fail then, so it is `false` after
+    /// `--expect`.
     pub is_rejected: bool,
-    /// Whether each of the other crawlers may fetch every URL of the request.
-    pub all_allowed: bool,
+    /// After an audit, whether each crawler for which the file isn't rejected may fetch every URL of the request; after
+    /// `--expect`, whether all expectations hold; after `--compare`, whether nothing differs; else `true`.
+    pub has_passed: bool,
     /// Whether a warning is at the level of `--strict`, or at a more serious one.
     pub is_warned: bool,
     /// The warnings, one per line; empty if they are in the report.
     pub warnings: String,
+}
+
+/// What is wrong with a line of the file of `--expect` or `--urls`.
+#[derive(Clone, Copy)]
+pub enum Flaw {
+    /// It isn't of the form `allow AGENT URL` or `deny AGENT URL`.
+    Form,
+    /// It isn't UTF-8.
+    NotUtf8,
+    /// AGENT isn't a name that crawlers have.
+    Agent,
+    /// The URL is neither a path nor an http(s) URL that can be parsed.
+    Url,
 }
 
 /// The error that ended a run.
@@ -32,11 +47,11 @@ pub enum Fault {
     UnknownWarning(String),
     /// The file with this name, which is sanitized, can't be opened or read.
     File(String),
-    /// The line with the expectations that this text names is malformed: a file's sanitized name, and a number.
-    Malformed(String),
-    /// The URL of the line that this text names isn't UTF-8: a file's sanitized name, and a number.
-    UrlNotUtf8(String),
-    /// Standard input would have to be both the robots.txt file and the URLs.
+    /// The line that this text names is malformed: a file's sanitized name, and a number.
+    Malformed(String, Flaw),
+    /// There are no expectations in the file with this name, which is sanitized.
+    NoExpectations(String),
+    /// Standard input would have to be both the robots.txt file and another one.
     StdinTwice,
     /// A read failed, or the input didn't end within the maximum number of reads.
     Read,
@@ -44,6 +59,18 @@ pub enum Fault {
     Write,
     /// An allocation failed, or a URL is too long for the crate `url`.
     Memory,
+}
+
+/// The message for it.
+fn flaw_text(flaw: Flaw) -> &'static str
+    ensures { result.now ≡ flaw_text flaw }
+{
+    match flaw {
+        Flaw::Form => "write \"allow AGENT URL\" or \"deny AGENT URL\"",
+        Flaw::NotUtf8 => "the line isn't valid UTF-8",
+        Flaw::Agent => "AGENT isn't a product token without a version, such as Googlebot",
+        Flaw::Url => "URL is neither a path that starts with / nor a valid http:// or https:// URL",
+    }
 }
 
 impl fmt::Display for Fault {
@@ -55,19 +82,14 @@ impl fmt::Display for Fault {
     fn fmt<W: fmt::Write>(&self, f: &mut fmt::Formatter<W>) -> fmt::Result {
         match self {
             Fault::Words(text) => f.write_str(text),
-            Fault::Usage => f.write_str("missing AGENT (or use --agents)"),
+            Fault::Usage => f.write_str("missing AGENT (use --agent or --agents)"),
             Fault::NotUtf8 => f.write_str("arguments must be valid UTF-8"),
             Fault::UnknownWarning(name) => write!(f, "unknown warning {name}"),
             Fault::File(name) => write!(f, "cannot read {name}"),
-            Fault::Malformed(place) => {
-                write!(
-                    f,
-                    "{place}: write \"allow AGENT URL\" or \"deny AGENT URL\""
-                )
-            }
-            Fault::UrlNotUtf8(place) => write!(f, "{place}: the URL isn't valid UTF-8"),
+            Fault::Malformed(place, flaw) => write!(f, "{place}: {}", flaw_text(*flaw)),
+            Fault::NoExpectations(name) => write!(f, "{name}: there are no expectations"),
             Fault::StdinTwice => {
-                f.write_str("standard input can't be both robots.txt and the URLs (use --file)")
+                f.write_str("standard input can't be both robots.txt and another file (use --file)")
             }
             Fault::Read => f.write_str("cannot read standard input"),
             Fault::Write => f.write_str("cannot write the report"),
@@ -129,7 +151,7 @@ fn usage_after(fault: &Fault) -> &'static str
 {
     match fault {
         Fault::Usage | Fault::NotUtf8 | Fault::UnknownWarning(_) | Fault::StdinTwice =>
-            "; usage: robots_audit [OPTIONS] AGENT [URL]..",
+            "; usage: robots_audit [-f FILE] [OPTIONS] AGENT [URL]..",
         _ => "",
     }
 }
@@ -161,7 +183,7 @@ pub fn status_after(outcome: &Result<Outcome, Fault>) -> u8
 {
     match outcome {
         Ok(outcome) if outcome.is_rejected => 2,
-        Ok(outcome) if !outcome.all_allowed => 1,
+        Ok(outcome) if !outcome.has_passed => 1,
         Ok(outcome) if outcome.is_warned => 3,
         Ok(_) => 0,
         Err(_) => 2,

@@ -1,6 +1,6 @@
 //! Theorems about the specification, each written as the contract of an empty function.
 ghost use Rattle.std.specs.Prelude.{Any, Bool, Contains, IsTrue, List, Some, [], false, if◌then◌else◌, slice_get, true, ℕ, ◌+◌, ◌==◌, ◌||◌, ◌↔◌, ◌∷◌, ◌≡◌, ◌≢◌};
-ghost use Rattle.std.specs.List.{list_all};
+ghost use Rattle.std.specs.List.{AllByRecursion as Each, list_all};
 ghost use Rattle.std.specs.Str.{IsUtf8, byte, chars, is_utf8};
 ghost use Rattle.texting_robots.specs.Callers.{Allow, AreLabelsOf, AreRulesFor, Disallow, HoldsRule, IsDecidingLine, IsDenied, IsVerdict, Label, LineValue, Matches, PlacedRule, Rule, UserAgent, escaped, file_lines, is_named, prepared, rules_for, unplaced};
 ghost use Rattle.texting_robots.specs.Verdict.{robots_file};
@@ -15,11 +15,13 @@ ghost use Rattle.robots_warnings.specs.Urls.{is_invalid_url};
 ghost use Rattle.robots_audit.specs.Answer.{output, message};
 ghost use Rattle.robots_html.specs.Html.{document};
 ghost use Rattle.robots_html.specs.Reader.{read_document};
-ghost use Rattle.robots_audit.specs.Audit.{RequestValue, AuditValue, IsAuditOf};
+ghost use Rattle.robots_audit.specs.Audit.{AgentValue, AuditValue, IsAuditOf, RequestValue};
 ghost use Rattle.robots_audit.specs.Page.{page};
-ghost use Rattle.robots_audit.specs.Compare.{ComparedValue, IsCompared, has_same_rules, is_unchanged, report_lines, rules_only_in};
+ghost use Rattle.robots_audit.specs.Compare.{ComparedValue, IsCompared, has_same_rules, is_unchanged, report_lines, rules_only_in, verdict_changes};
 ghost use Rattle.robots_audit.specs.Expectations.{IsReport};
 ghost use Rattle.robots_audit.specs.Explain.{explanation, list_text};
+ghost use Rattle.robots_audit.specs.PlainLine.{IsPlainLine};
+ghost use Rattle.robots_audit.specs.Report.{report_lines as audit_lines, total_line};
 ghost use Rattle.robots_io.specs.Lines.{ended};
 ghost use Rattle.robots_audit.specs.Findings.{FindingValue};
 ghost use Rattle.robots_audit.specs.Github.{command, is_in_line, is_in_property, property_text};
@@ -63,6 +65,14 @@ pub fn no_other_report_steers_a_terminal()
         → IsPrintable report }
     ensures list { IsPrintable list_text }
     ensures explained { (name : List ℕ) → IsPrintable (explanation name) }
+{}
+
+/// If an audit as text, or a comparison, runs in a workflow on GitHub, no line of its report is a command, whatever the
+/// names of crawlers, the URLs and the files are.
+pub fn no_line_is_a_command()
+    ensures audit { (has_rows : Bool) (audit : AuditValue) → Each IsPlainLine (audit_lines has_rows audit) }
+    ensures totals { (agents : List AgentValue) → IsPlainLine (total_line agents) }
+    ensures comparison { (compared : List ComparedValue) → Each IsPlainLine (report_lines compared) }
 {}
 
 /// In a workflow command for GitHub, whatever the name of the file and the texts are: no text ends the line, and no text
@@ -137,7 +147,7 @@ pub fn missing_slash()
 {}
 
 /// If a crawler has the same rules in two files, in whatever lines, both files give each text the same verdict. So they do
-/// if `--compare` reports that nothing differs for a crawler, or that its rules are the same.
+/// if `--compare` reports that nothing differs for a crawler, or that its rules are the same; and then it lists no URL.
 pub fn same_rules_decide_alike()
     ensures rules { (agent : List ℕ) (older newer : List LineValue) (text : List ℕ) (allowed : Bool)
         → rules_only_in older newer agent ≡ [] → rules_only_in newer older agent ≡ []
@@ -146,6 +156,9 @@ pub fn same_rules_decide_alike()
         (text : List ℕ) (allowed : Bool) → IsCompared urls older newer agent compared
         → (is_unchanged compared || has_same_rules compared) ≡ true
         → IsVerdict (rules_for agent older) text allowed ↔ IsVerdict (rules_for agent newer) text allowed }
+    ensures listed { (urls : List (List ℕ)) (older newer : List LineValue) (agent : List ℕ) (compared : ComparedValue)
+        → IsCompared urls older newer agent compared → has_same_rules compared ≡ true
+        → verdict_changes compared compared.older.verdicts compared.newer.verdicts ≡ [] }
 {}
 
 /// A URL with `invalid-url` is matched as the escaped string.

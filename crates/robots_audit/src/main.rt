@@ -2,7 +2,7 @@
 //! for each line of the first 512,000 bytes, with its number, whether it is in the crawler's group, and its directive;
 //! then the group and the delay that apply to the crawler; then for each URL whether the crawler may fetch it, and
 //! which line decides. Warnings about lines that probably don't do what was intended go to standard error. All of this
-//! can be written as JSON or as an HTML page instead.
+//! can be written as JSON, as an HTML page, as annotations for GitHub or as a SARIF log instead.
 //!
 //! `robots_audit [OPTIONS] AGENT [URL]..`
 //!
@@ -11,10 +11,11 @@
 //! With `--list-warnings` or `--explain` it writes what warnings there are, or what one means, and reads nothing.
 //!
 //! With `--expect` it checks instead whether crawlers may fetch what a file of expectations says, and writes a line for
-//! each that fails.
+//! each that fails, or how many hold if none fails.
 //!
-//! The exit status is 0 if every URL is allowed; 1 if some URL is denied; 2 after an error or if the file is rejected for
-//! a crawler of the report; and with `--strict` 3 if there is a warning at its level.
+//! The exit status is 0 if every URL is allowed, all expectations hold or nothing differs; 1 if not; 2 after an error, or
+//! if the file is rejected for a crawler of a report or of a comparison; and with `--strict` 3 if there is a warning at
+//! its level or a more serious one.
 #![tactic(auto)]
 
 ghost use Rattle.std.specs.Prelude.{IfErr};
@@ -50,7 +51,7 @@ mod url_list;
 
 use clap::ArgMatches;
 use clap::error::ErrorKind as WordsKind;
-use command::{Request, command, file_read, requested};
+use command::{Request, command, file_read, reads_stdin_twice, requested};
 use compare::compare;
 use expectations::check;
 use explain::{explain, list_warnings};
@@ -175,7 +176,10 @@ fn check_named(rt: &HostRuntime, expected: &str, text: &[u8], name: &str) -> Res
 fn checked(rt: &HostRuntime, matches: &ArgMatches<'_>, expected: &str) -> Result<Outcome, Fault>
     ensures { IsPrintable (message_after result) }
 {
-    let text = read_named(rt, expected)?;
+    if reads_stdin_twice(matches) {
+        return Err(Fault::StdinTwice);
+    }
+    let text = read_named_or_stdin(rt, expected)?;
     match file_read(matches.get_str("file")) {
         Some(name) => check_named(rt, expected, &text, name),
         None => check(
@@ -213,7 +217,7 @@ fn compared_with(rt: &HostRuntime, matches: &ArgMatches<'_>, older: &str) -> Res
     ensures { IsPrintable (message_after result) }
 {
     let request = requested(rt.alloc(), matches)?;
-    let text = read_named(rt, older)?;
+    let text = read_named_or_stdin(rt, older)?;
     match request.file {
         Some(name) => compare_named(rt, &request, &text, name),
         None => compare(

@@ -139,7 +139,7 @@ pub fn run<R: Read, W: Write>(
     let warnings = message(alloc, request, &audit)?;
     let outcome = Outcome {
         is_rejected: rejects_some(&audit.agents),
-        all_allowed: all_allowed(&audit.agents),
+        has_passed: all_allowed(&audit.agents),
         is_warned: is_warned(request.strict, &audit.warnings),
         warnings,
     };
@@ -155,7 +155,7 @@ pub fn print<W: Write>(alloc: Global, text: &[u8], writer: &mut W) -> Result<Out
     write_out(writer, text)?;
     Ok(Outcome {
         is_rejected: false,
-        all_allowed: true,
+        has_passed: true,
         is_warned: false,
         warnings: String::new(alloc),
     })

@@ -1,15 +1,17 @@
 //! The URLs in the file of `--urls`, one per line.
 ghost use Rattle.std.specs.Prelude.{◌≡◌, IfErr, IfOk, Ok, map, option_map};
 ghost use Rattle.robots_audit.specs.Answer.{requested_by};
+ghost use Rattle.robots_audit.specs.Expect.{entries_from, lines};
 ghost use Rattle.robots_audit.specs.Internal.Expect.{IsParseFault};
-ghost use Rattle.robots_audit.specs.UrlList.{HasUrlsIn, IsNotUtf8, IsUrlFault, trimmed, url_in, urls_in};
+ghost use Rattle.robots_audit.specs.UrlList.{HasUrlsIn, IsUrlFault, trimmed, url_in, urls_in};
 
 use crate::agents::as_text;
 use crate::command::Request;
-use crate::expect::{ParseFault, cut};
-use crate::expectations::push_place;
-use crate::fault::Fault;
-use std::alloc::{AllocError, Global};
+use crate::expect::{ParseFault, cut, is_comment};
+use crate::expectations::malformed;
+use crate::fault::{Fault, Flaw};
+use robots_warnings::facts::without_mark;
+use std::alloc::Global;
 
 /// The line without white space at its start and end.
 fn trimmed<'a>(line: &'a [u8]) -> &'a [u8]
@@ -18,27 +20,27 @@ fn trimmed<'a>(line: &'a [u8]) -> &'a [u8]
     line.trim_ascii()
 }
 
-/// The URL of the line with this number, if the line isn't blank.
+/// The URL of the line with this number, if the line is neither blank nor a comment.
 fn url_in<'a>(number: usize, line: &'a [u8]) -> Result<Option<&'a str>, ParseFault>
     ensures ok { IfOk result (λ found. url_in number line.now ≡ Ok (option_map (λ url. url.now) found)) }
     ensures fault { IfErr result (IsParseFault (url_in number line.now)) }
 {
-    match as_text(trimmed(line)) {
+    let line = trimmed(line);
+    if is_comment(line) {
+        return Ok(None);
+    }
+    match as_text(line) {
         Some(url) if url.is_empty() => Ok(None),
         Some(url) => Ok(Some(url)),
-        None => Err(ParseFault::Malformed(number)),
+        None => Err(ParseFault::Malformed(number, Flaw::NotUtf8)),
     }
 }
 
-/// The URLs in a text.
-///
-/// # Errors
-///
-/// `ParseFault::Malformed` with the number of the first line whose URL isn't UTF-8, and `ParseFault::Memory` if an
-/// allocation fails.
-fn urls_in<'a>(alloc: Global, text: &'a [u8]) -> Result<Vec<&'a str>, ParseFault>
-    ensures ok { IfOk result (λ found. urls_in text.now ≡ Ok (map (λ url. url.now) found.items)) }
-    ensures fault { IfErr result (IsParseFault (urls_in text.now)) }
+/// The URLs in the lines of a text.
+fn line_urls<'a>(alloc: Global, text: &'a [u8]) -> Result<Vec<&'a str>, ParseFault>
+    ensures ok { IfOk result (λ found. entries_from url_in 1 (lines text.now)
+        ≡ Ok (map (λ url. url.now) found.items)) }
+    ensures fault { IfErr result (IsParseFault (entries_from url_in 1 (lines text.now))) }
 {
     let mut found = Vec::new(alloc);
     let mut rest = text;
@@ -54,22 +56,24 @@ fn urls_in<'a>(alloc: Global, text: &'a [u8]) -> Result<Vec<&'a str>, ParseFault
     Ok(found)
 }
 
-/// The error for a line whose URL isn't UTF-8; `Fault::Memory` if an allocation fails.
-fn not_utf8(alloc: Global, name: &str, number: usize) -> Fault
-    ensures { IsNotUtf8 name.now number result }
+/// The URLs in a text, possibly after a byte order mark.
+///
+/// # Errors
+///
+/// `ParseFault::Malformed` for the first line that isn't UTF-8, and `ParseFault::Memory` if an allocation fails.
+fn urls_in<'a>(alloc: Global, text: &'a [u8]) -> Result<Vec<&'a str>, ParseFault>
+    ensures ok { IfOk result (λ found. urls_in text.now ≡ Ok (map (λ url. url.now) found.items)) }
+    ensures fault { IfErr result (IsParseFault (urls_in text.now)) }
 {
-    let mut place = String::new(alloc);
-    match push_place(&mut place, name, number) {
-        Ok(()) => Fault::UrlNotUtf8(place),
-        Err(AllocError) => Fault::Memory,
-    }
+    line_urls(alloc, without_mark(text))
 }
 
 /// The request with the URLs in a text, of a file with this name, after its own.
 ///
 /// # Errors
 ///
-/// `Fault::UrlNotUtf8` if a URL isn't UTF-8, and `Fault::Memory` if an allocation fails.
+/// `Fault::Malformed` if a line isn't UTF-8, and `Fault::Memory` if an allocation fails.
+#[tactic(auto, using(crate::proofs::UrlListLemmas::malformed_url))]
 pub fn with_urls<'a>(
     alloc: Global,
     request: Request<'a>,
@@ -82,7 +86,9 @@ pub fn with_urls<'a>(
     let mut extended = request;
     match urls_in(alloc, text) {
         Ok(urls) => extended.urls.extend_from_slice(&urls)?,
-        Err(ParseFault::Malformed(number)) => return Err(not_utf8(alloc, name, number)),
+        Err(ParseFault::Malformed(number, flaw)) => {
+            return Err(malformed(alloc, name, number, flaw));
+        }
         Err(ParseFault::Memory) => return Err(Fault::Memory),
     }
     Ok(extended)

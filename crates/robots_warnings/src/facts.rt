@@ -125,7 +125,7 @@ fn seems_utf_16(file: &[u8]) -> bool
 }
 
 /// The text without a byte order mark.
-fn without_mark<'a>(text: &'a [u8]) -> &'a [u8]
+pub fn without_mark<'a>(text: &'a [u8]) -> &'a [u8]
     ensures { result.now ≡ without_start mark text.now }
 {
     text.strip_prefix(b"\xEF\xBB\xBF").unwrap_or(text)

@@ -53,7 +53,7 @@ fn is_parsable_url(alloc: Global, text: &str) -> Result<bool, AllocError>
 }
 
 /// Whether the value is an absolute http(s) URL.
-pub(crate) fn is_absolute_url(alloc: Global, value: &[u8]) -> Result<bool, AllocError>
+pub fn is_absolute_url(alloc: Global, value: &[u8]) -> Result<bool, AllocError>
     ensures { IfOk result (λ answer. answer ≡ is_absolute_url value.now) }
 {
     match std::str::from_utf8(value) {

@@ -3,7 +3,7 @@ use Rattle.std.specs.Prelude.{◌≡◌, ℕ, ◌<◌, true, false, List, Result
 use Rattle.robots_audit.specs.declared.expect.Expectation.{Expectation}
 use Rattle.robots_audit.specs.declared.expect.ParseFault.{ParseFault}
 use Rattle.robots_audit.specs.declared.expect.ParseFault.TheVariants.{Malformed, Memory}
-use Rattle.robots_audit.specs.Expect.{ExpectationValue, is_in}
+use Rattle.robots_audit.specs.Expect.{ExpectationValue, MalformedLine, is_in}
 
 abbrev pub expectation_value : Expectation → ExpectationValue
 expectation_value expectation = record {
@@ -14,8 +14,8 @@ expectation_value expectation = record {
 }
 
 -- the error is that of the specification, or an allocation failed
-abbrev pub IsParseFault : {X : Type 0} → Result X ℕ → ParseFault → Type 0
-IsParseFault specified (Malformed number) = specified ≡ Err number
+abbrev pub IsParseFault : {X : Type 0} → Result X MalformedLine → ParseFault → Type 0
+IsParseFault specified (Malformed number flaw) = specified ≡ Err (number, flaw)
 IsParseFault specified Memory = ⊤
 
 -- the first `end` bytes of the text contain no separator

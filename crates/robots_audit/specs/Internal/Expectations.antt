@@ -1,8 +1,9 @@
 -- Expectations and findings as the code handles them.
-use Rattle.std.specs.Prelude.{◌≡◌, ℕ, List, [], ◌∷◌, filter, map, string_bytes}
+use Rattle.std.specs.Prelude.{◌≡◌, ℕ, ◌==◌, List, [], ◌∷◌, filter, length, map, string_bytes}
 use Rattle.std.specs.List.{AllByRecursion as Each}
 use Rattle.texting_robots.specs.Callers.{lines_read}
 use Rattle.robots_io.specs.Lines.{ended}
+use Rattle.robots_io.specs.Sanitize.{sanitized}
 use Rattle.robots_io.specs.Verdicts.{IsDecisionOn}
 use Rattle.robots_audit.specs.declared.audit.Reading.{Reading}
 use Rattle.robots_audit.specs.declared.audit.Reading.TheVariants as reading
@@ -11,9 +12,11 @@ use Rattle.robots_audit.specs.declared.expectations.AgentReading.{AgentReading}
 use Rattle.robots_audit.specs.declared.expectations.Finding.{Finding}
 use Rattle.robots_audit.specs.declared.expectations.Finding.TheVariants.{Decided, Rejected}
 use Rattle.robots_audit.specs.declared.fault.Fault.{Fault}
-use Rattle.robots_audit.specs.declared.fault.Fault.TheVariants.{Malformed, Memory}
+use Rattle.robots_audit.specs.declared.fault.Fault.TheVariants.{Malformed, Memory, NoExpectations}
+use Rattle.robots_audit.specs.declared.fault.Flaw.{Flaw}
+use Rattle.robots_audit.specs.declared.expectations.Results.{Results}
 use Rattle.robots_audit.specs.Expect.{ExpectationValue}
-use Rattle.robots_audit.specs.Expectations.{CheckedValue, IsChecked, failure_line, fails, place_text}
+use Rattle.robots_audit.specs.Expectations.{CheckedValue, IsChecked, failure_line, fails, place_text, result_lines}
 use Rattle.robots_audit.specs.Internal.Expect.{expectation_value}
 use Rattle.robots_audit.specs.Internal.{IsReading}
 
@@ -44,7 +47,22 @@ pub record AreFailuresOn (name file : List ℕ) (expectations : List Expectation
   pub found : Each (IsChecked (lines_read file)) checked
   pub whole : report ≡ ended (map (failure_line name) (filter fails checked))
 
--- the error names this line, or an allocation failed
-abbrev pub IsMalformed : List ℕ → ℕ → Fault → Type 0
-IsMalformed name number (Malformed place) = string_bytes place ≡ place_text name number
-IsMalformed name number fault = fault ≡ Memory
+-- the whole report on these expectations, and whether all hold
+pub record AreResultsOn (name file : List ℕ) (expectations : List ExpectationValue) (results : Results)
+    : Type 0 where
+  pub checked : List CheckedValue
+  pub all : map (λ (one : CheckedValue). one.expectation) checked ≡ expectations
+  pub found : Each (IsChecked (lines_read file)) checked
+  pub whole : string_bytes results.text ≡ ended (result_lines name checked)
+  pub hold : results.all_hold ≡ (length (filter fails checked) == 0)
+
+-- the error names this line and says what is wrong with it, or an allocation failed
+abbrev pub IsMalformed : List ℕ → ℕ → Flaw → Fault → Type 0
+IsMalformed name number flaw (Malformed place other) =
+    (other ≡ flaw) × (string_bytes place ≡ place_text name number)
+IsMalformed name number flaw fault = fault ≡ Memory
+
+-- the error names this file, in which there are no expectations, or an allocation failed
+abbrev pub IsWithoutExpectations : List ℕ → Fault → Type 0
+IsWithoutExpectations name (NoExpectations shown) = string_bytes shown ≡ sanitized name
+IsWithoutExpectations name fault = fault ≡ Memory

@@ -2,12 +2,13 @@ use Rattle.std.proofs.Common.{◌≡◌, ◌++◌, drop, map, string_bytes}
 use Rattle.robots_io.specs.Lines.{ended}
 use Rattle.robots_audit.specs.Compare.{verdict_changes}
 use Rattle.robots_audit.specs.Internal.{verdict_value}
+use Rattle.robots_audit.specs.Internal.Compare.{compared_value}
 use Rattle.robots_audit.proofs.differences.push_verdict_changes.Given as goal
 
 abbrev pub invariant-loop-at : goal.invariant-loop-at
 invariant-loop-at l =
     string_bytes l.text
-    ++ ended (verdict_changes l.agent (map verdict_value (drop l.at l.older))
+    ++ ended (verdict_changes (compared_value l.compared) (map verdict_value (drop l.at l.older))
     (map verdict_value (drop l.at l.newer)))
     ≡ string_bytes l.fn.text
-    ++ ended (verdict_changes l.agent (map verdict_value l.older) (map verdict_value l.newer))
+    ++ ended (verdict_changes (compared_value l.compared) (map verdict_value l.older) (map verdict_value l.newer))

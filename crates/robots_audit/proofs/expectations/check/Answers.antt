@@ -1,4 +1,4 @@
-use Rattle.std.proofs.Common.{refl, rules, string_bytes, ◌==◌, length}
+use Rattle.std.proofs.Common.{refl, rules, string_bytes}
 use Rattle.robots_audit.specs.Fault.{fault_of_read}
 use Rattle.robots_audit.proofs.AnswerLemmas.{no_fault}
 use Rattle.robots_audit.proofs.ExpectationsLemmas.{read_fault, report_made, unread, write_failed}
@@ -18,27 +18,30 @@ returns-in_err-file g c =
 
 pub returns-in_err-write_out : goal.returns-in_err-write_out
 returns-in_err-write_out g c =
+    let results = c.in_ok-results.results in
     write_failed _ _ _ c.from_residual-in_err-write_out.result c.in_ok-file.file.items (search rules)
     c.in_ok-file.ensures.all (
-      string_bytes c.in_ok-report.report,
-      length (string_bytes c.in_ok-report.report) == 0,
-      report_made _ _ _ _ _ _ c.in_ok-expectations.ensures.ok
-          (rw (c.deref.ensures.value, c.deref-2.ensures.value) at c.in_ok-report.ensures.ok) refl,
+      string_bytes results.text,
+      results.all_hold,
+      report_made _ _ _ _ results c.in_ok-expectations.ensures.ok c.in_ok-expectations.ensures.some
+          (rw (c.deref.ensures.value, c.deref-2.ensures.value) at c.in_ok-results.ensures.ok),
       rw c.as_bytes.ensures.value at c.write_out.ensures.beginning,
     )
 
 pub returns : goal.returns
-returns g c = record {
-  file = c.in_ok-file.file.items;
-  read = c.in_ok-file.ensures.all;
-  ok = (
-    string_bytes c.in_ok-report.report,
-    report_made _ _ _ _ _ _ c.in_ok-expectations.ensures.ok
-        (rw (c.deref.ensures.value, c.deref-2.ensures.value) at c.in_ok-report.ensures.ok) (search rules),
-    rw c.as_bytes.ensures.value at c.in_ok-write_out.ensures.ok,
-    record { accepted = refl; unwarned = refl; silent = c.new.ensures.bytes },
-  );
-  fault = tt;
-  beginning = λ broken. absurd (no_fault _ _ broken);
-  nothing_written = tt;
-}
+returns g c =
+    let results = c.in_ok-results.results in
+    record {
+      file = c.in_ok-file.file.items;
+      read = c.in_ok-file.ensures.all;
+      ok = (
+        string_bytes results.text,
+        report_made _ _ _ _ results c.in_ok-expectations.ensures.ok c.in_ok-expectations.ensures.some
+            (rw (c.deref.ensures.value, c.deref-2.ensures.value) at c.in_ok-results.ensures.ok),
+        rw c.as_bytes.ensures.value at c.in_ok-write_out.ensures.ok,
+        record { accepted = refl; unwarned = refl; silent = c.new.ensures.bytes },
+      );
+      fault = tt;
+      beginning = λ broken. absurd (no_fault _ _ broken);
+      nothing_written = tt;
+    }

@@ -1,15 +1,15 @@
 use Rattle.std.proofs.Common.{◌≡◌, ◌+◌, ◌≤◌, length, map}
-use Rattle.robots_audit.specs.Expect.{entries_from, expectation_in, expectations_in, lines}
+use Rattle.robots_audit.specs.Expect.{entries_from, expectation_in, lines}
 use Rattle.robots_audit.specs.Internal.Expect.{expectation_value}
 use Rattle.robots_audit.proofs.ExpectLemmas.{after_these}
-use Rattle.robots_audit.proofs.expect.expectations_in.Given as goal
+use Rattle.robots_audit.proofs.expect.line_expectations.Given as goal
 
 abbrev pub invariant-loop-rest : goal.invariant-loop-rest
 invariant-loop-rest l = record {
   counted : l.number + length l.rest ≤ length l.text + 1;
   so_far : after_these (map expectation_value l.found.items)
       (entries_from expectation_in l.number (lines l.rest))
-      ≡ expectations_in l.text;
+      ≡ entries_from expectation_in 1 (lines l.text);
 }
 
 abbrev pub decreases-loop-rest : goal.decreases-loop-rest

@@ -1,0 +1,16 @@
+-- Lines that no workflow on GitHub takes for a command. Its commands begin with `::` or `##[`, possibly after
+-- spaces.
+use Rattle.std.specs.Prelude.{ℕ, ◌==◌, Bool, true, false, not, ◌||◌, IsTrue, List, [], ◌∷◌, if◌then◌else◌}
+use Rattle.std.specs.Str.{byte}
+use Rattle.robots_io.specs.Sanitize.{IsPrintableIn}
+
+-- the first byte that isn't a space is neither `:` nor `#`
+abbrev pub begins_plainly : List ℕ → Bool
+begins_plainly [] = true
+begins_plainly (b ∷ text) =
+    if b == byte " " then begins_plainly text else not (b == byte ":" || b == byte "#")
+
+-- a single line without control or bidirectional-formatting characters, which isn't a command
+pub record IsPlainLine (line : List ℕ) : Type 0 where
+  pub printable : IsPrintableIn false line
+  pub begins : IsTrue (begins_plainly line)
