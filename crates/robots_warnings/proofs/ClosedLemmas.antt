@@ -11,6 +11,7 @@ use Rattle.texting_robots.specs.Escape.{is_escaped}
 use Rattle.texting_robots.specs.Executable.{rule_in}
 use Rattle.texting_robots.specs.Internal.Group.{placed}
 use Rattle.robots_warnings.specs.Closed.{is_closing, is_opening, is_whole_site}
+use Rattle.robots_warnings.specs.Replaced.{is_partial}
 
 abbrev only_stars : List ℕ → Bool
 only_stars text = list_all (λ c. c == byte "*") text
@@ -79,4 +80,13 @@ pub opening_value : (number : ℕ) (value : List ℕ)
 opening_value number value = elim (cases_Bool (is_utf8 value)) [
   | inl is ↦ rw is (ap not (none_escaped value) ∙ sym (and_true (not (length value == 0))))
   | inr isnt ↦ rw isnt (sym (and_false (not (length value == 0))))
+]
+
+-- whether a Disallow with this value is for a part of the site
+pub partial_value : (number : ℕ) (value : List ℕ)
+    → option_map_or is_partial (placed number (rule_in (Disallow value))) false
+    ≡ (not (is_whole_site value) && is_utf8 value)
+partial_value number value = elim (cases_Bool (is_utf8 value)) [
+  | inl is ↦ rw is (ap not (whole_site_escaped value) ∙ sym (and_true (not (is_whole_site value))))
+  | inr isnt ↦ rw isnt (sym (and_false (not (is_whole_site value))))
 ]

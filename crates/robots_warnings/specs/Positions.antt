@@ -77,16 +77,19 @@ begin_with_rules begun (CrawlDelay delay ∷ lines) = begin_with_rules true line
 begin_with_rules begun (Sitemap value ∷ lines) = begin_with_rules begun lines
 begin_with_rules begun (Raw body ∷ lines) = begin_with_rules begun lines
 
--- these lines begin with user-agent lines, one of which has this name
+-- these lines begin with user-agent lines, and the test holds for one of their names
+abbrev pub begin_with_one : (List ℕ → Bool) → List LineValue → Bool
+begin_with_one test [] = false
+begin_with_one test (UserAgent value ∷ lines) = test value || begin_with_one test lines
+begin_with_one test (Allow value ∷ lines) = false
+begin_with_one test (Disallow value ∷ lines) = false
+begin_with_one test (CrawlDelay delay ∷ lines) = false
+begin_with_one test (Sitemap value ∷ lines) = begin_with_one test lines
+begin_with_one test (Raw body ∷ lines) = begin_with_one test lines
+
+-- one of them has this name
 abbrev pub begin_with_name : List ℕ → List LineValue → Bool
-begin_with_name name [] = false
-begin_with_name name (UserAgent value ∷ lines) =
-    str_eq_ignore_ascii_case value name || begin_with_name name lines
-begin_with_name name (Allow value ∷ lines) = false
-begin_with_name name (Disallow value ∷ lines) = false
-begin_with_name name (CrawlDelay delay ∷ lines) = false
-begin_with_name name (Sitemap value ∷ lines) = begin_with_name name lines
-begin_with_name name (Raw body ∷ lines) = begin_with_name name lines
+begin_with_name name lines = begin_with_one (λ value. str_eq_ignore_ascii_case value name) lines
 
 -- there is such a name, and these lines begin with it
 abbrev pub name_again : Option (List ℕ) → List LineValue → Bool

@@ -135,7 +135,7 @@ abbrev pub group_warnings : Bool → List (List ℕ) → List LineValue → List
 group_warnings everywhere agents lines labels =
     warned_at NonstandardEscape (nonstandard_escapes everywhere labels)
     ++ (crawler_warnings agents lines labels
-    ++ (warned_at ReplacesStar (replacing everywhere lines labels)
+    ++ (warned_at ReplacesStar (replacing agents lines labels)
     ++ (warned_at RepeatedRule (repeated everywhere labels)
     ++ warned None None (google_checks lines agents))))
 

@@ -163,7 +163,7 @@ fn name_again(name: Option<&[u8]>, labels: &[LabeledLine<'_>]) -> bool
 
 /// Whether one of these lines names `*`, and no rule is above it.
 #[tactic(auto, using(crate::proofs::PositionLemmas::star_from))]
-fn name_star(labels: &[LabeledLine<'_>]) -> bool
+pub(crate) fn name_star(labels: &[LabeledLine<'_>]) -> bool
     ensures { result ≡ name_star (lines_of (map label_by_value labels.now)) }
 {
     for labeled in labels {

@@ -1,41 +1,46 @@
-//! Groups that have none of the Disallow rules of `*`.
-ghost use Rattle.std.specs.Prelude.{◌≡◌, IfOk, List, OnOk, false, map};
+//! Groups of crawlers that have none of the Disallow rules of `*`.
+ghost use Rattle.std.specs.Prelude.{◌≡◌, Bool, IfOk, List, OnOk, false, map, string_bytes, ℕ};
 ghost use Rattle.std.specs.List.{list_any};
 ghost use Rattle.std.specs.Option.{option_map_or};
-ghost use Rattle.texting_robots.specs.Callers.{PlacedRule, by_value, file_lines, label_by_value};
+ghost use Rattle.std.specs.Str.{str_to_ascii_lowercase};
+ghost use Rattle.texting_robots.specs.Callers.{LineValue, by_value, file_lines, label_by_value};
+ghost use Rattle.texting_robots.specs.Group.{is_group};
 ghost use Rattle.texting_robots.specs.Internal.Site.{rule_of, tag_of};
 ghost use Rattle.robots_warnings.specs.File.{lines_of};
-ghost use Rattle.robots_warnings.specs.Internal.Replaced.{AddsDenied, HasDenied, is_other_name};
-ghost use Rattle.robots_warnings.specs.Replaced.{is_disallow, is_first_name, is_kept, is_replacing, keep_none, replacing, star_rules};
+ghost use Rattle.robots_warnings.specs.Internal.Replaced.{AddsDenied, AddsLacking, HasDenied, HasThose, is_kept_in};
+ghost use Rattle.robots_warnings.specs.Positions.{begin_with_one};
+ghost use Rattle.robots_warnings.specs.Replaced.{is_first_name, is_lacking, is_partial, is_replacing, lacks_all, replacing};
+ghost use Rattle.robots_warnings.specs.Replaced.{star_rules};
 
-use crate::checks::is_in_scope_of;
 use crate::closed::is_whole_site;
 use crate::conflicts::{Patterns, pattern_of};
+use crate::names::{Names, add_name};
 use crate::names_past_limit::add;
-use crate::positions::{Preceding, preceding_with};
+use crate::positions::{Preceding, name_star, preceding_with};
 use crate::rules::is_utf8;
 use std::alloc::{AllocError, Global};
-use std::collections::HashSet;
+use std::collections::{BTreeSet, HashSet};
 use texting_robots::labels::LabeledLine;
 use texting_robots::parser::Line;
 use texting_robots::site::{GroupLine, Site};
 
-/// Whether the line has a Disallow rule.
-fn is_disallow(line: &GroupLine<'_>) -> bool
-    ensures { result ≡ option_map_or is_disallow (rule_of (tag_of line.now)) false }
+/// Whether the line has a Disallow rule, but not of the whole site.
+#[tactic(auto, using(crate::proofs::ClosedLemmas::partial_value))]
+fn is_partial(line: &GroupLine<'_>) -> bool
+    ensures { result ≡ option_map_or is_partial (rule_of (tag_of line.now)) false }
 {
     match line.line {
-        Line::Disallow(value) => is_utf8(value),
+        Line::Disallow(value) => !is_whole_site(value) && is_utf8(value),
         _ => false,
     }
 }
 
-/// Whether `*` has a Disallow rule.
-fn has_disallow(site: &Site) -> bool
-    ensures { result ≡ list_any is_disallow (star_rules (file_lines site.now)) }
+/// Whether `*` has such a rule.
+fn has_partial(site: &Site) -> bool
+    ensures { result ≡ list_any is_partial (star_rules (file_lines site.now)) }
 {
     for line in site.own_lines("*") {
-        if is_disallow(&line) {
+        if is_partial(&line) {
             return true;
         }
     }
@@ -66,55 +71,113 @@ fn denied_patterns(alloc: Global, site: &Site) -> Result<Patterns, AllocError>
     Ok(denied)
 }
 
-/// Whether a Disallow with this value has one of these patterns, or closes the whole site.
-fn is_kept(alloc: Global, denied: &Patterns, value: &[u8]) -> Result<bool, AllocError>
-    ensures { IfOk result (λ is. (rules : List PlacedRule) → HasDenied denied.now rules → is ≡ is_kept rules value.now) }
+/// Whether the line's rule is for the whole site, or a Disallow whose pattern is in the set.
+fn is_kept(alloc: Global, denied: &Patterns, line: &GroupLine<'_>) -> Result<bool, AllocError>
+    ensures { IfOk result (λ is. is ≡ option_map_or (is_kept_in denied.now) (rule_of (tag_of line.now)) false) }
 {
-    if is_whole_site(value) {
-        return Ok(true);
-    }
-    match pattern_of(alloc, value)? {
-        Some(pattern) => Ok(denied.contains(pattern.as_str())),
-        None => Ok(false),
-    }
+    let (value, is_allow) = match line.line {
+        Line::Allow(value) => (value, true),
+        Line::Disallow(value) => (value, false),
+        _ => return Ok(false),
+    };
+    let Some(pattern) = pattern_of(alloc, value)? else {
+        return Ok(false);
+    };
+    Ok(is_whole_site(pattern.as_bytes()) || (!is_allow && denied.contains(pattern.as_str())))
 }
 
-/// Whether these lines begin with user-agent lines, none of which names `*`, and their group has lines, but neither a
-/// Disallow that is kept nor an Allow of the whole site.
-#[tactic(auto, using(crate::proofs::ReplacedLemmas::none_from))]
-fn keep_none(
+/// Whether the crawler has none of these Disallows of `*`, and no rule for the whole site.
+fn lacks_all(
     alloc: Global,
+    site: &Site,
     denied: &Patterns,
+    agent: &str,
+) -> Result<bool, AllocError>
+    requires { HasDenied denied.now (star_rules (file_lines site.now)) }
+    ensures { IfOk result (λ lacks. lacks ≡ lacks_all (file_lines site.now) agent.now) }
+{
+    for line in site.own_lines(agent) {
+        if is_kept(alloc, denied, &line)? {
+            return Ok(false);
+        }
+    }
+    Ok(true)
+}
+
+/// Inserts the name of the crawler, in lower case, if it has none of these Disallows of `*`.
+fn add_lacking(
+    alloc: Global,
+    names: &mut Names,
+    site: &Site,
+    denied: &Patterns,
+    agent: &str,
+) -> Result<(), AllocError>
+    requires { HasDenied denied.now (star_rules (file_lines site.now)) }
+    ensures { OnOk result (AddsLacking (file_lines site.now) names.old names.new agent.now) }
+{
+    if lacks_all(alloc, site, denied, agent)? {
+        add_name(alloc, names, agent.as_bytes())?;
+    }
+    Ok(())
+}
+
+/// The names, in lower case, of those of these crawlers that have none of the Disallows of `*`.
+fn lacking(alloc: Global, site: &Site, agents: &[String]) -> Result<Names, AllocError>
+    ensures { IfOk result (λ names. HasThose names (is_lacking (map string_bytes agents.now) (file_lines site.now))) }
+{
+    let denied = denied_patterns(alloc, site)?;
+    let mut names = BTreeSet::new(alloc);
+    for agent in agents {
+        add_lacking(alloc, &mut names, site, &denied, agent)?;
+    }
+    Ok(names)
+}
+
+/// Whether the set contains the name, in lower case.
+fn contains_name(alloc: Global, names: &Names, name: &[u8]) -> Result<bool, AllocError>
+    ensures { IfOk result (λ has. (test : List ℕ → Bool) → HasThose names.now test
+        → has ≡ test (str_to_ascii_lowercase name.now)) }
+{
+    let lowered = name.to_ascii_lowercase(alloc)?;
+    Ok(names.contains(&lowered))
+}
+
+/// Whether these lines begin with user-agent lines, one of whose names is in the set.
+#[tactic(auto, using(crate::proofs::PositionLemmas::name_from))]
+fn begin_with_one(
+    alloc: Global,
+    names: &Names,
     labels: &[LabeledLine<'_>],
 ) -> Result<bool, AllocError>
-    ensures { IfOk result (λ none. (rules : List PlacedRule) → HasDenied denied.now rules
-        → none ≡ keep_none rules false (lines_of (map label_by_value labels.now))) }
+    ensures { IfOk result (λ is. (test : List ℕ → Bool) → HasThose names.now test
+        → is ≡ begin_with_one (λ name. test (str_to_ascii_lowercase name)) (lines_of (map label_by_value labels.now))) }
 {
-    let mut begun = false;
     for labeled in labels {
         match labeled.line {
             Line::UserAgent(value) => {
-                if begun || value == b"*".as_slice() {
-                    return Ok(begun);
+                if contains_name(alloc, names, value)? {
+                    return Ok(true);
                 }
             }
-            Line::Allow(value) => {
-                if is_whole_site(value) {
-                    return Ok(false);
-                }
-                begun = true;
-            }
-            Line::Disallow(value) => {
-                if is_kept(alloc, denied, value)? {
-                    return Ok(false);
-                }
-                begun = true;
-            }
-            Line::CrawlDelay(_) => begun = true,
+            Line::Allow(_) | Line::Disallow(_) | Line::CrawlDelay(_) => return Ok(false),
             Line::Sitemap(_) | Line::Raw(_) => {}
         }
     }
-    Ok(begun)
+    Ok(false)
+}
+
+/// Whether one of these lines is a rule or a delay.
+#[tactic(auto, using(crate::proofs::ReplacedLemmas::groups_from))]
+fn have_group(labels: &[LabeledLine<'_>]) -> bool
+    ensures { result ≡ list_any is_group (lines_of (map label_by_value labels.now)) }
+{
+    for labeled in labels {
+        match labeled.line {
+            Line::Allow(_) | Line::Disallow(_) | Line::CrawlDelay(_) => return true,
+            Line::UserAgent(_) | Line::Sitemap(_) | Line::Raw(_) => {}
+        }
+    }
+    false
 }
 
 /// Whether the line is a user-agent line that isn't below another one of the same group.
@@ -124,75 +187,45 @@ fn is_first_name(preceding: Preceding, line: Line<'_>) -> bool
     matches!(line, Line::UserAgent(_)) && preceding != Preceding::Agent
 }
 
-/// Whether the line is the first user-agent line of a group that is checked and keeps none of these Disallows.
-/// `from_here` are the lines from this one on.
+/// Whether the line is the first user-agent line of a group that has rules or delays and one of these names, but isn't
+/// the group of `*`, too. `from_here` are the lines from this one on.
 fn is_replacing(
     alloc: Global,
-    everywhere: bool,
-    denied: &Patterns,
+    names: &Names,
     preceding: Preceding,
-    labeled: &LabeledLine<'_>,
+    line: Line<'_>,
     from_here: &[LabeledLine<'_>],
 ) -> Result<bool, AllocError>
-    ensures { IfOk result (λ is. (rules : List PlacedRule) → HasDenied denied.now rules
-        → is ≡ is_replacing everywhere rules preceding (label_by_value labeled.now)
-        (lines_of (map label_by_value from_here.now))) }
+    ensures { IfOk result (λ is. (agents : List (List ℕ)) → (lines : List LineValue)
+        → HasThose names.now (is_lacking agents lines)
+        → is ≡ is_replacing agents lines preceding (by_value line.entry) (lines_of (map label_by_value from_here.now))) }
 {
-    if !is_in_scope_of(everywhere, labeled.membership) || !is_first_name(preceding, labeled.line) {
+    if !is_first_name(preceding, line) || !have_group(from_here) {
         return Ok(false);
     }
-    keep_none(alloc, denied, from_here)
+    Ok(begin_with_one(alloc, names, from_here)? && !name_star(from_here))
 }
 
-/// Whether the line is a user-agent line that is checked, and its name isn't `*`.
-fn is_other_name(everywhere: bool, labeled: &LabeledLine<'_>) -> bool
-    ensures { result ≡ is_other_name everywhere (label_by_value labeled.now) }
-{
-    match labeled.line {
-        Line::UserAgent(value) => {
-            is_in_scope_of(everywhere, labeled.membership) && value != b"*".as_slice()
-        }
-        _ => false,
-    }
-}
-
-/// Whether there is such a line.
-#[tactic(auto, using(crate::proofs::ReplacedLemmas::others_from))]
-fn has_other_names(everywhere: bool, labels: &[LabeledLine<'_>]) -> bool
-    ensures { result ≡ list_any (is_other_name everywhere) (map label_by_value labels.now) }
-{
-    for labeled in labels {
-        if is_other_name(everywhere, labeled) {
-            return true;
-        }
-    }
-    false
-}
-
-/// The numbers of the first user-agent lines of groups that are checked and have none of the Disallow rules of `*`, if
-/// `*` has such rules.
+/// The numbers of the first user-agent lines of groups that have none of the Disallow rules of `*` and are those of these
+/// crawlers, if `*` has a Disallow, but not of the whole site.
 pub(crate) fn replacing(
     alloc: Global,
-    everywhere: bool,
     site: &Site,
+    agents: &[String],
     labels: &[LabeledLine<'_>],
 ) -> Result<Vec<usize>, AllocError>
     ensures { IfOk result (λ found. found.items
-        ≡ replacing everywhere (file_lines site.now) (map label_by_value labels.now)) }
+        ≡ replacing (map string_bytes agents.now) (file_lines site.now) (map label_by_value labels.now)) }
 {
     let mut found = Vec::new(alloc);
-    // without such a name, the patterns aren't needed
-    if !has_other_names(everywhere, labels) {
+    if !has_partial(site) {
         return Ok(found);
     }
-    if !has_disallow(site) {
-        return Ok(found);
-    }
-    let denied = denied_patterns(alloc, site)?;
+    let names = lacking(alloc, site, agents)?;
     let mut preceding = Preceding::Other;
     let mut rest = labels;
     while let [labeled, after @ ..] = rest {
-        let is = is_replacing(alloc, everywhere, &denied, preceding, labeled, rest)?;
+        let is = is_replacing(alloc, &names, preceding, labeled.line, rest)?;
         add(&mut found, is, labeled.number)?;
         preceding = preceding_with(preceding, labeled.line);
         rest = after;

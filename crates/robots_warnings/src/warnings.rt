@@ -334,7 +334,7 @@ fn warn_of_groups(
     let escapes = nonstandard_escapes(alloc, everywhere, labels)?;
     warn_at(found, Cause::NonstandardEscape, &escapes)?;
     warn_of_crawlers(alloc, found, site, agents, labels)?;
-    let replacing = replacing(alloc, everywhere, site, labels)?;
+    let replacing = replacing(alloc, site, agents, labels)?;
     warn_at(found, Cause::ReplacesStar, &replacing)?;
     let repeated = repeated(alloc, everywhere, labels)?;
     warn_at(found, Cause::RepeatedRule, &repeated)?;

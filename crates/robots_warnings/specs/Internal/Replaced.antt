@@ -1,12 +1,15 @@
--- The set of the patterns of the Disallows of `*`.
-use Rattle.std.specs.Prelude.{◌≡◌, ℕ, Bool, false, not, ◌||◌, ◌&&◌, List, Option, bytes_eq, codes}
+-- The set of the patterns of the Disallows of `*`, and that of the names of crawlers that have none of these.
+use Rattle.std.specs.Prelude.{◌≡◌, ℕ, Bool, false, not, ◌||◌, ◌&&◌, List, Option, bytes_eq}
+use Rattle.std.specs.BTreeSet.{BTreeSet, contains}
 use Rattle.std.specs.HashSet.{contains_text}
 use Rattle.std.specs.List.{list_any}
 use Rattle.std.specs.Option.{option_map_or}
-use Rattle.texting_robots.specs.Callers.{Label, LineValue, PlacedRule, UserAgent}
-use Rattle.robots_warnings.specs.Checks.{is_in_scope_of}
+use Rattle.std.specs.Str.{str_to_ascii_lowercase}
+use Rattle.texting_robots.specs.Callers.{LineValue, PlacedRule}
+use Rattle.robots_warnings.specs.Closed.{is_whole_site}
 use Rattle.robots_warnings.specs.Internal.Conflicts.{Patterns}
-use Rattle.robots_warnings.specs.Replaced.{denies}
+use Rattle.robots_warnings.specs.Internal.Names.{Key, key_cmp}
+use Rattle.robots_warnings.specs.Replaced.{denies, lacks_all}
 
 -- the new set is the old one and the pattern of the rule, if there is one and it is a Disallow
 pub record AddsDenied {S : Type 0} (old new : Patterns S) (given : Option PlacedRule) : Type 0 where
@@ -22,11 +25,16 @@ pub record DeniedWith {S : Type 0} (denied : Patterns S) (left all : List Placed
   pub each : (pattern : List ℕ) → (contains_text denied pattern || list_any (denies pattern) left)
       ≡ list_any (denies pattern) all
 
--- a user-agent line whose name isn't `*`
-abbrev pub has_other_name : LineValue → Bool
-has_other_name (UserAgent value) = not (bytes_eq value (codes "*"))
-has_other_name _ = false
+-- the rule is for the whole site, or a Disallow whose pattern is in the set
+abbrev pub is_kept_in : {S : Type 0} → Patterns S → PlacedRule → Bool
+is_kept_in denied placed =
+    is_whole_site placed.rule.0 || (not placed.rule.1 && contains_text denied placed.rule.0)
 
--- such a line that is checked
-abbrev pub is_other_name : Bool → Label → Bool
-is_other_name everywhere label = is_in_scope_of everywhere label.membership && has_other_name label.line
+-- the set contains exactly the names, in lower case, for which the test holds
+pub record HasThose (names : BTreeSet Key) (test : List ℕ → Bool) : Type 0 where
+  pub each : (key : Key) → contains key_cmp names key ≡ test key.items
+
+-- the new set is the old one and the name of the crawler, if it has none of the Disallows of `*`
+pub record AddsLacking (lines : List LineValue) (old new : BTreeSet Key) (agent : List ℕ) : Type 0 where
+  pub each : (key : Key) → contains key_cmp new key ≡ (contains key_cmp old key
+      || (lacks_all lines agent && bytes_eq (str_to_ascii_lowercase agent) key.items))

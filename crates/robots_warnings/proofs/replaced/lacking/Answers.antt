@@ -1,0 +1,23 @@
+use Rattle.std.proofs.Common.{◌<◌, ◌&&◌, arith, bytes_eq, length}
+use Rattle.std.specs.Str.{str_to_ascii_lowercase}
+use Rattle.texting_robots.specs.Callers.{file_lines}
+use Rattle.robots_warnings.specs.Replaced.{lacks_all}
+use Rattle.robots_warnings.proofs.NameLemmas.{any_next}
+use Rattle.robots_warnings.proofs.replaced.lacking.Goals as goal
+
+pub loop-agent-preserved : goal.loop-agent-preserved
+loop-agent-preserved c =
+    let lines = file_lines c.args.site.now in
+    let agents = c.args.agents.now in
+    let at = c.loop-agent.agent-index in
+    let item = c.agent-item.result in
+    let below : at < length agents = omega arith in
+    record {
+      denied = c.loop-agent.invariant.denied;
+      names = record {
+        each = λ key.
+            any_next (λ agent. lacks_all lines agent && bytes_eq (str_to_ascii_lowercase agent) key.items)
+            agents at item below c.agent-item.is c.deref.ensures (c.loop-agent.invariant.names.each key)
+            (c.in_ok-add_lacking.ensures.each key);
+      };
+    }
