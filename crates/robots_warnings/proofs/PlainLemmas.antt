@@ -157,7 +157,9 @@ next_value c text plain rest =
       differs c 44 plain refl,
       differs c 60 plain refl,
       differs c 0xC2 plain refl,
+      differs c 0xE1 plain refl,
       differs c 0xE2 plain refl,
+      differs c 0xE3 plain refl,
       differs c 0xEF plain refl,
     ) refl
 

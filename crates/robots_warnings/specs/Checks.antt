@@ -1,4 +1,5 @@
--- The condition of each warning, grouped by what it inspects, in the order of output.
+-- The conditions of warnings about a file, a request, a line and its position, grouped by what they inspect,
+-- in the order of output. Warnings.antt names those of the others.
 use Rattle.std.specs.Prelude.{ℕ, Bool, true, false, List, [], ◌∷◌, ◌++◌, Option, None, Some, if◌then◌else◌}
 use Rattle.std.specs.Prelude.{nat_lt, not, ◌&&◌}
 use Rattle.std.specs.Str.{is_utf8}

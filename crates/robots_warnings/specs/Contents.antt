@@ -44,10 +44,11 @@ has_path_in_comment tail comment =
     (starts_with nat_eq comment (codes "#/") || starts_with nat_eq comment (codes "#!/"))
     && length (raw_value tail) == 0
 
--- what is left of the rule is the whole site, or nothing
+-- what is left of the rule is the whole site, which is the value of an empty Disallow, too; an empty Allow
+-- has no effect
 abbrev pub is_cut_to_root : (value tail comment : List ℕ) → Bool
 is_cut_to_root value tail comment =
-    (is_cut value tail comment && is_whole_site value) || has_path_in_comment tail comment
+    (is_cut value tail comment || has_path_in_comment tail comment) && is_whole_site value
 
 -- a rule that is read and matches some paths, but not the whole site, is left
 abbrev pub is_cut_short : (value tail comment : List ℕ) → Bool

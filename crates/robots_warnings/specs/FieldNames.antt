@@ -122,10 +122,15 @@ is_any_accepted word = list_any (λ kind. is_accepted kind word) KINDS
 abbrev pub begins_field : List ℕ → List ℕ → Bool
 begins_field name text = begins_with name text && slice_index text (length name) == byte ":"
 
--- the text starts with a space or a tab, one of the usual names and a colon
+-- a byte that may be the last one of a line before another one was joined to it: a space, a tab, or the star
+-- of `User-agent: *`
+abbrev pub may_end_line : ℕ → Bool
+may_end_line b = is_space_or_tab b || b == byte "*"
+
+-- the text starts with such a byte, one of the usual names and a colon
 abbrev pub begins_inner_field : List ℕ → Bool
 begins_inner_field text =
-    is_space_or_tab (slice_index text 0) && list_any (λ row. begins_field row.0.now (drop 1 text)) DIRECTIVES
+    may_end_line (slice_index text 0) && list_any (λ row. begins_field row.0.now (drop 1 text)) DIRECTIVES
 
 -- what follows the first colon of a line has a colon too, and contains such a text
 abbrev pub has_inner_field : List ℕ → Bool

@@ -24,20 +24,39 @@ abbrev pub begins_space : List ℕ → Bool
 begins_space [] = false
 begins_space (b ∷ text) = nat_le b 32
 
--- the text starts with a character that can't be seen: U+00A0 (a no-break space), U+00AD (a soft hyphen),
--- U+200B (a zero-width space), U+2060 (a word joiner) or U+FEFF (a zero-width no-break space), in UTF-8
+-- the last byte of U+2000 to U+200A, U+2028, U+2029 and U+202F, in UTF-8
+abbrev pub is_general_space : ℕ → Bool
+is_general_space b = (nat_le 0x80 b && nat_le b 0x8A) || (b == 0xA8 || (b == 0xA9 || b == 0xAF))
+
+-- the text starts with other white space of Unicode, in UTF-8: U+0085, U+00A0 (a no-break space), U+1680,
+-- U+2000 to U+200A, U+2028, U+2029, U+202F, U+205F or U+3000 (a full-width space)
+abbrev pub begins_wide_space : List ℕ → Bool
+begins_wide_space text =
+    let first = slice_index text 0 in
+    let second = slice_index text 1 in
+    let third = slice_index text 2 in
+    (first == 0xC2 && (second == 0x85 || second == 0xA0))
+    || ((first == 0xE1 && (second == 0x9A && third == 0x80))
+    || ((first == 0xE2 && (second == 0x80 && is_general_space third))
+    || ((first == 0xE2 && (second == 0x81 && third == 0x9F))
+    || (first == 0xE3 && (second == 0x80 && third == 0x80)))))
+
+-- the text starts with a character that can't be seen: U+00AD (a soft hyphen), U+200B (a zero-width space),
+-- U+2060 (a word joiner) or U+FEFF (a zero-width no-break space), in UTF-8
 abbrev pub begins_unseen : List ℕ → Bool
 begins_unseen text =
     let first = slice_index text 0 in
     let second = slice_index text 1 in
     let third = slice_index text 2 in
-    (first == 0xC2 && (second == 0xA0 || second == 0xAD))
+    (first == 0xC2 && second == 0xAD)
     || ((first == 0xE2 && ((second == 0x80 && third == 0x8B) || (second == 0x81 && third == 0xA0)))
     || (first == 0xEF && (second == 0xBB && third == 0xBF)))
 
 -- the text starts with one of these
 abbrev pub begins_next_value : List ℕ → Bool
-begins_next_value text = begins_space text || (begins_list text || (begins_tag text || begins_unseen text))
+begins_next_value text =
+    begins_space text
+    || (begins_list text || (begins_tag text || (begins_wide_space text || begins_unseen text)))
 
 -- the value contains one of these
 abbrev pub has_several_values : List ℕ → Bool

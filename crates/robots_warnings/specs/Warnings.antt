@@ -1,4 +1,4 @@
--- All warnings about a file and a request: what is valid but probably not intended.
+-- All warnings about a file and a request, in the order of output.
 use Rattle.std.specs.Prelude.{ℕ, Bool, List, [], ◌∷◌, ◌++◌, Option, Some, None}
 use Rattle.std.specs.Prelude.{codes, decimal, flat_map, if◌then◌else◌, is_none, map, not, ◌||◌}
 use Rattle.texting_robots.specs.Callers.{LineValue, Label, bodies_read}

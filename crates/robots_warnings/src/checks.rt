@@ -1,4 +1,4 @@
-//! The condition of each warning, grouped by what it inspects, in the order of output.
+//! The conditions of warnings about a file, a request, a line and its position, grouped by what they inspect.
 ghost use Rattle.std.specs.Prelude.{◌≡◌, IfOk, map, option_map};
 ghost use Rattle.texting_robots.specs.Callers.{label_by_value};
 ghost use Rattle.robots_warnings.specs.FieldNames.{is_without_colon};

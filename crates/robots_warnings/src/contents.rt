@@ -59,11 +59,11 @@ fn has_path_in_comment(tail: &[u8], comment: &[u8]) -> bool
     (comment.starts_with(b"#/") || comment.starts_with(b"#!/")) && raw_value(tail).is_empty()
 }
 
-/// Whether a comment leaves a rule for the whole site, or nothing.
+/// Whether a comment leaves a rule for the whole site, or an empty Disallow.
 pub(crate) fn is_cut_to_root(value: &[u8], tail: &[u8], comment: &[u8]) -> bool
     ensures { result ≡ is_cut_to_root value.now tail.now comment.now }
 {
-    (is_cut(value, tail, comment) && is_whole_site(value)) || has_path_in_comment(tail, comment)
+    (is_cut(value, tail, comment) || has_path_in_comment(tail, comment)) && is_whole_site(value)
 }
 
 /// Whether a comment directly follows the value of a rule that is read and matches some paths, but not the whole site.

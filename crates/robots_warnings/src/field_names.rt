@@ -241,12 +241,12 @@ fn begins_any_field(names: &[(&str, Cause)], text: &[u8]) -> bool
     names.iter().any(|row| begins_field(row.0, text))
 }
 
-/// Whether the text starts with a space or a tab, one of the usual names and a colon.
+/// Whether the text starts with a space, a tab or a star, one of the usual names and a colon.
 fn begins_inner_field(text: &[u8]) -> bool
     ensures { result ≡ begins_inner_field text.now }
 {
     match text {
-        [b' ' | b'\t', after @ ..] => begins_any_field(&DIRECTIVES, after),
+        [b' ' | b'\t' | b'*', after @ ..] => begins_any_field(&DIRECTIVES, after),
         _ => false,
     }
 }

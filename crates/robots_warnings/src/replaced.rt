@@ -87,12 +87,7 @@ fn is_kept(alloc: Global, denied: &Patterns, line: &GroupLine<'_>) -> Result<boo
 }
 
 /// Whether the crawler has none of these Disallows of `*`, and no rule for the whole site.
-fn lacks_all(
-    alloc: Global,
-    site: &Site,
-    denied: &Patterns,
-    agent: &str,
-) -> Result<bool, AllocError>
+fn lacks_all(alloc: Global, site: &Site, denied: &Patterns, agent: &str) -> Result<bool, AllocError>
     requires { HasDenied denied.now (star_rules (file_lines site.now)) }
     ensures { IfOk result (λ lacks. lacks ≡ lacks_all (file_lines site.now) agent.now) }
 {

@@ -1,7 +1,7 @@
 //! Values of a rule or a sitemap that seem to be several ones.
 ghost use Rattle.std.specs.Prelude.{◌≡◌};
 ghost use Rattle.robots_warnings.specs.SeveralValues.{begins_list, begins_next_value, begins_space, begins_tag};
-ghost use Rattle.robots_warnings.specs.SeveralValues.{begins_unseen, has_several_values};
+ghost use Rattle.robots_warnings.specs.SeveralValues.{begins_unseen, begins_wide_space, has_several_values};
 
 use crate::rules::somewhere;
 
@@ -35,16 +35,27 @@ fn begins_space(text: &[u8]) -> bool
     }
 }
 
+/// Whether the text starts with white space of Unicode that isn't ASCII.
+fn begins_wide_space(text: &[u8]) -> bool
+    ensures { result ≡ begins_wide_space text.now }
+{
+    matches!(
+        text,
+        [0xC2, 0x85 | 0xA0, ..]
+            | [0xE1, 0x9A, 0x80, ..]
+            | [0xE2, 0x80, 0x80..=0x8A | 0xA8 | 0xA9 | 0xAF, ..]
+            | [0xE2, 0x81, 0x9F, ..]
+            | [0xE3, 0x80, 0x80, ..]
+    )
+}
+
 /// Whether the text starts with a character that can't be seen.
 fn begins_unseen(text: &[u8]) -> bool
     ensures { result ≡ begins_unseen text.now }
 {
     matches!(
         text,
-        [0xC2, 0xA0 | 0xAD, ..]
-            | [0xE2, 0x80, 0x8B, ..]
-            | [0xE2, 0x81, 0xA0, ..]
-            | [0xEF, 0xBB, 0xBF, ..]
+        [0xC2, 0xAD, ..] | [0xE2, 0x80, 0x8B, ..] | [0xE2, 0x81, 0xA0, ..] | [0xEF, 0xBB, 0xBF, ..]
     )
 }
 
@@ -52,7 +63,11 @@ fn begins_unseen(text: &[u8]) -> bool
 fn begins_next_value(text: &[u8]) -> bool
     ensures { result ≡ begins_next_value text.now }
 {
-    begins_space(text) || begins_list(text) || begins_tag(text) || begins_unseen(text)
+    begins_space(text)
+        || begins_list(text)
+        || begins_tag(text)
+        || begins_wide_space(text)
+        || begins_unseen(text)
 }
 
 /// Whether the value of a rule or a sitemap contains one of these.

@@ -1,5 +1,6 @@
 //! Every warning: its level, its name, which is shown in `[..]` and is the `name` in JSON, and
-//! its message, which states what is wrong, what happens, and what to do. `checks` has the condition of each.
+//! its message, which states what is wrong, what happens, and what to do. The conditions are in `checks` and, of warnings
+//! that compare lines or look at all of a crawler's rules, in the functions that `warnings` calls.
 ghost use Rattle.std.specs.Prelude.{◌≡◌, ◌<◌, IfOk, bytes_eq, length, map};
 ghost use Rattle.std.specs.List.{list_any};
 ghost use Rattle.robots_warnings.specs.Internal.{IsRowAt};
@@ -163,10 +164,10 @@ pub static WARNINGS: [(Cause, Level, &str, &str); 62] = [
     (Cause::InvalidProductToken, Level::Warning, "invalid-product-token",
         "not a valid product token (ASCII letters, _ and - only, or a single *); crawlers disagree on how to match it; write one name per User-agent line, without version, quotes or *"),
     (Cause::UnusualProductToken, Level::Note, "unusual-product-token",
-        "not a valid product token (ASCII letters, _ and - only); some crawlers have such names, but others compare only a part of it; check the crawler's documentation"),
+        "not a valid product token (ASCII letters, _ and - only), although some crawlers have such names; here the whole name is compared, but others, such as Google, read only the letters, _ and - at its start; check the crawler's documentation"),
     // a rule
     (Cause::HashLeavesRoot, Level::Error, "hash-cuts-rule",
-        "everything from # on is a comment, so what is left of the rule is the whole site, or nothing; rules can't be about the part of a URL after #; if a path has one, write %23"),
+        "everything from # on is a comment, so what is left of the rule is the whole site, or an empty Disallow, which allows it; rules can't be about the part of a URL after #; write %23 if a path has one, or a space before a comment"),
     (Cause::HashCutsRule, Level::Warning, "hash-cuts-rule",
         "everything from # on is a comment, so the rule is shorter and matches more paths; write %23 for a # in a path, or a space before a comment"),
     (Cause::RuleNotUtf8, Level::Warning, "rule-not-utf-8",
@@ -192,7 +193,7 @@ pub static WARNINGS: [(Cause, Level, &str, &str); 62] = [
         "all of this is read as one value, with its space, comma, tag or invisible character; write one value per line, %20 for a space, and comments after #"),
     // a delay
     (Cause::DelayNotation, Level::Warning, "delay-notation",
-        "the delay is read here, but other crawlers may ignore it; write only digits, possibly with a point and more digits, for example: Crawl-delay: 1.5"),
+        "the delay is read here, but other crawlers may ignore it; write only digits, possibly with a point and more digits, and no invisible characters, for example: Crawl-delay: 1.5"),
     (Cause::DelayOverADay, Level::Warning, "delay-over-a-day",
         "the delay is longer than a day; the value is in seconds between requests, for example: Crawl-delay: 10"),
     // a sitemap
@@ -218,7 +219,7 @@ pub static WARNINGS: [(Cause, Level, &str, &str); 62] = [
         "a crawler that gets this Disallow also gets an Allow with the same path, and the Allow wins here; delete the one you don't want"),
     // the groups
     (Cause::TwoDelays, Level::Warning, "two-delays",
-        "the delay differs from one above it in the same group, and only the first is used here; other crawlers may use another one; delete all but one"),
+        "the delay differs from one above it in the same group, so it isn't used here, but other crawlers may use it; delete all but one"),
     (Cause::ClosesEverything, Level::Note, "closes-everything",
         "at least one crawler that gets this rule may fetch nothing but /robots.txt; if that isn't meant, delete the rule or add an Allow"),
     (Cause::ReplacesStar, Level::Note, "replaces-star",

@@ -1,4 +1,4 @@
-//! All warnings about a file and a request: what is valid but probably not intended.
+//! All warnings about a file and a request.
 ghost use Rattle.std.specs.Prelude.{◌≡◌, [], IfOk, OnOk, if◌then◌else◌, is_none, map, option_map, string_bytes};
 ghost use Rattle.texting_robots.specs.Callers.{bodies_read, by_value, file_lines, label_by_value};
 ghost use Rattle.robots_warnings.specs.Checks.{directive_checks, is_directive, raw_checks, rule_checks, value_checks};
