@@ -92,15 +92,18 @@ WARNINGS = documented_warnings()
 
 
 OF_A_URL = {"not-a-url-or-path", "invalid-url"}
+OF_RULES = {"replaces-star"}
 
 
 def level_and_text(name, detail=""):
-    """The documented level and message of a warning. Its detail is the field name that may be meant; the level, if the name has two; or
-    else the URL that the warning is about."""
+    """The documented level and message of a warning. Its detail is the field name that may be meant; the level, if the name has two; how
+    many rules it is about; or else the URL that the warning is about."""
     for level, text in WARNINGS[name]:
         if detail == level or detail and "KEY" in text:
             return level, text.replace("KEY", detail)
     level, text = WARNINGS[name][-1]
+    if name in OF_RULES:
+        return level, f"{text} ({detail} in all)"
     return level, f"URL '{detail}': {text}" if name in OF_A_URL else text
 
 

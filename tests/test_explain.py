@@ -46,7 +46,7 @@ def test_example_triggers_its_warning(name):
         command = shlex.split(text.decode()) if text.startswith(b"robots_audit ") else ["", crawler_of(text)]
         level, message = line.split()[0], line.split(": ", 1)[1]
         result = run("robots_audit", command[1:], b"" if command[0] else text)
-        assert f"{level}: {message} [{name}]" in re.sub(r"URL '.*?': ", "", result.err)
+        assert f"{level}: {message} [{name}]" in re.sub(r"URL '.*?': | \(\d+ in all\)", "", result.err)
 
 
 @pytest.mark.parametrize("name, args, file", examples_of_warnings())

@@ -56,6 +56,7 @@ failure_printable name checked =
     (finding_printable expectation.agent expectation.url checked.finding)
 
 holding_printable : (number : ℕ) → IsPrintable (holding_text number)
+unfolding holding_text
 holding_printable number =
     let several : IsPrintable (decimal number ++ codes " expectations hold") =
     search (append_printable true, ascii_printable true, decimal_printable true) in

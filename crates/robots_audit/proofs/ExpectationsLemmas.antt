@@ -281,17 +281,19 @@ place_printable name number =
     (append_printable true (sanitized name) (codes ":") (sanitized_printable name)
     (ascii_printable true (codes ":") refl)) (decimal_printable true number)
 
-flaw_printable : (flaw : Flaw) → IsPrintable (codes ": " ++ flaw_text flaw)
-flaw_printable flaw.Form = ascii_printable true (codes ": " ++ flaw_text flaw.Form) refl
-flaw_printable flaw.NotUtf8 = ascii_printable true (codes ": " ++ flaw_text flaw.NotUtf8) refl
-flaw_printable flaw.Agent = ascii_printable true (codes ": " ++ flaw_text flaw.Agent) refl
-flaw_printable flaw.Url = ascii_printable true (codes ": " ++ flaw_text flaw.Url) refl
+flaw_printable : (flaw : Flaw) → IsPrintable (flaw_text flaw)
+flaw_printable flaw.Form = ascii_printable true (flaw_text flaw.Form) refl
+flaw_printable flaw.NotUtf8 = ascii_printable true (flaw_text flaw.NotUtf8) refl
+flaw_printable flaw.Agent = ascii_printable true (flaw_text flaw.Agent) refl
+flaw_printable flaw.Url = ascii_printable true (flaw_text flaw.Url) refl
 
 pub flawed_printable : (name : List ℕ) (number : ℕ) (place : String Global) (flaw : Flaw)
     → string_bytes place ≡ place_text name number → IsPrintable (fault_text (Malformed place flaw))
 flawed_printable name number place flaw is =
-    named_printable (string_bytes place) (codes ": " ++ flaw_text flaw) []
-    (subst IsPrintable (sym is) (place_printable name number)) (flaw_printable flaw) (nil_printable true)
+    named_printable (string_bytes place ++ codes ": ") (flaw_text flaw) []
+    (append_printable true (string_bytes place) (codes ": ")
+    (subst IsPrintable (sym is) (place_printable name number)) (ascii_printable true (codes ": ") refl))
+    (flaw_printable flaw) (nil_printable true)
 
 pub fault_printable : (name text : List ℕ) (fault : Fault) → IsFaultOf name text fault
     → IsPrintable (fault_text fault)

@@ -1,5 +1,7 @@
 //! The lines about what differs between two files for a crawler.
-ghost use Rattle.std.specs.Prelude.{◌≡◌, ◌++◌, ◌∷◌, [], OnOk, codes, map, string_bytes};
+ghost use Rattle.std.specs.Prelude.{◌≡◌, ◌==◌, ◌++◌, ◌∷◌, [], OnOk, codes, map, string_bytes};
+ghost use Rattle.std.specs.List.{list_any};
+ghost use Rattle.texting_robots.specs.Callers.{PlacedRule};
 ghost use Rattle.robots_io.specs.Sanitize.{sanitized};
 ghost use Rattle.robots_io.specs.Lines.{ended};
 ghost use Rattle.robots_audit.specs.Compare.{change_text, crawler_text, decision_text, deciding_text, delay_changes, delay_word, differences};
@@ -200,12 +202,19 @@ fn push_rule_changes(
     Ok(())
 }
 
+/// Whether one of the rules is in the line with this number.
+fn has_line(rules: &[Rule], number: usize) -> bool
+    ensures { result ≡ list_any (λ (placed : PlacedRule). placed.line == number) rules.now }
+{
+    rules.iter().any(|rule| rule.line == number)
+}
+
 /// Whether one of the rules is in this line.
 fn is_in_line_of(rules: &[Rule], line: Option<usize>) -> bool
     ensures { result ≡ is_in_line_of rules.now line }
 {
     match line {
-        Some(number) => rules.iter().any(|rule| rule.line == number),
+        Some(number) => has_line(rules, number),
         None => false,
     }
 }

@@ -286,9 +286,9 @@ fn push_holding(text: &mut String, number: usize) -> Result<(), AllocError>
 
 /// The whole report, made of the lines on the expectations that fail. `number` is that of all expectations.
 fn finished(failures: String, number: usize) -> Result<Results, AllocError>
-    ensures text { IfOk result (λ results. string_bytes results.text ≡ string_bytes failures.entry
-        ++ (if length (string_bytes failures.entry) == 0 then ended (holding_text number ∷ []) else [])) }
-    ensures hold { IfOk result (λ results. results.all_hold ≡ (length (string_bytes failures.entry) == 0)) }
+    ensures text { IfOk result (λ results. string_bytes results.text ≡ string_bytes failures
+        ++ (if length (string_bytes failures) == 0 then ended (holding_text number ∷ []) else [])) }
+    ensures hold { IfOk result (λ results. results.all_hold ≡ (length (string_bytes failures) == 0)) }
 {
     let mut text = failures;
     if !text.is_empty() {

@@ -10,7 +10,7 @@ use Rattle.robots_warnings.specs.declared.level.Level.{Level}
 use Rattle.robots_warnings.specs.declared.level.Level.TheVariants.{Error, Note, Warning}
 use Rattle.robots_warnings.specs.Level.{level_word}
 use Rattle.robots_io.specs.Sanitize.{IsPrintable, is_printable_byte}
-use Rattle.robots_warnings.specs.Warnings.{WarningValue, about_text, level_text, name_text, place_text, warning_line}
+use Rattle.robots_warnings.specs.Warnings.{WarningValue, about_text, count_text, level_text, name_text, place_text, warning_line}
 use Rattle.robots_warnings.specs.Warnings.{warning_text}
 use Rattle.robots_io.proofs.SanitizeLemmas.{append_printable, ascii_printable, decimal_printable}
 use Rattle.robots_io.proofs.SanitizeLemmas.{nil_printable}
@@ -52,10 +52,16 @@ about_printable : (about : Option (List ℕ)) → IsPrintable (about_text about)
 about_printable None = nil_printable true
 about_printable (Some url) = search (append_printable true, ascii_printable true, sanitized_printable)
 
+count_printable : (count : Option ℕ) → IsPrintable (count_text count)
+count_printable None = nil_printable true
+count_printable (Some count) = search (append_printable true, ascii_printable true, decimal_printable true)
+
 pub text_printable : (warning : WarningValue) → IsPrintable (warning_text warning)
 text_printable warning =
-    append_printable true (about_text warning.about) (text_of warning.cause) (about_printable warning.about)
-    (texts_printable warning.cause)
+    let text = text_of warning.cause in
+    let count = count_text warning.count in
+    append_printable true (about_text warning.about) (text ++ count) (about_printable warning.about)
+    (append_printable true text count (texts_printable warning.cause) (count_printable warning.count))
 
 place_printable : (file : List ℕ) (line : Option ℕ) → IsPrintable (place_text file line)
 place_printable file None = search (append_printable true, ascii_printable true, sanitized_printable)

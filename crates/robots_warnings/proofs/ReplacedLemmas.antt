@@ -1,11 +1,12 @@
 -- Groups that have none of the Disallow rules of `*`.
-use Rattle.std.proofs.Common.{◌≡◌, ℕ, ◌+◌, ◌<◌, ◌||◌, Bool, true, false, List, [], ◌∷◌, Some, None, ap, drop}
+use Rattle.std.proofs.Common.{◌≡◌, ℕ, ◌+◌, ◌<◌, ◌||◌, ◌++◌, Option, Bool, true, false, List, [], ◌∷◌, Some}
+use Rattle.std.proofs.Common.{None, ap, drop}
 use Rattle.std.proofs.Common.{String, bytes_eq, if◌then◌else◌, length, map, refl, slice_index_or}
-use Rattle.std.proofs.Common.{string_bytes}
+use Rattle.std.proofs.Common.{append_assoc, string_bytes, sym}
 use Rattle.std.proofs.Common.{◌∙◌}
 use Rattle.std.specs.HashSet.{Updates, contains_text}
 use Rattle.std.specs.Global.{Global}
-use Rattle.std.specs.List.{list_any}
+use Rattle.std.specs.List.{cons_option, filter_map, list_any}
 use Rattle.std.specs.Option.{option_map_or}
 use Rattle.std.specs.Str.{is_utf8}
 use Rattle.std.specs.String.{string_eq}
@@ -18,8 +19,8 @@ use Rattle.texting_robots.specs.Group.{is_group}
 use Rattle.texting_robots.specs.Internal.Group.{placed}
 use Rattle.robots_warnings.specs.File.{lines_of}
 use Rattle.robots_warnings.specs.Internal.Conflicts.{Patterns}
-use Rattle.robots_warnings.specs.Internal.Replaced.{AddsDenied, HasDenied, is_kept_in}
-use Rattle.robots_warnings.specs.Replaced.{is_kept}
+use Rattle.robots_warnings.specs.Internal.Replaced.{AddsDenied, HasDenied, disallow_lines, is_kept_in}
+use Rattle.robots_warnings.specs.Replaced.{disallow_in, is_kept}
 use Rattle.robots_warnings.proofs.NameLemmas.{either}
 
 -- inserting the pattern of a Disallow makes the set that `AddsDenied` describes
@@ -52,3 +53,24 @@ pub kept_in : {S : Type 0} (denied : Patterns S) (star rules : List PlacedRule) 
     → list_any (is_kept_in denied) rules ≡ list_any (is_kept star) rules
 kept_in denied star [] has = refl
 kept_in denied star (placed ∷ rules) has = rw (has.each placed.rule.0, kept_in denied star rules has) refl
+
+-- the numbers of the lines of Disallows, with those of one more rule, if there is one
+one_more : (given : Option PlacedRule) (rules : List PlacedRule)
+    → filter_map disallow_in (cons_option given rules) ≡ disallow_lines given ++ filter_map disallow_in rules
+one_more None rules = refl
+one_more (Some placed) rules = first (disallow_in placed) (filter_map disallow_in rules)
+  where
+    first : (number : Option ℕ) (numbers : List ℕ)
+        → cons_option number numbers ≡ cons_option number [] ++ numbers
+    first None numbers = refl
+    first (Some number) numbers = refl
+
+-- loop step: the number of the line of one more rule was appended, if there is one and it is a Disallow
+pub lines_more : (given : Option PlacedRule) (rules : List PlacedRule) (old new all : List ℕ)
+    → new ≡ old ++ disallow_lines given
+    → old ++ filter_map disallow_in (cons_option given rules) ≡ all
+    → new ++ filter_map disallow_in rules ≡ all
+lines_more given rules old new all added was =
+    let left = filter_map disallow_in rules in
+    ap (λ (t : List ℕ). t ++ left) added ∙ append_assoc old (disallow_lines given) left
+    ∙ ap (λ (t : List ℕ). old ++ t) (sym (one_more given rules)) ∙ was

@@ -126,8 +126,8 @@ abbrev pub position_checks : Option ℕ → Preceding → Option (List ℕ) → 
 position_checks last preceding above delay label lines =
     (cause.RuleBeforeUserAgent, is_above_agents label)
     ∷ (cause.EmptyGroup, is_empty_group last label)
-    ∷ (cause.DelayAboveStar, is_split_from_star preceding above label lines)
     ∷ (cause.DelaySplitsGroup, is_split_from_others preceding above label lines)
+    ∷ (cause.DelayAboveStar, is_split_from_star preceding above label lines)
     ∷ (cause.TwoDelays, is_other_delay delay label)
     ∷ []
 

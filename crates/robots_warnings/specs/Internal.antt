@@ -19,7 +19,12 @@ use Rattle.robots_warnings.specs.Warnings.{WarningValue}
 
 abbrev pub warning_value : Warning → WarningValue
 warning_value warning =
-    record { line = warning.line; cause = warning.cause; about = option_map (λ url. url.now) warning.about }
+    record {
+      line = warning.line;
+      cause = warning.cause;
+      about = option_map (λ url. url.now) warning.about;
+      count = warning.count;
+    }
 
 -- these warnings are appended
 abbrev pub Adds : List Warning → List Warning → List WarningValue → Type 0

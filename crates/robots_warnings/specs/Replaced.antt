@@ -1,7 +1,7 @@
 -- Groups of crawlers that have none of the Disallow rules of `*`.
 use Rattle.std.specs.Prelude.{ℕ, Bool, false, not, ◌||◌, ◌&&◌, List, [], ◌∷◌, ◌++◌, bytes_eq, codes}
-use Rattle.std.specs.Prelude.{if◌then◌else◌}
-use Rattle.std.specs.List.{list_any}
+use Rattle.std.specs.Prelude.{Option, None, Some, if◌then◌else◌, length}
+use Rattle.std.specs.List.{filter_map, list_any}
 use Rattle.std.specs.Str.{str_to_ascii_lowercase}
 use Rattle.texting_robots.specs.Callers.{LineValue, Label, PlacedRule, placed_rules}
 use Rattle.texting_robots.specs.Group.{is_agent, is_group}
@@ -15,6 +15,14 @@ use Rattle.robots_warnings.specs.Positions.{begin_with_one, name_star, preceding
 
 abbrev pub star_rules : List LineValue → List PlacedRule
 star_rules lines = placed_rules (codes "*") lines
+
+-- the line of the rule, if it is a Disallow
+abbrev pub disallow_in : PlacedRule → Option ℕ
+disallow_in placed = if placed.rule.1 then None else Some placed.line
+
+-- how many Disallows `*` has
+abbrev pub star_count : List LineValue → ℕ
+star_count lines = length (filter_map disallow_in (star_rules lines))
 
 -- the rule is a Disallow, but not of the whole site
 abbrev pub is_partial : PlacedRule → Bool
@@ -48,8 +56,8 @@ is_first_name Agent line = false
 is_first_name Delay line = is_agent line
 is_first_name Other line = is_agent line
 
--- the first user-agent line of a group that has rules or delays and the name of such a crawler. Neither here nor
--- to a crawler that ignores delays it is the group of `*`, too; `from_here` are the lines from this one on
+-- the first user-agent line of a group that has rules or delays and the name of such a crawler. It isn't the
+-- group of `*`, too, not even for crawlers that ignore delays; `from_here` are the lines from this one on
 abbrev pub is_replacing : List (List ℕ) → List LineValue → Preceding → LineValue → List LineValue → Bool
 is_replacing agents lines preceding line from_here =
     (is_first_name preceding line && list_any is_group from_here)
@@ -66,8 +74,8 @@ replacing_from agents lines preceding (label ∷ labels) =
     then label.number ∷ [] else [])
     ++ replacing_from agents lines (preceding_with preceding label.line) labels
 
--- the numbers of such lines, if `*` has a Disallow, but not of the whole site: letting some crawlers in is the
--- intent otherwise
+-- the numbers of such lines, if `*` has a Disallow that isn't of the whole site: otherwise, letting some
+-- crawlers in seems intended
 abbrev pub replacing : List (List ℕ) → List LineValue → List Label → List ℕ
 replacing agents lines labels =
     if list_any is_partial (star_rules lines) then replacing_from agents lines Other labels else []

@@ -20,17 +20,19 @@ use Rattle.robots_warnings.specs.File.{lines_of}
 use Rattle.robots_warnings.specs.NamesPastLimit.{names_past_limit}
 use Rattle.robots_warnings.specs.Positions.{first_delay, last_group, preceding_with, sole_name}
 use Rattle.robots_warnings.specs.Repeated.{repeated}
-use Rattle.robots_warnings.specs.Replaced.{replacing}
+use Rattle.robots_warnings.specs.Replaced.{replacing, star_count}
 use Rattle.robots_warnings.specs.Spellings.{nonstandard_escapes}
 use Rattle.robots_io.specs.Sanitize.{sanitized}
 use Rattle.robots_warnings.specs.Level.{level_word}
 use Rattle.robots_warnings.specs.Table.{level_of, name_of, text_of}
 
--- a warning: the number of its line, if it is about one; the reason; and the URL, if it is about one
+-- a warning: the number of its line, if it is about one; the reason; the URL, if it is about one; and how
+-- many rules its message is about, if it says so
 pub record WarningValue : Type 0 where
   pub line : Option ℕ
   pub cause : Cause
   pub about : Option (List ℕ)
+  pub count : Option ℕ
 
 -- ---- as text
 
@@ -50,9 +52,14 @@ about_text (Some url) = codes "URL '" ++ sanitized url ++ codes "': "
 abbrev pub name_text : Cause → List ℕ
 name_text cause = codes " [" ++ name_of cause ++ codes "]"
 
--- the message, preceded by the URL
+-- how many rules the message is about
+abbrev pub count_text : Option ℕ → List ℕ
+count_text None = []
+count_text (Some count) = codes " (" ++ decimal count ++ codes " in all)"
+
+-- the message, preceded by the URL, and followed by the number of rules
 abbrev pub warning_text : WarningValue → List ℕ
-warning_text warning = about_text warning.about ++ text_of warning.cause
+warning_text warning = about_text warning.about ++ (text_of warning.cause ++ count_text warning.count)
 
 -- the place, the level, the message and the name
 unfoldable pub warning_line : List ℕ → WarningValue → List ℕ
@@ -65,15 +72,16 @@ warning_line file warning =
 -- the warning, if its condition holds
 abbrev pub warning_of : Option ℕ → Option (List ℕ) → Check → List WarningValue
 warning_of line about check =
-    if check.1 then record { line = line; cause = check.0; about = about } ∷ [] else []
+    if check.1 then record { line = line; cause = check.0; about = about; count = None } ∷ [] else []
 
 -- the warnings whose conditions hold
 abbrev pub warned : Option ℕ → Option (List ℕ) → List Check → List WarningValue
 warned line about checks = flat_map (warning_of line about) checks
 
--- this warning for each line with one of these numbers
-abbrev pub warned_at : Cause → List ℕ → List WarningValue
-warned_at cause numbers = map (λ number. record { line = Some number; cause = cause; about = None }) numbers
+-- this warning, about so many rules, for each line with one of these numbers
+abbrev pub warned_at : Cause → Option ℕ → List ℕ → List WarningValue
+warned_at cause count numbers =
+    map (λ number. record { line = Some number; cause = cause; about = None; count = count }) numbers
 
 -- ---- warnings about a part of a file or of a request
 
@@ -121,7 +129,7 @@ position_warnings labels = positions_from (last_group labels) Other None None la
 abbrev pub past_limit_warnings : FileFacts → List ℕ → List Label → List WarningValue
 past_limit_warnings facts file labels =
     if not facts.is_too_large || suppresses_line_warnings facts then []
-    else warned_at GroupPastSizeLimit (names_past_limit (lines_of labels) file)
+    else warned_at GroupPastSizeLimit None (names_past_limit (lines_of labels) file)
 
 -- warnings about the rules of these crawlers
 abbrev pub crawler_warnings : List (List ℕ) → List LineValue → List Label → List WarningValue
@@ -133,10 +141,10 @@ crawler_warnings agents lines labels = flat_map
 -- warnings about the rules of a group or of a crawler as a whole
 abbrev pub group_warnings : Bool → List (List ℕ) → List LineValue → List Label → List WarningValue
 group_warnings everywhere agents lines labels =
-    warned_at NonstandardEscape (nonstandard_escapes everywhere labels)
+    warned_at NonstandardEscape None (nonstandard_escapes everywhere labels)
     ++ (crawler_warnings agents lines labels
-    ++ (warned_at ReplacesStar (replacing agents lines labels)
-    ++ (warned_at RepeatedRule (repeated everywhere labels)
+    ++ (warned_at ReplacesStar (Some (star_count lines)) (replacing agents lines labels)
+    ++ (warned_at RepeatedRule None (repeated everywhere labels)
     ++ warned None None (google_checks lines agents))))
 
 -- ---- all

@@ -205,12 +205,12 @@ pub(crate) fn position_checks(
         (Cause::RuleBeforeUserAgent, is_above_agents(labeled)),
         (Cause::EmptyGroup, is_empty_group(last, labeled)),
         (
-            Cause::DelayAboveStar,
-            is_split_from_star(preceding, above, labeled, from_here),
-        ),
-        (
             Cause::DelaySplitsGroup,
             is_split_from_others(preceding, above, labeled, from_here),
+        ),
+        (
+            Cause::DelayAboveStar,
+            is_split_from_star(preceding, above, labeled, from_here),
         ),
         (Cause::TwoDelays, is_other_delay(delay, labeled)),
     ]

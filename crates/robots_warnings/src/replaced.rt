@@ -1,5 +1,5 @@
 //! Groups of crawlers that have none of the Disallow rules of `*`.
-ghost use Rattle.std.specs.Prelude.{◌≡◌, Bool, IfOk, List, OnOk, false, map, string_bytes, ℕ};
+ghost use Rattle.std.specs.Prelude.{◌≡◌, ◌++◌, Bool, IfOk, List, OnOk, false, map, string_bytes, ℕ};
 ghost use Rattle.std.specs.List.{list_any};
 ghost use Rattle.std.specs.Option.{option_map_or};
 ghost use Rattle.std.specs.Str.{str_to_ascii_lowercase};
@@ -7,10 +7,10 @@ ghost use Rattle.texting_robots.specs.Callers.{LineValue, by_value, file_lines, 
 ghost use Rattle.texting_robots.specs.Group.{is_group};
 ghost use Rattle.texting_robots.specs.Internal.Site.{rule_of, tag_of};
 ghost use Rattle.robots_warnings.specs.File.{lines_of};
-ghost use Rattle.robots_warnings.specs.Internal.Replaced.{AddsDenied, AddsLacking, HasDenied, HasThose, is_kept_in};
+ghost use Rattle.robots_warnings.specs.Internal.Replaced.{AddsDenied, AddsLacking, HasDenied, HasThose, disallow_lines, is_kept_in};
 ghost use Rattle.robots_warnings.specs.Positions.{begin_with_one};
 ghost use Rattle.robots_warnings.specs.Replaced.{is_first_name, is_lacking, is_partial, is_replacing, lacks_all, replacing};
-ghost use Rattle.robots_warnings.specs.Replaced.{star_rules};
+ghost use Rattle.robots_warnings.specs.Replaced.{star_count, star_rules};
 
 use crate::closed::is_whole_site;
 use crate::conflicts::{Patterns, pattern_of};
@@ -23,6 +23,27 @@ use std::collections::{BTreeSet, HashSet};
 use texting_robots::labels::LabeledLine;
 use texting_robots::parser::Line;
 use texting_robots::site::{GroupLine, Site};
+
+/// Appends the number of the line if it has a Disallow rule.
+fn add_disallow(numbers: &mut Vec<usize>, line: &GroupLine<'_>) -> Result<(), AllocError>
+    ensures { OnOk result (numbers.new.items ≡ numbers.old.items ++ disallow_lines (rule_of (tag_of line.now))) }
+{
+    match line.line {
+        Line::Disallow(value) if is_utf8(value) => Ok(numbers.push(line.number)?),
+        _ => Ok(()),
+    }
+}
+
+/// How many Disallows `*` has.
+pub(crate) fn star_count(alloc: Global, site: &Site) -> Result<usize, AllocError>
+    ensures { IfOk result (λ count. count ≡ star_count (file_lines site.now)) }
+{
+    let mut numbers = Vec::new(alloc);
+    for line in site.own_lines("*") {
+        add_disallow(&mut numbers, &line)?;
+    }
+    Ok(numbers.len())
+}
 
 /// Whether the line has a Disallow rule, but not of the whole site.
 #[tactic(auto, using(crate::proofs::ClosedLemmas::partial_value))]

@@ -77,8 +77,8 @@ pub enum Cause {
     // the position of a line
     RuleBeforeUserAgent,
     EmptyGroup,
-    DelayAboveStar,
     DelaySplitsGroup,
+    DelayAboveStar,
     GroupPastSizeLimit,
     AllowedAndDisallowed,
     // the groups
@@ -209,10 +209,10 @@ pub static WARNINGS: [(Cause, Level, &str, &str); 62] = [
         "the rule comes before the first User-agent line, so it belongs to no group and is ignored; move it below the User-agent line it is meant for"),
     (Cause::EmptyGroup, Level::Warning, "empty-group",
         "no rule that is read follows this User-agent line, so its group is empty: if the name has no other group, it may fetch everything; add rules or delete the line"),
-    (Cause::DelayAboveStar, Level::Note, "delay-splits-group",
-        "only a Crawl-delay ends the group above, so it has none of the rules of * below; crawlers that ignore the delay, such as Google's, apply these to that group too; add to it those meant for it, or, if its names have no other group, an empty Disallow"),
     (Cause::DelaySplitsGroup, Level::Warning, "delay-splits-group",
         "only a Crawl-delay ends the group above; crawlers that ignore it, such as Google's, apply the rules below to that group too; add to that group the rules meant for it, or move the Crawl-delay down to join the two"),
+    (Cause::DelayAboveStar, Level::Note, "delay-splits-group",
+        "only a Crawl-delay ends the group above, so it has none of the rules of * below; crawlers that ignore the delay, such as Google's, apply these to that group too; add to it those meant for it, or, if its names have no other group, an empty Disallow"),
     (Cause::GroupPastSizeLimit, Level::Warning, "group-past-size-limit",
         "this name isn't in the first 512,000 bytes, so its group is ignored; move the group up or shorten the file"),
     (Cause::AllowedAndDisallowed, Level::Warning, "allowed-and-disallowed",

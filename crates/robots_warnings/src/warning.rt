@@ -1,7 +1,7 @@
 //! A warning, and its text in a report.
 ghost use Rattle.std.specs.Prelude.{◌≡◌, ◌++◌, OnOk, option_map, string_bytes};
 ghost use Rattle.robots_warnings.specs.Internal.{warning_value};
-ghost use Rattle.robots_warnings.specs.Warnings.{about_text, level_text, name_text, place_text, warning_line, warning_text};
+ghost use Rattle.robots_warnings.specs.Warnings.{about_text, count_text, level_text, name_text, place_text, warning_line, warning_text};
 
 use crate::table::Cause;
 use robots_io::lines::push_number;
@@ -16,6 +16,8 @@ pub struct Warning<'a> {
     pub cause: Cause,
     /// The URL that the warning is about, if it is about one.
     pub about: Option<&'a str>,
+    /// How many rules the message is about, if it says so.
+    pub count: Option<usize>,
 }
 
 /// Appends the name of the file, and the number of the line, if there is one.
@@ -52,13 +54,26 @@ fn push_about(text: &mut String, about: Option<&str>) -> Result<(), AllocError>
     text.push_str("': ")
 }
 
-/// Appends the message of a warning, preceded by the URL that it is about.
+/// Appends how many rules a message is about, if it says so.
+fn push_count(text: &mut String, count: Option<usize>) -> Result<(), AllocError>
+    ensures { OnOk result (string_bytes text.new ≡ string_bytes text.old ++ count_text count) }
+{
+    let Some(count) = count else {
+        return Ok(());
+    };
+    text.push_str(" (")?;
+    push_number(text, count)?;
+    text.push_str(" in all)")
+}
+
+/// Appends the message of a warning, preceded by the URL that it is about, and followed by the number of rules.
 pub fn push_warning_text(text: &mut String, warning: &Warning<'_>) -> Result<(), AllocError>
     ensures { OnOk result (string_bytes text.new ≡ string_bytes text.old
         ++ warning_text (warning_value warning.now)) }
 {
     push_about(text, warning.about)?;
-    text.push_str(warning.cause.text())
+    text.push_str(warning.cause.text())?;
+    push_count(text, warning.count)
 }
 
 /// Appends the name of a warning in brackets.

@@ -24,7 +24,7 @@ use crate::names_past_limit::names_past_limit;
 use crate::plain::{is_plain, is_plain_line};
 use crate::positions::{Preceding, first_delay, last_group, preceding_with, sole_name};
 use crate::repeated::repeated;
-use crate::replaced::replacing;
+use crate::replaced::{replacing, star_count};
 use crate::spellings::nonstandard_escapes;
 use crate::table::Cause;
 use crate::warning::Warning;
@@ -48,21 +48,32 @@ fn warn<'a>(
     for check in checks {
         let (cause, holds) = *check;
         if holds {
-            found.push(Warning { line, cause, about })?;
+            found.push(Warning {
+                line,
+                cause,
+                about,
+                count: None,
+            })?;
         }
     }
     Ok(())
 }
 
-/// Appends this warning for each line with one of these numbers.
-fn warn_at(found: &mut Found<'_>, cause: Cause, numbers: &[usize]) -> Result<(), AllocError>
-    ensures { OnOk result (Adds found.old.items found.new.items (warned_at cause numbers.now)) }
+/// Appends this warning, about so many rules, for each line with one of these numbers.
+fn warn_at(
+    found: &mut Found<'_>,
+    cause: Cause,
+    count: Option<usize>,
+    numbers: &[usize],
+) -> Result<(), AllocError>
+    ensures { OnOk result (Adds found.old.items found.new.items (warned_at cause count numbers.now)) }
 {
     for number in numbers {
         found.push(Warning {
             line: Some(*number),
             cause,
             about: None,
+            count,
         })?;
     }
     Ok(())
@@ -291,7 +302,7 @@ fn warn_past_limit(
         return Ok(());
     }
     let numbers = names_past_limit(alloc, file, labels)?;
-    warn_at(found, Cause::GroupPastSizeLimit, &numbers)
+    warn_at(found, Cause::GroupPastSizeLimit, None, &numbers)
 }
 
 /// Appends the warnings about the rules of these crawlers.
@@ -332,12 +343,13 @@ fn warn_of_groups(
         (map string_bytes agents.now) (file_lines site.now) (map label_by_value labels.now))) }
 {
     let escapes = nonstandard_escapes(alloc, everywhere, labels)?;
-    warn_at(found, Cause::NonstandardEscape, &escapes)?;
+    warn_at(found, Cause::NonstandardEscape, None, &escapes)?;
     warn_of_crawlers(alloc, found, site, agents, labels)?;
     let replacing = replacing(alloc, site, agents, labels)?;
-    warn_at(found, Cause::ReplacesStar, &replacing)?;
+    let count = star_count(alloc, site)?;
+    warn_at(found, Cause::ReplacesStar, Some(count), &replacing)?;
     let repeated = repeated(alloc, everywhere, labels)?;
-    warn_at(found, Cause::RepeatedRule, &repeated)?;
+    warn_at(found, Cause::RepeatedRule, None, &repeated)?;
     warn(found, None, None, &google_checks(site, agents))
 }
 

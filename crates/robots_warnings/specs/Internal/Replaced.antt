@@ -1,15 +1,15 @@
 -- The set of the patterns of the Disallows of `*`, and that of the names of crawlers that have none of these.
-use Rattle.std.specs.Prelude.{◌≡◌, ℕ, Bool, false, not, ◌||◌, ◌&&◌, List, Option, bytes_eq}
+use Rattle.std.specs.Prelude.{◌≡◌, ℕ, Bool, false, not, ◌||◌, ◌&&◌, List, [], Option, None, Some, bytes_eq}
 use Rattle.std.specs.BTreeSet.{BTreeSet, contains}
 use Rattle.std.specs.HashSet.{contains_text}
-use Rattle.std.specs.List.{list_any}
+use Rattle.std.specs.List.{cons_option, list_any}
 use Rattle.std.specs.Option.{option_map_or}
 use Rattle.std.specs.Str.{str_to_ascii_lowercase}
 use Rattle.texting_robots.specs.Callers.{LineValue, PlacedRule}
 use Rattle.robots_warnings.specs.Closed.{is_whole_site}
 use Rattle.robots_warnings.specs.Internal.Conflicts.{Patterns}
 use Rattle.robots_warnings.specs.Internal.Names.{Key, key_cmp}
-use Rattle.robots_warnings.specs.Replaced.{denies, lacks_all}
+use Rattle.robots_warnings.specs.Replaced.{denies, disallow_in, lacks_all}
 
 -- the new set is the old one and the pattern of the rule, if there is one and it is a Disallow
 pub record AddsDenied {S : Type 0} (old new : Patterns S) (given : Option PlacedRule) : Type 0 where
@@ -38,3 +38,8 @@ pub record HasThose (names : BTreeSet Key) (test : List ℕ → Bool) : Type 0 w
 pub record AddsLacking (lines : List LineValue) (old new : BTreeSet Key) (agent : List ℕ) : Type 0 where
   pub each : (key : Key) → contains key_cmp new key ≡ (contains key_cmp old key
       || (lacks_all lines agent && bytes_eq (str_to_ascii_lowercase agent) key.items))
+
+-- the line of the rule is appended, if there is a rule and it is a Disallow
+abbrev pub disallow_lines : Option PlacedRule → List ℕ
+disallow_lines None = []
+disallow_lines (Some placed) = cons_option (disallow_in placed) []

@@ -8,9 +8,6 @@ use Rattle.robots_warnings.specs.Internal.{warning_value}
 use Rattle.robots_audit.proofs.ListedLemmas.{counted_next, counted_within, grown, none_counted, placed_next}
 use Rattle.robots_audit.proofs.listed.tally_of.Goals as goal
 
-pub loop-warning-init-clause-counts : goal.loop-warning-init-clause-counts
-loop-warning-init-clause-counts c = none_counted _ c.new-counts.ensures.empty
-
 pub overflow_add-place : goal.overflow_add-place
 overflow_add-place c =
     let name = c.name-name.result.now in
