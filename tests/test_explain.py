@@ -58,7 +58,7 @@ def test_example_is_the_documented_one(name, args, file):
 
 
 @pytest.mark.parametrize("option", [["--list-warnings"], ["--explain", "missing-slash"]], ids=["list", "explain"])
-@pytest.mark.parametrize("more", ["Ferris", "--agents", "-fx", "-q", "--json", "--format=text", "--html", "--agent=x", "--urls=x", "--denied", "--strict", "--only=x", "--ignore=x", "--expect=x", "--compare=x"])
+@pytest.mark.parametrize("more", ["Ferris", "--agents", "-fx", "-q", "--json", "--format=text", "--html", "--agent=x", "--urls=x", "--denied", "--color=auto", "--strict", "--only=x", "--ignore=x", "--expect=x", "--compare=x"])
 def test_other_arguments_conflict(option, more):
     result = run("robots_audit", [*option, more])
     assert (result.status, result.out) == (2, "") and "cannot be used with" in result.err

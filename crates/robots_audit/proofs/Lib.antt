@@ -3,6 +3,7 @@ pub mod AnswerLemmas
 pub mod AuditLemmas
 pub mod ByLineLemmas
 pub mod ClosedLemmas
+pub mod ColorLemmas
 pub mod CompareLemmas
 pub mod ComparePrintableLemmas
 pub mod DelayLemmas

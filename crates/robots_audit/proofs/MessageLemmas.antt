@@ -1,6 +1,6 @@
 -- The message on standard error contains no control or bidirectional-formatting characters other than LF,
 -- whatever the run returns.
-use Rattle.std.proofs.Common.{◌≡◌, ℕ, true, List, [], ◌∷◌, ◌++◌, Result, Ok, Err, Option}
+use Rattle.std.proofs.Common.{◌≡◌, ℕ, Bool, true, List, [], ◌∷◌, ◌++◌, Result, Ok, Err, Option}
 use Rattle.std.proofs.Common.{codes, inl, inr, refl, string_bytes, subst, sym, IfErr, IsErrAnd, IsErrOf}
 use Rattle.std.proofs.lemmas.Bool.{cases_Bool}
 use Rattle.clap.specs.declared.parser.matches.ArgMatches.{ArgMatches}
@@ -19,7 +19,8 @@ use Rattle.robots_audit.specs.Command.{Asks, IsUnknown, IsUnknownIn}
 use Rattle.robots_audit.specs.Explain.{Explains, MayPrint, explanation}
 use Rattle.robots_audit.specs.Fault.{MayFail, fault_text, message_after}
 use Rattle.robots_warnings.specs.Table.{is_name}
-use Rattle.robots_audit.proofs.PrintableLemmas.{message_printable}
+use Rattle.robots_audit.specs.Color.{IsForTerminal}
+use Rattle.robots_audit.proofs.ColorLemmas.{for_terminal, message_for_terminal}
 
 -- the message for an error with a name
 pub named_printable : (before name after : List ℕ) → IsPrintable before → IsPrintable name → IsPrintable after
@@ -129,12 +130,22 @@ request_outcome matches fault (Err other) is asks =
     let same : fault ≡ other = cc in
     subst (λ (fault : Fault). IsPrintable (fault_text fault)) same (request_printable matches fault asks)
 
-pub audited_printable : (request : Request) (ends : Ends) (result : Result Outcome Fault)
-    → Audits request ends result → IsPrintable (message_after result)
-audited_printable request ends (Ok outcome) is =
+pub error_for_terminal : (has_colors : Bool) (result : Result Outcome Fault) (fault : Fault)
+    → IsErrOf result fault → IsPrintable (fault_text fault) → IsForTerminal has_colors (message_after result)
+error_for_terminal has_colors (Ok outcome) fault is printable = absurd (cc)
+error_for_terminal has_colors (Err other) fault is printable =
+    let same : fault ≡ other = cc in
+    subst (λ (fault : Fault). IsForTerminal has_colors (fault_text fault)) same
+    (for_terminal has_colors (fault_text fault) printable)
+
+pub audited_for_terminal : (request : Request) (ends : Ends) (result : Result Outcome Fault)
+    → Audits request ends result → IsForTerminal request.has_colors (message_after result)
+audited_for_terminal request ends (Ok outcome) is =
     let (audit, of, (written, found)) = is.reported.ok in
-    subst IsPrintable (sym found.warnings) (message_printable (requested_by request) audit)
-audited_printable request ends (Err fault) is = may_fail_printable fault is.reported.fault
+    subst (IsForTerminal request.has_colors) (sym found.warnings)
+    (message_for_terminal (requested_by request) audit)
+audited_for_terminal request ends (Err fault) is =
+    for_terminal request.has_colors (fault_text fault) (may_fail_printable fault is.reported.fault)
 
 pub print_printable : (text : List ℕ) (old new : Option (List ℕ)) (result : Result Outcome Fault)
     → Prints text old new result → IsPrintable (message_after result)

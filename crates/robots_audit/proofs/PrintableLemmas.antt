@@ -27,7 +27,7 @@ use Rattle.robots_audit.specs.Rows.{value_text, word_and_value, word_width}
 use Rattle.robots_io.specs.Sanitize.{IsPrintable, IsPrintableIn, sanitized}
 use Rattle.robots_warnings.specs.Warnings.{WarningValue, warning_line}
 use Rattle.robots_audit.proofs.PlainLemmas.{starts, starts_append, starts_blanks, starts_decimal, starts_plainly}
-use Rattle.robots_warnings.proofs.PrintableLemmas.{line_printable, names_printable, word_printable}
+use Rattle.robots_warnings.proofs.PrintableLemmas.{names_printable, word_printable}
 use Rattle.robots_io.proofs.SanitizeLemmas.{append_printable, ascii_printable, blanks_printable}
 use Rattle.robots_io.proofs.SanitizeLemmas.{decimal_printable}
 use Rattle.robots_io.proofs.SanitizeLemmas.{ended_printable, line_printable as printable_line, nil_printable}
@@ -65,33 +65,11 @@ more_printable file warnings warning =
     )
     depth 12
 
-each_more : (file : List ℕ) (warnings others : List WarningValue)
+pub each_more : (file : List ℕ) (warnings others : List WarningValue)
     → Each IsPrintable (map (more_line file) (map (more_of warnings) others))
 each_more file warnings [] = tt
 each_more file warnings (warning ∷ others) =
     (more_printable file warnings warning, each_more file warnings others)
-
-listed_printable : (file : List ℕ) (warnings : List WarningValue)
-    → Each IsPrintable (listed_lines file warnings)
-listed_printable file warnings =
-    each_append IsPrintable (warning_lines file (listed warnings)) (map (more_line file) (more warnings))
-    (each_map IsPrintable (warning_line file) (line_printable file) (listed warnings))
-    (each_more file warnings (unlisted warnings))
-
-message_in_printable : (format : Format) (requested : RequestValue) (audit : AuditValue)
-    → IsPrintable (message_in format requested audit)
-message_in_printable Text requested audit =
-    ended_printable (listed_lines (shown_name requested.file) audit.warnings)
-    (listed_printable (shown_name requested.file) audit.warnings)
-message_in_printable Json requested audit = nil_printable true
-message_in_printable Html requested audit = nil_printable true
-message_in_printable Github requested audit = nil_printable true
-message_in_printable Sarif requested audit = nil_printable true
-
-pub message_printable : (requested : RequestValue) (audit : AuditValue)
-    → IsPrintable (message requested audit)
-message_printable requested audit =
-    message_in_printable requested.format requested audit
 
 -- ---- rows
 

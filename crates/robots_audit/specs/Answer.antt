@@ -44,6 +44,7 @@ requested_by request = record {
   urls = map (λ url. url.now) request.urls.items;
   is_quiet = request.is_quiet;
   format = request.format;
+  has_colors = request.has_colors;
   strict = request.strict;
   only = map (λ name. name.now) request.only.items;
   ignored = map (λ name. name.now) request.ignored.items;
@@ -100,7 +101,8 @@ output requested audit = output_in requested.format requested audit
 -- the message with a report in this format: of each name the first twenty warnings and the number of the others,
 -- unless they are in the report
 abbrev pub message_in : Format → RequestValue → AuditValue → List ℕ
-message_in Text requested audit = ended (listed_lines (shown_name requested.file) audit.warnings)
+message_in Text requested audit =
+    ended (listed_lines requested.has_colors (shown_name requested.file) audit.warnings)
 message_in Json requested audit = []
 message_in Html requested audit = []
 message_in Github requested audit = []
@@ -109,6 +111,10 @@ message_in Sarif requested audit = []
 -- the message on standard error
 abbrev pub message : RequestValue → AuditValue → List ℕ
 message requested audit = message_in requested.format requested audit
+
+-- the same request without colors
+abbrev pub without_colors : RequestValue → RequestValue
+without_colors requested = record requested { has_colors = false }
 
 -- a warning is at the level of `--strict`, or at a more serious one
 abbrev pub is_warned : Option Level → List WarningValue → Bool

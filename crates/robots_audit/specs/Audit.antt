@@ -20,9 +20,10 @@ use Rattle.robots_audit.specs.Chosen.{chosen}
 
 -- a request: the name of the file, or `None` for standard input; the crawler, if the report is about a single
 -- one; the crawlers, where an empty list means `*` and each that the file names; the URLs; whether the rows are
--- left out; how the report is written; the level of `--strict`, if it is given; the names of the warnings that
--- are reported, where an empty list means all; the names of those that are left out; whether only denied URLs
--- are listed; and whether the report ends with the numbers of allowed and denied URLs
+-- left out; how the report is written; whether the levels of warnings on standard error have colors; the level
+-- of `--strict`, if it is given; the names of the warnings that are reported, where an empty list means all; the
+-- names of those that are left out; whether only denied URLs are listed; and whether the report ends with the
+-- numbers of allowed and denied URLs
 pub record RequestValue : Type 0 where
   pub file : Option (List ℕ)
   pub agent : Option (List ℕ)
@@ -30,6 +31,7 @@ pub record RequestValue : Type 0 where
   pub urls : List (List ℕ)
   pub is_quiet : Bool
   pub format : Format
+  pub has_colors : Bool
   pub strict : Option Level
   pub only : List (List ℕ)
   pub ignored : List (List ℕ)

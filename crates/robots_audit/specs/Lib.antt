@@ -4,6 +4,7 @@ pub mod Delay
 pub mod Rows
 pub mod Audit
 pub mod Chosen
+pub mod Color
 pub mod Listed
 pub mod Report
 pub mod PlainLine

@@ -6,11 +6,13 @@ use Rattle.robots_io.specs.Verdicts.{verdict_front}
 use Rattle.robots_audit.specs.declared.group.Group.{Group}
 use Rattle.robots_audit.specs.declared.group.Group.TheVariants.{Everyone, Named, Nobody, Star}
 use Rattle.robots_audit.specs.Audit.{AgentValue, AuditValue, VerdictValue, is_allowed, is_denied, total}
+use Rattle.robots_audit.specs.Color.{shown_word}
 use Rattle.robots_audit.specs.Delay.{delay_line}
 use Rattle.robots_audit.specs.Rows.{rows}
 use Rattle.robots_audit.specs.Listed.{MoreValue, listed, more}
 use Rattle.robots_io.specs.Sanitize.{sanitized}
 use Rattle.robots_warnings.specs.Level.{level_word}
+use Rattle.robots_warnings.specs.Table.{level_of}
 use Rattle.robots_warnings.specs.Warnings.{WarningValue, warning_line}
 
 -- the file names neither the crawler nor `*`
@@ -69,9 +71,14 @@ total_line agents = total_front (total is_allowed agents) (total is_denied agent
 
 -- ---- warnings
 
+-- a warning about the file with this name, its level in color if there are colors
+abbrev pub shown_warning : (has_colors : Bool) → List ℕ → WarningValue → List ℕ
+shown_warning has_colors file warning =
+    warning_line file (shown_word has_colors (level_of warning.cause)) warning
+
 -- the warnings about the file with this name
-abbrev pub warning_lines : List ℕ → List WarningValue → List (List ℕ)
-warning_lines file warnings = map (warning_line file) warnings
+abbrev pub warning_lines : (has_colors : Bool) → List ℕ → List WarningValue → List (List ℕ)
+warning_lines has_colors file warnings = map (shown_warning has_colors file) warnings
 
 -- how many more warnings there are, up to their name
 abbrev pub more_front : List ℕ → MoreValue → List ℕ
@@ -84,5 +91,6 @@ abbrev pub more_line : List ℕ → MoreValue → List ℕ
 more_line file more = more_front file more ++ (more.name ++ codes "]")
 
 -- the warnings that are listed, and how many more there are
-abbrev pub listed_lines : List ℕ → List WarningValue → List (List ℕ)
-listed_lines file warnings = warning_lines file (listed warnings) ++ map (more_line file) (more warnings)
+abbrev pub listed_lines : (has_colors : Bool) → List ℕ → List WarningValue → List (List ℕ)
+listed_lines has_colors file warnings =
+    warning_lines has_colors file (listed warnings) ++ map (more_line file) (more warnings)

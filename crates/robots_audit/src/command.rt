@@ -1,10 +1,12 @@
 //! The command line: its options, and the request that they result in.
-ghost use Rattle.std.specs.Prelude.{◌≡◌, ◌≢◌, ◌↔◌, ◌++◌, IfErr, IfOk, IsTrue, OnOk, is_some, map, option_map, ◌||◌};
+ghost use Rattle.std.specs.Prelude.{◌≡◌, ◌≢◌, ◌↔◌, ◌++◌, IfErr, IfOk, IsTrue, OnOk, codes, is_some, map, option_map, ◌||◌};
 ghost use Rattle.std.specs.List.{list_all};
 ghost use Rattle.robots_warnings.specs.Table.{is_name};
-ghost use Rattle.robots_audit.specs.Command.{AreNamesOf, Asks, HasCrawlers, IsUnknown, IsUnknownIn, LacksAgent};
-ghost use Rattle.robots_audit.specs.Command.{file_read, format_named, is_stdin, level_named, reads_stdin_twice, requested_format, single, values_of, words_of};
+ghost use Rattle.robots_audit.specs.Command.{AreNamesOf, Asks, file_read, format_named, HasCrawlers, is_stdin, IsUnknown, IsUnknownIn, LacksAgent, level_named};
+ghost use Rattle.robots_audit.specs.Command.{reads_stdin_twice, ReadsStdinTwice, requested_format, single, value_of, values_of, words_of};
+ghost use Rattle.robots_audit.specs.Color.{requested_colors};
 
+use crate::color::requested_colors;
 use crate::fault::Fault;
 use clap::builder::ValueParser;
 use clap::{Arg, ArgAction, ArgMatches, Command};
@@ -40,6 +42,8 @@ pub struct Request<'a> {
     pub is_quiet: bool,
     /// How the report is written.
     pub format: Format,
+    /// Whether the levels of warnings on standard error have colors.
+    pub has_colors: bool,
     /// A warning at this level, or at a more serious one, leads to exit status 3; `None` if no warning does.
     pub strict: Option<Level>,
     /// The product token of the crawler, if the report is about a single one.
@@ -122,7 +126,16 @@ fn with_format<'a>(alloc: Global, called: Command<'a>) -> Result<Command<'a>, Al
     called.arg(html.conflicts_with("format")?.conflicts_with("json")?)
 }
 
-/// Adds the options without a value, `--format` and `--strict`.
+/// The option `--color`.
+fn color<'a>(alloc: Global) -> Arg<'a> {
+    Arg::new(alloc, "color")
+        .long("color")
+        .value_name("WHEN")
+        .value_parser(ValueParser::Names(&["auto", "always", "never"]))
+        .help("Color the levels of warnings; auto (default): on a terminal, unless NO_COLOR is set")
+}
+
+/// Adds the options without a value, `--format`, `--color` and `--strict`.
 fn with_switches<'a>(alloc: Global, called: Command<'a>) -> Result<Command<'a>, AllocError> {
     let agents = switch(
         alloc,
@@ -132,7 +145,9 @@ fn with_switches<'a>(alloc: Global, called: Command<'a>) -> Result<Command<'a>, 
     let called = called.arg(agents.short('a'))?;
     let quiet = switch(alloc, "quiet", "Don't list the lines of the file");
     let called = called.arg(quiet.short('q'))?;
-    with_format(alloc, called)?.arg(strict(alloc))
+    with_format(alloc, called)?
+        .arg(color(alloc))?
+        .arg(strict(alloc))
 }
 
 /// An option whose value is a name, and which can be repeated.
@@ -173,10 +188,10 @@ fn with_names<'a>(alloc: Global, called: Command<'a>) -> Result<Command<'a>, All
 }
 
 /// The arguments and options of an audit, other than `--file`.
-fn of_audits<'a>() -> [&'a str; 13] {
+fn of_audits<'a>() -> [&'a str; 14] {
     [
         "agent", "url", "agents", "crawler", "urls", "denied", "quiet", "format", "json", "html",
-        "strict", "only", "ignore",
+        "color", "strict", "only", "ignore",
     ]
 }
 
@@ -196,7 +211,8 @@ fn with_expect<'a>(alloc: Global, called: Command<'a>) -> Result<Command<'a>, Al
 /// Adds the option `--compare`, which excludes those about warnings and the form of the report.
 fn with_compare<'a>(alloc: Global, called: Command<'a>) -> Result<Command<'a>, AllocError> {
     let others = [
-        "expect", "urls", "denied", "quiet", "format", "json", "html", "strict", "only", "ignore",
+        "expect", "urls", "denied", "quiet", "format", "json", "html", "color", "strict", "only",
+        "ignore",
     ];
     let compare = Arg::new(alloc, "compare")
         .long("compare")
@@ -439,10 +455,17 @@ fn has_totals(is_denied_only: bool, urls: Option<&str>) -> bool
     is_denied_only || urls.is_some()
 }
 
-/// The request that the arguments contain, without the URLs in a file. Fails if AGENT is missing, if standard input would
-/// be read twice, if no warning has a given name, or if an allocation fails.
-pub fn requested<'a>(alloc: Global, matches: &ArgMatches<'a>) -> Result<Request<'a>, Fault>
-    ensures { Asks matches.now result }
+/// The request that the arguments contain, without the URLs in a file; `has_colors` is whether warnings have colors
+/// without `--color` or with `--color auto`. Fails if AGENT is missing, if standard input would be read twice, if no
+/// warning has a given name, or if an allocation fails.
+pub fn requested<'a>(
+    alloc: Global,
+    matches: &ArgMatches<'a>,
+    has_colors: bool,
+) -> Result<Request<'a>, Fault>
+    ensures asks { Asks matches.now result }
+    ensures colors { IfOk result (λ request. request.has_colors
+        ≡ requested_colors (value_of matches.now (codes "color")) has_colors) }
 {
     let mut urls = words_of(alloc, matches)?;
     let agents = crawlers(alloc, matches, &mut urls)?;
@@ -458,6 +481,7 @@ pub fn requested<'a>(alloc: Global, matches: &ArgMatches<'a>) -> Result<Request<
             matches.get_flag("html"),
             matches.get_str("format"),
         ),
+        has_colors: requested_colors(matches.get_str("color"), has_colors),
         strict: strict_level(matches.get_str("strict")),
         agent: single(&agents),
         agents,

@@ -12,10 +12,11 @@ ghost use Rattle.robots_warnings.specs.Table.{all_causes, name_of};
 ghost use Rattle.robots_warnings.specs.Rules.{begins_oddly, has_dollar_inside};
 ghost use Rattle.robots_warnings.specs.Tokens.{has_space_around};
 ghost use Rattle.robots_warnings.specs.Urls.{is_invalid_url};
-ghost use Rattle.robots_audit.specs.Answer.{output, message};
+ghost use Rattle.robots_audit.specs.Answer.{output, message, without_colors};
 ghost use Rattle.robots_html.specs.Html.{document};
 ghost use Rattle.robots_html.specs.Reader.{read_document};
 ghost use Rattle.robots_audit.specs.Audit.{AgentValue, AuditValue, IsAuditOf, RequestValue};
+ghost use Rattle.robots_audit.specs.Color.{IsColored};
 ghost use Rattle.robots_audit.specs.Page.{page};
 ghost use Rattle.robots_audit.specs.Compare.{ComparedValue, IsCompared, has_same_rules, is_unchanged, report_lines, rules_only_in, verdict_changes};
 ghost use Rattle.robots_audit.specs.Expectations.{IsReport};
@@ -41,10 +42,18 @@ pub fn each_file_has_an_audit()
 
 /// Neither the output nor the message on standard error of an audit contains invalid UTF-8, a control character other
 /// than LF, a bidirectional control character or a line separator, whatever the bytes of the crawler's name, the URLs
-/// and the file.
+/// and the file, if the message has no colors.
 pub fn no_terminal_is_steered()
     ensures written { (requested : RequestValue) (audit : AuditValue) → IsPrintable (output requested audit) }
-    ensures message { (requested : RequestValue) (audit : AuditValue) → IsPrintable (message requested audit) }
+    ensures message { (requested : RequestValue) (audit : AuditValue) → requested.has_colors ≡ false
+        → IsPrintable (message requested audit) }
+{}
+
+/// With colors, the message on standard error is the one without colors, in which color codes are inserted. Its other parts
+/// contain no such characters either.
+pub fn colors_add_only_their_codes()
+    ensures { (requested : RequestValue) (audit : AuditValue)
+        → IsColored (message (without_colors requested) audit) (message requested audit) }
 {}
 
 /// Reading a page yields the same tree again. So each text from a file, a crawler's name or a URL is within one text of

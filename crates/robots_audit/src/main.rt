@@ -18,13 +18,16 @@
 //! its level or a more serious one.
 #![tactic(auto)]
 
-ghost use Rattle.std.specs.Prelude.{IfErr};
+ghost use Rattle.std.specs.Prelude.{IfErr, codes, true};
 ghost use Rattle.robots_io.specs.Sanitize.{IsPrintable};
+ghost use Rattle.robots_audit.specs.Color.{IsForTerminal, requested_colors};
+ghost use Rattle.robots_audit.specs.Command.{value_of};
 ghost use Rattle.robots_audit.specs.Fault.{fault_text, message_after};
 
 mod agents;
 mod audit;
 mod chosen;
+mod color;
 mod command;
 mod compare;
 mod compared;
@@ -51,7 +54,8 @@ mod url_list;
 
 use clap::ArgMatches;
 use clap::error::ErrorKind as WordsKind;
-use command::{Request, command, file_read, reads_stdin_twice, requested};
+use command::{command, file_read, reads_stdin_twice, Request, requested};
+use color::colors_by_default;
 use compare::compare;
 use expectations::check;
 use explain::{explain, list_warnings};
@@ -92,7 +96,7 @@ fn reported(rt: &HostRuntime, error: clap::Error) -> Result<Outcome, Fault>
 
 /// Audits the file with this name.
 fn audit_named(rt: &HostRuntime, request: &Request<'_>, name: &str) -> Result<Outcome, Fault>
-    ensures { IsPrintable (message_after result) }
+    ensures { IsForTerminal request.now.has_colors (message_after result) }
 {
     let Ok(mut file) = File::open(rt, name) else {
         return Err(unread(rt.alloc(), name));
@@ -106,7 +110,7 @@ fn audit_named(rt: &HostRuntime, request: &Request<'_>, name: &str) -> Result<Ou
 
 /// Audits the file that the request names, or standard input.
 fn audit_requested(rt: &HostRuntime, request: &Request<'_>) -> Result<Outcome, Fault>
-    ensures { IsPrintable (message_after result) }
+    ensures { IsForTerminal request.now.has_colors (message_after result) }
 {
     match request.file {
         Some(name) => audit_named(rt, request, name),
@@ -116,18 +120,19 @@ fn audit_requested(rt: &HostRuntime, request: &Request<'_>) -> Result<Outcome, F
 
 /// Audits that file, and checks the URLs in the file with this name too.
 fn audit_with_urls(rt: &HostRuntime, request: Request<'_>, name: &str) -> Result<Outcome, Fault>
-    ensures { IsPrintable (message_after result) }
+    ensures { IsForTerminal request.entry.has_colors (message_after result) }
 {
     let text = read_named_or_stdin(rt, name)?;
     let extended = with_urls(rt.alloc(), request, name, &text)?;
     audit_requested(rt, &extended)
 }
 
-/// Audits the file that the parsed arguments name, or standard input.
-fn audited(rt: &HostRuntime, matches: &ArgMatches<'_>) -> Result<Outcome, Fault>
-    ensures { IsPrintable (message_after result) }
+/// Audits the file that the parsed arguments name, or standard input; `has_colors` is as for `requested`.
+fn audited(rt: &HostRuntime, matches: &ArgMatches<'_>, has_colors: bool) -> Result<Outcome, Fault>
+    ensures { IsForTerminal (requested_colors (value_of matches.now (codes "color")) has_colors)
+        (message_after result) }
 {
-    let request = requested(rt.alloc(), matches)?;
+    let request = requested(rt.alloc(), matches, has_colors)?;
     match matches.get_str("urls") {
         Some(name) => audit_with_urls(rt, request, name),
         None => audit_requested(rt, &request),
@@ -216,7 +221,7 @@ fn compare_named(
 fn compared_with(rt: &HostRuntime, matches: &ArgMatches<'_>, older: &str) -> Result<Outcome, Fault>
     ensures { IsPrintable (message_after result) }
 {
-    let request = requested(rt.alloc(), matches)?;
+    let request = requested(rt.alloc(), matches, false)?;
     let text = read_named_or_stdin(rt, older)?;
     match request.file {
         Some(name) => compare_named(rt, &request, &text, name),
@@ -231,9 +236,10 @@ fn compared_with(rt: &HostRuntime, matches: &ArgMatches<'_>, older: &str) -> Res
     }
 }
 
-/// Does what the parsed arguments request.
-fn done(rt: &HostRuntime, matches: &ArgMatches<'_>) -> Result<Outcome, Fault>
-    ensures { IsPrintable (message_after result) }
+/// Does what the parsed arguments request; `has_colors` is as for `requested`.
+fn done(rt: &HostRuntime, matches: &ArgMatches<'_>, has_colors: bool) -> Result<Outcome, Fault>
+    ensures { IsForTerminal (requested_colors (value_of matches.now (codes "color")) has_colors)
+        (message_after result) }
 {
     if matches.get_flag("list-warnings") {
         return list_warnings(rt.alloc(), &mut rt.stdout());
@@ -246,18 +252,18 @@ fn done(rt: &HostRuntime, matches: &ArgMatches<'_>) -> Result<Outcome, Fault>
     }
     match matches.get_str("compare") {
         Some(older) => compared_with(rt, matches, older),
-        None => audited(rt, matches),
+        None => audited(rt, matches, has_colors),
     }
 }
 
-/// Parses the arguments and does what they request. The message for standard error is printable, whatever the arguments,
-/// the file and its name are.
+/// Parses the arguments and does what they request. The message for standard error is printable apart from color codes,
+/// whatever the arguments, the file and its name are.
 fn outcome(rt: &HostRuntime) -> Result<Outcome, Fault>
-    ensures { IsPrintable (message_after result) }
+    ensures { IsForTerminal true (message_after result) }
 {
     let words = words(rt)?;
     match command(rt.alloc())?.try_get_matches_from(&words) {
-        Ok(matches) => done(rt, &matches),
+        Ok(matches) => done(rt, &matches, colors_by_default(rt)),
         Err(error) => match error.kind() {
             WordsKind::OutOfMemory => Err(Fault::Memory),
             _ => reported(rt, error),

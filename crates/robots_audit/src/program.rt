@@ -107,7 +107,12 @@ fn message(
     ensures { IfOk result (λ text. string_bytes text ≡ message (requested_by request.now) (audit_value audit.now)) }
 {
     match request.format {
-        Format::Text => listed_lines(alloc, shown_name(request.file), &audit.warnings),
+        Format::Text => listed_lines(
+            alloc,
+            request.has_colors,
+            shown_name(request.file),
+            &audit.warnings,
+        ),
         Format::Json | Format::Html | Format::Github | Format::Sarif => Ok(String::new(alloc)),
     }
 }

@@ -1,14 +1,14 @@
 //! The audit as lines of text.
 ghost use Rattle.std.specs.Prelude.{◌≡◌, ◌++◌, ◌∷◌, [], IfOk, OnOk, codes, flat_map, map, string_bytes};
 ghost use Rattle.robots_io.specs.Lines.{ended};
-ghost use Rattle.robots_audit.specs.Report.{agent_lines, group_line, group_text, listed_lines, more_front, more_line, nobody_text, rejected_front, rejected_lines, rejected_text, report_lines, total_front, verdict_line, warning_lines};
+ghost use Rattle.robots_audit.specs.Report.{agent_lines, group_line, group_text, listed_lines, more_front, more_line, nobody_text, rejected_front, rejected_lines, rejected_text, report_lines, shown_warning, total_front, verdict_line, warning_lines};
 ghost use Rattle.robots_io.specs.Sanitize.{sanitized};
 ghost use Rattle.robots_warnings.specs.Internal.{warning_value};
-ghost use Rattle.robots_warnings.specs.Warnings.{warning_line};
 ghost use Rattle.robots_audit.specs.Internal.{agent_value, audit_value, verdict_value};
 ghost use Rattle.robots_audit.specs.Internal.Listed.{more_value};
 
 use crate::audit::{AgentAudit, Audit, Verdict};
+use crate::color::shown_word;
 use crate::delay::push_delay;
 use crate::denied::Totals;
 use crate::group::Group;
@@ -195,24 +195,48 @@ pub(crate) fn push_totals(text: &mut String, totals: Totals) -> Result<(), Alloc
     push_line(text, " denied", "")
 }
 
-/// Appends the line with a warning about the file with this name.
-fn push_warning_line(text: &mut String, file: &str, warning: &Warning<'_>) -> Result<(), AllocError>
+/// Appends a warning about the file with this name, its level in color if there are colors.
+fn push_shown_warning(
+    text: &mut String,
+    has_colors: bool,
+    file: &str,
+    warning: &Warning<'_>,
+) -> Result<(), AllocError>
     ensures { OnOk result (string_bytes text.new ≡ string_bytes text.old
-        ++ ended (warning_line file.now (warning_value warning.now) ∷ [])) }
+        ++ shown_warning has_colors file.now (warning_value warning.now)) }
 {
-    push_warning(text, file, warning)?;
+    let level = shown_word(has_colors, warning.cause.level());
+    push_warning(text, file, level, warning)
+}
+
+/// Appends the same with a line end.
+fn push_warning_line(
+    text: &mut String,
+    has_colors: bool,
+    file: &str,
+    warning: &Warning<'_>,
+) -> Result<(), AllocError>
+    ensures { OnOk result (string_bytes text.new ≡ string_bytes text.old
+        ++ ended (shown_warning has_colors file.now (warning_value warning.now) ∷ [])) }
+{
+    push_shown_warning(text, has_colors, file, warning)?;
     text.push('\n')?;
     Ok(())
 }
 
 /// The warnings about the file with this name, one per line.
-fn warning_lines(alloc: Global, file: &str, warnings: &[Warning<'_>]) -> Result<String, AllocError>
+fn warning_lines(
+    alloc: Global,
+    has_colors: bool,
+    file: &str,
+    warnings: &[Warning<'_>],
+) -> Result<String, AllocError>
     ensures { IfOk result (λ text. string_bytes text
-        ≡ ended (warning_lines file.now (map warning_value warnings.now))) }
+        ≡ ended (warning_lines has_colors file.now (map warning_value warnings.now))) }
 {
     let mut text = String::new(alloc);
     for warning in warnings {
-        push_warning_line(&mut text, file, warning)?;
+        push_warning_line(&mut text, has_colors, file, warning)?;
     }
     Ok(text)
 }
@@ -242,14 +266,15 @@ fn push_more_line(text: &mut String, file: &str, more: &More) -> Result<(), Allo
 /// The warnings about the file with this name that are listed, and how many more there are.
 pub(crate) fn listed_lines(
     alloc: Global,
+    has_colors: bool,
     file: &str,
     warnings: &[Warning<'_>],
 ) -> Result<String, AllocError>
     ensures { IfOk result (λ text. string_bytes text
-        ≡ ended (listed_lines file.now (map warning_value warnings.now))) }
+        ≡ ended (listed_lines has_colors file.now (map warning_value warnings.now))) }
 {
     let found = listing_of(alloc, warnings)?;
-    let mut text = warning_lines(alloc, file, &found.warnings)?;
+    let mut text = warning_lines(alloc, has_colors, file, &found.warnings)?;
     for more in &found.more {
         push_more_line(&mut text, file, more)?;
     }

@@ -5,13 +5,13 @@ use Rattle.std.{specs.List.list_all, specs.Prelude.slice_index_or, proofs.lemmas
 use Rattle.robots_warnings.specs.declared.table.Cause.{Cause}
 use Rattle.robots_warnings.specs.declared.table.TheConstants.{WARNINGS}
 use Rattle.robots_warnings.specs.declared.examples.TheConstants.{EXAMPLES}
-use Rattle.robots_warnings.specs.Table.{example_of, level_of, name_of, number_of, text_of}
+use Rattle.robots_warnings.specs.Table.{example_of, name_of, number_of, text_of}
 use Rattle.robots_warnings.specs.declared.level.Level.{Level}
 use Rattle.robots_warnings.specs.declared.level.Level.TheVariants.{Error, Note, Warning}
 use Rattle.robots_warnings.specs.Level.{level_word}
 use Rattle.robots_io.specs.Sanitize.{IsPrintable, is_printable_byte}
-use Rattle.robots_warnings.specs.Warnings.{WarningValue, about_text, count_text, level_text, name_text, place_text, warning_line}
-use Rattle.robots_warnings.specs.Warnings.{warning_text}
+use Rattle.robots_warnings.specs.Warnings.{about_text, count_text, name_text, place_text}
+use Rattle.robots_warnings.specs.Warnings.{WarningValue, warning_text}
 use Rattle.robots_io.proofs.SanitizeLemmas.{append_printable, ascii_printable, decimal_printable}
 use Rattle.robots_io.proofs.SanitizeLemmas.{nil_printable}
 use Rattle.robots_io.proofs.SanitizeLemmas.{sanitized_printable}
@@ -63,7 +63,7 @@ text_printable warning =
     append_printable true (about_text warning.about) (text ++ count) (about_printable warning.about)
     (append_printable true text count (texts_printable warning.cause) (count_printable warning.count))
 
-place_printable : (file : List ℕ) (line : Option ℕ) → IsPrintable (place_text file line)
+pub place_printable : (file : List ℕ) (line : Option ℕ) → IsPrintable (place_text file line)
 place_printable file None = search (append_printable true, ascii_printable true, sanitized_printable)
 place_printable file (Some number) =
     search (append_printable true, ascii_printable true, decimal_printable true, sanitized_printable)
@@ -73,21 +73,11 @@ word_printable Error = ascii_printable true (level_word Error) refl
 word_printable Warning = ascii_printable true (level_word Warning) refl
 word_printable Note = ascii_printable true (level_word Note) refl
 
-level_printable : (cause : Cause) → IsPrintable (level_text cause)
-level_printable cause =
-    append_printable true (level_word (level_of cause)) (codes ": ") (word_printable (level_of cause))
-    (ascii_printable true (codes ": ") refl)
-
 pub name_printable : (cause : Cause) → IsPrintable (name_text cause)
 name_printable cause = search (append_printable true, ascii_printable true, names_printable)
 
-pub line_printable : (file : List ℕ) (warning : WarningValue) → IsPrintable (warning_line file warning)
-unfolding warning_line
-line_printable file warning =
-    let level = level_text warning.cause in
-    let text = warning_text warning in
-    let name = name_text warning.cause in
-    append_printable true (place_text file warning.line) (level ++ (text ++ name))
-    (place_printable file warning.line)
-    (append_printable true level (text ++ name) (level_printable warning.cause)
-    (append_printable true text name (text_printable warning) (name_printable warning.cause)))
+-- what follows the level
+pub reported_printable : (warning : WarningValue)
+    → IsPrintable (codes ": " ++ (warning_text warning ++ name_text warning.cause))
+reported_printable warning =
+    search (append_printable true, ascii_printable true, text_printable, name_printable)

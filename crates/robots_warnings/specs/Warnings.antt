@@ -23,8 +23,7 @@ use Rattle.robots_warnings.specs.Repeated.{repeated}
 use Rattle.robots_warnings.specs.Replaced.{replacing, star_count}
 use Rattle.robots_warnings.specs.Spellings.{nonstandard_escapes}
 use Rattle.robots_io.specs.Sanitize.{sanitized}
-use Rattle.robots_warnings.specs.Level.{level_word}
-use Rattle.robots_warnings.specs.Table.{level_of, name_of, text_of}
+use Rattle.robots_warnings.specs.Table.{name_of, text_of}
 
 -- a warning: the number of its line, if it is about one; the reason; the URL, if it is about one; and how
 -- many rules its message is about, if it says so
@@ -40,9 +39,6 @@ pub record WarningValue : Type 0 where
 abbrev pub place_text : List ℕ → Option ℕ → List ℕ
 place_text file None = sanitized file ++ codes ": "
 place_text file (Some number) = sanitized file ++ codes ":" ++ decimal number ++ codes ": "
-
-abbrev pub level_text : Cause → List ℕ
-level_text cause = level_word (level_of cause) ++ codes ": "
 
 -- the URL that a warning is about
 abbrev pub about_text : Option (List ℕ) → List ℕ
@@ -61,11 +57,11 @@ count_text (Some count) = codes " (" ++ decimal count ++ codes " in all)"
 abbrev pub warning_text : WarningValue → List ℕ
 warning_text warning = about_text warning.about ++ (text_of warning.cause ++ count_text warning.count)
 
--- the place, the level, the message and the name
-unfoldable pub warning_line : List ℕ → WarningValue → List ℕ
-warning_line file warning =
+-- the place, the level, the message and the name; `level` is the word for the level, possibly in color
+unfoldable pub warning_line : (file level : List ℕ) → WarningValue → List ℕ
+warning_line file level warning =
     place_text file warning.line
-    ++ (level_text warning.cause ++ (warning_text warning ++ name_text warning.cause))
+    ++ (level ++ (codes ": " ++ (warning_text warning ++ name_text warning.cause)))
 
 -- ---- warnings from checks
 

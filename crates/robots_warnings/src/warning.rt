@@ -1,7 +1,7 @@
 //! A warning, and its text in a report.
 ghost use Rattle.std.specs.Prelude.{◌≡◌, ◌++◌, OnOk, option_map, string_bytes};
 ghost use Rattle.robots_warnings.specs.Internal.{warning_value};
-ghost use Rattle.robots_warnings.specs.Warnings.{about_text, count_text, level_text, name_text, place_text, warning_line, warning_text};
+ghost use Rattle.robots_warnings.specs.Warnings.{about_text, count_text, name_text, place_text, warning_line, warning_text};
 
 use crate::table::Cause;
 use robots_io::lines::push_number;
@@ -30,14 +30,6 @@ fn push_place(text: &mut String, file: &str, line: Option<usize>) -> Result<(), 
     };
     text.push_str(":")?;
     push_number(text, number)?;
-    text.push_str(": ")
-}
-
-/// Appends the level of a warning.
-fn push_level(text: &mut String, cause: Cause) -> Result<(), AllocError>
-    ensures { OnOk result (string_bytes text.new ≡ string_bytes text.old ++ level_text cause) }
-{
-    text.push_str(cause.level().word())?;
     text.push_str(": ")
 }
 
@@ -95,12 +87,19 @@ pub fn push_reported(text: &mut String, warning: &Warning<'_>) -> Result<(), All
 }
 
 /// Appends a warning about the file with this name, without a line end: its place, its level, its message and its name.
+/// `level` is the word for its level, possibly in color.
 #[tactic(auto, unfolding(crate::specs::Warnings::warning_line))]
-pub fn push_warning(text: &mut String, file: &str, warning: &Warning<'_>) -> Result<(), AllocError>
+pub fn push_warning(
+    text: &mut String,
+    file: &str,
+    level: &str,
+    warning: &Warning<'_>,
+) -> Result<(), AllocError>
     ensures { OnOk result (string_bytes text.new ≡ string_bytes text.old
-        ++ warning_line file.now (warning_value warning.now)) }
+        ++ warning_line file.now level.now (warning_value warning.now)) }
 {
     push_place(text, file, warning.line)?;
-    push_level(text, warning.cause)?;
+    text.push_str(level)?;
+    text.push_str(": ")?;
     push_reported(text, warning)
 }

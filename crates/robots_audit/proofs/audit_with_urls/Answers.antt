@@ -1,8 +1,23 @@
-use Rattle.std.proofs.Common.{rules}
+use Rattle.std.proofs.Common.{Bool, ap, rules, subst}
+use Rattle.robots_audit.specs.Audit.{RequestValue}
+use Rattle.robots_audit.specs.Color.{IsForTerminal}
+use Rattle.robots_audit.specs.Fault.{message_after}
+use Rattle.robots_audit.proofs.ColorLemmas.{for_terminal}
+use Rattle.robots_audit.proofs.MessageLemmas.{error_for_terminal}
 use Rattle.robots_audit.proofs.UrlListLemmas.{url_outcome}
 use Rattle.robots_audit.proofs.audit_with_urls.Goals as goal
 
+pub returns-in_err-text : goal.returns-in_err-text
+returns-in_err-text c = error_for_terminal _ c.from_residual.result _ (search rules) c.in_err-text.ensures
+
 pub returns-in_err-extended : goal.returns-in_err-extended
 returns-in_err-extended c =
-    url_outcome c.args.name.now c.deref.result.now _ c.from_residual-in_err-extended.result (search rules)
-    c.in_err-extended.ensures.fault
+    for_terminal _ _
+    (url_outcome c.args.name.now c.deref.result.now _ c.from_residual-in_err-extended.result (search rules)
+    c.in_err-extended.ensures.fault)
+
+pub returns : goal.returns
+returns c =
+    subst (λ (has_colors : Bool). IsForTerminal has_colors (message_after c.audit_requested.result))
+    (ap (λ (requested : RequestValue). requested.has_colors) c.in_ok-extended.ensures.ok.extended_is)
+    c.audit_requested.ensures

@@ -1,5 +1,5 @@
+use Rattle.robots_audit.proofs.ColorLemmas.{message_printable}
 use Rattle.robots_audit.proofs.OutputLemmas.{output_printable}
-use Rattle.robots_audit.proofs.PrintableLemmas.{message_printable}
 use Rattle.robots_audit.proofs.laws.no_terminal_is_steered.Goals as goal
 
 pub returns : goal.returns

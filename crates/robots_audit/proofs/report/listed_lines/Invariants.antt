@@ -9,5 +9,5 @@ use Rattle.robots_audit.proofs.report.listed_lines.Given as goal
 abbrev pub invariant-loop-more : goal.invariant-loop-more
 invariant-loop-more l =
     string_bytes l.text
-    ≡ ended (warning_lines l.file (listed (map warning_value l.warnings)))
+    ≡ ended (warning_lines l.has_colors l.file (listed (map warning_value l.warnings)))
     ++ ended (map (more_line l.file) (map more_value (take l.more-index l.more-items)))

@@ -7,4 +7,4 @@ use Rattle.robots_audit.proofs.report.warning_lines.Given as goal
 abbrev pub invariant-loop-warning : goal.invariant-loop-warning
 invariant-loop-warning l =
     string_bytes l.text
-    ≡ ended (warning_lines l.file (map warning_value (take l.warning-index l.warnings)))
+    ≡ ended (warning_lines l.has_colors l.file (map warning_value (take l.warning-index l.warnings)))
