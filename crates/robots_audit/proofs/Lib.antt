@@ -21,6 +21,7 @@ pub mod ListedLemmas
 pub mod MessageLemmas
 pub mod OutputLemmas
 pub mod PageLemmas
+pub mod PieceLemmas
 pub mod PlainLemmas
 pub mod PrintableLemmas
 pub mod RowLemmas

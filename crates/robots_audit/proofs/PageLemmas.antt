@@ -27,13 +27,13 @@ use Rattle.robots_audit.proofs.HtmlLemmas.{IsPart, document_printable, printable
 use Rattle.robots_audit.specs.Page.{agent_columns, agent_content, agent_entries, agent_names, agent_row}
 use Rattle.robots_audit.specs.Page.{agent_table, charset, code, column, crawler_entries, deciding_line}
 use Rattle.robots_audit.specs.Page.{delay_name, file_caption, file_content, file_table, group_note}
-use Rattle.robots_audit.specs.Page.{group_part, is_at, line_cells, line_columns, line_link, line_names}
+use Rattle.robots_audit.specs.Page.{group_part, is_at, line_columns, line_link, line_names}
 use Rattle.robots_audit.specs.Page.{level_name, line_part, line_row, listed_warnings, meta, number_cell, page}
 use Rattle.robots_audit.specs.Page.{page_body}
 use Rattle.robots_audit.specs.Page.{page_content, page_head, page_style, rejection, rest_note}
 use Rattle.robots_audit.specs.Page.{rest_words, row_name}
 use Rattle.robots_audit.specs.Page.{simple, sitemap_entry, sitemap_item, summary, title_text, url_body}
-use Rattle.robots_audit.specs.Page.{url_column, url_columns, url_part, url_row, url_table, value_cell}
+use Rattle.robots_audit.specs.Page.{url_column, url_columns, url_part, url_row, url_table, value_cell, word_cells}
 use Rattle.robots_audit.specs.Page.{verdict_cell, verdict_name, verdict_part, warning_at, warning_entry}
 use Rattle.robots_audit.specs.Page.{warning_item, warning_list, warning_place, warning_row, warning_words}
 use Rattle.robots_audit.specs.Report.{group_text}
@@ -290,26 +290,20 @@ unfolding value_cell
 value_cell_is line =
     simple_is (codes "td") (value_text line) refl refl (value_printable line)
 
-line_cells_is : (label : Label) → IsPart (line_cells label)
-unfolding line_cells
-line_cells_is label =
-    search (
-      rules,
-      plain,
-      followed,
-      simple_is,
-      number_cell_is,
-      membership_printable,
-      kind_printable,
-      value_cell_is,
-    )
+word_cells_is : (label : Label) → IsPart (word_cells label)
+unfolding word_cells
+word_cells_is label =
+    search (rules, plain, followed, simple_is, membership_printable, kind_printable)
+
+cells_are : (label : Label) → IsPart (number_cell label.number ⊕ word_cells label ⊕ value_cell label.line)
+cells_are label = search (followed, number_cell_is, word_cells_is, value_cell_is)
 
 line_row_is : (label : Label) → IsPart (line_row label)
 unfolding line_row
 line_row_is label =
     let id = numbered_printable (codes "L") label.number (ascii (codes "L") refl) in
     let own = membership_printable label.membership in
-    (refl, none, refl, refl, (refl, refl, id, (refl, refl, own, tt)), line_cells_is label, none)
+    (refl, none, refl, refl, (refl, refl, id, (refl, refl, own, tt)), cells_are label, none)
 
 warning_row_is : (warning : WarningValue) → IsPart (warning_row warning)
 unfolding warning_row

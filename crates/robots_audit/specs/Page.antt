@@ -10,6 +10,7 @@ use Rattle.robots_html.specs.Html.{Attribute, Html, attribute, each, style, tag,
 use Rattle.robots_io.specs.Sanitize.{sanitized}
 use Rattle.robots_warnings.specs.declared.level.Level.{Level}
 use Rattle.robots_warnings.specs.declared.level.Level.TheVariants.{Error, Note, Warning}
+use Rattle.robots_warnings.specs.declared.table.Cause.{Cause}
 use Rattle.robots_warnings.specs.File.{lines_of}
 use Rattle.robots_warnings.specs.Level.{level_word}
 use Rattle.robots_warnings.specs.Table.{level_of}
@@ -208,24 +209,31 @@ number_cell number = tag (codes "th") (with (codes "scope") (codes "row")) (text
 unfoldable pub value_cell : LineValue → Html
 value_cell line = simple (codes "td") (value_text line)
 
-unfoldable pub line_cells : Label → Html
-line_cells label =
-    number_cell label.number ⊕ simple (codes "td") (membership_word label.membership)
-    ⊕ simple (codes "td") (kind_text label.line) ⊕ value_cell label.line
+-- the membership and the directive of a line
+unfoldable pub word_cells : Label → Html
+word_cells label =
+    simple (codes "td") (membership_word label.membership) ⊕ simple (codes "td") (kind_text label.line)
+
+abbrev pub line_attributes : Label → List Attribute
+line_attributes label =
+    attribute (codes "id") (codes "L" ++ decimal label.number)
+    ∷ attribute (codes "class") (membership_word label.membership) ∷ []
 
 -- a row for a line, to which other parts link
 unfoldable pub line_row : Label → Html
 line_row label =
-    tag (codes "tr")
-    (attribute (codes "id") (codes "L" ++ decimal label.number)
-    ∷ attribute (codes "class") (membership_word label.membership) ∷ [])
-    (line_cells label)
+    tag (codes "tr") (line_attributes label)
+    (number_cell label.number ⊕ word_cells label ⊕ value_cell label.line)
 
 -- a row for a warning, below that of its line
 unfoldable pub warning_row : WarningValue → Html
 warning_row warning =
     tag (codes "tr") (with (codes "class") (level_word (level_of warning.cause)))
     (tag (codes "td") (with (codes "colspan") (codes "4")) (text (warning_words warning)))
+
+-- a warning with this cause, which isn't about a URL
+abbrev pub of_cause : Cause → WarningValue
+of_cause cause = record { line = None; cause = cause; about = None }
 
 abbrev pub is_at : ℕ → Option ℕ → Bool
 is_at number None = false

@@ -10,6 +10,7 @@ ghost use Rattle.robots_audit.specs.Page.{summary, title_text};
 
 mod by_line;
 mod file;
+mod known_row;
 mod parts;
 mod style;
 mod verdicts;

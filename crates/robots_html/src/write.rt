@@ -118,6 +118,7 @@ pub fn push_start(out: &mut Vec<u8>, name: &str) -> Result<(), AllocError>
 }
 
 /// Appends an end tag.
+#[inline(always)]
 #[tactic(auto, unfolding(crate::specs::Html::end_tag))]
 pub fn push_end(out: &mut Vec<u8>, name: &str) -> Result<(), AllocError>
     ensures { OnOk result (out.new.items ≡ out.old.items ++ end_tag name.now) }

@@ -8,7 +8,7 @@ ghost use Rattle.robots_audit.specs.Internal.ByLine.{AreByLine, list_at};
 use robots_warnings::warning::Warning;
 use std::alloc::{AllocError, Global};
 
-/// Appends empty lists until there is one with this index.
+/// Appends empty lists until there is one with this index. The last one has room for a warning.
 #[tactic(auto, using(crate::proofs::ByLineLemmas::empty_appended))]
 fn grow(alloc: Global, lists: &mut Vec<Vec<Warning<'_>>>, index: usize) -> Result<(), AllocError>
     ensures len { OnOk result (index < vec_len lists.new) }
@@ -20,7 +20,7 @@ fn grow(alloc: Global, lists: &mut Vec<Vec<Warning<'_>>>, index: usize) -> Resul
     for _ in 0..index - lists.len() {
         lists.push(Vec::new(alloc))?;
     }
-    Ok(lists.push(Vec::new(alloc))?)
+    Ok(lists.push(Vec::with_capacity(alloc, 1)?)?)
 }
 
 /// Appends a warning to the list with this index.

@@ -1,27 +1,29 @@
 //! The file of a page, with its warnings, and its sitemaps.
 #![tactic(auto, using(robots_html::proofs::WritingLemmas::joined))]
 
-ghost use Rattle.std.specs.Prelude.{◌≡◌, ◌++◌, IfOk, OnOk, map, option_map, string_bytes};
+ghost use Rattle.std.specs.Prelude.{◌≡◌, ◌++◌, IfOk, OnOk, codes, map, option_map, string_bytes};
 ghost use Rattle.texting_robots.specs.Callers.{by_value, label_by_value};
-ghost use Rattle.robots_html.specs.Html.{each, written};
+ghost use Rattle.robots_html.specs.Html.{each, start_tag, written};
 ghost use Rattle.robots_warnings.specs.Internal.{warning_value};
 ghost use Rattle.robots_audit.specs.Internal.{audit_value};
 ghost use Rattle.robots_audit.specs.Internal.ByLine.{list_at, listed_part};
-ghost use Rattle.robots_audit.specs.Page.{file_caption, file_content, file_table, line_cells};
-ghost use Rattle.robots_audit.specs.Page.{line_columns, line_names, line_part, line_row};
-ghost use Rattle.robots_audit.specs.Page.{number_cell, sitemap_entry, sitemap_item, value_cell};
-ghost use Rattle.robots_audit.specs.Page.{warning_row};
+ghost use Rattle.robots_audit.specs.Page.{file_caption, file_content, file_table};
+ghost use Rattle.robots_audit.specs.Page.{line_attributes, line_columns, line_names, line_part, line_row};
+ghost use Rattle.robots_audit.specs.Page.{number_cell, sitemap_entry, sitemap_item, value_cell, warning_row};
+ghost use Rattle.robots_audit.specs.Page.{word_cells};
 
 use crate::audit::{Audit, labeling_agent};
 use crate::json::{membership_word, sitemaps_of};
 use crate::page::by_line::by_line;
+use crate::page::known_row::KnownRow;
 use crate::page::parts::{
-    numbered, push_column, push_sanitized_code, push_simple, push_start_with, push_text_cell,
+    push_column, push_sanitized_code, push_simple, push_start_with, push_text_cell,
 };
 use crate::page::style::{DIRECTIVE, SITEMAP_TERM};
 use crate::page::warnings::push_warning_rows;
 use crate::rows::{kind_text, push_value};
-use robots_html::write::{push_attribute, push_close, push_end, push_open, push_start, push_text};
+use itoa::Buffer;
+use robots_html::write::{push_end, push_start};
 use robots_io::sanitize::push_sanitized;
 use robots_warnings::warning::Warning;
 use std::alloc::{AllocError, Global};
@@ -68,60 +70,59 @@ pub(crate) fn push_sitemap_entry(
     push_end(out, "dd")
 }
 
-/// Appends the number of a line.
-#[tactic(auto, using(robots_html::proofs::WritingLemmas::joined), unfolding(crate::specs::Page::number_cell))]
-fn push_number_cell(alloc: Global, out: &mut Vec<u8>, number: usize) -> Result<(), AllocError>
+/// Appends the start of the row of a line, with its number. Constant parts are appended at once, since there may
+/// be very many lines.
+fn push_line_start(out: &mut Vec<u8>, label: &LabeledLine<'_>) -> Result<(), AllocError>
     ensures { OnOk result (out.new.items ≡ out.old.items
-        ++ written (number_cell number)) }
+        ++ (start_tag (codes "tr") (line_attributes (label_by_value label.now))
+        ++ written (number_cell label.now.number))) }
 {
-    let digits = numbered(alloc, "", number)?;
-    push_start_with(out, "th", "scope", "row")?;
-    push_text(out, digits.as_bytes())?;
-    push_end(out, "th")
+    let mut buffer = Buffer::new();
+    let digits = buffer.format(label.number).as_bytes();
+    out.extend_from_slice(b"<tr id=\"L")?;
+    out.extend_from_slice(digits)?;
+    out.extend_from_slice(b"\" class=\"")?;
+    out.extend_from_slice(membership_word(label.membership).as_bytes())?;
+    out.extend_from_slice(b"\"><th scope=\"row\">")?;
+    out.extend_from_slice(digits)?;
+    out.extend_from_slice(b"</th>")
 }
 
-/// Appends the value of a line.
+/// Appends the cells with the membership and the directive of a line.
+fn push_word_cells(out: &mut Vec<u8>, label: &LabeledLine<'_>) -> Result<(), AllocError>
+    ensures { OnOk result (out.new.items ≡ out.old.items
+        ++ written (word_cells (label_by_value label.now))) }
+{
+    out.extend_from_slice(b"<td>")?;
+    out.extend_from_slice(membership_word(label.membership).as_bytes())?;
+    out.extend_from_slice(b"</td><td>")?;
+    out.extend_from_slice(kind_text(label.line).as_bytes())?;
+    out.extend_from_slice(b"</td>")
+}
+
+/// Appends the value of a line. `value` is only there to be used again.
 #[tactic(auto, using(robots_html::proofs::WritingLemmas::joined), unfolding(crate::specs::Page::value_cell))]
-fn push_value_cell(alloc: Global, out: &mut Vec<u8>, line: Line<'_>) -> Result<(), AllocError>
+fn push_value_cell(out: &mut Vec<u8>, value: &mut String, line: Line<'_>) -> Result<(), AllocError>
     ensures { OnOk result (out.new.items ≡ out.old.items
         ++ written (value_cell (by_value line.entry))) }
 {
-    let mut value = String::new(alloc);
-    push_value(&mut value, line)?;
-    push_text_cell(out, &value)
+    value.clear();
+    push_value(value, line)?;
+    push_text_cell(out, value)
 }
 
-/// Appends the cells of a line.
-#[tactic(auto, using(robots_html::proofs::WritingLemmas::joined), unfolding(crate::specs::Page::line_cells))]
-fn push_line_cells(
-    alloc: Global,
-    out: &mut Vec<u8>,
-    label: &LabeledLine<'_>,
-) -> Result<(), AllocError>
-    ensures { OnOk result (out.new.items ≡ out.old.items
-        ++ written (line_cells (label_by_value label.now))) }
-{
-    push_number_cell(alloc, out, label.number)?;
-    push_text_cell(out, membership_word(label.membership))?;
-    push_text_cell(out, kind_text(label.line))?;
-    push_value_cell(alloc, out, label.line)
-}
-
-/// Appends the row of a line.
+/// Appends the row of a line. `value` is only there to be used again.
 #[tactic(auto, using(robots_html::proofs::WritingLemmas::joined), unfolding(crate::specs::Page::line_row))]
 fn push_line_row(
-    alloc: Global,
     out: &mut Vec<u8>,
+    value: &mut String,
     label: &LabeledLine<'_>,
 ) -> Result<(), AllocError>
     ensures { OnOk result (out.new.items ≡ out.old.items ++ written (line_row (label_by_value label.now))) }
 {
-    let id = numbered(alloc, "L", label.number)?;
-    push_open(out, "tr")?;
-    push_attribute(out, "id", &id)?;
-    push_attribute(out, "class", membership_word(label.membership))?;
-    push_close(out)?;
-    push_line_cells(alloc, out, label)?;
+    push_line_start(out, label)?;
+    push_word_cells(out, label)?;
+    push_value_cell(out, value, label.line)?;
     push_end(out, "tr")
 }
 
@@ -129,6 +130,7 @@ fn push_line_row(
 fn push_listed_rows(
     alloc: Global,
     out: &mut Vec<u8>,
+    known: &mut Vec<KnownRow>,
     lists: &[Vec<Warning<'_>>],
     index: usize,
 ) -> Result<(), AllocError>
@@ -136,7 +138,7 @@ fn push_listed_rows(
         ++ written (each warning_row (list_at lists.now index))) }
 {
     match lists.get(index) {
-        Some(list) => push_warning_rows(alloc, out, list),
+        Some(list) => push_warning_rows(alloc, out, known, list),
         None => Ok(()),
     }
 }
@@ -146,14 +148,16 @@ fn push_listed_rows(
 fn push_line_part(
     alloc: Global,
     out: &mut Vec<u8>,
+    value: &mut String,
+    known: &mut Vec<KnownRow>,
     lists: &[Vec<Warning<'_>>],
     label: &LabeledLine<'_>,
 ) -> Result<(), AllocError>
     ensures { OnOk result (out.new.items ≡ out.old.items
         ++ written (listed_part lists.now (label_by_value label.now))) }
 {
-    push_line_row(alloc, out, label)?;
-    push_listed_rows(alloc, out, lists, label.number)
+    push_line_row(out, value, label)?;
+    push_listed_rows(alloc, out, known, lists, label.number)
 }
 
 /// Appends the rows of all lines, with those of the warnings about them.
@@ -167,8 +171,10 @@ fn push_line_parts(
         ++ written (each (line_part (map warning_value warnings.now)) (map label_by_value labels.now))) }
 {
     let lists = by_line(alloc, warnings)?;
+    let mut value = String::new(alloc);
+    let mut known = Vec::new(alloc);
     for label in labels {
-        push_line_part(alloc, out, &lists, label)?;
+        push_line_part(alloc, out, &mut value, &mut known, &lists, label)?;
     }
     Ok(())
 }

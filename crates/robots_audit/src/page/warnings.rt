@@ -8,7 +8,8 @@ ghost use Rattle.robots_audit.specs.Page.{level_name, listed_warnings, rest_note
 ghost use Rattle.robots_audit.specs.Page.{warning_item, warning_list, warning_place, warning_row};
 ghost use Rattle.robots_audit.specs.Page.{warning_words};
 
-use crate::page::parts::{numbered, push_line_link, push_simple, push_start_with};
+use crate::page::known_row::{KnownRow, push_known_row, push_new_row};
+use crate::page::parts::{numbered, push_line_link, push_simple};
 use crate::page::style::WARNING_TERM;
 use robots_html::write::{push_end, push_start, push_text};
 use robots_warnings::level::Level;
@@ -30,7 +31,7 @@ fn level_name(level: Level) -> &'static str
 }
 
 /// The level of a warning, its message and its name.
-fn warning_words(alloc: Global, warning: &Warning<'_>) -> Result<String, AllocError>
+pub(crate) fn warning_words(alloc: Global, warning: &Warning<'_>) -> Result<String, AllocError>
     ensures { IfOk result (λ text. string_bytes text ≡ warning_words (warning_value warning.now)) }
 {
     let mut text = String::from_str(alloc, level_name(warning.cause.level()))?;
@@ -167,34 +168,33 @@ pub(crate) fn push_warning_entry(
 }
 
 /// Appends the row of a warning.
-#[tactic(auto, using(robots_html::proofs::WritingLemmas::joined), unfolding(crate::specs::Page::warning_row))]
 fn push_warning_row(
     alloc: Global,
     out: &mut Vec<u8>,
+    known: &mut Vec<KnownRow>,
     warning: &Warning<'_>,
 ) -> Result<(), AllocError>
     ensures { OnOk result (out.new.items ≡ out.old.items
         ++ written (warning_row (warning_value warning.now))) }
 {
-    let words = warning_words(alloc, warning)?;
-    push_start_with(out, "tr", "class", warning.cause.level().word())?;
-    push_start_with(out, "td", "colspan", "4")?;
-    push_text(out, words.as_bytes())?;
-    push_end(out, "td")?;
-    push_end(out, "tr")
+    match warning.about {
+        Some(_) => push_new_row(alloc, out, warning),
+        None => push_known_row(alloc, out, known, warning.cause),
+    }
 }
 
 /// Appends the row of each of these warnings.
 pub(crate) fn push_warning_rows(
     alloc: Global,
     out: &mut Vec<u8>,
+    known: &mut Vec<KnownRow>,
     warnings: &[Warning<'_>],
 ) -> Result<(), AllocError>
     ensures { OnOk result (out.new.items ≡ out.old.items
         ++ written (each warning_row (map warning_value warnings.now))) }
 {
     for warning in warnings {
-        push_warning_row(alloc, out, warning)?;
+        push_warning_row(alloc, out, known, warning)?;
     }
     Ok(())
 }
