@@ -214,6 +214,18 @@ def test_at_most_100_warnings_are_listed():
     assert len(texts(elements, "tr", **{"class": "warning"})) == 104
 
 
+def test_table_of_lines_has_bodies_of_500_lines():
+    elements = Reader(page("FerrisBot", file=b"User-agent: *\n" + b"x\n" * 1000)).elements
+    bodies = []
+    for name, attributes, _ in elements:
+        if name == "tbody":
+            bodies.append([])
+        elif name == "tr" and "id" in attributes:
+            bodies[-1].append(attributes["id"])
+    ids = [f"L{number}" for number in range(1, 1002)]
+    assert bodies == [ids[:500], ids[500:1000], ids[1000:]]
+
+
 def test_page_is_accessible():
     """Each link has its target, headings are in order, a table has a caption, and a heading of a row or column says so."""
     for args in (["FerrisBot", *URLS], ["--agents", *URLS]):
@@ -274,6 +286,7 @@ PAGES = {
     "one crawler": (["FerrisBot", *URLS], EXAMPLE),
     "all crawlers": (["--agents", *URLS], EXAMPLE),
     "neither URLs nor lines": (["FerrisBot"], b""),
+    "several bodies": (["FerrisBot"], b"User-agent: *\n" + b"Disallow: x\nx\n" * 500),
     "a rejected file": (["FerrisBot", "/"], b"User-agent: *\nDisallow: /" + b"a" * 4096 + b"$\n"),
     **{f"hostile text {at}": (["<b>&lt;\u202e", "/<i>"], with_text(text)) for at, text in enumerate(HOSTILE)},
     "hostile text of all crawlers": (["--agents", "/<i>"], b"".join(b"User-agent: " + text + b"\nDisallow: /\n" for text in HOSTILE)),
@@ -294,3 +307,17 @@ def test_browser_reads_the_page(browser, tmp_path, name):
         assert browser.value("document.documentElement.scrollWidth") <= width
         assert browser.value("getComputedStyle(document.querySelector('main')).maxWidth") == "1024px"
         assert browser.value("document.compatMode + document.characterSet") == "CSS1CompatUTF-8"
+
+
+def test_link_leads_to_its_line(browser, tmp_path):
+    """The row of a line is at the top of the window, although those above it aren't laid out."""
+    path = tmp_path / "page.html"
+    path.write_text(page("FerrisBot", file=b"User-agent: *\n" + b"Disallow: x\nx\n" * 500), newline="")
+    for width in (360, 1000):
+        for line in (20, 450, 700, 900):
+            browser.open(path, width)
+            browser.value(f"location.hash = '#L{line}'")
+            browser.screenshot()
+            browser.screenshot()
+            top = browser.value(f"document.getElementById('L{line}').getBoundingClientRect().top")
+            assert abs(top) < 1, (width, line)

@@ -12,8 +12,8 @@ use Rattle.texting_robots.specs.Callers.{Label}
 use Rattle.robots_warnings.specs.declared.warning.Warning.{Warning}
 use Rattle.robots_warnings.specs.Internal.{warning_value}
 use Rattle.robots_warnings.specs.Warnings.{WarningValue}
-use Rattle.robots_audit.specs.Page.{is_at, line_part, line_row, warning_at, warning_row}
-use Rattle.robots_audit.specs.Internal.ByLine.{AreByLine, about_line, list_at, listed_part}
+use Rattle.robots_audit.specs.Page.{is_at, line_body, line_part, line_row, warning_at, warning_row}
+use Rattle.robots_audit.specs.Internal.ByLine.{AreByLine, about_line, list_at, listed_body, listed_part}
 
 -- ---- lists
 
@@ -68,8 +68,16 @@ unfolding line_part listed_part
 listed_part_is lists warnings label are =
     rw (are label.number) (ap (λ rows. line_row label ⊕ rows) (sym (rows_about label.number warnings)))
 
-pub listed_parts_are : (lists : List (Vec Warning)) (warnings : List WarningValue) (labels : List Label)
+listed_parts_are : (lists : List (Vec Warning)) (warnings : List WarningValue) (labels : List Label)
     → AreByLine lists warnings → each (listed_part lists) labels ≡ each (line_part warnings) labels
 listed_parts_are lists warnings [] are = refl
 listed_parts_are lists warnings (label ∷ labels) are =
     rw (listed_part_is lists warnings label are, listed_parts_are lists warnings labels are) refl
+
+pub listed_bodies_are : (lists : List (Vec Warning)) (warnings : List WarningValue)
+    (bodies : List (List Label)) → AreByLine lists warnings
+    → each (listed_body lists) bodies ≡ each (line_body warnings) bodies
+unfolding listed_body line_body
+listed_bodies_are lists warnings [] are = refl
+listed_bodies_are lists warnings (labels ∷ bodies) are =
+    rw (listed_parts_are lists warnings labels are, listed_bodies_are lists warnings bodies are) refl

@@ -1,6 +1,7 @@
 pub mod AgentLemmas
 pub mod AnswerLemmas
 pub mod AuditLemmas
+pub mod BodyLemmas
 pub mod ByLineLemmas
 pub mod ClosedLemmas
 pub mod ColorLemmas

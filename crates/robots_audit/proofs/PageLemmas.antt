@@ -28,7 +28,7 @@ use Rattle.robots_audit.specs.Page.{agent_columns, agent_content, agent_entries,
 use Rattle.robots_audit.specs.Page.{agent_table, charset, code, column, crawler_entries, deciding_line}
 use Rattle.robots_audit.specs.Page.{delay_name, file_caption, file_content, file_table, group_note}
 use Rattle.robots_audit.specs.Page.{group_part, is_at, line_columns, line_link, line_names}
-use Rattle.robots_audit.specs.Page.{level_name, line_part, line_row, listed_warnings, meta, number_cell, page}
+use Rattle.robots_audit.specs.Page.{bodies, level_name, line_body, line_part, line_row, listed_warnings, meta, number_cell, page}
 use Rattle.robots_audit.specs.Page.{page_body}
 use Rattle.robots_audit.specs.Page.{page_content, page_head, page_style, rejection, rest_note}
 use Rattle.robots_audit.specs.Page.{rest_words, row_name}
@@ -333,6 +333,11 @@ line_part_is warnings label =
     followed (line_row label) (each (warning_at label.number) warnings) (line_row_is label)
     (each_part (warning_at label.number) (warning_at_is label.number) warnings)
 
+line_body_is : (warnings : List WarningValue) (labels : List Label) → IsPart (line_body warnings labels)
+unfolding line_body
+line_body_is warnings labels =
+    (refl, none, refl, refl, tt, each_part (line_part warnings) (line_part_is warnings) labels, none)
+
 line_names_is : IsPart line_names
 unfolding line_names
 line_names_is = search (rules, plain, followed, column_is)
@@ -344,7 +349,8 @@ line_columns_is = search (rules, plain, line_names_is)
 file_content_is : (agent : Option (List ℕ)) (audit : AuditValue) → IsPart (file_content agent audit)
 unfolding file_content
 file_content_is agent audit =
-    let lines_are = each_part (line_part audit.warnings) (line_part_is audit.warnings) audit.labels in
+    let lines_are =
+    each_part (line_body audit.warnings) (line_body_is audit.warnings) (bodies audit.labels) in
     search (rules, plain, followed, simple_is, caption_printable, line_columns_is, lines_are)
 
 file_table_is : (agent : Option (List ℕ)) (audit : AuditValue) → IsPart (file_table agent audit)

@@ -2,9 +2,9 @@
 -- untrusted text is sanitized and is the text of an element, never part of an attribute.
 --
 -- The parts are `unfoldable`, so that a proof about a function that writes a part names the parts in it.
-use Rattle.std.specs.Prelude.{ℕ, ◌-◌, ◌==◌, nat_lt, Bool, true, false}
+use Rattle.std.specs.Prelude.{ℕ, zero, suc, ◌+◌, ◌-◌, ◌/◌, ◌==◌, nat_lt, Bool, true, false}
 use Rattle.std.specs.Prelude.{List, [], ◌∷◌, ◌++◌, Option, Some, None}
-use Rattle.std.specs.Prelude.{codes, decimal, if◌then◌else◌, length, take}
+use Rattle.std.specs.Prelude.{codes, decimal, drop, if◌then◌else◌, length, take}
 use Rattle.texting_robots.specs.Callers.{Label, LineValue, sitemaps_in}
 use Rattle.robots_html.specs.Html.{Attribute, Html, attribute, each, style, tag, text, void, ◌⊕◌}
 use Rattle.robots_io.specs.Sanitize.{sanitized}
@@ -247,6 +247,22 @@ warning_at number warning = if is_at number warning.line then warning_row warnin
 unfoldable pub line_part : List WarningValue → Label → Html
 line_part warnings label = line_row label ⊕ each (warning_at label.number) warnings
 
+-- how many lines a body of the table has; a browser lays out later what isn't visible yet
+abbrev pub body_lines : ℕ
+body_lines = 500
+
+-- so many bodies, one after the other
+abbrev pub bodies_of : ℕ → List Label → List (List Label)
+bodies_of zero labels = []
+bodies_of (suc more) labels = take body_lines labels ∷ bodies_of more (drop body_lines labels)
+
+-- the lines of each body; the last one may have fewer
+abbrev pub bodies : List Label → List (List Label)
+bodies labels = bodies_of ((length labels + (body_lines - 1)) / body_lines) labels
+
+unfoldable pub line_body : List WarningValue → List Label → Html
+line_body warnings labels = tag (codes "tbody") [] (each (line_part warnings) labels)
+
 unfoldable pub line_names : Html
 line_names = column (codes "Line") ⊕ column (codes "Group") ⊕ column DIRECTIVE.now ⊕ column (codes "Value")
 
@@ -259,7 +275,7 @@ file_caption agent = codes "Lines, and whether they are in the group of " ++ san
 unfoldable pub file_content : Option (List ℕ) → AuditValue → Html
 file_content agent audit =
     simple (codes "caption") (file_caption agent) ⊕ line_columns
-    ⊕ tag (codes "tbody") [] (each (line_part audit.warnings) audit.labels)
+    ⊕ each (line_body audit.warnings) (bodies audit.labels)
 
 -- the file with its warnings
 unfoldable pub file_table : Option (List ℕ) → AuditValue → Html

@@ -1,7 +1,7 @@
 -- Warnings by line.
-use Rattle.std.specs.Prelude.{◌≡◌, ℕ, List, [], Option, Some, None, filter, map, slice_get}
+use Rattle.std.specs.Prelude.{◌≡◌, ℕ, List, [], Option, Some, None, codes, filter, map, slice_get}
 use Rattle.std.specs.Global.{Vec}
-use Rattle.robots_html.specs.Html.{Html, each, ◌⊕◌}
+use Rattle.robots_html.specs.Html.{Html, each, tag, ◌⊕◌}
 use Rattle.texting_robots.specs.Callers.{Label}
 use Rattle.robots_warnings.specs.declared.warning.Warning.{Warning}
 use Rattle.robots_warnings.specs.Internal.{warning_value}
@@ -27,3 +27,7 @@ AreByLine lists warnings = (number : ℕ) → list_at lists number ≡ about_lin
 -- a line, and the warnings in its list
 unfoldable pub listed_part : List (Vec Warning) → Label → Html
 listed_part lists label = line_row label ⊕ each warning_row (list_at lists label.number)
+
+-- a body of the table, with the warnings in the lists
+unfoldable pub listed_body : List (Vec Warning) → List Label → Html
+listed_body lists labels = tag (codes "tbody") [] (each (listed_part lists) labels)

@@ -1,14 +1,15 @@
 //! The file of a page, with its warnings, and its sitemaps.
 #![tactic(auto, using(robots_html::proofs::WritingLemmas::joined))]
 
-ghost use Rattle.std.specs.Prelude.{◌≡◌, ◌++◌, IfOk, OnOk, codes, map, option_map, string_bytes};
+ghost use Rattle.std.specs.Prelude.{◌≡◌, ◌+◌, ◌≤◌, ◌++◌, IfOk, OnOk, codes, drop, length, map, option_map};
+ghost use Rattle.std.specs.Prelude.{string_bytes, take};
 ghost use Rattle.texting_robots.specs.Callers.{by_value, label_by_value};
 ghost use Rattle.robots_html.specs.Html.{each, start_tag, written};
 ghost use Rattle.robots_warnings.specs.Internal.{warning_value};
 ghost use Rattle.robots_audit.specs.Internal.{audit_value};
-ghost use Rattle.robots_audit.specs.Internal.ByLine.{list_at, listed_part};
-ghost use Rattle.robots_audit.specs.Page.{file_caption, file_content, file_table};
-ghost use Rattle.robots_audit.specs.Page.{line_attributes, line_columns, line_names, line_part, line_row};
+ghost use Rattle.robots_audit.specs.Internal.ByLine.{list_at, listed_body, listed_part};
+ghost use Rattle.robots_audit.specs.Page.{bodies, body_lines, file_caption, file_content, file_table};
+ghost use Rattle.robots_audit.specs.Page.{line_attributes, line_body, line_columns, line_names, line_row};
 ghost use Rattle.robots_audit.specs.Page.{number_cell, sitemap_entry, sitemap_item, value_cell, warning_row};
 ghost use Rattle.robots_audit.specs.Page.{word_cells};
 
@@ -29,6 +30,9 @@ use robots_warnings::warning::Warning;
 use std::alloc::{AllocError, Global};
 use texting_robots::labels::LabeledLine;
 use texting_robots::parser::Line;
+
+/// How many lines a body of the table has. A browser lays out later what isn't visible yet.
+const BODY_LINES: usize = 500;
 
 /// Appends a sitemap.
 #[tactic(auto, using(robots_html::proofs::WritingLemmas::joined), unfolding(crate::specs::Page::sitemap_item))]
@@ -160,23 +164,91 @@ fn push_line_part(
     push_listed_rows(alloc, out, known, lists, label.number)
 }
 
-/// Appends the rows of all lines, with those of the warnings about them.
+/// Appends the rows of these lines, with those of the warnings in their lists.
 fn push_line_parts(
+    alloc: Global,
+    out: &mut Vec<u8>,
+    value: &mut String,
+    known: &mut Vec<KnownRow>,
+    lists: &[Vec<Warning<'_>>],
+    labels: &[LabeledLine<'_>],
+) -> Result<(), AllocError>
+    ensures { OnOk result (out.new.items ≡ out.old.items
+        ++ written (each (listed_part lists.now) (map label_by_value labels.now))) }
+{
+    for label in labels {
+        push_line_part(alloc, out, value, known, lists, label)?;
+    }
+    Ok(())
+}
+
+/// Appends a body of the table.
+#[tactic(auto, using(robots_html::proofs::WritingLemmas::joined), unfolding(crate::specs::Internal::ByLine::listed_body))]
+fn push_line_body(
+    alloc: Global,
+    out: &mut Vec<u8>,
+    value: &mut String,
+    known: &mut Vec<KnownRow>,
+    lists: &[Vec<Warning<'_>>],
+    labels: &[LabeledLine<'_>],
+) -> Result<(), AllocError>
+    ensures { OnOk result (out.new.items ≡ out.old.items
+        ++ written (listed_body lists.now (map label_by_value labels.now))) }
+{
+    push_start(out, "tbody")?;
+    push_line_parts(alloc, out, value, known, lists, labels)?;
+    push_end(out, "tbody")
+}
+
+/// The lines of the first body of a table of these lines.
+fn first_body<'b, 'a>(labels: &'b [LabeledLine<'a>]) -> &'b [LabeledLine<'a>]
+    ensures { result.now ≡ take body_lines labels.now }
+{
+    &labels[..BODY_LINES.min(labels.len())]
+}
+
+/// The lines of the body that starts at this index.
+fn body_from<'b, 'a>(labels: &'b [LabeledLine<'a>], start: usize) -> &'b [LabeledLine<'a>]
+    requires { start ≤ length labels.now }
+    ensures lines { result.now ≡ take body_lines (drop start labels.now) }
+    ensures within { start + length result.now ≤ length labels.now }
+{
+    first_body(&labels[start..])
+}
+
+/// Appends the bodies of the table, with the warnings in the lists.
+fn push_listed_bodies(
+    alloc: Global,
+    out: &mut Vec<u8>,
+    lists: &[Vec<Warning<'_>>],
+    labels: &[LabeledLine<'_>],
+) -> Result<(), AllocError>
+    ensures { OnOk result (out.new.items ≡ out.old.items
+        ++ written (each (listed_body lists.now) (bodies (map label_by_value labels.now)))) }
+{
+    let mut value = String::new(alloc);
+    let mut known = Vec::new(alloc);
+    let mut start = 0;
+    while start < labels.len() {
+        let body = body_from(labels, start);
+        push_line_body(alloc, out, &mut value, &mut known, lists, body)?;
+        start += body.len();
+    }
+    Ok(())
+}
+
+/// Appends the bodies of the table.
+fn push_line_bodies(
     alloc: Global,
     out: &mut Vec<u8>,
     warnings: &[Warning<'_>],
     labels: &[LabeledLine<'_>],
 ) -> Result<(), AllocError>
     ensures { OnOk result (out.new.items ≡ out.old.items
-        ++ written (each (line_part (map warning_value warnings.now)) (map label_by_value labels.now))) }
+        ++ written (each (line_body (map warning_value warnings.now)) (bodies (map label_by_value labels.now)))) }
 {
     let lists = by_line(alloc, warnings)?;
-    let mut value = String::new(alloc);
-    let mut known = Vec::new(alloc);
-    for label in labels {
-        push_line_part(alloc, out, &mut value, &mut known, &lists, label)?;
-    }
-    Ok(())
+    push_listed_bodies(alloc, out, &lists, labels)
 }
 
 /// Appends the names of the columns of the table of lines.
@@ -229,9 +301,7 @@ fn push_file_content(
     let caption = file_caption(alloc, agent)?;
     push_simple(out, "caption", &caption)?;
     push_line_columns(out)?;
-    push_start(out, "tbody")?;
-    push_line_parts(alloc, out, &audit.warnings, &audit.labels)?;
-    push_end(out, "tbody")
+    push_line_bodies(alloc, out, &audit.warnings, &audit.labels)
 }
 
 /// Appends the file with its warnings.

@@ -31,11 +31,13 @@ ul { margin: 0; padding-left: 1.1rem }
 ul:empty::before { content: 'none' }
 li + li { margin-top: .25rem }
 
-/* Rows are laid out one by one, when they are about to be seen, so that a table of 26,000 rows opens soon. */
+/* Rows are laid out when they are about to be seen, so that a large table opens soon: those of lines in bodies of 500,
+   since a link has to lead to its line, and others one by one. */
 table, caption, thead, tbody { display: block }
 caption { color: var(--dim); padding-bottom: .4rem; text-align: left }
 tr { display: grid; border-bottom: 1px solid var(--line) }
-tbody tr { content-visibility: auto; contain-intrinsic-size: auto 2rem }
+.lines tbody { content-visibility: auto; contain-intrinsic-size: auto 1000rem }
+.urls tbody tr, .agents tbody tr { content-visibility: auto; contain-intrinsic-size: auto 2rem }
 th, td { text-align: left; padding: .25rem .5rem; min-width: 0 }
 thead { background: var(--head) }
 thead th { font-weight: 600 }
@@ -84,7 +86,7 @@ tr:target { background: var(--hit) }
     --alert: #fff; --warn: #fff; --hint: #fff; --hit: #fff; --error: #000; --warning: #000; --note: #000;
   }
   main { max-width: none; padding: 0 }
-  tbody tr { content-visibility: visible }
+  .lines tbody, .urls tbody tr, .agents tbody tr { content-visibility: visible }
   tr, p { break-inside: avoid }
   h2, caption { break-after: avoid }
   .scroll { overflow: visible; border: 0 }
@@ -96,7 +98,7 @@ tr:target { background: var(--hit) }
 
 /// The policy of a page, which permits its own style only, by the SHA-256 hash that a test computes again.
 pub(crate) const POLICY: &str = "default-src 'none'; \
-    style-src 'sha256-HP7kUGYquPnlWU9zCshzCUBzDrXY2Q/uRF5LDjMeFGY='; \
+    style-src 'sha256-yWDRr7+0KdMqVwQhspI0N73385cRt4AM6/83OiKodho='; \
     base-uri 'none'; form-action 'none'";
 
 pub(crate) const HTTP_EQUIV: &str = "http-equiv";

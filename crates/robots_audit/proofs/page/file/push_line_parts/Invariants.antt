@@ -7,5 +7,5 @@ use Rattle.robots_audit.proofs.page.file.push_line_parts.Given as goal
 abbrev pub invariant-loop-label : goal.invariant-loop-label
 invariant-loop-label l =
     l.out.items ≡ l.fn.out.items
-    ++ flat_map (λ x. written (listed_part l.lists.items x))
+    ++ flat_map (λ x. written (listed_part l.lists x))
     (map label_by_value (take l.label-index l.labels))
