@@ -182,6 +182,12 @@ def test_page_has_the_lines_and_warnings_of_the_json():
     assert texts(elements, "li") == [*found["sitemaps"], *listed]
 
 
+@pytest.mark.parametrize("rule, sentence", [("/a", "no warnings: the file has RFC 9309 syntax"), ("/", "no warnings about syntax: the file has RFC 9309 syntax"), ("a", None)])
+def test_page_has_the_sentence_about_syntax(rule, sentence):
+    elements = Reader(page("--agents", file=f"User-agent: *\nDisallow: {rule}".encode())).elements
+    assert dict(zip(texts(elements, "dt"), texts(elements, "dd"))).get("Syntax") == sentence
+
+
 def verdict(it):
     return f"{'allowed' if it['allowed'] else 'denied'}, {'no line' if it['line'] is None else 'line ' + str(it['line'])}"
 

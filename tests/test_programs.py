@@ -145,6 +145,7 @@ def test_many_agents():
         out += "".join(f"{f'deny {2 * n}' if m == n else 'allow -'} {url}\n" for m, url in enumerate(urls, 1))
     for n in range(1, 101, 2):
         text += f"User-agent: {'A' * n}_\nAllow: /none/{n}\n"
+    out += "no warnings: the file has RFC 9309 syntax\n"
     assert run("robots_audit", ["-a", *urls], text.encode()) == Result(1, out, "")
 
 

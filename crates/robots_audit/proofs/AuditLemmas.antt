@@ -19,6 +19,9 @@ use Rattle.robots_warnings.specs.File.{lines_of, labels_for}
 use Rattle.robots_audit.specs.Audit.{AgentValue, IsAgentAudit, IsRuling, IsVerdictOn, VerdictValue}
 use Rattle.robots_audit.specs.Audit.{agents_requested, all_allowed, allows_all, group_of, rejects_some}
 use Rattle.robots_audit.specs.Internal.{agent_value, verdict_value}
+use Rattle.robots_audit.specs.Syntax.{has_syntax_warning, is_about_syntax}
+use Rattle.robots_warnings.specs.Internal.{warning_value}
+use Rattle.robots_warnings.specs.declared.warning.Warning.{Warning}
 
 -- one more item, and the result for it
 pub zip_push : {B V : Type 0} (R : B → V → Type 0) (items : List B) (found : List V) (item : B) (next : V)
@@ -45,6 +48,13 @@ pub allows_next : (verdicts : List Verdict) (at : ℕ) (verdict : Verdict) → a
     ≡ ((slice_index_or verdicts at verdict).decision.allowed
     && allows_all (map verdict_value (drop (at + 1) verdicts)))
 allows_next verdicts at verdict below = rw (drop_more verdicts at verdict below) refl
+
+-- whether a warning is about syntax from index `at` on, in terms of the warning there
+pub syntax_next : (warnings : List Warning) (at : ℕ) (warning : Warning) → at < length warnings
+    → has_syntax_warning (map warning_value (drop at warnings))
+    ≡ (is_about_syntax (slice_index_or warnings at warning).cause
+    || has_syntax_warning (map warning_value (drop (at + 1) warnings)))
+syntax_next warnings at warning below = rw (drop_more warnings at warning below) refl
 
 pub rejects_next : (agents : List AgentAudit) (at : ℕ) (agent : AgentAudit) → at < length agents
     → rejects_some (map agent_value (drop at agents))

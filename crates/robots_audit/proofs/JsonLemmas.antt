@@ -30,9 +30,11 @@ use Rattle.robots_io.specs.Lines.{lf}
 use Rattle.robots_audit.specs.declared.group.Group.{Group}
 use Rattle.robots_audit.specs.declared.group.Group.TheVariants.{Everyone, Named, Nobody, Star}
 use Rattle.robots_audit.specs.Audit.{AgentValue, AuditValue, VerdictValue}
+use Rattle.robots_audit.specs.declared.syntax.Syntax.{Syntax}
+use Rattle.robots_audit.specs.declared.syntax.Syntax.TheVariants.{Standard, StandardWithoutWarnings, Unknown}
 use Rattle.robots_audit.specs.Json.{agent_json, audit_json, group_word, json_text, line_json, list_json}
 use Rattle.robots_audit.specs.Json.{number_json, sanitized_json, membership_word, value_json, verdict_json}
-use Rattle.robots_audit.specs.Json.{warning_json}
+use Rattle.robots_audit.specs.Json.{syntax_json, warning_json}
 use Rattle.robots_warnings.specs.File.{is_blank, lines_of}
 use Rattle.robots_audit.specs.Rows.{kind_text}
 use Rattle.robots_io.specs.Sanitize.{IsPrintable, is_printable, is_printable_byte}
@@ -104,9 +106,15 @@ line_without_float label = rw (value_without_float label.line)
 warning_without_float : (warning : WarningValue) → has_float (warning_json warning) ≡ false
 warning_without_float warning = rw (number_without_float warning.line)
 
+syntax_without_float : (syntax : Syntax) → has_float (syntax_json syntax) ≡ false
+syntax_without_float Unknown = refl
+syntax_without_float Standard = refl
+syntax_without_float StandardWithoutWarnings = refl
+
 pub no_float : (has_rows : Bool) (audit : AuditValue) → has_float (audit_json has_rows audit) ≡ false
 no_float has_rows audit = rw (
   list_without_float agent_json agent_without_float audit.agents,
+  syntax_without_float audit.syntax,
   list_without_float line_json line_without_float (if has_rows then audit.labels else []),
   list_without_float sanitized_json (λ text. refl) (sitemaps_in (lines_of audit.labels)),
   list_without_float warning_json warning_without_float audit.warnings,
@@ -326,6 +334,11 @@ warning_has warning = (
   ),
 )
 
+syntax_has : (syntax : Syntax) → HasPrintable (syntax_json syntax)
+syntax_has Unknown = tt
+syntax_has Standard = tt
+syntax_has StandardWithoutWarnings = tt
+
 pub json_printable : (has_rows : Bool) (audit : AuditValue) → IsPrintable (json_text has_rows audit)
 json_printable has_rows audit =
     append_printable true (compact_text (audit_json has_rows audit)) (lf ∷ [])
@@ -337,11 +350,15 @@ json_printable has_rows audit =
       list_has agent_json agent_has audit.agents,
       (
         refl,
-        list_has line_json line_has (if has_rows then audit.labels else []),
+        syntax_has audit.syntax,
         (
           refl,
-          list_has sanitized_json sanitized_printable (sitemaps_in (lines_of audit.labels)),
-          (refl, list_has warning_json warning_has audit.warnings, tt),
+          list_has line_json line_has (if has_rows then audit.labels else []),
+          (
+            refl,
+            list_has sanitized_json sanitized_printable (sitemaps_in (lines_of audit.labels)),
+            (refl, list_has warning_json warning_has audit.warnings, tt),
+          ),
         ),
       ),
     )

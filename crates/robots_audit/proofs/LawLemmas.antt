@@ -17,7 +17,9 @@ use Rattle.robots_io.specs.Verdicts.{IsDecisionOn}
 use Rattle.robots_audit.specs.Audit.{AgentValue, RequestValue, AuditValue, IsAgentAudit, IsAuditOf, IsRuling}
 use Rattle.robots_audit.specs.Audit.{IsVerdictOn}
 use Rattle.robots_audit.specs.Audit.{VerdictValue, agents_requested, group_of, labels_requested}
-use Rattle.robots_audit.specs.Audit.{warnings_requested}
+use Rattle.robots_audit.specs.Audit.{warnings_found, warnings_requested}
+use Rattle.robots_audit.specs.Syntax.{syntax_of}
+use Rattle.robots_warnings.specs.Facts.{is_too_large}
 
 -- ---- uniqueness
 
@@ -127,9 +129,18 @@ one_audit requested file audit other is too =
     let lines = lines_read file in
     let agents = zip_once (IsAgentAudit requested.urls lines) (agent_once requested.urls lines)
     (agents_requested requested.agents lines) audit.agents other.agents is.agents_are too.agents_are in
-    ap₂ (λ labels warnings. record { labels = labels; agents = audit.agents; warnings = warnings })
-    (is.labels_are ∙ sym too.labels_are) (is.warnings_are ∙ sym too.warnings_are)
-    ∙ ap (λ agents. record { labels = other.labels; agents = agents; warnings = other.warnings }) agents
+    ap₂ (λ labels warnings. record {
+      labels = labels;
+      agents = audit.agents;
+      warnings = warnings;
+      syntax = audit.syntax;
+    }) (is.labels_are ∙ sym too.labels_are) (is.warnings_are ∙ sym too.warnings_are)
+    ∙ ap₂ (λ agents syntax. record {
+      labels = other.labels;
+      agents = agents;
+      warnings = other.warnings;
+      syntax = syntax;
+    }) agents (is.syntax_is ∙ sym too.syntax_is)
 
 -- ---- existence
 
@@ -242,6 +253,7 @@ some_audit requested file =
         labels = labels;
         agents = agents;
         warnings = warnings_requested requested file labels;
+        syntax = syntax_of requested.agent (is_too_large file) (warnings_found requested file labels);
       },
-      record { labels_are = refl; agents_are = are; warnings_are = refl },
+      record { labels_are = refl; agents_are = are; warnings_are = refl; syntax_is = refl },
     )

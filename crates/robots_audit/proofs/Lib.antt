@@ -30,5 +30,6 @@ pub mod RuleLemmas
 pub mod RuleSetLemmas
 pub mod SarifLemmas
 pub mod SpaceLemmas
+pub mod SyntaxLemmas
 pub mod UrlListLemmas
 pub mod WarningLemmas

@@ -2,7 +2,7 @@
 -- back.
 use Rattle.std.proofs.Common.{ℕ, ◌++◌, Bool, true, false, List, [], Option, Some, None, ◌≡◌, codes, decimal}
 use Rattle.std.proofs.Common.{inl, inr, length, refl, rules}
-use Rattle.std.specs.Prelude.{nat_lt, ◌==◌}
+use Rattle.std.specs.Prelude.{if◌then◌else◌, nat_lt, ◌==◌}
 use Rattle.std.specs.Bool.{IsTrue}
 use Rattle.std.specs.List.{list_all}
 use Rattle.std.proofs.lemmas.Bool.{cases_Bool}
@@ -32,14 +32,17 @@ use Rattle.robots_audit.specs.Page.{bodies, level_name, line_body, line_part, li
 use Rattle.robots_audit.specs.Page.{page_body}
 use Rattle.robots_audit.specs.Page.{page_content, page_head, page_style, rejection, rest_note}
 use Rattle.robots_audit.specs.Page.{rest_words, row_name}
-use Rattle.robots_audit.specs.Page.{simple, sitemap_entry, sitemap_item, summary, title_text, url_body}
-use Rattle.robots_audit.specs.Page.{url_column, url_columns, url_part, url_row, url_table, value_cell, word_cells}
+use Rattle.robots_audit.specs.Page.{simple, sitemap_entry, sitemap_item, summary, syntax_entry, title_text}
+use Rattle.robots_audit.specs.Page.{url_body, url_column, url_columns, url_part, url_row, url_table}
+use Rattle.robots_audit.specs.Page.{value_cell, word_cells}
 use Rattle.robots_audit.specs.Page.{verdict_cell, verdict_name, verdict_part, warning_at, warning_entry}
 use Rattle.robots_audit.specs.Page.{warning_item, warning_list, warning_place, warning_row, warning_words}
 use Rattle.robots_audit.specs.Report.{group_text}
 use Rattle.robots_audit.specs.Rows.{value_text}
+use Rattle.robots_audit.specs.Syntax.{is_standard, sentence}
+use Rattle.robots_audit.specs.declared.syntax.Syntax.{Syntax}
 use Rattle.robots_audit.proofs.JsonLemmas.{kind_printable, membership_printable}
-use Rattle.robots_audit.proofs.PrintableLemmas.{delay_printable, group_text_printable, value_printable}
+use Rattle.robots_audit.proofs.PrintableLemmas.{delay_printable, group_text_printable, syntax_printable, value_printable}
 
 -- ---- texts
 
@@ -392,10 +395,23 @@ unfolding crawler_entries
 crawler_entries_is None agents = none
 crawler_entries_is (Some agent) agents = each_part agent_entries agent_entries_is agents
 
+syntax_by : (known : Bool) (syntax : Syntax)
+    → IsPart (if known then simple (codes "dt") (codes "Syntax") ⊕ simple (codes "dd") (sentence syntax)
+    else text [])
+syntax_by true syntax =
+    followed (simple (codes "dt") (codes "Syntax")) (simple (codes "dd") (sentence syntax))
+    (simple_is (codes "dt") (codes "Syntax") refl refl (ascii (codes "Syntax") refl))
+    (simple_is (codes "dd") (sentence syntax) refl refl (syntax_printable syntax))
+syntax_by false syntax = none
+
+syntax_entry_is : (syntax : Syntax) → IsPart (syntax_entry syntax)
+unfolding syntax_entry
+syntax_entry_is syntax = syntax_by (is_standard syntax) syntax
+
 summary_is : (agent : Option (List ℕ)) (audit : AuditValue) → IsPart (summary agent audit)
 unfolding summary
 summary_is agent audit =
-    search (rules, plain, followed, crawler_entries_is, sitemap_entry_is, warning_entry_is)
+    search (rules, plain, followed, crawler_entries_is, sitemap_entry_is, syntax_entry_is, warning_entry_is)
 
 verdict_part_is : (agent : Option (List ℕ)) (urls : List (List ℕ)) (agents : List AgentValue)
     → IsPart (verdict_part agent urls agents)

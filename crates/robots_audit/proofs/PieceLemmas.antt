@@ -132,8 +132,8 @@ line_start_pieces out label =
 
 -- ---- warnings
 
--- the rows of warnings with the same cause are the same, if the warnings aren't about a URL
-pub row_without_url : (warning : Warning) → warning.about ≡ None
+-- the rows of warnings with the same cause are the same, if the warnings are about neither a URL nor a number of rules
+pub row_of_cause : (warning : Warning) → warning.about ≡ None → warning.count ≡ None
     → warning_row (of_cause warning.cause) ≡ warning_row (warning_value warning)
 unfolding warning_row
-row_without_url warning is = rw is refl
+row_of_cause warning is none = rw (is, none) refl

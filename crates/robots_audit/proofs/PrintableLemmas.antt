@@ -23,6 +23,9 @@ use Rattle.robots_audit.specs.Report.{agent_lines, group_line, group_text, liste
 use Rattle.robots_audit.specs.PlainLine.{IsPlainLine, begins_plainly}
 use Rattle.robots_warnings.specs.File.{is_blank, space}
 use Rattle.robots_audit.specs.Rows.{has_value, kind_text, label_text, right_aligned, row, rows}
+use Rattle.robots_audit.specs.Syntax.{is_standard, sentence, syntax_lines}
+use Rattle.robots_audit.specs.declared.syntax.Syntax.{Syntax}
+use Rattle.robots_audit.specs.declared.syntax.Syntax.TheVariants.{Standard, StandardWithoutWarnings, Unknown}
 use Rattle.robots_audit.specs.Rows.{value_text, word_and_value, word_width}
 use Rattle.robots_io.specs.Sanitize.{IsPrintable, IsPrintableIn, sanitized}
 use Rattle.robots_warnings.specs.Warnings.{WarningValue, warning_line}
@@ -255,13 +258,35 @@ agent_plain agent = (
 
 -- ---- the complete report
 
+syntax_plain : (syntax : Syntax) → IsPlainLine (sentence syntax)
+syntax_plain Unknown = record { printable = nil_printable false; begins = refl }
+syntax_plain Standard = record { printable = ascii_printable false (sentence Standard) refl; begins = refl }
+syntax_plain StandardWithoutWarnings =
+    record { printable = ascii_printable false (sentence StandardWithoutWarnings) refl; begins = refl }
+
+pub syntax_printable : (syntax : Syntax) → IsPrintable (sentence syntax)
+syntax_printable syntax = printable_line (sentence syntax) (syntax_plain syntax).printable
+
+lines_about_syntax : (known : Bool) (syntax : Syntax)
+    → Each IsPlainLine (if known then sentence syntax ∷ [] else [])
+lines_about_syntax true syntax = (syntax_plain syntax, tt)
+lines_about_syntax false syntax = tt
+
+after_rows : (audit : AuditValue)
+    → Each IsPlainLine (flat_map agent_lines audit.agents ++ syntax_lines audit.syntax)
+after_rows audit =
+    each_append IsPlainLine (flat_map agent_lines audit.agents) (syntax_lines audit.syntax)
+    (each_flat IsPlainLine agent_lines agent_plain audit.agents)
+    (lines_about_syntax (is_standard audit.syntax) audit.syntax)
+
 pub report_plain : (has_rows : Bool) (audit : AuditValue) → Each IsPlainLine (report_lines has_rows audit)
 report_plain true audit =
-    each_append IsPlainLine (rows audit.labels) (flat_map agent_lines audit.agents)
+    each_append IsPlainLine (rows audit.labels)
+    (flat_map agent_lines audit.agents ++ syntax_lines audit.syntax)
     (each_map IsPlainLine (row (length (decimal (length audit.labels))))
     (row_plain (length (decimal (length audit.labels)))) audit.labels)
-    (each_flat IsPlainLine agent_lines agent_plain audit.agents)
-report_plain false audit = each_flat IsPlainLine agent_lines agent_plain audit.agents
+    (after_rows audit)
+report_plain false audit = after_rows audit
 
 total_in_line : (agents : List AgentValue) → IsPrintableIn false (total_line agents)
 total_in_line agents = search (append_printable false, ascii_printable false, decimal_printable false)

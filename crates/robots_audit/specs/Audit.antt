@@ -12,11 +12,13 @@ use Rattle.robots_io.specs.Verdicts.{IsDecisionOn}
 use Rattle.robots_audit.specs.declared.command.Format.{Format}
 use Rattle.robots_audit.specs.declared.group.Group.{Group}
 use Rattle.robots_audit.specs.declared.group.Group.TheVariants.{Everyone, Named, Nobody, Star}
-use Rattle.robots_warnings.specs.Facts.{facts_of}
+use Rattle.robots_warnings.specs.Facts.{facts_of, is_too_large}
 use Rattle.robots_warnings.specs.File.{labels_for}
 use Rattle.robots_warnings.specs.declared.level.Level.{Level}
 use Rattle.robots_warnings.specs.Warnings.{WarningValue, warnings}
 use Rattle.robots_audit.specs.Chosen.{chosen}
+use Rattle.robots_audit.specs.Syntax.{syntax_of}
+use Rattle.robots_audit.specs.declared.syntax.Syntax.{Syntax}
 
 -- a request: the name of the file, or `None` for standard input; the crawler, if the report is about a single
 -- one; the crawlers, where an empty list means `*` and each that the file names; the URLs; whether the rows are
@@ -112,6 +114,7 @@ pub record AuditValue : Type 0 where
   pub labels : List Label
   pub agents : List AgentValue
   pub warnings : List WarningValue
+  pub syntax : Syntax
 
 -- the crawler for which lines are labeled; `*` if there is no single one
 abbrev pub labeling_agent : Option (List ℕ) → List ℕ
@@ -122,18 +125,24 @@ labeling_agent None = codes "*"
 abbrev pub labels_requested : RequestValue → List ℕ → List Label
 labels_requested requested file = labels_for (labeling_agent requested.agent) (lines_read file)
 
+-- all warnings about the file and the request
+abbrev pub warnings_found : RequestValue → List ℕ → List Label → List WarningValue
+warnings_found requested file labels =
+    warnings requested.agent (agents_requested requested.agents (lines_read file)) requested.urls file
+    (facts_of file labels) labels (lines_read file)
+
 -- the warnings that the request doesn't exclude
 abbrev pub warnings_requested : RequestValue → List ℕ → List Label → List WarningValue
 warnings_requested requested file labels =
-    chosen requested.only requested.ignored
-    (warnings requested.agent (agents_requested requested.agents (lines_read file)) requested.urls file
-    (facts_of file labels) labels (lines_read file))
+    chosen requested.only requested.ignored (warnings_found requested file labels)
 
 pub record IsAuditOf (requested : RequestValue) (file : List ℕ) (audit : AuditValue) : Type 0 where
   pub labels_are : audit.labels ≡ labels_requested requested file
   pub agents_are : AllZip (IsAgentAudit requested.urls (lines_read file))
       (agents_requested requested.agents (lines_read file)) audit.agents
   pub warnings_are : audit.warnings ≡ warnings_requested requested file (labels_requested requested file)
+  pub syntax_is : audit.syntax ≡ syntax_of requested.agent (is_too_large file)
+      (warnings_found requested file (labels_requested requested file))
 
 -- ---- denied URLs
 

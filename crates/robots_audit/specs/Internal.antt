@@ -54,6 +54,7 @@ audit_value audit = record {
   labels = map label_by_value audit.labels.items;
   agents = map agent_value audit.agents.items;
   warnings = map warning_value audit.warnings.items;
+  syntax = audit.syntax;
 }
 
 -- the crawler's robot for the file, or the line of the crawler's first overlong rule

@@ -1,5 +1,5 @@
 -- The audit as one line of JSON.
-use Rattle.std.specs.Prelude.{ℕ, Bool, List, [], ◌∷◌, ◌++◌, Option, Some, None, codes}
+use Rattle.std.specs.Prelude.{ℕ, Bool, true, List, [], ◌∷◌, ◌++◌, Option, Some, None, codes}
 use Rattle.std.specs.Prelude.{if◌then◌else◌, map}
 use Rattle.serde_json.specs.Data.{Data, array, boolean, member, no_members, null, number, object, string}
 use Rattle.serde_json.specs.Data.{unsigned}
@@ -14,6 +14,8 @@ use Rattle.robots_audit.specs.declared.group.Group.TheVariants.{Everyone, Named,
 use Rattle.robots_audit.specs.Audit.{AgentValue, AuditValue, VerdictValue}
 use Rattle.robots_warnings.specs.File.{lines_of}
 use Rattle.robots_warnings.specs.Level.{level_word}
+use Rattle.robots_audit.specs.Syntax.{is_standard}
+use Rattle.robots_audit.specs.declared.syntax.Syntax.{Syntax}
 use Rattle.robots_audit.specs.Rows.{has_value, kind_text, value_text}
 use Rattle.robots_io.specs.Sanitize.{sanitized}
 use Rattle.robots_warnings.specs.Table.{level_of, name_of}
@@ -88,13 +90,18 @@ warning_json warning = object
     (member (codes "name") (string (name_of warning.cause))
     (member (codes "text") (string (warning_text warning)) no_members))))
 
--- what the file means for each crawler, the lines if there are rows, the sitemaps and the warnings
+-- true if the file is known to have the syntax of RFC 9309, or else null
+abbrev pub syntax_json : Syntax → Data
+syntax_json syntax = if is_standard syntax then boolean true else null
+
+-- what the file means for each crawler, its syntax, the lines if there are rows, the sitemaps, the warnings
 abbrev pub audit_json : Bool → AuditValue → Data
 audit_json has_rows audit = object
     (member (codes "agents") (list_json agent_json audit.agents)
+    (member (codes "has_rfc_9309_syntax") (syntax_json audit.syntax)
     (member (codes "lines") (list_json line_json (if has_rows then audit.labels else []))
     (member (codes "sitemaps") (list_json sanitized_json (sitemaps_in (lines_of audit.labels)))
-    (member (codes "warnings") (list_json warning_json audit.warnings) no_members))))
+    (member (codes "warnings") (list_json warning_json audit.warnings) no_members)))))
 
 -- the JSON object in one line
 abbrev pub json_text : Bool → AuditValue → List ℕ

@@ -5,6 +5,7 @@ pub mod Rows
 pub mod Audit
 pub mod Chosen
 pub mod Color
+pub mod Syntax
 pub mod Listed
 pub mod Report
 pub mod PlainLine

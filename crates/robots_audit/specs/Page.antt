@@ -25,6 +25,8 @@ use Rattle.robots_audit.specs.Delay.{delay_text}
 use Rattle.robots_audit.specs.Json.{membership_word}
 use Rattle.robots_audit.specs.Report.{group_text}
 use Rattle.robots_audit.specs.Rows.{kind_text, value_text}
+use Rattle.robots_audit.specs.Syntax.{is_standard, sentence}
+use Rattle.robots_audit.specs.declared.syntax.Syntax.{Syntax}
 
 -- ---- parts of several elements
 
@@ -231,9 +233,9 @@ warning_row warning =
     tag (codes "tr") (with (codes "class") (level_word (level_of warning.cause)))
     (tag (codes "td") (with (codes "colspan") (codes "4")) (text (warning_words warning)))
 
--- a warning with this cause, which isn't about a URL
+-- a warning with this cause, which is about neither a URL nor a number of rules
 abbrev pub of_cause : Cause → WarningValue
-of_cause cause = record { line = None; cause = cause; about = None }
+of_cause cause = record { line = None; cause = cause; about = None; count = None }
 
 abbrev pub is_at : ℕ → Option ℕ → Bool
 is_at number None = false
@@ -312,11 +314,18 @@ unfoldable pub crawler_entries : Option (List ℕ) → List AgentValue → Html
 crawler_entries None agents = text []
 crawler_entries (Some agent) agents = each agent_entries agents
 
+-- what the warnings tell about the syntax of the file, if it is known
+unfoldable pub syntax_entry : Syntax → Html
+syntax_entry syntax =
+    if is_standard syntax then simple (codes "dt") (codes "Syntax") ⊕ simple (codes "dd") (sentence syntax)
+    else text []
+
 -- the summary at the top
 unfoldable pub summary : Option (List ℕ) → AuditValue → Html
 summary agent audit =
     tag (codes "dl") []
-    (crawler_entries agent audit.agents ⊕ sitemap_entry audit.labels ⊕ warning_entry audit.warnings)
+    (crawler_entries agent audit.agents ⊕ sitemap_entry audit.labels ⊕ syntax_entry audit.syntax
+    ⊕ warning_entry audit.warnings)
 
 -- the verdicts, as a table of URLs, or of crawlers and URLs
 unfoldable pub verdict_part : Option (List ℕ) → List (List ℕ) → List AgentValue → Html

@@ -9,6 +9,7 @@ use Rattle.robots_audit.specs.Audit.{AgentValue, AuditValue, VerdictValue, is_al
 use Rattle.robots_audit.specs.Color.{shown_word}
 use Rattle.robots_audit.specs.Delay.{delay_line}
 use Rattle.robots_audit.specs.Rows.{rows}
+use Rattle.robots_audit.specs.Syntax.{syntax_lines}
 use Rattle.robots_audit.specs.Listed.{MoreValue, listed, more}
 use Rattle.robots_io.specs.Sanitize.{sanitized}
 use Rattle.robots_warnings.specs.Level.{level_word}
@@ -56,10 +57,11 @@ agent_lines agent =
     group_line agent.agent agent.group ∷ delay_line agent.delay
     ∷ (rejected_lines agent.agent agent.rejected ++ map verdict_line agent.verdicts)
 
--- a row for each line of the file if there are rows, then the lines about each crawler
+-- a row for each line of the file if there are rows, the lines about each crawler, and the one about syntax
 abbrev pub report_lines : Bool → AuditValue → List (List ℕ)
 report_lines has_rows audit =
-    (if has_rows then rows audit.labels else []) ++ flat_map agent_lines audit.agents
+    (if has_rows then rows audit.labels else [])
+    ++ (flat_map agent_lines audit.agents ++ syntax_lines audit.syntax)
 
 -- two numbers of URLs, up to the last word
 abbrev pub total_front : ℕ → ℕ → List ℕ

@@ -17,6 +17,7 @@ use crate::chosen::chosen;
 use crate::command::Request;
 use crate::fault::Fault;
 use crate::group::{Group, group_of};
+use crate::syntax::{Syntax, syntax_of};
 use robots_io::verdicts::decision_on;
 use robots_warnings::facts::{FileFacts, facts_of};
 use robots_warnings::file::{counted, labels_for};
@@ -53,6 +54,7 @@ pub(crate) struct Audit<'a, 'b> {
     pub(crate) labels: Vec<LabeledLine<'b>>,
     pub(crate) agents: Vec<AgentAudit<'a>>,
     pub(crate) warnings: Vec<Warning<'a>>,
+    pub(crate) syntax: Syntax,
 }
 
 /// A crawler's robot, or the line of the crawler's first overlong rule.
@@ -172,8 +174,7 @@ pub(crate) fn labeling_agent<'a>(agent: Option<&'a str>) -> &'a str
     }
 }
 
-/// The warnings about the file and the request, without those that the request excludes. `facts` and `labels` are those
-/// of this file.
+/// All warnings about the file and the request. `facts` and `labels` are those of this file.
 fn warnings_of<'a>(
     alloc: Global,
     request: &Request<'a>,
@@ -184,13 +185,23 @@ fn warnings_of<'a>(
     site: &Site,
 ) -> Result<Vec<Warning<'a>>, AllocError>
     ensures { IfOk result (λ found. map warning_value found.items
-        ≡ chosen (requested_by request.now).only (requested_by request.now).ignored
-        (warnings (requested_by request.now).agent (map string_bytes agents.now) (requested_by request.now).urls
-        file.now facts (map label_by_value labels.now) (file_lines site.now))) }
+        ≡ warnings (requested_by request.now).agent (map string_bytes agents.now) (requested_by request.now).urls
+        file.now facts (map label_by_value labels.now) (file_lines site.now)) }
 {
     let (agent, urls) = (request.agent, &request.urls);
-    let all = warnings(alloc, agent, agents, urls, file, facts, labels, site)?;
-    chosen(alloc, &request.only, &request.ignored, &all)
+    warnings(alloc, agent, agents, urls, file, facts, labels, site)
+}
+
+/// The warnings that the request doesn't exclude.
+fn warnings_chosen<'a>(
+    alloc: Global,
+    request: &Request<'a>,
+    all: &[Warning<'a>],
+) -> Result<Vec<Warning<'a>>, AllocError>
+    ensures { IfOk result (λ found. map warning_value found.items
+        ≡ chosen (requested_by request.now).only (requested_by request.now).ignored (map warning_value all.now)) }
+{
+    chosen(alloc, &request.only, &request.ignored, all)
 }
 
 /// Audits a file for the crawlers and URLs of the request.
@@ -208,11 +219,14 @@ pub(crate) fn audit_of<'a, 'b>(
     let site = Site::new(alloc, file)?;
     let has_agents = facts.kinds.user_agent;
     let agents = agent_audits(alloc, &names, file, &site, has_agents, &request.urls)?;
-    let warnings = warnings_of(alloc, request, &names, file, facts, &labels, &site)?;
+    let all = warnings_of(alloc, request, &names, file, facts, &labels, &site)?;
+    let warnings = warnings_chosen(alloc, request, &all)?;
+    let syntax = syntax_of(request.agent, facts.is_too_large, &all);
     Ok(Audit {
         labels,
         agents,
         warnings,
+        syntax,
     })
 }
 

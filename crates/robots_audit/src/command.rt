@@ -3,7 +3,7 @@ ghost use Rattle.std.specs.Prelude.{◌≡◌, ◌≢◌, ◌↔◌, ◌++◌, I
 ghost use Rattle.std.specs.List.{list_all};
 ghost use Rattle.robots_warnings.specs.Table.{is_name};
 ghost use Rattle.robots_audit.specs.Command.{AreNamesOf, Asks, file_read, format_named, HasCrawlers, is_stdin, IsUnknown, IsUnknownIn, LacksAgent, level_named};
-ghost use Rattle.robots_audit.specs.Command.{reads_stdin_twice, ReadsStdinTwice, requested_format, single, value_of, values_of, words_of};
+ghost use Rattle.robots_audit.specs.Command.{reads_stdin_twice, requested_format, single, value_of, values_of, words_of};
 ghost use Rattle.robots_audit.specs.Color.{requested_colors};
 
 use crate::color::requested_colors;

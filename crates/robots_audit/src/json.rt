@@ -2,7 +2,7 @@
 ghost use Rattle.std.specs.Prelude.{◌≡◌, ◌++◌, ◌∷◌, [], IfOk, OnOk, if◌then◌else◌, map, string_bytes};
 ghost use Rattle.serde_json.specs.View.{view};
 ghost use Rattle.texting_robots.specs.Callers.{by_value, label_by_value, sitemaps_in};
-ghost use Rattle.robots_audit.specs.Json.{agent_json, audit_json, group_word, json_text, line_json, list_json, sanitized_json, membership_word, value_json, verdict_json, warning_json};
+ghost use Rattle.robots_audit.specs.Json.{agent_json, audit_json, group_word, json_text, line_json, list_json, sanitized_json, syntax_json, membership_word, value_json, verdict_json, warning_json};
 ghost use Rattle.robots_warnings.specs.File.{lines_of};
 ghost use Rattle.robots_warnings.specs.Internal.{warning_value};
 ghost use Rattle.robots_audit.specs.Internal.{agent_value, audit_value, verdict_value};
@@ -11,6 +11,7 @@ use crate::agents::as_text;
 use crate::audit::{AgentAudit, Audit, Verdict};
 use crate::group::Group;
 use crate::rows::{has_value, kind_text, push_value};
+use crate::syntax::Syntax;
 use robots_io::sanitize::push_sanitized;
 use robots_warnings::warning::{Warning, push_warning_text};
 use serde_json::{Value, json};
@@ -238,16 +239,29 @@ fn rows_json(alloc: Global, has_rows: bool, labels: &[LabeledLine<'_>]) -> Resul
     }
 }
 
+/// True if the file is known to have the syntax of RFC 9309, or else null.
+fn syntax_json(syntax: Syntax) -> Value
+    ensures { view result ≡ syntax_json syntax }
+{
+    if syntax.is_standard() {
+        Value::Bool(true)
+    } else {
+        Value::Null
+    }
+}
+
 /// The audit as a JSON object.
 fn audit_json(alloc: Global, has_rows: bool, audit: &Audit<'_, '_>) -> Result<Value, AllocError>
     ensures { IfOk result (λ value. view value ≡ audit_json has_rows (audit_value audit.now)) }
 {
     let agents = agents_json(alloc, &audit.agents)?;
+    let syntax = syntax_json(audit.syntax);
     let lines = rows_json(alloc, has_rows, &audit.labels)?;
     let sitemaps = sitemaps_json(alloc, &audit.labels)?;
     let warnings = warnings_json(alloc, &audit.warnings)?;
     json!(in alloc; {
         "agents": agents,
+        "has_rfc_9309_syntax": syntax,
         "lines": lines,
         "sitemaps": sitemaps,
         "warnings": warnings,

@@ -1,9 +1,14 @@
 //! Theorems about the specification, each written as the contract of an empty function.
-ghost use Rattle.std.specs.Prelude.{Any, Bool, Contains, IsTrue, List, Some, [], false, if◌then◌else◌, slice_get, true, ℕ, ◌+◌, ◌==◌, ◌||◌, ◌↔◌, ◌∷◌, ◌≡◌, ◌≢◌};
+ghost use Rattle.std.specs.Prelude.{[], Any, Bool, Contains, false, if◌then◌else◌, IsTrue, List, slice_get, Some, take, true, ℕ, ◌+◌, ◌==◌, ◌||◌, ◌↔◌, ◌∷◌};
+ghost use Rattle.std.specs.Prelude.{◌≡◌, ◌≢◌};
 ghost use Rattle.std.specs.List.{AllByRecursion as Each, list_all};
-ghost use Rattle.std.specs.Str.{IsUtf8, byte, chars, is_utf8};
-ghost use Rattle.texting_robots.specs.Callers.{Allow, AreLabelsOf, AreRulesFor, Disallow, HoldsRule, IsDecidingLine, IsDenied, IsVerdict, Label, LineValue, Matches, PlacedRule, Rule, UserAgent, escaped, file_lines, is_named, prepared, rules_for, unplaced};
+ghost use Rattle.std.specs.Str.{byte, chars, is_utf8, IsUtf8};
+ghost use Rattle.texting_robots.specs.Callers.{Allow, AreLabelsOf, AreRulesFor, Disallow, escaped, file_limit, file_lines, HoldsRule, is_named, IsDecidingLine};
+ghost use Rattle.texting_robots.specs.Callers.{IsDenied, IsRobotOfFile, IsVerdict, Label, LineValue, Matches, PlacedRule, prepared, RobotValue, Rule};
+ghost use Rattle.texting_robots.specs.Callers.{rules_for, unplaced, UserAgent};
 ghost use Rattle.texting_robots.specs.Verdict.{robots_file};
+ghost use Rattle.robots_rfc9309.specs.Rfc9309.{Group, IsFile};
+ghost use Rattle.robots_syntax.specs.Syntax.{IsRobotStated};
 ghost use Rattle.robots_warnings.specs.Closed.{is_closed_for};
 ghost use Rattle.robots_warnings.specs.Conflicts.{IsConflict, is_conflict};
 ghost use Rattle.robots_warnings.specs.NamesPastLimit.{names_past_limit};
@@ -18,11 +23,12 @@ ghost use Rattle.robots_html.specs.Reader.{read_document};
 ghost use Rattle.robots_audit.specs.Audit.{AgentValue, AuditValue, IsAuditOf, RequestValue};
 ghost use Rattle.robots_audit.specs.Color.{IsColored};
 ghost use Rattle.robots_audit.specs.Page.{page};
-ghost use Rattle.robots_audit.specs.Compare.{ComparedValue, IsCompared, has_same_rules, is_unchanged, report_lines, rules_only_in, verdict_changes};
+ghost use Rattle.robots_audit.specs.Compare.{ComparedValue, has_same_rules, is_unchanged, IsCompared, report_lines, rules_only_in, verdict_changes};
 ghost use Rattle.robots_audit.specs.Expectations.{IsReport};
 ghost use Rattle.robots_audit.specs.Explain.{explanation, list_text};
 ghost use Rattle.robots_audit.specs.PlainLine.{IsPlainLine};
 ghost use Rattle.robots_audit.specs.Report.{report_lines as audit_lines, total_line};
+ghost use Rattle.robots_audit.specs.Syntax.{is_standard};
 ghost use Rattle.robots_io.specs.Lines.{ended};
 ghost use Rattle.robots_audit.specs.Findings.{FindingValue};
 ghost use Rattle.robots_audit.specs.Github.{command, is_in_line, is_in_property, property_text};
@@ -38,6 +44,17 @@ pub fn each_file_has_one_audit()
 /// Every request and file have an audit.
 pub fn each_file_has_an_audit()
     ensures { (requested : RequestValue) (file : List ℕ) → (audit : AuditValue) × IsAuditOf requested file audit }
+{}
+
+/// If a report says that the file has RFC 9309 syntax, whichever warnings it leaves out, the whole file follows the
+/// standard's grammar with the extensions of `robots_rfc9309`, and each crawler for which it isn't rejected gets the
+/// rules, the delay and the sitemaps that it states.
+pub fn syntax_is_that_of_the_standard()
+    ensures syntax { (requested : RequestValue) (file : List ℕ) (audit : AuditValue) → IsAuditOf requested file audit
+        → is_standard audit.syntax ≡ true → (groups : List Group) × IsFile groups file }
+    ensures robot { (requested : RequestValue) (file : List ℕ) (audit : AuditValue) (agent : List ℕ) (robot : RobotValue)
+        → IsAuditOf requested file audit → is_standard audit.syntax ≡ true
+        → IsRobotOfFile agent (take file_limit file) robot → IsRobotStated agent file robot }
 {}
 
 /// Neither the output nor the message on standard error of an audit contains invalid UTF-8, a control character other

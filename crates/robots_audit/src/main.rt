@@ -50,6 +50,7 @@ mod report;
 mod rows;
 mod rule_sets;
 mod sarif;
+mod syntax;
 mod url_list;
 
 use clap::ArgMatches;

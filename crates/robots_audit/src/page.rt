@@ -6,7 +6,7 @@ ghost use Rattle.robots_html.specs.Html.{document, written};
 ghost use Rattle.robots_audit.specs.Answer.{requested_by};
 ghost use Rattle.robots_audit.specs.Internal.{audit_value};
 ghost use Rattle.robots_audit.specs.Page.{charset, meta, page, page_body, page_content, page_head, page_style};
-ghost use Rattle.robots_audit.specs.Page.{summary, title_text};
+ghost use Rattle.robots_audit.specs.Page.{summary, syntax_entry, title_text};
 
 mod by_line;
 mod file;
@@ -18,6 +18,7 @@ mod warnings;
 
 use crate::audit::Audit;
 use crate::command::Request;
+use crate::syntax::Syntax;
 use file::{push_file_table, push_sitemap_entry};
 use parts::{push_simple, push_start_with};
 use robots_html::write::{
@@ -93,6 +94,18 @@ fn push_head(out: &mut Vec<u8>, title: &str) -> Result<(), AllocError>
     push_end(out, "head")
 }
 
+/// Appends what the warnings tell about the syntax of the file, if it is known.
+#[tactic(auto, using(robots_html::proofs::WritingLemmas::joined), unfolding(crate::specs::Page::syntax_entry))]
+fn push_syntax_entry(out: &mut Vec<u8>, syntax: Syntax) -> Result<(), AllocError>
+    ensures { OnOk result (out.new.items ≡ out.old.items ++ written (syntax_entry syntax)) }
+{
+    if !syntax.is_standard() {
+        return Ok(());
+    }
+    push_simple(out, "dt", "Syntax")?;
+    push_simple(out, "dd", syntax.sentence())
+}
+
 /// Appends the summary at the top.
 #[tactic(auto, using(robots_html::proofs::WritingLemmas::joined), unfolding(crate::specs::Page::summary))]
 fn push_summary(
@@ -107,6 +120,7 @@ fn push_summary(
     push_start(out, "dl")?;
     push_crawler_entries(alloc, out, agent, &audit.agents)?;
     push_sitemap_entry(alloc, out, &audit.labels)?;
+    push_syntax_entry(out, audit.syntax)?;
     push_warning_entry(alloc, out, &audit.warnings)?;
     push_end(out, "dl")
 }

@@ -1,7 +1,9 @@
 //! The audit as lines of text.
 ghost use Rattle.std.specs.Prelude.{◌≡◌, ◌++◌, ◌∷◌, [], IfOk, OnOk, codes, flat_map, map, string_bytes};
 ghost use Rattle.robots_io.specs.Lines.{ended};
-ghost use Rattle.robots_audit.specs.Report.{agent_lines, group_line, group_text, listed_lines, more_front, more_line, nobody_text, rejected_front, rejected_lines, rejected_text, report_lines, shown_warning, total_front, verdict_line, warning_lines};
+ghost use Rattle.robots_audit.specs.Report.{agent_lines, group_line, group_text, listed_lines, more_front, more_line, nobody_text, rejected_front};
+ghost use Rattle.robots_audit.specs.Report.{rejected_lines, rejected_text, report_lines, shown_warning, total_front, verdict_line, warning_lines};
+ghost use Rattle.robots_audit.specs.Syntax.{syntax_lines};
 ghost use Rattle.robots_io.specs.Sanitize.{sanitized};
 ghost use Rattle.robots_warnings.specs.Internal.{warning_value};
 ghost use Rattle.robots_audit.specs.Internal.{agent_value, audit_value, verdict_value};
@@ -14,6 +16,7 @@ use crate::denied::Totals;
 use crate::group::Group;
 use crate::listed::{More, listing_of};
 use crate::rows::push_rows;
+use crate::syntax::Syntax;
 use robots_io::lines::{push_line, push_number};
 use robots_io::sanitize::push_sanitized;
 use robots_io::verdicts::push_decision;
@@ -160,6 +163,17 @@ fn push_agents(text: &mut String, agents: &[AgentAudit<'_>]) -> Result<(), Alloc
     Ok(())
 }
 
+/// Appends the line that the file has the syntax of RFC 9309, if it is known to have it.
+fn push_syntax(text: &mut String, syntax: Syntax) -> Result<(), AllocError>
+    ensures { OnOk result (string_bytes text.new ≡ string_bytes text.old ++ ended (syntax_lines syntax)) }
+{
+    if !syntax.is_standard() {
+        return Ok(());
+    }
+    text.push_str(syntax.sentence())?;
+    text.push('\n')
+}
+
 /// The report on an audit, with or without rows.
 pub(crate) fn report_text(
     alloc: Global,
@@ -173,6 +187,7 @@ pub(crate) fn report_text(
         push_rows(&mut text, &audit.labels)?;
     }
     push_agents(&mut text, &audit.agents)?;
+    push_syntax(&mut text, audit.syntax)?;
     Ok(text)
 }
 

@@ -8,7 +8,8 @@ use Rattle.robots_audit.proofs.UrlListLemmas.{url_outcome}
 use Rattle.robots_audit.proofs.audit_with_urls.Goals as goal
 
 pub returns-in_err-text : goal.returns-in_err-text
-returns-in_err-text c = error_for_terminal _ c.from_residual.result _ (search rules) c.in_err-text.ensures
+returns-in_err-text c =
+    error_for_terminal _ c.from_residual.result c.in_err-text.field-0.0 (search rules) c.in_err-text.ensures
 
 pub returns-in_err-extended : goal.returns-in_err-extended
 returns-in_err-extended c =

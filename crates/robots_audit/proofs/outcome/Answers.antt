@@ -5,7 +5,8 @@ use Rattle.robots_audit.proofs.MessageLemmas.{error_for_terminal, memory_outcome
 use Rattle.robots_audit.proofs.outcome.Goals as goal
 
 pub returns-in_err-words : goal.returns-in_err-words
-returns-in_err-words c = error_for_terminal true c.from_residual.result _ (search rules) c.in_err-words.ensures
+returns-in_err-words c =
+    error_for_terminal true c.from_residual.result c.in_err-words.field-0.0 (search rules) c.in_err-words.ensures
 
 pub returns-in_err-command : goal.returns-in_err-command
 returns-in_err-command c =

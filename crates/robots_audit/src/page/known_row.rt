@@ -13,7 +13,7 @@ use robots_warnings::table::Cause;
 use robots_warnings::warning::Warning;
 use std::alloc::{AllocError, Global};
 
-/// The row of each warning that has this cause and isn't about a URL.
+/// The row of each warning that has this cause, and is about neither a URL nor a number of rules.
 #[derive(Drop)]
 pub(crate) struct KnownRow {
     cause: Cause,
@@ -39,7 +39,7 @@ pub(crate) fn push_new_row(
     push_end(out, "tr")
 }
 
-/// The row of each warning that has this cause and isn't about a URL.
+/// The row of each warning that has this cause, and is about neither a URL nor a number of rules.
 fn new_row(alloc: Global, cause: Cause) -> Result<KnownRow, AllocError>
     ensures { IfOk result (λ known. known.cause ≡ cause) }
 {
@@ -48,6 +48,7 @@ fn new_row(alloc: Global, cause: Cause) -> Result<KnownRow, AllocError>
         line: None,
         cause,
         about: None,
+        count: None,
     };
     push_new_row(alloc, &mut row, &warning)?;
     Ok(KnownRow { cause, row })
@@ -71,7 +72,7 @@ fn row_for(known: &[KnownRow], cause: Cause) -> Option<&KnownRow>
     None
 }
 
-/// Appends the row of each warning that has this cause and isn't about a URL, and keeps it.
+/// Appends the row of each warning that has this cause, and is about neither a URL nor a number of rules, and keeps it.
 pub(crate) fn push_known_row(
     alloc: Global,
     out: &mut Vec<u8>,

@@ -1,7 +1,7 @@
 //! The warnings of a page: the list at the top, and the rows below their lines.
 #![tactic(auto, using(robots_html::proofs::WritingLemmas::joined))]
 
-ghost use Rattle.std.specs.Prelude.{◌≡◌, ◌<◌, ◌++◌, IfOk, OnOk, map, string_bytes, take};
+ghost use Rattle.std.specs.Prelude.{◌≡◌, ◌<◌, ◌++◌, IfOk, None, OnOk, map, string_bytes, take};
 ghost use Rattle.robots_html.specs.Html.{each, written};
 ghost use Rattle.robots_warnings.specs.Internal.{warning_value};
 ghost use Rattle.robots_audit.specs.Page.{level_name, listed_warnings, rest_note, rest_words, warning_entry};
@@ -167,6 +167,23 @@ pub(crate) fn push_warning_entry(
     push_end(out, "dd")
 }
 
+/// Appends the row of a warning that isn't about a number of rules.
+fn push_row_without_count(
+    alloc: Global,
+    out: &mut Vec<u8>,
+    known: &mut Vec<KnownRow>,
+    warning: &Warning<'_>,
+) -> Result<(), AllocError>
+    requires { warning.now.count ≡ None }
+    ensures { OnOk result (out.new.items ≡ out.old.items
+        ++ written (warning_row (warning_value warning.now))) }
+{
+    match warning.about {
+        Some(_) => push_new_row(alloc, out, warning),
+        None => push_known_row(alloc, out, known, warning.cause),
+    }
+}
+
 /// Appends the row of a warning.
 fn push_warning_row(
     alloc: Global,
@@ -177,9 +194,9 @@ fn push_warning_row(
     ensures { OnOk result (out.new.items ≡ out.old.items
         ++ written (warning_row (warning_value warning.now))) }
 {
-    match warning.about {
+    match warning.count {
         Some(_) => push_new_row(alloc, out, warning),
-        None => push_known_row(alloc, out, known, warning.cause),
+        None => push_row_without_count(alloc, out, known, warning),
     }
 }
 

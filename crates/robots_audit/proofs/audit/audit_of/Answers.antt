@@ -21,17 +21,19 @@ returns-clause-ok c =
     (map string_bytes c.in_ok-names.names.items) (rw c.deref-2.ensures.value at c.in_ok-names.ensures)
     c.deref-3.ensures.value
     c.in_ok-labels.ensures in
+    let all = rw (
+      c.deref-6.ensures.value,
+      names,
+      c.deref-7.ensures.value,
+      c.facts_of-facts.ensures,
+      c.deref.ensures.value,
+      c.in_ok-labels.ensures,
+      c.labeling_agent.ensures,
+      c.in_ok-site.ensures,
+    ) at c.in_ok-all.ensures in
     record {
       labels_are = rw c.labeling_agent.ensures at c.in_ok-labels.ensures;
       agents_are = rw (c.deref-4.ensures.value, names, c.deref-5.ensures.value) at c.in_ok-agents.ensures.ok;
-      warnings_are = rw (
-        c.deref-6.ensures.value,
-        names,
-        c.deref-7.ensures.value,
-        c.facts_of-facts.ensures,
-        c.deref.ensures.value,
-        c.in_ok-labels.ensures,
-        c.labeling_agent.ensures,
-        c.in_ok-site.ensures,
-      ) at c.in_ok-warnings.ensures;
+      warnings_are = rw (c.deref-8.ensures.value, all) at c.in_ok-warnings.ensures;
+      syntax_is = rw (c.deref-9.ensures.value, all, c.facts_of-facts.ensures) at c.syntax_of-syntax.ensures;
     }

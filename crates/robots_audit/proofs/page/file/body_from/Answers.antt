@@ -1,4 +1,4 @@
-use Rattle.std.proofs.Common.{◌∙◌, ap, arith, drop, length}
+use Rattle.std.proofs.Common.{◌∙◌, ◌-◌, ap, arith, drop, length, take}
 use Rattle.std.proofs.lemmas.List.{length-drop, length-take}
 use Rattle.robots_audit.specs.Page.{body_lines}
 use Rattle.robots_audit.proofs.page.file.body_from.Goals as goal
@@ -7,5 +7,7 @@ pub returns-clause-within : goal.returns-clause-within
 returns-clause-within c =
     let labels = c.args.labels.now in
     let start = c.args.start in
-    let size = ap length c.first_body.ensures ∙ length-take body_lines (drop start labels) in
-    omega (arith, size, length-drop start labels)
+    let count = length labels - start in
+    let rest = drop start labels in
+    let size = ap length c.first_body.ensures ∙ length-take body_lines (take count rest) in
+    omega (arith, size, length-take count rest, length-drop start labels)

@@ -8,7 +8,7 @@ use Rattle.robots_audit.proofs.page.file.push_listed_bodies.Goals as goal
 pub loop-start-smaller : goal.loop-start-smaller
 loop-start-smaller c =
     let rest = drop c.loop-start.start c.args.labels.now in
-    let size = ap length c.body_from.ensures.lines ∙ length-take body_lines rest in
+    let size = ap length c.body_from-body.ensures.lines ∙ length-take body_lines rest in
     omega (arith, size, length-drop c.loop-start.start c.args.labels.now)
 
 pub loop-start-preserved : goal.loop-start-preserved
@@ -16,9 +16,9 @@ loop-start-preserved c =
     let labels = c.args.labels.now in
     let start = c.loop-start.start in
     let some : 0 < length (drop start labels) = omega (arith, length-drop start labels) in
-    let lines = c.body_from.ensures.lines in
+    let lines = c.body_from-body.ensures.lines in
     record {
-      within = c.body_from.ensures.within;
+      within = c.body_from-body.ensures.within;
       whole = body_added (listed_body c.args.lists.now) (drop start labels) _ _ _ _ _ some lines
           (others_after labels _ start lines) c.in_ok-push_line_body.ensures c.loop-start.invariant.whole;
     }

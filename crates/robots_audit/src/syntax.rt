@@ -1,0 +1,92 @@
+//! What the warnings tell about the syntax of a file.
+ghost use Rattle.std.specs.Prelude.{◌≡◌, map, option_map};
+ghost use Rattle.robots_warnings.specs.Internal.{warning_value};
+ghost use Rattle.robots_audit.specs.Syntax.{are_none, has_syntax_warning, is_about_syntax, is_standard, is_unknown, sentence, syntax_of};
+
+use robots_warnings::table::Cause;
+use robots_warnings::warning::Warning;
+
+/// What all warnings about a file, reported or not, tell about its syntax. That it is the standard's is proved by
+/// [`crate::laws::syntax_is_that_of_the_standard`].
+#[derive(Clone, Copy, PartialEq, Eq)]
+pub enum Syntax {
+    /// Nothing: a warning is about syntax, or not all of the file is checked.
+    Unknown,
+    /// That it is the syntax of RFC 9309, as no warning is about syntax.
+    Standard,
+    /// The same, as there is no warning at all.
+    StandardWithoutWarnings,
+}
+
+impl Syntax {
+    /// Whether the file is known to have the syntax of RFC 9309.
+    pub(crate) fn is_standard(self) -> bool
+        ensures { result ≡ is_standard self }
+    {
+        match self {
+            Syntax::Unknown => false,
+            Syntax::Standard | Syntax::StandardWithoutWarnings => true,
+        }
+    }
+
+    /// The sentence about it in a report; empty if the syntax isn't known.
+    pub(crate) fn sentence(self) -> &'static str
+        ensures { result.now ≡ sentence self }
+    {
+        match self {
+            Syntax::Unknown => "",
+            Syntax::Standard => "no warnings about syntax: the file has RFC 9309 syntax",
+            Syntax::StandardWithoutWarnings => "no warnings: the file has RFC 9309 syntax",
+        }
+    }
+}
+
+/// Whether a warning is about syntax.
+#[tactic(auto, unfolding(crate::specs::Syntax::is_about_syntax))]
+fn is_about_syntax(cause: Cause) -> bool
+    ensures { result ≡ is_about_syntax cause }
+{
+    !cause.is_about_meaning()
+}
+
+/// Whether one of the warnings is about syntax.
+#[tactic(auto, using(crate::proofs::AuditLemmas::syntax_next))]
+fn has_syntax_warning(warnings: &[Warning<'_>]) -> bool
+    ensures { result ≡ has_syntax_warning (map warning_value warnings.now) }
+{
+    for warning in warnings {
+        if is_about_syntax(warning.cause) {
+            return true;
+        }
+    }
+    false
+}
+
+/// Whether the syntax isn't known.
+fn is_unknown(agent: Option<&str>, is_too_large: bool, warnings: &[Warning<'_>]) -> bool
+    ensures { result ≡ is_unknown (option_map (λ agent. agent.now) agent.entry) is_too_large
+        (map warning_value warnings.now) }
+{
+    agent.is_some() || is_too_large || has_syntax_warning(warnings)
+}
+
+/// Whether there are no warnings.
+fn are_none(warnings: &[Warning<'_>]) -> bool
+    ensures { result ≡ are_none (map warning_value warnings.now) }
+{
+    warnings.is_empty()
+}
+
+/// What these warnings tell, which are all about a file and a request, reported or not.
+pub(crate) fn syntax_of(agent: Option<&str>, is_too_large: bool, warnings: &[Warning<'_>]) -> Syntax
+    ensures { result ≡ syntax_of (option_map (λ agent. agent.now) agent.entry) is_too_large
+        (map warning_value warnings.now) }
+{
+    if is_unknown(agent, is_too_large, warnings) {
+        Syntax::Unknown
+    } else if are_none(warnings) {
+        Syntax::StandardWithoutWarnings
+    } else {
+        Syntax::Standard
+    }
+}
