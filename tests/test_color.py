@@ -78,4 +78,4 @@ def test_an_error_has_no_colors():
 def test_the_file_adds_no_codes():
     """Codes in the names of files and in URLs are escaped, as without colors."""
     error, _ = audit(["--color=always", "-q", "-a", "a\x1b[31m"], TERMINAL, True)
-    assert error == COLORED + warning_line("not-a-url-or-path a%1B[31m").replace("warning", "\x1b[1;33mwarning\x1b[0m", 1)
+    assert error == warning_line("not-a-url-or-path a%1B[31m").replace("warning", "\x1b[1;33mwarning\x1b[0m", 1) + COLORED
