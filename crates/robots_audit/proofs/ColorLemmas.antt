@@ -19,7 +19,7 @@ use Rattle.robots_audit.specs.Audit.{AuditValue, RequestValue}
 use Rattle.robots_audit.specs.Color.{IsColorCode, IsColored, IsForTerminal, IsShownAs, color_end, color_of}
 use Rattle.robots_audit.specs.Color.{shown_word}
 use Rattle.robots_audit.specs.Listed.{listed, more, unlisted}
-use Rattle.robots_audit.specs.Report.{listed_lines, more_line, shown_warning, warning_lines}
+use Rattle.robots_audit.specs.Report.{more_line, shown_warning, warning_lines}
 use Rattle.robots_audit.proofs.PrintableLemmas.{each_more}
 
 -- ---- texts with color codes

@@ -11,15 +11,12 @@ use Rattle.texting_robots.specs.declared.labels.Membership.{Membership}
 use Rattle.texting_robots.specs.declared.labels.Membership.TheVariants.{Other, Ungrouped, Own}
 use Rattle.texting_robots.proofs.TrimLemmas.{each_append}
 use Rattle.robots_io.specs.Verdicts.{verdict_front}
-use Rattle.robots_audit.specs.declared.command.Format.{Format}
-use Rattle.robots_audit.specs.declared.command.Format.TheVariants.{Github, Html, Json, Sarif, Text}
 use Rattle.robots_audit.specs.declared.group.Group.{Group}
 use Rattle.robots_audit.specs.declared.group.Group.TheVariants.{Everyone, Named, Nobody, Star}
-use Rattle.robots_audit.specs.Answer.{message, message_in, shown_name}
-use Rattle.robots_audit.specs.Audit.{AgentValue, AuditValue, RequestValue, VerdictValue, is_allowed, is_denied, total}
-use Rattle.robots_audit.specs.Listed.{listed, more, more_of, unlisted}
+use Rattle.robots_audit.specs.Audit.{AgentValue, AuditValue, VerdictValue, is_allowed, is_denied, total}
+use Rattle.robots_audit.specs.Listed.{more_of}
 use Rattle.robots_audit.specs.Delay.{delay_line, delay_text, fraction, million, seconds}
-use Rattle.robots_audit.specs.Report.{agent_lines, group_line, group_text, listed_lines, more_line, rejected_lines, rejected_text, report_lines, total_line, verdict_line, warning_lines}
+use Rattle.robots_audit.specs.Report.{agent_lines, group_line, group_text, more_line, rejected_lines, rejected_text, report_lines, total_line, verdict_line}
 use Rattle.robots_audit.specs.PlainLine.{IsPlainLine, begins_plainly}
 use Rattle.robots_warnings.specs.File.{is_blank, space}
 use Rattle.robots_audit.specs.Rows.{has_value, kind_text, label_text, right_aligned, row, rows}
@@ -28,12 +25,12 @@ use Rattle.robots_audit.specs.declared.syntax.Syntax.{Syntax}
 use Rattle.robots_audit.specs.declared.syntax.Syntax.TheVariants.{Standard, StandardWithoutWarnings, Unknown}
 use Rattle.robots_audit.specs.Rows.{value_text, word_and_value, word_width}
 use Rattle.robots_io.specs.Sanitize.{IsPrintable, IsPrintableIn, sanitized}
-use Rattle.robots_warnings.specs.Warnings.{WarningValue, warning_line}
+use Rattle.robots_warnings.specs.Warnings.{WarningValue}
 use Rattle.robots_audit.proofs.PlainLemmas.{starts, starts_append, starts_blanks, starts_decimal, starts_plainly}
 use Rattle.robots_warnings.proofs.PrintableLemmas.{names_printable, word_printable}
 use Rattle.robots_io.proofs.SanitizeLemmas.{append_printable, ascii_printable, blanks_printable}
 use Rattle.robots_io.proofs.SanitizeLemmas.{decimal_printable}
-use Rattle.robots_io.proofs.SanitizeLemmas.{ended_printable, line_printable as printable_line, nil_printable}
+use Rattle.robots_io.proofs.SanitizeLemmas.{line_printable as printable_line, nil_printable}
 use Rattle.robots_io.proofs.SanitizeLemmas.{sanitized_in_printable, sanitized_printable}
 
 -- ---- lists and cases

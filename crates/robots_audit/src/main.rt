@@ -55,8 +55,8 @@ mod url_list;
 
 use clap::ArgMatches;
 use clap::error::ErrorKind as WordsKind;
-use command::{command, file_read, reads_stdin_twice, Request, requested};
 use color::colors_by_default;
+use command::{Request, command, file_read, reads_stdin_twice, requested};
 use compare::compare;
 use expectations::check;
 use explain::{explain, list_warnings};
