@@ -65,7 +65,7 @@ in_passed test first left rules placed passes rest (zero, below, at) =
 in_passed test first left rules placed passes rest (suc k, below, at) =
     let (listed, is) = rest (k, omega arith, at) in (in_cons first rules placed listed, is)
 
-in_filter : (test : PlacedRule → Bool) (rules : List PlacedRule) (placed : PlacedRule)
+pub in_filter : (test : PlacedRule → Bool) (rules : List PlacedRule) (placed : PlacedRule)
     → Contains (filter test rules) placed → Contains rules placed × (test placed ≡ true)
 in_filter test [] placed (k, below, at) = absurd (omega arith)
 in_filter test (first ∷ rules) placed has = elim (cases_Bool (test first)) [
@@ -77,7 +77,7 @@ in_filter test (first ∷ rules) placed has = elim (cases_Bool (test first)) [
       (in_cons first rules placed listed, is)
 ]
 
-to_filter : (test : PlacedRule → Bool) (rules : List PlacedRule) (placed : PlacedRule)
+pub to_filter : (test : PlacedRule → Bool) (rules : List PlacedRule) (placed : PlacedRule)
     → Contains rules placed → test placed ≡ true → Contains (filter test rules) placed
 to_filter test [] placed (k, below, at) is = absurd (omega arith)
 to_filter test (first ∷ rules) placed (zero, below, at) is =

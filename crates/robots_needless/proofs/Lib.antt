@@ -9,4 +9,6 @@ pub mod TogetherLemmas
 pub mod HeadLemmas
 pub mod ReasonLemmas
 pub mod StepLemmas
+pub mod BlockLemmas
+pub mod SettledLemmas
 pub mod ExampleLemmas

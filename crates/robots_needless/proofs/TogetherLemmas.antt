@@ -33,7 +33,7 @@ unplaced_same rules others same rule has =
     subst (λ (r : Rule). Contains (unplaced others) r) is
     (unplaced_of others placed ((same placed).0 listed))
 
-denied_same : (rules others : List PlacedRule) (text : List ℕ) → SameMembers rules others
+pub denied_same : (rules others : List PlacedRule) (text : List ℕ) → SameMembers rules others
     → IsDenied (unplaced rules) text → IsDenied (unplaced others) text
 denied_same rules others text same (differs, p, has, fits, longest) =
     let back : SameMembers others rules = λ placed. ((same placed).1, (same placed).0) in (
@@ -45,7 +45,7 @@ denied_same rules others text same (differs, p, has, fits, longest) =
     )
 
 -- denied and not denied are the two verdicts
-verdicts : (rules others : List Rule) (text : List ℕ) → IsDenied rules text ↔ IsDenied others text
+pub verdicts : (rules others : List Rule) (text : List ℕ) → IsDenied rules text ↔ IsDenied others text
     → (answer : Bool) → IsVerdict rules text answer ↔ IsVerdict others text answer
 verdicts rules others text same false = same
 verdicts rules others text same true = (λ allowed denied. allowed (same.1 denied), λ allowed denied. allowed (same.0 denied))
@@ -84,7 +84,7 @@ denied_permuted rules others same text = (
   denied_same others rules text (members others rules (IsPermutation-sym rules others same)),
 )
 
-both_ways : {A B C : Type 0} → A ↔ B → B ↔ C → A ↔ C
+pub both_ways : {A B C : Type 0} → A ↔ B → B ↔ C → A ↔ C
 both_ways (to, from) (on, back) = (λ a. on (to a), λ c. from (back c))
 
 -- ---- rules that are removed one after the other

@@ -1,10 +1,15 @@
 -- How the check compares patterns, and when it finds a rule needless.
-use Rattle.std.specs.Prelude.{◌≡◌, ◌≢◌, ◌⊎◌, ◌↔◌, ℕ, ◌<◌, ◌≤◌, ◌==◌, true, List, [], ◌∷◌}
-use Rattle.std.specs.Prelude.{◌++◌, Contains, IsPermutation, length, slice_index}
+use Rattle.std.specs.Prelude.{◌≡◌, ◌≢◌, ◌⊎◌, ◌↔◌, ℕ, ◌<◌, ◌≤◌, ◌==◌, true, false, List, [], ◌∷◌}
+use Rattle.std.specs.Prelude.{◌++◌, All, Contains, IsPermutation, Some, length, slice_index}
 use Rattle.std.specs.Prelude.{if◌then◌else◌}
-use Rattle.texting_robots.specs.Callers.{IsDenied, PlacedRule, Rule, unplaced}
+use Rattle.std.specs.BTreeMap.{BTreeMap, get}
+use Rattle.std.specs.BTreeSet.{BTreeSet, contains}
+use Rattle.std.specs.{Option.IsSome, Ordering.nat_cmp}
+use Rattle.texting_robots.specs.Callers.{IsDenied, LineValue, PlacedRule, Rule, placed_rules, unplaced}
 use Rattle.texting_robots.specs.Pattern.{dollar, star}
-use Rattle.robots_needless.specs.Needless.{AreApart, Covers, MatchesNothing, lines_of, rank_of}
+use Rattle.robots_needless.specs.declared.needless.NeedlessRule.{NeedlessRule}
+use Rattle.robots_needless.specs.declared.needless.Reason.{Reason}
+use Rattle.robots_needless.specs.Needless.{AreApart, Covers, IsFoundFor, MatchesNothing, lines_of, rank_of}
 
 -- a byte that no escaped pattern contains
 abbrev pub fresh : ℕ
@@ -71,3 +76,66 @@ pub record StandsIn (floor : ℕ) (other rule : Rule) : Type 0 where
   pub covers : Covers other.0 rule.0
   pub kind : other.1 ≡ rule.1
   pub above : floor ≤ rank_of other
+
+-- ---- several crawlers
+
+-- the set has the number
+abbrev pub Has : BTreeSet ℕ → ℕ → Type 0
+Has numbers number = contains nat_cmp numbers number ≡ true
+
+-- the new set has the numbers of the old one, and this one
+pub record AddsNumber (old new : BTreeSet ℕ) (number : ℕ) : Type 0 where
+  pub more : (n : ℕ) → Has old n → Has new n
+  pub added : Has new number
+
+-- and the lines of the rules
+pub record AddsLines (old new : BTreeSet ℕ) (rules : List PlacedRule) : Type 0 where
+  pub more : (n : ℕ) → Has old n → Has new n
+  pub added : (placed : PlacedRule) → Contains rules placed → Has new placed.line
+
+-- a reason for each line of a needless rule
+abbrev pub Reasons : Type 0
+Reasons = BTreeMap ℕ Reason
+
+abbrev pub HasLine : Reasons → ℕ → Type 0
+HasLine found line = IsSome (get nat_cmp found line)
+
+-- the new map has the lines of the old one and of the rules, and no other reasons than theirs
+pub record AddsFound (old new : Reasons) (rules : List NeedlessRule) : Type 0 where
+  pub more : (line : ℕ) → HasLine old line → HasLine new line
+  pub added : (one : NeedlessRule) → Contains rules one → HasLine new one.line
+  pub only : (line : ℕ) (reason : Reason) → get nat_cmp new line ≡ Some reason
+      → (get nat_cmp old line ≡ Some reason) ⊎ Contains rules (record { line = line; reason = reason })
+
+-- the rules, without some in the lines that are found, are those left, which are in lines that stay, and deny the
+-- same texts
+pub record IsSettled (rules : List PlacedRule) (found : Reasons) (stays : BTreeSet ℕ) : Type 0 where
+  pub left : List PlacedRule
+  pub removed : List PlacedRule
+  pub same : IsPermutation rules (left ++ removed)
+  pub denied : (text : List ℕ) → IsDenied (unplaced rules) text ↔ IsDenied (unplaced left) text
+  pub go : (placed : PlacedRule) → Contains removed placed → HasLine found placed.line
+  pub stay : (placed : PlacedRule) → Contains left placed → Has stays placed.line
+
+-- the same for the rules of each of these crawlers
+abbrev pub AreSettled : List LineValue → List (List ℕ) → Reasons → BTreeSet ℕ → Type 0
+AreSettled lines agents found stays =
+    (agent : List ℕ) → Contains agents agent → IsSettled (placed_rules agent lines) found stays
+
+-- lines that are found stay so, and so do lines that stay
+pub record Grow (old new : Reasons) (stayed stays : BTreeSet ℕ) : Type 0 where
+  pub found : (line : ℕ) → HasLine old line → HasLine new line
+  pub lines : (n : ℕ) → Has stayed n → Has stays n
+
+-- each reason holds for some crawler
+abbrev pub AreReasons : List LineValue → Reasons → Type 0
+AreReasons lines found = (line : ℕ) (reason : Reason) → get nat_cmp found line ≡ Some reason
+    → IsFoundFor lines (record { line = line; reason = reason })
+
+-- an entry of the map as a needless rule
+abbrev pub rule_at : ℕ × Reason → NeedlessRule
+rule_at entry = record { line = entry.0; reason = entry.1 }
+
+-- no rule is in one of the lines
+abbrev pub AreFree : List NeedlessRule → BTreeSet ℕ → Type 0
+AreFree rules stays = All (λ (one : NeedlessRule). contains nat_cmp stays one.line ≡ false) rules

@@ -1,3 +1,4 @@
 pub mod Needless
 pub mod Internal
+pub mod Blocks
 pub mod Examples

@@ -1,11 +1,12 @@
 -- Rules that can be removed without changing a verdict.
-use Rattle.std.specs.Prelude.{◌≡◌, ◌≢◌, ◌↔◌, ◌≤◌, ℕ, ◌==◌, length, not}
-use Rattle.std.specs.Prelude.{AllPairs, Bool, true, Contains, List, [], ◌∷◌, filter, map}
-use Rattle.std.specs.List.{list_any}
+use Rattle.std.specs.Prelude.{◌≡◌, ◌≢◌, ◌↔◌, ◌≤◌, ℕ, ◌+◌, ◌==◌, length, not}
+use Rattle.std.specs.Prelude.{All, AllPairs, Bool, true, Contains, List, [], ◌∷◌, codes, filter, map}
+use Rattle.std.specs.List.{enumerate_from, list_any}
 use Rattle.robots_needless.specs.declared.needless.NeedlessRule.{NeedlessRule}
 use Rattle.robots_needless.specs.declared.needless.Reason.{Reason}
 use Rattle.robots_needless.specs.declared.needless.Reason.TheVariants.{AllowedAnyway, Covered, NoMatch, Overruled}
-use Rattle.texting_robots.specs.Callers.{IsVerdict, Matches, PlacedRule, Rule, robots_file, unplaced}
+use Rattle.texting_robots.specs.Callers.{IsVerdict, LineValue, Matches, PlacedRule, Rule, agents_in}
+use Rattle.texting_robots.specs.Callers.{placed_rules, robots_file, rules_for, unplaced}
 use Rattle.texting_robots.specs.Internal.Entries.{rank}
 
 -- the lines of the rules
@@ -72,3 +73,24 @@ abbrev pub IsFound : List PlacedRule → NeedlessRule → Type 0
 IsFound rules found =
     (placed : PlacedRule) × Contains rules placed × (placed.line ≡ found.line)
     × IsReason rules placed found.reason
+
+-- the lines without those with these numbers, counted from 1
+abbrev pub lines_without : List ℕ → List LineValue → List LineValue
+lines_without numbers lines =
+    map (λ (p : ℕ × LineValue). p.1)
+    (filter (λ (p : ℕ × LineValue). not (list_any (λ number. number == p.0 + 1) numbers))
+    (enumerate_from 0 lines))
+
+-- the same for the rules of some crawler in these lines of a file
+abbrev pub IsFoundFor : List LineValue → NeedlessRule → Type 0
+IsFoundFor lines found = (agent : List ℕ) × IsFound (placed_rules agent lines) found
+
+-- the found rules of a file with these lines: every crawler's rules have the same verdicts without them
+pub record AreFound (lines : List LineValue) (found : List NeedlessRule) : Type 0 where
+  -- `*`, and each crawler that the file names
+  pub together : (agent : List ℕ) → Contains (codes "*" ∷ agents_in lines) agent
+      → AreNeedless (placed_rules agent lines) (numbers_of found)
+  -- deleting their lines from the file removes them from each crawler's rules, and nothing else
+  pub deleted : (agent : List ℕ) → rules_for agent (lines_without (numbers_of found) lines)
+      ≡ unplaced (without (numbers_of found) (placed_rules agent lines))
+  pub reasons : All (IsFoundFor lines) found

@@ -1,8 +1,10 @@
 //! Rules of a crawler that can be removed without changing a verdict.
 #![tactic(auto)]
 
+mod blocks;
 mod generic;
 pub mod laws;
+pub mod lines;
 pub mod needless;
 mod rule;
 #[cfg(test)]

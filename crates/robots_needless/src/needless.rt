@@ -1,12 +1,12 @@
 //! Which rules of a crawler are needless.
-ghost use Rattle.std.specs.Prelude.{◌≡◌, ◌≤◌, ◌++◌, All, Contains, IfErr, IfOk, IfSome, IsPermutation, IsTrue, List};
-ghost use Rattle.texting_robots.specs.Callers.{IsFileRejected, IsMemoryErrorOr, PlacedRule, file_lines, placed_rules, unplaced};
+ghost use Rattle.std.specs.Prelude.{◌≡◌, ◌≤◌, ◌++◌, All, Contains, IfOk, IfSome, IsPermutation, IsTrue};
+ghost use Rattle.texting_robots.specs.Callers.{PlacedRule, unplaced};
 ghost use Rattle.robots_needless.specs.Internal.{CanGo, HasNoRival, IsNone, IsReducedTo, StandsIn};
-ghost use Rattle.robots_needless.specs.Needless.{AreNeedless, IsFound, IsReason, Overrules, numbers_of};
+ghost use Rattle.robots_needless.specs.Needless.{IsFound, IsReason, Overrules, numbers_of};
 
-use crate::rule::{Rule, rules_for};
+use crate::rule::Rule;
 use std::alloc::{AllocError, Global};
-use texting_robots::{Error, Site};
+use std::collections::BTreeSet;
 
 /// How many bytes are compared at most. Rules that would take more are taken to be needed.
 const BUDGET: usize = 50_000_000;
@@ -34,13 +34,21 @@ pub struct NeedlessRule {
     pub reason: Reason,
 }
 
+/// The numbers of lines.
+pub(crate) type Numbers = BTreeSet<usize>;
+
 /// How many bytes may still be compared.
 #[derive(Drop)]
-struct Budget {
+pub(crate) struct Budget {
     left: usize,
 }
 
 impl Budget {
+    /// Nothing was compared yet.
+    pub(crate) fn whole() -> Self {
+        Budget { left: BUDGET }
+    }
+
     /// Whether so many bytes may still be compared. They are subtracted, and so is one more for the call.
     fn spend(&mut self, bytes: usize) -> bool {
         if bytes >= self.left {
@@ -177,18 +185,48 @@ fn by_rank(rules: Vec<Rule>) -> Result<Vec<Rule>, AllocError>
     Ok(sorted)
 }
 
-/// The rules that can go one after the other, by ascending rank.
-fn rules_to_go(alloc: Global, rules: Vec<Rule>) -> Result<Vec<NeedlessRule>, AllocError>
-    ensures together { IfOk result (λ found. (left : List PlacedRule)
-        × IsReducedTo rules.items left (numbers_of found.items)) }
-    ensures reasons { IfOk result (λ found. All (IsFound rules.items) found.items) }
+/// Why the rule can go, if it can, isn't in one of the lines that stay, and isn't `Allow: /` or an empty Disallow, which
+/// are meant as they are.
+fn reason_unless_it_stays(
+    budget: &mut Budget,
+    stays: &Numbers,
+    kept: &[Rule],
+    rest: &[Rule],
+    rule: &Rule,
+) -> Option<Reason>
+    ensures go { IfSome result (λ _. CanGo (unplaced (kept.now ++ rest.now)) rule.now.rule) }
+    ensures reason { IfSome result (λ reason. IsReason (kept.now ++ rest.now) rule.now reason) }
 {
-    let mut budget = Budget { left: BUDGET };
+    if stays.contains(&rule.line()) || rule.allows_all() {
+        return None;
+    }
+    reason_to_go(budget, kept, rest, rule)
+}
+
+/// A crawler's rules: those that are needless, and the others.
+#[derive(Drop)]
+pub(crate) struct Settled {
+    pub(crate) found: Vec<NeedlessRule>,
+    pub(crate) kept: Vec<Rule>,
+}
+
+/// The rules that can go one after the other, by ascending rank, without those in the lines that stay. There may be
+/// more: a rule is found only if one other rule covers it, and the budget bounds how many bytes are compared.
+pub(crate) fn settle(
+    alloc: Global,
+    budget: &mut Budget,
+    rules: Vec<Rule>,
+    stays: &Numbers,
+) -> Result<Settled, AllocError>
+    ensures together { IfOk result (λ settled. IsReducedTo rules.items settled.kept.items
+        (numbers_of settled.found.items)) }
+    ensures reasons { IfOk result (λ settled. All (IsFound rules.items) settled.found.items) }
+{
     let mut rest = by_rank(rules)?;
     let mut kept = Vec::new(alloc);
     let mut found = Vec::new(alloc);
     while let Some(rule) = rest.pop() {
-        match reason_to_go(&mut budget, &kept, &rest, &rule) {
+        match reason_unless_it_stays(budget, stays, &kept, &rest, &rule) {
             Some(reason) => found.push(NeedlessRule {
                 line: rule.line(),
                 reason,
@@ -196,24 +234,5 @@ fn rules_to_go(alloc: Global, rules: Vec<Rule>) -> Result<Vec<NeedlessRule>, All
             None => kept.push(rule)?,
         }
     }
-    Ok(found)
-}
-
-/// Rules of the crawler that can be removed together without changing any of its verdicts. There may be more: a rule
-/// is found only if one other rule covers it, and a bounded number of bytes is compared.
-///
-/// # Errors
-///
-/// `Error::InvalidRule` if a rule is too long, so that the file is rejected for the crawler. `Error::Memory` if an
-/// allocation fails.
-pub fn needless_rules(alloc: Global, site: &Site, agent: &str) -> Result<Vec<NeedlessRule>, Error>
-    ensures together { IfOk result (λ found. AreNeedless (placed_rules agent.now (file_lines site.now))
-        (numbers_of found.items)) }
-    ensures reasons { IfOk result (λ found. All (IsFound (placed_rules agent.now (file_lines site.now))) found.items) }
-    ensures rejected { IfErr result (IsMemoryErrorOr (IsFileRejected agent.now site.now)) }
-{
-    match rules_for(alloc, site, agent) {
-        Ok(rules) => Ok(rules_to_go(alloc, rules)?),
-        Err(error) => Err(error),
-    }
+    Ok(Settled { found, kept })
 }

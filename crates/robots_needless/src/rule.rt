@@ -82,6 +82,11 @@ impl Rule {
         !self.regex.is_match(self.generic_text.as_str())
     }
 
+    /// Whether it is `Allow: /` or an empty Disallow, which say that all is allowed.
+    pub(crate) fn allows_all(&self) -> bool {
+        self.is_allow && self.regex.as_str() == "/"
+    }
+
     /// Whether the two patterns differ before their first star or dollar, so that they match no text in common.
     pub(crate) fn is_apart_from(&self, other: &Rule) -> bool
         ensures { IsTrue result → AreApart self.now.rule.0 other.now.rule.0 }

@@ -1,22 +1,19 @@
-//! Files, and which of their rules are needless.
-use crate::needless::{NeedlessRule, Reason, needless_rules};
+//! Files, and which of their lines are needless.
+use crate::lines::needless_lines;
+use crate::needless::{NeedlessRule, Reason};
 use std::process::Abort;
 use texting_robots::Site;
 
 const NONE: &[NeedlessRule] = &[];
 
-/// A rule in this line, covered by that in the other one.
-fn covered(line: usize, by: usize) -> NeedlessRule {
-    NeedlessRule {
-        line,
-        reason: Reason::Covered(by),
-    }
+fn found(line: usize, reason: Reason) -> NeedlessRule {
+    NeedlessRule { line, reason }
 }
 
-/// Rules below `User-agent: *` in line 1, and the needless ones, by ascending rank.
+/// The needless lines of a file, in order.
 fn check_case(rt: &(impl Abort + AllocGlobal), file: &[u8], want: &[NeedlessRule]) {
     let site = Site::new(rt.alloc(), file).expect(rt, "site");
-    let found = needless_rules(rt.alloc(), &site, "FerrisBot").expect(rt, "rules");
+    let found = needless_lines(rt.alloc(), &site).expect(rt, "lines");
     assert!(rt; found.as_slice() == want);
 }
 
@@ -26,42 +23,39 @@ fn covered_rules_are_found(rt: HostRuntime) {
     check_case(
         &rt,
         b"User-agent: *\nDisallow: /a\nDisallow: /ab\n",
-        &[covered(3, 2)],
+        &[found(3, Reason::Covered(2))],
     );
     check_case(
         &rt,
         b"User-agent: *\nDisallow: /*.pdf\nDisallow: /docs/*.pdf\n",
-        &[covered(3, 2)],
+        &[found(3, Reason::Covered(2))],
+    );
+    check_case(
+        &rt,
+        b"User-agent: *\nDisallow: /abc\nDisallow: /ab\nDisallow: /a\n",
+        &[found(2, Reason::Covered(4)), found(3, Reason::Covered(4))],
     );
 }
 
 #[test]
 fn rules_that_never_decide_are_found(rt: HostRuntime) {
-    let second = NeedlessRule {
-        line: 3,
-        reason: Reason::Overruled(2),
-    };
     // of two equal rules the first one stays
     check_case(
         &rt,
         b"User-agent: *\nDisallow: /a\nDisallow: /a\n",
-        &[second],
+        &[found(3, Reason::Overruled(2))],
     );
-    let third = NeedlessRule {
-        line: 4,
-        reason: Reason::Overruled(3),
-    };
     // of two rules with one pattern the Allow decides
     check_case(
         &rt,
         b"User-agent: *\nDisallow: /\nAllow: /ab\nDisallow: /ab\n",
-        &[third],
+        &[found(4, Reason::Overruled(3))],
     );
     // a longer pattern that matches the same texts
     check_case(
         &rt,
         b"User-agent: *\nDisallow: /\nAllow: /ab*\nDisallow: /ab\n",
-        &[third],
+        &[found(4, Reason::Overruled(3))],
     );
 }
 
@@ -77,7 +71,7 @@ fn rules_between_are_rivals(rt: HostRuntime) {
     check_case(
         &rt,
         b"User-agent: *\nDisallow: /\nAllow: /a\nDisallow: /bcd\n",
-        &[covered(4, 2)],
+        &[found(4, Reason::Covered(2))],
     );
     // this one matches `/bcda`
     check_case(
@@ -89,38 +83,89 @@ fn rules_between_are_rivals(rt: HostRuntime) {
 
 #[test]
 fn rules_without_effect_are_found(rt: HostRuntime) {
-    let nothing = NeedlessRule {
-        line: 2,
-        reason: Reason::NoMatch,
-    };
-    check_case(&rt, b"User-agent: *\nDisallow: /a$b\n", &[nothing]);
-    let default = NeedlessRule {
-        line: 2,
-        reason: Reason::AllowedAnyway,
-    };
-    check_case(&rt, b"User-agent: *\nAllow: /a\nDisallow: /b\n", &[default]);
+    check_case(
+        &rt,
+        b"User-agent: *\nDisallow: /a$b\nDisallow: /c\n",
+        &[found(2, Reason::NoMatch)],
+    );
+    check_case(
+        &rt,
+        b"User-agent: *\nAllow: /a\nDisallow: /b\n",
+        &[found(2, Reason::AllowedAnyway)],
+    );
     check_case(
         &rt,
         b"User-agent: *\nAllow: /a\nDisallow: /*b\n",
-        &[default],
+        &[found(2, Reason::AllowedAnyway)],
     );
     check_case(&rt, b"User-agent: *\nAllow: /ab\nDisallow: /a\n", NONE);
 }
 
 #[test]
+fn rules_that_allow_all_are_meant(rt: HostRuntime) {
+    check_case(&rt, b"User-agent: *\nAllow: /\nDisallow: /a\n", NONE);
+    check_case(&rt, b"User-agent: *\nDisallow:\nDisallow: /a\n", NONE);
+}
+
+#[test]
 fn lower_ranks_go_first(rt: HostRuntime) {
-    let overruled = |line| NeedlessRule {
-        line,
-        reason: Reason::Overruled(3),
-    };
-    let allowed = NeedlessRule {
-        line: 3,
-        reason: Reason::AllowedAnyway,
-    };
     // without the Disallow, which never decides, both Allows are needless too
     check_case(
         &rt,
-        b"User-agent: *\nDisallow: /ab\nAllow: /ab*\nAllow: /abc\n",
-        &[overruled(2), overruled(4), allowed],
+        b"User-agent: *\nDisallow: /ab\nAllow: /ab*\nAllow: /abc\nCrawl-delay: 1\n",
+        &[
+            found(2, Reason::Overruled(3)),
+            found(3, Reason::AllowedAnyway),
+            found(4, Reason::Overruled(3)),
+        ],
+    );
+}
+
+#[test]
+fn rules_are_needless_for_every_crawler(rt: HostRuntime) {
+    // line 4 is needless for B, but A has no other rule
+    check_case(
+        &rt,
+        b"User-agent: A\nUser-agent: B\nDisallow: /b\nDisallow: /ab\n\nUser-agent: B\nDisallow: /a\n",
+        NONE,
+    );
+    // here it is needless for both, by different rules; the reason is that for the last one
+    check_case(
+        &rt,
+        b"User-agent: A\nUser-agent: B\nDisallow: /b\nDisallow: /ab\n\nUser-agent: B\nDisallow: /a\n\nUser-agent: A\nDisallow: /a*\n",
+        &[found(4, Reason::Covered(7))],
+    );
+    // what `*` has doesn't matter for A
+    check_case(
+        &rt,
+        b"User-agent: *\nDisallow: /a\n\nUser-agent: A\nDisallow: /ab\n",
+        NONE,
+    );
+    // a file without user-agent lines has the same rules for all
+    check_case(
+        &rt,
+        b"Disallow: /a\nDisallow: /ab\n",
+        &[found(2, Reason::Covered(1))],
+    );
+}
+
+#[test]
+fn a_block_keeps_a_line(rt: HostRuntime) {
+    // without its only rule, A would get the rules of B
+    check_case(
+        &rt,
+        b"User-agent: A\nAllow: /a\n\nUser-agent: B\nDisallow: /\n",
+        NONE,
+    );
+    check_case(
+        &rt,
+        b"User-agent: A\nAllow: /a\nAllow: /b\n\nUser-agent: B\nDisallow: /\n",
+        &[found(2, Reason::AllowedAnyway)],
+    );
+    // a delay is a group line too
+    check_case(
+        &rt,
+        b"User-agent: A\nAllow: /a\nCrawl-delay: 1\n\nUser-agent: B\nDisallow: /\n",
+        &[found(2, Reason::AllowedAnyway)],
     );
 }

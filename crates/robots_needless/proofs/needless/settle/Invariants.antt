@@ -1,7 +1,7 @@
 use Rattle.std.proofs.Common.{◌++◌, All, vec_len}
 use Rattle.robots_needless.specs.Internal.{IsReducedTo}
 use Rattle.robots_needless.specs.Needless.{IsFound, numbers_of}
-use Rattle.robots_needless.proofs.needless.rules_to_go.Given as goal
+use Rattle.robots_needless.proofs.needless.settle.Given as goal
 
 abbrev pub invariant-loop-rule : goal.invariant-loop-rule
 invariant-loop-rule l = record {

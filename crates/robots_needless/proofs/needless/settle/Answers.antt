@@ -4,7 +4,7 @@ use Rattle.robots_needless.specs.Internal.{CanGo, IsReducedTo}
 use Rattle.robots_needless.specs.Needless.{IsReason}
 use Rattle.robots_needless.proofs.StepLemmas.{found_more, numbers_more, rule_gone, rule_kept}
 use Rattle.robots_needless.proofs.TogetherLemmas.{nothing_removed, reordered}
-use Rattle.robots_needless.proofs.needless.rules_to_go.Goals as goal
+use Rattle.robots_needless.proofs.needless.settle.Goals as goal
 
 pub loop-rule-init : goal.loop-rule-init
 loop-rule-init c =
@@ -21,18 +21,18 @@ loop-rule-preserved c = record {
   reasons = c.loop-rule.invariant.reasons;
 }
 
-pub loop-rule-preserved-in-Some-reason_to_go : goal.loop-rule-preserved-in-Some-reason_to_go
-loop-rule-preserved-in-Some-reason_to_go c =
+pub loop-rule-preserved-in-Some-reason_unless_it_stays : goal.loop-rule-preserved-in-Some-reason_unless_it_stays
+loop-rule-preserved-in-Some-reason_unless_it_stays c =
     let rules = c.args.rules.items in
     let kept = c.loop-rule.kept.items in
     let rest = c.pop.new.self.items in
     let last = c.in-Some.ensures.items in
     let is = c.loop-rule.invariant.reduced in
     let go : CanGo (unplaced (kept ++ rest)) c.in-Some.rule.rule =
-    rw (← c.deref.ensures.value, ← c.deref-in-Some.ensures.value) c.in-Some-reason_to_go.ensures.go in
-    let holds : IsReason (kept ++ rest) c.in-Some.rule c.in-Some-reason_to_go.reason =
-    rw (← c.deref.ensures.value, ← c.deref-in-Some.ensures.value) c.in-Some-reason_to_go.ensures.reason in
-    let added = c.in_ok-push-in-Some-reason_to_go.ensures.items in record {
+    rw (← c.deref.ensures.value, ← c.deref-in-Some.ensures.value) c.in-Some-reason_unless_it_stays.ensures.go in
+    let holds : IsReason (kept ++ rest) c.in-Some.rule c.in-Some-reason_unless_it_stays.reason =
+    rw (← c.deref.ensures.value, ← c.deref-in-Some.ensures.value) c.in-Some-reason_unless_it_stays.ensures.reason in
+    let added = c.in_ok-push-in-Some-reason_unless_it_stays.ensures.items in record {
       reduced = subst (λ numbers. IsReducedTo rules (kept ++ rest) numbers)
           (numbers_more c.loop-rule.found.items _ c.line.result _ _ added c.line.ensures)
           (rule_gone rules kept rest c.loop-rule.rest.items c.in-Some.rule last _ is go);

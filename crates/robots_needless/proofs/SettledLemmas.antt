@@ -1,0 +1,312 @@
+-- What is found for several crawlers: rules that are needless for each of them.
+use Rattle.std.proofs.Common.{◌≡◌, ◌↔◌, inl, inr, ℕ, zero, suc, ◌==◌, true, false, List, [], ◌∷◌, ◌++◌, All}
+use Rattle.std.proofs.Common.{◌+◌, ◌<◌, Some, get_or, length, take, ap, sym, refl, subst, ◌∙◌, arith, codes, filter, map}
+use Rattle.std.specs.BTreeMap.{IsOrdered, Updates, get, keys}
+use Rattle.std.specs.BTreeSet.{BTreeSet, contains}
+use Rattle.std.specs.List.{Contains, enumerate_from, list_any}
+use Rattle.std.specs.{Ordering.eq_by_cmp, Ordering.nat_cmp}
+use Rattle.std.specs.Cmp.{nat_cmp_total}
+use Rattle.std.proofs.lemmas.Bool.{cases_Bool, eqb-true, false≢true, or_cases}
+use Rattle.std.proofs.lemmas.Bool.Decides.{Decides-eqb}
+use Rattle.std.proofs.lemmas.List.{take_more}
+use Rattle.std.proofs.lemmas.List.Elements.{All-contains, Contains-append_cases, Contains-append_left}
+use Rattle.std.proofs.lemmas.List.Elements.{All-map, All-nil, Contains-push, Contains-push_cases}
+use Rattle.std.proofs.lemmas.List.Sorted.{Contains-permutation, IsPermutation-sym}
+use Rattle.std.proofs.lemmas.Map.Lookups.{exact_unsigned}
+use Rattle.std.proofs.lemmas.Map.Views.{All-found, btree_map_contains_key_iff, tells_apart}
+use Rattle.texting_robots.specs.Callers.{LineValue, PlacedRule, agents_in, placed_rules, rules_for, unplaced}
+use Rattle.texting_robots.specs.Verdict.{IsDenied}
+use Rattle.robots_needless.specs.declared.needless.NeedlessRule.{NeedlessRule}
+use Rattle.robots_needless.specs.declared.needless.Reason.{Reason}
+use Rattle.robots_needless.specs.Blocks.{KeepBlocks, is_found, no_line}
+use Rattle.robots_needless.specs.Internal.{AddsFound, AddsLines, AddsNumber, AreFree, AreReasons, AreSettled, Grow, Has}
+use Rattle.robots_needless.specs.Internal.{HasLine, IsReducedTo, IsSettled, Reasons, rule_at}
+use Rattle.robots_needless.specs.Needless.{AreFound, AreNeedless, IsFound, IsFoundFor, numbers_of, without}
+use Rattle.robots_needless.proofs.BlockLemmas.{deleted, same_test}
+use Rattle.robots_needless.proofs.DistinctLemmas.{in_filter, to_filter}
+use Rattle.robots_needless.proofs.TogetherLemmas.{both_ways, denied_same, verdicts}
+
+-- ---- members
+
+to_map : {A B : Type 0} (f : A → B) (xs : List A) (x : A) → Contains xs x → Contains (map f xs) (f x)
+to_map f [] x (k, below, at) = absurd (omega arith)
+to_map f (z ∷ xs) x (zero, below, at) = (0, omega arith, ap f at)
+to_map f (z ∷ xs) x (suc k, below, at) =
+    let (j, less, is) = to_map f xs x (k, omega arith, at) in (suc j, omega arith, is)
+
+of_map : {A B : Type 0} (f : A → B) (xs : List A) (y : B) → Contains (map f xs) y
+    → (x : A) × Contains xs x × (f x ≡ y)
+of_map f [] y (k, below, at) = absurd (omega arith)
+of_map f (x ∷ xs) y (zero, below, at) = (x, (0, omega arith, refl), at)
+of_map f (x ∷ xs) y (suc k, below, at) =
+    let (z, (j, less, has), is) = of_map f xs y (k, omega arith, at) in (z, (suc j, omega arith, has), is)
+
+named_in : (n : ℕ) (numbers : List ℕ) → Contains numbers n → list_any (λ number. number == n) numbers ≡ true
+named_in n [] (k, below, at) = absurd (omega arith)
+named_in n (first ∷ numbers) (zero, below, at) = rw ((Decides-eqb first n).1 at) refl
+named_in n (first ∷ numbers) (suc k, below, at) = elim (cases_Bool (first == n)) [
+  | inl here ↦ rw here refl
+  | inr other ↦ rw other (named_in n numbers (k, omega arith, at))
+]
+
+in_named : (n : ℕ) (numbers : List ℕ) → list_any (λ number. number == n) numbers ≡ true → Contains numbers n
+in_named n [] is = cc
+in_named n (first ∷ numbers) is =
+    elim (or_cases (first == n) (list_any (λ number. number == n) numbers) is) [
+      | inl here ↦ (0, omega arith, eqb-true first n here)
+      | inr later ↦ let (k, below, at) = in_named n numbers later in (suc k, omega arith, at)
+    ]
+
+-- ---- one more line
+
+pub lines_more : (old mid new : BTreeSet ℕ) (rules : List PlacedRule) (placed : PlacedRule) (n : ℕ)
+    → n ≡ placed.line → AddsLines old mid rules → AddsNumber mid new n → AddsLines old new (rules ++ placed ∷ [])
+lines_more old mid new rules placed n is are adds = record {
+  more = λ m has. adds.more m (are.more m has);
+  added = λ other has. elim (Contains-push_cases rules placed other has) [
+    | inl before ↦ adds.more other.line (are.added other before)
+    | inr last ↦ subst (λ (p : PlacedRule). Has new p.line) last (subst (λ k. Has new k) is adds.added)
+  ];
+}
+
+pub no_lines : (old : BTreeSet ℕ) → AddsLines old old []
+no_lines old = record {
+  more = λ m has. has;
+  added = λ other (k, below, at). absurd (omega arith);
+}
+
+-- ---- one more reason
+
+module _ (mid new : Reasons) (k : ℕ) (r : Reason) (h : Updates nat_cmp mid new k (Some r)) where
+  at_key : (q : ℕ) → eq_by_cmp nat_cmp k q ≡ true → get nat_cmp new q ≡ Some r
+  at_key q at = h.0 q ∙ rw at refl
+
+  elsewhere : (q : ℕ) → eq_by_cmp nat_cmp k q ≡ false → get nat_cmp new q ≡ get nat_cmp mid q
+  elsewhere q other = h.2 q other
+
+  stays_found : (q : ℕ) → HasLine mid q → HasLine new q
+  stays_found q has = elim (cases_Bool (eq_by_cmp nat_cmp k q)) [
+    | inl at ↦ rw (at_key q at) refl
+    | inr other ↦ rw (elsewhere q other) has
+  ]
+
+pub found_next : (old mid new : Reasons) (rules : List NeedlessRule) (one : NeedlessRule) → AddsFound old mid rules
+    → Updates nat_cmp mid new one.line (Some one.reason) → AddsFound old new (rules ++ one ∷ [])
+found_next old mid new rules one are h = record {
+  more = λ q has. stays_found mid new one.line one.reason h q (are.more q has);
+  added = λ other has. elim (Contains-push_cases rules one other has) [
+    | inl before ↦ stays_found mid new one.line one.reason h other.line (are.added other before)
+    | inr last ↦ subst (λ (o : NeedlessRule). HasLine new o.line) last (rw h.1 refl)
+  ];
+  only = λ q reason is. elim (cases_Bool (eq_by_cmp nat_cmp one.line q)) [
+    | inl at ↦
+        let same : one.reason ≡ reason = let e = at_key mid new one.line one.reason h q at in cc in
+        let line : one.line ≡ q = tells_apart exact_unsigned one.line q at in
+        let here : ◌≡◌ {A = NeedlessRule} one (record { line = q; reason = reason }) = rw (← same, ← line) refl in
+        inr (subst (λ (o : NeedlessRule). Contains (rules ++ one ∷ []) o) here (Contains-push rules one))
+    | inr other ↦ elim (are.only q reason (sym (elsewhere mid new one.line one.reason h q other) ∙ is)) [
+      | inl before ↦ inl before
+      | inr listed ↦ inr (Contains-append_left rules (one ∷ []) (record { line = q; reason = reason }) listed)
+    ]
+  ];
+}
+
+pub found_more_at : (old mid new : Reasons) (rules : List NeedlessRule) (i : ℕ) (d : NeedlessRule)
+    → i < length rules → AddsFound old mid (take i rules)
+    → Updates nat_cmp mid new (get_or rules i d).line (Some (get_or rules i d).reason)
+    → AddsFound old new (take (i + 1) rules)
+found_more_at old mid new rules i d less are h =
+    rw (take_more rules i d less) (found_next old mid new (take i rules) (get_or rules i d) are h)
+
+pub none_found : (old : Reasons) → AddsFound old old []
+none_found old = record {
+  more = λ q has. has;
+  added = λ other (k, below, at). absurd (omega arith);
+  only = λ q reason is. inl is;
+}
+
+pub no_reasons : (lines : List LineValue) (found : Reasons) → found.entries ≡ [] → AreReasons lines found
+no_reasons lines found empty line reason at = let wrong = rw empty at at in cc
+
+-- ---- one crawler
+
+module _ (rules left : List PlacedRule) (found : List NeedlessRule) (old new : Reasons) (stayed stays : BTreeSet ℕ)
+    (adds : AddsFound old new found) (lines_stay : AddsLines stayed stays left) where
+  pub settled_by : IsReducedTo rules left (numbers_of found) → IsSettled rules new stays
+  settled_by is = record {
+    left = left;
+    removed = is.removed;
+    same = is.same;
+    denied = is.denied;
+    go = λ placed has.
+        let line = λ (p : PlacedRule). p.line in
+        let number = subst (λ ns. Contains ns placed.line) is.lines (to_map line is.removed placed has) in
+        let (one, listed, at) = of_map (λ (o : NeedlessRule). o.line) found placed.line number in
+        subst (λ n. HasLine new n) at (adds.added one listed);
+    stay = λ placed has. lines_stay.added placed has;
+  }
+
+  pub they_grow : Grow old new stayed stays
+  they_grow = record { found = adds.more; lines = lines_stay.more }
+
+  pub reasons_by : (lines : List LineValue) (agent : List ℕ) → rules ≡ placed_rules agent lines
+      → All (IsFound rules) found → AreReasons lines old → AreReasons lines new
+  reasons_by lines agent are all before line reason at = elim (adds.only line reason at) [
+    | inl sooner ↦ before line reason sooner
+    | inr listed ↦
+        let one : NeedlessRule = record { line = line; reason = reason } in
+        (agent, subst (λ rs. IsFound rs one) are (All-contains (IsFound rules) found one all listed))
+  ]
+
+-- ---- one more crawler
+
+pub settled_grows : (rules : List PlacedRule) (old new : Reasons) (stayed stays : BTreeSet ℕ)
+    → Grow old new stayed stays → IsSettled rules old stayed → IsSettled rules new stays
+settled_grows rules old new stayed stays grow is = record {
+  left = is.left;
+  removed = is.removed;
+  same = is.same;
+  denied = is.denied;
+  go = λ placed has. grow.found placed.line (is.go placed has);
+  stay = λ placed has. grow.lines placed.line (is.stay placed has);
+}
+
+pub grow_on : (old mid new : Reasons) (first then stays : BTreeSet ℕ) → Grow old mid first then
+    → Grow mid new then stays → Grow old new first stays
+grow_on old mid new first then stays one two = record {
+  found = λ line has. two.found line (one.found line has);
+  lines = λ n has. two.lines n (one.lines n has);
+}
+
+pub settled_more : (lines : List LineValue) (agents : List (List ℕ)) (last : List ℕ) (old new : Reasons)
+    (stayed stays : BTreeSet ℕ) → AreSettled lines agents old stayed → Grow old new stayed stays
+    → IsSettled (placed_rules last lines) new stays → AreSettled lines (agents ++ last ∷ []) new stays
+settled_more lines agents last old new stayed stays are grow is agent has =
+    elim (Contains-push_cases agents last agent has) [
+      | inl before ↦
+          settled_grows (placed_rules agent lines) old new stayed stays grow (are agent before)
+      | inr same ↦ subst (λ a. IsSettled (placed_rules a lines) new stays) same is
+    ]
+
+pub settled_first : (lines : List LineValue) (agents : List (List ℕ)) (first : List ℕ) (old new : Reasons)
+    (stayed stays : BTreeSet ℕ) → IsSettled (placed_rules first lines) old stayed → Grow old new stayed stays
+    → AreSettled lines agents new stays → AreSettled lines (first ∷ agents) new stays
+settled_first lines agents first old new stayed stays is grow are agent (zero, below, same) =
+    subst (λ a. IsSettled (placed_rules a lines) new stays) same
+    (settled_grows (placed_rules first lines) old new stayed stays grow is)
+settled_first lines agents first old new stayed stays is grow are agent (suc k, below, at) =
+    are agent (k, omega arith, at)
+
+pub no_one_settled : (lines : List LineValue) (found : Reasons) (stays : BTreeSet ℕ) → AreSettled lines [] found stays
+no_one_settled lines found stays agent (k, below, at) = absurd (omega arith)
+
+-- ---- all of them
+
+numbers_are : (entries : List (ℕ × Reason)) → numbers_of (map rule_at entries) ≡ map (λ (e : ℕ × Reason). e.0) entries
+numbers_are [] = refl
+numbers_are (e ∷ entries) = ap (λ ns. e.0 ∷ ns) (numbers_are entries)
+
+module _ (found : Reasons) (stays : BTreeSet ℕ) (list : List NeedlessRule) (are : list ≡ map rule_at found.entries)
+    (free : AreFree list stays) (rules : List PlacedRule) (is : IsSettled rules found stays) (placed : PlacedRule) where
+  named_line : HasLine found placed.line → list_any (λ number. number == placed.line) (numbers_of list) ≡ true
+  named_line has =
+      let key = (btree_map_contains_key_iff nat_cmp_total exact_unsigned found placed.line).0 has in
+      named_in placed.line (numbers_of list)
+      (rw are (subst (λ ns. Contains ns placed.line) (sym (numbers_are found.entries)) key))
+
+  to_left : Contains (without (numbers_of list) rules) placed → Contains is.left placed
+  to_left has =
+      let (listed, passes) = in_filter _ rules placed has in
+      elim (Contains-append_cases is.left is.removed placed
+      (Contains-permutation rules (is.left ++ is.removed) placed is.same listed)) [
+        | inl left ↦ left
+        | inr removed ↦ absurd (false≢true (rw (named_line (is.go placed removed)) at passes))
+      ]
+
+  not_named : Contains is.left placed → list_any (λ number. number == placed.line) (numbers_of list) ≡ true
+      → ⊥
+  not_named left some =
+      let number = in_named placed.line (numbers_of list) some in
+      let (one, listed, at) = of_map (λ (o : NeedlessRule). o.line) list placed.line number in
+      let none = All-contains (λ (o : NeedlessRule). contains nat_cmp stays o.line ≡ false) list one free listed in
+      let none_here : contains nat_cmp stays placed.line ≡ false =
+      subst (λ n. contains nat_cmp stays n ≡ false) at none in
+      false≢true (sym none_here ∙ is.stay placed left)
+
+  of_left : Contains is.left placed → Contains (without (numbers_of list) rules) placed
+  of_left left =
+      let listed = Contains-permutation (is.left ++ is.removed) rules placed
+      (IsPermutation-sym rules (is.left ++ is.removed) is.same)
+      (Contains-append_left is.left is.removed placed left) in
+      to_filter _ rules placed listed
+      (elim (cases_Bool (list_any (λ number. number == placed.line) (numbers_of list))) [
+        | inr none ↦ rw none refl
+        | inl some ↦ absurd (not_named left some)
+      ])
+
+pub settled_needless : (found : Reasons) (stays : BTreeSet ℕ) (list : List NeedlessRule)
+    → list ≡ map rule_at found.entries → AreFree list stays → (rules : List PlacedRule) → IsSettled rules found stays
+    → AreNeedless rules (numbers_of list)
+settled_needless found stays list are free rules is text answer =
+    let rest = without (numbers_of list) rules in
+    let to = to_left found stays list are free rules is in
+    let of = of_left found stays list are free rules is in
+    let same : IsDenied (unplaced is.left) text ↔ IsDenied (unplaced rest) text = (
+      denied_same is.left rest text (λ placed. (of placed, to placed)),
+      denied_same rest is.left text (λ placed. (to placed, of placed)),
+    ) in
+    verdicts (unplaced rules) (unplaced rest) text (both_ways (is.denied text) same) answer
+
+pub reasons_listed : (found : Reasons) → IsOrdered nat_cmp found → (list : List NeedlessRule)
+    → list ≡ map rule_at found.entries → (lines : List LineValue) → AreReasons lines found
+    → All (IsFoundFor lines) list
+reasons_listed found ordered list are lines reasons =
+    rw are (All-map (IsFoundFor lines) rule_at found.entries
+    (λ k d less. reasons _ _ (All-found nat_cmp_total found ordered k d less)))
+
+-- ---- all lines of a file
+
+is_key : (found : Reasons) (list : List NeedlessRule) → list ≡ map rule_at found.entries → (n : ℕ)
+    → list_any (λ number. number == n) (numbers_of list) ≡ is_found found n
+is_key found list are n =
+    let (to, from) = btree_map_contains_key_iff nat_cmp_total exact_unsigned found n in
+    let same : numbers_of list ≡ keys found = rw are (numbers_are found.entries) in
+    elim (cases_Bool (is_found found n)) [
+      | inl has ↦ rw has (named_in n (numbers_of list) (rw same (to has)))
+      | inr hasnt ↦ elim (cases_Bool (list_any (λ number. number == n) (numbers_of list))) [
+        | inr none ↦ none ∙ sym hasnt
+        | inl some ↦
+            let has = from (rw same at (in_named n (numbers_of list) some)) in
+            absurd (false≢true (sym hasnt ∙ has))
+      ]
+    ]
+
+pub are_found : (lines : List LineValue) (found : Reasons) (stays : BTreeSet ℕ) (list : List NeedlessRule)
+    → list ≡ map rule_at found.entries → AreFree list stays
+    → AreSettled lines (codes "*" ∷ agents_in lines) found stays → All (IsFoundFor lines) list
+    → KeepBlocks found lines → AreFound lines list
+are_found lines found stays list are free settled reasons keep = record {
+  together = λ agent has.
+      settled_needless found stays list are free (placed_rules agent lines) (settled agent has);
+  deleted = deleted (numbers_of list) lines
+      (same_test (λ n. list_any (λ number. number == n) (numbers_of list)) (is_found found)
+      (is_key found list are) no_line 0 lines ∙ keep);
+  reasons = reasons;
+}
+
+all_left : (rules : List PlacedRule) → without [] rules ≡ rules
+all_left [] = refl
+all_left (rule ∷ rules) = ap (λ rs. rule ∷ rs) (all_left rules)
+
+all_lines : (position : ℕ) (lines : List LineValue)
+    → map (λ (p : ℕ × LineValue). p.1) (filter (λ (p : ℕ × LineValue). true) (enumerate_from position lines)) ≡ lines
+all_lines position [] = refl
+all_lines position (line ∷ lines) = ap (λ ls. line ∷ ls) (all_lines (position + 1) lines)
+
+pub nothing_found : (lines : List LineValue) (list : List NeedlessRule) → list ≡ [] → AreFound lines list
+nothing_found lines list none = rw none (record {
+  together = λ agent has text answer.
+      rw (all_left (placed_rules agent lines)) (λ is. is, λ is. is);
+  deleted = λ agent. rw (all_left (placed_rules agent lines)) (ap (λ ls. rules_for agent ls) (all_lines 0 lines));
+  reasons = All-nil (IsFoundFor lines);
+})

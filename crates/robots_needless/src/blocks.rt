@@ -1,0 +1,96 @@
+//! Whether each block of a file keeps a group line. A block is the group lines below a run of user-agent lines: without
+//! all of them, these user-agent lines would join the next run.
+ghost use Rattle.std.specs.Prelude.{◌≡◌, IsTrue};
+ghost use Rattle.texting_robots.specs.Callers.{by_value, file_lines};
+ghost use Rattle.robots_needless.specs.Blocks.{KeepBlocks, block_after, with_line};
+
+use crate::needless::{Numbers, Reason};
+use std::alloc::AllocError;
+use std::collections::BTreeMap;
+use texting_robots::parser::{Line, file_lines};
+
+/// The group lines since the last user-agent line.
+#[derive(Clone, Copy)]
+struct Block {
+    /// Whether some of them are removed, and none stays.
+    is_lost: bool,
+    /// Whether one of them stays.
+    has_line: bool,
+}
+
+/// No group lines.
+const NO_LINE: Block = Block {
+    is_lost: false,
+    has_line: false,
+};
+
+/// The block with one more group line.
+fn with_line(block: Block, is_gone: bool) -> Block
+    ensures { result ≡ with_line block is_gone }
+{
+    if is_gone {
+        return Block {
+            is_lost: !block.has_line,
+            has_line: block.has_line,
+        };
+    }
+    Block {
+        is_lost: false,
+        has_line: true,
+    }
+}
+
+/// The block after one more line. `None` if a line is removed that isn't a group line, or if all group lines above a
+/// user-agent line are.
+fn block_after(block: Block, is_gone: bool, line: Line<'_>) -> Option<Block>
+    ensures { result ≡ block_after block is_gone (by_value line.entry) }
+{
+    match line {
+        Line::Allow(_) | Line::Disallow(_) | Line::CrawlDelay(_) => Some(with_line(block, is_gone)),
+        Line::UserAgent(_) if is_gone || block.is_lost => None,
+        Line::UserAgent(_) => Some(NO_LINE),
+        Line::Sitemap(_) | Line::Raw(_) if is_gone => None,
+        Line::Sitemap(_) | Line::Raw(_) => Some(block),
+    }
+}
+
+/// Whether each block keeps a group line if these lines are removed, and they are all group lines.
+pub(crate) fn keep_blocks(text: &[u8], found: &BTreeMap<usize, Reason>) -> bool
+    ensures { IsTrue result → KeepBlocks found.now (file_lines text.now) }
+{
+    let mut block = NO_LINE;
+    for (index, line) in file_lines(text).enumerate() {
+        match block_after(block, found.contains_key(&(index + 1)), line) {
+            Some(next) => block = next,
+            None => return false,
+        }
+    }
+    !block.is_lost
+}
+
+/// Inserts a line of each block that would lose all its group lines.
+pub(crate) fn add_lost(
+    text: &[u8],
+    found: &BTreeMap<usize, Reason>,
+    stays: &mut Numbers,
+) -> Result<(), AllocError> {
+    let mut block = NO_LINE;
+    let mut last = 0;
+    for (index, line) in file_lines(text).enumerate() {
+        let is_gone = found.contains_key(&(index + 1));
+        match block_after(block, is_gone, line) {
+            Some(next) => block = next,
+            None => {
+                stays.insert(last)?;
+                block = NO_LINE;
+            }
+        }
+        if is_gone {
+            last = index + 1;
+        }
+    }
+    if block.is_lost {
+        stays.insert(last)?;
+    }
+    Ok(())
+}

@@ -1,0 +1,194 @@
+//! Which lines of a file have rules that are needless for every crawler.
+ghost use Rattle.std.specs.Prelude.{◌≡◌, ◌∷◌, All, IfOk, IsTrue, List, OnOk, codes, map};
+ghost use Rattle.texting_robots.specs.Callers.{LineValue, agents_in, file_lines, placed_rules};
+ghost use Rattle.robots_needless.specs.Blocks.{KeepBlocks};
+ghost use Rattle.robots_needless.specs.Internal.{AddsFound, AddsLines, AddsNumber, AreFree, AreReasons, AreSettled, Grow, IsSettled, rule_at};
+ghost use Rattle.robots_needless.specs.Needless.{AreFound, IsFoundFor};
+
+use crate::blocks::{add_lost, keep_blocks};
+use crate::needless::{Budget, NeedlessRule, Numbers, Reason, settle};
+use crate::rule::{Rule, rules_for};
+use std::alloc::{AllocError, Global};
+use std::collections::{BTreeMap, BTreeSet};
+use texting_robots::{Error, Site};
+
+/// How many times the check begins anew, without the rules that turned out to be needed by another crawler.
+const ROUNDS: usize = 8;
+
+/// What was found for some crawlers.
+#[derive(Drop)]
+struct Findings {
+    /// The lines of rules that are needless for at least one of them, each with the reason.
+    found: BTreeMap<usize, Reason>,
+    /// The lines of rules that are needed by at least one of them.
+    stays: Numbers,
+}
+
+/// Inserts the number.
+fn add_number(numbers: &mut Numbers, number: usize) -> Result<(), AllocError>
+    ensures { OnOk result (AddsNumber numbers.old numbers.new number) }
+{
+    numbers.insert(number)?;
+    Ok(())
+}
+
+/// Inserts the lines of these rules.
+fn add_lines(numbers: &mut Numbers, rules: &[Rule]) -> Result<(), AllocError>
+    ensures { OnOk result (AddsLines numbers.old numbers.new rules.now) }
+{
+    for rule in rules {
+        add_number(numbers, rule.line())?;
+    }
+    Ok(())
+}
+
+/// Inserts these needless rules.
+fn add_found(found: &mut BTreeMap<usize, Reason>, rules: &[NeedlessRule]) -> Result<(), AllocError>
+    ensures { OnOk result (AddsFound found.old found.new rules.now) }
+{
+    for rule in rules {
+        found.insert(rule.line, rule.reason)?;
+    }
+    Ok(())
+}
+
+/// Adds what is found for one more crawler.
+fn add_crawler(
+    alloc: Global,
+    site: &Site,
+    agent: &str,
+    budget: &mut Budget,
+    findings: &mut Findings,
+) -> Result<(), Error>
+    ensures grow { OnOk result (Grow findings.old.found findings.new.found findings.old.stays findings.new.stays) }
+    ensures settled { OnOk result (IsSettled (placed_rules agent.now (file_lines site.now))
+        findings.new.found findings.new.stays) }
+    ensures reasons { OnOk result (AreReasons (file_lines site.now) findings.old.found
+        → AreReasons (file_lines site.now) findings.new.found) }
+{
+    let rules = rules_for(alloc, site, agent)?;
+    let settled = settle(alloc, budget, rules, &findings.stays)?;
+    add_found(&mut findings.found, &settled.found)?;
+    add_lines(&mut findings.stays, &settled.kept)?;
+    Ok(())
+}
+
+/// Adds what is found for these crawlers.
+fn add_crawlers(
+    alloc: Global,
+    site: &Site,
+    agents: &[&str],
+    budget: &mut Budget,
+    findings: &mut Findings,
+) -> Result<(), Error>
+    ensures grow { OnOk result (Grow findings.old.found findings.new.found findings.old.stays findings.new.stays) }
+    ensures settled { OnOk result (AreSettled (file_lines site.now) (map (λ agent. agent.now) agents.now)
+        findings.new.found findings.new.stays) }
+    ensures reasons { OnOk result (AreReasons (file_lines site.now) findings.old.found
+        → AreReasons (file_lines site.now) findings.new.found) }
+{
+    for agent in agents {
+        add_crawler(alloc, site, agent, budget, findings)?;
+    }
+    Ok(())
+}
+
+/// What is found for `*` and each crawler that the file names. The rules in the lines that stay are needed.
+fn findings_for(
+    alloc: Global,
+    site: &Site,
+    budget: &mut Budget,
+    stays: Numbers,
+) -> Result<Findings, Error>
+    ensures settled { IfOk result (λ findings. AreSettled (file_lines site.now)
+        (codes "*" ∷ agents_in (file_lines site.now)) findings.found findings.stays) }
+    ensures reasons { IfOk result (λ findings. AreReasons (file_lines site.now) findings.found) }
+{
+    let agents = site.agents(alloc)?;
+    let found = BTreeMap::new(alloc);
+    let mut findings = Findings { found, stays };
+    add_crawler(alloc, site, "*", budget, &mut findings)?;
+    add_crawlers(alloc, site, &agents, budget, &mut findings)?;
+    Ok(findings)
+}
+
+/// The needless rules in order.
+fn listed(alloc: Global, found: &BTreeMap<usize, Reason>) -> Result<Vec<NeedlessRule>, AllocError>
+    ensures items { IfOk result (λ list. list.items ≡ map rule_at found.now.entries) }
+    ensures reasons { IfOk result (λ list. (lines : List LineValue) → AreReasons lines found.now
+        → All (IsFoundFor lines) list.items) }
+{
+    let mut list = Vec::new(alloc);
+    for (line, reason) in found.iter() {
+        list.push(NeedlessRule {
+            line: *line,
+            reason: *reason,
+        })?;
+    }
+    Ok(list)
+}
+
+/// No rules.
+fn nothing(alloc: Global) -> Vec<NeedlessRule>
+    ensures { (lines : List LineValue) → AreFound lines result.items }
+{
+    Vec::new(alloc)
+}
+
+/// Whether none of the rules is in one of these lines.
+fn are_free(rules: &[NeedlessRule], stays: &Numbers) -> bool
+    ensures { IsTrue result → AreFree rules.now stays.now }
+{
+    for rule in rules {
+        if stays.contains(&rule.line) {
+            return false;
+        }
+    }
+    true
+}
+
+/// Whether the rules can be removed: none is in a line that stays, and each block keeps a group line.
+fn can_be_removed(rules: &[NeedlessRule], findings: &Findings, text: &[u8]) -> bool
+    ensures free { IsTrue result → AreFree rules.now findings.now.stays }
+    ensures keep { IsTrue result → KeepBlocks findings.now.found (file_lines text.now) }
+{
+    if !are_free(rules, &findings.stays) {
+        return false;
+    }
+    keep_blocks(text, &findings.found)
+}
+
+/// The needless rules of all crawlers, in order, or none if the check doesn't settle.
+fn settled_lines(alloc: Global, site: &Site) -> Result<Vec<NeedlessRule>, Error>
+    ensures { IfOk result (λ found. AreFound (file_lines site.now) found.items) }
+{
+    let mut budget = Budget::whole();
+    let mut stays = BTreeSet::new(alloc);
+    for _ in 0..ROUNDS {
+        let findings = findings_for(alloc, site, &mut budget, stays)?;
+        let found = listed(alloc, &findings.found)?;
+        if can_be_removed(&found, &findings, site.text()) {
+            return Ok(found);
+        }
+        stays = findings.stays;
+        add_lost(site.text(), &findings.found, &mut stays)?;
+    }
+    Ok(nothing(alloc))
+}
+
+/// The lines of rules that can be removed together without changing a verdict of any crawler, in order. There may be
+/// more: a rule is found only if one other rule covers it, and a bounded number of bytes is compared. None is found if
+/// a rule is too long, so that the file is rejected for a crawler.
+///
+/// # Errors
+///
+/// `AllocError` if an allocation fails.
+pub fn needless_lines(alloc: Global, site: &Site) -> Result<Vec<NeedlessRule>, AllocError>
+    ensures { IfOk result (λ found. AreFound (file_lines site.now) found.items) }
+{
+    match settled_lines(alloc, site) {
+        Ok(found) => Ok(found),
+        Err(Error::InvalidRule) => Ok(nothing(alloc)),
+        Err(Error::Memory | Error::InvalidRobots) => Err(AllocError),
+    }
+}
