@@ -10,5 +10,7 @@ pub mod HeadLemmas
 pub mod ReasonLemmas
 pub mod StepLemmas
 pub mod BlockLemmas
+pub mod PrefixLemmas
+pub mod PlainLemmas
 pub mod SettledLemmas
 pub mod ExampleLemmas

@@ -77,7 +77,7 @@ members rules others same placed = (
   Contains-permutation others rules placed (IsPermutation-sym rules others same),
 )
 
-denied_permuted : (rules others : List PlacedRule) → IsPermutation rules others → (text : List ℕ)
+pub denied_permuted : (rules others : List PlacedRule) → IsPermutation rules others → (text : List ℕ)
     → IsDenied (unplaced rules) text ↔ IsDenied (unplaced others) text
 denied_permuted rules others same text = (
   denied_same rules others text (members rules others same),

@@ -77,6 +77,10 @@ pub record StandsIn (floor : ℕ) (other rule : Rule) : Type 0 where
   pub kind : other.1 ≡ rule.1
   pub above : floor ≤ rank_of other
 
+-- all of these rules are among the others
+abbrev pub AreAmong : List PlacedRule → List PlacedRule → Type 0
+AreAmong some others = (placed : PlacedRule) → Contains some placed → Contains others placed
+
 -- ---- several crawlers
 
 -- the set has the number

@@ -1,9 +1,10 @@
 //! Theorems about the specification. Each is the contract of an empty function.
-ghost use Rattle.std.specs.Prelude.{◌≢◌, ◌++◌, ℕ, All, IsPermutation, List};
-ghost use Rattle.texting_robots.specs.Callers.{Matches, PlacedRule};
+ghost use Rattle.std.specs.Prelude.{◌≡◌, ◌≢◌, ◌↔◌, ◌∷◌, ◌++◌, ℕ, All, Bool, Contains, IsPermutation, List, codes, false};
+ghost use Rattle.texting_robots.specs.Callers.{IsVerdict, LineValue, Matches, PlacedRule, agents_in, is_named, placed_rules, rules_for};
+ghost use Rattle.robots_needless.specs.declared.needless.NeedlessRule.{NeedlessRule};
 ghost use Rattle.robots_needless.specs.Examples as example;
 ghost use Rattle.robots_needless.specs.Internal.{CanGoInTurn, fresh, generic};
-ghost use Rattle.robots_needless.specs.Needless.{AreDistinct, AreNeedless, Covers, lines_of};
+ghost use Rattle.robots_needless.specs.Needless.{AreDistinct, AreFound, AreNeedless, Covers, lines_of, lines_without, numbers_of};
 
 /// A pattern covers another one if it matches the other one's generic text, provided that it doesn't contain the fresh
 /// byte; and only then, if the other one matches any text. So one match decides whether one rule covers another.
@@ -18,6 +19,20 @@ pub fn one_match_decides_covering()
 pub fn rules_go_in_turn()
     ensures { (rules kept removed : List PlacedRule) → AreDistinct rules → IsPermutation rules (kept ++ removed)
         → CanGoInTurn kept removed → AreNeedless rules (lines_of removed) }
+{}
+
+/// Deleting the lines of the found rules from a file changes no verdict of `*` or of a crawler that the file names.
+pub fn deleting_changes_no_verdict()
+    ensures { (lines : List LineValue) (found : List NeedlessRule) → AreFound lines found → (agent : List ℕ)
+        → Contains (codes "*" ∷ agents_in lines) agent → (text : List ℕ) (answer : Bool)
+        → IsVerdict (rules_for agent lines) text answer
+        ↔ IsVerdict (rules_for agent (lines_without (numbers_of found) lines)) text answer }
+{}
+
+/// A crawler that no user-agent line names has the rules of `*`, so they don't change for it either.
+pub fn others_have_the_rules_of_star()
+    ensures { (agent : List ℕ) (lines : List LineValue) → is_named agent lines ≡ false
+        → placed_rules agent lines ≡ placed_rules (codes "*") lines }
 {}
 
 /// Worked examples. `specs/Examples.antt` shows by them what the specification means.

@@ -6,6 +6,8 @@ mod generic;
 pub mod laws;
 pub mod lines;
 pub mod needless;
+mod plain;
+mod prefixes;
 mod rule;
 #[cfg(test)]
 mod tests;

@@ -6,7 +6,8 @@ ghost use Rattle.robots_needless.specs.Internal.{AddsFound, AddsLines, AddsNumbe
 ghost use Rattle.robots_needless.specs.Needless.{AreFound, IsFoundFor};
 
 use crate::blocks::{add_lost, keep_blocks};
-use crate::needless::{Budget, NeedlessRule, Numbers, Reason, settle};
+use crate::needless::{Budget, NeedlessRule, Numbers, Reason};
+use crate::plain::settle;
 use crate::rule::{Rule, rules_for};
 use std::alloc::{AllocError, Global};
 use std::collections::{BTreeMap, BTreeSet};

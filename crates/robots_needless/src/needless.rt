@@ -1,7 +1,7 @@
 //! Which rules of a crawler are needless.
-ghost use Rattle.std.specs.Prelude.{◌≡◌, ◌≤◌, ◌++◌, All, Contains, IfOk, IfSome, IsPermutation, IsTrue};
+ghost use Rattle.std.specs.Prelude.{◌≡◌, ◌≤◌, ◌++◌, All, Contains, IfOk, IfSome, IsPermutation, IsTrue, List};
 ghost use Rattle.texting_robots.specs.Callers.{PlacedRule, unplaced};
-ghost use Rattle.robots_needless.specs.Internal.{CanGo, HasNoRival, IsNone, IsReducedTo, StandsIn};
+ghost use Rattle.robots_needless.specs.Internal.{AreAmong, CanGo, HasNoRival, IsNone, IsReducedTo, StandsIn};
 ghost use Rattle.robots_needless.specs.Needless.{IsFound, IsReason, Overrules, numbers_of};
 
 use crate::rule::Rule;
@@ -50,7 +50,7 @@ impl Budget {
     }
 
     /// Whether so many bytes may still be compared. They are subtracted, and so is one more for the call.
-    fn spend(&mut self, bytes: usize) -> bool {
+    pub(crate) fn spend(&mut self, bytes: usize) -> bool {
         if bytes >= self.left {
             return false;
         }
@@ -78,7 +78,7 @@ fn floor_above(budget: &mut Budget, other: &Rule, rule: &Rule, floor: usize) -> 
 }
 
 /// A rank, not below the floor, from which on the rule has no rivals among the others.
-fn rival_floor(budget: &mut Budget, others: &[Rule], rule: &Rule, floor: usize) -> usize
+pub(crate) fn rival_floor(budget: &mut Budget, others: &[Rule], rule: &Rule, floor: usize) -> usize
     ensures most { floor ≤ result }
     ensures none { HasNoRival (unplaced others.now) result rule.now.rule }
 {
@@ -119,7 +119,7 @@ fn stands_in(budget: &mut Budget, other: &Rule, rule: &Rule, floor: usize) -> bo
 }
 
 /// The line of the first of the others that overrules the rule.
-fn overruling_line(budget: &mut Budget, others: &[Rule], rule: &Rule) -> Option<usize>
+pub(crate) fn overruling_line(budget: &mut Budget, others: &[Rule], rule: &Rule) -> Option<usize>
     ensures { IfSome result (λ line. (other : PlacedRule) × Contains others.now other × (other.line ≡ line)
         × Overrules other.rule rule.now.rule) }
 {
@@ -144,35 +144,64 @@ fn covering_line(budget: &mut Budget, others: &[Rule], rule: &Rule, floor: usize
     None
 }
 
+/// Why the rule can go, if one of these rules overrules it or stands in for it, or if it is an Allow without rivals. From
+/// the floor on it must have no rivals.
+pub(crate) fn reason_among(
+    budget: &mut Budget,
+    one: &[Rule],
+    two: &[Rule],
+    rule: &Rule,
+    floor: usize,
+) -> Option<Reason>
+    ensures go { IfSome result (λ _. (others : List PlacedRule) → AreAmong one.now others → AreAmong two.now others
+        → HasNoRival (unplaced others) floor rule.now.rule → CanGo (unplaced others) rule.now.rule) }
+    ensures reason { IfSome result (λ reason. (others : List PlacedRule) → AreAmong one.now others
+        → AreAmong two.now others → IsReason others rule.now reason) }
+{
+    if let Some(line) = overruling_line(budget, one, rule) {
+        return Some(Reason::Overruled(line));
+    }
+    if let Some(line) = overruling_line(budget, two, rule) {
+        return Some(Reason::Overruled(line));
+    }
+    if rule.is_allow() && floor == 0 {
+        return Some(Reason::AllowedAnyway);
+    }
+    if let Some(line) = covering_line(budget, one, rule, floor) {
+        return Some(Reason::Covered(line));
+    }
+    if let Some(line) = covering_line(budget, two, rule, floor) {
+        return Some(Reason::Covered(line));
+    }
+    None
+}
+
+/// Whether the rule is in none of the lines that stay, and isn't `Allow: /` or an empty Disallow, which are meant as they
+/// are.
+pub(crate) fn may_go(stays: &Numbers, rule: &Rule) -> bool {
+    !stays.contains(&rule.line()) && !rule.allows_all()
+}
+
 /// Why the rule can go, if it can: the others have the same verdicts without it.
-fn reason_to_go(budget: &mut Budget, kept: &[Rule], rest: &[Rule], rule: &Rule) -> Option<Reason>
+fn reason_to_go(
+    budget: &mut Budget,
+    stays: &Numbers,
+    kept: &[Rule],
+    rest: &[Rule],
+    rule: &Rule,
+) -> Option<Reason>
     ensures go { IfSome result (λ _. CanGo (unplaced (kept.now ++ rest.now)) rule.now.rule) }
     ensures reason { IfSome result (λ reason. IsReason (kept.now ++ rest.now) rule.now reason) }
 {
-    if !budget.spend(kept.len().saturating_add(rest.len())) {
+    if !may_go(stays, rule) || !budget.spend(kept.len().saturating_add(rest.len())) {
         return None;
     }
     if rule.matches_nothing() {
         return Some(Reason::NoMatch);
     }
-    if let Some(line) = overruling_line(budget, kept, rule) {
-        return Some(Reason::Overruled(line));
-    }
-    if let Some(line) = overruling_line(budget, rest, rule) {
-        return Some(Reason::Overruled(line));
-    }
     let kept_floor = rival_floor(budget, kept, rule, 0);
     let floor = rival_floor(budget, rest, rule, kept_floor);
-    if rule.is_allow() && floor == 0 {
-        return Some(Reason::AllowedAnyway);
-    }
-    if let Some(line) = covering_line(budget, kept, rule, floor) {
-        return Some(Reason::Covered(line));
-    }
-    if let Some(line) = covering_line(budget, rest, rule, floor) {
-        return Some(Reason::Covered(line));
-    }
-    None
+    reason_among(budget, kept, rest, rule, floor)
 }
 
 /// The rules by rank, the highest first, and in file order if ranks are equal. The order decides only how many needless
@@ -185,24 +214,6 @@ fn by_rank(rules: Vec<Rule>) -> Result<Vec<Rule>, AllocError>
     Ok(sorted)
 }
 
-/// Why the rule can go, if it can, isn't in one of the lines that stay, and isn't `Allow: /` or an empty Disallow, which
-/// are meant as they are.
-fn reason_unless_it_stays(
-    budget: &mut Budget,
-    stays: &Numbers,
-    kept: &[Rule],
-    rest: &[Rule],
-    rule: &Rule,
-) -> Option<Reason>
-    ensures go { IfSome result (λ _. CanGo (unplaced (kept.now ++ rest.now)) rule.now.rule) }
-    ensures reason { IfSome result (λ reason. IsReason (kept.now ++ rest.now) rule.now reason) }
-{
-    if stays.contains(&rule.line()) || rule.allows_all() {
-        return None;
-    }
-    reason_to_go(budget, kept, rest, rule)
-}
-
 /// A crawler's rules: those that are needless, and the others.
 #[derive(Drop)]
 pub(crate) struct Settled {
@@ -210,23 +221,26 @@ pub(crate) struct Settled {
     pub(crate) kept: Vec<Rule>,
 }
 
-/// The rules that can go one after the other, by ascending rank, without those in the lines that stay. There may be
-/// more: a rule is found only if one other rule covers it, and the budget bounds how many bytes are compared.
-pub(crate) fn settle(
-    alloc: Global,
+/// Of a crawler's rules without those that are settled, those that can go one after the other, by ascending rank, without
+/// those in the lines that stay.
+pub(crate) fn settle_by_rank(
     budget: &mut Budget,
+    settled: Settled,
     rules: Vec<Rule>,
     stays: &Numbers,
 ) -> Result<Settled, AllocError>
-    ensures together { IfOk result (λ settled. IsReducedTo rules.items settled.kept.items
-        (numbers_of settled.found.items)) }
-    ensures reasons { IfOk result (λ settled. All (IsFound rules.items) settled.found.items) }
+    ensures together { IfOk result (λ after. (all : List PlacedRule)
+        → IsReducedTo all (settled.kept.items ++ rules.items) (numbers_of settled.found.items)
+        → IsReducedTo all after.kept.items (numbers_of after.found.items)) }
+    ensures reasons { IfOk result (λ after. (all : List PlacedRule)
+        → IsReducedTo all (settled.kept.items ++ rules.items) (numbers_of settled.found.items)
+        → All (IsFound all) settled.found.items → All (IsFound all) after.found.items) }
 {
     let mut rest = by_rank(rules)?;
-    let mut kept = Vec::new(alloc);
-    let mut found = Vec::new(alloc);
+    let mut kept = settled.kept;
+    let mut found = settled.found;
     while let Some(rule) = rest.pop() {
-        match reason_unless_it_stays(budget, stays, &kept, &rest, &rule) {
+        match reason_to_go(budget, stays, &kept, &rest, &rule) {
             Some(reason) => found.push(NeedlessRule {
                 line: rule.line(),
                 reason,

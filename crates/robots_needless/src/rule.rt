@@ -8,8 +8,10 @@ ghost use Rattle.texting_robots.specs.Internal.Entries.{rank};
 ghost use Rattle.texting_robots.specs.Internal.Group.{placed};
 ghost use Rattle.texting_robots.specs.Internal.Site.{rule_of, tag_of};
 ghost use Rattle.robots_needless.specs.Needless.{AreApart, Covers, MatchesNothing, rank_of};
+ghost use Rattle.robots_needless.specs.Prefixes.{IsPlain};
 
 use crate::generic::{generic_text, heads_differ};
+use crate::prefixes::is_plain;
 use std::alloc::{AllocError, Global};
 use std::marker::Model;
 use texting_robots::minregex::MinRegex;
@@ -20,6 +22,7 @@ use texting_robots::{Error, push_escaped_bytes};
 /// A rule with the generic text of its pattern.
 #[derive(Drop)]
 pub(crate) struct Rule {
+    pattern: String,
     regex: MinRegex,
     generic_text: String,
     is_allow: bool,
@@ -38,7 +41,7 @@ impl Model for Rule {
     ghost view = { λ r. record { rule = (r.regex, r.is_allow); line = r.line } };
 
     ghost invariant = { λ r. (string_bytes r.generic_text ≡ generic r.regex) × (r.rank ≡ rank_of (r.regex, r.is_allow))
-        × All (λ b. b < fresh) r.regex };
+        × All (λ b. b < fresh) r.regex × (string_bytes r.pattern ≡ r.regex) };
 }
 
 impl Rule {
@@ -61,6 +64,20 @@ impl Rule {
         ensures { result ≡ self.now.line }
     {
         self.line
+    }
+
+    /// The pattern, which is escaped.
+    pub(crate) fn pattern(&self) -> &[u8]
+        ensures { result.now ≡ self.now.rule.0 }
+    {
+        self.pattern.as_bytes()
+    }
+
+    /// Whether the pattern has no star and no dollar.
+    pub(crate) fn is_plain(&self) -> bool
+        ensures { IsTrue result → IsPlain self.now }
+    {
+        is_plain(self.pattern())
     }
 
     /// How many bytes of it are compared with another rule.
@@ -141,6 +158,7 @@ fn rule_with(
     let generic_text = generic_text(alloc, pattern.as_bytes())?;
     match MinRegex::new(alloc, pattern.as_str()) {
         Ok(regex) => Ok(Some(Rule {
+            pattern,
             regex,
             generic_text,
             is_allow,

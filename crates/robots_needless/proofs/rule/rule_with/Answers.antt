@@ -18,6 +18,7 @@ invariant_of-result c =
       c.in_ok-generic_text.ensures ∙ ap generic (c.as_bytes.ensures.value ∙ sym is),
       c.rank_of_pattern-rank.ensures ∙ ap (λ n. rank n c.args.is_allow) len,
       rw (is ∙ c.in_ok-pattern.ensures) (escaped_below c.args.value.now),
+      sym is,
     )
 
 pub returns-in-Ok-clause-rule : goal.returns-in-Ok-clause-rule
@@ -25,8 +26,8 @@ returns-in-Ok-clause-rule c =
     placed_some c.args.value.now _ c.args.is_allow c.args.line (sym c.is_utf8.ensures ∙ c.if-not-is_utf8.false)
     (c.in-Ok.ensures.ok ∙ c.as_str.ensures.value ∙ c.in_ok-pattern.ensures)
 
-pub returns-clause-rejected : goal.returns-clause-rejected
-returns-clause-rejected c =
+pub returns-in-Err-clause-rejected : goal.returns-in-Err-clause-rejected
+returns-in-Err-clause-rejected c =
     let utf8 = sym c.is_utf8.ensures ∙ c.if-not-is_utf8.false in
     rejected_wider _ _ _
     (overlong_some c.args.value.now _ c.args.is_allow c.args.line utf8
