@@ -1,6 +1,6 @@
 -- The worked examples.
-use Rattle.std.proofs.Common.{◌≡◌, ◌≢◌, ◌<◌, inl, inr, ℕ, zero, suc, true, false, List, [], ◌∷◌, ◌++◌, All, codes}
-use Rattle.std.proofs.Common.{IsPermutation, get_or, refl, arith}
+use Rattle.std.proofs.Common.{◌≡◌, ◌≢◌, ◌<◌, inl, inr, ℕ, zero, suc, true, false, List, [], ◌∷◌, All, codes}
+use Rattle.std.proofs.Common.{get_or, refl, arith}
 use Rattle.std.proofs.lemmas.Bool.{false≢true}
 use Rattle.std.proofs.lemmas.List.Elements.{All-cons, All-nil}
 use Rattle.std.proofs.lemmas.List.Sorted.{IsPermutation-append_comm, IsPermutation-refl}
@@ -10,8 +10,8 @@ use Rattle.texting_robots.proofs.ExampleLemmas.{matching, not_matching}
 use Rattle.texting_robots.proofs.VerdictLemmas.{one_verdict}
 use Rattle.robots_needless.specs.Examples as example
 use Rattle.robots_needless.specs.Examples.{allow_at, deny_at, twice}
-use Rattle.robots_needless.specs.Internal.{CanGo, HeadsDiffer, fresh, generic}
-use Rattle.robots_needless.specs.Needless.{AreDistinct, AreNeedless}
+use Rattle.robots_needless.specs.Internal.{CanGo, fresh, generic}
+use Rattle.robots_needless.specs.Needless.{AreDistinct}
 use Rattle.robots_needless.proofs.GenericLemmas.{covers_by_generic}
 use Rattle.robots_needless.proofs.{HeadLemmas.heads_apart, TogetherLemmas.needless_in_turn}
 

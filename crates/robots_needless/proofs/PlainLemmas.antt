@@ -1,5 +1,5 @@
 -- Plain rules that go one after the other, by descending order of their list.
-use Rattle.std.proofs.Common.{◌≡◌, ◌≤◌, ◌-◌, inl, inr, ℕ, ◌+◌, Option, None, Some, List, [], ◌∷◌, ◌++◌, All, IsPermutation, ap, sym, subst, refl}
+use Rattle.std.proofs.Common.{◌≡◌, ◌≤◌, ◌-◌, inl, inr, ℕ, Option, None, Some, List, [], ◌∷◌, ◌++◌, All, IsPermutation, ap, sym, subst, refl}
 use Rattle.std.proofs.Common.{append_assoc, arith, length, reverse}
 use Rattle.std.specs.HashMap.{Updates}
 use Rattle.std.specs.{List.Contains, Option.IfSome, Prelude.nat_eq}

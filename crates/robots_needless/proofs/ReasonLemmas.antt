@@ -2,7 +2,7 @@
 use Rattle.std.proofs.Common.{◌≡◌, ◌≤◌, ◌⊎◌, inl, inr, Option, Some, None, false, ℕ, zero, suc, Bool, true, List, [], ◌∷◌, ◌++◌}
 use Rattle.std.proofs.Common.{subst, refl, arith}
 use Rattle.std.specs.List.{Contains}
-use Rattle.std.proofs.lemmas.List.Elements.{Contains-append_cases, Contains-append_left, Contains-append_right}
+use Rattle.std.proofs.lemmas.List.Elements.{Contains-append_cases}
 use Rattle.texting_robots.specs.Line.{LineValue}
 use Rattle.texting_robots.specs.Rules.{PlacedRule, Rule, unplaced}
 use Rattle.std.specs.Option.{IsSomeAnd}
@@ -12,7 +12,7 @@ use Rattle.texting_robots.specs.{Escape.escaped, Internal.Group.placed}
 use Rattle.texting_robots.specs.Executable.{placed_rules, rule_with}
 use Rattle.texting_robots.proofs.{BestLemmas.placed_of, HeldLemmas.computed_are}
 use Rattle.robots_needless.specs.Internal.{CanGo, HasNoRival, IsNone, StandsIn}
-use Rattle.robots_needless.specs.Needless.{AreDistinct, Overrules, rank_of}
+use Rattle.robots_needless.specs.Needless.{AreDistinct, Overrules}
 use Rattle.robots_needless.proofs.TogetherLemmas.{unplaced_of}
 
 -- a rule of two lists is one of the first or of the second
