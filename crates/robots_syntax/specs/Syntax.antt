@@ -32,11 +32,11 @@ warnings_of agents urls file =
 abbrev pub IsSilentOn : (agents urls : List (List ℕ)) → List ℕ → Type 0
 IsSilentOn agents urls file = Each IsAboutMeaning (warnings_of agents urls file)
 
--- what is read of the file follows the extended grammar
+-- the first 512,000 bytes of the file, which are those that are read, follow the extended grammar
 abbrev pub HasSyntax : List ℕ → Type 0
 HasSyntax file = (groups : List rfc.Group) × rfc.IsFile groups (take file_limit file)
 
--- what is read of the file follows the extended grammar, and the robot has the rules, the delay and the
+-- these bytes follow the extended grammar, and the robot has the rules, the delay and the
 -- sitemaps that the file states for the crawler
 abbrev pub IsRobotStated : List ℕ → List ℕ → RobotValue → Type 0
 IsRobotStated agent file robot =

@@ -15,7 +15,9 @@ pub fn quiet_lines_have_forms()
         → HasForm (form_of line) body }
 {}
 
-/// What the silence of an audit of all groups means, used by owners who want each crawler to read the same:
+/// What the silence of an audit of all groups means, used by owners who want a file with one meaning by the standard,
+/// and by `robots_audit`, whose reports say that a file has RFC 9309 syntax. All warnings count, whichever a report
+/// leaves out. A file with a warning about its syntax may follow the grammar too.
 ///
 /// - `syntax`: without a warning about the syntax of a file, what crawlers read of it follows the extended grammar.
 /// - `none`: so it does if there is no warning at all.
