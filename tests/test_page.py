@@ -220,6 +220,13 @@ def test_at_most_100_warnings_are_listed():
     assert len(texts(elements, "tr", **{"class": "warning"})) == 104
 
 
+def test_line_past_the_size_limit_is_no_link():
+    """It has no row."""
+    elements = Reader(page("A", file=b"#".ljust(511_999, b"x") + b"\nUser-agent: a")).elements
+    assert [text.split(":")[0] for text in texts(elements, "li")] == ["Warning", "line 2"]
+    assert texts(elements, "tr", id="L1") and not texts(elements, "tr", id="L2") and not texts(elements, "a")
+
+
 def test_table_of_lines_has_bodies_of_500_lines():
     elements = Reader(page("FerrisBot", file=b"User-agent: *\n" + b"x\n" * 1000)).elements
     bodies = []

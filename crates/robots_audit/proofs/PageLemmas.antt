@@ -27,7 +27,7 @@ use Rattle.robots_audit.proofs.HtmlLemmas.{IsPart, document_printable, printable
 use Rattle.robots_audit.specs.Page.{agent_columns, agent_content, agent_entries, agent_names, agent_row}
 use Rattle.robots_audit.specs.Page.{agent_table, charset, code, column, crawler_entries, deciding_line}
 use Rattle.robots_audit.specs.Page.{delay_name, file_caption, file_content, file_table, group_note}
-use Rattle.robots_audit.specs.Page.{group_part, is_at, line_columns, line_link, line_names}
+use Rattle.robots_audit.specs.Page.{group_part, is_at, line_columns, line_link, line_name, line_names}
 use Rattle.robots_audit.specs.Page.{bodies, level_name, line_body, line_part, line_row, listed_warnings, meta, number_cell, page}
 use Rattle.robots_audit.specs.Page.{page_body}
 use Rattle.robots_audit.specs.Page.{page_content, page_head, page_style, rejection, rest_note}
@@ -237,15 +237,25 @@ agent_table_is urls agents =
 
 -- ---- warnings and lines
 
-warning_place_is : (line : Option ℕ) → IsPart (warning_place line)
-unfolding warning_place
-warning_place_is None = none
-warning_place_is (Some number) =
-    followed (line_link number) (text (codes ": ")) (line_link_is number) (ascii (codes ": ") refl)
+line_name_is : (rows number : ℕ) → IsPart (line_name rows number)
+unfolding line_name
+line_name_is rows number = elim (cases_Bool (nat_lt rows number)) [
+  | inl past ↦
+      rw past
+      (append_printable true (codes "line ") (decimal number) (ascii_printable true (codes "line ") refl)
+      (decimal_printable true number))
+  | inr within ↦ rw within (line_link_is number)
+]
 
-warning_item_is : (warning : WarningValue) → IsPart (warning_item warning)
+warning_place_is : (rows : ℕ) (line : Option ℕ) → IsPart (warning_place rows line)
+unfolding warning_place
+warning_place_is rows None = none
+warning_place_is rows (Some number) =
+    followed (line_name rows number) (text (codes ": ")) (line_name_is rows number) (ascii (codes ": ") refl)
+
+warning_item_is : (rows : ℕ) (warning : WarningValue) → IsPart (warning_item rows warning)
 unfolding warning_item
-warning_item_is warning =
+warning_item_is rows warning =
     search (rules, plain, followed, warning_place_is, words_printable)
 
 rest_note_is : (count : ℕ) → IsPart (rest_note count)
@@ -255,22 +265,22 @@ rest_note_is count = elim (cases_Bool (nat_lt listed_warnings count)) [
   | inr all ↦ rw all none
 ]
 
-warning_list_is : (warnings : List WarningValue) → IsPart (warning_list warnings)
+warning_list_is : (rows : ℕ) (warnings : List WarningValue) → IsPart (warning_list rows warnings)
 unfolding warning_list
-warning_list_is warnings =
+warning_list_is rows warnings =
     search (
       rules,
       plain,
       after_text,
       followed,
       decimal_printable true,
-      each_part warning_item warning_item_is,
+      each_part (warning_item rows) (warning_item_is rows),
       rest_note_is,
     )
 
-warning_entry_is : (warnings : List WarningValue) → IsPart (warning_entry warnings)
+warning_entry_is : (rows : ℕ) (warnings : List WarningValue) → IsPart (warning_entry rows warnings)
 unfolding warning_entry
-warning_entry_is warnings =
+warning_entry_is rows warnings =
     search (rules, plain, followed, simple_is, warning_list_is)
 
 sitemap_item_is : (value : List ℕ) → IsPart (sitemap_item value)

@@ -163,14 +163,19 @@ abbrev pub warning_words : WarningValue → List ℕ
 warning_words warning =
     level_name (level_of warning.cause) ++ (warning_text warning ++ name_text warning.cause)
 
-unfoldable pub warning_place : Option ℕ → Html
-warning_place None = text []
-warning_place (Some number) = line_link number ⊕ text (codes ": ")
+-- the name of a line: a link, if it has one of the `rows` of the table of lines, as those that are read have
+unfoldable pub line_name : (rows number : ℕ) → Html
+line_name rows number =
+    if nat_lt rows number then text (codes "line " ++ decimal number) else line_link number
 
--- a warning in the list at the top, with a link to its line
-unfoldable pub warning_item : WarningValue → Html
-warning_item warning =
-    tag (codes "li") [] (warning_place warning.line ⊕ text (warning_words warning))
+unfoldable pub warning_place : (rows : ℕ) → Option ℕ → Html
+warning_place rows None = text []
+warning_place rows (Some number) = line_name rows number ⊕ text (codes ": ")
+
+-- a warning in the list at the top, with the name of its line
+unfoldable pub warning_item : (rows : ℕ) → WarningValue → Html
+warning_item rows warning =
+    tag (codes "li") [] (warning_place rows warning.line ⊕ text (warning_words warning))
 
 -- how many warnings are listed at the top
 abbrev pub listed_warnings : ℕ
@@ -185,13 +190,15 @@ rest_note count =
     if nat_lt listed_warnings count then simple (codes "p") (rest_words count) else text []
 
 -- the number of warnings, and the list
-unfoldable pub warning_list : List WarningValue → Html
-warning_list warnings =
+unfoldable pub warning_list : (rows : ℕ) → List WarningValue → Html
+warning_list rows warnings =
     text (decimal (length warnings))
-    ⊕ tag (codes "ul") [] (each warning_item (take listed_warnings warnings)) ⊕ rest_note (length warnings)
+    ⊕ tag (codes "ul") [] (each (warning_item rows) (take listed_warnings warnings))
+    ⊕ rest_note (length warnings)
 
-unfoldable pub warning_entry : List WarningValue → Html
-warning_entry warnings = simple (codes "dt") WARNING_TERM.now ⊕ tag (codes "dd") [] (warning_list warnings)
+unfoldable pub warning_entry : (rows : ℕ) → List WarningValue → Html
+warning_entry rows warnings =
+    simple (codes "dt") WARNING_TERM.now ⊕ tag (codes "dd") [] (warning_list rows warnings)
 
 -- ---- the file
 
@@ -325,7 +332,7 @@ unfoldable pub summary : Option (List ℕ) → AuditValue → Html
 summary agent audit =
     tag (codes "dl") []
     (crawler_entries agent audit.agents ⊕ sitemap_entry audit.labels ⊕ syntax_entry audit.syntax
-    ⊕ warning_entry audit.warnings)
+    ⊕ warning_entry (length audit.labels) audit.warnings)
 
 -- the verdicts, as a table of URLs, or of crawlers and URLs
 unfoldable pub verdict_part : Option (List ℕ) → List (List ℕ) → List AgentValue → Html

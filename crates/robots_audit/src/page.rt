@@ -1,7 +1,8 @@
 //! The audit as an HTML page.
 #![tactic(auto, using(robots_html::proofs::WritingLemmas::joined))]
 
-ghost use Rattle.std.specs.Prelude.{◌≡◌, ◌++◌, IfOk, OnOk, option_map, string_bytes};
+ghost use Rattle.std.specs.Prelude.{◌≡◌, ◌++◌, IfOk, OnOk, length, map, option_map, string_bytes};
+ghost use Rattle.texting_robots.specs.Callers.{label_by_value};
 ghost use Rattle.robots_html.specs.Html.{document, written};
 ghost use Rattle.robots_audit.specs.Answer.{requested_by};
 ghost use Rattle.robots_audit.specs.Internal.{audit_value};
@@ -27,6 +28,7 @@ use robots_html::write::{
 use robots_io::sanitize::push_sanitized;
 use std::alloc::{AllocError, Global};
 use style::{CSS, HTTP_EQUIV, POLICY, POLICY_NAME, VIEWPORT, VIEWPORT_NAME};
+use texting_robots::labels::LabeledLine;
 use verdicts::{push_crawler_entries, push_verdict_part};
 use warnings::push_warning_entry;
 
@@ -106,6 +108,13 @@ fn push_syntax_entry(out: &mut Vec<u8>, syntax: Syntax) -> Result<(), AllocError
     push_simple(out, "dd", syntax.sentence())
 }
 
+/// How many rows the table of lines has.
+fn row_count(labels: &[LabeledLine<'_>]) -> usize
+    ensures { result ≡ length (map label_by_value labels.now) }
+{
+    labels.len()
+}
+
 /// Appends the summary at the top.
 #[tactic(auto, using(robots_html::proofs::WritingLemmas::joined), unfolding(crate::specs::Page::summary))]
 fn push_summary(
@@ -121,7 +130,7 @@ fn push_summary(
     push_crawler_entries(alloc, out, agent, &audit.agents)?;
     push_sitemap_entry(alloc, out, &audit.labels)?;
     push_syntax_entry(out, audit.syntax)?;
-    push_warning_entry(alloc, out, &audit.warnings)?;
+    push_warning_entry(alloc, out, row_count(&audit.labels), &audit.warnings)?;
     push_end(out, "dl")
 }
 

@@ -28,6 +28,7 @@ dl { margin: 0; display: grid; grid-template-columns: max-content minmax(0, 1fr)
 dt { color: var(--dim) }
 dd, p { margin: 0 }
 ul { margin: 0; padding-left: 1.1rem }
+ul:empty { padding: 0 }
 ul:empty::before { content: 'none' }
 li + li { margin-top: .25rem }
 
@@ -98,7 +99,7 @@ tr:target { background: var(--hit) }
 
 /// The policy of a page, which permits its own style only, by the SHA-256 hash that a test computes again.
 pub(crate) const POLICY: &str = "default-src 'none'; \
-    style-src 'sha256-yWDRr7+0KdMqVwQhspI0N73385cRt4AM6/83OiKodho='; \
+    style-src 'sha256-yN+WmBgc/jHSLuGfzx19HAWifLwj+6ta5WHKSD/06xY='; \
     base-uri 'none'; form-action 'none'";
 
 pub(crate) const HTTP_EQUIV: &str = "http-equiv";

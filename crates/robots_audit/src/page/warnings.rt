@@ -4,7 +4,7 @@
 ghost use Rattle.std.specs.Prelude.{◌≡◌, ◌<◌, ◌++◌, IfOk, None, OnOk, map, string_bytes, take};
 ghost use Rattle.robots_html.specs.Html.{each, written};
 ghost use Rattle.robots_warnings.specs.Internal.{warning_value};
-ghost use Rattle.robots_audit.specs.Page.{level_name, listed_warnings, rest_note, rest_words, warning_entry};
+ghost use Rattle.robots_audit.specs.Page.{level_name, line_name, listed_warnings, rest_note, rest_words, warning_entry};
 ghost use Rattle.robots_audit.specs.Page.{warning_item, warning_list, warning_place, warning_row};
 ghost use Rattle.robots_audit.specs.Page.{warning_words};
 
@@ -51,19 +51,37 @@ fn listed<'a, 'b>(warnings: &'b [Warning<'a>]) -> &'b [Warning<'a>]
     }
 }
 
-/// Appends a link to the line of a warning, if it is about one.
+/// Appends the name of a line, with a link to its row, if the table of lines has it among its `rows`.
+#[tactic(auto, using(robots_html::proofs::WritingLemmas::joined), unfolding(crate::specs::Page::line_name))]
+fn push_line_name(
+    alloc: Global,
+    out: &mut Vec<u8>,
+    rows: usize,
+    number: usize,
+) -> Result<(), AllocError>
+    ensures { OnOk result (out.new.items ≡ out.old.items ++ written (line_name rows number)) }
+{
+    if number <= rows {
+        return push_line_link(alloc, out, number);
+    }
+    let name = numbered(alloc, "line ", number)?;
+    push_text(out, name.as_bytes())
+}
+
+/// Appends the line of a warning, if it is about one.
 #[tactic(auto, using(robots_html::proofs::WritingLemmas::joined), unfolding(crate::specs::Page::warning_place))]
 fn push_warning_place(
     alloc: Global,
     out: &mut Vec<u8>,
+    rows: usize,
     line: Option<usize>,
 ) -> Result<(), AllocError>
-    ensures { OnOk result (out.new.items ≡ out.old.items ++ written (warning_place line)) }
+    ensures { OnOk result (out.new.items ≡ out.old.items ++ written (warning_place rows line)) }
 {
     let Some(number) = line else {
         return Ok(());
     };
-    push_line_link(alloc, out, number)?;
+    push_line_name(alloc, out, rows, number)?;
     push_text(out, b": ")
 }
 
@@ -72,14 +90,15 @@ fn push_warning_place(
 fn push_warning_item(
     alloc: Global,
     out: &mut Vec<u8>,
+    rows: usize,
     warning: &Warning<'_>,
 ) -> Result<(), AllocError>
     ensures { OnOk result (out.new.items ≡ out.old.items
-        ++ written (warning_item (warning_value warning.now))) }
+        ++ written (warning_item rows (warning_value warning.now))) }
 {
     let words = warning_words(alloc, warning)?;
     push_start(out, "li")?;
-    push_warning_place(alloc, out, warning.line)?;
+    push_warning_place(alloc, out, rows, warning.line)?;
     push_text(out, words.as_bytes())?;
     push_end(out, "li")
 }
@@ -88,13 +107,14 @@ fn push_warning_item(
 fn push_warning_items(
     alloc: Global,
     out: &mut Vec<u8>,
+    rows: usize,
     warnings: &[Warning<'_>],
 ) -> Result<(), AllocError>
     ensures { OnOk result (out.new.items ≡ out.old.items
-        ++ written (each warning_item (map warning_value warnings.now))) }
+        ++ written (each (warning_item rows) (map warning_value warnings.now))) }
 {
     for warning in warnings {
-        push_warning_item(alloc, out, warning)?;
+        push_warning_item(alloc, out, rows, warning)?;
     }
     Ok(())
 }
@@ -103,12 +123,13 @@ fn push_warning_items(
 fn push_listed_items(
     alloc: Global,
     out: &mut Vec<u8>,
+    rows: usize,
     warnings: &[Warning<'_>],
 ) -> Result<(), AllocError>
     ensures { OnOk result (out.new.items ≡ out.old.items
-        ++ written (each warning_item (take listed_warnings (map warning_value warnings.now)))) }
+        ++ written (each (warning_item rows) (take listed_warnings (map warning_value warnings.now)))) }
 {
-    push_warning_items(alloc, out, listed(warnings))
+    push_warning_items(alloc, out, rows, listed(warnings))
 }
 
 /// The number of the warnings that aren't listed at the top.
@@ -138,15 +159,16 @@ fn push_rest_note(alloc: Global, out: &mut Vec<u8>, count: usize) -> Result<(), 
 fn push_warning_list(
     alloc: Global,
     out: &mut Vec<u8>,
+    rows: usize,
     warnings: &[Warning<'_>],
 ) -> Result<(), AllocError>
     ensures { OnOk result (out.new.items ≡ out.old.items
-        ++ written (warning_list (map warning_value warnings.now))) }
+        ++ written (warning_list rows (map warning_value warnings.now))) }
 {
     let count = numbered(alloc, "", warnings.len())?;
     push_text(out, count.as_bytes())?;
     push_start(out, "ul")?;
-    push_listed_items(alloc, out, warnings)?;
+    push_listed_items(alloc, out, rows, warnings)?;
     push_end(out, "ul")?;
     push_rest_note(alloc, out, warnings.len())
 }
@@ -156,14 +178,15 @@ fn push_warning_list(
 pub(crate) fn push_warning_entry(
     alloc: Global,
     out: &mut Vec<u8>,
+    rows: usize,
     warnings: &[Warning<'_>],
 ) -> Result<(), AllocError>
     ensures { OnOk result (out.new.items ≡ out.old.items
-        ++ written (warning_entry (map warning_value warnings.now))) }
+        ++ written (warning_entry rows (map warning_value warnings.now))) }
 {
     push_simple(out, "dt", WARNING_TERM)?;
     push_start(out, "dd")?;
-    push_warning_list(alloc, out, warnings)?;
+    push_warning_list(alloc, out, rows, warnings)?;
     push_end(out, "dd")
 }
 

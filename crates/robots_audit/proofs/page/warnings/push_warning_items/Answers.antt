@@ -7,4 +7,4 @@ use Rattle.robots_audit.proofs.page.warnings.push_warning_items.Goals as goal
 
 pub returns : goal.returns
 returns c =
-    rw (written-each warning_item (map warning_value c.args.warnings.now)) (grind (arith, common_steps))
+    rw (written-each (warning_item c.args.rows) (map warning_value c.args.warnings.now)) (grind (arith, common_steps))

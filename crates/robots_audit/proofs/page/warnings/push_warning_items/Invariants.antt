@@ -7,4 +7,4 @@ use Rattle.robots_audit.proofs.page.warnings.push_warning_items.Given as goal
 abbrev pub invariant-loop-warning : goal.invariant-loop-warning
 invariant-loop-warning l =
     l.out.items ≡ l.fn.out.items
-    ++ flat_map (λ x. written (warning_item x)) (map warning_value (take l.warning-index l.warnings))
+    ++ flat_map (λ x. written (warning_item l.rows x)) (map warning_value (take l.warning-index l.warnings))
