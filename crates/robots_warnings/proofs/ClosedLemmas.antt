@@ -1,17 +1,18 @@
 -- Rules for a whole site: their values and their patterns.
 use Rattle.std.proofs.Common.{◌≡◌, ℕ, ◌==◌, ◌&&◌, Bool, false, true, List, [], ◌∷◌, ap}
 use Rattle.std.proofs.Common.{arith, inl, inr, length, not, refl, subst, suc, sym, ◌∙◌}
-use Rattle.std.proofs.lemmas.Bool.{cases_Bool, eqb-true}
+use Rattle.std.proofs.lemmas.Bool.{cases_Bool, eqb-true, or_parts}
 use Rattle.std.proofs.lemmas.Bool.Decides.{nat_tests}
-use Rattle.std.specs.List.{list_all}
+use Rattle.std.specs.List.{list_all, list_any}
 use Rattle.std.specs.Option.{option_map_or}
 use Rattle.std.specs.Str.{byte, is_utf8}
-use Rattle.texting_robots.specs.Callers.{Allow, Disallow, escaped}
+use Rattle.texting_robots.specs.Callers.{Allow, Disallow, PlacedRule, escaped}
 use Rattle.texting_robots.specs.Escape.{is_escaped}
 use Rattle.texting_robots.specs.Executable.{rule_in}
 use Rattle.texting_robots.specs.Internal.Group.{placed}
-use Rattle.robots_warnings.specs.Closed.{is_closing, is_opening, is_whole_site}
+use Rattle.robots_warnings.specs.Closed.{is_closing, is_closing_at, is_opening, is_whole_site}
 use Rattle.robots_warnings.specs.Replaced.{is_partial}
+use Rattle.robots_warnings.specs.Internal.Closed.{is_shut}
 
 abbrev only_stars : List ℕ → Bool
 only_stars text = list_all (λ c. c == byte "*") text
@@ -90,3 +91,22 @@ partial_value number value = elim (cases_Bool (is_utf8 value)) [
   | inl is ↦ rw is (ap not (whole_site_escaped value) ∙ sym (and_true (not (is_whole_site value))))
   | inr isnt ↦ rw isnt (sym (and_false (not (is_whole_site value))))
 ]
+
+-- ---- no closing rule
+
+without_closing : (rules : List PlacedRule) (number : ℕ) → list_any is_closing rules ≡ false
+    → list_any (is_closing_at number) rules ≡ false
+without_closing [] number none = refl
+without_closing (rule ∷ rules) number none =
+    let parts = or_parts (is_closing rule) (list_any is_closing rules) none in
+    rw parts.0 (without_closing rules number parts.1)
+
+-- if no rule leaves nothing to a crawler, none at a line does
+pub none_closed : (rules : List PlacedRule) (number : ℕ) → is_shut rules ≡ false
+    → (not (list_any is_opening rules) && list_any (is_closing_at number) rules) ≡ false
+none_closed rules number isnt = by (list_any is_opening rules) isnt
+  where
+    by : (opened : Bool) → (not opened && list_any is_closing rules) ≡ false
+        → (not opened && list_any (is_closing_at number) rules) ≡ false
+    by true isnt = refl
+    by false isnt = without_closing rules number isnt

@@ -1,6 +1,6 @@
 -- Groups that have none of the Disallow rules of `*`.
 use Rattle.std.proofs.Common.{◌≡◌, ℕ, ◌+◌, ◌<◌, ◌||◌, ◌++◌, Option, Bool, true, false, List, [], ◌∷◌, Some}
-use Rattle.std.proofs.Common.{None, ap, drop}
+use Rattle.std.proofs.Common.{◌&&◌, None, ap, codes, drop, not}
 use Rattle.std.proofs.Common.{String, bytes_eq, if◌then◌else◌, length, map, refl, slice_index_or}
 use Rattle.std.proofs.Common.{append_assoc, string_bytes, sym}
 use Rattle.std.proofs.Common.{◌∙◌}
@@ -13,15 +13,22 @@ use Rattle.std.specs.String.{string_eq}
 use Rattle.std.proofs.lemmas.List.{drop_more}
 use Rattle.std.proofs.lemmas.Map.Text.{hash_set_updates_text}
 use Rattle.texting_robots.specs.declared.labels.LabeledLine.{LabeledLine}
-use Rattle.texting_robots.specs.Callers.{Disallow, PlacedRule, by_value, escaped, label_by_value}
+use Rattle.texting_robots.specs.Callers.{Allow, CrawlDelay, Disallow, Label, LineValue, PlacedRule, Raw}
+use Rattle.texting_robots.specs.Callers.{Sitemap, UserAgent, by_value, escaped, label_by_value}
 use Rattle.texting_robots.specs.Executable.{rule_in}
-use Rattle.texting_robots.specs.Group.{is_group}
+use Rattle.texting_robots.specs.Group.{is_agent, is_group}
 use Rattle.texting_robots.specs.Internal.Group.{placed}
 use Rattle.robots_warnings.specs.File.{lines_of}
 use Rattle.robots_warnings.specs.Internal.Conflicts.{Patterns}
 use Rattle.robots_warnings.specs.Internal.Replaced.{AddsDenied, HasDenied, disallow_lines, is_kept_in}
-use Rattle.robots_warnings.specs.Replaced.{disallow_in, is_kept}
+use Rattle.robots_warnings.specs.Internal.Replaced.{is_other_name}
+use Rattle.robots_warnings.specs.declared.positions.Preceding.{Preceding}
+use Rattle.robots_warnings.specs.declared.positions.Preceding.TheVariants.{Agent, Delay, Other}
+use Rattle.robots_warnings.specs.Positions.{preceding_with}
+use Rattle.robots_warnings.specs.Replaced.{disallow_in, is_first_name, is_kept, is_partial, is_replacing}
+use Rattle.robots_warnings.specs.Replaced.{replacing, replacing_from, star_rules}
 use Rattle.robots_warnings.proofs.NameLemmas.{either}
+use Rattle.robots_warnings.proofs.SpellingLemmas.{and_false, neither}
 
 -- inserting the pattern of a Disallow makes the set that `AddsDenied` describes
 pub denied_added : {S : Type 0} (old new : Patterns S) (key : String Global) (number : ℕ) (value : List ℕ)
@@ -74,3 +81,60 @@ lines_more given rules old new all added was =
     let left = filter_map disallow_in rules in
     ap (λ (t : List ℕ). t ++ left) added ∙ append_assoc old (disallow_lines given) left
     ∙ ap (λ (t : List ℕ). old ++ t) (sym (one_more given rules)) ∙ was
+
+-- ---- files without other names
+
+-- whether there is another name from index `at` on, in terms of the line there
+pub others_from : (labels : List LabeledLine) (at : ℕ) (labeled : LabeledLine) → at < length labels
+    → list_any is_other_name (lines_of (map label_by_value (drop at labels)))
+    ≡ (is_other_name (by_value (slice_index_or labels at labeled).line)
+    || list_any is_other_name (lines_of (map label_by_value (drop (at + 1) labels))))
+others_from labels at labeled below = rw (drop_more labels at labeled below) refl
+
+not_first : (preceding : Preceding) (line : LineValue) → is_agent line ≡ false
+    → is_first_name preceding line ≡ false
+not_first Agent line isnt = refl
+not_first Delay line isnt = isnt
+not_first Other line isnt = isnt
+
+not_all : (first group kept : Bool) → first ≡ false → ((first && group) && kept) ≡ false
+not_all first group kept isnt = rw isnt refl
+
+so_true : (is : Bool) → not is ≡ false → is ≡ true
+so_true true isnt = refl
+so_true false isnt = cc
+
+no_name : (agents : List (List ℕ)) (lines : List LineValue) (preceding : Preceding) (line : LineValue)
+    (below : List LineValue) → is_other_name line ≡ false
+    → is_replacing agents lines preceding line (line ∷ below) ≡ false
+no_name agents lines preceding (UserAgent value) below isnt =
+    and_false _ _ (and_false _ _ (rw (so_true (bytes_eq value (codes "*")) isnt) refl))
+no_name agents lines preceding (Allow value) below isnt =
+    not_all _ _ _ (not_first preceding (Allow value) refl)
+no_name agents lines preceding (Disallow value) below isnt =
+    not_all _ _ _ (not_first preceding (Disallow value) refl)
+no_name agents lines preceding (CrawlDelay delay) below isnt =
+    not_all _ _ _ (not_first preceding (CrawlDelay delay) refl)
+no_name agents lines preceding (Sitemap value) below isnt =
+    not_all _ _ _ (not_first preceding (Sitemap value) refl)
+no_name agents lines preceding (Raw body) below isnt =
+    not_all _ _ _ (not_first preceding (Raw body) refl)
+
+none_replacing : (agents : List (List ℕ)) (lines : List LineValue) (preceding : Preceding)
+    (labels : List Label) → list_any is_other_name (lines_of labels) ≡ false
+    → replacing_from agents lines preceding labels ≡ []
+none_replacing agents lines preceding [] none = refl
+none_replacing agents lines preceding (label ∷ labels) none =
+    let (here, later) = neither _ _ none in
+    rw (no_name agents lines preceding label.line (lines_of labels) here)
+    (none_replacing agents lines (preceding_with preceding label.line) labels later)
+
+either_way : (some : Bool) (numbers : List ℕ) → numbers ≡ [] → (if some then numbers else []) ≡ []
+either_way true numbers none = none
+either_way false numbers none = refl
+
+-- without other names there are no such groups
+pub no_others : (agents : List (List ℕ)) (lines : List LineValue) (labels : List Label)
+    → list_any is_other_name (lines_of labels) ≡ false → replacing agents lines labels ≡ []
+no_others agents lines labels none =
+    either_way (list_any is_partial (star_rules lines)) _ (none_replacing agents lines Other labels none)

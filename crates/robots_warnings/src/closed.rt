@@ -1,13 +1,14 @@
 //! Rules that leave nothing but `/robots.txt` to a crawler.
 ghost use Rattle.std.specs.Prelude.{◌≡◌, ◌==◌, ◌||◌, ℕ, IfOk, OnOk, false, map, string_bytes};
 ghost use Rattle.std.specs.BTreeSet.{contains};
-ghost use Rattle.std.specs.List.{list_all, list_any};
+ghost use Rattle.std.specs.List.{list_all};
 ghost use Rattle.std.specs.Option.{option_map_or};
 ghost use Rattle.std.specs.Ordering.{nat_cmp};
 ghost use Rattle.std.specs.Str.{byte};
 ghost use Rattle.texting_robots.specs.Callers.{file_lines, placed_rules};
 ghost use Rattle.texting_robots.specs.Internal.Site.{rule_of, tag_of};
 ghost use Rattle.robots_warnings.specs.Closed.{is_closed, is_closed_for, is_closing, is_opening, is_whole_site};
+ghost use Rattle.robots_warnings.specs.Internal.Closed.{is_shut};
 
 use crate::conflicts::{Numbers, add_number};
 use crate::rules::is_utf8;
@@ -55,16 +56,18 @@ fn is_opening(line: &GroupLine<'_>) -> bool
     }
 }
 
-/// Whether a line that applies to the crawler has such an Allow.
-fn is_opened(site: &Site, agent: &str) -> bool
-    ensures { result ≡ list_any is_opening (placed_rules agent.now (file_lines site.now)) }
+/// Whether a line that applies to the crawler has a Disallow of the whole site, and none has such an Allow.
+fn is_shut(site: &Site, agent: &str) -> bool
+    ensures { result ≡ is_shut (placed_rules agent.now (file_lines site.now)) }
 {
+    let mut is = false;
     for line in site.own_lines(agent) {
         if is_opening(&line) {
-            return true;
+            return false;
         }
+        is |= is_closing(&line);
     }
-    false
+    is
 }
 
 /// Inserts the line numbers of the Disallows of the whole site that apply to the crawler, unless such an Allow does.
@@ -72,7 +75,7 @@ fn add_closed(numbers: &mut Numbers, site: &Site, agent: &str) -> Result<(), All
     ensures { OnOk result ((number : ℕ) → contains nat_cmp numbers.new number
         ≡ (contains nat_cmp numbers.old number || is_closed_for (file_lines site.now) number agent.now)) }
 {
-    if is_opened(site, agent) {
+    if !is_shut(site, agent) {
         return Ok(());
     }
     for line in site.own_lines(agent) {

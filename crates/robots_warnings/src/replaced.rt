@@ -7,7 +7,7 @@ ghost use Rattle.texting_robots.specs.Callers.{LineValue, by_value, file_lines, 
 ghost use Rattle.texting_robots.specs.Group.{is_group};
 ghost use Rattle.texting_robots.specs.Internal.Site.{rule_of, tag_of};
 ghost use Rattle.robots_warnings.specs.File.{lines_of};
-ghost use Rattle.robots_warnings.specs.Internal.Replaced.{AddsDenied, AddsLacking, HasDenied, HasThose, disallow_lines, is_kept_in};
+ghost use Rattle.robots_warnings.specs.Internal.Replaced.{AddsDenied, AddsLacking, HasDenied, HasThose, disallow_lines, is_kept_in, is_other_name};
 ghost use Rattle.robots_warnings.specs.Positions.{begin_with_one};
 ghost use Rattle.robots_warnings.specs.Replaced.{is_first_name, is_lacking, is_partial, is_replacing, lacks_all, replacing};
 ghost use Rattle.robots_warnings.specs.Replaced.{star_count, star_rules};
@@ -222,6 +222,29 @@ fn is_replacing(
     Ok(begin_with_one(alloc, names, from_here)? && !name_star(from_here))
 }
 
+/// Whether the line is a user-agent line whose name isn't `*`.
+fn is_other_name(line: Line<'_>) -> bool
+    ensures { result ≡ is_other_name (by_value line.entry) }
+{
+    match line {
+        Line::UserAgent(value) => value != b"*".as_slice(),
+        _ => false,
+    }
+}
+
+/// Whether there is such a line.
+#[tactic(auto, using(crate::proofs::ReplacedLemmas::others_from))]
+fn has_other_names(labels: &[LabeledLine<'_>]) -> bool
+    ensures { result ≡ list_any is_other_name (lines_of (map label_by_value labels.now)) }
+{
+    for labeled in labels {
+        if is_other_name(labeled.line) {
+            return true;
+        }
+    }
+    false
+}
+
 /// The numbers of the first user-agent lines of groups that have none of the Disallow rules of `*` and are those of these
 /// crawlers, if `*` has a Disallow, but not of the whole site.
 pub(crate) fn replacing(
@@ -234,6 +257,10 @@ pub(crate) fn replacing(
         ≡ replacing (map string_bytes agents.now) (file_lines site.now) (map label_by_value labels.now)) }
 {
     let mut found = Vec::new(alloc);
+    // without such a name, the patterns aren't needed
+    if !has_other_names(labels) {
+        return Ok(found);
+    }
     if !has_partial(site) {
         return Ok(found);
     }

@@ -1,11 +1,11 @@
 -- The set of the patterns of the Disallows of `*`, and that of the names of crawlers that have none of these.
-use Rattle.std.specs.Prelude.{◌≡◌, ℕ, Bool, false, not, ◌||◌, ◌&&◌, List, [], Option, None, Some, bytes_eq}
+use Rattle.std.specs.Prelude.{◌≡◌, ℕ, Bool, false, not, ◌||◌, ◌&&◌, List, [], Option, None, Some, bytes_eq, codes}
 use Rattle.std.specs.BTreeSet.{BTreeSet, contains}
 use Rattle.std.specs.HashSet.{contains_text}
 use Rattle.std.specs.List.{cons_option, list_any}
 use Rattle.std.specs.Option.{option_map_or}
 use Rattle.std.specs.Str.{str_to_ascii_lowercase}
-use Rattle.texting_robots.specs.Callers.{LineValue, PlacedRule}
+use Rattle.texting_robots.specs.Callers.{LineValue, PlacedRule, UserAgent}
 use Rattle.robots_warnings.specs.Closed.{is_whole_site}
 use Rattle.robots_warnings.specs.Internal.Conflicts.{Patterns}
 use Rattle.robots_warnings.specs.Internal.Names.{Key, key_cmp}
@@ -43,3 +43,8 @@ pub record AddsLacking (lines : List LineValue) (old new : BTreeSet Key) (agent 
 abbrev pub disallow_lines : Option PlacedRule → List ℕ
 disallow_lines None = []
 disallow_lines (Some placed) = cons_option (disallow_in placed) []
+
+-- a user-agent line whose name isn't `*`
+abbrev pub is_other_name : LineValue → Bool
+is_other_name (UserAgent value) = not (bytes_eq value (codes "*"))
+is_other_name _ = false
