@@ -8,7 +8,7 @@ use Rattle.std.specs.HashSet.{Updates, contains_text}
 use Rattle.std.specs.Global.{Global}
 use Rattle.std.specs.List.{cons_option, filter_map, list_any}
 use Rattle.std.specs.Option.{option_map_or}
-use Rattle.std.specs.Str.{is_utf8}
+use Rattle.std.specs.Str.{is_utf8, str_to_ascii_lowercase}
 use Rattle.std.specs.String.{string_eq}
 use Rattle.std.proofs.lemmas.List.{drop_more}
 use Rattle.std.proofs.lemmas.Map.Text.{hash_set_updates_text}
@@ -24,9 +24,9 @@ use Rattle.robots_warnings.specs.Internal.Replaced.{AddsDenied, HasDenied, disal
 use Rattle.robots_warnings.specs.Internal.Replaced.{is_other_name}
 use Rattle.robots_warnings.specs.declared.positions.Preceding.{Preceding}
 use Rattle.robots_warnings.specs.declared.positions.Preceding.TheVariants.{Agent, Delay, Other}
-use Rattle.robots_warnings.specs.Positions.{preceding_with}
-use Rattle.robots_warnings.specs.Replaced.{disallow_in, is_first_name, is_kept, is_partial, is_replacing}
-use Rattle.robots_warnings.specs.Replaced.{replacing, replacing_from, star_rules}
+use Rattle.robots_warnings.specs.Positions.{begin_with_one, name_star, preceding_with}
+use Rattle.robots_warnings.specs.Replaced.{disallow_in, is_first_name, is_kept, is_lacking, is_partial}
+use Rattle.robots_warnings.specs.Replaced.{is_replacing, replacing, replacing_from, star_rules}
 use Rattle.robots_warnings.proofs.NameLemmas.{either}
 use Rattle.robots_warnings.proofs.SpellingLemmas.{and_false, neither}
 
@@ -108,7 +108,11 @@ no_name : (agents : List (List ℕ)) (lines : List LineValue) (preceding : Prece
     (below : List LineValue) → is_other_name line ≡ false
     → is_replacing agents lines preceding line (line ∷ below) ≡ false
 no_name agents lines preceding (UserAgent value) below isnt =
-    and_false _ _ (and_false _ _ (rw (so_true (bytes_eq value (codes "*")) isnt) refl))
+    let lines_left = UserAgent value ∷ below in
+    let named : name_star lines_left ≡ true = rw (so_true (bytes_eq value (codes "*")) isnt) refl in
+    and_false (is_first_name preceding (UserAgent value) && list_any is_group lines_left) _
+    (and_false (begin_with_one (λ name. is_lacking agents lines (str_to_ascii_lowercase name)) lines_left)
+    (not (name_star lines_left)) (ap not named))
 no_name agents lines preceding (Allow value) below isnt =
     not_all _ _ _ (not_first preceding (Allow value) refl)
 no_name agents lines preceding (Disallow value) below isnt =
