@@ -132,8 +132,8 @@ line_start_pieces out label =
 
 -- ---- warnings
 
--- the rows of warnings with the same cause are the same, if the warnings are about neither a URL nor a number of rules
-pub row_of_cause : (warning : Warning) → warning.about ≡ None → warning.count ≡ None
+-- the rows of warnings with the same cause are the same, if they are about no URL and have no number at their end
+pub row_of_cause : (warning : Warning) → warning.about ≡ None → warning.detail ≡ None
     → warning_row (of_cause warning.cause) ≡ warning_row (warning_value warning)
 unfolding warning_row
 row_of_cause warning is none = rw (is, none) refl

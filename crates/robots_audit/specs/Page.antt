@@ -240,9 +240,9 @@ warning_row warning =
     tag (codes "tr") (with (codes "class") (level_word (level_of warning.cause)))
     (tag (codes "td") (with (codes "colspan") (codes "4")) (text (warning_words warning)))
 
--- a warning with this cause, which is about neither a URL nor a number of rules
+-- a warning with this cause, which is about no URL and has no number at the end of its message
 abbrev pub of_cause : Cause → WarningValue
-of_cause cause = record { line = None; cause = cause; about = None; count = None }
+of_cause cause = record { line = None; cause = cause; about = None; detail = None }
 
 abbrev pub is_at : ℕ → Option ℕ → Bool
 is_at number None = false

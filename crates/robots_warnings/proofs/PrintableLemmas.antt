@@ -8,9 +8,11 @@ use Rattle.robots_warnings.specs.declared.examples.TheConstants.{EXAMPLES}
 use Rattle.robots_warnings.specs.Table.{example_of, name_of, number_of, text_of}
 use Rattle.robots_warnings.specs.declared.level.Level.{Level}
 use Rattle.robots_warnings.specs.declared.level.Level.TheVariants.{Error, Note, Warning}
+use Rattle.robots_warnings.specs.declared.warning.Detail.{Detail}
+use Rattle.robots_warnings.specs.declared.warning.Detail.TheVariants.{Line, Rules}
 use Rattle.robots_warnings.specs.Level.{level_word}
 use Rattle.robots_io.specs.Sanitize.{IsPrintable, is_printable_byte}
-use Rattle.robots_warnings.specs.Warnings.{about_text, count_text, name_text, place_text}
+use Rattle.robots_warnings.specs.Warnings.{about_text, detail_text, name_text, place_text}
 use Rattle.robots_warnings.specs.Warnings.{WarningValue, warning_text}
 use Rattle.robots_io.proofs.SanitizeLemmas.{append_printable, ascii_printable, decimal_printable}
 use Rattle.robots_io.proofs.SanitizeLemmas.{nil_printable}
@@ -52,16 +54,17 @@ about_printable : (about : Option (List ℕ)) → IsPrintable (about_text about)
 about_printable None = nil_printable true
 about_printable (Some url) = search (append_printable true, ascii_printable true, sanitized_printable)
 
-count_printable : (count : Option ℕ) → IsPrintable (count_text count)
-count_printable None = nil_printable true
-count_printable (Some count) = search (append_printable true, ascii_printable true, decimal_printable true)
+detail_printable : (detail : Option Detail) → IsPrintable (detail_text detail)
+detail_printable None = nil_printable true
+detail_printable (Some (Rules count)) = search (append_printable true, ascii_printable true, decimal_printable true)
+detail_printable (Some (Line number)) = search (append_printable true, ascii_printable true, decimal_printable true)
 
 pub text_printable : (warning : WarningValue) → IsPrintable (warning_text warning)
 text_printable warning =
     let text = text_of warning.cause in
-    let count = count_text warning.count in
-    append_printable true (about_text warning.about) (text ++ count) (about_printable warning.about)
-    (append_printable true text count (texts_printable warning.cause) (count_printable warning.count))
+    let detail = detail_text warning.detail in
+    append_printable true (about_text warning.about) (text ++ detail) (about_printable warning.about)
+    (append_printable true text detail (texts_printable warning.cause) (detail_printable warning.detail))
 
 pub place_printable : (file : List ℕ) (line : Option ℕ) → IsPrintable (place_text file line)
 place_printable file None = search (append_printable true, ascii_printable true, sanitized_printable)

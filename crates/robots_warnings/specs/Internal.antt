@@ -24,7 +24,7 @@ warning_value warning =
       line = warning.line;
       cause = warning.cause;
       about = option_map (λ url. url.now) warning.about;
-      count = warning.count;
+      detail = warning.detail;
     }
 
 -- these warnings are appended

@@ -10,6 +10,8 @@ use Rattle.robots_warnings.specs.declared.table.Cause.TheVariants.{AllowedAndDis
 use Rattle.robots_warnings.specs.declared.table.Cause.TheVariants.{ClosesEverything, NonstandardEscape}
 use Rattle.robots_warnings.specs.declared.table.Cause.TheVariants.{RepeatedRule}
 use Rattle.robots_warnings.specs.declared.table.Cause.TheVariants.{ReplacesStar}
+use Rattle.robots_warnings.specs.declared.warning.Detail.{Detail}
+use Rattle.robots_warnings.specs.declared.warning.Detail.TheVariants.{Line, Rules}
 use Rattle.robots_warnings.specs.Closed.{is_closed}
 use Rattle.robots_warnings.specs.Conflicts.{is_conflict}
 use Rattle.robots_warnings.specs.Google.{google_checks}
@@ -25,13 +27,13 @@ use Rattle.robots_warnings.specs.Spellings.{nonstandard_escapes}
 use Rattle.robots_io.specs.Sanitize.{sanitized}
 use Rattle.robots_warnings.specs.Table.{name_of, text_of}
 
--- a warning: the number of its line, if it is about one; the reason; the URL, if it is about one; and how
--- many rules its message is about, if it says so
+-- a warning: the number of its line, if it is about one; the reason; the URL, if it is about one; and the
+-- number that its message ends with, if it does
 pub record WarningValue : Type 0 where
   pub line : Option ℕ
   pub cause : Cause
   pub about : Option (List ℕ)
-  pub count : Option ℕ
+  pub detail : Option Detail
 
 -- ---- as text
 
@@ -48,14 +50,15 @@ about_text (Some url) = codes "URL '" ++ sanitized url ++ codes "': "
 abbrev pub name_text : Cause → List ℕ
 name_text cause = codes " [" ++ name_of cause ++ codes "]"
 
--- how many rules the message is about
-abbrev pub count_text : Option ℕ → List ℕ
-count_text None = []
-count_text (Some count) = codes " (" ++ decimal count ++ codes " in all)"
+-- how many rules the message is about, or the line of another rule that it is about
+abbrev pub detail_text : Option Detail → List ℕ
+detail_text None = []
+detail_text (Some (Rules count)) = codes " (" ++ (decimal count ++ codes " in all)")
+detail_text (Some (Line number)) = codes " (see line " ++ (decimal number ++ codes ")")
 
--- the message, preceded by the URL, and followed by the number of rules
+-- the message, preceded by the URL, and followed by the number that it ends with
 abbrev pub warning_text : WarningValue → List ℕ
-warning_text warning = about_text warning.about ++ (text_of warning.cause ++ count_text warning.count)
+warning_text warning = about_text warning.about ++ (text_of warning.cause ++ detail_text warning.detail)
 
 -- the place, the level, the message and the name; `level` is the word for the level, possibly in color
 unfoldable pub warning_line : (file level : List ℕ) → WarningValue → List ℕ
@@ -68,16 +71,16 @@ warning_line file level warning =
 -- the warning, if its condition holds
 abbrev pub warning_of : Option ℕ → Option (List ℕ) → Check → List WarningValue
 warning_of line about check =
-    if check.1 then record { line = line; cause = check.0; about = about; count = None } ∷ [] else []
+    if check.1 then record { line = line; cause = check.0; about = about; detail = None } ∷ [] else []
 
 -- the warnings whose conditions hold
 abbrev pub warned : Option ℕ → Option (List ℕ) → List Check → List WarningValue
 warned line about checks = flat_map (warning_of line about) checks
 
--- this warning, about so many rules, for each line with one of these numbers
-abbrev pub warned_at : Cause → Option ℕ → List ℕ → List WarningValue
-warned_at cause count numbers =
-    map (λ number. record { line = Some number; cause = cause; about = None; count = count }) numbers
+-- this warning, whose message ends with this number, for each line with one of these numbers
+abbrev pub warned_at : Cause → Option Detail → List ℕ → List WarningValue
+warned_at cause detail numbers =
+    map (λ number. record { line = Some number; cause = cause; about = None; detail = detail }) numbers
 
 -- ---- warnings about a part of a file or of a request
 
@@ -139,7 +142,7 @@ abbrev pub group_warnings : Bool → List (List ℕ) → List LineValue → List
 group_warnings everywhere agents lines labels =
     warned_at NonstandardEscape None (nonstandard_escapes everywhere labels)
     ++ (crawler_warnings agents lines labels
-    ++ (warned_at ReplacesStar (Some (star_count lines)) (replacing agents lines labels)
+    ++ (warned_at ReplacesStar (Some (Rules (star_count lines))) (replacing agents lines labels)
     ++ (warned_at RepeatedRule None (repeated everywhere labels)
     ++ warned None None (google_checks lines agents))))
 

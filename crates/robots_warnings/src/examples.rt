@@ -5,10 +5,10 @@ ghost use Rattle.robots_warnings.specs.Table.{example_of};
 
 use crate::table::Cause;
 
-/// For each warning, in the order of [`crate::table::WARNINGS`], a file that triggers it for FerrisBot, or for
-/// the crawler in its first line, or a command. In a file, `\xFF` is a byte, and `\{512000 a}` is 512,000 times an `a`.
+/// For each warning, in the order of [`crate::table::WARNINGS`], a file that triggers it for FerrisBot, or with
+/// the arguments in its first line, or a command. In a file, `\xFF` is a byte, and `\{512000 a}` is 512,000 times an `a`.
 #[rattlefmt::skip]
-pub static EXAMPLES: [(Cause, &str); 62] = [
+pub static EXAMPLES: [(Cause, &str); 66] = [
     // the file
     (Cause::LooksLikeHtml, "<html>\n</html>"),
     (Cause::LooksLikeUtf16, "\\xFF\\xFED\\x00"),
@@ -84,6 +84,11 @@ pub static EXAMPLES: [(Cause, &str); 62] = [
     (Cause::RepeatedRule, "User-agent: *\nDisallow: /a\nDisallow: /a"),
     (Cause::GooglebotGroup, "# robots_audit Googlebot-News\nUser-agent: Googlebot\nDisallow: /a"),
     (Cause::GoogleIgnoresStar, "# robots_audit AdsBot-Google\nUser-agent: *\nDisallow: /a"),
+    // a rule that can be deleted
+    (Cause::NeverDecides, "# robots_audit --needless FerrisBot\nUser-agent: *\nDisallow: /*b\nDisallow: /b"),
+    (Cause::MatchesNothing, "# robots_audit --needless FerrisBot\nUser-agent: *\nDisallow: /a\nDisallow: /$b"),
+    (Cause::AllowedAnyway, "# robots_audit --needless FerrisBot\nUser-agent: *\nDisallow: /a\nAllow: /b"),
+    (Cause::NotNeeded, "# robots_audit --needless FerrisBot\nUser-agent: *\nDisallow: /a\nDisallow: /ab"),
 ];
 
 /// The row at this index.

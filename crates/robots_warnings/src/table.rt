@@ -1,6 +1,7 @@
 //! Every warning: its level, its name, which is shown in `[..]` and is the `name` in JSON, and
 //! its message, which states what is wrong, what happens, and what to do. The conditions are in `checks` and, of warnings
-//! that compare lines or look at all of a crawler's rules, in the functions that `warnings` calls.
+//! that compare lines or look at all of a crawler's rules, in the functions that `warnings` calls. Only `robots_audit` gives
+//! those about rules that can be deleted, which `robots_needless` finds.
 ghost use Rattle.std.specs.Prelude.{◌≡◌, ◌<◌, IfOk, bytes_eq, length, map};
 ghost use Rattle.std.specs.List.{list_any};
 ghost use Rattle.robots_warnings.specs.Internal.{IsRowAt};
@@ -88,11 +89,16 @@ pub enum Cause {
     RepeatedRule,
     GooglebotGroup,
     GoogleIgnoresStar,
+    // a rule that can be deleted
+    NeverDecides,
+    MatchesNothing,
+    AllowedAnyway,
+    NotNeeded,
 }
 
 /// The warnings with their levels, names and messages.
 #[rattlefmt::skip]
-pub static WARNINGS: [(Cause, Level, &str, &str); 62] = [
+pub static WARNINGS: [(Cause, Level, &str, &str); 66] = [
     // the file
     (Cause::LooksLikeHtml, Level::Error, "looks-like-html",
         "no usable line found; the text starts with <, so it may be an HTML page; serve a plain-text robots.txt instead"),
@@ -230,12 +236,21 @@ pub static WARNINGS: [(Cause, Level, &str, &str); 62] = [
         "AGENT, or an --agent, has no group of its own, so Google applies the group of Googlebot to it, and that may not be the one that is reported here; pass Googlebot as AGENT, or add a group"),
     (Cause::GoogleIgnoresStar, Level::Note, "google-ignores-star",
         "AGENT, or an --agent, has no group of its own, and Google doesn't apply the group of * to this crawler, so it may fetch everything; add a group for it"),
+    // a rule that can be deleted
+    (Cause::NeverDecides, Level::Note, "needless-rule",
+        "this rule never decides, since another one matches everything that it matches and takes precedence; correct it if it should decide, or delete it together with all other needless rules"),
+    (Cause::MatchesNothing, Level::Note, "needless-rule",
+        "this rule matches nothing, except perhaps /robots.txt, which is always allowed; correct it, or delete it together with all other needless rules"),
+    (Cause::AllowedAnyway, Level::Note, "needless-rule",
+        "this rule isn't needed: what it allows is allowed without it; it can be deleted together with all other needless rules"),
+    (Cause::NotNeeded, Level::Note, "needless-rule",
+        "this rule isn't needed: the verdicts are the same without it, since another one of its kind matches everything that it matches; it can be deleted together with all other needless rules"),
 ];
 
 /// The warnings that aren't about the syntax of a file, but about the request, the size of the file, or what a file of
 /// the standard's grammar means. All others are about syntax, notes included.
 #[rattlefmt::skip]
-pub static ABOUT_MEANING: [Cause; 25] = [
+pub static ABOUT_MEANING: [Cause; 29] = [
     // the request
     Cause::SpaceAroundAgent,
     Cause::VersionInAgent,
@@ -265,6 +280,11 @@ pub static ABOUT_MEANING: [Cause; 25] = [
     Cause::RepeatedRule,
     Cause::GooglebotGroup,
     Cause::GoogleIgnoresStar,
+    // a rule that can be deleted
+    Cause::NeverDecides,
+    Cause::MatchesNothing,
+    Cause::AllowedAnyway,
+    Cause::NotNeeded,
 ];
 
 /// The row at this index.

@@ -1,12 +1,21 @@
 //! A warning, and its text in a report.
-ghost use Rattle.std.specs.Prelude.{◌≡◌, ◌++◌, OnOk, option_map, string_bytes};
+ghost use Rattle.std.specs.Prelude.{◌≡◌, ◌++◌, OnOk, decimal, option_map, string_bytes};
 ghost use Rattle.robots_warnings.specs.Internal.{warning_value};
-ghost use Rattle.robots_warnings.specs.Warnings.{about_text, count_text, name_text, place_text, warning_line, warning_text};
+ghost use Rattle.robots_warnings.specs.Warnings.{about_text, detail_text, name_text, place_text, warning_line, warning_text};
 
 use crate::table::Cause;
 use robots_io::lines::push_number;
 use robots_io::sanitize::push_sanitized;
 use std::alloc::AllocError;
+
+/// A number at the end of a message.
+#[derive(Clone, Copy)]
+pub enum Detail {
+    /// How many rules the message is about.
+    Rules(usize),
+    /// The line of another rule that the message is about.
+    Line(usize),
+}
 
 /// A warning.
 #[derive(Clone, Copy)]
@@ -16,8 +25,8 @@ pub struct Warning<'a> {
     pub cause: Cause,
     /// The URL that the warning is about, if it is about one.
     pub about: Option<&'a str>,
-    /// How many rules the message is about, if it says so.
-    pub count: Option<usize>,
+    /// The number that the message ends with, if it does.
+    pub detail: Option<Detail>,
 }
 
 /// Appends the name of the file, and the number of the line, if there is one.
@@ -46,26 +55,40 @@ fn push_about(text: &mut String, about: Option<&str>) -> Result<(), AllocError>
     text.push_str("': ")
 }
 
-/// Appends how many rules a message is about, if it says so.
-fn push_count(text: &mut String, count: Option<usize>) -> Result<(), AllocError>
-    ensures { OnOk result (string_bytes text.new ≡ string_bytes text.old ++ count_text count) }
+/// Appends a number between two texts.
+fn push_between(
+    text: &mut String,
+    before: &str,
+    number: usize,
+    after: &str,
+) -> Result<(), AllocError>
+    ensures { OnOk result (string_bytes text.new ≡ string_bytes text.old
+        ++ (before.now ++ (decimal number ++ after.now))) }
 {
-    let Some(count) = count else {
-        return Ok(());
-    };
-    text.push_str(" (")?;
-    push_number(text, count)?;
-    text.push_str(" in all)")
+    text.push_str(before)?;
+    push_number(text, number)?;
+    text.push_str(after)
 }
 
-/// Appends the message of a warning, preceded by the URL that it is about, and followed by the number of rules.
+/// Appends the number that a message ends with, if it does.
+fn push_detail(text: &mut String, detail: Option<Detail>) -> Result<(), AllocError>
+    ensures { OnOk result (string_bytes text.new ≡ string_bytes text.old ++ detail_text detail) }
+{
+    match detail {
+        None => Ok(()),
+        Some(Detail::Rules(count)) => push_between(text, " (", count, " in all)"),
+        Some(Detail::Line(number)) => push_between(text, " (see line ", number, ")"),
+    }
+}
+
+/// Appends the message of a warning, preceded by the URL that it is about, and followed by the number that it ends with.
 pub fn push_warning_text(text: &mut String, warning: &Warning<'_>) -> Result<(), AllocError>
     ensures { OnOk result (string_bytes text.new ≡ string_bytes text.old
         ++ warning_text (warning_value warning.now)) }
 {
     push_about(text, warning.about)?;
     text.push_str(warning.cause.text())?;
-    push_count(text, warning.count)
+    push_detail(text, warning.detail)
 }
 
 /// Appends the name of a warning in brackets.

@@ -27,7 +27,7 @@ use crate::repeated::repeated;
 use crate::replaced::{replacing, star_count};
 use crate::spellings::nonstandard_escapes;
 use crate::table::Cause;
-use crate::warning::Warning;
+use crate::warning::{Detail, Warning};
 use std::alloc::{AllocError, Global};
 use texting_robots::labels::LabeledLine;
 use texting_robots::parser::{Line, file_bodies};
@@ -52,28 +52,28 @@ fn warn<'a>(
                 line,
                 cause,
                 about,
-                count: None,
+                detail: None,
             })?;
         }
     }
     Ok(())
 }
 
-/// Appends this warning, about so many rules, for each line with one of these numbers.
+/// Appends this warning, whose message ends with this number, for each line with one of these numbers.
 fn warn_at(
     found: &mut Found<'_>,
     cause: Cause,
-    count: Option<usize>,
+    detail: Option<Detail>,
     numbers: &[usize],
 ) -> Result<(), AllocError>
-    ensures { OnOk result (Adds found.old.items found.new.items (warned_at cause count numbers.now)) }
+    ensures { OnOk result (Adds found.old.items found.new.items (warned_at cause detail numbers.now)) }
 {
     for number in numbers {
         found.push(Warning {
             line: Some(*number),
             cause,
             about: None,
-            count,
+            detail,
         })?;
     }
     Ok(())
@@ -347,7 +347,8 @@ fn warn_of_groups(
     warn_of_crawlers(alloc, found, site, agents, labels)?;
     let replacing = replacing(alloc, site, agents, labels)?;
     let count = star_count(alloc, site)?;
-    warn_at(found, Cause::ReplacesStar, Some(count), &replacing)?;
+    let detail = Some(Detail::Rules(count));
+    warn_at(found, Cause::ReplacesStar, detail, &replacing)?;
     let repeated = repeated(alloc, everywhere, labels)?;
     warn_at(found, Cause::RepeatedRule, None, &repeated)?;
     warn(found, None, None, &google_checks(site, agents))

@@ -13,7 +13,7 @@ use robots_warnings::table::Cause;
 use robots_warnings::warning::Warning;
 use std::alloc::{AllocError, Global};
 
-/// The row of each warning that has this cause, and is about neither a URL nor a number of rules.
+/// The row of each warning that has this cause, is about no URL, and has no number at the end of its message.
 #[derive(Drop)]
 pub(crate) struct KnownRow {
     cause: Cause,
@@ -39,7 +39,7 @@ pub(crate) fn push_new_row(
     push_end(out, "tr")
 }
 
-/// The row of each warning that has this cause, and is about neither a URL nor a number of rules.
+/// The row of each warning that has this cause, is about no URL, and has no number at the end of its message.
 fn new_row(alloc: Global, cause: Cause) -> Result<KnownRow, AllocError>
     ensures { IfOk result (λ known. known.cause ≡ cause) }
 {
@@ -48,7 +48,7 @@ fn new_row(alloc: Global, cause: Cause) -> Result<KnownRow, AllocError>
         line: None,
         cause,
         about: None,
-        count: None,
+        detail: None,
     };
     push_new_row(alloc, &mut row, &warning)?;
     Ok(KnownRow { cause, row })
@@ -72,7 +72,8 @@ fn row_for(known: &[KnownRow], cause: Cause) -> Option<&KnownRow>
     None
 }
 
-/// Appends the row of each warning that has this cause, and is about neither a URL nor a number of rules, and keeps it.
+/// Appends the row of each warning that has this cause, is about no URL, and has no number at the end of its message,
+/// and keeps it.
 pub(crate) fn push_known_row(
     alloc: Global,
     out: &mut Vec<u8>,

@@ -190,14 +190,14 @@ pub(crate) fn push_warning_entry(
     push_end(out, "dd")
 }
 
-/// Appends the row of a warning that isn't about a number of rules.
-fn push_row_without_count(
+/// Appends the row of a warning whose message has no number at its end.
+fn push_row_without_detail(
     alloc: Global,
     out: &mut Vec<u8>,
     known: &mut Vec<KnownRow>,
     warning: &Warning<'_>,
 ) -> Result<(), AllocError>
-    requires { warning.now.count ≡ None }
+    requires { warning.now.detail ≡ None }
     ensures { OnOk result (out.new.items ≡ out.old.items
         ++ written (warning_row (warning_value warning.now))) }
 {
@@ -217,9 +217,9 @@ fn push_warning_row(
     ensures { OnOk result (out.new.items ≡ out.old.items
         ++ written (warning_row (warning_value warning.now))) }
 {
-    match warning.count {
+    match warning.detail {
         Some(_) => push_new_row(alloc, out, warning),
-        None => push_row_without_count(alloc, out, known, warning),
+        None => push_row_without_detail(alloc, out, known, warning),
     }
 }
 

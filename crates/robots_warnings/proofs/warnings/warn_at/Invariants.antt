@@ -6,4 +6,4 @@ use Rattle.robots_warnings.proofs.warnings.warn_at.Given as goal
 abbrev pub invariant-loop-number : goal.invariant-loop-number
 invariant-loop-number l =
     map warning_value l.found.items
-    ≡ map warning_value l.fn.found.items ++ warned_at l.cause l.count (take l.number-index l.numbers)
+    ≡ map warning_value l.fn.found.items ++ warned_at l.cause l.detail (take l.number-index l.numbers)

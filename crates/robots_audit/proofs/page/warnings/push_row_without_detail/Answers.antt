@@ -2,7 +2,7 @@ use Rattle.std.proofs.Common.{◌++◌, ◌∙◌, ap}
 use Rattle.std.proofs.lemmas.Result.{on_ok_weaker}
 use Rattle.robots_html.specs.Html.{Html, written}
 use Rattle.robots_audit.proofs.PieceLemmas.{row_of_cause}
-use Rattle.robots_audit.proofs.page.warnings.push_row_without_count.Goals as goal
+use Rattle.robots_audit.proofs.page.warnings.push_row_without_detail.Goals as goal
 
 pub returns-in-None : goal.returns-in-None
 returns-in-None c =
