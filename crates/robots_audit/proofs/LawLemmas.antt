@@ -1,4 +1,4 @@
--- Every file has exactly one audit.
+-- Every file has an audit, and without `--needless` only one.
 use Rattle.std.proofs.Common.{◌≡◌, ◌⊎◌, ℕ, suc, Bool, false, true, List, [], ◌∷◌, ◌++◌, Contains, ap, ap₂}
 use Rattle.std.proofs.Common.{arith, inl, inr, None, Option, Some, refl, subst, sym, ◌∙◌}
 use Rattle.std.specs.Bool.{Decides}
@@ -14,6 +14,7 @@ use Rattle.texting_robots.proofs.HeldLemmas.{rejection_is_computed}
 use Rattle.texting_robots.proofs.RulesLemmas.{none_unplaced, some_overlong}
 use Rattle.texting_robots.proofs.VerdictLemmas.{one_line_decides, one_verdict}
 use Rattle.robots_io.specs.Verdicts.{IsDecisionOn}
+use Rattle.robots_needless.proofs.SettledLemmas.{nothing_found}
 use Rattle.robots_audit.specs.Audit.{AgentValue, RequestValue, AuditValue, IsAgentAudit, IsAuditOf, IsRuling}
 use Rattle.robots_audit.specs.Audit.{IsVerdictOn}
 use Rattle.robots_audit.specs.Audit.{VerdictValue, agents_requested, group_of, labels_requested}
@@ -123,10 +124,12 @@ agent_once urls lines agent one two is too =
       verdicts = two.verdicts;
     }) line
 
-pub one_audit : (requested : RequestValue) (file : List ℕ) (audit other : AuditValue)
-    → IsAuditOf requested file audit → IsAuditOf requested file other → audit ≡ other
-one_audit requested file audit other is too =
+pub same_audit : (requested : RequestValue) (file : List ℕ) (audit other : AuditValue)
+    → (is : IsAuditOf requested file audit) → (too : IsAuditOf requested file other)
+    → is.needless ≡ too.needless → audit ≡ other
+same_audit requested file audit other is too same =
     let lines = lines_read file in
+    let labels = labels_requested requested file in
     let agents = zip_once (IsAgentAudit requested.urls lines) (agent_once requested.urls lines)
     (agents_requested requested.agents lines) audit.agents other.agents is.agents_are too.agents_are in
     ap₂ (λ labels warnings. record {
@@ -134,13 +137,24 @@ one_audit requested file audit other is too =
       agents = audit.agents;
       warnings = warnings;
       syntax = audit.syntax;
-    }) (is.labels_are ∙ sym too.labels_are) (is.warnings_are ∙ sym too.warnings_are)
+    }) (is.labels_are ∙ sym too.labels_are)
+    (is.warnings_are ∙ ap (warnings_requested requested file labels) same ∙ sym too.warnings_are)
     ∙ ap₂ (λ agents syntax. record {
       labels = other.labels;
       agents = agents;
       warnings = other.warnings;
       syntax = syntax;
-    }) agents (is.syntax_is ∙ sym too.syntax_is)
+    }) agents
+    (is.syntax_is
+    ∙ ap (λ needless. syntax_of requested.agent (is_too_large file)
+    (warnings_found requested file labels needless)) same
+    ∙ sym too.syntax_is)
+
+pub one_audit : (requested : RequestValue) (file : List ℕ) (audit other : AuditValue)
+    → requested.has_needless ≡ false → IsAuditOf requested file audit → IsAuditOf requested file other
+    → audit ≡ other
+one_audit requested file audit other off is too =
+    same_audit requested file audit other is too (is.unrequested off ∙ sym (too.unrequested off))
 
 -- ---- existence
 
@@ -252,8 +266,16 @@ some_audit requested file =
       record {
         labels = labels;
         agents = agents;
-        warnings = warnings_requested requested file labels;
-        syntax = syntax_of requested.agent (is_too_large file) (warnings_found requested file labels);
+        warnings = warnings_requested requested file labels [];
+        syntax = syntax_of requested.agent (is_too_large file) (warnings_found requested file labels []);
       },
-      record { labels_are = refl; agents_are = are; warnings_are = refl; syntax_is = refl },
+      record {
+        needless = [];
+        needless_are = nothing_found lines [] refl;
+        unrequested = λ off. refl;
+        labels_are = refl;
+        agents_are = are;
+        warnings_are = refl;
+        syntax_is = refl;
+      },
     )

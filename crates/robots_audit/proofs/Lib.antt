@@ -20,6 +20,7 @@ pub mod JsonLemmas
 pub mod LawLemmas
 pub mod ListedLemmas
 pub mod MessageLemmas
+pub mod NeedlessLemmas
 pub mod OutputLemmas
 pub mod PageLemmas
 pub mod PieceLemmas

@@ -1,11 +1,12 @@
 -- What a report tells about the syntax of a file is so.
 use Rattle.std.proofs.Common.{◌≡◌, inl, inr, ℕ, Bool, true, false, List, [], ◌∷◌, None, Option, Some}
-use Rattle.std.proofs.Common.{length, not, refl, subst, take}
+use Rattle.std.proofs.Common.{length, map, not, refl, subst, take}
 use Rattle.std.specs.List.{AllByRecursion as Each}
 use Rattle.std.proofs.lemmas.Bool.{cases_Bool, false≢true, ltb-false, not-false, or_parts}
 use Rattle.std.proofs.lemmas.List.{take_all}
 use Rattle.texting_robots.specs.Callers.{IsRobotOfFile, RobotValue, file_limit, lines_read}
 use Rattle.robots_rfc9309.specs.Rfc9309.{Group, IsFile}
+use Rattle.robots_rfc9309.proofs.EachLemmas.{each_front}
 use Rattle.robots_warnings.specs.Facts.{facts_of, is_too_large}
 use Rattle.robots_warnings.specs.File.{labels_for}
 use Rattle.robots_warnings.specs.Table.{is_about_meaning}
@@ -14,6 +15,7 @@ use Rattle.robots_syntax.specs.Syntax.{IsAboutMeaning, IsRobotStated, IsSilentOn
 use Rattle.robots_syntax.proofs.SyntaxLemmas.{robot_stated, silence}
 use Rattle.robots_audit.specs.Audit.{AuditValue, IsAuditOf, RequestValue, agents_requested, labeling_agent}
 use Rattle.robots_audit.specs.Audit.{labels_requested, warnings_found}
+use Rattle.robots_audit.specs.Needless.{needless_warning}
 use Rattle.robots_audit.specs.Syntax.{has_syntax_warning, is_about_syntax, is_standard, syntax_of}
 
 each_meaning : (warnings : List WarningValue) → has_syntax_warning warnings ≡ false
@@ -38,7 +40,7 @@ known None false warnings is = elim (cases_Bool (has_syntax_warning warnings)) [
   | inr none ↦ record { everyone = refl; whole = refl; silent = each_meaning warnings none }
 ]
 
--- all warnings, as `warnings_found` has them
+-- all warnings but those about needless rules, as `warnings_found` has them
 abbrev warnings_for : Option (List ℕ) → (agents urls : List (List ℕ)) → List ℕ → List WarningValue
 warnings_for agent agents urls file =
     let labels = labels_for (labeling_agent agent) (lines_read file) in
@@ -53,15 +55,18 @@ silent_on (Some agent) agents urls file everyone all = absurd cc
 module _ (requested : RequestValue) (file : List ℕ) (audit : AuditValue) (is : IsAuditOf requested file audit)
     (standard : is_standard audit.syntax ≡ true) where
   found : IsKnown requested.agent (is_too_large file)
-      (warnings_found requested file (labels_requested requested file))
+      (warnings_found requested file (labels_requested requested file) is.needless)
   found =
       known requested.agent (is_too_large file)
-      (warnings_found requested file (labels_requested requested file))
+      (warnings_found requested file (labels_requested requested file) is.needless)
       (subst (λ syntax. is_standard syntax ≡ true) is.syntax_is standard)
 
   silent : IsSilentOn (agents_requested requested.agents (lines_read file)) requested.urls file
   silent = silent_on requested.agent (agents_requested requested.agents (lines_read file)) requested.urls file
-      found.everyone found.silent
+      found.everyone
+      (each_front IsAboutMeaning
+      (warnings_for requested.agent (agents_requested requested.agents (lines_read file)) requested.urls file)
+      (map needless_warning is.needless) found.silent)
 
   all_read : take file_limit file ≡ file
   all_read = take_all file_limit file (ltb-false file_limit (length file) found.whole)

@@ -50,6 +50,7 @@ requested_by request = record {
   ignored = map (λ name. name.now) request.ignored.items;
   is_denied_only = request.is_denied_only;
   has_totals = request.has_totals;
+  has_needless = request.has_needless;
 }
 
 -- ---- the report and the warnings

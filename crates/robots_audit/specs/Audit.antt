@@ -1,5 +1,5 @@
 -- The audit of a file: its lines, what applies to each requested crawler, and the warnings.
-use Rattle.std.specs.Prelude.{◌≡◌, ℕ, Bool, List, [], ◌∷◌, ◌++◌, Option, Some, None}
+use Rattle.std.specs.Prelude.{◌≡◌, ℕ, Bool, false, List, [], ◌∷◌, ◌++◌, Option, Some, None}
 use Rattle.std.specs.Prelude.{bytes_eq, codes, count_by, filter, is_some, map, not, sum_by}
 use Rattle.std.specs.Prelude.{if◌then◌else◌}
 use Rattle.std.specs.List.{AllZip, list_all, list_any}
@@ -12,11 +12,14 @@ use Rattle.robots_io.specs.Verdicts.{IsDecisionOn}
 use Rattle.robots_audit.specs.declared.command.Format.{Format}
 use Rattle.robots_audit.specs.declared.group.Group.{Group}
 use Rattle.robots_audit.specs.declared.group.Group.TheVariants.{Everyone, Named, Nobody, Star}
+use Rattle.robots_needless.specs.Needless.{AreFound}
+use Rattle.robots_needless.specs.declared.needless.NeedlessRule.{NeedlessRule}
 use Rattle.robots_warnings.specs.Facts.{facts_of, is_too_large}
 use Rattle.robots_warnings.specs.File.{labels_for}
 use Rattle.robots_warnings.specs.declared.level.Level.{Level}
 use Rattle.robots_warnings.specs.Warnings.{WarningValue, warnings}
 use Rattle.robots_audit.specs.Chosen.{chosen}
+use Rattle.robots_audit.specs.Needless.{needless_warning}
 use Rattle.robots_audit.specs.Syntax.{syntax_of}
 use Rattle.robots_audit.specs.declared.syntax.Syntax.{Syntax}
 
@@ -24,8 +27,8 @@ use Rattle.robots_audit.specs.declared.syntax.Syntax.{Syntax}
 -- one; the crawlers, where an empty list means `*` and each that the file names; the URLs; whether the rows are
 -- left out; how the report is written; whether the levels of warnings on standard error have colors; the level
 -- of `--strict`, if it is given; the names of the warnings that are reported, where an empty list means all; the
--- names of those that are left out; whether only denied URLs are listed; and whether the report ends with the
--- numbers of allowed and denied URLs
+-- names of those that are left out; whether only denied URLs are listed; whether the report ends with the
+-- numbers of allowed and denied URLs; and whether needless rules are looked for
 pub record RequestValue : Type 0 where
   pub file : Option (List ℕ)
   pub agent : Option (List ℕ)
@@ -39,6 +42,7 @@ pub record RequestValue : Type 0 where
   pub ignored : List (List ℕ)
   pub is_denied_only : Bool
   pub has_totals : Bool
+  pub has_needless : Bool
 
 -- ---- the crawlers of a report
 
@@ -125,24 +129,31 @@ labeling_agent None = codes "*"
 abbrev pub labels_requested : RequestValue → List ℕ → List Label
 labels_requested requested file = labels_for (labeling_agent requested.agent) (lines_read file)
 
--- all warnings about the file and the request
-abbrev pub warnings_found : RequestValue → List ℕ → List Label → List WarningValue
-warnings_found requested file labels =
+-- all warnings about the file and the request, and then those about the needless rules that were found
+abbrev pub warnings_found : RequestValue → List ℕ → List Label → List NeedlessRule → List WarningValue
+warnings_found requested file labels needless =
     warnings requested.agent (agents_requested requested.agents (lines_read file)) requested.urls file
-    (facts_of file labels) labels (lines_read file)
+    (facts_of file labels) labels (lines_read file) ++ map needless_warning needless
 
 -- the warnings that the request doesn't exclude
-abbrev pub warnings_requested : RequestValue → List ℕ → List Label → List WarningValue
-warnings_requested requested file labels =
-    chosen requested.only requested.ignored (warnings_found requested file labels)
+abbrev pub warnings_requested : RequestValue → List ℕ → List Label → List NeedlessRule → List WarningValue
+warnings_requested requested file labels needless =
+    chosen requested.only requested.ignored (warnings_found requested file labels needless)
 
+-- Of needless rules, it is only stated that those found are needless together: there may be more. So with
+-- `--needless` a file may have several audits, but without it only one. They are those of all groups, whichever
+-- crawler the report is about, since deleting only some of them could change a verdict.
 pub record IsAuditOf (requested : RequestValue) (file : List ℕ) (audit : AuditValue) : Type 0 where
+  pub needless : List NeedlessRule
+  pub needless_are : AreFound (lines_read file) needless
+  pub unrequested : requested.has_needless ≡ false → needless ≡ []
   pub labels_are : audit.labels ≡ labels_requested requested file
   pub agents_are : AllZip (IsAgentAudit requested.urls (lines_read file))
       (agents_requested requested.agents (lines_read file)) audit.agents
   pub warnings_are : audit.warnings ≡ warnings_requested requested file (labels_requested requested file)
+      needless
   pub syntax_is : audit.syntax ≡ syntax_of requested.agent (is_too_large file)
-      (warnings_found requested file (labels_requested requested file))
+      (warnings_found requested file (labels_requested requested file) needless)
 
 -- ---- denied URLs
 

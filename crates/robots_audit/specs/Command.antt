@@ -115,6 +115,7 @@ pub record IsRequestOf (matches : ArgMatches) (request : Request) : Type 0 where
   pub format : IsFormatOf matches request.format
   pub denied : IsOn matches (codes "denied") request.is_denied_only
   pub totals : request.has_totals ≡ (request.is_denied_only || is_some (value_of matches (codes "urls")))
+  pub needless : IsOn matches (codes "needless") request.has_needless
   pub strict : request.strict ≡ option_map level_named (value_of matches (codes "strict"))
   pub words : HasCrawlers matches (words_of matches) (map (λ agent. agent.now) request.agents.items)
       (map (λ url. url.now) request.urls.items)

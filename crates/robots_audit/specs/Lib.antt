@@ -6,6 +6,7 @@ pub mod Audit
 pub mod Chosen
 pub mod Color
 pub mod Syntax
+pub mod Needless
 pub mod Listed
 pub mod Report
 pub mod PlainLine

@@ -1,5 +1,5 @@
 //! The audit of a file: its lines, what applies to each requested crawler, and the warnings.
-ghost use Rattle.std.specs.Prelude.{◌≡◌, IfErr, IfOk, map, option_map, string_bytes, take};
+ghost use Rattle.std.specs.Prelude.{◌≡◌, ◌++◌, IfErr, IfOk, map, option_map, string_bytes, take};
 ghost use Rattle.std.specs.List.{AllZip, list_any};
 ghost use Rattle.texting_robots.specs.Callers.{file_limit, file_lines, lines_read, label_by_value};
 ghost use Rattle.texting_robots.specs.Group.{is_agent};
@@ -7,6 +7,7 @@ ghost use Rattle.robots_audit.specs.Answer.{requested_by};
 ghost use Rattle.robots_audit.specs.Audit.{IsAgentAudit, IsAuditOf, IsVerdictOn, agents_requested, all_allowed, allows_all, labeling_agent};
 ghost use Rattle.robots_audit.specs.Audit.{rejects_some};
 ghost use Rattle.robots_audit.specs.Chosen.{chosen};
+ghost use Rattle.robots_audit.specs.Needless.{needless_warning};
 ghost use Rattle.robots_warnings.specs.File.{lines_of, labels_for};
 ghost use Rattle.robots_warnings.specs.Internal.{warning_value};
 ghost use Rattle.robots_warnings.specs.Warnings.{warnings};
@@ -17,8 +18,10 @@ use crate::chosen::chosen;
 use crate::command::Request;
 use crate::fault::Fault;
 use crate::group::{Group, group_of};
+use crate::needless::{add_needless, needless_rules};
 use crate::syntax::{Syntax, syntax_of};
 use robots_io::verdicts::decision_on;
+use robots_needless::needless::NeedlessRule;
 use robots_warnings::facts::{FileFacts, facts_of};
 use robots_warnings::file::{counted, labels_for};
 use robots_warnings::warning::Warning;
@@ -174,7 +177,8 @@ pub(crate) fn labeling_agent<'a>(agent: Option<&'a str>) -> &'a str
     }
 }
 
-/// All warnings about the file and the request. `facts` and `labels` are those of this file.
+/// All warnings about the file and the request, and then those about these needless rules. `facts` and `labels` are
+/// those of this file.
 fn warnings_of<'a>(
     alloc: Global,
     request: &Request<'a>,
@@ -183,13 +187,16 @@ fn warnings_of<'a>(
     facts: FileFacts,
     labels: &[LabeledLine<'_>],
     site: &Site,
+    needless: &[NeedlessRule],
 ) -> Result<Vec<Warning<'a>>, AllocError>
     ensures { IfOk result (λ found. map warning_value found.items
         ≡ warnings (requested_by request.now).agent (map string_bytes agents.now) (requested_by request.now).urls
-        file.now facts (map label_by_value labels.now) (file_lines site.now)) }
+        file.now facts (map label_by_value labels.now) (file_lines site.now) ++ map needless_warning needless.now) }
 {
     let (agent, urls) = (request.agent, &request.urls);
-    warnings(alloc, agent, agents, urls, file, facts, labels, site)
+    let mut found = warnings(alloc, agent, agents, urls, file, facts, labels, site)?;
+    add_needless(&mut found, needless)?;
+    Ok(found)
 }
 
 /// The warnings that the request doesn't exclude.
@@ -219,7 +226,17 @@ pub(crate) fn audit_of<'a, 'b>(
     let site = Site::new(alloc, file)?;
     let has_agents = facts.kinds.user_agent;
     let agents = agent_audits(alloc, &names, file, &site, has_agents, &request.urls)?;
-    let all = warnings_of(alloc, request, &names, file, facts, &labels, &site)?;
+    let needless = needless_rules(alloc, request.has_needless, &site)?;
+    let all = warnings_of(
+        alloc,
+        request,
+        &names,
+        file,
+        facts,
+        &labels,
+        &site,
+        &needless,
+    )?;
     let warnings = warnings_chosen(alloc, request, &all)?;
     let syntax = syntax_of(request.agent, facts.is_too_large, &all);
     Ok(Audit {

@@ -60,6 +60,8 @@ pub struct Request<'a> {
     pub is_denied_only: bool,
     /// Whether the report ends with the numbers of allowed and denied URLs.
     pub has_totals: bool,
+    /// Whether needless rules are looked for.
+    pub has_needless: bool,
 }
 
 /// An option without a value.
@@ -171,8 +173,10 @@ fn with_crawlers<'a>(alloc: Global, called: Command<'a>) -> Result<Command<'a>, 
     called.arg(crawlers)
 }
 
-/// Adds the options that choose warnings by name.
+/// Adds the option `--needless`, and those that choose warnings by name.
 fn with_names<'a>(alloc: Global, called: Command<'a>) -> Result<Command<'a>, AllocError> {
+    let needless = switch(alloc, "needless", "Warn also of rules that can be deleted");
+    let called = called.arg(needless)?;
     let only = naming(
         alloc,
         "only",
@@ -188,10 +192,10 @@ fn with_names<'a>(alloc: Global, called: Command<'a>) -> Result<Command<'a>, All
 }
 
 /// The arguments and options of an audit, other than `--file`.
-fn of_audits<'a>() -> [&'a str; 14] {
+fn of_audits<'a>() -> [&'a str; 15] {
     [
         "agent", "url", "agents", "crawler", "urls", "denied", "quiet", "format", "json", "html",
-        "color", "strict", "only", "ignore",
+        "color", "strict", "needless", "only", "ignore",
     ]
 }
 
@@ -211,8 +215,8 @@ fn with_expect<'a>(alloc: Global, called: Command<'a>) -> Result<Command<'a>, Al
 /// Adds the option `--compare`, which excludes those about warnings and the form of the report.
 fn with_compare<'a>(alloc: Global, called: Command<'a>) -> Result<Command<'a>, AllocError> {
     let others = [
-        "expect", "urls", "denied", "quiet", "format", "json", "html", "color", "strict", "only",
-        "ignore",
+        "expect", "urls", "denied", "quiet", "format", "json", "html", "color", "strict",
+        "needless", "only", "ignore",
     ];
     let compare = Arg::new(alloc, "compare")
         .long("compare")
@@ -490,5 +494,6 @@ pub fn requested<'a>(
         ignored: names_of(alloc, matches, "ignore")?,
         is_denied_only,
         has_totals: has_totals(is_denied_only, matches.get_str("urls")),
+        has_needless: matches.get_flag("needless"),
     })
 }

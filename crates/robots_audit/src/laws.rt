@@ -1,12 +1,13 @@
 //! Theorems about the specification, each written as the contract of an empty function.
-ghost use Rattle.std.specs.Prelude.{[], Any, Bool, Contains, false, if◌then◌else◌, IsTrue, List, slice_get, Some, take, true, ℕ, ◌+◌, ◌==◌, ◌||◌, ◌↔◌, ◌∷◌};
+ghost use Rattle.std.specs.Prelude.{[], Any, Bool, codes, Contains, false, if◌then◌else◌, IsTrue, List, slice_get, Some, take, true, ℕ, ◌+◌, ◌==◌, ◌||◌, ◌↔◌, ◌∷◌};
 ghost use Rattle.std.specs.Prelude.{◌≡◌, ◌≢◌};
 ghost use Rattle.std.specs.List.{AllByRecursion as Each, list_all};
-ghost use Rattle.std.specs.Str.{byte, chars, is_utf8, IsUtf8};
+ghost use Rattle.std.specs.Str.{byte, chars, is_utf8, IsUtf8, str_to_ascii_lowercase};
 ghost use Rattle.texting_robots.specs.Callers.{Allow, AreLabelsOf, AreRulesFor, Disallow, escaped, file_limit, file_lines, HoldsRule, is_named, IsDecidingLine};
 ghost use Rattle.texting_robots.specs.Callers.{IsDenied, IsRobotOfFile, IsVerdict, Label, LineValue, Matches, PlacedRule, prepared, RobotValue, Rule};
-ghost use Rattle.texting_robots.specs.Callers.{rules_for, unplaced, UserAgent};
+ghost use Rattle.texting_robots.specs.Callers.{agents_in, lines_read, rules_for, unplaced, UserAgent};
 ghost use Rattle.texting_robots.specs.Verdict.{robots_file};
+ghost use Rattle.robots_needless.specs.Needless.{lines_without, numbers_of};
 ghost use Rattle.robots_rfc9309.specs.Rfc9309.{Group, IsFile};
 ghost use Rattle.robots_syntax.specs.Syntax.{IsRobotStated};
 ghost use Rattle.robots_warnings.specs.Closed.{is_closed_for};
@@ -35,15 +36,34 @@ ghost use Rattle.robots_audit.specs.Github.{command, is_in_line, is_in_property,
 ghost use Rattle.robots_audit.specs.Sarif.{literal_text, rules_named, shown};
 ghost use Rattle.robots_io.specs.Sanitize.{IsPrintable};
 
-/// A request and a file have at most one audit, and so at most one report.
+/// Without `--needless`, a request and a file have at most one audit, and so at most one report; with it, at most one for
+/// each list of needless rules.
 pub fn each_file_has_one_audit()
-    ensures { (requested : RequestValue) (file : List ℕ) (audit other : AuditValue)
+    ensures one { (requested : RequestValue) (file : List ℕ) (audit other : AuditValue) → requested.has_needless ≡ false
         → IsAuditOf requested file audit → IsAuditOf requested file other → audit ≡ other }
+    ensures same { (requested : RequestValue) (file : List ℕ) (audit other : AuditValue)
+        → (is : IsAuditOf requested file audit) → (too : IsAuditOf requested file other)
+        → is.needless ≡ too.needless → audit ≡ other }
 {}
 
 /// Every request and file have an audit.
 pub fn each_file_has_an_audit()
     ensures { (requested : RequestValue) (file : List ℕ) → (audit : AuditValue) × IsAuditOf requested file audit }
+{}
+
+/// Of the lines that are read, those that an audit with `--needless` warns of as needless can be deleted together: if
+/// exactly these are deleted, every verdict is the same, on any text, for `*` and each crawler that the file names, with
+/// ASCII letters in any case, and for each crawler that it doesn't name.
+pub fn needless_lines_decide_nothing()
+    ensures named { (requested : RequestValue) (file : List ℕ) (audit : AuditValue) → (is : IsAuditOf requested file audit)
+        → (agent name : List ℕ) → Contains (codes "*" ∷ agents_in (lines_read file)) name
+        → str_to_ascii_lowercase agent ≡ str_to_ascii_lowercase name → (text : List ℕ) (answer : Bool)
+        → IsVerdict (rules_for agent (lines_read file)) text answer
+        ↔ IsVerdict (rules_for agent (lines_without (numbers_of is.needless) (lines_read file))) text answer }
+    ensures others { (requested : RequestValue) (file : List ℕ) (audit : AuditValue) → (is : IsAuditOf requested file audit)
+        → (agent : List ℕ) → is_named agent (lines_read file) ≡ false → (text : List ℕ) (answer : Bool)
+        → IsVerdict (rules_for agent (lines_read file)) text answer
+        ↔ IsVerdict (rules_for agent (lines_without (numbers_of is.needless) (lines_read file))) text answer }
 {}
 
 /// If a report says that the file has RFC 9309 syntax, whichever warnings it leaves out, the whole file follows the

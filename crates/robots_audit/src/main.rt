@@ -44,6 +44,7 @@ mod group;
 mod json;
 mod laws;
 mod listed;
+mod needless;
 mod page;
 mod program;
 mod report;

@@ -25,6 +25,7 @@ returns-clause-ok c =
       c.deref-6.ensures.value,
       names,
       c.deref-7.ensures.value,
+      c.deref-8.ensures.value,
       c.facts_of-facts.ensures,
       c.deref.ensures.value,
       c.in_ok-labels.ensures,
@@ -32,8 +33,11 @@ returns-clause-ok c =
       c.in_ok-site.ensures,
     ) at c.in_ok-all.ensures in
     record {
+      needless = c.in_ok-needless.needless.items;
+      needless_are = rw c.in_ok-site.ensures at c.in_ok-needless.ensures.found;
+      unrequested = c.in_ok-needless.ensures.unrequested;
       labels_are = rw c.labeling_agent.ensures at c.in_ok-labels.ensures;
       agents_are = rw (c.deref-4.ensures.value, names, c.deref-5.ensures.value) at c.in_ok-agents.ensures.ok;
-      warnings_are = rw (c.deref-8.ensures.value, all) at c.in_ok-warnings.ensures;
-      syntax_is = rw (c.deref-9.ensures.value, all, c.facts_of-facts.ensures) at c.syntax_of-syntax.ensures;
+      warnings_are = rw (c.deref-9.ensures.value, all) at c.in_ok-warnings.ensures;
+      syntax_is = rw (c.deref-10.ensures.value, all, c.facts_of-facts.ensures) at c.syntax_of-syntax.ensures;
     }
