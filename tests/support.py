@@ -93,11 +93,16 @@ WARNINGS = documented_warnings()
 
 OF_A_URL = {"not-a-url-or-path", "invalid-url"}
 OF_RULES = {"replaces-star"}
+NEEDLESS = ["never", "nothing", "allowed", "covered"]  # in the order of the messages of `needless-rule`
 
 
 def level_and_text(name, detail=""):
     """The documented level and message of a warning. Its detail is the field name that may be meant; the level, if the name has two; how
-    many rules it is about; or else the URL that the warning is about."""
+    many rules it is about; the kind of a needless rule, possibly with the line of another one; or else the URL that the warning is about."""
+    if name == "needless-rule":
+        kind, _, other = detail.partition(" ")
+        level, text = WARNINGS[name][NEEDLESS.index(kind)]
+        return level, f"{text} (see line {other})" if other else text
     for level, text in WARNINGS[name]:
         if detail == level or detail and "KEY" in text:
             return level, text.replace("KEY", detail)

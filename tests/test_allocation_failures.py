@@ -99,7 +99,7 @@ def test_robots_verdict(failing_heap, later):
     fail_each_allocation(program, VERDICT, Result(4, "", "robots_verdict: out of memory\n"), later)
 
 
-BEYOND, JUNK, EXPECTED, ODD, NONE = "BEYOND", "JUNK", "EXPECTED", "ODD", "NONE"
+BEYOND, JUNK, EXPECTED, ODD, NONE, NEEDLESS = "BEYOND", "JUNK", "EXPECTED", "ODD", "NONE", "NEEDLESS"
 AUDIT_RUNS = {
     "the example": AUDIT_ARGS,
     "a named file": ["--file", CRATES / "robots_audit/stdin", "Ferris", *URLS],
@@ -120,6 +120,7 @@ AUDIT_RUNS = {
     "wrong arguments": ["--none", "Ferris"],
     "a name after the first 512,000 bytes": ["--file", BEYOND, "Ferris"],
     "more than twenty warnings with one name": ["--file", JUNK, "Ferris"],
+    "needless rules": ["--needless", "--file", NEEDLESS, "--agents"],
 }
 
 
@@ -128,6 +129,7 @@ def made(tmp_path):
     """The paths of the files that runs name."""
     texts = {BEYOND: b"#" * 512_000 + b"\nUser-agent: a\n", JUNK: b"Disallow: /a\n" + b"hello\nHost: a\n" * 22}
     texts |= {EXPECTED: b"allow Ferris https://e.com/\ndeny other /a", ODD: b"allow Ferris a", NONE: b"# allow Ferris /"}
+    texts[NEEDLESS] = b"User-agent: *\nDisallow: /a\nDisallow: /ab\nAllow: /c\n\nUser-agent: b\nDisallow: /*d\nDisallow: /d\nDisallow: /$e\n"
     for name, text in texts.items():
         (tmp_path / name).write_bytes(text)
     return {name: tmp_path / name for name in texts}

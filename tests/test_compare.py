@@ -152,7 +152,7 @@ def test_agent_is_missing(tmp_path):
     assert outcome(compare(tmp_path, OLD, NEW)) == (2, "", message)
 
 
-@pytest.mark.parametrize("more", ["--expect=old.txt", "-q", "--json", "--color=never", "--strict", "--only=missing-slash", "--ignore=missing-slash"])
+@pytest.mark.parametrize("more", ["--expect=old.txt", "-q", "--json", "--color=never", "--strict", "--needless", "--only=missing-slash", "--ignore=missing-slash"])
 def test_other_options_conflict(tmp_path, more):
     result = compare(tmp_path, OLD, NEW, more, "Ferris")
     assert (result.status, result.out) == (2, "") and "cannot be used with" in result.err

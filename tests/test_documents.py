@@ -224,9 +224,9 @@ def examples_of_warnings():
     """Each warning with its example: the arguments and the file."""
     for part in re.split(r"\n(?=\*\*)", section(PROGRAMS, "Warnings")):
         for name, _, example, _ in (row for row in tables(part) if row[0].strip("`") in WARNINGS):
-            what, text, below = re.fullmatch(r"(AGENT|URL|) ?`([^`]*)`(?:, file `([^`]*)`)?", example).groups()
+            what, text, below = re.fullmatch(r"(AGENT|URL|option|) ?`([^`]*)`(?:, file `([^`]*)`)?", example).groups()
             bytes_of, file = (spelled((text or "").replace("⏎", "\n")) for text in (text, below))
-            args = {"AGENT": [bytes_of], "URL": ["FerrisBot", bytes_of]}.get(what, ["FerrisBot"])
+            args = {"AGENT": [bytes_of], "URL": ["FerrisBot", bytes_of], "option": [bytes_of, "FerrisBot"]}.get(what, ["FerrisBot"])
             file = file if what else (b"User-agent: *\n" if part.startswith(PREFIXED) else b"") + bytes_of
             yield pytest.param(name.strip("`"), args, file, id=f"{name} {example[:60]}")
 

@@ -120,7 +120,7 @@ def test_expectations_from_standard_input(tmp_path):
     assert outcome(run("robots_audit", ["--expect", "-", "-f", "-"], HOLDING)) == (2, "", message)
 
 
-@pytest.mark.parametrize("more", ["Ferris", "--agents", "--agent=Ferris", "--urls=list.txt", "--denied", "-q", "--format=text", "--json", "--html", "--color=auto", "--strict", "--only=missing-slash", "--ignore=missing-slash"])
+@pytest.mark.parametrize("more", ["Ferris", "--agents", "--agent=Ferris", "--urls=list.txt", "--denied", "-q", "--format=text", "--json", "--html", "--color=auto", "--strict", "--needless", "--only=missing-slash", "--ignore=missing-slash"])
 def test_other_arguments_conflict(tmp_path, more):
     result = check(tmp_path, HOLDING, more)
     assert (result.status, result.out) == (2, "") and "cannot be used with" in result.err

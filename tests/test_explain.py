@@ -26,10 +26,10 @@ def explained(name):
     return re.findall(r"^(\S.*)\nfor example:\n((?:    .*\n)+)", result.out, re.M)
 
 
-def crawler_of(file):
-    """The crawler for which a file is an example."""
-    named = re.match(rb"# robots_audit (\S+)\n", file)
-    return named[1].decode() if named else "FerrisBot"
+def arguments_of(file):
+    """The arguments for which a file is an example."""
+    named = re.match(rb"# robots_audit (.+)\n", file)
+    return shlex.split(named[1].decode()) if named else ["FerrisBot"]
 
 
 def test_list():
@@ -43,10 +43,10 @@ def test_example_triggers_its_warning(name):
     assert [line for line, _ in parts] == [line for line in listed() if line.split()[1] == f"{name}:"]
     for line, example in parts:
         text = spelled(re.sub("^    ", "", example, flags=re.M).removesuffix("\n"))
-        command = shlex.split(text.decode()) if text.startswith(b"robots_audit ") else ["", crawler_of(text)]
+        command = shlex.split(text.decode()) if text.startswith(b"robots_audit ") else ["", *arguments_of(text)]
         level, message = line.split()[0], line.split(": ", 1)[1]
         result = run("robots_audit", command[1:], b"" if command[0] else text)
-        assert f"{level}: {message} [{name}]" in re.sub(r"URL '.*?': | \(\d+ in all\)", "", result.err)
+        assert f"{level}: {message} [{name}]" in re.sub(r"URL '.*?': | \(\d+ in all\)| \(see line \d+\)", "", result.err)
 
 
 @pytest.mark.parametrize("name, args, file", examples_of_warnings())
@@ -58,7 +58,7 @@ def test_example_is_the_documented_one(name, args, file):
 
 
 @pytest.mark.parametrize("option", [["--list-warnings"], ["--explain", "missing-slash"]], ids=["list", "explain"])
-@pytest.mark.parametrize("more", ["Ferris", "--agents", "-fx", "-q", "--json", "--format=text", "--html", "--agent=x", "--urls=x", "--denied", "--color=auto", "--strict", "--only=x", "--ignore=x", "--expect=x", "--compare=x"])
+@pytest.mark.parametrize("more", ["Ferris", "--agents", "-fx", "-q", "--json", "--format=text", "--html", "--agent=x", "--urls=x", "--denied", "--color=auto", "--strict", "--needless", "--only=x", "--ignore=x", "--expect=x", "--compare=x"])
 def test_other_arguments_conflict(option, more):
     result = run("robots_audit", [*option, more])
     assert (result.status, result.out) == (2, "") and "cannot be used with" in result.err
