@@ -1,5 +1,5 @@
 -- The bodies of the table of lines, one after the other.
-use Rattle.std.proofs.Common.{◌≡◌, ◌∙◌, ℕ, zero, suc, ◌+◌, ◌-◌, ◌/◌, ◌<◌, List, [], ◌∷◌, ◌++◌, ap, append_assoc}
+use Rattle.std.proofs.Common.{◌≡◌, ◌∙◌, ℕ, suc, ◌+◌, ◌-◌, ◌/◌, ◌<◌, List, [], ◌∷◌, ◌++◌, ap, append_assoc}
 use Rattle.std.proofs.Common.{arith, drop, length, map, sym, take}
 use Rattle.std.proofs.lemmas.List.{append-nil, drop-drop, drop-map, drop_min, length-drop, length-map}
 use Rattle.std.proofs.lemmas.List.{length-take, take-map}

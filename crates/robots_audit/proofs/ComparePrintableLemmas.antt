@@ -15,7 +15,7 @@ use Rattle.robots_io.proofs.SanitizeLemmas.{ended_printable}
 use Rattle.robots_io.proofs.SanitizeLemmas.{nil_printable, sanitized_in_printable}
 use Rattle.robots_audit.specs.declared.group.Group.{Group}
 use Rattle.robots_audit.specs.declared.group.Group.TheVariants.{Everyone, Named, Nobody, Star}
-use Rattle.robots_audit.specs.Audit.{AgentValue, VerdictValue}
+use Rattle.robots_audit.specs.Audit.{VerdictValue}
 use Rattle.robots_audit.specs.Compare.{ComparedValue, agent_lines, allowed_word, change_text, crawler_text, deciding_text}
 use Rattle.robots_audit.specs.Compare.{decision_text, delay_changes, delay_word, differences, group_changes}
 use Rattle.robots_audit.specs.Compare.{group_word, has_same_rules, is_rejected, is_same_decision}

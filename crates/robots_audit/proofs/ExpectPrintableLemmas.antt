@@ -4,8 +4,7 @@ use Rattle.std.proofs.Common.{decimal, filter, length, map, refl, subst, sym}
 use Rattle.std.specs.Prelude.{if◌then◌else◌}
 use Rattle.std.specs.List.{AllByRecursion as Each}
 use Rattle.texting_robots.specs.Callers.{prepared, robots_file}
-use Rattle.robots_io.specs.Lines.{ended}
-use Rattle.robots_io.specs.Sanitize.{IsPrintable, sanitized}
+use Rattle.robots_io.specs.Sanitize.{IsPrintable}
 use Rattle.robots_io.proofs.SanitizeLemmas.{append_printable, ascii_printable, decimal_printable}
 use Rattle.robots_io.proofs.SanitizeLemmas.{ended_printable, sanitized_printable}
 use Rattle.robots_audit.specs.declared.expectations.Finding.{Finding}
@@ -13,7 +12,7 @@ use Rattle.robots_audit.specs.declared.expectations.Finding.TheVariants.{Decided
 use Rattle.robots_audit.specs.Expect.{ExpectationValue}
 use Rattle.robots_audit.specs.Expectations.{CheckedValue, IsReport, decision_text, demand_text, demand_word}
 use Rattle.robots_audit.specs.Expectations.{failure_front, failure_line, fails, finding_text, place_text}
-use Rattle.robots_audit.specs.Expectations.{holding_text, result_lines, unmatched_text}
+use Rattle.robots_audit.specs.Expectations.{holding_text, result_lines}
 use Rattle.robots_audit.proofs.PrintableLemmas.{each_map, either_printable}
 
 demand_word_printable : (allowed : Bool) → IsPrintable (demand_word allowed)

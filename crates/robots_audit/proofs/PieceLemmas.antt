@@ -1,6 +1,6 @@
 -- Rows of the table of lines, whose constant parts are appended at once.
 use Rattle.std.proofs.Common.{◌≡◌, ◌∙◌, ℕ, Bool, true, false, List, [], ◌∷◌, ◌++◌, ap, append_assoc, codes}
-use Rattle.std.proofs.Common.{Option, None, Result, Ok, Err, decimal, refl, sym}
+use Rattle.std.proofs.Common.{None, Result, Ok, Err, decimal, refl, sym}
 use Rattle.std.specs.Prelude.{if◌then◌else◌}
 use Rattle.std.specs.Result.{OnOk, is_ok}
 use Rattle.std.proofs.lemmas.List.{append-nil}
@@ -8,7 +8,7 @@ use Rattle.texting_robots.specs.Callers.{Label, LineValue, UserAgent, Allow, Dis
 use Rattle.texting_robots.specs.declared.labels.Membership.{Membership}
 use Rattle.texting_robots.specs.declared.labels.Membership.TheVariants.{Other, Own, Ungrouped}
 use Rattle.robots_html.specs.Html.{attribute, attribute_bytes, end_tag, escaped, escaped_bytes, start_tag}
-use Rattle.robots_html.specs.Html.{tag_close, tag_open, text, written, ◌⊕◌}
+use Rattle.robots_html.specs.Html.{tag_close, tag_open, written, ◌⊕◌}
 use Rattle.robots_html.proofs.TextLemmas.{decimal_plain, plain_text}
 use Rattle.robots_warnings.specs.File.{is_blank}
 use Rattle.robots_warnings.specs.Internal.{warning_value}

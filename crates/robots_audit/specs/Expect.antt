@@ -1,5 +1,5 @@
 -- The lines of a text and the entries in them, and the expectations in the file of `--expect`, one per line.
-use Rattle.std.specs.Prelude.{ℕ, nat_eq, suc, ◌==◌, Bool, true, false, not, ◌&&◌, ◌||◌, List, [], ◌∷◌}
+use Rattle.std.specs.Prelude.{ℕ, nat_eq, suc, ◌==◌, Bool, false, not, ◌&&◌, ◌||◌, List, [], ◌∷◌}
 use Rattle.std.specs.Prelude.{Option, Some, None, Result, Ok, Err}
 use Rattle.std.specs.Prelude.{bytes_eq, codes, filter, if◌then◌else◌, length}
 use Rattle.std.specs.List.{list_any, starts_with}

@@ -60,7 +60,6 @@ pub(crate) fn add_needless(
 }
 
 /// The rules of the file that can be deleted together, if they are looked for; otherwise none.
-#[tactic(auto, using(robots_needless::proofs::SettledLemmas::nothing_found))]
 pub(crate) fn needless_rules(
     alloc: Global,
     is_requested: bool,

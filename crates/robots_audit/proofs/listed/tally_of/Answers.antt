@@ -5,7 +5,7 @@ use Rattle.robots_audit.specs.declared.listed.Numbers.{Numbers}
 use Rattle.robots_audit.specs.Listed.{count_of, is_same_level, most}
 use Rattle.robots_warnings.specs.declared.level.Level.{Level}
 use Rattle.robots_warnings.specs.Internal.{warning_value}
-use Rattle.robots_audit.proofs.ListedLemmas.{counted_next, counted_within, grown, none_counted, placed_next}
+use Rattle.robots_audit.proofs.ListedLemmas.{counted_next, counted_within, grown, placed_next}
 use Rattle.robots_audit.proofs.listed.tally_of.Goals as goal
 
 pub overflow_add-place : goal.overflow_add-place
