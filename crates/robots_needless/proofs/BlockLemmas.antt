@@ -1,6 +1,7 @@
--- Lines that can be removed from a file: each block keeps a group line, so the other lines apply to the same crawlers.
-use Rattle.std.proofs.Common.{◌≡◌, inl, inr, ℕ, ◌+◌, ◌==◌, Bool, true, false, not, ◌||◌, List, [], ◌∷◌, Option}
-use Rattle.std.proofs.Common.{Some, None, ap, sym, refl, ◌∙◌, cond, filter, map, if◌then◌else◌}
+-- Lines that can be removed from a file: each block keeps a group line, so the other
+-- lines apply to the same crawlers.
+use Rattle.std.proofs.Common.{◌≡◌, inl, inr, ℕ, ◌+◌, ◌==◌, Bool, true, false, not, ◌||◌, List, [], ◌∷◌}
+use Rattle.std.proofs.Common.{Option, Some, None, ap, sym, refl, ◌∙◌, cond, filter, map, if◌then◌else◌}
 use Rattle.std.specs.List.{cons_option, enumerate_from, list_any}
 use Rattle.std.specs.{Option.option_map_or}
 use Rattle.std.proofs.lemmas.Bool.{cases_Bool, false≢true}
@@ -78,12 +79,13 @@ module _ (gone : ℕ → Bool) (name : List ℕ) where
   Later position lines = (block : Block) (tracker other : GroupTracker) → AreAlike block tracker other
       → keep_blocks_from gone block position lines ≡ true → SameRules tracker other position lines
 
-  module _ (block : Block) (tracker other : GroupTracker) (alike : AreAlike block tracker other) (position : ℕ)
-      (line : LineValue) (lines : List LineValue) (later : Later (position + 1) lines) where
+  module _ (block : Block) (tracker other : GroupTracker) (alike : AreAlike block tracker other)
+      (position : ℕ) (line : LineValue) (lines : List LineValue) (later : Later (position + 1) lines) where
     -- the line stays
     line_stays : gone (position + 1) ≡ false → (next : Block)
         → AreAlike next (step name tracker line) (step name other line)
-        → keep_blocks_from gone next (position + 1) lines ≡ true → SameRules tracker other position (line ∷ lines)
+        → keep_blocks_from gone next (position + 1) lines ≡ true
+        → SameRules tracker other position (line ∷ lines)
     line_stays stays next after keeps =
         let left = given_captured rule_in name (step name other line) (left_from gone (position + 1) lines) in
         let rest = from_captured placed_in name (step name tracker line) (position + 1) lines in
@@ -107,13 +109,14 @@ module _ (gone : ℕ → Bool) (name : List ℕ) where
           }))
           (rw (stays, after false) at keeps)
       | inl goes ↦
-          let next : AreAlike (with_line block true) (step name tracker line) other = rw (moves tracker) (record {
+          let moved = step name tracker line in
+          let next : AreAlike (with_line block true) moved other = rw (moves tracker) (record {
             captured = alike.captured;
             named = λ none. sym (alike.unnamed (not_false block.has_line none));
             unnamed = alike.unnamed;
           }) in
-          let rest = from_captured placed_in name (step name tracker line) (position + 1) lines in
-          rw goes (later (with_line block true) (step name tracker line) other next (rw (goes, after true) at keeps)
+          let rest = from_captured placed_in name moved (position + 1) lines in
+          rw goes (later (with_line block true) moved other next (rw (goes, after true) at keeps)
           ∙ one_goes gone position tracker.captured (rule_in line) rest goes)
     ]
 
@@ -132,16 +135,18 @@ module _ (gone : ℕ → Bool) (name : List ℕ) where
       elim (cases_Bool (gone (position + 1))) [
         | inl goes ↦ absurd (false≢true (rw goes at keeps))
         | inr stays ↦
-            line_stays block tracker other alike position (Sitemap value) lines (same_rules (position + 1) lines)
-            stays block (record { captured = alike.captured; named = alike.named; unnamed = alike.unnamed })
+            line_stays block tracker other alike position (Sitemap value) lines
+            (same_rules (position + 1) lines) stays block
+            (record { captured = alike.captured; named = alike.named; unnamed = alike.unnamed })
             (rw stays at keeps)
       ]
   same_rules position (Raw body ∷ lines) block tracker other alike keeps =
       elim (cases_Bool (gone (position + 1))) [
         | inl goes ↦ absurd (false≢true (rw goes at keeps))
         | inr stays ↦
-            line_stays block tracker other alike position (Raw body) lines (same_rules (position + 1) lines)
-            stays block (record { captured = alike.captured; named = alike.named; unnamed = alike.unnamed })
+            line_stays block tracker other alike position (Raw body) lines
+            (same_rules (position + 1) lines) stays block
+            (record { captured = alike.captured; named = alike.named; unnamed = alike.unnamed })
             (rw stays at keeps)
       ]
   same_rules position (UserAgent value ∷ lines) block tracker other alike keeps =
@@ -204,7 +209,8 @@ others_unnamed name (Raw body) is = refl
 
 -- ---- all lines of a file
 
-module _ (gone : ℕ → Bool) (lines : List LineValue) (keeps : keep_blocks_from gone no_line 0 lines ≡ true) where
+module _ (gone : ℕ → Bool) (lines : List LineValue)
+    (keeps : keep_blocks_from gone no_line 0 lines ≡ true) where
   same_name : (agent : List ℕ) → group_name agent (left_from gone 0 lines) ≡ group_name agent lines
   same_name agent =
       rw (any_left gone (is_agent_named _) (others_unnamed _) no_line 0 lines keeps) refl
@@ -224,7 +230,8 @@ module _ (gone : ℕ → Bool) (lines : List LineValue) (keeps : keep_blocks_fro
         unnamed = λ wrong. absurd (false≢true wrong);
       } in
       rules_are agent (left_from gone 0 lines)
-      ∙ rw (same_name agent, same_start, walked) (same_rules gone name 0 lines no_line start start alike keeps)
+      ∙ rw (same_name agent, same_start, walked)
+      (same_rules gone name 0 lines no_line start start alike keeps)
 
 pub deleted : (numbers : List ℕ) (lines : List LineValue)
     → keep_blocks_from (among numbers) no_line 0 lines ≡ true → (agent : List ℕ)

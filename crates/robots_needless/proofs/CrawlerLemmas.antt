@@ -7,7 +7,8 @@ use Rattle.texting_robots.specs.{Group.group_name, Group.is_agent_named, Line.Li
 use Rattle.texting_robots.specs.Callers.{is_named, placed_rules}
 use Rattle.texting_robots.specs.Executable.{captured_lines, placed_in}
 
-rules_of_group : (agent other : List ℕ) (lines : List LineValue) → group_name agent lines ≡ group_name other lines
+rules_of_group : (agent other : List ℕ) (lines : List LineValue)
+    → group_name agent lines ≡ group_name other lines
     → placed_rules agent lines ≡ placed_rules other lines
 rules_of_group agent other lines same = ap (λ name. filter_map placed_in (captured_lines name lines)) same
 

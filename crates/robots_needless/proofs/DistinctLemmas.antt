@@ -32,12 +32,14 @@ at_most_one n (first ∷ rules) once =
     elim (cases_Bool (first.line == n)) [
       | inl here ↦
           let is : hit n first ≡ 1 = rw here refl in
+          let number = eqb-true first.line n here in
           let apart : All (λ (placed : PlacedRule). n ≢ placed.line) rules =
-          λ k d below same. once 0 (suc k) d (omega arith) (omega arith) (eqb-true first.line n here ∙ same) in
+          λ k d below same. once 0 (suc k) d (omega arith) (omega arith) (number ∙ same) in
           omega (arith, more, is, none_hits n rules apart)
       | inr other ↦
           let is : hit n first ≡ 0 = rw other refl in
-          let rest : AreDistinct rules = λ i j d less below. once (suc i) (suc j) d (omega arith) (omega arith) in
+          let rest : AreDistinct rules =
+          λ i j d less below. once (suc i) (suc j) d (omega arith) (omega arith) in
           omega (arith, more, is, at_most_one n rules rest)
     ]
 
@@ -57,8 +59,9 @@ in_cons : (first : PlacedRule) (rules : List PlacedRule) (placed : PlacedRule) �
     → Contains (first ∷ rules) placed
 in_cons first rules placed (k, below, at) = (suc k, omega arith, at)
 
-in_passed : (test : PlacedRule → Bool) (first : PlacedRule) (left rules : List PlacedRule) (placed : PlacedRule)
-    → test first ≡ true → (Contains left placed → Contains rules placed × (test placed ≡ true))
+in_passed : (test : PlacedRule → Bool) (first : PlacedRule) (left rules : List PlacedRule)
+    (placed : PlacedRule) → test first ≡ true
+    → (Contains left placed → Contains rules placed × (test placed ≡ true))
     → Contains (first ∷ left) placed → Contains (first ∷ rules) placed × (test placed ≡ true)
 in_passed test first left rules placed passes rest (zero, below, at) =
     ((0, omega arith, at), ap test (sym at) ∙ passes)

@@ -1,5 +1,5 @@
--- The generic text of a pattern stands for all texts that the pattern matches: another pattern without the fresh
--- byte matches it if and only if it matches them all.
+-- The generic text of a pattern stands for all texts that the pattern matches: another pattern without the
+-- fresh byte matches it if and only if it matches them all.
 use Rattle.std.proofs.Common.{◌≡◌, ◌≢◌, ℕ, ◌==◌, inl, inr, List, [], ◌∷◌, ◌++◌, All}
 use Rattle.std.proofs.Common.{refl, sym, append-nil}
 use Rattle.std.specs.Bool.{MatchBool}

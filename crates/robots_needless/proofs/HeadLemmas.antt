@@ -1,7 +1,7 @@
 -- How generic texts are built, and patterns that match no text in common.
-use Rattle.std.proofs.Common.{◌≡◌, ◌≢◌, ◌<◌, inl, inr, ℕ, zero, suc, ◌+◌, ◌/◌, ◌%◌, ◌==◌, Bool, true, false, List, [], ◌∷◌, ◌++◌}
-use Rattle.std.proofs.Common.{All, length, drop, get_or, ap, sym, subst, refl, ◌∙◌, append_assoc, append-nil, arith}
-use Rattle.std.proofs.Common.{add-one, drop-cons, if◌then◌else◌, nat_lt, not}
+use Rattle.std.proofs.Common.{◌≡◌, ◌≢◌, ◌<◌, inl, inr, ℕ, zero, suc, ◌+◌, ◌/◌, ◌%◌, ◌==◌, Bool, true, false}
+use Rattle.std.proofs.Common.{List, [], ◌∷◌, ◌++◌, All, length, drop, get_or, ap, sym, subst, refl, ◌∙◌}
+use Rattle.std.proofs.Common.{append_assoc, append-nil, arith, add-one, drop-cons, if◌then◌else◌, nat_lt, not}
 use Rattle.std.specs.Bool.{IsTrue}
 use Rattle.std.specs.Fmt.{digit_glyph}
 use Rattle.std.proofs.lemmas.Bool.{cases_Bool, cases_lt, false≢true, lt-ltb, ne_eqb, or_parts}

@@ -1,24 +1,27 @@
 -- Plain rules that go one after the other, by descending order of their list.
-use Rattle.std.proofs.Common.{◌≡◌, ◌≤◌, ◌-◌, inl, inr, ℕ, Option, None, Some, List, [], ◌∷◌, ◌++◌, All, IsPermutation, ap, sym, subst, refl}
-use Rattle.std.proofs.Common.{append_assoc, arith, length, reverse}
+use Rattle.std.proofs.Common.{◌≡◌, ◌≤◌, ◌-◌, inl, inr, ℕ, Option, None, Some, List, [], ◌∷◌, ◌++◌, All}
+use Rattle.std.proofs.Common.{IsPermutation, ap, sym, subst, refl, append_assoc, arith, length, reverse}
 use Rattle.std.specs.HashMap.{Updates}
 use Rattle.std.specs.{List.Contains, Option.IfSome, Prelude.nat_eq}
 use Rattle.std.specs.List.Sorted.{IsNonDecreasingBy}
 use Rattle.std.proofs.lemmas.Bool.{cases_Bool}
-use Rattle.std.proofs.lemmas.List.{get_or-reverse, get_or_append_left, get_or_push, length-reverse, length_push}
-use Rattle.std.proofs.lemmas.List.Elements.{All-contains, All-weaker, Contains-append_left, Contains-append_right}
-use Rattle.std.proofs.lemmas.List.Elements.{Contains-push_cases}
-use Rattle.std.proofs.lemmas.List.Sorted.{Contains-permutation, IsPermutation-append_comm, IsPermutation-append_left}
-use Rattle.std.proofs.lemmas.List.Sorted.{IsPermutation-append_right, IsPermutation-sym, IsPermutation-trans}
+use Rattle.std.proofs.lemmas.List.{get_or-reverse, get_or_append_left, get_or_push, length-reverse}
+use Rattle.std.proofs.lemmas.List.{length_push}
+use Rattle.std.proofs.lemmas.List.Elements.{All-contains, All-weaker, Contains-append_left}
+use Rattle.std.proofs.lemmas.List.Elements.{Contains-append_right, Contains-push_cases}
+use Rattle.std.proofs.lemmas.List.Sorted.{Contains-permutation, IsPermutation-append_comm}
+use Rattle.std.proofs.lemmas.List.Sorted.{IsPermutation-append_left, IsPermutation-append_right}
+use Rattle.std.proofs.lemmas.List.Sorted.{IsPermutation-sym, IsPermutation-trans}
 use Rattle.texting_robots.specs.Rules.{PlacedRule, unplaced}
 use Rattle.texting_robots.proofs.{BestLemmas.placed_of}
 use Rattle.robots_needless.specs.declared.needless.NeedlessRule.{NeedlessRule}
 use Rattle.robots_needless.specs.declared.needless.Reason.{Reason}
-use Rattle.robots_needless.specs.declared.needless.Reason.TheVariants.{AllowedAnyway, Covered, NoMatch, Overruled}
+use Rattle.robots_needless.specs.declared.needless.Reason.TheVariants.{AllowedAnyway, Covered, NoMatch}
+use Rattle.robots_needless.specs.declared.needless.Reason.TheVariants.{Overruled}
 use Rattle.robots_needless.specs.Internal.{AreAmong, CanGo, HasNoRival, IsReducedTo}
 use Rattle.robots_needless.specs.Needless.{IsFound, IsReason, Overrules, rank_of}
-use Rattle.robots_needless.specs.Prefixes.{AreDescending, AreIndexed, AreNotBelow, HasPlace, IsPlain, Places, hash_from}
-use Rattle.robots_needless.specs.Prefixes.{seed}
+use Rattle.robots_needless.specs.Prefixes.{AreDescending, AreIndexed, AreNotBelow, HasPlace, IsPlain, Places}
+use Rattle.robots_needless.specs.Prefixes.{hash_from, seed}
 use Rattle.robots_needless.proofs.{ReasonLemmas.no_rival_both}
 use Rattle.robots_needless.proofs.TogetherLemmas.{both_ways, denied_permuted, reordered}
 
@@ -109,7 +112,8 @@ no_rival_last : (rest : List PlacedRule) (floor : ℕ) (rule : PlacedRule) → A
 no_rival_last rest floor rule last = record {
   none = λ x has differ low less.
       let (placed, listed, is) = placed_of rest x has in
-      let above = All-contains (λ (p : PlacedRule). rank_of rule.rule ≤ rank_of p.rule) rest placed last listed in
+      let is_above = λ (p : PlacedRule). rank_of rule.rule ≤ rank_of p.rule in
+      let above = All-contains is_above rest placed last listed in
       let same = ap rank_of is in
       absurd (omega (arith, above, same, less));
 }
@@ -119,10 +123,11 @@ module _ (kept starred rest : List PlacedRule) where
   whole = (kept ++ starred) ++ rest
 
   pub no_rivals : (m n : ℕ) (rule : PlacedRule) → HasNoRival (unplaced kept) m rule.rule → m ≤ n
-      → HasNoRival (unplaced starred) n rule.rule → AreNotBelow rule rest → HasNoRival (unplaced whole) n rule.rule
+      → HasNoRival (unplaced starred) n rule.rule → AreNotBelow rule rest
+      → HasNoRival (unplaced whole) n rule.rule
   no_rivals m n rule one most two last =
-      no_rival_both (kept ++ starred) rest n n rule.rule (no_rival_both kept starred m n rule.rule one most two)
-      (omega arith) (no_rival_last rest n rule last)
+      no_rival_both (kept ++ starred) rest n n rule.rule
+      (no_rival_both kept starred m n rule.rule one most two) (omega arith) (no_rival_last rest n rule last)
 
   pub of_kept : (some : List PlacedRule) → AreAmong some kept → AreAmong some whole
   of_kept some among placed has =
@@ -138,8 +143,8 @@ module _ (kept starred rest : List PlacedRule) where
 
 -- ---- what holds among some rules
 
-pub overruled_among : (some others : List PlacedRule) (rule : PlacedRule) (line : Option ℕ) → AreAmong some others
-    → IfSome line (λ n. (other : PlacedRule) × Contains some other × (other.line ≡ n)
+pub overruled_among : (some others : List PlacedRule) (rule : PlacedRule) (line : Option ℕ)
+    → AreAmong some others → IfSome line (λ n. (other : PlacedRule) × Contains some other × (other.line ≡ n)
     × Overrules other.rule rule.rule)
     → IfSome line (λ n. (other : PlacedRule) × Contains others other × (other.line ≡ n)
     × Overrules other.rule rule.rule)
@@ -192,8 +197,8 @@ reason_among some all among rule (Overruled line) (other, has, at, is) = (other,
 reason_among some all among rule (Covered line) (other, has, at, kind, covers) =
     (other, among other has, at, kind, covers)
 
-pub found_permuted : (rules others : List PlacedRule) → IsPermutation rules others → (found : List NeedlessRule)
-    → All (IsFound others) found → All (IsFound rules) found
+pub found_permuted : (rules others : List PlacedRule) → IsPermutation rules others
+    → (found : List NeedlessRule) → All (IsFound others) found → All (IsFound rules) found
 found_permuted rules others same found =
     let among : AreAmong others rules =
     λ placed. Contains-permutation others rules placed (IsPermutation-sym rules others same) in

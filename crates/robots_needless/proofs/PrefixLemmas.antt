@@ -1,6 +1,6 @@
 -- Plain rules that begin a plain rule are its only rivals.
-use Rattle.std.proofs.Common.{◌≡◌, ◌<◌, ◌≤◌, inl, inr, ℕ, ◌+◌, Bool, true, false, not, List, [], ◌∷◌, ◌++◌, All}
-use Rattle.std.proofs.Common.{ap, sym, subst, refl, ◌∙◌, append-nil, arith, get_or, length, take}
+use Rattle.std.proofs.Common.{◌≡◌, ◌<◌, ◌≤◌, inl, inr, ℕ, ◌+◌, Bool, true, false, not, List, [], ◌∷◌, ◌++◌}
+use Rattle.std.proofs.Common.{All, ap, sym, subst, refl, ◌∙◌, append-nil, arith, get_or, length, take}
 use Rattle.std.proofs.lemmas.List.{take-take, take_all, take_at, take_more}
 use Rattle.std.proofs.lemmas.Bool.{cases_lt}
 use Rattle.texting_robots.specs.Pattern.{Matches}
@@ -9,7 +9,8 @@ use Rattle.texting_robots.specs.Internal.Entries.{rank}
 use Rattle.texting_robots.proofs.{BestLemmas.placed_of, PatternLemmas.in_front}
 use Rattle.robots_needless.specs.Internal.{HasNoRival, IsNone}
 use Rattle.robots_needless.specs.Needless.{AreApart}
-use Rattle.robots_needless.specs.Prefixes.{AreIndexed, HasPlace, IsAbove, IsPlainByte, Places, hash_from, next_hash, seed}
+use Rattle.robots_needless.specs.Prefixes.{AreIndexed, HasPlace, IsAbove, IsPlainByte, Places, hash_from}
+use Rattle.robots_needless.specs.Prefixes.{next_hash, seed}
 
 -- ---- hashes
 
@@ -33,7 +34,8 @@ begins p t plain fits =
 prefix_of : (p q t : List ℕ) → All IsPlainByte p → All IsPlainByte q → length p ≤ length q
     → Matches p t → Matches q t → take (length p) q ≡ p
 prefix_of p q t one two short fits others =
-    ap (take (length p)) (sym (begins q t two others)) ∙ take-take (length p) (length q) t short ∙ begins p t one fits
+    ap (take (length p)) (sym (begins q t two others)) ∙ take-take (length p) (length q) t short
+    ∙ begins p t one fits
 
 not_longer : (m n : ℕ) (allows : Bool) → rank m allows < rank n (not allows) → m ≤ n
 not_longer m n true less = omega arith
@@ -52,7 +54,8 @@ other_kind places floor p q allows plain other_plain above has low less text fit
 no_plain_rival : {S : Type 0} (places : Places S) (floor : ℕ) (rule other : Rule) → All IsPlainByte rule.0
     → All IsPlainByte other.0 → IsAbove places rule.0 (not rule.1) floor
     → HasPlace places (hash_from (seed other.1) other.0) → IsNone floor rule other
-no_plain_rival places floor (p, true) (q, true) plain other_plain above has differ low less = absurd (differ refl)
+no_plain_rival places floor (p, true) (q, true) plain other_plain above has differ low less =
+    absurd (differ refl)
 no_plain_rival places floor (p, false) (q, false) plain other_plain above has differ low less =
     absurd (differ refl)
 no_plain_rival places floor (p, true) (q, false) plain other_plain above has differ low less =
@@ -78,7 +81,8 @@ module _ {S : Type 0} (places : Places S) (pattern : List ℕ) where
   Before allows k floor =
       (j : ℕ) → j < k → HasPlace places (hash_from (seed allows) (take j pattern)) → rank j allows < floor
 
-  pub above_allows : (k floor : ℕ) → length pattern ≤ k → Before true k floor → IsAbove places pattern true floor
+  pub above_allows : (k floor : ℕ) → length pattern ≤ k → Before true k floor
+      → IsAbove places pattern true floor
   above_allows k floor all before j most less has = before j (omega (arith, all, less)) has
 
   pub above_denies : (k hash floor result : ℕ) → length pattern ≤ k → Before false k floor

@@ -1,6 +1,6 @@
 -- When a rule can go: its rivals, and the rules that cover it.
-use Rattle.std.proofs.Common.{◌≡◌, ◌≤◌, ◌⊎◌, inl, inr, Option, Some, None, false, ℕ, zero, suc, Bool, true, List, [], ◌∷◌, ◌++◌}
-use Rattle.std.proofs.Common.{subst, refl, arith}
+use Rattle.std.proofs.Common.{◌≡◌, ◌≤◌, ◌⊎◌, inl, inr, Option, Some, None, false, ℕ, zero, suc, Bool, true}
+use Rattle.std.proofs.Common.{List, [], ◌∷◌, ◌++◌, subst, refl, arith}
 use Rattle.std.specs.List.{Contains}
 use Rattle.std.proofs.lemmas.List.Elements.{Contains-append_cases}
 use Rattle.texting_robots.specs.Line.{LineValue}
@@ -21,8 +21,10 @@ unplaced_cases : (left right : List PlacedRule) (x : Rule) → Contains (unplace
 unplaced_cases left right x has =
     let (placed, listed, is) = placed_of (left ++ right) x has in
     elim (Contains-append_cases left right placed listed) [
-      | inl first ↦ inl (subst (λ (r : Rule). Contains (unplaced left) r) is (unplaced_of left placed first))
-      | inr second ↦ inr (subst (λ (r : Rule). Contains (unplaced right) r) is (unplaced_of right placed second))
+      | inl first ↦
+          inl (subst (λ (r : Rule). Contains (unplaced left) r) is (unplaced_of left placed first))
+      | inr second ↦
+          inr (subst (λ (r : Rule). Contains (unplaced right) r) is (unplaced_of right placed second))
     ]
 
 -- ---- rivals

@@ -63,8 +63,8 @@ module _ (others all : List Rule) (text : List ℕ) where
             elim is.decides [
               | inl above ↦ absurd (omega arith)
               | inr (kinds, none) ↦
-                  absurd (none.none (a, true) listed (λ same. false≢true (sym same)) (omega arith) (omega arith)
-                  text here fits)
+                  absurd (none.none (a, true) listed (λ same. false≢true (sym same)) (omega arith)
+                  (omega arith) text here fits)
             ]
       ],
     )

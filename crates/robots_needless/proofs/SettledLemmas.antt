@@ -1,6 +1,7 @@
 -- What is found for several crawlers: rules that are needless for each of them.
 use Rattle.std.proofs.Common.{◌≡◌, ◌↔◌, inl, inr, ℕ, zero, suc, ◌==◌, true, false, List, [], ◌∷◌, ◌++◌, All}
-use Rattle.std.proofs.Common.{◌+◌, ◌<◌, Some, get_or, length, take, ap, sym, refl, subst, ◌∙◌, arith, codes, filter, map}
+use Rattle.std.proofs.Common.{◌+◌, ◌<◌, Some, get_or, length, take, ap, sym, refl, subst, ◌∙◌, arith, codes}
+use Rattle.std.proofs.Common.{filter, map}
 use Rattle.std.specs.BTreeMap.{IsOrdered, Updates, get, keys}
 use Rattle.std.specs.BTreeSet.{BTreeSet, contains}
 use Rattle.std.specs.List.{Contains, enumerate_from, list_any}
@@ -19,8 +20,8 @@ use Rattle.texting_robots.specs.Verdict.{IsDenied}
 use Rattle.robots_needless.specs.declared.needless.NeedlessRule.{NeedlessRule}
 use Rattle.robots_needless.specs.declared.needless.Reason.{Reason}
 use Rattle.robots_needless.specs.Blocks.{KeepBlocks, is_found, no_line}
-use Rattle.robots_needless.specs.Internal.{AddsFound, AddsLines, AddsNumber, AreFree, AreReasons, AreSettled, Grow, Has}
-use Rattle.robots_needless.specs.Internal.{HasLine, IsReducedTo, IsSettled, Reasons, rule_at}
+use Rattle.robots_needless.specs.Internal.{AddsFound, AddsLines, AddsNumber, AreFree, AreReasons, AreSettled}
+use Rattle.robots_needless.specs.Internal.{Grow, Has, HasLine, IsReducedTo, IsSettled, Reasons, rule_at}
 use Rattle.robots_needless.specs.Needless.{AreFound, AreNeedless, IsFound, IsFoundFor, numbers_of, without}
 use Rattle.robots_needless.proofs.BlockLemmas.{deleted, same_test}
 use Rattle.robots_needless.proofs.DistinctLemmas.{in_filter, to_filter}
@@ -60,7 +61,8 @@ in_named n (first ∷ numbers) is =
 -- ---- one more line
 
 pub lines_more : (old mid new : BTreeSet ℕ) (rules : List PlacedRule) (placed : PlacedRule) (n : ℕ)
-    → n ≡ placed.line → AddsLines old mid rules → AddsNumber mid new n → AddsLines old new (rules ++ placed ∷ [])
+    → n ≡ placed.line → AddsLines old mid rules → AddsNumber mid new n
+    → AddsLines old new (rules ++ placed ∷ [])
 lines_more old mid new rules placed n is are adds = record {
   more = λ m has. adds.more m (are.more m has);
   added = λ other has. elim (Contains-push_cases rules placed other has) [
@@ -90,8 +92,9 @@ module _ (mid new : Reasons) (k : ℕ) (r : Reason) (h : Updates nat_cmp mid new
     | inr other ↦ rw (elsewhere q other) has
   ]
 
-pub found_next : (old mid new : Reasons) (rules : List NeedlessRule) (one : NeedlessRule) → AddsFound old mid rules
-    → Updates nat_cmp mid new one.line (Some one.reason) → AddsFound old new (rules ++ one ∷ [])
+pub found_next : (old mid new : Reasons) (rules : List NeedlessRule) (one : NeedlessRule)
+    → AddsFound old mid rules → Updates nat_cmp mid new one.line (Some one.reason)
+    → AddsFound old new (rules ++ one ∷ [])
 found_next old mid new rules one are h = record {
   more = λ q has. stays_found mid new one.line one.reason h q (are.more q has);
   added = λ other has. elim (Contains-push_cases rules one other has) [
@@ -102,7 +105,8 @@ found_next old mid new rules one are h = record {
     | inl at ↦
         let same : one.reason ≡ reason = let e = at_key mid new one.line one.reason h q at in cc in
         let line : one.line ≡ q = tells_apart exact_unsigned one.line q at in
-        let here : ◌≡◌ {A = NeedlessRule} one (record { line = q; reason = reason }) = rw (← same, ← line) refl in
+        let here : ◌≡◌ {A = NeedlessRule} one (record { line = q; reason = reason }) =
+        rw (← same, ← line) refl in
         inr (subst (λ (o : NeedlessRule). Contains (rules ++ one ∷ []) o) here (Contains-push rules one))
     | inr other ↦ elim (are.only q reason (sym (elsewhere mid new one.line one.reason h q other) ∙ is)) [
       | inl before ↦ inl before
@@ -130,8 +134,9 @@ no_reasons lines found empty line reason at = let wrong = rw empty at at in cc
 
 -- ---- one crawler
 
-module _ (rules left : List PlacedRule) (found : List NeedlessRule) (old new : Reasons) (stayed stays : BTreeSet ℕ)
-    (adds : AddsFound old new found) (lines_stay : AddsLines stayed stays left) where
+module _ (rules left : List PlacedRule) (found : List NeedlessRule) (old new : Reasons)
+    (stayed stays : BTreeSet ℕ) (adds : AddsFound old new found)
+    (lines_stay : AddsLines stayed stays left) where
   pub settled_by : IsReducedTo rules left (numbers_of found) → IsSettled rules new stays
   settled_by is = record {
     left = left;
@@ -197,17 +202,20 @@ settled_first lines agents first old new stayed stays is grow are agent (zero, b
 settled_first lines agents first old new stayed stays is grow are agent (suc k, below, at) =
     are agent (k, omega arith, at)
 
-pub no_one_settled : (lines : List LineValue) (found : Reasons) (stays : BTreeSet ℕ) → AreSettled lines [] found stays
+pub no_one_settled : (lines : List LineValue) (found : Reasons) (stays : BTreeSet ℕ)
+    → AreSettled lines [] found stays
 no_one_settled lines found stays agent (k, below, at) = absurd (omega arith)
 
 -- ---- all of them
 
-numbers_are : (entries : List (ℕ × Reason)) → numbers_of (map rule_at entries) ≡ map (λ (e : ℕ × Reason). e.0) entries
+numbers_are : (entries : List (ℕ × Reason))
+    → numbers_of (map rule_at entries) ≡ map (λ (e : ℕ × Reason). e.0) entries
 numbers_are [] = refl
 numbers_are (e ∷ entries) = ap (λ ns. e.0 ∷ ns) (numbers_are entries)
 
-module _ (found : Reasons) (stays : BTreeSet ℕ) (list : List NeedlessRule) (are : list ≡ map rule_at found.entries)
-    (free : AreFree list stays) (rules : List PlacedRule) (is : IsSettled rules found stays) (placed : PlacedRule) where
+module _ (found : Reasons) (stays : BTreeSet ℕ) (list : List NeedlessRule)
+    (are : list ≡ map rule_at found.entries) (free : AreFree list stays) (rules : List PlacedRule)
+    (is : IsSettled rules found stays) (placed : PlacedRule) where
   named_line : HasLine found placed.line → list_any (λ number. number == placed.line) (numbers_of list) ≡ true
   named_line has =
       let key = (btree_map_contains_key_iff nat_cmp_total exact_unsigned found placed.line).0 has in
@@ -228,7 +236,8 @@ module _ (found : Reasons) (stays : BTreeSet ℕ) (list : List NeedlessRule) (ar
   not_named left some =
       let number = in_named placed.line (numbers_of list) some in
       let (one, listed, at) = of_map (λ (o : NeedlessRule). o.line) list placed.line number in
-      let none = All-contains (λ (o : NeedlessRule). contains nat_cmp stays o.line ≡ false) list one free listed in
+      let is_free = λ (o : NeedlessRule). contains nat_cmp stays o.line ≡ false in
+      let none = All-contains is_free list one free listed in
       let none_here : contains nat_cmp stays placed.line ≡ false =
       subst (λ n. contains nat_cmp stays n ≡ false) at none in
       false≢true (sym none_here ∙ is.stay placed left)
@@ -245,8 +254,8 @@ module _ (found : Reasons) (stays : BTreeSet ℕ) (list : List NeedlessRule) (ar
       ])
 
 pub settled_needless : (found : Reasons) (stays : BTreeSet ℕ) (list : List NeedlessRule)
-    → list ≡ map rule_at found.entries → AreFree list stays → (rules : List PlacedRule) → IsSettled rules found stays
-    → AreNeedless rules (numbers_of list)
+    → list ≡ map rule_at found.entries → AreFree list stays → (rules : List PlacedRule)
+    → IsSettled rules found stays → AreNeedless rules (numbers_of list)
 settled_needless found stays list are free rules is text answer =
     let rest = without (numbers_of list) rules in
     let to = to_left found stays list are free rules is in
@@ -299,7 +308,8 @@ all_left [] = refl
 all_left (rule ∷ rules) = ap (λ rs. rule ∷ rs) (all_left rules)
 
 all_lines : (position : ℕ) (lines : List LineValue)
-    → map (λ (p : ℕ × LineValue). p.1) (filter (λ (p : ℕ × LineValue). true) (enumerate_from position lines)) ≡ lines
+    → map (λ (p : ℕ × LineValue). p.1)
+    (filter (λ (p : ℕ × LineValue). true) (enumerate_from position lines)) ≡ lines
 all_lines position [] = refl
 all_lines position (line ∷ lines) = ap (λ ls. line ∷ ls) (all_lines (position + 1) lines)
 
@@ -307,6 +317,7 @@ pub nothing_found : (lines : List LineValue) (list : List NeedlessRule) → list
 nothing_found lines list none = rw none (record {
   together = λ agent has text answer.
       rw (all_left (placed_rules agent lines)) (λ is. is, λ is. is);
-  deleted = λ agent. rw (all_left (placed_rules agent lines)) (ap (λ ls. rules_for agent ls) (all_lines 0 lines));
+  deleted = λ agent.
+      rw (all_left (placed_rules agent lines)) (ap (λ ls. rules_for agent ls) (all_lines 0 lines));
   reasons = All-nil (IsFoundFor lines);
 })

@@ -1,21 +1,25 @@
 -- One step of the check: the last of the rest is kept, or it goes.
-use Rattle.std.proofs.Common.{◌≡◌, ℕ, List, [], ◌∷◌, ◌++◌, All, IsPermutation, ap, sym, subst, refl, ◌∙◌, append_assoc, arith}
+use Rattle.std.proofs.Common.{◌≡◌, ℕ, List, [], ◌∷◌, ◌++◌, All, IsPermutation, ap, sym, subst, refl, ◌∙◌}
+use Rattle.std.proofs.Common.{append_assoc, arith}
 use Rattle.std.specs.List.{Contains}
 use Rattle.std.proofs.lemmas.List.{map-append}
-use Rattle.std.proofs.lemmas.List.Elements.{All-append, All-cons, All-nil, Contains-append_left, Contains-append_right}
+use Rattle.std.proofs.lemmas.List.Elements.{All-append, All-cons, All-nil, Contains-append_left}
+use Rattle.std.proofs.lemmas.List.Elements.{Contains-append_right}
 use Rattle.std.proofs.lemmas.List.Sorted.{Contains-permutation, IsPermutation-append_comm}
 use Rattle.std.proofs.lemmas.List.Sorted.{IsPermutation-append_right, IsPermutation-sym}
 use Rattle.texting_robots.specs.Rules.{PlacedRule, unplaced}
 use Rattle.robots_needless.specs.declared.needless.NeedlessRule.{NeedlessRule}
 use Rattle.robots_needless.specs.declared.needless.Reason.{Reason}
-use Rattle.robots_needless.specs.declared.needless.Reason.TheVariants.{AllowedAnyway, Covered, NoMatch, Overruled}
+use Rattle.robots_needless.specs.declared.needless.Reason.TheVariants.{AllowedAnyway, Covered, NoMatch}
+use Rattle.robots_needless.specs.declared.needless.Reason.TheVariants.{Overruled}
 use Rattle.robots_needless.specs.Internal.{CanGo, IsReducedTo}
 use Rattle.robots_needless.specs.Needless.{IsFound, IsReason, numbers_of}
 use Rattle.robots_needless.proofs.TogetherLemmas.{one_less, reordered}
 
 module _ (rules kept rest old : List PlacedRule) (rule : PlacedRule) (last : old ≡ rest ++ rule ∷ [])
     (numbers : List ℕ) (is : IsReducedTo rules (kept ++ old) numbers) where
-  pub rule_kept : (more : List PlacedRule) → more ≡ kept ++ rule ∷ [] → IsReducedTo rules (more ++ rest) numbers
+  pub rule_kept : (more : List PlacedRule) → more ≡ kept ++ rule ∷ []
+      → IsReducedTo rules (more ++ rest) numbers
   rule_kept more added =
       let one : List PlacedRule = rule ∷ [] in
       let moved : IsPermutation (kept ++ (rest ++ one)) ((kept ++ one) ++ rest) =
@@ -55,7 +59,8 @@ module _ (rules kept rest old : List PlacedRule) (rule : PlacedRule) (last : old
   reason_wider NoMatch holds = holds
   reason_wider AllowedAnyway holds = holds
   reason_wider (Overruled line) (other, has, at, is) = (other, other_listed other has, at, is)
-  reason_wider (Covered line) (other, has, at, kind, covers) = (other, other_listed other has, at, kind, covers)
+  reason_wider (Covered line) (other, has, at, kind, covers) =
+      (other, other_listed other has, at, kind, covers)
 
   pub found_more : (found more : List NeedlessRule) (line : ℕ) (reason : Reason)
       → more ≡ found ++ record { line = line; reason = reason } ∷ [] → line ≡ rule.line

@@ -4,9 +4,10 @@ use Rattle.std.proofs.Common.{IsPermutation, ap, refl, sym, subst, ◌∙◌, ap
 use Rattle.std.specs.List.{Contains}
 use Rattle.std.proofs.lemmas.List.{get_or-map, length-map, map-append}
 use Rattle.std.proofs.lemmas.List.Elements.{Contains-append_cases, Contains-append_left}
-use Rattle.std.proofs.lemmas.List.Sorted.{Contains-permutation, IsPermutation-append_comm, IsPermutation-append_left}
-use Rattle.std.proofs.lemmas.List.Sorted.{IsPermutation-append_right, IsPermutation-middle, IsPermutation-refl}
-use Rattle.std.proofs.lemmas.List.Sorted.{IsPermutation-sym, IsPermutation-trans}
+use Rattle.std.proofs.lemmas.List.Sorted.{Contains-permutation, IsPermutation-append_comm}
+use Rattle.std.proofs.lemmas.List.Sorted.{IsPermutation-append_left, IsPermutation-append_right}
+use Rattle.std.proofs.lemmas.List.Sorted.{IsPermutation-middle, IsPermutation-refl, IsPermutation-sym}
+use Rattle.std.proofs.lemmas.List.Sorted.{IsPermutation-trans}
 use Rattle.texting_robots.specs.Rules.{PlacedRule, Rule, unplaced}
 use Rattle.texting_robots.specs.Verdict.{IsDenied, IsVerdict}
 use Rattle.texting_robots.proofs.BestLemmas.{placed_of}
@@ -48,7 +49,8 @@ denied_same rules others text same (differs, p, has, fits, longest) =
 pub verdicts : (rules others : List Rule) (text : List ℕ) → IsDenied rules text ↔ IsDenied others text
     → (answer : Bool) → IsVerdict rules text answer ↔ IsVerdict others text answer
 verdicts rules others text same false = same
-verdicts rules others text same true = (λ allowed denied. allowed (same.1 denied), λ allowed denied. allowed (same.0 denied))
+verdicts rules others text same true =
+    (λ allowed denied. allowed (same.1 denied), λ allowed denied. allowed (same.0 denied))
 
 -- ---- one rule less
 
@@ -66,7 +68,8 @@ with_last others rule = record {
   only = λ x has.
       let (placed, listed, is) = placed_of (others ++ rule ∷ []) x has in
       elim (Contains-append_cases others (rule ∷ []) placed listed) [
-        | inl other ↦ inl (subst (λ (r : Rule). Contains (unplaced others) r) is (unplaced_of others placed other))
+        | inl other ↦
+            inl (subst (λ (r : Rule). Contains (unplaced others) r) is (unplaced_of others placed other))
         | inr last ↦ inr (sym is ∙ ap (λ (p : PlacedRule). p.rule) (is_only rule placed last))
       ];
 }
@@ -113,7 +116,8 @@ pub one_less : (rules others : List PlacedRule) (rule : PlacedRule) (numbers : L
 one_less rules others rule numbers is can =
     let one : List PlacedRule = rule ∷ [] in record {
       removed = is.removed ++ one;
-      lines = map-append (λ (p : PlacedRule). p.line) is.removed one ∙ ap (λ ns. ns ++ rule.line ∷ []) is.lines;
+      lines = map-append (λ (p : PlacedRule). p.line) is.removed one
+          ∙ ap (λ ns. ns ++ rule.line ∷ []) is.lines;
       same = IsPermutation-trans rules (others ++ (one ++ is.removed)) (others ++ (is.removed ++ one))
           (subst (λ all. IsPermutation rules all) (append_assoc others one is.removed) is.same)
           (IsPermutation-append_right others (one ++ is.removed) (is.removed ++ one)
@@ -166,5 +170,6 @@ needless_in_turn rules kept removed once same can =
       removed = removed;
       lines = refl;
       same = same;
-      denied = λ text. both_ways (denied_permuted rules (kept ++ removed) same text) (in_turn kept removed can text);
+      denied = λ text.
+          both_ways (denied_permuted rules (kept ++ removed) same text) (in_turn kept removed can text);
     })

@@ -16,7 +16,8 @@ with_line block gone =
     if gone then record { is_lost = not block.has_line; has_line = block.has_line }
     else record { is_lost = false; has_line = true }
 
--- one more line; none if another line than a group line is removed, or all group lines above a user-agent line
+-- one more line; none if another line than a group line is removed, or all
+-- group lines above a user-agent line
 abbrev pub block_after : Block → Bool → LineValue → Option Block
 block_after block gone line =
     if is_group line then Some (with_line block gone)

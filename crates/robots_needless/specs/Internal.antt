@@ -22,8 +22,8 @@ generic [] = fresh ∷ []
 generic (b ∷ q) =
     if b == star then fresh ∷ generic q else if b == dollar then [] else b ∷ generic q
 
--- from this floor on, the other rule is no rival of the rule: it isn't of the other kind, or doesn't rank below
--- the rule and at least as high as the floor, or matches no text that the rule matches
+-- from this floor on, the other rule is no rival of the rule: it isn't of the other kind, or doesn't rank
+-- below the rule and at least as high as the floor, or matches no text that the rule matches
 abbrev pub IsNone : ℕ → Rule → Rule → Type 0
 IsNone floor rule other = other.1 ≢ rule.1 → floor ≤ rank_of other → rank_of other < rank_of rule
     → AreApart other.0 rule.0
@@ -32,15 +32,16 @@ IsNone floor rule other = other.1 ≢ rule.1 → floor ≤ rank_of other → ran
 pub record HasNoRival (others : List Rule) (floor : ℕ) (rule : Rule) : Type 0 where
   pub none : (other : Rule) → Contains others other → IsNone floor rule other
 
--- the other rule covers the rule. It ranks at least as high, or it is of the same kind and no rival is above it.
+-- the other rule covers the rule. It ranks at least as high, or it is of the
+-- same kind and no rival is above it.
 pub record IsReplacedBy (others : List Rule) (rule other : Rule) : Type 0 where
   pub listed : Contains others other
   pub covers : Covers other.0 rule.0
   pub decides : (rank_of rule ≤ rank_of other)
       ⊎ ((other.1 ≡ rule.1) × HasNoRival others (rank_of other) rule)
 
--- why the other rules have the same verdicts without this rule: it matches nothing, or it is an Allow without a
--- rival, or one of the others replaces it
+-- why the other rules have the same verdicts without this rule: it matches nothing, or it is an Allow without
+-- a rival, or one of the others replaces it
 abbrev pub CanGo : List Rule → Rule → Type 0
 CanGo others rule =
     MatchesNothing rule.0 ⊎ (((rule.1 ≡ true) × HasNoRival others 0 rule)
@@ -111,8 +112,8 @@ pub record AddsFound (old new : Reasons) (rules : List NeedlessRule) : Type 0 wh
   pub only : (line : ℕ) (reason : Reason) → get nat_cmp new line ≡ Some reason
       → (get nat_cmp old line ≡ Some reason) ⊎ Contains rules (record { line = line; reason = reason })
 
--- the rules, without some in the lines that are found, are those left, which are in lines that stay, and deny the
--- same texts
+-- the rules, without some in the lines that are found, are those left, which are in lines
+-- that stay, and deny the same texts
 pub record IsSettled (rules : List PlacedRule) (found : Reasons) (stays : BTreeSet ℕ) : Type 0 where
   pub left : List PlacedRule
   pub removed : List PlacedRule

@@ -4,7 +4,8 @@ use Rattle.std.specs.Prelude.{All, AllPairs, Bool, true, Contains, List, [], ◌
 use Rattle.std.specs.List.{enumerate_from, list_any}
 use Rattle.robots_needless.specs.declared.needless.NeedlessRule.{NeedlessRule}
 use Rattle.robots_needless.specs.declared.needless.Reason.{Reason}
-use Rattle.robots_needless.specs.declared.needless.Reason.TheVariants.{AllowedAnyway, Covered, NoMatch, Overruled}
+use Rattle.robots_needless.specs.declared.needless.Reason.TheVariants.{AllowedAnyway, Covered, NoMatch}
+use Rattle.robots_needless.specs.declared.needless.Reason.TheVariants.{Overruled}
 use Rattle.texting_robots.specs.Callers.{IsVerdict, LineValue, Matches, PlacedRule, Rule, agents_in}
 use Rattle.texting_robots.specs.Callers.{placed_rules, robots_file, rules_for, unplaced}
 use Rattle.texting_robots.specs.Internal.Entries.{rank}

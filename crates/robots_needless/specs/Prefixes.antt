@@ -39,8 +39,8 @@ pub record AreIndexed {S : Type 0} (rules : List PlacedRule) (places : Places S)
   pub found : (placed : PlacedRule) → Contains rules placed
       → HasPlace places (hash_from (seed placed.rule.1) placed.rule.0)
 
--- the floor is above the rules of this kind in the map that begin the pattern and rank below a rule of the other kind
--- with this pattern
+-- the floor is above the rules of this kind in the map that begin the pattern and rank below a rule of
+-- the other kind with this pattern
 abbrev pub IsAbove : {S : Type 0} → Places S → List ℕ → Bool → ℕ → Type 0
 IsAbove places pattern allows floor =
     (k : ℕ) → k ≤ length pattern → rank k allows < rank (length pattern) (not allows)

@@ -1,5 +1,5 @@
-//! Whether each block of a file keeps a group line. A block is the group lines below a run of user-agent lines: without
-//! all of them, these user-agent lines would join the next run.
+//! Whether each block of a file keeps a group line. A block is the group lines below a run of user-agent
+//! lines: without all of them, these user-agent lines would join the next run.
 ghost use Rattle.std.specs.Prelude.{◌≡◌, IsTrue};
 ghost use Rattle.texting_robots.specs.Callers.{by_value, file_lines};
 ghost use Rattle.robots_needless.specs.Blocks.{KeepBlocks, block_after, with_line};
@@ -40,8 +40,8 @@ fn with_line(block: Block, is_gone: bool) -> Block
     }
 }
 
-/// The block after one more line. `None` if a line is removed that isn't a group line, or if all group lines above a
-/// user-agent line are.
+/// The block after one more line. `None` if a line is removed that isn't a group line, or if all group
+/// lines above a user-agent line are.
 fn block_after(block: Block, is_gone: bool, line: Line<'_>) -> Option<Block>
     ensures { result ≡ block_after block is_gone (by_value line.entry) }
 {

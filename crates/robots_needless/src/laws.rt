@@ -6,8 +6,9 @@ ghost use Rattle.robots_needless.specs.Examples as example;
 ghost use Rattle.robots_needless.specs.Internal.{CanGoInTurn, fresh, generic};
 ghost use Rattle.robots_needless.specs.Needless.{AreDistinct, AreFound, AreNeedless, Covers, lines_of, lines_without, numbers_of};
 
-/// A pattern covers another one if it matches the other one's generic text, provided that it doesn't contain the fresh
-/// byte; and only then, if the other one matches any text. So one match decides whether one rule covers another.
+/// A pattern covers another one if it matches the other one's generic text, provided that it doesn't
+/// contain the fresh byte; and only then, if the other one matches any text. So one match decides
+/// whether one rule covers another.
 pub fn one_match_decides_covering()
     ensures covers { (wide narrow : List ℕ) → All (λ b. b ≢ fresh) wide → Matches wide (generic narrow)
         → Covers wide narrow }
@@ -21,7 +22,8 @@ pub fn rules_go_in_turn()
         → CanGoInTurn kept removed → AreNeedless rules (lines_of removed) }
 {}
 
-/// Deleting the lines of the found rules from a file changes no verdict of `*` or of a crawler that the file names.
+/// Deleting the lines of the found rules from a file changes no verdict of `*` or
+/// of a crawler that the file names.
 pub fn deleting_changes_no_verdict()
     ensures { (lines : List LineValue) (found : List NeedlessRule) → AreFound lines found → (agent : List ℕ)
         → Contains (codes "*" ∷ agents_in lines) agent → (text : List ℕ) (answer : Bool)

@@ -177,9 +177,9 @@ fn settled_lines(alloc: Global, site: &Site) -> Result<Vec<NeedlessRule>, Error>
     Ok(nothing(alloc))
 }
 
-/// The lines of rules that can be removed together without changing a verdict of any crawler, in order. There may be
-/// more: a rule is found only if one other rule covers it, and a bounded number of bytes is compared. None is found if
-/// a rule is too long, so that the file is rejected for a crawler.
+/// The lines of rules that can be removed together without changing a verdict of any crawler, in order. There
+/// may be more: a rule is found only if one other rule covers it, and a bounded number of bytes is compared.
+/// None is found if a rule is too long, so that the file is rejected for a crawler.
 ///
 /// # Errors
 ///

@@ -18,11 +18,11 @@ pub enum Reason {
     NoMatch,
     /// It is an Allow of what is allowed without it, as no Disallow that it overrules matches the same text.
     AllowedAnyway,
-    /// It never decides, since the rule in the line with this number matches every text that it matches, and is longer;
-    /// or as long, and an Allow or of the same kind.
+    /// It never decides, since the rule in the line with this number matches every text that it matches, and
+    /// is longer; or as long, and an Allow or of the same kind.
     Overruled(usize),
-    /// Without it, the same verdict follows from the rule in the line with this number, which is of the same kind and
-    /// matches every text that it matches, or from a longer one of that kind.
+    /// Without it, the same verdict follows from the rule in the line with this number, which is of the same
+    /// kind and matches every text that it matches, or from a longer one of that kind.
     Covered(usize),
 }
 
@@ -59,8 +59,8 @@ impl Budget {
     }
 }
 
-/// The floor, or a higher one if the other rule is of the other kind, ranks below the rule and not below the floor, and
-/// may match a text that the rule matches.
+/// The floor, or a higher one if the other rule is of the other kind, ranks below the rule and not below the
+/// floor, and may match a text that the rule matches.
 fn floor_above(budget: &mut Budget, other: &Rule, rule: &Rule, floor: usize) -> usize
     ensures most { floor ≤ result }
     ensures apart { IsNone result rule.now.rule other.now.rule }
@@ -144,8 +144,8 @@ fn covering_line(budget: &mut Budget, others: &[Rule], rule: &Rule, floor: usize
     None
 }
 
-/// Why the rule can go, if one of these rules overrules it or stands in for it, or if it is an Allow without rivals. From
-/// the floor on it must have no rivals.
+/// Why the rule can go, if one of these rules overrules it or stands in for it, or if it is an Allow without
+/// rivals. From the floor on it must have no rivals.
 pub(crate) fn reason_among(
     budget: &mut Budget,
     one: &[Rule],
@@ -176,8 +176,8 @@ pub(crate) fn reason_among(
     None
 }
 
-/// Whether the rule is in none of the lines that stay, and isn't `Allow: /` or an empty Disallow, which are meant as they
-/// are.
+/// Whether the rule is in none of the lines that stay, and isn't `Allow: /` or an empty
+/// Disallow, which are meant as they are.
 pub(crate) fn may_go(stays: &Numbers, rule: &Rule) -> bool {
     !stays.contains(&rule.line()) && !rule.allows_all()
 }
@@ -204,8 +204,8 @@ fn reason_to_go(
     reason_among(budget, kept, rest, rule, floor)
 }
 
-/// The rules by rank, the highest first, and in file order if ranks are equal. The order decides only how many needless
-/// rules are found.
+/// The rules by rank, the highest first, and in file order if ranks are equal. The order decides only
+/// how many needless rules are found.
 fn by_rank(rules: Vec<Rule>) -> Result<Vec<Rule>, AllocError>
     ensures { IfOk result (λ sorted. IsPermutation rules.items sorted.items) }
 {
@@ -221,8 +221,8 @@ pub(crate) struct Settled {
     pub(crate) kept: Vec<Rule>,
 }
 
-/// Of a crawler's rules without those that are settled, those that can go one after the other, by ascending rank, without
-/// those in the lines that stay.
+/// Of a crawler's rules without those that are settled, those that can go one after the other, by ascending
+/// rank, without those in the lines that stay.
 pub(crate) fn settle_by_rank(
     budget: &mut Budget,
     settled: Settled,

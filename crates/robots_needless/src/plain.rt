@@ -1,5 +1,5 @@
-//! Which of a crawler's plain rules are needless. They are tried by ascending rank, and the rules that begin a rule are
-//! found by their hashes, so that few rules are compared.
+//! Which of a crawler's plain rules are needless. They are tried by ascending rank, and the rules that begin
+//! a rule are found by their hashes, so that few rules are compared.
 ghost use Rattle.std.specs.Prelude.{◌≡◌, ◌∷◌, ◌++◌, [], All, Contains, IfOk, IfSome, IsPermutation, OnOk};
 ghost use Rattle.texting_robots.specs.Callers.{PlacedRule, unplaced};
 ghost use Rattle.robots_needless.specs.Internal.{AreAmong, CanGo, HasNoRival, IsReducedTo};
@@ -77,8 +77,8 @@ fn allows_by_hash(alloc: Global, rules: &[Rule]) -> Result<Places, AllocError> {
     Ok(places)
 }
 
-/// The line of an Allow with the same pattern, which overrules the rule if it is a Disallow. `allows` has the indices of
-/// Allows among the rules.
+/// The line of an Allow with the same pattern, which overrules the rule if it is a Disallow. `allows` has the
+/// indices of Allows among the rules.
 fn overruling_allow(
     budget: &mut Budget,
     rules: &[Rule],
@@ -95,7 +95,8 @@ fn overruling_allow(
     overruling_line(budget, one_of(rules, place), rule)
 }
 
-/// Why a plain rule can go, if it can: the others have the same verdicts without it. The rest doesn't rank below it.
+/// Why a plain rule can go, if it can: the others have the same verdicts without it.
+/// The rest doesn't rank below it.
 fn plain_reason(
     budget: &mut Budget,
     stays: &Numbers,
@@ -158,8 +159,8 @@ fn descending(rules: Vec<Rule>) -> Result<Vec<Rule>, AllocError>
     Ok(sorted)
 }
 
-/// Of starred rules and of plain rules, whose ranks descend: the plain rules that can go one after the other, the last one
-/// first, without those in the lines that stay.
+/// Of starred rules and of plain rules, whose ranks descend: the plain rules that can go one after the other,
+/// the last one first, without those in the lines that stay.
 fn settle_plain(
     alloc: Global,
     budget: &mut Budget,
@@ -197,9 +198,9 @@ fn settle_plain(
     })
 }
 
-/// The rules that can go one after the other, without those in the lines that stay: first plain rules, then the others.
-/// There may be more: a rule is found only if one other rule covers it, and the budget bounds how many bytes are
-/// compared.
+/// The rules that can go one after the other, without those in the lines that stay: first plain rules,
+/// then the others. There may be more: a rule is found only if one other rule covers it, and the budget
+/// bounds how many bytes are compared.
 pub(crate) fn settle(
     alloc: Global,
     budget: &mut Budget,

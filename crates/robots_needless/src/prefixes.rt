@@ -1,5 +1,5 @@
-//! Plain rules by their patterns, to find those that begin another pattern. A plain pattern has no star and no dollar:
-//! it matches the texts that begin with it.
+//! Plain rules by their patterns, to find those that begin another pattern. A plain pattern has no star and
+//! no dollar: it matches the texts that begin with it.
 ghost use Rattle.std.specs.Prelude.{◌≡◌, ◌≤◌, All, IsTrue, ◌<◌, ◌+◌, ◌^◌, length, not};
 ghost use Rattle.texting_robots.specs.Internal.Entries.{rank};
 ghost use Rattle.robots_needless.specs.Prefixes.{HasPlace, IsAbove, IsPlainByte, hash_from, next_hash, seed};
@@ -51,8 +51,8 @@ pub(crate) fn hash_of(pattern: &[u8], is_allow: bool) -> u64
     hash
 }
 
-/// The floor, or a higher rank that is above those of rules of this kind with patterns of this length, if the map has
-/// this hash.
+/// The floor, or a higher rank that is above those of rules of this kind with patterns of this
+/// length, if the map has this hash.
 fn floor_at(places: &Places, hash: u64, len: usize, is_allow: bool, floor: usize) -> usize
     requires { rank len is_allow + 1 < 2 ^ 64 }
     ensures most { floor ≤ result }
@@ -64,8 +64,8 @@ fn floor_at(places: &Places, hash: u64, len: usize, is_allow: bool, floor: usize
     floor.max(2 * len + usize::from(is_allow) + 1)
 }
 
-/// The floor, or a higher rank that is above those of the rules of this kind in the map whose patterns begin this one.
-/// An Allow with the same pattern isn't considered, since it ranks above a Disallow.
+/// The floor, or a higher rank that is above those of the rules of this kind in the map whose patterns begin
+/// this one. An Allow with the same pattern isn't considered, since it ranks above a Disallow.
 pub(crate) fn floor_above_beginnings(
     places: &Places,
     pattern: &[u8],

@@ -104,7 +104,8 @@ impl Rule {
         self.is_allow && self.regex.as_str() == "/"
     }
 
-    /// Whether the two patterns differ before their first star or dollar, so that they match no text in common.
+    /// Whether the two patterns differ before their first star or dollar, so that
+    /// they match no text in common.
     pub(crate) fn is_apart_from(&self, other: &Rule) -> bool
         ensures { IsTrue result → AreApart self.now.rule.0 other.now.rule.0 }
     {

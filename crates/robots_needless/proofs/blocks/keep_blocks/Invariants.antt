@@ -6,5 +6,6 @@ use Rattle.robots_needless.proofs.blocks.keep_blocks.Given as goal
 
 abbrev pub invariant-loop-index : goal.invariant-loop-index
 invariant-loop-index l =
-    keep_blocks_from (is_found l.found) l.block (enumerate_count l.index-iterator) (enumerate_source l.index-iterator)
+    keep_blocks_from (is_found l.found) l.block (enumerate_count l.index-iterator)
+    (enumerate_source l.index-iterator)
     ≡ keep_blocks_from (is_found l.found) no_line 0 (file_lines l.text)

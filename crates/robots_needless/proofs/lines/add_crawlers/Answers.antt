@@ -19,9 +19,10 @@ loop-agent-preserved c =
     let at = c.loop-agent.agent-index in
     let name = λ (agent : Bor (List ℕ)). agent.now in
     let is = c.loop-agent.invariant in
+    let findings = c.add_crawler.new.findings in
     let added = c.in_ok-add_crawler.ensures in record {
       grow = grow_on _ _ _ _ _ _ is.grow added.grow;
-      settled = subst (λ names. AreSettled lines names c.add_crawler.new.findings.found c.add_crawler.new.findings.stays)
+      settled = subst (λ names. AreSettled lines names findings.found findings.stays)
           (sym (map_more name agents at _ c.loop-agent-test.true))
           (settled_more lines (map name (take at agents)) _ _ _ _ _ is.settled added.grow added.settled);
       reasons = λ before. added.reasons (is.reasons before);
@@ -32,4 +33,5 @@ returns-clause-settled c =
     let name = λ (agent : Bor (List ℕ)). agent.now in
     let findings = c.loop-agent.findings in
     subst (λ agents. AreSettled (file_lines c.args.site.now) (map name agents) findings.found findings.stays)
-    (take_all c.loop-agent.agent-index c.args.agents.now c.loop-agent-test.false) c.loop-agent.invariant.settled
+    (take_all c.loop-agent.agent-index c.args.agents.now c.loop-agent-test.false)
+    c.loop-agent.invariant.settled

@@ -13,4 +13,5 @@ loop-rule-preserved c =
     let rule = c.rule-item.result in
     let taken : take (i + 1) rules ≡ take i rules ++ rule ∷ [] =
     take_more rules i rule c.loop-rule-test.true ∙ ap (λ x. take i rules ++ x ∷ []) (sym c.rule-item.is) in
-    rw taken (lines_more _ _ _ (take i rules) rule _ c.line.ensures c.loop-rule.invariant c.in_ok-add_number.ensures)
+    rw taken (lines_more _ _ _ (take i rules) rule _ c.line.ensures c.loop-rule.invariant
+    c.in_ok-add_number.ensures)

@@ -1,5 +1,6 @@
 use Rattle.std.proofs.Common.{◌++◌}
-use Rattle.robots_needless.proofs.PlainLemmas.{goes_among, holds_among, no_rivals, of_kept, of_rest, of_starred}
+use Rattle.robots_needless.proofs.PlainLemmas.{goes_among, holds_among, no_rivals, of_kept, of_rest}
+use Rattle.robots_needless.proofs.PlainLemmas.{of_starred}
 use Rattle.robots_needless.proofs.ReasonLemmas.{overruled_goes}
 use Rattle.robots_needless.proofs.plain.plain_reason.Goals as goal
 
@@ -30,4 +31,5 @@ returns-clause-reason c =
     let starred = c.args.starred.now in
     let rest = c.args.rest.now in
     holds_among _ starred c.args.rule.now _ ((kept ++ starred) ++ rest)
-    (of_kept kept starred rest _ c.nearest.ensures) (of_starred kept starred rest) c.reason_among.ensures.reason
+    (of_kept kept starred rest _ c.nearest.ensures) (of_starred kept starred rest)
+    c.reason_among.ensures.reason

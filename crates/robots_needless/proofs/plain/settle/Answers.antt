@@ -17,7 +17,8 @@ returns-clause-together c =
     let sorted = c.in_ok-plain.plain.items in
     let settled = c.in_ok-settled.settled in
     let same = kinds_permuted rules _ sorted starred c.in_ok-kinds.ensures.all c.in_ok-plain.ensures.same in
-    let reduced : IsReducedTo (starred ++ sorted) (settled.kept.items ++ starred) (numbers_of settled.found.items) =
+    let left = settled.kept.items ++ starred in
+    let reduced : IsReducedTo (starred ++ sorted) left (numbers_of settled.found.items) =
     rw (← c.deref.ensures.value) c.in_ok-settled.ensures.together in
     c.in_ok-all.ensures.together rules (reduced_permuted rules (starred ++ sorted) _ _ same reduced)
 
@@ -28,7 +29,8 @@ returns-clause-reasons c =
     let sorted = c.in_ok-plain.plain.items in
     let settled = c.in_ok-settled.settled in
     let same = kinds_permuted rules _ sorted starred c.in_ok-kinds.ensures.all c.in_ok-plain.ensures.same in
-    let reduced : IsReducedTo (starred ++ sorted) (settled.kept.items ++ starred) (numbers_of settled.found.items) =
+    let left = settled.kept.items ++ starred in
+    let reduced : IsReducedTo (starred ++ sorted) left (numbers_of settled.found.items) =
     rw (← c.deref.ensures.value) c.in_ok-settled.ensures.together in
     let reasons : All (IsFound (starred ++ sorted)) settled.found.items =
     rw (← c.deref.ensures.value) c.in_ok-settled.ensures.reasons in

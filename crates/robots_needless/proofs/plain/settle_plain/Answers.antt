@@ -59,15 +59,17 @@ loop-rule-preserved-in-Some-plain_reason c =
     let rule = c.in-Some.rule in
     let last = c.in-Some.ensures.items in
     let is = c.loop-rule.invariant in
+    let found = c.loop-rule.found.items in
+    let rules = c.args.starred.now ++ c.args.rules.items in
     let go : CanGo (unplaced (left ++ rest)) rule.rule =
     rw (← c.deref-in-Some.ensures.value) c.in-Some-plain_reason.ensures.go in
     let holds : IsReason (left ++ rest) rule c.in-Some-plain_reason.reason =
     rw (← c.deref-in-Some.ensures.value) c.in-Some-plain_reason.ensures.reason in
     let added = c.in_ok-push-in-Some-plain_reason.ensures.items in record {
-      reduced = subst (λ numbers. IsReducedTo (c.args.starred.now ++ c.args.rules.items) (left ++ rest) numbers)
-          (numbers_more c.loop-rule.found.items _ c.line.result _ _ added c.line.ensures)
-          (rule_gone _ left rest old rule last _ is.reduced go);
-      reasons = found_more _ left rest old rule last _ is.reduced c.loop-rule.found.items _ c.line.result _ added
+      reduced = subst (λ numbers. IsReducedTo rules (left ++ rest) numbers)
+          (numbers_more found _ c.line.result _ _ added c.line.ensures)
+          (rule_gone rules left rest old rule last _ is.reduced go);
+      reasons = found_more rules left rest old rule last _ is.reduced found _ c.line.result _ added
           c.line.ensures holds is.reasons;
       indexed = is.indexed;
       plain = all_front IsPlain rest old rule last is.plain;

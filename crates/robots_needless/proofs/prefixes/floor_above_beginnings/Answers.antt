@@ -30,6 +30,7 @@ returns-then-is_allow-clause-above c =
 pub returns-clause-above : goal.returns-clause-above
 returns-clause-above c =
     let is = c.loop-k.invariant in
-    rw c.if-is_allow.false (above_denies c.args.places.now c.args.pattern.now c.loop-k.k _ _ _ c.loop-k-test.false
+    rw c.if-is_allow.false
+    (above_denies c.args.places.now c.args.pattern.now c.loop-k.k _ _ _ c.loop-k-test.false
     (rw c.if-is_allow.false at is.above) (rw c.if-is_allow.false at is.hash) c.floor_at.ensures.most
     (rw c.if-is_allow.false at c.floor_at.ensures.above))

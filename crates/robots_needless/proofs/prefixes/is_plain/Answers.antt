@@ -7,8 +7,8 @@ use Rattle.robots_needless.proofs.prefixes.is_plain.Goals as goal
 
 pub loop-byte-preserved : goal.loop-byte-preserved
 loop-byte-preserved c =
-    All-more IsPlainByte c.args.pattern.now c.loop-byte.byte-index 0 c.loop-byte-test.true c.loop-byte.invariant
-    (ne_eqb _ _ c.if-byte-eq42.false, ne_eqb _ _ c.if-byte-eq36.false)
+    All-more IsPlainByte c.args.pattern.now c.loop-byte.byte-index 0 c.loop-byte-test.true
+    c.loop-byte.invariant (ne_eqb _ _ c.if-byte-eq42.false, ne_eqb _ _ c.if-byte-eq36.false)
 
 pub returns : goal.returns
 returns c = λ _.

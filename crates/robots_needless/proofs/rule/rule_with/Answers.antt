@@ -23,7 +23,8 @@ invariant_of-result c =
 
 pub returns-in-Ok-clause-rule : goal.returns-in-Ok-clause-rule
 returns-in-Ok-clause-rule c =
-    placed_some c.args.value.now _ c.args.is_allow c.args.line (sym c.is_utf8.ensures ∙ c.if-not-is_utf8.false)
+    placed_some c.args.value.now _ c.args.is_allow c.args.line
+    (sym c.is_utf8.ensures ∙ c.if-not-is_utf8.false)
     (c.in-Ok.ensures.ok ∙ c.as_str.ensures.value ∙ c.in_ok-pattern.ensures)
 
 pub returns-in-Err-clause-rejected : goal.returns-in-Err-clause-rejected
