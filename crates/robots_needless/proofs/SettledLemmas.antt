@@ -193,14 +193,19 @@ settled_more lines agents last old new stayed stays are grow is agent has =
       | inr same ↦ subst (λ a. IsSettled (placed_rules a lines) new stays) same is
     ]
 
-pub settled_first : (lines : List LineValue) (agents : List (List ℕ)) (first : List ℕ) (old new : Reasons)
-    (stayed stays : BTreeSet ℕ) → IsSettled (placed_rules first lines) old stayed → Grow old new stayed stays
-    → AreSettled lines agents new stays → AreSettled lines (first ∷ agents) new stays
-settled_first lines agents first old new stayed stays is grow are agent (zero, below, same) =
-    subst (λ a. IsSettled (placed_rules a lines) new stays) same
-    (settled_grows (placed_rules first lines) old new stayed stays grow is)
-settled_first lines agents first old new stayed stays is grow are agent (suc k, below, at) =
-    are agent (k, omega arith, at)
+-- `*` and the names that the file has are among the names, if `*` is
+pub among_names : (star : List ℕ) (agents : List (List ℕ)) → Contains agents star
+    → (agent : List ℕ) → Contains (star ∷ agents) agent → Contains agents agent
+among_names star agents has agent (zero, below, same) = subst (Contains agents) same has
+among_names star agents has agent (suc k, below, at) = (k, omega arith, at)
+
+-- they are, if it is added to them
+pub among_pushed : (star : List ℕ) (agents : List (List ℕ)) (agent : List ℕ) → Contains (star ∷ agents) agent
+    → Contains (agents ++ star ∷ []) agent
+among_pushed star agents agent (zero, below, same) =
+    subst (Contains (agents ++ star ∷ [])) same (Contains-push agents star)
+among_pushed star agents agent (suc k, below, at) =
+    Contains-append_left agents (star ∷ []) agent (k, omega arith, at)
 
 pub no_one_settled : (lines : List LineValue) (found : Reasons) (stays : BTreeSet ℕ)
     → AreSettled lines [] found stays

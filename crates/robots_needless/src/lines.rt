@@ -1,5 +1,5 @@
 //! Which lines of a file have rules that are needless for every crawler.
-ghost use Rattle.std.specs.Prelude.{◌≡◌, ◌∷◌, All, IfOk, IsTrue, List, OnOk, codes, map};
+ghost use Rattle.std.specs.Prelude.{◌≡◌, ◌∷◌, All, Contains, IfOk, IsTrue, List, OnOk, codes, map, ℕ};
 ghost use Rattle.texting_robots.specs.Callers.{LineValue, agents_in, file_lines, placed_rules};
 ghost use Rattle.robots_needless.specs.Blocks.{KeepBlocks};
 ghost use Rattle.robots_needless.specs.Internal.{AddsFound, AddsLines, AddsNumber, AreFree, AreReasons, AreSettled, Grow, IsSettled, rule_at};
@@ -94,6 +94,31 @@ fn add_crawlers(
     Ok(())
 }
 
+/// Whether `*` is among the names.
+fn has_star(agents: &[&str]) -> bool
+    ensures { IsTrue result → Contains (map (λ agent. agent.now) agents.now) (codes "*") }
+{
+    for agent in agents {
+        if *agent == "*" {
+            return true;
+        }
+    }
+    false
+}
+
+/// `*` and the crawlers that the file names, each once.
+fn crawlers_of(alloc: Global, site: &Site) -> Result<Vec<&str>, AllocError>
+    ensures { IfOk result (λ crawlers. (agent : List ℕ) → Contains (codes "*" ∷ agents_in (file_lines site.now)) agent
+        → Contains (map (λ crawler. crawler.now) crawlers.items) agent) }
+{
+    let mut agents = site.agents(alloc)?;
+    if has_star(&agents) {
+        return Ok(agents);
+    }
+    agents.push("*")?;
+    Ok(agents)
+}
+
 /// What is found for `*` and each crawler that the file names. The rules in the lines that stay are needed.
 fn findings_for(
     alloc: Global,
@@ -105,11 +130,10 @@ fn findings_for(
         (codes "*" ∷ agents_in (file_lines site.now)) findings.found findings.stays) }
     ensures reasons { IfOk result (λ findings. AreReasons (file_lines site.now) findings.found) }
 {
-    let agents = site.agents(alloc)?;
+    let crawlers = crawlers_of(alloc, site)?;
     let found = BTreeMap::new(alloc);
     let mut findings = Findings { found, stays };
-    add_crawler(alloc, site, "*", budget, &mut findings)?;
-    add_crawlers(alloc, site, &agents, budget, &mut findings)?;
+    add_crawlers(alloc, site, &crawlers, budget, &mut findings)?;
     Ok(findings)
 }
 
