@@ -1,9 +1,12 @@
 -- Plain rules that begin a plain rule are its only rivals.
 use Rattle.std.proofs.Common.{◌≡◌, ◌<◌, ◌≤◌, inl, inr, ℕ, ◌+◌, Bool, true, false, not, List, [], ◌∷◌, ◌++◌}
-use Rattle.std.proofs.Common.{All, ap, sym, subst, refl, ◌∙◌, append-nil, arith, get_or, length, take}
-use Rattle.std.proofs.lemmas.List.{take-take, take_all, take_at, take_more}
+use Rattle.std.proofs.Common.{All, IsTrue, ap, sym, subst, refl, ◌↔◌, ◌∙◌, append-nil, arith, drop, get_or}
+use Rattle.std.proofs.Common.{length, take}
+use Rattle.std.proofs.Math.Dec.{eqb}
+use Rattle.std.specs.Cmp.Lexicographic.{bytes_decides, pointwise}
+use Rattle.std.proofs.lemmas.List.{take-append-drop, take-take, take_all, take_at, take_more}
 use Rattle.std.proofs.lemmas.Bool.{cases_lt}
-use Rattle.texting_robots.specs.Pattern.{Matches}
+use Rattle.texting_robots.specs.Pattern.{Matches, MatchesWith}
 use Rattle.texting_robots.specs.Rules.{PlacedRule, Rule, unplaced}
 use Rattle.texting_robots.specs.Internal.Entries.{rank}
 use Rattle.texting_robots.proofs.{BestLemmas.placed_of, PatternLemmas.in_front}
@@ -25,11 +28,33 @@ hash_more h pattern i d below =
 
 -- ---- patterns that begin with one another
 
+nothing_left : (t : List ℕ) → Matches [] t
+unfolding MatchesWith
+nothing_left t = tt
+
 begins : (p t : List ℕ) → All IsPlainByte p → Matches p t → take (length p) t ≡ p
 begins p t plain fits =
     let (after, is, rest) =
     (in_front true p [] t plain).0 (subst (λ q. Matches q t) (sym (append-nil p)) fits) in
     rw is (take_at p after (length p) refl)
+
+-- a plain pattern matches what it begins
+begun : (p t : List ℕ) → All IsPlainByte p → take (length p) t ≡ p → Matches p t
+begun p t plain is = subst (λ q. Matches q t) (append-nil p) ((in_front true p [] t plain).1 (
+  drop (length p) t,
+  sym (take-append-drop (length p) t) ∙ ap (λ front. front ++ drop (length p) t) is,
+  nothing_left (drop (length p) t),
+))
+
+-- so the comparison of a plain pattern with the beginning of a text shows whether it matches
+pub plain_by : (p t one other : List ℕ) (same : Bool) → one ≡ p → other ≡ t → All IsPlainByte p
+    → same ≡ pointwise eqb one (take (length one) other) → IsTrue same ↔ Matches p t
+plain_by p t one other same first second plain is =
+    let compared = rw (first, second) at is in
+    let decides = bytes_decides p (take (length p) t) in (
+      λ yes. begun p t plain (sym (decides.0 (sym compared ∙ yes))),
+      λ fits. compared ∙ decides.1 (sym (begins p t plain fits)),
+    )
 
 prefix_of : (p q t : List ℕ) → All IsPlainByte p → All IsPlainByte q → length p ≤ length q
     → Matches p t → Matches q t → take (length p) q ≡ p

@@ -1,6 +1,6 @@
 -- How the check compares patterns, and when it finds a rule needless.
 use Rattle.std.specs.Prelude.{◌≡◌, ◌≢◌, ◌⊎◌, ◌↔◌, ℕ, ◌<◌, ◌≤◌, ◌==◌, true, false, List, [], ◌∷◌}
-use Rattle.std.specs.Prelude.{◌++◌, All, Contains, IsPermutation, Some, length, slice_index}
+use Rattle.std.specs.Prelude.{◌++◌, All, Contains, IsPermutation, None, Option, Some, length, slice_index}
 use Rattle.std.specs.Prelude.{if◌then◌else◌}
 use Rattle.std.specs.BTreeMap.{BTreeMap, get}
 use Rattle.std.specs.BTreeSet.{BTreeSet, contains}
@@ -10,6 +10,7 @@ use Rattle.texting_robots.specs.Pattern.{dollar, star}
 use Rattle.robots_needless.specs.declared.needless.NeedlessRule.{NeedlessRule}
 use Rattle.robots_needless.specs.declared.needless.Reason.{Reason}
 use Rattle.robots_needless.specs.Needless.{AreApart, Covers, IsFoundFor, MatchesNothing, lines_of, rank_of}
+use Rattle.robots_needless.specs.Prefixes.{IsPlainByte}
 
 -- a byte that no escaped pattern contains
 abbrev pub fresh : ℕ
@@ -21,6 +22,11 @@ abbrev pub generic : List ℕ → List ℕ
 generic [] = fresh ∷ []
 generic (b ∷ q) =
     if b == star then fresh ∷ generic q else if b == dollar then [] else b ∷ generic q
+
+-- the matcher of the pattern, which has none if it is plain
+abbrev pub IsMatcherOf : List ℕ → Option (List ℕ) → Type 0
+IsMatcherOf pattern None = All IsPlainByte pattern
+IsMatcherOf pattern (Some regex) = regex ≡ pattern
 
 -- from this floor on, the other rule is no rival of the rule: it isn't of the other kind, or doesn't rank
 -- below the rule and at least as high as the floor, or matches no text that the rule matches

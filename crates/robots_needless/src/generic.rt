@@ -20,7 +20,7 @@ pub(crate) fn generic_text(alloc: Global, pattern: &[u8]) -> Result<String, Allo
     requires { All (λ b. b < fresh) pattern.now }
     ensures { IfOk result (λ text. string_bytes text ≡ generic pattern.now) }
 {
-    let mut text = String::new(alloc);
+    let mut text = String::with_capacity(alloc, pattern.len() + 1)?;
     for byte in pattern {
         if *byte == b'$' {
             return Ok(text);

@@ -1,12 +1,13 @@
 //! A crawler's rules, prepared for comparison with each other.
-ghost use Rattle.std.specs.Prelude.{◌≡◌, ◌++◌, ◌<◌, ◌^◌, IfErr, IfOk, IsTrue, string_bytes};
-ghost use Rattle.texting_robots.specs.Callers.{IsFileRejected, IsMemoryErrorOr, IsOverlong, escaped, file_lines, placed_rules};
+ghost use Rattle.std.specs.Prelude.{◌≡◌, ◌↔◌, ◌++◌, ◌<◌, ◌^◌, All, IfErr, IfOk, IsTrue, option_map, string_bytes};
+ghost use Rattle.texting_robots.specs.Callers.{IsFileRejected, IsMemoryErrorOr, IsOverlong, Matches, escaped, file_lines, placed_rules};
 ghost use Rattle.std.specs.Option.{IsSomeAnd};
 ghost use Rattle.std.specs.Str.{is_utf8};
 ghost use Rattle.texting_robots.specs.Executable.{rule_with};
 ghost use Rattle.texting_robots.specs.Internal.Entries.{rank};
 ghost use Rattle.texting_robots.specs.Internal.Group.{placed};
 ghost use Rattle.texting_robots.specs.Internal.Site.{rule_of, tag_of};
+ghost use Rattle.robots_needless.specs.Internal.{IsMatcherOf, fresh};
 ghost use Rattle.robots_needless.specs.Needless.{AreApart, Covers, MatchesNothing, rank_of};
 ghost use Rattle.robots_needless.specs.Prefixes.{IsPlain};
 
@@ -23,7 +24,8 @@ use texting_robots::{Error, push_escaped_bytes};
 #[derive(Drop)]
 pub(crate) struct Rule {
     pattern: String,
-    regex: MinRegex,
+    /// The pattern as a matcher, unless it has no star and no dollar.
+    regex: Option<Box<MinRegex>>,
     generic_text: String,
     is_allow: bool,
     rank: usize,
@@ -31,17 +33,19 @@ pub(crate) struct Rule {
 }
 
 impl Model for Rule {
-    ghost use Rattle.std.specs.Prelude.{◌≡◌, ◌<◌, All, string_bytes};
+    ghost use Rattle.std.specs.Prelude.{◌≡◌, ◌<◌, All, option_map, string_bytes};
     ghost use Rattle.texting_robots.specs.Rules.{PlacedRule};
-    ghost use Rattle.robots_needless.specs.Internal.{fresh, generic};
+    ghost use Rattle.robots_needless.specs.Internal.{IsMatcherOf, fresh, generic};
     ghost use Rattle.robots_needless.specs.Needless.{rank_of};
 
     ghost Value = { PlacedRule };
 
-    ghost view = { λ r. record { rule = (r.regex, r.is_allow); line = r.line } };
+    ghost view = { λ r. record { rule = (string_bytes r.pattern, r.is_allow); line = r.line } };
 
-    ghost invariant = { λ r. (string_bytes r.generic_text ≡ generic r.regex) × (r.rank ≡ rank_of (r.regex, r.is_allow))
-        × All (λ b. b < fresh) r.regex × (string_bytes r.pattern ≡ r.regex) };
+    ghost invariant = { λ r. (string_bytes r.generic_text ≡ generic (string_bytes r.pattern))
+        × (r.rank ≡ rank_of (string_bytes r.pattern, r.is_allow))
+        × All (λ b. b < fresh) (string_bytes r.pattern)
+        × IsMatcherOf (string_bytes r.pattern) (option_map (λ matcher. matcher.value) r.regex) };
 }
 
 impl Rule {
@@ -85,23 +89,34 @@ impl Rule {
         self.generic_text.len()
     }
 
+    /// Whether the pattern matches the text.
+    fn is_match(&self, text: &str) -> bool
+        ensures matches { IsTrue result ↔ Matches self.now.rule.0 text.now }
+        ensures below { All (λ b. b < fresh) self.now.rule.0 }
+    {
+        match &self.regex {
+            None => text.as_bytes().starts_with(self.pattern.as_bytes()),
+            Some(regex) => regex.is_match(text),
+        }
+    }
+
     /// Whether the pattern matches all texts that the other one matches. False if the other one matches none.
     pub(crate) fn covers(&self, other: &Rule) -> bool
         ensures { IsTrue result → Covers self.now.rule.0 other.now.rule.0 }
     {
-        self.regex.is_match(other.generic_text.as_str())
+        self.is_match(other.generic_text.as_str())
     }
 
     /// Whether the pattern matches no text.
     pub(crate) fn matches_nothing(&self) -> bool
         ensures { IsTrue result → MatchesNothing self.now.rule.0 }
     {
-        !self.regex.is_match(self.generic_text.as_str())
+        !self.is_match(self.generic_text.as_str())
     }
 
     /// Whether it is `Allow: /` or an empty Disallow, which say that all is allowed.
     pub(crate) fn allows_all(&self) -> bool {
-        self.is_allow && self.regex.as_str() == "/"
+        self.is_allow && self.pattern.as_str() == "/"
     }
 
     /// Whether the two patterns differ before their first star or dollar, so that
@@ -140,6 +155,18 @@ fn pattern_of(alloc: Global, value: &[u8]) -> Result<String, AllocError>
     Ok(pattern)
 }
 
+/// The matcher of a pattern, unless the pattern has no star and no dollar.
+fn matcher_of(alloc: Global, pattern: &str) -> Result<Option<Box<MinRegex>>, Error>
+    ensures matcher { IfOk result (λ made. IsMatcherOf pattern.now (option_map (λ matcher. matcher.value) made)) }
+    ensures rejected { IfErr result (IsMemoryErrorOr (IsOverlong pattern.now)) }
+{
+    if is_plain(pattern.as_bytes()) {
+        return Ok(None);
+    }
+    let regex = MinRegex::new(alloc, pattern)?;
+    Ok(Some(Box::new(alloc, regex)?))
+}
+
 /// The rule with this value, if it is UTF-8.
 fn rule_with(
     alloc: Global,
@@ -157,7 +184,7 @@ fn rule_with(
     let pattern = pattern_of(alloc, value)?;
     let rank = rank_of_pattern(pattern.len(), is_allow);
     let generic_text = generic_text(alloc, pattern.as_bytes())?;
-    match MinRegex::new(alloc, pattern.as_str()) {
+    match matcher_of(alloc, pattern.as_str()) {
         Ok(regex) => Ok(Some(Rule {
             pattern,
             regex,

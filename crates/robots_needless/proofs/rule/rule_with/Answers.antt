@@ -1,4 +1,4 @@
-use Rattle.std.proofs.Common.{◌≡◌, ◌∙◌, ap, arith, length, sym}
+use Rattle.std.proofs.Common.{◌≡◌, ◌∙◌, ap, arith, length, string_bytes, sym}
 use Rattle.texting_robots.specs.Internal.Entries.{rank}
 use Rattle.texting_robots.proofs.RulesLemmas.{rejected_wider}
 use Rattle.robots_needless.specs.Internal.{generic}
@@ -12,20 +12,18 @@ generic_text-requires c =
 
 pub invariant_of-result : goal.invariant_of-result
 invariant_of-result c =
-    let is = c.in-Ok.ensures.ok ∙ c.as_str.ensures.value in
-    let len : c.len.result ≡ length c.in-Ok.regex =
-    omega (arith, c.as_bytes.ensures.len, ap length c.as_bytes.ensures.value, ap length is) in (
-      c.in_ok-generic_text.ensures ∙ ap generic (c.as_bytes.ensures.value ∙ sym is),
+    let len : c.len.result ≡ length (string_bytes c.in_ok-pattern.pattern) =
+    omega (arith, c.as_bytes.ensures.len, ap length c.as_bytes.ensures.value) in (
+      c.in_ok-generic_text.ensures ∙ ap generic c.as_bytes.ensures.value,
       c.rank_of_pattern-rank.ensures ∙ ap (λ n. rank n c.args.is_allow) len,
-      rw (is ∙ c.in_ok-pattern.ensures) (escaped_below c.args.value.now),
-      sym is,
+      rw c.in_ok-pattern.ensures (escaped_below c.args.value.now),
+      rw c.as_str.ensures.value at c.in-Ok.ensures.matcher,
     )
 
 pub returns-in-Ok-clause-rule : goal.returns-in-Ok-clause-rule
 returns-in-Ok-clause-rule c =
     placed_some c.args.value.now _ c.args.is_allow c.args.line
-    (sym c.is_utf8.ensures ∙ c.if-not-is_utf8.false)
-    (c.in-Ok.ensures.ok ∙ c.as_str.ensures.value ∙ c.in_ok-pattern.ensures)
+    (sym c.is_utf8.ensures ∙ c.if-not-is_utf8.false) c.in_ok-pattern.ensures
 
 pub returns-in-Err-clause-rejected : goal.returns-in-Err-clause-rejected
 returns-in-Err-clause-rejected c =
