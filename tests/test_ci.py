@@ -6,7 +6,7 @@ import re
 import subprocess
 
 import pytest
-from support import DOCUMENTS, program
+from support import DOCUMENTS, program, shown
 
 GOOD = "User-agent: *\nDisallow: /private/\n"
 EXPECTED = "allow Googlebot /products/tea\ndeny Googlebot /private/tea\n"
@@ -94,6 +94,15 @@ def test_hook_checks_what_is_committed(folder):
 def test_hook_stops_a_commit_without_robots_txt(folder):
     assert hook(folder) == 0
     assert ran(folder, "git rm -q robots.txt && git commit -qm gone") != 0
+
+
+def test_empty_file_is_stopped_by_its_audit(folder):
+    """That of a build, and standard input, if `--file` is forgotten."""
+    _, audit, *_ = shown(DOCUMENTS["docs/CI.md"]).splitlines()
+    assert ran(folder, audit) == 0
+    assert ran(folder, audit.replace(" --file robots.txt", " < /dev/null")) == 3
+    (folder / "robots.txt").write_text("")
+    assert ran(folder, audit) == 3
 
 
 def test_workflow_reports_what_changes(folder):

@@ -217,6 +217,7 @@ def test_proofs_name_the_toolchain():
 
 # ---- docs/PROGRAMS.md
 
+EMPTY = {"an empty AGENT": ([b""], b""), "an empty file": ([b"FerrisBot"], b"")}
 PREFIXED = ("**An ignored line", "**A directive", "**A rule", "**A delay")
 
 
@@ -224,6 +225,9 @@ def examples_of_warnings():
     """Each warning with its example: the arguments and the file."""
     for part in re.split(r"\n(?=\*\*)", section(PROGRAMS, "Warnings")):
         for name, _, example, _ in (row for row in tables(part) if row[0].strip("`") in WARNINGS):
+            if example in EMPTY:
+                yield pytest.param(name.strip("`"), *EMPTY[example], id=f"{name} {example}")
+                continue
             what, text, below = re.fullmatch(r"(AGENT|URL|option|) ?`([^`]*)`(?:, file `([^`]*)`)?", example).groups()
             bytes_of, file = (spelled((text or "").replace("⏎", "\n")) for text in (text, below))
             args = {"AGENT": [bytes_of], "URL": ["FerrisBot", bytes_of], "option": [bytes_of, "FerrisBot"]}.get(what, ["FerrisBot"])

@@ -43,7 +43,7 @@ def test_example_triggers_its_warning(name):
     assert [line for line, _ in parts] == [line for line in listed() if line.split()[1] == f"{name}:"]
     for line, example in parts:
         text = spelled(re.sub("^    ", "", example, flags=re.M).removesuffix("\n"))
-        command = shlex.split(text.decode()) if text.startswith(b"robots_audit ") else ["", *arguments_of(text)]
+        command = shlex.split(text.removesuffix(b" < /dev/null").decode()) if text.startswith(b"robots_audit ") else ["", *arguments_of(text)]
         level, message = line.split()[0], line.split(": ", 1)[1]
         result = run("robots_audit", command[1:], b"" if command[0] else text)
         assert f"{level}: {message} [{name}]" in re.sub(r"URL '.*?': | \(\d+ in all\)| \(see line \d+\)", "", result.err)
@@ -52,8 +52,8 @@ def test_example_triggers_its_warning(name):
 @pytest.mark.parametrize("name, args, file", examples_of_warnings())
 def test_example_is_the_documented_one(name, args, file):
     examples = [spelled(re.sub("^    ", "", example, flags=re.M).removesuffix("\n")) for _, example in explained(name)]
-    command = b" ".join([b"robots_audit", *(word if isinstance(word, bytes) else word.encode() for word in args)])
-    shown = {file, file.removeprefix(b"User-agent: *\n"), b"# " + command + b"\n" + file} if file else {command, command.replace(args[-1], b"'" + args[-1] + b"'")}
+    command = shlex.join(["robots_audit", *(word.decode() if isinstance(word, bytes) else word for word in args)]).encode()
+    shown = {file, file.removeprefix(b"User-agent: *\n"), b"# " + command + b"\n" + file} if file else {command, command + b" < /dev/null"}
     assert shown & set(examples)
 
 

@@ -90,7 +90,9 @@ def test_results():
         ("note", "clean-param-line", message("clean-param-line"), "robots.txt", 4),
         ("warning", "noindex-line", message("noindex-line"), "robots.txt", 5),
     ]
-    assert list(results(log("Ferris/1", file=b""))) == [("warning", "version-in-agent", message("version-in-agent"), "robots.txt", 1)]
+    assert list(results(log("Ferris/1", file=b"#"))) == [("warning", "version-in-agent", message("version-in-agent"), "robots.txt", 1)]
+    named = f"crawler 'Ferris/1': {message('version-in-agent')}"
+    assert list(results(log("--agent", "Ferris/1", "--agent", "Ferris", file=b"#"))) == [("warning", "version-in-agent", named, "robots.txt", 1)]
 
 
 @pytest.mark.parametrize("url", ["/b{0}", "/b[ok](https://evil.example)", "/b\\[ok](1)", "/b{{}}\\\\[]\u00fc\u20ac\U0001f600"])

@@ -30,7 +30,7 @@ left : (a b : Bool) → (a || b) ≡ true → b ≡ false → a ≡ true
 left true b either isnt = refl
 left false b either isnt = cc
 
-whole_site_matches : (pattern text : List ℕ) → is_whole_site pattern ≡ true
+pub whole_site_matches : (pattern text : List ℕ) → is_whole_site pattern ≡ true
     → Matches pattern (byte "/" ∷ text)
 unfolding MatchesWith
 whole_site_matches [] text whole = cc

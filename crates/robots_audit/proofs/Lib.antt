@@ -7,6 +7,7 @@ pub mod ClosedLemmas
 pub mod ColorLemmas
 pub mod CompareLemmas
 pub mod ComparePrintableLemmas
+pub mod ConflictLemmas
 pub mod DelayLemmas
 pub mod DeniedLemmas
 pub mod ExpectLemmas

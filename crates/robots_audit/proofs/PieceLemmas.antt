@@ -132,7 +132,7 @@ line_start_pieces out label =
 
 -- ---- warnings
 
--- the rows of warnings with the same cause are the same, if they are about no URL and have no number at their end
+-- the rows of warnings with the same cause are the same, if their messages have no URL, no name and no number
 pub row_of_cause : (warning : Warning) → warning.about ≡ None → warning.detail ≡ None
     → warning_row (of_cause warning.cause) ≡ warning_row (warning_value warning)
 unfolding warning_row

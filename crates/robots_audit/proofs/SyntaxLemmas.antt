@@ -1,6 +1,6 @@
 -- What a report tells about the syntax of a file is so.
 use Rattle.std.proofs.Common.{◌≡◌, inl, inr, ℕ, Bool, true, false, List, [], ◌∷◌, None, Option, Some}
-use Rattle.std.proofs.Common.{length, map, not, refl, subst, take}
+use Rattle.std.proofs.Common.{is_none, length, map, not, refl, subst, take}
 use Rattle.std.specs.List.{AllByRecursion as Each}
 use Rattle.std.proofs.lemmas.Bool.{cases_Bool, false≢true, ltb-false, not-false, or_parts}
 use Rattle.std.proofs.lemmas.List.{take_all}
@@ -41,16 +41,16 @@ known None false warnings is = elim (cases_Bool (has_syntax_warning warnings)) [
 ]
 
 -- all warnings but those about needless rules, as `warnings_found` has them
-abbrev warnings_for : Option (List ℕ) → (agents urls : List (List ℕ)) → List ℕ → List WarningValue
-warnings_for agent agents urls file =
+abbrev warnings_for : Option (List ℕ) → (named agents urls : List (List ℕ)) → List ℕ → List WarningValue
+warnings_for agent named agents urls file =
     let labels = labels_for (labeling_agent agent) (lines_read file) in
-    warnings agent agents urls file (facts_of file labels) labels (lines_read file)
+    warnings (is_none agent) named agents urls file (facts_of file labels) labels (lines_read file)
 
 -- if the request isn't about a single crawler, the warnings are those of all groups
-silent_on : (agent : Option (List ℕ)) (agents urls : List (List ℕ)) (file : List ℕ) → agent ≡ None
-    → Each IsAboutMeaning (warnings_for agent agents urls file) → IsSilentOn agents urls file
-silent_on None agents urls file everyone all = all
-silent_on (Some agent) agents urls file everyone all = absurd cc
+silent_on : (agent : Option (List ℕ)) (named agents urls : List (List ℕ)) (file : List ℕ) → agent ≡ None
+    → Each IsAboutMeaning (warnings_for agent named agents urls file) → IsSilentOn named agents urls file
+silent_on None named agents urls file everyone all = all
+silent_on (Some agent) named agents urls file everyone all = absurd cc
 
 module _ (requested : RequestValue) (file : List ℕ) (audit : AuditValue) (is : IsAuditOf requested file audit)
     (standard : is_standard audit.syntax ≡ true) where
@@ -61,11 +61,12 @@ module _ (requested : RequestValue) (file : List ℕ) (audit : AuditValue) (is :
       (warnings_found requested file (labels_requested requested file) is.needless)
       (subst (λ syntax. is_standard syntax ≡ true) is.syntax_is standard)
 
-  silent : IsSilentOn (agents_requested requested.agents (lines_read file)) requested.urls file
-  silent = silent_on requested.agent (agents_requested requested.agents (lines_read file)) requested.urls file
-      found.everyone
-      (each_front IsAboutMeaning
-      (warnings_for requested.agent (agents_requested requested.agents (lines_read file)) requested.urls file)
+  abbrev agents : List (List ℕ)
+  agents = agents_requested requested.agents (lines_read file)
+
+  silent : IsSilentOn requested.agents agents requested.urls file
+  silent = silent_on requested.agent requested.agents agents requested.urls file found.everyone
+      (each_front IsAboutMeaning (warnings_for requested.agent requested.agents agents requested.urls file)
       (map needless_warning is.needless) found.silent)
 
   all_read : take file_limit file ≡ file
@@ -74,11 +75,10 @@ module _ (requested : RequestValue) (file : List ℕ) (audit : AuditValue) (is :
   pub file_of_the_standard : (groups : List Group) × IsFile groups file
   file_of_the_standard =
       let (groups, is) =
-      silence (agents_requested requested.agents (lines_read file)) requested.urls file silent in
+      silence requested.agents agents requested.urls file silent in
       (groups, subst (IsFile groups) all_read is)
 
   pub robot_of_the_standard : (agent : List ℕ) (robot : RobotValue)
       → IsRobotOfFile agent (take file_limit file) robot → IsRobotStated agent file robot
   robot_of_the_standard agent robot of =
-      robot_stated (agents_requested requested.agents (lines_read file)) requested.urls file silent agent
-      robot of
+      robot_stated requested.agents agents requested.urls file silent agent robot of

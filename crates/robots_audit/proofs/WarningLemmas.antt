@@ -1,36 +1,32 @@
 -- Theorems about warnings: what the conditions of some warnings imply for rules and URLs.
-use Rattle.std.proofs.Common.{◌≡◌, ◌↔◌, ℕ, Bool, true, false, List, [], ◌∷◌, ◌++◌, Any, Contains, IsTrue}
-use Rattle.std.proofs.Common.{◌&&◌, ◌||◌, ◌==◌, ap, ap₂, arith, cond, get_or, if◌then◌else◌, inl, inr}
-use Rattle.std.proofs.Common.{drop, suc, filter, length, map, None, not, Option, refl, slice_get, Some}
+use Rattle.std.proofs.Common.{◌≡◌, ℕ, Bool, true, false, List, [], ◌∷◌, ◌++◌, Contains}
+use Rattle.std.proofs.Common.{◌&&◌, ◌||◌, ◌==◌, ap, arith, cond, get_or, if◌then◌else◌, inl, inr}
+use Rattle.std.proofs.Common.{drop, suc, filter, map, None, not, Option, refl, slice_get, Some}
 use Rattle.std.proofs.Common.{subst, sym, take, ◌+◌, ◌∙◌}
 use Rattle.std.specs.List.{enumerate_from, list_all, list_any, prefix_len}
 use Rattle.std.specs.Option.{option_map_or}
 use Rattle.std.specs.Str.{byte, is_utf8, str_to_ascii_lowercase}
 use Rattle.std.proofs.lemmas.Bool.{cases_Bool, eq-eqb, eqb-true, false≢true}
-use Rattle.std.proofs.lemmas.List.Folds.{Any-from_list_any, list_any-append, list_any-from_Any}
+use Rattle.std.proofs.lemmas.List.Folds.{list_any-append}
 use Rattle.std.proofs.lemmas.List.Elements.{Contains-append_cases}
-use Rattle.std.proofs.lemmas.List.Sorted.{Contains-permutation}
-use Rattle.std.proofs.lemmas.Slice.Eq.{bytes_eq-Decides}
-use Rattle.texting_robots.specs.Callers.{Allow, AreLabelsOf, AreRulesFor, CrawlDelay, Disallow, HoldsRule}
-use Rattle.texting_robots.specs.Callers.{IsDecidingLine, LineValue, Label, Matches, PlacedRule, Raw, Rule}
+use Rattle.texting_robots.specs.Callers.{Allow, AreLabelsOf, CrawlDelay, Disallow, HoldsRule}
+use Rattle.texting_robots.specs.Callers.{LineValue, Label, Matches, Raw, Rule}
 use Rattle.texting_robots.specs.Callers.{Sitemap, HasMembership, UserAgent, escaped, group_name}
-use Rattle.texting_robots.specs.Callers.{file_lines, is_agent_named, is_named, placed_rules, prepared}
+use Rattle.texting_robots.specs.Callers.{file_lines, is_agent_named, is_named, prepared}
 use Rattle.texting_robots.specs.declared.labels.Membership.{Membership}
 use Rattle.texting_robots.specs.declared.labels.Membership.TheVariants.{Other, Ungrouped, Own}
 use Rattle.texting_robots.specs.Escape.{escape_byte, is_escaped}
 use Rattle.texting_robots.specs.Group.{is_agent, is_group, passes_at}
 use Rattle.texting_robots.specs.Pattern.{MatchesWith, dollar, star}
 use Rattle.texting_robots.specs.Internal.Segments.{is_wildcard}
-use Rattle.texting_robots.proofs.HeldLemmas.{computed_are, one_list}
 use Rattle.texting_robots.proofs.SlashLemmas.{unparsed_prepared}
 use Rattle.texting_robots.proofs.PatternLemmas.{only_wildcards_match}
-use Rattle.robots_warnings.specs.Conflicts.{IsConflict, allows, is_conflict, is_conflict_at, is_conflict_for}
 use Rattle.robots_warnings.specs.NamesPastLimit.{has_new_name, is_past_limit, names_past_limit}
 use Rattle.robots_warnings.specs.Positions.{is_above_agents, is_outside}
 use Rattle.robots_warnings.specs.Rules.{begins_oddly, has_dollar_inside}
 use Rattle.robots_warnings.specs.Urls.{is_invalid_url}
 
--- ---- allowed-and-disallowed
+-- ---- conditions and lines
 
 pub both : (a b : Bool) → (a && b) ≡ true → (a ≡ true) × (b ≡ true)
 both true true is = (refl, refl)
@@ -41,99 +37,14 @@ pub none : (a : Bool) → not a ≡ true → a ≡ false
 none true is = cc
 none false is = refl
 
--- a rule of this kind, with this pattern and in this line, is among the rules
-listed : (rules : List PlacedRule) (placed : PlacedRule) (pattern : List ℕ) (is_allow : Bool) (number : ℕ)
-    → Contains rules placed → placed.rule.0 ≡ pattern → placed.rule.1 ≡ is_allow → placed.line ≡ number
-    → Contains rules (record { rule = (pattern, is_allow); line = number })
-listed rules placed pattern is_allow number has is kind at =
-    subst (λ (p : List ℕ). Contains rules (record { rule = (p, is_allow); line = number })) is
-    (subst (λ (b : Bool). Contains rules (record { rule = (placed.rule.0, b); line = number })) kind
-    (subst (λ (n : ℕ). Contains rules (record { rule = placed.rule; line = n })) at has))
-
-conflict_is : (lines : List LineValue) (number : ℕ) (agent : List ℕ)
-    → is_conflict_for lines number agent ≡ true → IsConflict agent lines number
-conflict_is lines number agent holds =
-    let rules = placed_rules agent lines in
-    let (k, placed, below, at, passes) = Any-from_list_any (is_conflict_at rules number) rules holds in
-    let (front, here) = both _ _ passes in
-    let (denies, allowed) = both _ _ front in
-    let (i, other, within, there, tests) = Any-from_list_any (allows placed.rule.0) rules allowed in
-    let (permits, same) = both _ _ tests in
-    record {
-      rules = rules;
-      are = computed_are agent lines;
-      pattern = placed.rule.0;
-      other = other.line;
-      disallow = listed rules placed placed.rule.0 false number (k, below, at) refl (none _ denies)
-          (eqb-true placed.line number here);
-      allow = listed rules other placed.rule.0 true other.line (i, within, there)
-          ((bytes_eq-Decides other.rule.0 placed.rule.0).0 same) permits refl;
-    }
-
-conflict_holds : (lines : List LineValue) (number : ℕ) (agent : List ℕ)
-    → IsConflict agent lines number → is_conflict_for lines number agent ≡ true
-conflict_holds lines number agent is =
-    let rules = placed_rules agent lines in
-    let moved = one_list agent lines is.rules rules is.are (computed_are agent lines) in
-    let (i, within, there) = Contains-permutation is.rules rules _ moved is.allow in
-    let allowed = list_any-from_Any (allows is.pattern) rules (
-      i,
-      record { rule = (is.pattern, true); line = is.other },
-      within,
-      there,
-      (bytes_eq-Decides is.pattern is.pattern).1 refl,
-    ) in
-    let (k, below, at) = Contains-permutation is.rules rules _ moved is.disallow in
-    list_any-from_Any (is_conflict_at rules number) rules (
-      k,
-      record { rule = (is.pattern, false); line = number },
-      below,
-      at,
-      rw allowed (eq-eqb number number refl),
-    )
-
-pub allowed_and_disallowed : (agents : List (List ℕ)) (lines : List LineValue) (number : ℕ)
-    → IsTrue (is_conflict agents lines number) ↔ Any (λ agent. IsConflict agent lines number) agents
-allowed_and_disallowed agents lines number = (
-  λ holds.
-      let (k, agent, below, at, is) = Any-from_list_any (is_conflict_for lines number) agents holds in
-      (k, agent, below, at, conflict_is lines number agent is),
-  λ (k, agent, below, at, is).
-      list_any-from_Any (is_conflict_for lines number) agents
-      (k, agent, below, at, conflict_holds lines number agent is),
-)
-
 -- two rules given by one line have the same kind and the same value
-one_value : (a b : Bool) (value other : List ℕ)
+pub one_value : (a b : Bool) (value other : List ℕ)
     → ◌≡◌ {A = Option LineValue} (Some (cond a (Allow value) (Disallow value)))
     (Some (cond b (Allow other) (Disallow other))) → (a ≡ b) × (value ≡ other)
 one_value true true value other same = (refl, cc)
 one_value true false value other same = cc
 one_value false true value other same = cc
 one_value false false value other same = (refl, cc)
-
--- a line holds at most one rule
-one_rule : (agent : List ℕ) (lines : List LineValue) (place : ℕ) (rule other : Rule)
-    → HoldsRule agent lines place rule → HoldsRule agent lines place other → rule ≡ other
-one_rule agent lines place rule other one two =
-    let (kind, value) = one_value rule.1 other.1 one.value two.value (sym one.line.0 ∙ two.line.0) in
-    ap₂ (λ (pattern : List ℕ) (is_allow : Bool). (pattern, is_allow))
-    (one.pattern ∙ ap escaped value ∙ sym two.pattern) kind
-
-pub conflict_never_decides : (agent : List ℕ) (lines : List LineValue) (rules : List PlacedRule)
-    (number : ℕ) (text : List ℕ) → IsConflict agent lines number → AreRulesFor agent lines rules
-    → ¬ IsDecidingLine rules text (Some number)
-conflict_never_decides agent lines rules number text is are (differs, placed, decides, at) =
-    let moved = one_list agent lines is.rules rules is.are are in
-    let (here, on, holds) = (are.held placed).0 decides.listed in
-    let (there, also, denies) = (are.held _).0 (Contains-permutation is.rules rules _ moved is.disallow) in
-    let place : here ≡ there = omega arith in
-    let same = one_rule agent lines there placed.rule (is.pattern, false)
-    (subst (λ place. HoldsRule agent lines place placed.rule) place holds) denies in
-    decides.best (record { rule = (is.pattern, true); line = is.other })
-    (Contains-permutation is.rules rules _ moved is.allow)
-    (subst (λ (rule : Rule). Matches rule.0 text) same decides.matches)
-    (inr (ap (λ (rule : Rule). length rule.0) (sym same), inl (refl, ap (λ (rule : Rule). rule.1) same)))
 
 -- ---- group-past-size-limit
 

@@ -1,6 +1,6 @@
 -- The audit of a file: its lines, what applies to each requested crawler, and the warnings.
 use Rattle.std.specs.Prelude.{◌≡◌, ℕ, Bool, false, List, [], ◌∷◌, ◌++◌, Option, Some, None}
-use Rattle.std.specs.Prelude.{bytes_eq, codes, count_by, filter, is_some, map, not, sum_by}
+use Rattle.std.specs.Prelude.{bytes_eq, codes, count_by, filter, is_none, is_some, map, not, sum_by}
 use Rattle.std.specs.Prelude.{if◌then◌else◌}
 use Rattle.std.specs.List.{AllZip, list_all, list_any}
 use Rattle.std.specs.Str.{is_utf8, str_to_ascii_lowercase}
@@ -132,8 +132,8 @@ labels_requested requested file = labels_for (labeling_agent requested.agent) (l
 -- all warnings about the file and the request, and then those about the needless rules that were found
 abbrev pub warnings_found : RequestValue → List ℕ → List Label → List NeedlessRule → List WarningValue
 warnings_found requested file labels needless =
-    warnings requested.agent (agents_requested requested.agents (lines_read file)) requested.urls file
-    (facts_of file labels) labels (lines_read file) ++ map needless_warning needless
+    warnings (is_none requested.agent) requested.agents (agents_requested requested.agents (lines_read file))
+    requested.urls file (facts_of file labels) labels (lines_read file) ++ map needless_warning needless
 
 -- the warnings that the request doesn't exclude
 abbrev pub warnings_requested : RequestValue → List ℕ → List Label → List NeedlessRule → List WarningValue

@@ -240,7 +240,7 @@ warning_row warning =
     tag (codes "tr") (with (codes "class") (level_word (level_of warning.cause)))
     (tag (codes "td") (with (codes "colspan") (codes "4")) (text (warning_words warning)))
 
--- a warning with this cause, which is about no URL and has no number at the end of its message
+-- a warning with this cause, whose message has no URL, no name and no number
 abbrev pub of_cause : Cause → WarningValue
 of_cause cause = record { line = None; cause = cause; about = None; detail = None }
 

@@ -1,5 +1,5 @@
 //! The audit of a file: its lines, what applies to each requested crawler, and the warnings.
-ghost use Rattle.std.specs.Prelude.{◌≡◌, ◌++◌, IfErr, IfOk, map, option_map, string_bytes, take};
+ghost use Rattle.std.specs.Prelude.{◌≡◌, ◌++◌, IfErr, IfOk, is_none, map, option_map, string_bytes, take};
 ghost use Rattle.std.specs.List.{AllZip, list_any};
 ghost use Rattle.texting_robots.specs.Callers.{file_limit, file_lines, lines_read, label_by_value};
 ghost use Rattle.texting_robots.specs.Group.{is_agent};
@@ -177,6 +177,16 @@ pub(crate) fn labeling_agent<'a>(agent: Option<&'a str>) -> &'a str
     }
 }
 
+/// Whether the report isn't about a single crawler, so that the rules of all groups are checked.
+fn covers_all_groups(agent: Option<&str>) -> bool
+    ensures { result ≡ is_none (option_map (λ agent. agent.now) agent.entry) }
+{
+    match agent {
+        Some(_) => false,
+        None => true,
+    }
+}
+
 /// All warnings about the file and the request, and then those about these needless rules. `facts` and `labels` are
 /// those of this file.
 fn warnings_of<'a>(
@@ -190,11 +200,15 @@ fn warnings_of<'a>(
     needless: &[NeedlessRule],
 ) -> Result<Vec<Warning<'a>>, AllocError>
     ensures { IfOk result (λ found. map warning_value found.items
-        ≡ warnings (requested_by request.now).agent (map string_bytes agents.now) (requested_by request.now).urls
-        file.now facts (map label_by_value labels.now) (file_lines site.now) ++ map needless_warning needless.now) }
+        ≡ warnings (is_none (requested_by request.now).agent) (requested_by request.now).agents
+        (map string_bytes agents.now) (requested_by request.now).urls file.now facts (map label_by_value labels.now)
+        (file_lines site.now) ++ map needless_warning needless.now) }
 {
-    let (agent, urls) = (request.agent, &request.urls);
-    let mut found = warnings(alloc, agent, agents, urls, file, facts, labels, site)?;
+    let everywhere = covers_all_groups(request.agent);
+    let (named, urls) = (&request.agents, &request.urls);
+    let mut found = warnings(
+        alloc, everywhere, named, agents, urls, file, facts, labels, site,
+    )?;
     add_needless(&mut found, needless)?;
     Ok(found)
 }
@@ -228,14 +242,7 @@ pub(crate) fn audit_of<'a, 'b>(
     let agents = agent_audits(alloc, &names, file, &site, has_agents, &request.urls)?;
     let needless = needless_rules(alloc, request.has_needless, &site)?;
     let all = warnings_of(
-        alloc,
-        request,
-        &names,
-        file,
-        facts,
-        &labels,
-        &site,
-        &needless,
+        alloc, request, &names, file, facts, &labels, &site, &needless,
     )?;
     let warnings = warnings_chosen(alloc, request, &all)?;
     let syntax = syntax_of(request.agent, facts.is_too_large, &all);

@@ -140,16 +140,21 @@ pub fn each_name_has_one_rule()
 {}
 
 /// `allowed-and-disallowed` is given for a line exactly if it has a Disallow that applies to one of the crawlers reported
-/// on, and an Allow with the same pattern applies to that crawler too.
+/// on, and an Allow with the same pattern applies to that crawler too, where `/` and `*` are the same.
 pub fn allowed_and_disallowed()
     ensures { (agents : List (List ℕ)) (lines : List LineValue) (number : ℕ)
         → IsTrue (is_conflict agents lines number) ↔ Any (λ agent. IsConflict agent lines number) agents }
 {}
 
-/// The Disallow of an `allowed-and-disallowed` decides no verdict for the crawler to which both apply.
+/// The Disallow of an `allowed-and-disallowed` decides no verdict for the crawler to which both apply: none at all
+/// if the patterns are equal, and none on a path if they are `/` and `*`.
 pub fn allowed_and_disallowed_never_decides()
-    ensures { (agent : List ℕ) (lines : List LineValue) (rules : List PlacedRule) (number : ℕ) (text : List ℕ)
-        → IsConflict agent lines number → AreRulesFor agent lines rules → ¬ IsDecidingLine rules text (Some number) }
+    ensures same { (agent : List ℕ) (lines : List LineValue) (rules : List PlacedRule) (number : ℕ)
+        (text : List ℕ) → (is : IsConflict agent lines number) → is.allowed ≡ is.pattern → AreRulesFor agent lines rules
+        → ¬ IsDecidingLine rules text (Some number) }
+    ensures path { (agent : List ℕ) (lines : List LineValue) (rules : List PlacedRule) (number : ℕ)
+        (path : List ℕ) → IsConflict agent lines number → AreRulesFor agent lines rules
+        → ¬ IsDecidingLine rules (byte "/" ∷ path) (Some number) }
 {}
 
 /// If `closes-everything` is given because of the rules of a crawler, every path is denied to the crawler, except

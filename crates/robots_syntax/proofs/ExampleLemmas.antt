@@ -14,12 +14,12 @@ use Rattle.robots_syntax.specs.Examples as example
 use Rattle.robots_syntax.specs.Examples.{silent_file, warned_file}
 use Rattle.robots_syntax.specs.Syntax.{IsSilentOn}
 
-quiet : IsSilentOn [] [] silent_file
+quiet : IsSilentOn [] [] [] silent_file
 unfolding cut line_of statement_of begins_with kept_end kept_start pieces_from spans_from is_utf8 chars encode
 quiet = tt
 
 pub silent : example.silent
-silent = (quiet, silence [] [] silent_file quiet)
+silent = (quiet, silence [] [] [] silent_file quiet)
 
 pub warned : example.warned
 unfolding cut line_of statement_of begins_with kept_end kept_start pieces_from spans_from is_utf8 chars encode

@@ -59,7 +59,7 @@ no_nul true true one two = absurd (false≢true two)
 no_nul true false one two = absurd (false≢true one)
 
 pub quiet_file : (facts : FileFacts) → AreQuiet (file_checks facts) → IsQuietFile facts
-quiet_file facts (html, (utf_16, (other, (large, (agent, (mark, (nul, end))))))) = record {
+quiet_file facts (html, (utf_16, (other, (empty, (large, (agent, (mark, (nul, end)))))))) = record {
   shown = neither facts.is_html facts.is_utf_16 html utf_16;
   with_agent = not-true _ agent;
   mark = not-true _ mark;

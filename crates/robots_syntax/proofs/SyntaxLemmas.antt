@@ -33,7 +33,8 @@ shown : (b : Bool) (warnings : List WarningValue) → b ≡ false
 shown true warnings isnt all = absurd (false≢true (sym isnt))
 shown false warnings isnt all = all
 
-module _ (agents urls : List (List ℕ)) (file : List ℕ) (silent : IsSilentOn agents urls file) where
+module _ (named agents urls : List (List ℕ)) (file : List ℕ)
+    (silent : IsSilentOn named agents urls file) where
   abbrev text : List ℕ
   text = take file_limit file
 
@@ -50,7 +51,7 @@ module _ (agents urls : List (List ℕ)) (file : List ℕ) (silent : IsSilentOn 
   facts = facts_of file labels
 
   abbrev general : List WarningValue
-  general = general_warnings facts None urls
+  general = general_warnings facts true named urls
 
   abbrev of_lines : List WarningValue
   of_lines = file_lines_warnings facts true labels (file_bodies text)
@@ -79,7 +80,7 @@ module _ (agents urls : List (List ℕ)) (file : List ℕ) (silent : IsSilentOn 
   quiets =
       quiet_file facts (warned_quiet None None (file_checks facts)
       (each_front IsAboutMeaning (warned None None (file_checks facts))
-      (agent_warnings None ++ flat_map url_warnings urls) silent_general))
+      (flat_map (agent_warnings true) named ++ flat_map url_warnings urls) silent_general))
 
   are : AreLabelsOf name lines labels
   are = (each_line_has_its_label name lines labels).1 refl
@@ -112,6 +113,7 @@ module _ (agents urls : List (List ℕ)) (file : List ℕ) (silent : IsSilentOn 
   robot_stated agent robot is = forms_robot agent file forms robot are_forms is
 
 -- no warnings at all
-pub no_warnings : (agents urls : List (List ℕ)) (file : List ℕ) → warnings_of agents urls file ≡ []
-    → HasSyntax file
-no_warnings agents urls file none = silence agents urls file (subst (Each IsAboutMeaning) (sym none) tt)
+pub no_warnings : (named agents urls : List (List ℕ)) (file : List ℕ)
+    → warnings_of named agents urls file ≡ [] → HasSyntax file
+no_warnings named agents urls file none =
+    silence named agents urls file (subst (Each IsAboutMeaning) (sym none) tt)

@@ -10,11 +10,11 @@ abbrev pub silent_file : List ℕ
 silent_file = codes "User-agent: *" ++ lf ++ codes "Disallow: /a # b" ++ lf
 
 abbrev pub silent : Type 0
-silent = IsSilentOn [] [] silent_file × HasSyntax silent_file
+silent = IsSilentOn [] [] [] silent_file × HasSyntax silent_file
 
 -- the same without the slash: there is a warning
 abbrev pub warned_file : List ℕ
 warned_file = codes "User-agent: *" ++ lf ++ codes "Disallow: a" ++ lf
 
 abbrev pub warned : Type 0
-warned = ¬ IsSilentOn [] [] warned_file
+warned = ¬ IsSilentOn [] [] [] warned_file

@@ -1,6 +1,6 @@
 -- What the silence of an audit means: a file without warnings about its syntax follows the extended grammar
 -- of RFC 9309 (`IsFile`).
-use Rattle.std.specs.Prelude.{◌≡◌, ℕ, Bool, true, not, ◌||◌, List, None, codes, take}
+use Rattle.std.specs.Prelude.{◌≡◌, ℕ, Bool, true, not, ◌||◌, List, codes, take}
 use Rattle.std.specs.List.{AllByRecursion as Each}
 use Rattle.texting_robots.specs.Callers.{Allow, CrawlDelay, Disallow, LineValue, Raw, Sitemap}
 use Rattle.texting_robots.specs.Callers.{RobotValue, UserAgent, file_limit, lines_read}
@@ -20,17 +20,17 @@ use Rattle.robots_warnings.specs.Warnings.{WarningValue, warnings}
 abbrev pub IsAboutMeaning : WarningValue → Type 0
 IsAboutMeaning warning = is_about_meaning warning.cause ≡ true
 
--- the warnings about a file if all groups are checked, as with `--agents`; `agents` are the crawlers that are
--- reported on
-abbrev pub warnings_of : (agents urls : List (List ℕ)) → List ℕ → List WarningValue
-warnings_of agents urls file =
+-- the warnings about a file if all groups are checked, as with `--agents` or more than one `--agent`; `named`
+-- are the crawlers that the user named, and `agents` those reported on
+abbrev pub warnings_of : (named agents urls : List (List ℕ)) → List ℕ → List WarningValue
+warnings_of named agents urls file =
     let lines = lines_read file in
     let labels = labels_for (codes "*") lines in
-    warnings None agents urls file (facts_of file labels) labels lines
+    warnings true named agents urls file (facts_of file labels) labels lines
 
 -- none of these warnings is about the syntax of the file
-abbrev pub IsSilentOn : (agents urls : List (List ℕ)) → List ℕ → Type 0
-IsSilentOn agents urls file = Each IsAboutMeaning (warnings_of agents urls file)
+abbrev pub IsSilentOn : (named agents urls : List (List ℕ)) → List ℕ → Type 0
+IsSilentOn named agents urls file = Each IsAboutMeaning (warnings_of named agents urls file)
 
 -- the first 512,000 bytes of the file, which are those that are read, follow the extended grammar
 abbrev pub HasSyntax : List ℕ → Type 0

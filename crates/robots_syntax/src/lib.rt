@@ -23,10 +23,12 @@ pub fn quiet_lines_have_forms()
 /// - `none`: so it does if there is no warning at all.
 /// - `robot`: `Robot::new` then has the rules, the delay and the sitemaps that the file states for the crawler.
 pub fn silence_means_syntax()
-    ensures syntax { (agents urls : List (List ℕ)) (file : List ℕ) → IsSilentOn agents urls file → HasSyntax file }
-    ensures none { (agents urls : List (List ℕ)) (file : List ℕ) → warnings_of agents urls file ≡ [] → HasSyntax file }
-    ensures robot { (agents urls : List (List ℕ)) (file agent : List ℕ) (robot : RobotValue)
-        → IsSilentOn agents urls file → IsRobotOfFile agent (take file_limit file) robot
+    ensures syntax { (named agents urls : List (List ℕ)) (file : List ℕ) → IsSilentOn named agents urls file
+        → HasSyntax file }
+    ensures none { (named agents urls : List (List ℕ)) (file : List ℕ)
+        → warnings_of named agents urls file ≡ [] → HasSyntax file }
+    ensures robot { (named agents urls : List (List ℕ)) (file agent : List ℕ) (robot : RobotValue)
+        → IsSilentOn named agents urls file → IsRobotOfFile agent (take file_limit file) robot
         → IsRobotStated agent file robot }
 {}
 

@@ -1,6 +1,7 @@
 -- The set of the patterns that are allowed.
 use Rattle.std.proofs.Common.{◌≡◌, ℕ, ◌||◌, ◌&&◌, ◌==◌, Bool, true, false, List, [], ◌∷◌, length, refl, arith}
-use Rattle.std.proofs.Common.{Some, None, ap, not, sym, bytes_eq, if◌then◌else◌, ◌∙◌, string_bytes, String}
+use Rattle.std.proofs.Common.{Some, None, ap, not, sym, bytes_eq, if◌then◌else◌, ◌∙◌, option_map}
+use Rattle.std.proofs.Common.{string_bytes, String}
 use Rattle.std.specs.HashSet.{Updates, contains_text, hash_set_len}
 use Rattle.std.specs.Global.{Global}
 use Rattle.std.specs.List.{list_any}
@@ -11,17 +12,18 @@ use Rattle.std.specs.Str.{is_utf8}
 use Rattle.texting_robots.specs.Callers.{Allow, PlacedRule, escaped}
 use Rattle.texting_robots.specs.Executable.{rule_in}
 use Rattle.texting_robots.specs.Internal.Group.{placed}
-use Rattle.robots_warnings.specs.Conflicts.{is_conflict_at}
+use Rattle.robots_warnings.specs.Conflicts.{compared, is_conflict_at}
 use Rattle.robots_warnings.specs.Internal.Conflicts.{AddsAllowed, HasAllowed, Patterns}
 use Rattle.robots_warnings.proofs.NameLemmas.{either}
 
 -- inserting the pattern of an Allow makes the set that `AddsAllowed` describes
 pub allowed_added : {S : Type 0} (old new : Patterns S) (key : String Global) (number : ℕ) (value : List ℕ)
-    → Some (string_bytes key) ≡ (if is_utf8 value then Some (escaped value) else None)
+    → Some (string_bytes key) ≡ option_map compared (if is_utf8 value then Some (escaped value) else None)
     → Updates string_eq old new key true → AddsAllowed old new (placed number (rule_in (Allow value)))
 allowed_added old new key number value is updates = at (is_utf8 value) is
   where
-    at : (utf8 : Bool) → Some (string_bytes key) ≡ (if utf8 then Some (escaped value) else None)
+    at : (utf8 : Bool)
+        → Some (string_bytes key) ≡ option_map compared (if utf8 then Some (escaped value) else None)
         → AddsAllowed old new (placed number (if utf8 then Some (escaped value, true) else None))
     at false is = cc
     at true is = record {
@@ -47,6 +49,7 @@ pub no_conflict : {S : Type 0} (allowed : Patterns S) (all rules : List PlacedRu
     → HasAllowed allowed all → hash_set_len allowed ≡ 0 → list_any (is_conflict_at all number) rules ≡ false
 no_conflict allowed all [] number has none = refl
 no_conflict allowed all (rule ∷ rules) number has none =
-    let alone = sym (has.each rule.rule.0) ∙ no_text allowed.keys rule.rule.0 none in
+    let pattern = compared rule.rule.0 in
+    let alone = sym (has.each pattern) ∙ no_text allowed.keys pattern none in
     rw (middle_false (not rule.rule.1) _ (rule.line == number) alone)
     (no_conflict allowed all rules number has none)

@@ -1,6 +1,6 @@
 -- Warnings contain no control or bidirectional-formatting characters other than LF.
-use Rattle.std.proofs.Common.{◌≡◌, ℕ, zero, suc, true, List, [], ◌∷◌, ◌++◌, Option, Some, None, Bool, map}
-use Rattle.std.proofs.Common.{codes, refl}
+use Rattle.std.proofs.Common.{◌≡◌, ℕ, zero, suc, true, false, List, [], ◌∷◌, ◌++◌, Option, Some, None}
+use Rattle.std.proofs.Common.{Bool, codes, map, refl}
 use Rattle.std.{specs.List.list_all, specs.Prelude.slice_index_or, proofs.lemmas.Bool.and_parts}
 use Rattle.robots_warnings.specs.declared.table.Cause.{Cause}
 use Rattle.robots_warnings.specs.declared.table.TheConstants.{WARNINGS}
@@ -12,7 +12,7 @@ use Rattle.robots_warnings.specs.declared.warning.Detail.{Detail}
 use Rattle.robots_warnings.specs.declared.warning.Detail.TheVariants.{Line, Rules}
 use Rattle.robots_warnings.specs.Level.{level_word}
 use Rattle.robots_io.specs.Sanitize.{IsPrintable, is_printable_byte}
-use Rattle.robots_warnings.specs.Warnings.{about_text, detail_text, name_text, place_text}
+use Rattle.robots_warnings.specs.Warnings.{about_text, about_word, detail_text, name_text, place_text}
 use Rattle.robots_warnings.specs.Warnings.{WarningValue, warning_text}
 use Rattle.robots_io.proofs.SanitizeLemmas.{append_printable, ascii_printable, decimal_printable}
 use Rattle.robots_io.proofs.SanitizeLemmas.{nil_printable}
@@ -50,9 +50,14 @@ example_printable cause =
 
 -- ---- a warning
 
-about_printable : (about : Option (List ℕ)) → IsPrintable (about_text about)
-about_printable None = nil_printable true
-about_printable (Some url) = search (append_printable true, ascii_printable true, sanitized_printable)
+about_word_printable : (is_crawler : Bool) → IsPrintable (about_word is_crawler)
+about_word_printable true = ascii_printable true (about_word true) refl
+about_word_printable false = ascii_printable true (about_word false) refl
+
+about_printable : (cause : Cause) (about : Option (List ℕ)) → IsPrintable (about_text cause about)
+about_printable cause None = nil_printable true
+about_printable cause (Some name) =
+    search (append_printable true, ascii_printable true, about_word_printable, sanitized_printable)
 
 detail_printable : (detail : Option Detail) → IsPrintable (detail_text detail)
 detail_printable None = nil_printable true
@@ -63,7 +68,8 @@ pub text_printable : (warning : WarningValue) → IsPrintable (warning_text warn
 text_printable warning =
     let text = text_of warning.cause in
     let detail = detail_text warning.detail in
-    append_printable true (about_text warning.about) (text ++ detail) (about_printable warning.about)
+    append_printable true (about_text warning.cause warning.about) (text ++ detail)
+    (about_printable warning.cause warning.about)
     (append_printable true text detail (texts_printable warning.cause) (detail_printable warning.detail))
 
 pub place_printable : (file : List ℕ) (line : Option ℕ) → IsPrintable (place_text file line)

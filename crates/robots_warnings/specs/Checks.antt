@@ -1,7 +1,7 @@
 -- The conditions of warnings about a file, a request, a line and its position, grouped by what they inspect,
 -- in the order of output. Warnings.antt names those of the others.
-use Rattle.std.specs.Prelude.{ℕ, Bool, true, false, List, [], ◌∷◌, ◌++◌, Option, None, Some, if◌then◌else◌}
-use Rattle.std.specs.Prelude.{nat_lt, not, ◌&&◌}
+use Rattle.std.specs.Prelude.{ℕ, ◌==◌, Bool, true, false, List, [], ◌∷◌, ◌++◌, Option, None, Some}
+use Rattle.std.specs.Prelude.{if◌then◌else◌, length, nat_lt, not, ◌&&◌}
 use Rattle.std.specs.Str.{is_utf8}
 use Rattle.texting_robots.specs.Callers.{Allow, CrawlDelay, Disallow, LineValue, Label, Raw, Sitemap}
 use Rattle.texting_robots.specs.Callers.{UserAgent, is_own}
@@ -28,16 +28,18 @@ file_checks facts =
     (cause.LooksLikeHtml, facts.is_html)
     ∷ (cause.LooksLikeUtf16, facts.is_utf_16)
     ∷ (cause.NoDirectives, facts.is_other_text)
+    ∷ (cause.EmptyFile, facts.is_empty)
     ∷ (cause.FileTooLarge, facts.is_too_large)
     ∷ (cause.NoUserAgent, facts.kinds.rule && not facts.kinds.user_agent)
     ∷ (cause.DamagedByteOrderMark, facts.has_damaged_mark)
     ∷ (cause.NulEndsLine, facts.has_nul && not facts.is_utf_16)
     ∷ []
 
--- the product token that the user passed
+-- a product token that the user passed
 abbrev pub agent_checks : List ℕ → List Check
 agent_checks agent =
-    (cause.SpaceAroundAgent, has_space_around agent)
+    (cause.EmptyAgent, length agent == 0)
+    ∷ (cause.SpaceAroundAgent, has_space_around agent)
     ∷ (cause.VersionInAgent, has_slash agent)
     ∷ []
 

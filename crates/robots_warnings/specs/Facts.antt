@@ -88,6 +88,10 @@ has_nul file = list_any (λ b. b == 0) (take file_limit file)
 abbrev pub is_unknown : LineKinds → Bool
 is_unknown kinds = kinds.text && not (kinds.user_agent || kinds.rule || kinds.extra)
 
+-- the file has no bytes, not even a byte order mark
+abbrev pub is_empty : List ℕ → Bool
+is_empty file = length file == 0
+
 -- the file is larger than the size limit
 abbrev pub is_too_large : List ℕ → Bool
 is_too_large file = nat_lt file_limit (length file)
@@ -99,6 +103,7 @@ facts_by file kinds = record {
   is_html = is_unknown kinds && seems_html file;
   is_utf_16 = is_unknown kinds && (not (seems_html file) && seems_utf_16 file);
   is_other_text = is_unknown kinds && not (seems_html file || seems_utf_16 file);
+  is_empty = is_empty file;
   is_too_large = is_too_large file;
   has_damaged_mark = has_damaged_mark file;
   has_nul = has_nul file;

@@ -1,5 +1,5 @@
 -- Crawlers of Google to which Google applies another group than the one that applies here.
-use Rattle.std.specs.Prelude.{ℕ, Bool, false, not, ◌&&◌, List, [], ◌∷◌, codes}
+use Rattle.std.specs.Prelude.{ℕ, Bool, false, not, ◌&&◌, List, [], ◌∷◌, codes, map}
 use Rattle.std.specs.List.{before_first, list_any}
 use Rattle.std.specs.Str.{str_eq_ignore_ascii_case}
 use Rattle.texting_robots.specs.Callers.{LineValue, UserAgent, is_named}
@@ -8,13 +8,17 @@ use Rattle.robots_warnings.specs.declared.table.Cause.TheVariants as cause
 use Rattle.robots_warnings.specs.Checks.{Check}
 use Rattle.robots_warnings.specs.Tokens.{ends_token}
 
--- the crawler is one of Google's that get the group of Googlebot if they have none of their own
-abbrev pub is_like_googlebot : List ℕ → Bool
-is_like_googlebot agent = list_any (λ name. str_eq_ignore_ascii_case name.now agent) LIKE_GOOGLEBOT
+-- those of Google's crawlers that get the group of Googlebot if they have none of their own
+abbrev pub like_googlebot : List (List ℕ)
+like_googlebot = map (λ name. name.now) LIKE_GOOGLEBOT
 
--- the crawler is one of Google's that never get the group of `*`
-abbrev pub is_without_star : List ℕ → Bool
-is_without_star agent = list_any (λ name. str_eq_ignore_ascii_case name.now agent) WITHOUT_STAR
+-- those of Google's crawlers that never get the group of `*`
+abbrev pub without_star : List (List ℕ)
+without_star = map (λ name. name.now) WITHOUT_STAR
+
+-- one of these crawlers has this name, ASCII letters in any case
+abbrev pub is_given : List (List ℕ) → List ℕ → Bool
+is_given agents name = list_any (λ agent. str_eq_ignore_ascii_case name agent) agents
 
 -- what Google reads of a name: the letters, `_` and `-` that it starts with, such as `Googlebot` of
 -- `Googlebot/2.1` and of `Googlebot*`
@@ -30,20 +34,21 @@ is_line_at_google agent _ = false
 abbrev pub is_named_at_google : List ℕ → List LineValue → Bool
 is_named_at_google agent lines = list_any (is_line_at_google agent) lines
 
--- Google applies the group of Googlebot to the crawler, whose name it reads in no line
+-- Google reads the name in no line, and that of Googlebot in one, whose group it applies to the crawler
 abbrev pub gets_googlebots : List LineValue → List ℕ → Bool
-gets_googlebots lines agent =
-    is_like_googlebot agent
-    && (not (is_named_at_google agent lines) && is_named_at_google (codes "Googlebot") lines)
+gets_googlebots lines name =
+    not (is_named_at_google name lines) && is_named_at_google (codes "Googlebot") lines
 
--- Google applies no group to the crawler, whose name it reads in no line, although there is a group of `*`
+-- Google reads the name in no line, and applies no group to the crawler, although there is a group of `*`
 abbrev pub gets_nobodys : List LineValue → List ℕ → Bool
-gets_nobodys lines agent =
-    is_without_star agent && (not (is_named_at_google agent lines) && is_named (codes "*") lines)
+gets_nobodys lines name = not (is_named_at_google name lines) && is_named (codes "*") lines
 
--- for at least one of the crawlers
-abbrev pub google_checks : List LineValue → List (List ℕ) → List Check
-google_checks lines agents =
-    (cause.GooglebotGroup, list_any (gets_googlebots lines) agents)
-    ∷ (cause.GoogleIgnoresStar, list_any (gets_nobodys lines) agents)
-    ∷ []
+-- of these crawlers, the one with this name, which gets the group of Googlebot if it has none of its own
+abbrev pub googlebot_checks : List LineValue → List (List ℕ) → List ℕ → List Check
+googlebot_checks lines agents name =
+    (cause.GooglebotGroup, is_given agents name && gets_googlebots lines name) ∷ []
+
+-- of these crawlers, the one with this name, which never gets the group of `*`
+abbrev pub star_checks : List LineValue → List (List ℕ) → List ℕ → List Check
+star_checks lines agents name =
+    (cause.GoogleIgnoresStar, is_given agents name && gets_nobodys lines name) ∷ []

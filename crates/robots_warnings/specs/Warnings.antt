@@ -1,20 +1,22 @@
 -- All warnings about a file and a request, in the order of output.
-use Rattle.std.specs.Prelude.{ℕ, Bool, List, [], ◌∷◌, ◌++◌, Option, Some, None}
-use Rattle.std.specs.Prelude.{codes, decimal, flat_map, if◌then◌else◌, is_none, map, not, ◌||◌}
+use Rattle.std.specs.Prelude.{ℕ, Bool, true, false, List, [], ◌∷◌, ◌++◌, Option, Some, None}
+use Rattle.std.specs.Prelude.{codes, decimal, flat_map, if◌then◌else◌, map, not, ◌||◌}
 use Rattle.texting_robots.specs.Callers.{LineValue, Label, bodies_read}
 use Rattle.robots_warnings.specs.declared.facts.FileFacts.{FileFacts}
 use Rattle.robots_warnings.specs.declared.positions.Preceding.{Preceding}
 use Rattle.robots_warnings.specs.declared.positions.Preceding.TheVariants.{Other}
 use Rattle.robots_warnings.specs.declared.table.Cause.{Cause}
-use Rattle.robots_warnings.specs.declared.table.Cause.TheVariants.{AllowedAndDisallowed, GroupPastSizeLimit}
-use Rattle.robots_warnings.specs.declared.table.Cause.TheVariants.{ClosesEverything, NonstandardEscape}
-use Rattle.robots_warnings.specs.declared.table.Cause.TheVariants.{RepeatedRule}
-use Rattle.robots_warnings.specs.declared.table.Cause.TheVariants.{ReplacesStar}
+use Rattle.robots_warnings.specs.declared.table.Cause.TheVariants.{AllowedAndDisallowed, ClosesEverything}
+use Rattle.robots_warnings.specs.declared.table.Cause.TheVariants.{EmptyAgent, GoogleIgnoresStar}
+use Rattle.robots_warnings.specs.declared.table.Cause.TheVariants.{GooglebotGroup, GroupPastSizeLimit}
+use Rattle.robots_warnings.specs.declared.table.Cause.TheVariants.{NonstandardEscape, RepeatedRule}
+use Rattle.robots_warnings.specs.declared.table.Cause.TheVariants.{ReplacesStar, SpaceAroundAgent}
+use Rattle.robots_warnings.specs.declared.table.Cause.TheVariants.{VersionInAgent}
 use Rattle.robots_warnings.specs.declared.warning.Detail.{Detail}
 use Rattle.robots_warnings.specs.declared.warning.Detail.TheVariants.{Line, Rules}
 use Rattle.robots_warnings.specs.Closed.{is_closed}
 use Rattle.robots_warnings.specs.Conflicts.{is_conflict}
-use Rattle.robots_warnings.specs.Google.{google_checks}
+use Rattle.robots_warnings.specs.Google.{googlebot_checks, like_googlebot, star_checks, without_star}
 use Rattle.robots_warnings.specs.Checks.{Check, agent_checks, file_checks, line_checks, position_checks}
 use Rattle.robots_warnings.specs.Checks.{is_in_scope_of, url_checks}
 use Rattle.robots_warnings.specs.Facts.{suppresses_line_warnings}
@@ -27,8 +29,8 @@ use Rattle.robots_warnings.specs.Spellings.{nonstandard_escapes}
 use Rattle.robots_io.specs.Sanitize.{sanitized}
 use Rattle.robots_warnings.specs.Table.{name_of, text_of}
 
--- a warning: the number of its line, if it is about one; the reason; the URL, if it is about one; and the
--- number that its message ends with, if it does
+-- a warning: the number of its line, if it is about one; the reason; the URL or the crawler's name, if its
+-- message begins with one; and the number that its message ends with, if it does
 pub record WarningValue : Type 0 where
   pub line : Option ℕ
   pub cause : Cause
@@ -42,10 +44,24 @@ abbrev pub place_text : List ℕ → Option ℕ → List ℕ
 place_text file None = sanitized file ++ codes ": "
 place_text file (Some number) = sanitized file ++ codes ":" ++ decimal number ++ codes ": "
 
--- the URL that a warning is about
-abbrev pub about_text : Option (List ℕ) → List ℕ
-about_text None = []
-about_text (Some url) = codes "URL '" ++ sanitized url ++ codes "': "
+-- the reason is about a crawler's name
+abbrev pub is_about_crawler : Cause → Bool
+is_about_crawler EmptyAgent = true
+is_about_crawler SpaceAroundAgent = true
+is_about_crawler VersionInAgent = true
+is_about_crawler GooglebotGroup = true
+is_about_crawler GoogleIgnoresStar = true
+is_about_crawler _ = false
+
+-- what comes before the URL or the crawler's name
+abbrev pub about_word : (is_crawler : Bool) → List ℕ
+about_word true = codes "crawler '"
+about_word false = codes "URL '"
+
+-- the URL or the crawler's name that a message begins with
+abbrev pub about_text : Cause → Option (List ℕ) → List ℕ
+about_text cause None = []
+about_text cause (Some name) = about_word (is_about_crawler cause) ++ sanitized name ++ codes "': "
 
 abbrev pub name_text : Cause → List ℕ
 name_text cause = codes " [" ++ name_of cause ++ codes "]"
@@ -56,9 +72,10 @@ detail_text None = []
 detail_text (Some (Rules count)) = codes " (" ++ (decimal count ++ codes " in all)")
 detail_text (Some (Line number)) = codes " (see line " ++ (decimal number ++ codes ")")
 
--- the message, preceded by the URL, and followed by the number that it ends with
+-- the message, preceded by the URL or the crawler's name, and followed by the number that it ends with
 abbrev pub warning_text : WarningValue → List ℕ
-warning_text warning = about_text warning.about ++ (text_of warning.cause ++ detail_text warning.detail)
+warning_text warning =
+    about_text warning.cause warning.about ++ (text_of warning.cause ++ detail_text warning.detail)
 
 -- the place, the level, the message and the name; `level` is the word for the level, possibly in color
 unfoldable pub warning_line : (file level : List ℕ) → WarningValue → List ℕ
@@ -84,9 +101,13 @@ warned_at cause detail numbers =
 
 -- ---- warnings about a part of a file or of a request
 
-abbrev pub agent_warnings : Option (List ℕ) → List WarningValue
-agent_warnings None = []
-agent_warnings (Some agent) = warned None None (agent_checks agent)
+-- the name of a crawler in a warning about it: none if the report is about a single crawler
+abbrev pub crawler_shown : (everywhere : Bool) → List ℕ → Option (List ℕ)
+crawler_shown everywhere agent = if everywhere then Some agent else None
+
+-- warnings about a crawler that the user named
+abbrev pub agent_warnings : (everywhere : Bool) → List ℕ → List WarningValue
+agent_warnings everywhere agent = warned None (crawler_shown everywhere agent) (agent_checks agent)
 
 abbrev pub url_warnings : List ℕ → List WarningValue
 url_warnings url = warned None (Some url) (url_checks url)
@@ -137,6 +158,22 @@ crawler_warnings agents lines labels = flat_map
     ((AllowedAndDisallowed, is_conflict agents lines label.number)
     ∷ (ClosesEverything, is_closed agents lines label.number) ∷ [])) labels
 
+-- warnings about one of Google's crawlers that gets the group of Googlebot, if it is among these
+abbrev pub googlebot_warnings : Bool → List (List ℕ) → List LineValue → List ℕ → List WarningValue
+googlebot_warnings everywhere agents lines name =
+    warned None (crawler_shown everywhere name) (googlebot_checks lines agents name)
+
+-- the same of one that never gets the group of `*`
+abbrev pub star_warnings : Bool → List (List ℕ) → List LineValue → List ℕ → List WarningValue
+star_warnings everywhere agents lines name =
+    warned None (crawler_shown everywhere name) (star_checks lines agents name)
+
+-- warnings about those of Google's crawlers that are among these, each once
+abbrev pub google_warnings : Bool → List (List ℕ) → List LineValue → List WarningValue
+google_warnings everywhere agents lines =
+    flat_map (googlebot_warnings everywhere agents lines) like_googlebot
+    ++ flat_map (star_warnings everywhere agents lines) without_star
+
 -- warnings about the rules of a group or of a crawler as a whole
 abbrev pub group_warnings : Bool → List (List ℕ) → List LineValue → List Label → List WarningValue
 group_warnings everywhere agents lines labels =
@@ -144,21 +181,22 @@ group_warnings everywhere agents lines labels =
     ++ (crawler_warnings agents lines labels
     ++ (warned_at ReplacesStar (Some (Rules (star_count lines))) (replacing agents lines labels)
     ++ (warned_at RepeatedRule None (repeated everywhere labels)
-    ++ warned None None (google_checks lines agents))))
+    ++ google_warnings everywhere agents lines)))
 
 -- ---- all
 
--- warnings about the file, the product token and the URLs
-abbrev pub general_warnings : FileFacts → Option (List ℕ) → List (List ℕ) → List WarningValue
-general_warnings facts agent urls =
-    warned None None (file_checks facts) ++ (agent_warnings agent ++ flat_map url_warnings urls)
+-- warnings about the file, the crawlers that the user named, and the URLs
+abbrev pub general_warnings : FileFacts → Bool → List (List ℕ) → List (List ℕ) → List WarningValue
+general_warnings facts everywhere named urls =
+    warned None None (file_checks facts)
+    ++ (flat_map (agent_warnings everywhere) named ++ flat_map url_warnings urls)
 
--- all warnings; `agents` are the crawlers reported on, and `lines` are the file's. Without `agent`, the rules
--- of all groups are checked
-abbrev pub warnings : Option (List ℕ) → List (List ℕ) → List (List ℕ) → List ℕ → FileFacts → List Label
-    → List LineValue → List WarningValue
-warnings agent agents urls file facts labels lines =
-    general_warnings facts agent urls
-    ++ (file_lines_warnings facts (is_none agent) labels (bodies_read file)
+-- all warnings. `everywhere` is false for a report on a single crawler, and else the rules of all groups are
+-- checked; `named` are the crawlers that the user named, `agents` those reported on, and `lines` the file's
+abbrev pub warnings : (everywhere : Bool) → (named agents urls : List (List ℕ)) → List ℕ → FileFacts
+    → List Label → List LineValue → List WarningValue
+warnings everywhere named agents urls file facts labels lines =
+    general_warnings facts everywhere named urls
+    ++ (file_lines_warnings facts everywhere labels (bodies_read file)
     ++ (position_warnings labels
-    ++ (past_limit_warnings facts file labels ++ group_warnings (is_none agent) agents lines labels)))
+    ++ (past_limit_warnings facts file labels ++ group_warnings everywhere agents lines labels)))

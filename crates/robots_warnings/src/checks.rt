@@ -32,13 +32,14 @@ pub(crate) type Check = (Cause, bool);
 const DAY: u64 = 86_400_000_000;
 
 /// Checks of a file.
-pub(crate) fn file_checks(facts: FileFacts) -> [Check; 7]
+pub(crate) fn file_checks(facts: FileFacts) -> [Check; 8]
     ensures { result ≡ file_checks facts }
 {
     [
         (Cause::LooksLikeHtml, facts.is_html),
         (Cause::LooksLikeUtf16, facts.is_utf_16),
         (Cause::NoDirectives, facts.is_other_text),
+        (Cause::EmptyFile, facts.is_empty),
         (Cause::FileTooLarge, facts.is_too_large),
         (
             Cause::NoUserAgent,
@@ -49,11 +50,12 @@ pub(crate) fn file_checks(facts: FileFacts) -> [Check; 7]
     ]
 }
 
-/// Checks of the product token that the user passed.
-pub(crate) fn agent_checks(agent: &str) -> [Check; 2]
+/// Checks of a product token that the user passed.
+pub(crate) fn agent_checks(agent: &str) -> [Check; 3]
     ensures { result ≡ agent_checks agent.now }
 {
     [
+        (Cause::EmptyAgent, agent.is_empty()),
         (Cause::SpaceAroundAgent, has_space_around(agent)),
         (Cause::VersionInAgent, has_slash(agent)),
     ]

@@ -5,7 +5,7 @@ ghost use Rattle.std.specs.Ordering.{nat_cmp};
 ghost use Rattle.std.specs.Str.{is_utf8};
 ghost use Rattle.texting_robots.specs.Callers.{escaped, file_lines, placed_rules};
 ghost use Rattle.texting_robots.specs.Internal.Site.{rule_of, tag_of};
-ghost use Rattle.robots_warnings.specs.Conflicts.{is_conflict, is_conflict_for};
+ghost use Rattle.robots_warnings.specs.Conflicts.{compared, is_conflict, is_conflict_for};
 ghost use Rattle.robots_warnings.specs.Internal.Conflicts.{AddsAllowed, HasAllowed, is_allowed_too};
 
 use crate::rules::is_utf8;
@@ -32,7 +32,18 @@ pub(crate) fn pattern_of(alloc: Global, value: &[u8]) -> Result<Option<String>, 
     Ok(Some(pattern))
 }
 
-/// Inserts the pattern of the line's rule if it is an Allow.
+/// The pattern of a rule with this value as it is compared with others, `/` in place of `*`, if it is UTF-8.
+fn compared_pattern_of(alloc: Global, value: &[u8]) -> Result<Option<String>, AllocError>
+    ensures { IfOk result (λ pattern. option_map string_bytes pattern
+        ≡ option_map compared (if is_utf8 value.now then Some (escaped value.now) else None)) }
+{
+    match pattern_of(alloc, value)? {
+        Some(pattern) if pattern.as_str() == "*" => Ok(Some(String::from_str(alloc, "/")?)),
+        pattern => Ok(pattern),
+    }
+}
+
+/// Inserts the pattern of the line's rule, as it is compared, if it is an Allow.
 fn add_allowed(
     alloc: Global,
     allowed: &mut Patterns,
@@ -43,13 +54,13 @@ fn add_allowed(
     let Line::Allow(value) = line.line else {
         return Ok(());
     };
-    if let Some(pattern) = pattern_of(alloc, value)? {
+    if let Some(pattern) = compared_pattern_of(alloc, value)? {
         allowed.insert(pattern)?;
     }
     Ok(())
 }
 
-/// The patterns of all Allows that apply to the crawler.
+/// The patterns of all Allows that apply to the crawler, as they are compared.
 fn allowed_patterns(alloc: Global, site: &Site, agent: &str) -> Result<Patterns, AllocError>
     ensures { IfOk result (λ allowed. HasAllowed allowed (placed_rules agent.now (file_lines site.now))) }
 {
@@ -60,7 +71,7 @@ fn allowed_patterns(alloc: Global, site: &Site, agent: &str) -> Result<Patterns,
     Ok(allowed)
 }
 
-/// Whether the line is a Disallow whose pattern is in the set.
+/// Whether the line is a Disallow whose pattern, as it is compared, is in the set.
 fn is_allowed_too(
     alloc: Global,
     allowed: &Patterns,
@@ -71,7 +82,7 @@ fn is_allowed_too(
     let Line::Disallow(value) = line.line else {
         return Ok(false);
     };
-    match pattern_of(alloc, value)? {
+    match compared_pattern_of(alloc, value)? {
         Some(pattern) => Ok(allowed.contains(pattern.as_str())),
         None => Ok(false),
     }

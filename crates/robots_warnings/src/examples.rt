@@ -8,16 +8,18 @@ use crate::table::Cause;
 /// For each warning, in the order of [`crate::table::WARNINGS`], a file that triggers it for FerrisBot, or with
 /// the arguments in its first line, or a command. In a file, `\xFF` is a byte, and `\{512000 a}` is 512,000 times an `a`.
 #[rattlefmt::skip]
-pub static EXAMPLES: [(Cause, &str); 66] = [
+pub static EXAMPLES: [(Cause, &str); 68] = [
     // the file
     (Cause::LooksLikeHtml, "<html>\n</html>"),
     (Cause::LooksLikeUtf16, "\\xFF\\xFED\\x00"),
     (Cause::NoDirectives, "hello\nworld"),
+    (Cause::EmptyFile, "robots_audit FerrisBot < /dev/null"),
     (Cause::FileTooLarge, "Disallow: /\\{512000 a}"),
     (Cause::NoUserAgent, "Disallow: /a\nDisallow: /b"),
     (Cause::DamagedByteOrderMark, "\\xEF\\xBBAllow: /"),
     (Cause::NulEndsLine, "Allow: /\\x00"),
     // the crawler
+    (Cause::EmptyAgent, "robots_audit ''"),
     (Cause::SpaceAroundAgent, "robots_audit 'FerrisBot '"),
     (Cause::VersionInAgent, "robots_audit FerrisBot/1.0"),
     // a URL

@@ -38,6 +38,8 @@ pub struct FileFacts {
     pub is_utf_16: bool,
     /// The same, but it looks like neither.
     pub is_other_text: bool,
+    /// The file has no bytes.
+    pub is_empty: bool,
     /// The file is larger than the size limit.
     pub is_too_large: bool,
     /// The file starts with a part of a byte order mark.
@@ -201,6 +203,7 @@ fn facts_by(file: &[u8], kinds: LineKinds) -> FileFacts
         is_html,
         is_utf_16,
         is_other_text: is_unknown && !is_html && !is_utf_16,
+        is_empty: file.is_empty(),
         is_too_large: is_too_large(file),
         has_damaged_mark: has_damaged_mark(file),
         has_nul: has_nul(file),

@@ -1,10 +1,9 @@
 //! Crawlers of Google to which Google applies another group than the one that applies here.
 ghost use Rattle.std.specs.Prelude.{◌≡◌, ◌||◌, map, string_bytes};
-ghost use Rattle.std.specs.List.{list_any};
 ghost use Rattle.std.specs.Str.{str_eq_ignore_ascii_case};
 ghost use Rattle.texting_robots.specs.Callers.{by_value, file_lines};
-ghost use Rattle.robots_warnings.specs.Google.{gets_googlebots, gets_nobodys, google_checks};
-ghost use Rattle.robots_warnings.specs.Google.{is_line_at_google, is_named_at_google};
+ghost use Rattle.robots_warnings.specs.Google.{gets_googlebots, gets_nobodys, googlebot_checks, is_given};
+ghost use Rattle.robots_warnings.specs.Google.{is_line_at_google, is_named_at_google, star_checks};
 
 use crate::checks::Check;
 use crate::table::Cause;
@@ -13,7 +12,7 @@ use texting_robots::parser::{Line, file_lines};
 use texting_robots::site::Site;
 
 /// Crawlers that get the group of Googlebot if they have none of their own.
-const LIKE_GOOGLEBOT: [&str; 5] = [
+pub(crate) const LIKE_GOOGLEBOT: [&str; 5] = [
     "Googlebot-Image",
     "Googlebot-News",
     "Googlebot-Video",
@@ -22,18 +21,29 @@ const LIKE_GOOGLEBOT: [&str; 5] = [
 ];
 
 /// Crawlers that never get the group of `*`.
-const WITHOUT_STAR: [&str; 4] = [
+pub(crate) const WITHOUT_STAR: [&str; 4] = [
     "AdsBot-Google",
     "AdsBot-Google-Mobile",
     "APIs-Google",
     "Mediapartners-Google",
 ];
 
-/// Whether one of these names is that of the crawler, ASCII letters in any case.
-fn is_one_of(names: &[&str], agent: &str) -> bool
-    ensures { result ≡ list_any (λ name. str_eq_ignore_ascii_case name.now agent.now) names.now }
+/// Whether `before` is true, or the crawler has this name, ASCII letters in any case.
+fn or_has_name(before: bool, agent: &str, name: &str) -> bool
+    ensures { result ≡ (before || str_eq_ignore_ascii_case name.now agent.now) }
 {
-    names.iter().any(|name| name.eq_ignore_ascii_case(agent))
+    before || name.eq_ignore_ascii_case(agent)
+}
+
+/// Whether one of these crawlers has this name, ASCII letters in any case.
+fn is_given(agents: &[String], name: &str) -> bool
+    ensures { result ≡ is_given (map string_bytes agents.now) name.now }
+{
+    let mut found = false;
+    for agent in agents {
+        found = or_has_name(found, agent, name);
+    }
+    found
 }
 
 /// Whether the line is a user-agent line in which Google reads the name of this crawler.
@@ -58,49 +68,35 @@ fn is_named_at_google(site: &Site, agent: &str) -> bool
     false
 }
 
-/// Whether Google applies the group of Googlebot to the crawler, whose name it reads in no user-agent line.
-fn gets_googlebots(site: &Site, agent: &str) -> bool
-    ensures { result ≡ gets_googlebots (file_lines site.now) agent.now }
+/// Whether Google reads the name in no user-agent line, and that of Googlebot in one, whose group it applies to
+/// the crawler.
+fn gets_googlebots(site: &Site, name: &str) -> bool
+    ensures { result ≡ gets_googlebots (file_lines site.now) name.now }
 {
-    is_one_of(&LIKE_GOOGLEBOT, agent)
-        && !is_named_at_google(site, agent)
-        && is_named_at_google(site, "Googlebot")
+    !is_named_at_google(site, name) && is_named_at_google(site, "Googlebot")
 }
 
-/// Whether Google applies no group to the crawler, whose name it reads in no user-agent line, although there is one of
-/// `*`.
-fn gets_nobodys(site: &Site, agent: &str) -> bool
-    ensures { result ≡ gets_nobodys (file_lines site.now) agent.now }
+/// Whether Google reads the name in no user-agent line, and applies no group to the crawler, although there is
+/// one of `*`.
+fn gets_nobodys(site: &Site, name: &str) -> bool
+    ensures { result ≡ gets_nobodys (file_lines site.now) name.now }
 {
-    is_one_of(&WITHOUT_STAR, agent) && !is_named_at_google(site, agent) && site.is_named("*")
+    !is_named_at_google(site, name) && site.is_named("*")
 }
 
-/// Whether `before` is true, or Google applies the group of Googlebot to the crawler.
-fn or_gets_googlebots(before: bool, site: &Site, agent: &str) -> bool
-    ensures { result ≡ (before || gets_googlebots (file_lines site.now) agent.now) }
+/// Checks of the one of these crawlers with this name, which gets the group of Googlebot if it has none of its
+/// own.
+pub(crate) fn googlebot_checks(site: &Site, agents: &[String], name: &str) -> [Check; 1]
+    ensures { result ≡ googlebot_checks (file_lines site.now) (map string_bytes agents.now) name.now }
 {
-    before || gets_googlebots(site, agent)
+    let holds = is_given(agents, name) && gets_googlebots(site, name);
+    [(Cause::GooglebotGroup, holds)]
 }
 
-/// Whether `before` is true, or Google applies no group to the crawler, although there is one of `*`.
-fn or_gets_nobodys(before: bool, site: &Site, agent: &str) -> bool
-    ensures { result ≡ (before || gets_nobodys (file_lines site.now) agent.now) }
+/// Checks of the one of these crawlers with this name, which never gets the group of `*`.
+pub(crate) fn star_checks(site: &Site, agents: &[String], name: &str) -> [Check; 1]
+    ensures { result ≡ star_checks (file_lines site.now) (map string_bytes agents.now) name.now }
 {
-    before || gets_nobodys(site, agent)
-}
-
-/// Checks of crawlers to which Google applies another group than the one that applies here.
-pub(crate) fn google_checks(site: &Site, agents: &[String]) -> [Check; 2]
-    ensures { result ≡ google_checks (file_lines site.now) (map string_bytes agents.now) }
-{
-    let mut googlebots = false;
-    let mut nobodys = false;
-    for agent in agents {
-        googlebots = or_gets_googlebots(googlebots, site, agent);
-        nobodys = or_gets_nobodys(nobodys, site, agent);
-    }
-    [
-        (Cause::GooglebotGroup, googlebots),
-        (Cause::GoogleIgnoresStar, nobodys),
-    ]
+    let holds = is_given(agents, name) && gets_nobodys(site, name);
+    [(Cause::GoogleIgnoresStar, holds)]
 }

@@ -18,11 +18,13 @@ pub enum Cause {
     LooksLikeHtml,
     LooksLikeUtf16,
     NoDirectives,
+    EmptyFile,
     FileTooLarge,
     NoUserAgent,
     DamagedByteOrderMark,
     NulEndsLine,
     // the crawler
+    EmptyAgent,
     SpaceAroundAgent,
     VersionInAgent,
     // a URL
@@ -98,7 +100,7 @@ pub enum Cause {
 
 /// The warnings with their levels, names and messages.
 #[rattlefmt::skip]
-pub static WARNINGS: [(Cause, Level, &str, &str); 66] = [
+pub static WARNINGS: [(Cause, Level, &str, &str); 68] = [
     // the file
     (Cause::LooksLikeHtml, Level::Error, "looks-like-html",
         "no usable line found; the text starts with <, so it may be an HTML page; serve a plain-text robots.txt instead"),
@@ -106,6 +108,8 @@ pub static WARNINGS: [(Cause, Level, &str, &str); 66] = [
         "no usable line found; the file looks like UTF-16; save it as UTF-8"),
     (Cause::NoDirectives, Level::Error, "no-directives",
         "no usable User-agent, Allow, Disallow, Crawl-delay or Sitemap line found, so everything is allowed; write one directive per line, for example: Disallow: /search"),
+    (Cause::EmptyFile, Level::Warning, "empty-file",
+        "the file is empty, so every URL may be fetched; name the right file with --file, or, if that is meant, write User-agent: * and an empty Disallow"),
     (Cause::FileTooLarge, Level::Warning, "file-too-large",
         "the file is larger than 512,000 bytes (500 KiB); the rest is ignored; shorten it or move important groups to the top"),
     (Cause::NoUserAgent, Level::Warning, "no-user-agent",
@@ -115,6 +119,8 @@ pub static WARNINGS: [(Cause, Level, &str, &str); 66] = [
     (Cause::NulEndsLine, Level::Warning, "nul-ends-line",
         "the file contains a NUL byte, which ends a line here, but may not in other crawlers; put a line end in its place, or delete it at the end of a line"),
     // the crawler
+    (Cause::EmptyAgent, Level::Warning, "empty-agent",
+        "AGENT is empty, as an unset variable is, so the report is about no real crawler; pass a product token, such as FerrisBot"),
     (Cause::SpaceAroundAgent, Level::Warning, "space-around-agent",
         "AGENT has leading or trailing white space, so it matches no User-agent line; remove the spaces"),
     (Cause::VersionInAgent, Level::Warning, "version-in-agent",
@@ -233,9 +239,9 @@ pub static WARNINGS: [(Cause, Level, &str, &str); 66] = [
     (Cause::RepeatedRule, Level::Note, "repeated-rule",
         "the same rule is above in the same group, so this one changes no verdict; delete it, or correct it if another path is meant"),
     (Cause::GooglebotGroup, Level::Note, "googlebot-group",
-        "AGENT, or an --agent, has no group of its own, so Google applies the group of Googlebot to it, and that may not be the one that is reported here; pass Googlebot as AGENT, or add a group"),
+        "AGENT has no group of its own, so Google applies the group of Googlebot to it, and that may not be the one that is reported here; pass Googlebot as AGENT, or add a group"),
     (Cause::GoogleIgnoresStar, Level::Note, "google-ignores-star",
-        "AGENT, or an --agent, has no group of its own, and Google doesn't apply the group of * to this crawler, so it may fetch everything; add a group for it"),
+        "AGENT has no group of its own, and Google doesn't apply the group of * to this crawler, so it may fetch everything; add a group for it"),
     // a rule that can be deleted
     (Cause::NeverDecides, Level::Note, "needless-rule",
         "this rule never decides, since another one matches everything that it matches and takes precedence; correct it if it should decide, or delete it together with all other needless rules"),
@@ -250,13 +256,15 @@ pub static WARNINGS: [(Cause, Level, &str, &str); 66] = [
 /// The warnings that aren't about the syntax of a file, but about the request, the size of the file, or what a file of
 /// the standard's grammar means. All others are about syntax, notes included.
 #[rattlefmt::skip]
-pub static ABOUT_MEANING: [Cause; 29] = [
+pub static ABOUT_MEANING: [Cause; 31] = [
     // the request
+    Cause::EmptyAgent,
     Cause::SpaceAroundAgent,
     Cause::VersionInAgent,
     Cause::NotAUrlOrPath,
     Cause::InvalidUrl,
     // the size
+    Cause::EmptyFile,
     Cause::FileTooLarge,
     Cause::GroupPastSizeLimit,
     // a line

@@ -1,7 +1,8 @@
 //! A warning, and its text in a report.
 ghost use Rattle.std.specs.Prelude.{◌≡◌, ◌++◌, OnOk, decimal, option_map, string_bytes};
 ghost use Rattle.robots_warnings.specs.Internal.{warning_value};
-ghost use Rattle.robots_warnings.specs.Warnings.{about_text, detail_text, name_text, place_text, warning_line, warning_text};
+ghost use Rattle.robots_warnings.specs.Warnings.{about_text, about_word, detail_text, is_about_crawler};
+ghost use Rattle.robots_warnings.specs.Warnings.{name_text, place_text, warning_line, warning_text};
 
 use crate::table::Cause;
 use robots_io::lines::push_number;
@@ -23,7 +24,7 @@ pub struct Warning<'a> {
     /// The number of the line that the warning is about, if it is about one.
     pub line: Option<usize>,
     pub cause: Cause,
-    /// The URL that the warning is about, if it is about one.
+    /// The URL or the crawler's name that the message begins with, if it does.
     pub about: Option<&'a str>,
     /// The number that the message ends with, if it does.
     pub detail: Option<Detail>,
@@ -42,16 +43,30 @@ fn push_place(text: &mut String, file: &str, line: Option<usize>) -> Result<(), 
     text.push_str(": ")
 }
 
-/// Appends the URL that a warning is about, if there is one.
-fn push_about(text: &mut String, about: Option<&str>) -> Result<(), AllocError>
-    ensures { OnOk result (string_bytes text.new ≡ string_bytes text.old
-        ++ about_text (option_map (λ url. url.now) about.entry)) }
+/// What comes before the URL or the crawler's name.
+fn about_word(cause: Cause) -> &'static str
+    ensures { result.now ≡ about_word (is_about_crawler cause) }
 {
-    let Some(url) = about else {
+    match cause {
+        Cause::EmptyAgent
+        | Cause::SpaceAroundAgent
+        | Cause::VersionInAgent
+        | Cause::GooglebotGroup
+        | Cause::GoogleIgnoresStar => "crawler '",
+        _ => "URL '",
+    }
+}
+
+/// Appends the URL or the crawler's name that a message begins with, if there is one.
+fn push_about(text: &mut String, cause: Cause, about: Option<&str>) -> Result<(), AllocError>
+    ensures { OnOk result (string_bytes text.new ≡ string_bytes text.old
+        ++ about_text cause (option_map (λ name. name.now) about.entry)) }
+{
+    let Some(name) = about else {
         return Ok(());
     };
-    text.push_str("URL '")?;
-    push_sanitized(text, url.as_bytes())?;
+    text.push_str(about_word(cause))?;
+    push_sanitized(text, name.as_bytes())?;
     text.push_str("': ")
 }
 
@@ -81,12 +96,13 @@ fn push_detail(text: &mut String, detail: Option<Detail>) -> Result<(), AllocErr
     }
 }
 
-/// Appends the message of a warning, preceded by the URL that it is about, and followed by the number that it ends with.
+/// Appends the message of a warning, with the URL or the crawler's name that it begins with, and the number that
+/// it ends with.
 pub fn push_warning_text(text: &mut String, warning: &Warning<'_>) -> Result<(), AllocError>
     ensures { OnOk result (string_bytes text.new ≡ string_bytes text.old
         ++ warning_text (warning_value warning.now)) }
 {
-    push_about(text, warning.about)?;
+    push_about(text, warning.cause, warning.about)?;
     text.push_str(warning.cause.text())?;
     push_detail(text, warning.detail)
 }

@@ -1,12 +1,12 @@
 //! All warnings about a file and a request.
-ghost use Rattle.std.specs.Prelude.{◌≡◌, [], IfOk, OnOk, if◌then◌else◌, is_none, map, option_map, string_bytes};
+ghost use Rattle.std.specs.Prelude.{◌≡◌, [], IfOk, OnOk, flat_map, if◌then◌else◌, map, option_map, string_bytes};
 ghost use Rattle.texting_robots.specs.Callers.{bodies_read, by_value, file_lines, label_by_value};
 ghost use Rattle.robots_warnings.specs.Checks.{directive_checks, is_directive, raw_checks, rule_checks, value_checks};
 ghost use Rattle.robots_warnings.specs.Contents.{comment_of, tail_of};
 ghost use Rattle.robots_warnings.specs.Internal.{Adds, warning_value};
-ghost use Rattle.robots_warnings.specs.Warnings.{agent_warnings, crawler_warnings, file_lines_warnings, general_warnings};
-ghost use Rattle.robots_warnings.specs.Warnings.{group_warnings, line_warnings, lines_warnings};
-ghost use Rattle.robots_warnings.specs.Warnings.{past_limit_warnings, position_warnings, warned, warned_at, warnings};
+ghost use Rattle.robots_warnings.specs.Warnings.{agent_warnings, crawler_shown, crawler_warnings, file_lines_warnings, general_warnings};
+ghost use Rattle.robots_warnings.specs.Warnings.{google_warnings, googlebot_warnings, group_warnings, line_warnings, lines_warnings};
+ghost use Rattle.robots_warnings.specs.Warnings.{past_limit_warnings, position_warnings, star_warnings, url_warnings, warned, warned_at, warnings};
 
 use crate::checks::{
     Check, agent_checks, delay_checks, delay_text_checks, field_checks, file_checks,
@@ -19,7 +19,7 @@ use crate::contents::split_content;
 use crate::facts::{FileFacts, suppresses_line_warnings};
 use crate::field_names::is_without_colon;
 use crate::file::{counted, is_blank};
-use crate::google::google_checks;
+use crate::google::{LIKE_GOOGLEBOT, WITHOUT_STAR, googlebot_checks, star_checks};
 use crate::names_past_limit::names_past_limit;
 use crate::plain::{is_plain, is_plain_line};
 use crate::positions::{Preceding, first_delay, last_group, preceding_with, sole_name};
@@ -79,32 +79,59 @@ fn warn_at(
     Ok(())
 }
 
-/// Appends the warnings about the product token that the user passed, if there is one.
-fn warn_of_agent(found: &mut Found<'_>, agent: Option<&str>) -> Result<(), AllocError>
-    ensures { OnOk result (Adds found.old.items found.new.items (agent_warnings (option_map (λ agent. agent.now) agent.entry))) }
+/// The name of a crawler in a warning about it: none if the report is about a single crawler.
+fn crawler_shown<'a>(everywhere: bool, agent: &'a str) -> Option<&'a str>
+    ensures { option_map (λ name. name.now) result ≡ crawler_shown everywhere agent.now }
 {
-    match agent {
-        Some(agent) => warn(found, None, None, &agent_checks(agent)),
-        None => Ok(()),
-    }
+    if everywhere { Some(agent) } else { None }
 }
 
-/// Appends the warnings about the file, the product token and the URLs.
-fn warn_in_general<'a>(
+/// Appends the warnings about the crawlers that the user named.
+fn warn_of_agents<'a>(
+    found: &mut Found<'a>,
+    everywhere: bool,
+    named: &[&'a str],
+) -> Result<(), AllocError>
+    ensures { OnOk result (Adds found.old.items found.new.items
+        (flat_map (agent_warnings everywhere) (map (λ name. name.now) named.now))) }
+{
+    for name in named {
+        let shown = crawler_shown(everywhere, name);
+        warn(found, None, shown, &agent_checks(name))?;
+    }
+    Ok(())
+}
+
+/// Appends the warnings about the URLs.
+fn warn_of_urls<'a>(
     alloc: Global,
     found: &mut Found<'a>,
-    facts: FileFacts,
-    agent: Option<&str>,
     urls: &[&'a str],
 ) -> Result<(), AllocError>
-    ensures { OnOk result (Adds found.old.items found.new.items (general_warnings facts (option_map (λ agent. agent.now) agent.entry) (map (λ url. url.now) urls.now))) }
+    ensures { OnOk result (Adds found.old.items found.new.items
+        (flat_map url_warnings (map (λ url. url.now) urls.now))) }
 {
-    warn(found, None, None, &file_checks(facts))?;
-    warn_of_agent(found, agent)?;
     for url in urls {
         warn(found, None, Some(url), &url_checks(alloc, url)?)?;
     }
     Ok(())
+}
+
+/// Appends the warnings about the file, the crawlers that the user named, and the URLs.
+fn warn_in_general<'a>(
+    alloc: Global,
+    found: &mut Found<'a>,
+    facts: FileFacts,
+    everywhere: bool,
+    named: &[&'a str],
+    urls: &[&'a str],
+) -> Result<(), AllocError>
+    ensures { OnOk result (Adds found.old.items found.new.items
+        (general_warnings facts everywhere (map (λ name. name.now) named.now) (map (λ url. url.now) urls.now))) }
+{
+    warn(found, None, None, &file_checks(facts))?;
+    warn_of_agents(found, everywhere, named)?;
+    warn_of_urls(alloc, found, urls)
 }
 
 /// Appends the warnings about the value of a rule.
@@ -330,6 +357,62 @@ fn warn_of_crawlers(
     Ok(())
 }
 
+/// Appends the warnings about those of these crawlers with one of these names, which get the group of Googlebot
+/// if they have none of their own.
+fn warn_of_googlebots<'a>(
+    found: &mut Found<'a>,
+    everywhere: bool,
+    site: &Site,
+    agents: &[String],
+    names: &[&'a str],
+) -> Result<(), AllocError>
+    ensures { OnOk result (Adds found.old.items found.new.items
+        (flat_map (googlebot_warnings everywhere (map string_bytes agents.now) (file_lines site.now))
+        (map (λ name. name.now) names.now))) }
+{
+    for name in names {
+        let shown = crawler_shown(everywhere, name);
+        let checks = googlebot_checks(site, agents, name);
+        warn(found, None, shown, &checks)?;
+    }
+    Ok(())
+}
+
+/// Appends the warnings about those of these crawlers with one of these names, which never get the group of
+/// `*`.
+fn warn_of_nobodys<'a>(
+    found: &mut Found<'a>,
+    everywhere: bool,
+    site: &Site,
+    agents: &[String],
+    names: &[&'a str],
+) -> Result<(), AllocError>
+    ensures { OnOk result (Adds found.old.items found.new.items
+        (flat_map (star_warnings everywhere (map string_bytes agents.now) (file_lines site.now))
+        (map (λ name. name.now) names.now))) }
+{
+    for name in names {
+        let shown = crawler_shown(everywhere, name);
+        let checks = star_checks(site, agents, name);
+        warn(found, None, shown, &checks)?;
+    }
+    Ok(())
+}
+
+/// Appends the warnings about those of Google's crawlers that are among these, each once.
+fn warn_of_google(
+    found: &mut Found<'_>,
+    everywhere: bool,
+    site: &Site,
+    agents: &[String],
+) -> Result<(), AllocError>
+    ensures { OnOk result (Adds found.old.items found.new.items
+        (google_warnings everywhere (map string_bytes agents.now) (file_lines site.now))) }
+{
+    warn_of_googlebots(found, everywhere, site, agents, &LIKE_GOOGLEBOT)?;
+    warn_of_nobodys(found, everywhere, site, agents, &WITHOUT_STAR)
+}
+
 /// Appends the warnings about the rules of a group or of a crawler as a whole.
 fn warn_of_groups(
     alloc: Global,
@@ -351,24 +434,16 @@ fn warn_of_groups(
     warn_at(found, Cause::ReplacesStar, detail, &replacing)?;
     let repeated = repeated(alloc, everywhere, labels)?;
     warn_at(found, Cause::RepeatedRule, None, &repeated)?;
-    warn(found, None, None, &google_checks(site, agents))
+    warn_of_google(found, everywhere, site, agents)
 }
 
-/// Whether all groups are checked: the request isn't about a single crawler.
-fn covers_all_crawlers(agent: Option<&str>) -> bool
-    ensures { result ≡ is_none (option_map (λ agent. agent.now) agent.entry) }
-{
-    match agent {
-        Some(_) => false,
-        None => true,
-    }
-}
-
-/// All warnings about a file and a request, in the order of output. `facts`, `labels` and
-/// `site` are those of this file, and `agents` are the crawlers reported on.
+/// All warnings about a file and a request, in the order of output. `everywhere` is false for a report on a single
+/// crawler, and else the rules of all groups are checked. `facts`, `labels` and `site` are those of this file,
+/// `named` are the crawlers that the user named, and `agents` those reported on.
 pub fn warnings<'a>(
     alloc: Global,
-    agent: Option<&str>,
+    everywhere: bool,
+    named: &[&'a str],
     agents: &[String],
     urls: &[&'a str],
     file: &[u8],
@@ -377,12 +452,11 @@ pub fn warnings<'a>(
     site: &Site,
 ) -> Result<Vec<Warning<'a>>, AllocError>
     ensures { IfOk result (λ found. map warning_value found.items
-        ≡ warnings (option_map (λ agent. agent.now) agent.entry) (map string_bytes agents.now)
+        ≡ warnings everywhere (map (λ name. name.now) named.now) (map string_bytes agents.now)
         (map (λ url. url.now) urls.now) file.now facts (map label_by_value labels.now) (file_lines site.now)) }
 {
-    let everywhere = covers_all_crawlers(agent);
     let mut found = Vec::new(alloc);
-    warn_in_general(alloc, &mut found, facts, agent, urls)?;
+    warn_in_general(alloc, &mut found, facts, everywhere, named, urls)?;
     warn_of_file_lines(alloc, &mut found, facts, everywhere, labels, file)?;
     warn_of_positions(&mut found, labels)?;
     warn_past_limit(alloc, &mut found, facts, file, labels)?;

@@ -13,7 +13,7 @@ use robots_warnings::table::Cause;
 use robots_warnings::warning::Warning;
 use std::alloc::{AllocError, Global};
 
-/// The row of each warning that has this cause, is about no URL, and has no number at the end of its message.
+/// The row of each warning that has this cause, and whose message has no URL, no name and no number.
 #[derive(Drop)]
 pub(crate) struct KnownRow {
     cause: Cause,
@@ -39,7 +39,7 @@ pub(crate) fn push_new_row(
     push_end(out, "tr")
 }
 
-/// The row of each warning that has this cause, is about no URL, and has no number at the end of its message.
+/// The row of each warning that has this cause, and whose message has no URL, no name and no number.
 fn new_row(alloc: Global, cause: Cause) -> Result<KnownRow, AllocError>
     ensures { IfOk result (λ known. known.cause ≡ cause) }
 {
@@ -72,8 +72,8 @@ fn row_for(known: &[KnownRow], cause: Cause) -> Option<&KnownRow>
     None
 }
 
-/// Appends the row of each warning that has this cause, is about no URL, and has no number at the end of its message,
-/// and keeps it.
+/// Appends the row of each warning that has this cause, and whose message has no URL, no name and no number, and
+/// keeps it.
 pub(crate) fn push_known_row(
     alloc: Global,
     out: &mut Vec<u8>,

@@ -1,11 +1,11 @@
--- The set of the patterns that are allowed.
+-- The set of the patterns that are allowed, as they are compared.
 use Rattle.std.specs.Prelude.{◌≡◌, ℕ, Bool, false, not, ◌&&◌, ◌||◌, List, Option, String}
 use Rattle.std.specs.HashSet.{HashSet, contains_text}
 use Rattle.std.specs.Global.{Global}
 use Rattle.std.specs.List.{list_any}
 use Rattle.std.specs.Option.{option_map_or}
 use Rattle.texting_robots.specs.Callers.{PlacedRule}
-use Rattle.robots_warnings.specs.Conflicts.{allows}
+use Rattle.robots_warnings.specs.Conflicts.{allows, compared}
 
 -- a set of patterns, for any hash function
 abbrev pub Patterns : Type 0 → Type 0
@@ -28,5 +28,6 @@ pub record AllowedWith {S : Type 0} (allowed : Patterns S) (left all : List Plac
 -- there is a rule, it is a Disallow, and the set contains its pattern
 abbrev pub is_allowed_too : {S : Type 0} → Patterns S → Option PlacedRule → Bool
 is_allowed_too allowed given =
-    option_map_or (λ (placed : PlacedRule). not placed.rule.1 && contains_text allowed placed.rule.0)
+    option_map_or
+    (λ (placed : PlacedRule). not placed.rule.1 && contains_text allowed (compared placed.rule.0))
     given false

@@ -1,4 +1,4 @@
-use Rattle.robots_audit.proofs.WarningLemmas.{allowed_and_disallowed}
+use Rattle.robots_audit.proofs.ConflictLemmas.{allowed_and_disallowed}
 use Rattle.robots_audit.proofs.laws.allowed_and_disallowed.Goals as goal
 
 pub returns : goal.returns

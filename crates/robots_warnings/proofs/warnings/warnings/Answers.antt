@@ -12,6 +12,6 @@ pub returns : goal.returns
 returns c =
     added _ _ _ _ _ _ _ _ _ _ _ (ap (map warning_value) c.new-found.ensures.items)
     c.in_ok-warn_in_general.ensures
-    (rw c.covers_all_crawlers-everywhere.ensures at c.in_ok-warn_of_file_lines.ensures)
+    c.in_ok-warn_of_file_lines.ensures
     c.in_ok-warn_of_positions.ensures c.in_ok-warn_past_limit.ensures
-    (rw c.covers_all_crawlers-everywhere.ensures at c.in_ok-warn_of_groups.ensures)
+    c.in_ok-warn_of_groups.ensures
