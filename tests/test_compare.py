@@ -122,6 +122,12 @@ def test_untrusted_text(tmp_path):
     assert outcome(compare(tmp_path, b"", b"Disallow: /\x07", "a\x1bb", "/\x07")) == (1, lines, "")
 
 
+def test_no_command_of_a_workflow(tmp_path):
+    """GitHub takes `##[` for a command, anywhere in a line."""
+    lines = "crawler a%23%23[b: + Disallow: / (line 1)\ncrawler a%23%23[b /%23%23[error]x: allow -> deny 1\ncrawler a%23%23[b /#[: allow -> deny 1\n"
+    assert outcome(compare(tmp_path, b"", b"Disallow: /", "a##[b", "/##[error]x", "/#[")) == (1, lines, "")
+
+
 def test_a_name_that_looks_like_a_command(tmp_path):
     new = b"User-agent: ::error title=tea::milk\nDisallow: /"
     name = "crawler ::error title=tea::milk"

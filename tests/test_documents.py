@@ -256,7 +256,7 @@ def test_warnings_have_the_order_and_messages_of_the_table():
 def test_warnings_that_are_not_about_syntax_are_listed():
     table = (CRATES / "robots_warnings/src/table.rt").read_text()
     names = dict(re.findall(r'\(Cause::(\w+), Level::\w+, "([a-z0-9-]+)"', table))
-    listed = re.findall(r"Cause::(\w+)", table.split("static ABOUT_MEANING")[1].split("];")[0].split("= [")[1])
+    listed = re.findall(r"Cause::(\w+)", table.split("static NOT_ABOUT_SYNTAX")[1].split("];")[0].split("= [")[1])
     documented = PROGRAMS.split("\n### RFC 9309 syntax\n")[1].split("\n## ")[0].split("all others are about syntax:")[1]
     assert list(dict.fromkeys(names[cause] for cause in listed)) == re.findall(r"`([a-z-]+)`", documented)
 

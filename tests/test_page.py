@@ -216,8 +216,21 @@ def test_page_has_allowed_urls_too(agents):
 
 def test_at_most_100_warnings_are_listed():
     elements = Reader(page("FerrisBot", file=b"hello there\n" * 103 + b"User-agent: *\n")).elements
-    assert len(texts(elements, "li")) == 100 and "and 4 more" in texts(elements, "p")
+    assert len(texts(elements, "li")) == 100 and "and 4 more, below their lines" in texts(elements, "p")
     assert len(texts(elements, "tr", **{"class": "warning"})) == 104
+
+
+def test_all_warnings_without_a_row_are_listed():
+    """Warnings about URLs have no line, and those past the size limit have no row."""
+    urls = [f"bad{number}" for number in range(150)]
+    elements = Reader(page("FerrisBot", *urls, file=b"User-agent: *\nDisallow: /a\nhello\n")).elements
+    listed = texts(elements, "li")
+    assert len(listed) == 150 and all(f"'{url}'" in text for url, text in zip(urls, listed))
+    assert "and 1 more, below their lines" in texts(elements, "p")
+    names = b"".join(b"User-agent: a%d\nDisallow: /\n" % number for number in range(150))
+    elements = Reader(page("FerrisBot", file=b"User-agent: *\nDisallow: /a\n" + b"#".ljust(511_973, b"x") + b"\n" + names)).elements
+    found = [text for text in texts(elements, "li") if "[group-past-size-limit]" in text]
+    assert [text.split(":")[0] for text in found] == [f"line {number}" for number in range(4, 304, 2)]
 
 
 def test_line_past_the_size_limit_is_no_link():

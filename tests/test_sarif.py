@@ -110,7 +110,8 @@ def test_rules():
     driver = log("Ferris")["runs"][0]["tool"]["driver"]
     assert (driver["name"], run("robots_audit", ["--version"]).out) == ("robots_audit", f"robots_audit {driver['version']}\n")
     levels = [(it["id"], it["defaultConfiguration"]["level"]) for it in driver["rules"]]
-    assert levels == [("denied", "error"), ("rejected", "error"), *((name, its[-1][0]) for name, its in WARNINGS.items())]
+    most_serious = [(name, min((it[0] for it in its), key=["error", "warning", "note"].index)) for name, its in WARNINGS.items()]
+    assert levels == [("denied", "error"), ("rejected", "error"), *most_serious]
     rules = {it["id"]: it for it in driver["rules"]}
     for name, its in WARNINGS.items():  # the general message is the last one
         assert {read(rules[name][key]) for key in ("shortDescription", "fullDescription")} == {its[-1][1]}

@@ -91,7 +91,7 @@ def test_numbers_are_those_of_all_crawlers(tmp_path):
     out += "group: GPTBot\ndelay: none\ndeny 5 /b\ndeny 5 /private/\n"
     out += "group: Longbot\ndelay: none\n"
     out += "rejected for Longbot: line 9: a pattern with $ longer than 4,096 bytes isn't supported; shorten it\n"
-    out += "no warnings about syntax: the file has RFC 9309 syntax\n3 allowed, 3 denied\n"
+    out += "3 allowed, 3 denied\n"
     agents = ["--agent=Ferris", "--agent=GPTBot", "--agent=Longbot"]
     result = check(tmp_path, b"/a\n/b\n/private/\n", "--denied", *agents)
     assert (result.status, result.out) == (2, out)

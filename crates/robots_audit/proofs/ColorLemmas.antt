@@ -16,8 +16,7 @@ use Rattle.robots_audit.specs.declared.command.Format.{Format}
 use Rattle.robots_audit.specs.declared.command.Format.TheVariants.{Github, Html, Json, Sarif, Text}
 use Rattle.robots_audit.specs.Answer.{message, message_in, shown_name, without_colors}
 use Rattle.robots_audit.specs.Audit.{AuditValue, RequestValue}
-use Rattle.robots_audit.specs.Color.{IsColorCode, IsColored, IsForTerminal, IsShownAs, color_end, color_of}
-use Rattle.robots_audit.specs.Color.{shown_word}
+use Rattle.robots_audit.specs.Color.{IsColored, IsForTerminal, IsShownAs, shown_word}
 use Rattle.robots_audit.specs.Listed.{listed, more, unlisted}
 use Rattle.robots_audit.specs.Report.{more_line, shown_warning, warning_lines}
 use Rattle.robots_audit.proofs.PrintableLemmas.{each_more}
@@ -30,14 +29,6 @@ colored_same text is = record {
   each = (inl (is, refl), tt);
   text_is = sym (append-nil text);
   plain_is = sym (append-nil text);
-}
-
-colored_code : (code : List ℕ) → IsColorCode code → IsColored [] code
-colored_code code is = record {
-  parts = (code, []) ∷ [];
-  each = (inr (is, refl), tt);
-  text_is = sym (append-nil code);
-  plain_is = refl;
 }
 
 colored_append : (plain text more next : List ℕ) → IsColored plain text → IsColored more next
@@ -62,21 +53,20 @@ plain_printable plain text is = subst IsPrintable (sym is.plain_is) (all_shown i
     all_shown (part ∷ parts) (inl (is, same), later) =
         append_printable true part.1 (flat_map (λ part. part.1) parts) (subst IsPrintable (sym same) is)
         (all_shown parts later)
-    all_shown (part ∷ parts) (inr (is, none), later) =
+    all_shown (part ∷ parts) (inr (level, is, same), later) =
         append_printable true part.1 (flat_map (λ part. part.1) parts)
-        (subst IsPrintable (sym none) (nil_printable true)) (all_shown parts later)
+        (subst IsPrintable (sym same) (word_printable level)) (all_shown parts later)
 
 -- ---- warnings
 
 colored_word : (has_colors : Bool) (level : Level) → IsColored (level_word level) (shown_word has_colors level)
 colored_word false level = colored_same (level_word level) (word_printable level)
-colored_word true level =
-    let word = level_word level in
-    colored_append [] (color_of level) word (word ++ color_end)
-    (colored_code (color_of level) (inl (level, refl)))
-    (subst (λ (plain : List ℕ). IsColored plain (word ++ color_end)) (append-nil word)
-    (colored_append word word [] color_end (colored_same word (word_printable level))
-    (colored_code color_end (inr refl))))
+colored_word true level = record {
+  parts = (shown_word true level, level_word level) ∷ [];
+  each = (inr (level, refl, refl), tt);
+  text_is = sym (append-nil (shown_word true level));
+  plain_is = sym (append-nil (level_word level));
+}
 
 colored_line : (has_colors : Bool) (file : List ℕ) (warning : WarningValue)
     → IsColored (shown_warning false file warning) (shown_warning has_colors file warning)

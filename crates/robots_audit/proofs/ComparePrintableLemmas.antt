@@ -9,7 +9,8 @@ use Rattle.texting_robots.specs.Callers.{PlacedRule}
 use Rattle.texting_robots.specs.declared.decision.Decision.{Decision}
 use Rattle.texting_robots.proofs.TrimLemmas.{each_append}
 use Rattle.robots_io.specs.Lines.{ended}
-use Rattle.robots_io.specs.Sanitize.{IsPrintable, IsPrintableIn, is_printable_byte, sanitized}
+use Rattle.robots_io.specs.Sanitize.{IsPrintable, IsPrintableIn, sanitized}
+use Rattle.robots_io.proofs.CommandLemmas.{IsFront, IsMiddle, front_text, middle_text}
 use Rattle.robots_io.proofs.SanitizeLemmas.{append_printable, ascii_printable, decimal_printable}
 use Rattle.robots_io.proofs.SanitizeLemmas.{ended_printable}
 use Rattle.robots_io.proofs.SanitizeLemmas.{nil_printable, sanitized_in_printable}
@@ -28,7 +29,9 @@ use Rattle.robots_audit.specs.Compare.{url_changes, url_line, verdict_changes}
 use Rattle.robots_audit.specs.PlainLine.{IsPlainLine, begins_plainly}
 use Rattle.robots_audit.specs.Report.{rejected_lines, rejected_text}
 use Rattle.robots_audit.proofs.PlainLemmas.{each_printable}
-use Rattle.robots_audit.proofs.PrintableLemmas.{delay_in_line, each_flat, each_map, rejected_in_line}
+use Rattle.robots_audit.proofs.PrintableLemmas.{delay_in_line, each_flat, each_map, fixed_plain, rejected_in_line}
+use Rattle.robots_audit.proofs.QuietLemmas.{changed_quiet, delay_word_quiet, group_word_quiet, rejection_quiet}
+use Rattle.robots_audit.proofs.QuietLemmas.{rule_quiet, subject_is, url_quiet}
 
 either_lines : (b : Bool) (one two : List (List ℕ)) → Each IsPlainLine one → Each IsPlainLine two
     → Each IsPlainLine (if b then one else two)
@@ -64,8 +67,16 @@ groups_plain agent older newer =
     let change = change_printable (group_word agent older) (group_word agent newer)
     (group_word_printable agent older) (group_word_printable agent newer) in
     either_lines (is_same_group older newer) []
-    ((subject agent what ++ change_text (group_word agent older) (group_word agent newer)) ∷ []) tt
-    (record { printable = append_printable false (subject agent what) _ front change; begins = refl }, tt)
+    ((subject agent what ++ change_text (group_word agent older) (group_word agent newer)) ∷ []) tt (
+      record {
+        printable = append_printable false (subject agent what) _ front change;
+        begins = refl;
+        inside =
+            changed_quiet agent what (group_word agent older) (group_word agent newer) (middle_text what refl)
+            (group_word_quiet agent older) (group_word_quiet agent newer);
+      },
+      tt,
+    )
 
 delay_word_printable : (delay : Option ℕ) → IsPrintableIn false (delay_word delay)
 delay_word_printable None = ascii_printable false (codes "none") refl
@@ -79,8 +90,16 @@ delays_plain agent older newer =
     let change = change_printable (delay_word older) (delay_word newer) (delay_word_printable older)
     (delay_word_printable newer) in
     either_lines (option_eq nat_eq older newer) []
-    ((subject agent what ++ change_text (delay_word older) (delay_word newer)) ∷ []) tt
-    (record { printable = append_printable false (subject agent what) _ front change; begins = refl }, tt)
+    ((subject agent what ++ change_text (delay_word older) (delay_word newer)) ∷ []) tt (
+      record {
+        printable = append_printable false (subject agent what) _ front change;
+        begins = refl;
+        inside =
+            changed_quiet agent what (delay_word older) (delay_word newer) (middle_text what refl)
+            (delay_word_quiet older) (delay_word_quiet newer);
+      },
+      tt,
+    )
 
 -- ---- rules
 
@@ -97,13 +116,14 @@ rule_printable placed =
     (append_printable false (kind_word placed.rule.1) (sanitized placed.rule.0) (kind_printable placed.rule.1)
     (sanitized_in_printable false placed.rule.0)) (note_printable placed.line)
 
-rule_line_plain : (agent sign : List ℕ) → IsPrintableIn false sign → (placed : PlacedRule)
+rule_line_plain : (agent sign : List ℕ) → IsPrintableIn false sign → IsMiddle sign → (placed : PlacedRule)
     → IsPlainLine (rule_line agent sign placed)
-rule_line_plain agent sign is placed = record {
+rule_line_plain agent sign is middle placed = record {
   printable =
       append_printable false (subject agent sign) (rule_text placed) (subject_printable agent sign is)
       (rule_printable placed);
   begins = refl;
+  inside = rule_quiet agent sign placed middle;
 }
 
 rules_plain : (agent : List ℕ) (removed added : List PlacedRule)
@@ -112,9 +132,10 @@ rules_plain agent removed added =
     let minus = codes ": - " in
     let plus = codes ": + " in
     each_append IsPlainLine (map (rule_line agent minus) removed) (map (rule_line agent plus) added)
-    (each_map IsPlainLine (rule_line agent minus) (rule_line_plain agent minus (ascii_printable false minus refl))
-    removed)
-    (each_map IsPlainLine (rule_line agent plus) (rule_line_plain agent plus (ascii_printable false plus refl)) added)
+    (each_map IsPlainLine (rule_line agent minus) (rule_line_plain agent minus (ascii_printable false minus refl)
+    (middle_text minus refl)) removed)
+    (each_map IsPlainLine (rule_line agent plus) (rule_line_plain agent plus (ascii_printable false plus refl)
+    (middle_text plus refl)) added)
 
 -- ---- verdicts
 
@@ -147,6 +168,7 @@ url_line_plain agent url older newer =
           append_printable false (front ++ codes ": ") _
           (append_printable false front (codes ": ") named (ascii_printable false (codes ": ") refl)) change;
       begins = refl;
+      inside = url_quiet agent url older newer;
     }
 
 url_plain : (compared : ComparedValue) (url : List ℕ) (older newer : Decision)
@@ -188,17 +210,23 @@ same_plain compared =
       record {
         printable = subject_printable compared.agent what (ascii_printable false what refl);
         begins = refl;
+        inside = (subject_is compared.agent what (middle_text what refl)).quiet;
       },
       tt,
     ) tt
 
 rejection_plain : (file : List ℕ) → IsPrintableIn false file
-    → ((text : List ℕ) → IsTrue (begins_plainly (file ++ text))) → (agent : List ℕ) (rejected : Option ℕ)
+    → ((text : List ℕ) → IsTrue (begins_plainly (file ++ text))) → IsFront file → (agent : List ℕ)
+    (rejected : Option ℕ)
     → Each IsPlainLine (map (λ (line : List ℕ). file ++ line) (rejected_lines agent rejected))
-rejection_plain file is begins agent None = tt
-rejection_plain file is begins agent (Some line) =
+rejection_plain file is begins front agent None = tt
+rejection_plain file is begins front agent (Some line) =
     let why = rejected_text agent line in (
-      record { printable = append_printable false file why is (rejected_in_line agent line); begins = begins why },
+      record {
+        printable = append_printable false file why is (rejected_in_line agent line);
+        begins = begins why;
+        inside = rejection_quiet file agent line front;
+      },
       tt,
     )
 
@@ -209,8 +237,10 @@ rejections_plain compared =
     let older = compared.older in
     let newer = compared.newer in
     each_append IsPlainLine (rejection old older) (rejection new newer)
-    (rejection_plain old (ascii_printable false old refl) (λ text. refl) older.agent older.rejected)
-    (rejection_plain new (ascii_printable false new refl) (λ text. refl) newer.agent newer.rejected)
+    (rejection_plain old (ascii_printable false old refl) (λ text. refl) (front_text old refl) older.agent
+    older.rejected)
+    (rejection_plain new (ascii_printable false new refl) (λ text. refl) (front_text new refl) newer.agent
+    newer.rejected)
 
 agent_lines_plain : (compared : ComparedValue) → Each IsPlainLine (agent_lines compared)
 agent_lines_plain compared =
@@ -221,15 +251,11 @@ agent_lines_plain compared =
     (each_append IsPlainLine (differences compared) (same_rules compared) (differences_plain compared)
     (same_plain compared)))
 
-fixed_plain : (text : List ℕ) → IsTrue (list_all (is_printable_byte false) text)
-    → IsTrue (begins_plainly text) → IsPlainLine text
-fixed_plain text are begins = record { printable = ascii_printable false text are; begins = begins }
-
 unchanged_plain : (all some : Bool) → Each IsPlainLine (unchanged_lines all some)
 unchanged_plain true some =
-    (fixed_plain (codes "no group, delay or rule differs, so no URL's verdict does") refl refl, tt)
+    (fixed_plain (codes "no group, delay or rule differs, so no URL's verdict does") refl refl refl, tt)
 unchanged_plain false true =
-    (fixed_plain (codes "other crawlers: no group, delay or rule differs, so no URL's verdict does") refl refl, tt)
+    (fixed_plain (codes "other crawlers: no group, delay or rule differs, so no URL's verdict does") refl refl refl, tt)
 unchanged_plain false false = tt
 
 pub comparison_plain : (compared : List ComparedValue) → Each IsPlainLine (report_lines compared)

@@ -1,10 +1,14 @@
--- The report on expectations contains no control or bidirectional-formatting characters other than LF.
+-- The report on expectations contains no control or bidirectional-formatting characters other than LF, and no start of
+-- a command.
 use Rattle.std.proofs.Common.{ℕ, ◌==◌, Bool, true, false, List, [], ◌∷◌, ◌++◌, Option, Some, None, bytes_eq, codes}
 use Rattle.std.proofs.Common.{decimal, filter, length, map, refl, subst, sym}
 use Rattle.std.specs.Prelude.{if◌then◌else◌}
 use Rattle.std.specs.List.{AllByRecursion as Each}
 use Rattle.texting_robots.specs.Callers.{prepared, robots_file}
-use Rattle.robots_io.specs.Sanitize.{IsPrintable}
+use Rattle.robots_io.specs.Lines.{ended}
+use Rattle.robots_io.specs.Sanitize.{IsPrintable, sanitized}
+use Rattle.robots_io.proofs.CommandLemmas.{IsFront, IsMiddle, after_front, before_middle, decimal_middle}
+use Rattle.robots_io.proofs.CommandLemmas.{front_append, front_text, middle_text, sanitized_quiet}
 use Rattle.robots_io.proofs.SanitizeLemmas.{append_printable, ascii_printable, decimal_printable}
 use Rattle.robots_io.proofs.SanitizeLemmas.{ended_printable, sanitized_printable}
 use Rattle.robots_audit.specs.declared.expectations.Finding.{Finding}
@@ -12,8 +16,10 @@ use Rattle.robots_audit.specs.declared.expectations.Finding.TheVariants.{Decided
 use Rattle.robots_audit.specs.Expect.{ExpectationValue}
 use Rattle.robots_audit.specs.Expectations.{CheckedValue, IsReport, decision_text, demand_text, demand_word}
 use Rattle.robots_audit.specs.Expectations.{failure_front, failure_line, fails, finding_text, place_text}
-use Rattle.robots_audit.specs.Expectations.{holding_text, result_lines}
+use Rattle.robots_audit.specs.Expectations.{holding_text, result_lines, unmatched_text}
+use Rattle.robots_audit.specs.Report.{rejected_front}
 use Rattle.robots_audit.proofs.PrintableLemmas.{each_map, either_printable}
+use Rattle.robots_audit.proofs.QuietLemmas.{IsQuiet, either, rejected_front_is}
 
 demand_word_printable : (allowed : Bool) → IsPrintable (demand_word allowed)
 demand_word_printable true = ascii_printable true (demand_word true) refl
@@ -75,3 +81,70 @@ pub expect_printable : (name text file report : List ℕ) (all_hold : Bool)
 expect_printable name text file report all_hold is =
     subst IsPrintable (sym is.whole)
     (ended_printable (result_lines name is.checked) (results_printable name is.checked))
+
+-- ---- no start of a command
+
+place_front : (name : List ℕ) (number : ℕ) → IsFront (place_text name number)
+place_front name number =
+    front_append (sanitized name ++ codes ":") (decimal number)
+    (before_middle (sanitized name) (codes ":") (sanitized_quiet false name) (middle_text (codes ":") refl))
+    (decimal_middle number).front
+
+demand_word_middle : (allowed : Bool) → IsMiddle (demand_word allowed)
+demand_word_middle true = middle_text (demand_word true) refl
+demand_word_middle false = middle_text (demand_word false) refl
+
+demand_quiet : (expectation : ExpectationValue) → IsQuiet (demand_text expectation)
+demand_quiet expectation =
+    let agent = sanitized expectation.agent in
+    let word = demand_word expectation.allowed in
+    after_front (agent ++ word) (sanitized expectation.url)
+    (before_middle agent word (sanitized_quiet false expectation.agent) (demand_word_middle expectation.allowed))
+    (sanitized_quiet false expectation.url)
+
+line_quiet : (line : ℕ) (how : List ℕ) → IsFront how → IsQuiet (codes "line " ++ decimal line ++ how)
+line_quiet line how is =
+    (front_append (codes "line " ++ decimal line) how
+    (front_append (codes "line ") (decimal line) (front_text (codes "line ") refl) (decimal_middle line).front)
+    is).quiet
+
+decision_quiet : (url : List ℕ) (allowed : Bool) (line : Option ℕ) → IsQuiet (decision_text url allowed line)
+decision_quiet url allowed None =
+    either IsQuiet (bytes_eq (prepared url) robots_file) (codes "/robots.txt is always allowed")
+    (codes "no rule matches it") refl refl
+decision_quiet url true (Some line) = line_quiet line (codes " allows it") (front_text (codes " allows it") refl)
+decision_quiet url false (Some line) = line_quiet line (codes " denies it") (front_text (codes " denies it") refl)
+
+finding_quiet : (agent url : List ℕ) (finding : Finding) → IsQuiet (finding_text agent url finding)
+finding_quiet agent url (Rejected line) =
+    after_front (codes "the file is ") (rejected_front agent line) (front_text (codes "the file is ") refl)
+    (rejected_front_is agent line).quiet
+finding_quiet agent url (Decided decision) = decision_quiet url decision.allowed decision.line
+
+failure_quiet : (name : List ℕ) (checked : CheckedValue) → IsQuiet (failure_line name checked)
+failure_quiet name checked =
+    let expectation = checked.expectation in
+    let place = place_text name expectation.number in
+    let demand = demand_text expectation in
+    let front = after_front (place ++ codes ": ") demand
+    (front_append place (codes ": ") (place_front name expectation.number) (front_text (codes ": ") refl))
+    (demand_quiet expectation) in
+    after_front (place ++ codes ": " ++ demand ++ codes ", but ")
+    (finding_text expectation.agent expectation.url checked.finding)
+    (before_middle (place ++ codes ": " ++ demand) (codes ", but ") front (middle_text (codes ", but ") refl))
+    (finding_quiet expectation.agent expectation.url checked.finding)
+
+holding_quiet : (number : ℕ) → IsQuiet (holding_text number)
+unfolding holding_text
+holding_quiet number =
+    let several = codes " expectations hold" in
+    either IsQuiet (number == 1) (codes "1 expectation holds") (decimal number ++ several) refl
+    (front_append (decimal number) several (decimal_middle number).front (front_text several refl)).quiet
+
+pub results_quiet : (name : List ℕ) (checked : List CheckedValue) → Each IsQuiet (result_lines name checked)
+results_quiet name checked = choose (length (filter fails checked) == 0)
+  where
+    choose : (hold : Bool) → Each IsQuiet
+        (if hold then holding_text (length checked) ∷ [] else map (failure_line name) (filter fails checked))
+    choose true = (holding_quiet (length checked), tt)
+    choose false = each_map IsQuiet (failure_line name) (failure_quiet name) (filter fails checked)

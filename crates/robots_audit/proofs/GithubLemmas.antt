@@ -1,23 +1,28 @@
--- Workflow commands are single lines without control or bidirectional-formatting characters.
-use Rattle.std.proofs.Common.{◌≡◌, ℕ, zero, suc, ◌<◌, ◌/◌, ◌%◌, ◌==◌, true, false, List, [], ◌∷◌, ◌++◌}
+-- Workflow commands are single lines without control or bidirectional-formatting characters, and without `##[`.
+use Rattle.std.proofs.Common.{◌≡◌, ℕ, zero, suc, ◌<◌, ◌/◌, ◌%◌, ◌==◌, Bool, true, false, List, [], ◌∷◌, ◌++◌}
 use Rattle.std.proofs.Common.{Option, Some, None, arith, codes, decimal, inl, inr, map, refl}
-use Rattle.std.specs.Prelude.{not, ◌||◌}
+use Rattle.std.specs.Prelude.{if◌then◌else◌, not, ◌||◌}
 use Rattle.std.specs.Fmt.{digit_glyph, digits, digits_onto}
 use Rattle.std.specs.List.{AllByRecursion as Each}
 use Rattle.std.proofs.lemmas.Bool.{and_parts, cases_Bool}
 use Rattle.std.proofs.lemmas.Bool.Decides.{nat_tests}
 use Rattle.std.proofs.lemmas.List.Folds.{list_all-append}
 use Rattle.robots_io.specs.Sanitize.{IsPrintable, sanitized}
+use Rattle.robots_io.proofs.CommandLemmas.{IsFront, IsMiddle, after_front, before_middle, byte_middle}
+use Rattle.robots_io.proofs.CommandLemmas.{decimal_middle, escaped_quiet, front_append, front_text, is_calm}
+use Rattle.robots_io.proofs.CommandLemmas.{middle_append, middle_text, sanitized_quiet}
 use Rattle.robots_io.proofs.SanitizeLemmas.{append_printable, ascii_printable, decimal_printable}
 use Rattle.robots_io.proofs.SanitizeLemmas.{ended_printable, nil_printable, sanitized_printable}
 use Rattle.robots_warnings.specs.declared.level.Level.{Level}
 use Rattle.robots_warnings.specs.declared.level.Level.TheVariants.{Error, Note, Warning}
-use Rattle.robots_audit.specs.Findings.{FindingValue}
+use Rattle.robots_audit.specs.Audit.{AuditValue}
+use Rattle.robots_audit.specs.Findings.{FindingValue, findings}
 use Rattle.robots_audit.specs.Github.{command, command_front, command_word, github_text, is_in_line}
 use Rattle.robots_audit.specs.Github.{is_in_property, line_property, message_byte, message_text}
 use Rattle.robots_audit.specs.Github.{property_byte, property_text}
-use Rattle.robots_audit.proofs.FindingLemmas.{HasPrintableTexts}
+use Rattle.robots_audit.proofs.FindingLemmas.{HasPrintableTexts, HasQuietTexts, findings_quiet}
 use Rattle.robots_audit.proofs.JsonLemmas.{escaped_printable}
+use Rattle.robots_audit.proofs.QuietLemmas.{IsQuiet}
 
 -- ---- no line ends
 
@@ -146,3 +151,77 @@ github_printable file findings are = ended_printable (map (command (sanitized fi
     each [] are = tt
     each (finding ∷ findings) (first, later) =
         (command_printable (sanitized file) finding (sanitized_printable file) first, each findings later)
+
+-- ---- no start of a command within a line
+
+byte_kept : (b : ℕ) → is_calm b ≡ false → message_byte b ≡ b ∷ []
+byte_kept b is = grind (arith, nat_tests)
+
+byte_calm : (b : ℕ) → is_calm b ≡ true → IsMiddle (message_byte b)
+byte_calm b is = choose (b == 37) (b == 13) (b == 10)
+  where
+    choose : (percent cr lf : Bool) → IsMiddle (if percent then codes "%25" else if cr then codes "%0D"
+        else if lf then codes "%0A" else b ∷ [])
+    choose true cr lf = middle_text (codes "%25") refl
+    choose false true lf = middle_text (codes "%0D") refl
+    choose false false true = middle_text (codes "%0A") refl
+    choose false false false = byte_middle b is
+
+property_kept : (b : ℕ) → is_calm b ≡ false → property_byte b ≡ b ∷ []
+property_kept b is = grind (arith, nat_tests)
+
+property_calm : (b : ℕ) → is_calm b ≡ true → IsMiddle (property_byte b)
+property_calm b is = choose (b == 58) (b == 44)
+  where
+    choose : (colon comma : Bool)
+        → IsMiddle (if colon then codes "%3A" else if comma then codes "%2C" else message_byte b)
+    choose true comma = middle_text (codes "%3A") refl
+    choose false true = middle_text (codes "%2C") refl
+    choose false false = byte_calm b is
+
+message_quiet : (text : List ℕ) → IsQuiet text → IsQuiet (message_text text)
+message_quiet = escaped_quiet message_byte byte_kept byte_calm
+
+property_quiet : (text : List ℕ) → IsQuiet text → IsQuiet (property_text text)
+property_quiet = escaped_quiet property_byte property_kept property_calm
+
+word_front : (level : Level) → IsFront (command_word level)
+word_front Error = front_text (command_word Error) refl
+word_front Warning = front_text (command_word Warning) refl
+word_front Note = front_text (command_word Note) refl
+
+after_line : (line : Option ℕ) (text : List ℕ) → IsMiddle text → IsMiddle (line_property line ++ text)
+after_line None text is = is
+after_line (Some line) text is =
+    let word = codes ",line=" in
+    middle_append (word ++ decimal line) text
+    (middle_append word (decimal line) (middle_text word refl) (decimal_middle line).front) is.front
+
+command_quiet : (file : List ℕ) (finding : FindingValue) → IsQuiet file → HasQuietTexts finding
+    → IsQuiet (command file finding)
+command_quiet file finding is (named, said) =
+    let colons = codes "::" in
+    let title = codes ",title=" in
+    let from_name = property_text finding.name ++ colons in
+    let from_line = line_property finding.line ++ (title ++ from_name) in
+    let from_file = property_text file ++ from_line in
+    let name_front = before_middle (property_text finding.name) colons (property_quiet finding.name named)
+    (middle_text colons refl) in
+    let line_middle = after_line finding.line (title ++ from_name)
+    (middle_append title from_name (middle_text title refl) name_front) in
+    let file_front = before_middle (property_text file) from_line (property_quiet file is) line_middle in
+    after_front (command_front file finding) (message_text finding.message)
+    (front_append colons (command_word finding.level ++ (codes " file=" ++ from_file)) (front_text colons refl)
+    (front_append (command_word finding.level) (codes " file=" ++ from_file) (word_front finding.level)
+    (front_append (codes " file=") from_file (front_text (codes " file=") refl) file_front)))
+    (message_quiet finding.message said)
+
+pub commands_quiet : (file : List ℕ) (audit : AuditValue)
+    → Each IsQuiet (map (command (sanitized file)) (findings audit))
+commands_quiet file audit = each (findings audit) (findings_quiet audit)
+  where
+    each : (findings : List FindingValue) → Each HasQuietTexts findings
+        → Each IsQuiet (map (command (sanitized file)) findings)
+    each [] are = tt
+    each (finding ∷ findings) (first, later) =
+        (command_quiet (sanitized file) finding (sanitized_quiet false file) first, each findings later)

@@ -31,7 +31,7 @@ use Rattle.robots_audit.specs.declared.group.Group.{Group}
 use Rattle.robots_audit.specs.declared.group.Group.TheVariants.{Everyone, Named, Nobody, Star}
 use Rattle.robots_audit.specs.Audit.{AgentValue, AuditValue, VerdictValue}
 use Rattle.robots_audit.specs.declared.syntax.Syntax.{Syntax}
-use Rattle.robots_audit.specs.declared.syntax.Syntax.TheVariants.{Standard, StandardWithoutWarnings, Unknown}
+use Rattle.robots_audit.specs.declared.syntax.Syntax.TheVariants.{Standard, StandardWithoutWarnings, Unstated}
 use Rattle.robots_audit.specs.Json.{agent_json, audit_json, group_word, json_text, line_json, list_json}
 use Rattle.robots_audit.specs.Json.{number_json, sanitized_json, membership_word, value_json, verdict_json}
 use Rattle.robots_audit.specs.Json.{syntax_json, warning_json}
@@ -107,7 +107,7 @@ warning_without_float : (warning : WarningValue) → has_float (warning_json war
 warning_without_float warning = rw (number_without_float warning.line)
 
 syntax_without_float : (syntax : Syntax) → has_float (syntax_json syntax) ≡ false
-syntax_without_float Unknown = refl
+syntax_without_float Unstated = refl
 syntax_without_float Standard = refl
 syntax_without_float StandardWithoutWarnings = refl
 
@@ -335,7 +335,7 @@ warning_has warning = (
 )
 
 syntax_has : (syntax : Syntax) → HasPrintable (syntax_json syntax)
-syntax_has Unknown = tt
+syntax_has Unstated = tt
 syntax_has Standard = tt
 syntax_has StandardWithoutWarnings = tt
 

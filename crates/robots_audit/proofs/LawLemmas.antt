@@ -18,7 +18,7 @@ use Rattle.robots_needless.proofs.SettledLemmas.{nothing_found}
 use Rattle.robots_audit.specs.Audit.{AgentValue, RequestValue, AuditValue, IsAgentAudit, IsAuditOf, IsRuling}
 use Rattle.robots_audit.specs.Audit.{IsVerdictOn}
 use Rattle.robots_audit.specs.Audit.{VerdictValue, agents_requested, group_of, labels_requested}
-use Rattle.robots_audit.specs.Audit.{warnings_found, warnings_requested}
+use Rattle.robots_audit.specs.Audit.{rejects_some, warnings_found, warnings_requested}
 use Rattle.robots_audit.specs.Syntax.{syntax_of}
 use Rattle.robots_warnings.specs.Facts.{is_too_large}
 
@@ -146,8 +146,8 @@ same_audit requested file audit other is too same =
       syntax = syntax;
     }) agents
     (is.syntax_is
-    ∙ ap (λ needless. syntax_of requested.agent (is_too_large file)
-    (warnings_found requested file labels needless)) same
+    ∙ ap₂ (λ agents needless. syntax_of requested.agent (is_too_large file) (rejects_some agents)
+    (warnings_found requested file labels needless)) agents same
     ∙ sym too.syntax_is)
 
 pub one_audit : (requested : RequestValue) (file : List ℕ) (audit other : AuditValue)
@@ -267,7 +267,9 @@ some_audit requested file =
         labels = labels;
         agents = agents;
         warnings = warnings_requested requested file labels [];
-        syntax = syntax_of requested.agent (is_too_large file) (warnings_found requested file labels []);
+        syntax =
+            syntax_of requested.agent (is_too_large file) (rejects_some agents)
+            (warnings_found requested file labels []);
       },
       record {
         needless = [];

@@ -21,12 +21,14 @@ pub mod JsonLemmas
 pub mod LawLemmas
 pub mod ListedLemmas
 pub mod MessageLemmas
+pub mod MessageQuietLemmas
 pub mod NeedlessLemmas
 pub mod OutputLemmas
 pub mod PageLemmas
 pub mod PieceLemmas
 pub mod PlainLemmas
 pub mod PrintableLemmas
+pub mod QuietLemmas
 pub mod RowLemmas
 pub mod RuleLemmas
 pub mod RuleSetLemmas

@@ -100,16 +100,16 @@ unknown_in_printable : (names : List (List ℕ)) (fault : Fault) → IsUnknownIn
 unknown_in_printable names fault (inl is) = memory_printable fault is
 unknown_in_printable names fault (inr (name, among, unknown, is)) = unknown_printable name fault is
 
-pub request_printable : (matches : ArgMatches) (fault : Fault) → Asks matches (Err fault)
+pub request_printable : (by_default : Bool) (matches : ArgMatches) (fault : Fault) → Asks by_default matches (Err fault)
     → IsPrintable (fault_text fault)
-request_printable matches fault (inl (lacks, is)) =
+request_printable by_default matches fault (inl (lacks, is)) =
     subst (λ (fault : Fault). IsPrintable (fault_text fault)) (sym is)
     (ascii_printable true (fault_text Usage) refl)
-request_printable matches fault (inr (inl (twice, is))) =
+request_printable by_default matches fault (inr (inl (twice, is))) =
     subst (λ (fault : Fault). IsPrintable (fault_text fault)) (sym is)
     (ascii_printable true (fault_text StdinTwice) refl)
-request_printable matches fault (inr (inr (inl is))) = unknown_in_printable _ fault is
-request_printable matches fault (inr (inr (inr is))) = unknown_in_printable _ fault is
+request_printable by_default matches fault (inr (inr (inl is))) = unknown_in_printable _ fault is
+request_printable by_default matches fault (inr (inr (inr is))) = unknown_in_printable _ fault is
 
 -- ---- results
 
@@ -123,12 +123,12 @@ pub memory_outcome : (result : Result Outcome Fault) → IsErrOf result Memory
 memory_outcome (Ok outcome) is = absurd (cc)
 memory_outcome (Err fault) is = memory_printable fault cc
 
-pub request_outcome : (matches : ArgMatches) (fault : Fault) (result : Result Outcome Fault)
-    → IsErrOf result fault → Asks matches (Err fault) → IsPrintable (message_after result)
-request_outcome matches fault (Ok outcome) is asks = absurd (cc)
-request_outcome matches fault (Err other) is asks =
+pub request_outcome : (by_default : Bool) (matches : ArgMatches) (fault : Fault) (result : Result Outcome Fault)
+    → IsErrOf result fault → Asks by_default matches (Err fault) → IsPrintable (message_after result)
+request_outcome by_default matches fault (Ok outcome) is asks = absurd (cc)
+request_outcome by_default matches fault (Err other) is asks =
     let same : fault ≡ other = cc in
-    subst (λ (fault : Fault). IsPrintable (fault_text fault)) same (request_printable matches fault asks)
+    subst (λ (fault : Fault). IsPrintable (fault_text fault)) same (request_printable by_default matches fault asks)
 
 pub error_for_terminal : (has_colors : Bool) (result : Result Outcome Fault) (fault : Fault)
     → IsErrOf result fault → IsPrintable (fault_text fault) → IsForTerminal has_colors (message_after result)

@@ -28,7 +28,7 @@ use Rattle.robots_audit.specs.Page.{agent_columns, agent_content, agent_entries,
 use Rattle.robots_audit.specs.Page.{agent_table, charset, code, column, crawler_entries, deciding_line}
 use Rattle.robots_audit.specs.Page.{delay_name, file_caption, file_content, file_table, group_note}
 use Rattle.robots_audit.specs.Page.{group_part, is_at, line_columns, line_link, line_name, line_names}
-use Rattle.robots_audit.specs.Page.{bodies, level_name, line_body, line_part, line_row, listed_warnings, meta, number_cell, page}
+use Rattle.robots_audit.specs.Page.{bodies, level_name, line_body, line_part, line_row, meta, number_cell, page}
 use Rattle.robots_audit.specs.Page.{page_body}
 use Rattle.robots_audit.specs.Page.{page_content, page_head, page_style, rejection, rest_note}
 use Rattle.robots_audit.specs.Page.{rest_words, row_name}
@@ -36,7 +36,8 @@ use Rattle.robots_audit.specs.Page.{simple, sitemap_entry, sitemap_item, summary
 use Rattle.robots_audit.specs.Page.{url_body, url_column, url_columns, url_part, url_row, url_table}
 use Rattle.robots_audit.specs.Page.{value_cell, word_cells}
 use Rattle.robots_audit.specs.Page.{verdict_cell, verdict_name, verdict_part, warning_at, warning_entry}
-use Rattle.robots_audit.specs.Page.{warning_item, warning_list, warning_place, warning_row, warning_words}
+use Rattle.robots_audit.specs.Page.{warning_item, warning_items, warning_list, warning_place, warning_row}
+use Rattle.robots_audit.specs.Page.{warning_words}
 use Rattle.robots_audit.specs.Report.{group_text}
 use Rattle.robots_audit.specs.Rows.{value_text}
 use Rattle.robots_audit.specs.Syntax.{is_standard, sentence}
@@ -258,11 +259,16 @@ unfolding warning_item
 warning_item_is rows warning =
     search (rules, plain, followed, warning_place_is, words_printable)
 
+warning_items_is : (rows : ℕ) (warnings : List WarningValue) → IsPart (warning_items rows warnings)
+unfolding warning_items
+warning_items_is rows warnings =
+    search (rules, plain, followed, each_part (warning_item rows) (warning_item_is rows))
+
 rest_note_is : (count : ℕ) → IsPart (rest_note count)
 unfolding rest_note
-rest_note_is count = elim (cases_Bool (nat_lt listed_warnings count)) [
-  | inl more ↦ rw more (simple_is (codes "p") (rest_words count) refl refl (rest_printable count))
-  | inr all ↦ rw all none
+rest_note_is count = elim (cases_Bool (count == 0)) [
+  | inl all ↦ rw all none
+  | inr more ↦ rw more (simple_is (codes "p") (rest_words count) refl refl (rest_printable count))
 ]
 
 warning_list_is : (rows : ℕ) (warnings : List WarningValue) → IsPart (warning_list rows warnings)
@@ -274,7 +280,7 @@ warning_list_is rows warnings =
       after_text,
       followed,
       decimal_printable true,
-      each_part (warning_item rows) (warning_item_is rows),
+      warning_items_is,
       rest_note_is,
     )
 

@@ -1,9 +1,9 @@
 -- Rows of the table of lines, whose constant parts are appended at once.
 use Rattle.std.proofs.Common.{◌≡◌, ◌∙◌, ℕ, Bool, true, false, List, [], ◌∷◌, ◌++◌, ap, append_assoc, codes}
-use Rattle.std.proofs.Common.{None, Result, Ok, Err, decimal, refl, sym}
+use Rattle.std.proofs.Common.{Option, None, Result, Ok, Err, ◌-◌, decimal, drop, length, map, refl, sym}
 use Rattle.std.specs.Prelude.{if◌then◌else◌}
 use Rattle.std.specs.Result.{OnOk, is_ok}
-use Rattle.std.proofs.lemmas.List.{append-nil}
+use Rattle.std.proofs.lemmas.List.{append-nil, drop-map, length-map}
 use Rattle.texting_robots.specs.Callers.{Label, LineValue, UserAgent, Allow, Disallow, Sitemap, CrawlDelay, Raw}
 use Rattle.texting_robots.specs.declared.labels.Membership.{Membership}
 use Rattle.texting_robots.specs.declared.labels.Membership.TheVariants.{Other, Own, Ungrouped}
@@ -14,8 +14,8 @@ use Rattle.robots_warnings.specs.File.{is_blank}
 use Rattle.robots_warnings.specs.Internal.{warning_value}
 use Rattle.robots_warnings.specs.declared.warning.Warning.{Warning}
 use Rattle.robots_audit.specs.Json.{membership_word}
-use Rattle.robots_audit.specs.Page.{line_attributes, number_cell, of_cause, simple, warning_row, with}
-use Rattle.robots_audit.specs.Page.{word_cells}
+use Rattle.robots_audit.specs.Page.{later_warnings, line_attributes, listed_warnings, number_cell, of_cause}
+use Rattle.robots_audit.specs.Page.{rest_count, simple, warning_row, with, without_row, word_cells}
 use Rattle.robots_audit.specs.Rows.{kind_text}
 
 -- ---- texts that are written unchanged
@@ -137,3 +137,13 @@ pub row_of_cause : (warning : Warning) → warning.about ≡ None → warning.de
     → warning_row (of_cause warning.cause) ≡ warning_row (warning_value warning)
 unfolding warning_row
 row_of_cause warning is none = rw (is, none) refl
+
+-- ---- the number of warnings with a row
+
+pub rest_is : (rows : ℕ) (warnings later others : List Warning) → later ≡ drop listed_warnings warnings
+    → map warning_value others ≡ without_row rows (map warning_value later)
+    → rest_count rows (later_warnings (map warning_value warnings)) ≡ length later - length others
+rest_is rows warnings later others is are =
+    let drops : later_warnings (map warning_value warnings) ≡ map warning_value later =
+    drop-map warning_value listed_warnings warnings ∙ ap (map warning_value) (sym is) in
+    rw (drops, length-map later warning_value, ← are, length-map others warning_value) refl

@@ -3,8 +3,8 @@
 use Rattle.std.proofs.Common.{◌≡◌, ℕ, zero, suc, ◌*◌, ◌-◌, ◌/◌, ◌%◌, ◌==◌, Bool, true, false}
 use Rattle.std.proofs.Common.{List, [], ◌∷◌, ◌++◌, Option, Some, None, bytes_eq, codes, decimal, flat_map}
 use Rattle.std.proofs.Common.{length, map, refl, replicate}
-use Rattle.std.specs.Prelude.{if◌then◌else◌}
-use Rattle.std.specs.List.{AllByRecursion as Each}
+use Rattle.std.specs.Prelude.{IsTrue, if◌then◌else◌}
+use Rattle.std.specs.List.{AllByRecursion as Each, list_all}
 use Rattle.texting_robots.specs.Callers.{Allow, CrawlDelay, Disallow, LineValue, Label, Raw, Sitemap}
 use Rattle.texting_robots.specs.Callers.{UserAgent}
 use Rattle.texting_robots.specs.declared.labels.Membership.{Membership}
@@ -22,11 +22,12 @@ use Rattle.robots_warnings.specs.File.{is_blank, space}
 use Rattle.robots_audit.specs.Rows.{has_value, kind_text, label_text, right_aligned, row, rows}
 use Rattle.robots_audit.specs.Syntax.{is_standard, sentence, syntax_lines}
 use Rattle.robots_audit.specs.declared.syntax.Syntax.{Syntax}
-use Rattle.robots_audit.specs.declared.syntax.Syntax.TheVariants.{Standard, StandardWithoutWarnings, Unknown}
+use Rattle.robots_audit.specs.declared.syntax.Syntax.TheVariants.{Standard, StandardWithoutWarnings, Unstated}
 use Rattle.robots_audit.specs.Rows.{value_text, word_and_value, word_width}
-use Rattle.robots_io.specs.Sanitize.{IsPrintable, IsPrintableIn, sanitized}
+use Rattle.robots_io.specs.Sanitize.{IsPrintable, IsPrintableIn, has_command, is_printable_byte, sanitized}
 use Rattle.robots_warnings.specs.Warnings.{WarningValue}
 use Rattle.robots_audit.proofs.PlainLemmas.{starts, starts_append, starts_blanks, starts_decimal, starts_plainly}
+use Rattle.robots_audit.proofs.QuietLemmas.{delay_quiet, group_quiet, rejected_is, row_quiet, total_quiet, verdict_quiet}
 use Rattle.robots_warnings.proofs.PrintableLemmas.{names_printable, word_printable}
 use Rattle.robots_io.proofs.SanitizeLemmas.{append_printable, ascii_printable, blanks_printable}
 use Rattle.robots_io.proofs.SanitizeLemmas.{decimal_printable}
@@ -167,6 +168,7 @@ row_plain : (width : ℕ) (label : Label) → IsPlainLine (row width label)
 row_plain width label = record {
   printable = row_in_line width label;
   begins = starts_plainly (row width label) (row_starts width label);
+  inside = row_quiet width label;
 }
 
 -- ---- the part for a crawler
@@ -189,6 +191,7 @@ group_plain agent group = record {
       append_printable false (codes "group: ") (group_text agent group)
       (ascii_printable false (codes "group: ") refl) (group_text_in_line agent group);
   begins = refl;
+  inside = group_quiet agent group;
 }
 
 delay_line_in_line : (delay : Option ℕ) → IsPrintableIn false (delay_line delay)
@@ -200,7 +203,11 @@ delay_line_begins None = refl
 delay_line_begins (Some micros) = refl
 
 delay_line_plain : (delay : Option ℕ) → IsPlainLine (delay_line delay)
-delay_line_plain delay = record { printable = delay_line_in_line delay; begins = delay_line_begins delay }
+delay_line_plain delay = record {
+  printable = delay_line_in_line delay;
+  begins = delay_line_begins delay;
+  inside = delay_quiet delay;
+}
 
 front_in_line : (allowed : Bool) (line : Option ℕ) → IsPrintableIn false (verdict_front allowed line)
 front_in_line true None = ascii_printable false (verdict_front true None) refl
@@ -228,6 +235,7 @@ verdict_plain : (verdict : VerdictValue) → IsPlainLine (verdict_line verdict)
 verdict_plain verdict = record {
   printable = verdict_in_line verdict;
   begins = front_begins verdict.decision.allowed verdict.decision.line (sanitized verdict.url);
+  inside = verdict_quiet verdict.decision.allowed verdict.decision.line verdict.url;
 }
 
 pub rejected_in_line : (agent : List ℕ) (line : ℕ) → IsPrintableIn false (rejected_text agent line)
@@ -240,7 +248,9 @@ rejected_in_line agent line = search (
 
 rejected_plain : (agent : List ℕ) (rejected : Option ℕ) → Each IsPlainLine (rejected_lines agent rejected)
 rejected_plain agent None = tt
-rejected_plain agent (Some line) = (record { printable = rejected_in_line agent line; begins = refl }, tt)
+rejected_plain agent (Some line) =
+    let inside = (rejected_is agent line).quiet in
+    (record { printable = rejected_in_line agent line; begins = refl; inside = inside }, tt)
 
 agent_plain : (agent : AgentValue) → Each IsPlainLine (agent_lines agent)
 agent_plain agent = (
@@ -255,11 +265,15 @@ agent_plain agent = (
 
 -- ---- the complete report
 
+pub fixed_plain : (text : List ℕ) → IsTrue (list_all (is_printable_byte false) text)
+    → IsTrue (begins_plainly text) → has_command text ≡ false → IsPlainLine text
+fixed_plain text are begins inside =
+    record { printable = ascii_printable false text are; begins = begins; inside = inside }
+
 syntax_plain : (syntax : Syntax) → IsPlainLine (sentence syntax)
-syntax_plain Unknown = record { printable = nil_printable false; begins = refl }
-syntax_plain Standard = record { printable = ascii_printable false (sentence Standard) refl; begins = refl }
-syntax_plain StandardWithoutWarnings =
-    record { printable = ascii_printable false (sentence StandardWithoutWarnings) refl; begins = refl }
+syntax_plain Unstated = fixed_plain [] refl refl refl
+syntax_plain Standard = fixed_plain (sentence Standard) refl refl refl
+syntax_plain StandardWithoutWarnings = fixed_plain (sentence StandardWithoutWarnings) refl refl refl
 
 pub syntax_printable : (syntax : Syntax) → IsPrintable (sentence syntax)
 syntax_printable syntax = printable_line (sentence syntax) (syntax_plain syntax).printable
@@ -300,6 +314,7 @@ pub total_plain : (agents : List AgentValue) → IsPlainLine (total_line agents)
 total_plain agents = record {
   printable = total_in_line agents;
   begins = starts_plainly (total_line agents) (total_starts agents);
+  inside = total_quiet (total is_allowed agents) (total is_denied agents);
 }
 
 pub totals_plain : (has_totals : Bool) (agents : List AgentValue)

@@ -191,18 +191,18 @@ rule_has rule (name, text, example) = (
   ),
 )
 
-rule_printable : (cause : Cause) → IsPrintableRule (rule_of cause)
-rule_printable cause = (names_printable cause, texts_printable cause, example_printable cause)
+rule_printable : (all : List Cause) (cause : Cause) → IsPrintableRule (rule_of all cause)
+rule_printable all cause = (names_printable cause, texts_printable cause, example_printable cause)
 
-rules_printable : (causes : List Cause) → Each IsPrintableRule (rules_of causes)
-rules_printable [] = tt
-rules_printable (cause ∷ later) =
-    each_append IsPrintableRule (rule_unless_later cause later) (rules_of later)
-    (either (has_name (name_of cause) later)) (rules_printable later)
+rules_printable : (all causes : List Cause) → Each IsPrintableRule (rules_of all causes)
+rules_printable all [] = tt
+rules_printable all (cause ∷ later) =
+    each_append IsPrintableRule (rule_unless_later all cause later) (rules_of all later)
+    (either (has_name (name_of cause) later)) (rules_printable all later)
   where
-    either : (again : Bool) → Each IsPrintableRule (if again then [] else rule_of cause ∷ [])
+    either : (again : Bool) → Each IsPrintableRule (if again then [] else rule_of all cause ∷ [])
     either true = tt
-    either false = (rule_printable cause, tt)
+    either false = (rule_printable all cause, tt)
 
 ascii_rule : (rule : RuleValue) → IsTrue (list_all (is_printable_byte true) rule.name)
     → IsTrue (list_all (is_printable_byte true) rule.text)
@@ -213,7 +213,7 @@ ascii_rule rule name text example =
 all_rules_printable : Each IsPrintableRule all_rules
 all_rules_printable = (
   ascii_rule denied_rule refl refl refl,
-  (ascii_rule rejected_rule refl refl refl, rules_printable all_causes),
+  (ascii_rule rejected_rule refl refl refl, rules_printable all_causes all_causes),
 )
 
 rules_have : (rules : List RuleValue) → Each IsPrintableRule rules

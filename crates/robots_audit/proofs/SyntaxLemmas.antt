@@ -9,35 +9,36 @@ use Rattle.robots_rfc9309.specs.Rfc9309.{Group, IsFile}
 use Rattle.robots_rfc9309.proofs.EachLemmas.{each_front}
 use Rattle.robots_warnings.specs.Facts.{facts_of, is_too_large}
 use Rattle.robots_warnings.specs.File.{labels_for}
-use Rattle.robots_warnings.specs.Table.{is_about_meaning}
+use Rattle.robots_warnings.specs.Table.{is_not_about_syntax}
 use Rattle.robots_warnings.specs.Warnings.{WarningValue, warnings}
-use Rattle.robots_syntax.specs.Syntax.{IsAboutMeaning, IsRobotStated, IsSilentOn}
+use Rattle.robots_syntax.specs.Syntax.{IsNotAboutSyntax, IsRobotStated, IsSilentOn}
 use Rattle.robots_syntax.proofs.SyntaxLemmas.{robot_stated, silence}
 use Rattle.robots_audit.specs.Audit.{AuditValue, IsAuditOf, RequestValue, agents_requested, labeling_agent}
-use Rattle.robots_audit.specs.Audit.{labels_requested, warnings_found}
+use Rattle.robots_audit.specs.Audit.{labels_requested, rejects_some, warnings_found}
 use Rattle.robots_audit.specs.Needless.{needless_warning}
 use Rattle.robots_audit.specs.Syntax.{has_syntax_warning, is_about_syntax, is_standard, syntax_of}
 
-each_meaning : (warnings : List WarningValue) → has_syntax_warning warnings ≡ false
-    → Each IsAboutMeaning warnings
+each_not : (warnings : List WarningValue) → has_syntax_warning warnings ≡ false
+    → Each IsNotAboutSyntax warnings
 unfolding is_about_syntax
-each_meaning [] none = tt
-each_meaning (warning ∷ warnings) none =
-    let parts = or_parts (not (is_about_meaning warning.cause)) (has_syntax_warning warnings) none in
-    (not-false (is_about_meaning warning.cause) parts.0, each_meaning warnings parts.1)
+each_not [] none = tt
+each_not (warning ∷ warnings) none =
+    let parts = or_parts (not (is_not_about_syntax warning.cause)) (has_syntax_warning warnings) none in
+    (not-false (is_not_about_syntax warning.cause) parts.0, each_not warnings parts.1)
 
 record IsKnown (agent : Option (List ℕ)) (large : Bool) (warnings : List WarningValue) : Type 0 where
   everyone : agent ≡ None
   whole : large ≡ false
-  silent : Each IsAboutMeaning warnings
+  silent : Each IsNotAboutSyntax warnings
 
-known : (agent : Option (List ℕ)) (large : Bool) (warnings : List WarningValue)
-    → is_standard (syntax_of agent large warnings) ≡ true → IsKnown agent large warnings
-known (Some agent) large warnings is = absurd (false≢true is)
-known None true warnings is = absurd (false≢true is)
-known None false warnings is = elim (cases_Bool (has_syntax_warning warnings)) [
+known : (agent : Option (List ℕ)) (large rejected : Bool) (warnings : List WarningValue)
+    → is_standard (syntax_of agent large rejected warnings) ≡ true → IsKnown agent large warnings
+known (Some agent) large rejected warnings is = absurd (false≢true is)
+known None true rejected warnings is = absurd (false≢true is)
+known None false true warnings is = absurd (false≢true is)
+known None false false warnings is = elim (cases_Bool (has_syntax_warning warnings)) [
   | inl some ↦ absurd (false≢true (rw some at is))
-  | inr none ↦ record { everyone = refl; whole = refl; silent = each_meaning warnings none }
+  | inr none ↦ record { everyone = refl; whole = refl; silent = each_not warnings none }
 ]
 
 -- all warnings but those about needless rules, as `warnings_found` has them
@@ -48,7 +49,7 @@ warnings_for agent named agents urls file =
 
 -- if the request isn't about a single crawler, the warnings are those of all groups
 silent_on : (agent : Option (List ℕ)) (named agents urls : List (List ℕ)) (file : List ℕ) → agent ≡ None
-    → Each IsAboutMeaning (warnings_for agent named agents urls file) → IsSilentOn named agents urls file
+    → Each IsNotAboutSyntax (warnings_for agent named agents urls file) → IsSilentOn named agents urls file
 silent_on None named agents urls file everyone all = all
 silent_on (Some agent) named agents urls file everyone all = absurd cc
 
@@ -57,7 +58,7 @@ module _ (requested : RequestValue) (file : List ℕ) (audit : AuditValue) (is :
   found : IsKnown requested.agent (is_too_large file)
       (warnings_found requested file (labels_requested requested file) is.needless)
   found =
-      known requested.agent (is_too_large file)
+      known requested.agent (is_too_large file) (rejects_some audit.agents)
       (warnings_found requested file (labels_requested requested file) is.needless)
       (subst (λ syntax. is_standard syntax ≡ true) is.syntax_is standard)
 
@@ -66,7 +67,7 @@ module _ (requested : RequestValue) (file : List ℕ) (audit : AuditValue) (is :
 
   silent : IsSilentOn requested.agents agents requested.urls file
   silent = silent_on requested.agent requested.agents agents requested.urls file found.everyone
-      (each_front IsAboutMeaning (warnings_for requested.agent requested.agents agents requested.urls file)
+      (each_front IsNotAboutSyntax (warnings_for requested.agent requested.agents agents requested.urls file)
       (map needless_warning is.needless) found.silent)
 
   all_read : take file_limit file ≡ file

@@ -140,6 +140,10 @@ abbrev pub warnings_requested : RequestValue → List ℕ → List Label → Lis
 warnings_requested requested file labels needless =
     chosen requested.only requested.ignored (warnings_found requested file labels needless)
 
+-- the file is rejected for at least one of these crawlers
+abbrev pub rejects_some : List AgentValue → Bool
+rejects_some agents = list_any (λ (agent : AgentValue). is_some agent.rejected) agents
+
 -- Of needless rules, it is only stated that those found are needless together: there may be more. So with
 -- `--needless` a file may have several audits, but without it only one. They are those of all groups, whichever
 -- crawler the report is about, since deleting only some of them could change a verdict.
@@ -152,7 +156,7 @@ pub record IsAuditOf (requested : RequestValue) (file : List ℕ) (audit : Audit
       (agents_requested requested.agents (lines_read file)) audit.agents
   pub warnings_are : audit.warnings ≡ warnings_requested requested file (labels_requested requested file)
       needless
-  pub syntax_is : audit.syntax ≡ syntax_of requested.agent (is_too_large file)
+  pub syntax_is : audit.syntax ≡ syntax_of requested.agent (is_too_large file) (rejects_some audit.agents)
       (warnings_found requested file (labels_requested requested file) needless)
 
 -- ---- denied URLs
@@ -185,7 +189,3 @@ allows_all verdicts = list_all (λ (verdict : VerdictValue). verdict.decision.al
 -- each of these crawlers may fetch all of its URLs
 abbrev pub all_allowed : List AgentValue → Bool
 all_allowed agents = list_all (λ (agent : AgentValue). allows_all agent.verdicts) agents
-
--- the file is rejected for at least one of these crawlers
-abbrev pub rejects_some : List AgentValue → Bool
-rejects_some agents = list_any (λ (agent : AgentValue). is_some agent.rejected) agents

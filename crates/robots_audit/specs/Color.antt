@@ -1,5 +1,5 @@
 -- Colors on a terminal, and texts with color codes.
-use Rattle.std.specs.Prelude.{◌≡◌, ◌⊎◌, ℕ, Bool, true, false, List, [], ◌∷◌, ◌++◌, Option, Some, None}
+use Rattle.std.specs.Prelude.{◌≡◌, ◌⊎◌, ℕ, Bool, true, false, List, ◌∷◌, ◌++◌, Option, Some, None}
 use Rattle.std.specs.Prelude.{bytes_eq, codes, flat_map, if◌then◌else◌}
 use Rattle.std.specs.List.{AllByRecursion as Each}
 use Rattle.robots_io.specs.Sanitize.{IsPrintable}
@@ -33,15 +33,14 @@ shown_word true level = color_of level ++ (level_word level ++ color_end)
 
 -- ---- texts with color codes
 
--- one of the codes above
-abbrev pub IsColorCode : List ℕ → Type 0
-IsColorCode code = ((level : Level) × (code ≡ color_of level)) ⊎ (code ≡ color_end)
-
--- the part of a text is printable and shown as it is, or it is a color code, and nothing is shown
+-- the part of a text is printable and shown as it is, or it is the word for a level between the code that begins its
+-- color and the one that ends it, and the word is shown; so no color goes on after its word
 abbrev pub IsShownAs : (part shown : List ℕ) → Type 0
-IsShownAs part shown = (IsPrintable part × (shown ≡ part)) ⊎ (IsColorCode part × (shown ≡ []))
+IsShownAs part shown =
+    (IsPrintable part × (shown ≡ part))
+    ⊎ ((level : Level) × (part ≡ shown_word true level) × (shown ≡ level_word level))
 
--- the text consists of printable parts and color codes, and without the codes it is `plain`
+-- the text consists of printable parts and colored words, and without the codes it is `plain`
 pub record IsColored (plain text : List ℕ) : Type 0 where
   -- each part, and what is shown of it
   pub parts : List (List ℕ × List ℕ)
@@ -49,7 +48,7 @@ pub record IsColored (plain text : List ℕ) : Type 0 where
   pub text_is : text ≡ flat_map (λ part. part.0) parts
   pub plain_is : plain ≡ flat_map (λ part. part.1) parts
 
--- the text consists of printable parts and, if there are colors, of color codes
+-- the text is printable or, if there are colors, consists of printable parts and colored words
 abbrev pub IsForTerminal : (has_colors : Bool) → List ℕ → Type 0
 IsForTerminal false text = IsPrintable text
 IsForTerminal true text = (plain : List ℕ) × IsColored plain text

@@ -7,6 +7,7 @@ use Rattle.std.specs.List.{list_all}
 use Rattle.std.specs.Option.{option_map_or}
 use Rattle.clap.specs.Words.{first_value, found_of, matched_of, one_text, raw_values}
 use Rattle.clap.specs.declared.parser.matches.ArgMatches.{ArgMatches}
+use Rattle.robots_audit.specs.Color.{requested_colors}
 use Rattle.robots_audit.specs.declared.command.Format.{Format}
 use Rattle.robots_audit.specs.declared.command.Format.TheVariants.{Github, Html, Json, Sarif, Text}
 use Rattle.robots_audit.specs.declared.command.Request.{Request}
@@ -108,7 +109,8 @@ pub record AreNamesOf (matches : ArgMatches) (id : List ℕ) (names : List (List
   pub all : names ≡ values_of matches id
   pub known : IsTrue (list_all is_name names)
 
-pub record IsRequestOf (matches : ArgMatches) (request : Request) : Type 0 where
+-- the request that the arguments contain; `by_default` is whether warnings have colors without `--color`
+pub record IsRequestOf (by_default : Bool) (matches : ArgMatches) (request : Request) : Type 0 where
   pub once : reads_stdin_twice matches ≡ false
   pub file : option_map (λ name. name.now) request.file ≡ file_read (value_of matches (codes "file"))
   pub quiet : IsOn matches (codes "quiet") request.is_quiet
@@ -116,6 +118,7 @@ pub record IsRequestOf (matches : ArgMatches) (request : Request) : Type 0 where
   pub denied : IsOn matches (codes "denied") request.is_denied_only
   pub totals : request.has_totals ≡ (request.is_denied_only || is_some (value_of matches (codes "urls")))
   pub needless : IsOn matches (codes "needless") request.has_needless
+  pub colors : request.has_colors ≡ requested_colors (value_of matches (codes "color")) by_default
   pub strict : request.strict ≡ option_map level_named (value_of matches (codes "strict"))
   pub words : HasCrawlers matches (words_of matches) (map (λ agent. agent.now) request.agents.items)
       (map (λ url. url.now) request.urls.items)
@@ -136,9 +139,9 @@ IsUnknownIn names fault =
 
 -- a request, or an error: no crawler is given, standard input would be read twice, no warning has a given name,
 -- or an allocation failed
-abbrev pub Asks : ArgMatches → Result Request Fault → Type 0
-Asks matches (Ok request) = IsRequestOf matches request
-Asks matches (Err fault) =
+abbrev pub Asks : (by_default : Bool) → ArgMatches → Result Request Fault → Type 0
+Asks by_default matches (Ok request) = IsRequestOf by_default matches request
+Asks by_default matches (Err fault) =
     (LacksAgent matches (words_of matches) × (fault ≡ Usage))
     ⊎ (((reads_stdin_twice matches ≡ true) × (fault ≡ StdinTwice))
     ⊎ (IsUnknownIn (values_of matches (codes "only")) fault

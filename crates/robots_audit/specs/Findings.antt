@@ -32,14 +32,17 @@ abbrev pub denials : List ℕ → VerdictValue → List FindingValue
 denials agent verdict = if verdict.decision.allowed then [] else denied agent verdict ∷ []
 
 -- a rejected file is an error in the line of the crawler's first overlong rule
-abbrev pub rejections : List ℕ → Option ℕ → List FindingValue
-rejections agent None = []
-rejections agent (Some line) = record {
+abbrev pub rejected : List ℕ → ℕ → FindingValue
+rejected agent line = record {
   level = Error;
   line = Some line;
   name = codes "rejected";
   message = rejected_text agent line;
-} ∷ []
+}
+
+abbrev pub rejections : List ℕ → Option ℕ → List FindingValue
+rejections agent None = []
+rejections agent (Some line) = rejected agent line ∷ []
 
 abbrev pub agent_findings : AgentValue → List FindingValue
 agent_findings agent = rejections agent.agent agent.rejected ++ flat_map (denials agent.agent) agent.verdicts

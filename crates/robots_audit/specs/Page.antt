@@ -2,9 +2,9 @@
 -- untrusted text is sanitized and is the text of an element, never part of an attribute.
 --
 -- The parts are `unfoldable`, so that a proof about a function that writes a part names the parts in it.
-use Rattle.std.specs.Prelude.{ℕ, zero, suc, ◌+◌, ◌-◌, ◌/◌, ◌==◌, nat_lt, Bool, true, false}
+use Rattle.std.specs.Prelude.{ℕ, zero, suc, ◌+◌, ◌-◌, ◌/◌, ◌==◌, nat_lt, Bool, true, false, not}
 use Rattle.std.specs.Prelude.{List, [], ◌∷◌, ◌++◌, Option, Some, None}
-use Rattle.std.specs.Prelude.{codes, decimal, drop, if◌then◌else◌, length, take}
+use Rattle.std.specs.Prelude.{codes, decimal, drop, filter, if◌then◌else◌, length, take}
 use Rattle.texting_robots.specs.Callers.{Label, LineValue, sitemaps_in}
 use Rattle.robots_html.specs.Html.{Attribute, Html, attribute, each, style, tag, text, void, ◌⊕◌}
 use Rattle.robots_io.specs.Sanitize.{sanitized}
@@ -177,24 +177,46 @@ unfoldable pub warning_item : (rows : ℕ) → WarningValue → Html
 warning_item rows warning =
     tag (codes "li") [] (warning_place rows warning.line ⊕ text (warning_words warning))
 
--- how many warnings are listed at the top
+-- how many warnings are listed at the top first
 abbrev pub listed_warnings : ℕ
 listed_warnings = 100
 
--- the number of those that aren't
-abbrev pub rest_words : ℕ → List ℕ
-rest_words count = codes "and " ++ decimal (count - listed_warnings) ++ codes " more"
+-- the warnings after those
+abbrev pub later_warnings : List WarningValue → List WarningValue
+later_warnings warnings = drop listed_warnings warnings
 
+-- a warning about this line has a row in the table of lines, below that of its line
+abbrev pub has_row : (rows : ℕ) → Option ℕ → Bool
+has_row rows None = false
+has_row rows (Some number) = not (nat_lt rows number)
+
+-- the warnings that have no such row
+abbrev pub without_row : (rows : ℕ) → List WarningValue → List WarningValue
+without_row rows warnings = filter (λ (warning : WarningValue). not (has_row rows warning.line)) warnings
+
+-- the list at the top: the first warnings, and those of the later ones that are nowhere else on the page
+unfoldable pub warning_items : (rows : ℕ) → List WarningValue → Html
+warning_items rows warnings =
+    each (warning_item rows) (take listed_warnings warnings)
+    ⊕ each (warning_item rows) (without_row rows (later_warnings warnings))
+
+-- how many of these warnings have a row
+abbrev pub rest_count : (rows : ℕ) → List WarningValue → ℕ
+rest_count rows warnings = length warnings - length (without_row rows warnings)
+
+abbrev pub rest_words : ℕ → List ℕ
+rest_words count = codes "and " ++ decimal count ++ codes " more, below their lines"
+
+-- how many warnings aren't in the list, if there are some
 unfoldable pub rest_note : ℕ → Html
-rest_note count =
-    if nat_lt listed_warnings count then simple (codes "p") (rest_words count) else text []
+rest_note count = if count == 0 then text [] else simple (codes "p") (rest_words count)
 
 -- the number of warnings, and the list
 unfoldable pub warning_list : (rows : ℕ) → List WarningValue → Html
 warning_list rows warnings =
     text (decimal (length warnings))
-    ⊕ tag (codes "ul") [] (each (warning_item rows) (take listed_warnings warnings))
-    ⊕ rest_note (length warnings)
+    ⊕ tag (codes "ul") [] (warning_items rows warnings)
+    ⊕ rest_note (rest_count rows (later_warnings warnings))
 
 unfoldable pub warning_entry : (rows : ℕ) → List WarningValue → Html
 warning_entry rows warnings =

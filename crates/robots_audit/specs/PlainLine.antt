@@ -1,8 +1,8 @@
--- Lines that no workflow on GitHub takes for a command. Its commands begin with `::` or `##[`, possibly after
--- spaces.
-use Rattle.std.specs.Prelude.{ℕ, ◌==◌, Bool, true, false, not, ◌||◌, IsTrue, List, [], ◌∷◌, if◌then◌else◌}
+-- Lines that no workflow on GitHub takes for a command. A command begins with `::`, possibly after spaces at the start
+-- of a line, or with `##[` anywhere in a line.
+use Rattle.std.specs.Prelude.{◌≡◌, ℕ, ◌==◌, Bool, true, false, not, ◌||◌, IsTrue, List, [], ◌∷◌, if◌then◌else◌}
 use Rattle.std.specs.Str.{byte}
-use Rattle.robots_io.specs.Sanitize.{IsPrintableIn}
+use Rattle.robots_io.specs.Sanitize.{IsPrintableIn, has_command}
 
 -- the first byte that isn't a space is neither `:` nor `#`
 abbrev pub begins_plainly : List ℕ → Bool
@@ -14,3 +14,4 @@ begins_plainly (b ∷ text) =
 pub record IsPlainLine (line : List ℕ) : Type 0 where
   pub printable : IsPrintableIn false line
   pub begins : IsTrue (begins_plainly line)
+  pub inside : has_command line ≡ false

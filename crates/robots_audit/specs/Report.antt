@@ -27,7 +27,7 @@ abbrev pub group_text : List ℕ → Group → List ℕ
 group_text agent Named = sanitized agent
 group_text agent Star = codes "* (" ++ sanitized agent ++ codes " has no group of its own)"
 group_text agent Nobody = nobody_text agent
-group_text agent Everyone = codes "none (the file has no User-agent line; all rules are applied)"
+group_text agent Everyone = codes "everyone (the file has no User-agent line; all rules are applied)"
 
 abbrev pub group_line : List ℕ → Group → List ℕ
 group_line agent group = codes "group: " ++ group_text agent group

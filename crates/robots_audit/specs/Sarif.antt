@@ -1,6 +1,6 @@
 -- The findings as a log of SARIF 2.1.0 (OASIS Standard, Static Analysis Results Interchange Format), in one line.
 use Rattle.std.specs.Prelude.{ℕ, Bool, false, List, [], ◌∷◌, ◌++◌, ◌==◌, ◌&&◌, ◌||◌, Option, Some, None}
-use Rattle.std.specs.Prelude.{bytes_eq, codes, count_by, encode_utf8_all, flat_map, if◌then◌else◌, option_map}
+use Rattle.std.specs.Prelude.{bytes_eq, codes, count_by, encode_utf8_all, flat_map, if◌then◌else◌, not, option_map}
 use Rattle.std.specs.Prelude.{unwrap_or}
 use Rattle.std.specs.Int.{is_in_range}
 use Rattle.std.specs.List.{list_any}
@@ -11,9 +11,9 @@ use Rattle.serde_json.specs.Data.{unsigned}
 use Rattle.serde_json.specs.Written.{compact_text}
 use Rattle.robots_io.specs.Lines.{lf}
 use Rattle.robots_warnings.specs.declared.level.Level.{Level}
-use Rattle.robots_warnings.specs.declared.level.Level.TheVariants.{Error}
+use Rattle.robots_warnings.specs.declared.level.Level.TheVariants.{Error, Note, Warning}
 use Rattle.robots_warnings.specs.declared.table.Cause.{Cause}
-use Rattle.robots_warnings.specs.Level.{level_word}
+use Rattle.robots_warnings.specs.Level.{level_word, reaches}
 use Rattle.robots_warnings.specs.Table.{all_causes, example_of, level_of, name_of, text_of}
 use Rattle.robots_audit.specs.Findings.{FindingValue}
 use Rattle.robots_audit.specs.Json.{list_json}
@@ -106,30 +106,44 @@ rejected_rule = record {
   example = codes "User-agent: *\nDisallow: /\\{4096 a}$";
 }
 
--- the rule of a warning
-abbrev pub rule_of : Cause → RuleValue
-rule_of cause = record {
-  name = name_of cause;
-  level = level_of cause;
-  text = text_of cause;
-  example = example_of cause;
-}
-
 -- one of these warnings has this name
 abbrev pub has_name : List ℕ → List Cause → Bool
 has_name name causes = list_any (λ cause. bytes_eq (name_of cause) name) causes
 
--- the rule of a warning, unless one of these later ones has the same name
-abbrev pub rule_unless_later : Cause → List Cause → List RuleValue
-rule_unless_later cause later = if has_name (name_of cause) later then [] else rule_of cause ∷ []
+-- one of these warnings has this name, and this level or a more serious one
+abbrev pub has_name_at : List ℕ → Level → List Cause → Bool
+has_name_at name level causes =
+    list_any (λ cause. bytes_eq (name_of cause) name && reaches (level_of cause) level) causes
 
--- the rules of these warnings. A name has the rule of the last warning with it, which is the general one
-abbrev pub rules_of : List Cause → List RuleValue
-rules_of [] = []
-rules_of (cause ∷ later) = rule_unless_later cause later ++ rules_of later
+-- the most serious level of these warnings with this name
+abbrev pub level_named : List ℕ → List Cause → Level
+level_named name causes =
+    if has_name_at name Error causes then Error else if has_name_at name Warning causes then Warning else Note
+
+-- the rule of a warning, with the most serious level of all these warnings with its name
+abbrev pub rule_of : (all : List Cause) → Cause → RuleValue
+rule_of all cause = record {
+  name = name_of cause;
+  level = level_named (name_of cause) all;
+  text = text_of cause;
+  example = example_of cause;
+}
+
+-- the rule of a warning, unless one of these later ones has the same name
+abbrev pub rule_unless_later : (all : List Cause) → Cause → List Cause → List RuleValue
+rule_unless_later all cause later = if has_name (name_of cause) later then [] else rule_of all cause ∷ []
+
+-- the rules of these warnings: a name has the description of the last warning with it, which is the general one
+abbrev pub rules_of : (all : List Cause) → List Cause → List RuleValue
+rules_of all [] = []
+rules_of all (cause ∷ later) = rule_unless_later all cause later ++ rules_of all later
 
 abbrev pub all_rules : List RuleValue
-all_rules = denied_rule ∷ rejected_rule ∷ rules_of all_causes
+all_rules = denied_rule ∷ rejected_rule ∷ rules_of all_causes all_causes
+
+-- unless the rule has another name than the warning, it has its level or a more serious one
+abbrev pub has_level_for : Cause → RuleValue → Bool
+has_level_for cause rule = not (bytes_eq rule.name (name_of cause)) || reaches rule.level (level_of cause)
 
 -- the number of rules with this name
 abbrev pub rules_named : List ℕ → ℕ

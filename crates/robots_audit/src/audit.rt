@@ -245,7 +245,8 @@ pub(crate) fn audit_of<'a, 'b>(
         alloc, request, &names, file, facts, &labels, &site, &needless,
     )?;
     let warnings = warnings_chosen(alloc, request, &all)?;
-    let syntax = syntax_of(request.agent, facts.is_too_large, &all);
+    let is_rejected = rejects_some(&agents);
+    let syntax = syntax_of(request.agent, facts.is_too_large, is_rejected, &all);
     Ok(Audit {
         labels,
         agents,

@@ -1,9 +1,9 @@
 //! The command line: its options, and the request that they result in.
-ghost use Rattle.std.specs.Prelude.{◌≡◌, ◌≢◌, ◌↔◌, ◌++◌, IfErr, IfOk, IsTrue, OnOk, codes, is_some, map, option_map, ◌||◌};
+ghost use Rattle.std.specs.Prelude.{◌≡◌, ◌≢◌, ◌↔◌, ◌++◌, IfErr, IfOk, IsTrue, OnOk, is_some, map, option_map, ◌||◌};
 ghost use Rattle.std.specs.List.{list_all};
 ghost use Rattle.robots_warnings.specs.Table.{is_name};
 ghost use Rattle.robots_audit.specs.Command.{AreNamesOf, Asks, file_read, format_named, HasCrawlers, is_stdin, IsUnknown, IsUnknownIn, LacksAgent, level_named};
-ghost use Rattle.robots_audit.specs.Command.{reads_stdin_twice, requested_format, single, value_of, values_of, words_of};
+ghost use Rattle.robots_audit.specs.Command.{reads_stdin_twice, requested_format, single, values_of, words_of};
 ghost use Rattle.robots_audit.specs.Color.{requested_colors};
 
 use crate::color::requested_colors;
@@ -134,7 +134,9 @@ fn color<'a>(alloc: Global) -> Arg<'a> {
         .long("color")
         .value_name("WHEN")
         .value_parser(ValueParser::Names(&["auto", "always", "never"]))
-        .help("Color the levels of warnings; auto (default): on a terminal, unless NO_COLOR is set")
+        .help(
+            "Color the levels of warnings; auto (default): on a terminal, unless NO_COLOR isn't empty or TERM is dumb",
+        )
 }
 
 /// Adds the options without a value, `--format`, `--color` and `--strict`.
@@ -467,9 +469,7 @@ pub fn requested<'a>(
     matches: &ArgMatches<'a>,
     has_colors: bool,
 ) -> Result<Request<'a>, Fault>
-    ensures asks { Asks matches.now result }
-    ensures colors { IfOk result (λ request. request.has_colors
-        ≡ requested_colors (value_of matches.now (codes "color")) has_colors) }
+    ensures { Asks has_colors matches.now result }
 {
     let mut urls = words_of(alloc, matches)?;
     let agents = crawlers(alloc, matches, &mut urls)?;

@@ -1,6 +1,6 @@
 //! Theorems about the specification, each written as the contract of an empty function.
 ghost use Rattle.std.specs.Prelude.{[], Any, Bool, codes, Contains, false, if◌then◌else◌, IsTrue, List, slice_get, Some, take, true, ℕ, ◌+◌, ◌==◌, ◌||◌, ◌↔◌, ◌∷◌};
-ghost use Rattle.std.specs.Prelude.{◌≡◌, ◌≢◌};
+ghost use Rattle.std.specs.Prelude.{◌≡◌, ◌≢◌, map};
 ghost use Rattle.std.specs.List.{AllByRecursion as Each, list_all};
 ghost use Rattle.std.specs.Str.{byte, chars, is_utf8, IsUtf8, str_to_ascii_lowercase};
 ghost use Rattle.texting_robots.specs.Callers.{Allow, AreLabelsOf, AreRulesFor, Disallow, escaped, file_limit, file_lines, HoldsRule, is_named, IsDecidingLine};
@@ -25,16 +25,17 @@ ghost use Rattle.robots_audit.specs.Audit.{AgentValue, AuditValue, IsAuditOf, Re
 ghost use Rattle.robots_audit.specs.Color.{IsColored};
 ghost use Rattle.robots_audit.specs.Page.{page};
 ghost use Rattle.robots_audit.specs.Compare.{ComparedValue, has_same_rules, is_unchanged, IsCompared, report_lines, rules_only_in, verdict_changes};
-ghost use Rattle.robots_audit.specs.Expectations.{IsReport};
+ghost use Rattle.robots_audit.specs.Expectations.{CheckedValue, IsReport, result_lines};
 ghost use Rattle.robots_audit.specs.Explain.{explanation, list_text};
 ghost use Rattle.robots_audit.specs.PlainLine.{IsPlainLine};
-ghost use Rattle.robots_audit.specs.Report.{report_lines as audit_lines, total_line};
+ghost use Rattle.robots_audit.specs.Report.{listed_lines, report_lines as audit_lines, total_line};
 ghost use Rattle.robots_audit.specs.Syntax.{is_standard};
 ghost use Rattle.robots_io.specs.Lines.{ended};
-ghost use Rattle.robots_audit.specs.Findings.{FindingValue};
+ghost use Rattle.robots_audit.specs.Findings.{FindingValue, findings};
 ghost use Rattle.robots_audit.specs.Github.{command, is_in_line, is_in_property, property_text};
-ghost use Rattle.robots_audit.specs.Sarif.{literal_text, rules_named, shown};
-ghost use Rattle.robots_io.specs.Sanitize.{IsPrintable};
+ghost use Rattle.robots_audit.specs.Sarif.{all_rules, has_level_for, literal_text, rules_named, shown};
+ghost use Rattle.robots_io.specs.Sanitize.{has_command, IsPrintable, sanitized};
+ghost use Rattle.robots_warnings.specs.Warnings.{WarningValue};
 
 /// Without `--needless`, a request and a file have at most one audit, and so at most one report; with it, at most one for
 /// each list of needless rules.
@@ -86,8 +87,8 @@ pub fn no_terminal_is_steered()
         → IsPrintable (message requested audit) }
 {}
 
-/// With colors, the message on standard error is the one without colors, in which color codes are inserted. Its other parts
-/// contain no such characters either.
+/// With colors, the message on standard error is the one without colors, in which color codes are inserted: one that begins
+/// a color before a word for a level, and one that ends it after the word. Its other parts contain no such characters.
 pub fn colors_add_only_their_codes()
     ensures { (requested : RequestValue) (audit : AuditValue)
         → IsColored (message (without_colors requested) audit) (message requested audit) }
@@ -114,18 +115,29 @@ pub fn no_other_report_steers_a_terminal()
 {}
 
 /// If an audit as text, or a comparison, runs in a workflow on GitHub, no line of its report is a command, whatever the
-/// names of crawlers, the URLs and the files are.
+/// names of crawlers, the URLs and the files are: none begins with `::`, even after spaces, and none contains `##[`.
 pub fn no_line_is_a_command()
     ensures audit { (has_rows : Bool) (audit : AuditValue) → Each IsPlainLine (audit_lines has_rows audit) }
     ensures totals { (agents : List AgentValue) → IsPlainLine (total_line agents) }
     ensures comparison { (compared : List ComparedValue) → Each IsPlainLine (report_lines compared) }
 {}
 
-/// In a workflow command for GitHub, whatever the name of the file and the texts are: no text ends the line, and no text
-/// in a property ends the property.
+/// Nor do a line of `--expect` and a line about a warning on standard error contain `##[`. They begin with the name of a
+/// file, or state how many expectations hold.
+pub fn no_line_contains_a_command()
+    ensures expected { (name : List ℕ) (checked : List CheckedValue)
+        → Each (λ line. has_command line ≡ false) (result_lines name checked) }
+    ensures warnings { (has_colors : Bool) (file : List ℕ) (warnings : List WarningValue)
+        → Each (λ line. has_command line ≡ false) (listed_lines has_colors file warnings) }
+{}
+
+/// In a workflow command for GitHub, whatever the name of the file and the texts are: no text ends the line, no text in a
+/// property ends the property, and no other command begins within the line of an audit's finding.
 pub fn no_text_ends_a_command()
     ensures line { (file : List ℕ) (finding : FindingValue) → IsTrue (is_in_line (command file finding)) }
     ensures property { (text : List ℕ) → IsTrue (is_in_property (property_text text)) }
+    ensures inside { (file : List ℕ) (audit : AuditValue)
+        → Each (λ line. has_command line ≡ false) (map (command (sanitized file)) (findings audit)) }
 {}
 
 /// A message of a SARIF log that is made of a text shows this text, and has neither a placeholder nor a link, whatever
@@ -134,9 +146,10 @@ pub fn no_text_becomes_a_link()
     ensures { (text : List ℕ) → IsUtf8 text → shown (chars (literal_text text)) ≡ Some (chars text) }
 {}
 
-/// In a SARIF log, each warning has a rule, and no name has two.
+/// In a SARIF log, each warning has a rule, no name has two, and no warning is more serious than its rule.
 pub fn each_name_has_one_rule()
-    ensures { IsTrue (list_all (λ cause. rules_named (name_of cause) == 1) all_causes) }
+    ensures one { IsTrue (list_all (λ cause. rules_named (name_of cause) == 1) all_causes) }
+    ensures level { IsTrue (list_all (λ cause. list_all (has_level_for cause) all_rules) all_causes) }
 {}
 
 /// `allowed-and-disallowed` is given for a line exactly if it has a Disallow that applies to one of the crawlers reported

@@ -65,7 +65,7 @@ pub(crate) fn push_group_text(
         Group::Star => push_around(text, "* (", agent, " has no group of its own)"),
         Group::Nobody => push_nobody(text, agent),
         Group::Everyone => {
-            text.push_str("none (the file has no User-agent line; all rules are applied)")
+            text.push_str("everyone (the file has no User-agent line; all rules are applied)")
         }
     }
 }

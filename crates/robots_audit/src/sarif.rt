@@ -4,7 +4,8 @@ ghost use Rattle.serde_json.specs.View.{view};
 ghost use Rattle.robots_audit.specs.Findings.{findings};
 ghost use Rattle.robots_audit.specs.Internal.{audit_value, finding_value, rule_value};
 ghost use Rattle.robots_audit.specs.Json.{list_json};
-ghost use Rattle.robots_audit.specs.Sarif.{all_rules, begins_with_slash, has_name, help_text, is_uri_byte, literal_char, literal_text, log_json, log_text, message_json, one_slash, place_json, result_json, rule_json, rule_unless_later, rules_of, sarif_text, tool_json, uri_byte, uri_of};
+ghost use Rattle.robots_audit.specs.Sarif.{all_rules, begins_with_slash, has_name, has_name_at, help_text, is_uri_byte, level_named, literal_char, literal_text, log_json, log_text};
+ghost use Rattle.robots_audit.specs.Sarif.{message_json, one_slash, place_json, result_json, rule_json, rule_unless_later, rules_of, sarif_text, tool_json, uri_byte, uri_of};
 
 use crate::audit::Audit;
 use crate::command::VERSION;
@@ -118,30 +119,57 @@ fn has_name(causes: &[Cause], name: &str) -> bool
     causes.iter().any(|cause| cause.name() == name)
 }
 
-/// Appends the rule of a warning, unless one of these later ones has the same name.
-fn add_rule(rules: &mut Vec<Rule>, cause: Cause, later: &[Cause]) -> Result<(), AllocError>
+/// Whether one of these warnings has this name, and this level or a more serious one.
+fn has_name_at(causes: &[Cause], name: &str, level: Level) -> bool
+    ensures { result ≡ has_name_at name.now level causes.now }
+{
+    causes
+        .iter()
+        .any(|cause| cause.name() == name && cause.level().reaches(level))
+}
+
+/// The most serious level of these warnings with this name.
+fn level_named(causes: &[Cause], name: &str) -> Level
+    ensures { result ≡ level_named name.now causes.now }
+{
+    if has_name_at(causes, name, Level::Error) {
+        Level::Error
+    } else if has_name_at(causes, name, Level::Warning) {
+        Level::Warning
+    } else {
+        Level::Note
+    }
+}
+
+/// Appends the rule of one of all these warnings, unless one of the `later` ones has the same name.
+fn add_rule(
+    rules: &mut Vec<Rule>,
+    all: &[Cause],
+    cause: Cause,
+    later: &[Cause],
+) -> Result<(), AllocError>
     ensures { OnOk result (map rule_value rules.new.items
-        ≡ map rule_value rules.old.items ++ rule_unless_later cause later.now) }
+        ≡ map rule_value rules.old.items ++ rule_unless_later all.now cause later.now) }
 {
     if has_name(later, cause.name()) {
         return Ok(());
     }
     Ok(rules.push(Rule {
         name: cause.name(),
-        level: cause.level(),
+        level: level_named(all, cause.name()),
         text: cause.text(),
         example: cause.example(),
     })?)
 }
 
-/// Appends the rules of these warnings.
-fn add_rules(rules: &mut Vec<Rule>, causes: &[Cause]) -> Result<(), AllocError>
+/// Appends the rules of all these warnings.
+fn add_rules(rules: &mut Vec<Rule>, all: &[Cause]) -> Result<(), AllocError>
     ensures { OnOk result (map rule_value rules.new.items
-        ≡ map rule_value rules.old.items ++ rules_of causes.now) }
+        ≡ map rule_value rules.old.items ++ rules_of all.now all.now) }
 {
-    let mut rest = causes;
+    let mut rest = all;
     while let [cause, later @ ..] = rest {
-        add_rule(rules, *cause, later)?;
+        add_rule(rules, all, *cause, later)?;
         rest = later;
     }
     Ok(())

@@ -1,7 +1,7 @@
 //! What the warnings tell about the syntax of a file.
 ghost use Rattle.std.specs.Prelude.{◌≡◌, map, option_map};
 ghost use Rattle.robots_warnings.specs.Internal.{warning_value};
-ghost use Rattle.robots_audit.specs.Syntax.{are_none, has_syntax_warning, is_about_syntax, is_standard, is_unknown, sentence, syntax_of};
+ghost use Rattle.robots_audit.specs.Syntax.{are_none, has_syntax_warning, is_about_syntax, is_standard, is_unstated, sentence, syntax_of};
 
 use robots_warnings::table::Cause;
 use robots_warnings::warning::Warning;
@@ -10,8 +10,8 @@ use robots_warnings::warning::Warning;
 /// [`crate::laws::syntax_is_that_of_the_standard`].
 #[derive(Clone, Copy, PartialEq, Eq)]
 pub enum Syntax {
-    /// Nothing: a warning is about syntax, or not all of the file is checked.
-    Unknown,
+    /// Nothing: a warning is about syntax, not all of the file is checked, or it is rejected for a crawler.
+    Unstated,
     /// That it is the syntax of RFC 9309, as no warning is about syntax.
     Standard,
     /// The same, as there is no warning at all.
@@ -19,22 +19,22 @@ pub enum Syntax {
 }
 
 impl Syntax {
-    /// Whether the file is known to have the syntax of RFC 9309.
+    /// Whether the file is stated to have the syntax of RFC 9309.
     pub(crate) fn is_standard(self) -> bool
         ensures { result ≡ is_standard self }
     {
         match self {
-            Syntax::Unknown => false,
+            Syntax::Unstated => false,
             Syntax::Standard | Syntax::StandardWithoutWarnings => true,
         }
     }
 
-    /// The sentence about it in a report; empty if the syntax isn't known.
+    /// The sentence about it in a report; empty if nothing is stated.
     pub(crate) fn sentence(self) -> &'static str
         ensures { result.now ≡ sentence self }
     {
         match self {
-            Syntax::Unknown => "",
+            Syntax::Unstated => "",
             Syntax::Standard => "no warnings about syntax: the file has RFC 9309 syntax",
             Syntax::StandardWithoutWarnings => "no warnings: the file has RFC 9309 syntax",
         }
@@ -46,7 +46,7 @@ impl Syntax {
 fn is_about_syntax(cause: Cause) -> bool
     ensures { result ≡ is_about_syntax cause }
 {
-    !cause.is_about_meaning()
+    !cause.is_not_about_syntax()
 }
 
 /// Whether one of the warnings is about syntax.
@@ -62,12 +62,17 @@ fn has_syntax_warning(warnings: &[Warning<'_>]) -> bool
     false
 }
 
-/// Whether the syntax isn't known.
-fn is_unknown(agent: Option<&str>, is_too_large: bool, warnings: &[Warning<'_>]) -> bool
-    ensures { result ≡ is_unknown (option_map (λ agent. agent.now) agent.entry) is_too_large
+/// Whether nothing is stated about the syntax.
+fn is_unstated(
+    agent: Option<&str>,
+    is_too_large: bool,
+    is_rejected: bool,
+    warnings: &[Warning<'_>],
+) -> bool
+    ensures { result ≡ is_unstated (option_map (λ agent. agent.now) agent.entry) is_too_large is_rejected
         (map warning_value warnings.now) }
 {
-    agent.is_some() || is_too_large || has_syntax_warning(warnings)
+    agent.is_some() || is_too_large || is_rejected || has_syntax_warning(warnings)
 }
 
 /// Whether there are no warnings.
@@ -77,13 +82,19 @@ fn are_none(warnings: &[Warning<'_>]) -> bool
     warnings.is_empty()
 }
 
-/// What these warnings tell, which are all about a file and a request, reported or not.
-pub(crate) fn syntax_of(agent: Option<&str>, is_too_large: bool, warnings: &[Warning<'_>]) -> Syntax
-    ensures { result ≡ syntax_of (option_map (λ agent. agent.now) agent.entry) is_too_large
+/// What these warnings tell, which are all about a file and a request, reported or not; `is_rejected` is whether the file
+/// is rejected for a crawler of the report.
+pub(crate) fn syntax_of(
+    agent: Option<&str>,
+    is_too_large: bool,
+    is_rejected: bool,
+    warnings: &[Warning<'_>],
+) -> Syntax
+    ensures { result ≡ syntax_of (option_map (λ agent. agent.now) agent.entry) is_too_large is_rejected
         (map warning_value warnings.now) }
 {
-    if is_unknown(agent, is_too_large, warnings) {
-        Syntax::Unknown
+    if is_unstated(agent, is_too_large, is_rejected, warnings) {
+        Syntax::Unstated
     } else if are_none(warnings) {
         Syntax::StandardWithoutWarnings
     } else {

@@ -22,9 +22,9 @@ use Rattle.bstr.proofs.lemmas.PieceLemmas.{pieces-nil, pieces-step}
 use Rattle.bstr.proofs.lemmas.SoundLemmas.{SpellsChar-decoded}
 use Rattle.texting_robots.specs.Escape.{escape_byte, is_escaped}
 use Rattle.robots_io.specs.Lines.{ended, lf}
-use Rattle.robots_io.specs.Sanitize.{IsPrintable, IsPrintableIn, is_printable, is_printable_byte, sanitized}
-use Rattle.robots_io.specs.Sanitize.{sanitized_in}
-use Rattle.robots_io.specs.Sanitize.{sanitized_lines, sanitized_chunk, sanitized_chunks}
+use Rattle.robots_io.specs.Sanitize.{IsPrintable, IsPrintableIn, has_command, is_printable, is_printable_byte}
+use Rattle.robots_io.specs.Sanitize.{safe_chunk, safe_chunks, safe_in, sanitized, sanitized_in, sanitized_lines}
+use Rattle.robots_io.specs.Sanitize.{without_commands, without_hash}
 use lib.Utf8.{scalar}
 
 module _ (has_lines : Bool) where
@@ -98,26 +98,26 @@ module _ (has_lines : Bool) where
 
   -- ---- sanitizing, one UTF-8 unit at a time
 
-  sanitized_nil : sanitized_in has_lines [] ≡ []
-  sanitized_nil = rw pieces-nil refl
+  safe_nil : safe_in has_lines [] ≡ []
+  safe_nil = rw pieces-nil refl
 
-  sanitized_step : (bytes : List ℕ) → 0 < length bytes → sanitized_in has_lines bytes
-      ≡ sanitized_chunk has_lines (decoded bytes).char (take (decoded bytes).size bytes)
-      ++ sanitized_in has_lines (drop (decoded bytes).size bytes)
-  sanitized_step bytes some = ap (λ ps. sanitized_chunks has_lines ps bytes) (pieces-step bytes some)
+  safe_step : (bytes : List ℕ) → 0 < length bytes → safe_in has_lines bytes
+      ≡ safe_chunk has_lines (decoded bytes).char (take (decoded bytes).size bytes)
+      ++ safe_in has_lines (drop (decoded bytes).size bytes)
+  safe_step bytes some = ap (λ ps. safe_chunks has_lines ps bytes) (pieces-step bytes some)
 
   -- loop step: after one more UTF-8 unit is appended, the appended bytes followed by the sanitized rest are
   -- the same as before
   pub chunk_added : (rest old mid new : List ℕ) → 0 < length rest
-      → new ≡ mid ++ sanitized_chunk has_lines (decoded rest).char (take (decoded rest).size rest)
-      → mid ++ sanitized_in has_lines rest ≡ old
-      → new ++ sanitized_in has_lines (drop (decoded rest).size rest) ≡ old
+      → new ≡ mid ++ safe_chunk has_lines (decoded rest).char (take (decoded rest).size rest)
+      → mid ++ safe_in has_lines rest ≡ old
+      → new ++ safe_in has_lines (drop (decoded rest).size rest) ≡ old
   chunk_added rest old mid new some added before =
-      rw (added, append_assoc, ← sanitized_step rest some) before
+      rw (added, append_assoc, ← safe_step rest some) before
 
-  pub all_added : (rest old mid : List ℕ) → length rest ≡ 0 → mid ++ sanitized_in has_lines rest ≡ old
+  pub all_added : (rest old mid : List ℕ) → length rest ≡ 0 → mid ++ safe_in has_lines rest ≡ old
       → mid ≡ old
-  all_added [] old mid none before = rw (sanitized_nil, append-nil) at before
+  all_added [] old mid none before = rw (safe_nil, append-nil) at before
   all_added (byte ∷ rest) old mid none before = absurd (omega arith)
 
   -- ---- printable strings are unchanged
@@ -127,8 +127,8 @@ module _ (has_lines : Bool) where
   after (byte ∷ front) rest = after front rest
 
   all_kept : (cs : List ℕ) → all_scalars cs ≡ true → IsTrue (list_all (is_printable has_lines) cs)
-      → sanitized_in has_lines (encode_utf8_all cs) ≡ encode_utf8_all cs
-  all_kept [] scalars are = sanitized_nil
+      → safe_in has_lines (encode_utf8_all cs) ≡ encode_utf8_all cs
+  all_kept [] scalars are = safe_nil
   all_kept (char ∷ cs) scalars are =
       let scalars_too = and_parts (scalar char) (all_scalars cs) scalars in
       let plain = and_parts (is_printable has_lines char) (list_all (is_printable has_lines) cs) are in
@@ -138,14 +138,14 @@ module _ (has_lines : Bool) where
       let some : 0 < length bytes =
       omega (arith, length-append front rest, length-encode char, len_utf8_bounds char) in
       let read : decoded bytes ≡ good char (length front) = decoded-encode char rest scalars_too.0 in
-      let with_chunk = λ (chunk : Decoded). sanitized_chunk has_lines chunk.char (take chunk.size bytes)
-      ++ sanitized_in has_lines (drop chunk.size bytes) in
-      sanitized_step bytes some ∙ ap with_chunk read
+      let with_chunk = λ (chunk : Decoded). safe_chunk has_lines chunk.char (take chunk.size bytes)
+      ++ safe_in has_lines (drop chunk.size bytes) in
+      safe_step bytes some ∙ ap with_chunk read
       ∙ rw (plain.0, after front rest, all_kept cs scalars_too.1 plain.1) refl
 
-  pub printable_kept : (text : List ℕ) → IsPrintableIn has_lines text → sanitized_in has_lines text ≡ text
+  pub printable_kept : (text : List ℕ) → IsPrintableIn has_lines text → safe_in has_lines text ≡ text
   printable_kept text is =
-      subst (λ t. sanitized_in has_lines t ≡ t) (encodes-chars text is.utf8)
+      subst (λ t. safe_in has_lines t ≡ t) (encodes-chars text is.utf8)
       (all_kept (chars text) (scalars-chars text is.utf8) is.all)
 
   -- ---- sanitized bytes are printable
@@ -168,28 +168,62 @@ module _ (has_lines : Bool) where
       (chars_printable (char ∷ []) (rw is refl) (rw plain refl))
 
   chunk_printable : (char : Option ℕ) (bytes : List ℕ) → ((c : ℕ) → char ≡ Some c → IsScalar c)
-      → IsPrintableIn has_lines (sanitized_chunk has_lines char bytes)
+      → IsPrintableIn has_lines (safe_chunk has_lines char bytes)
   chunk_printable None bytes are = flat_printable escape_byte escaped_printable bytes
   chunk_printable (Some char) bytes are = elim (cases_Bool (is_printable has_lines char)) [
     | inl is ↦ rw is (char_printable char (are char refl) is)
     | inr isnt ↦ rw isnt (flat_printable escape_byte escaped_printable bytes)
   ]
 
-  pub sanitized_in_printable : (bytes : List ℕ) → IsPrintableIn has_lines (sanitized_in has_lines bytes)
+  safe_in_printable : (bytes : List ℕ) → IsPrintableIn has_lines (safe_in has_lines bytes)
   unfolding pieces_from
-  sanitized_in_printable bytes = from (length bytes) bytes
+  safe_in_printable bytes = from (length bytes) bytes
     where
       from : (n : ℕ) (bytes : List ℕ)
-          → IsPrintableIn has_lines (sanitized_chunks has_lines (pieces_from n bytes) bytes)
+          → IsPrintableIn has_lines (safe_chunks has_lines (pieces_from n bytes) bytes)
       from zero bytes = nil_printable
       from (suc n) [] = nil_printable
       from (suc n) (byte ∷ later) =
           let bytes = byte ∷ later in
           let char = (decoded bytes).char in
           let size = (decoded bytes).size in
-          append_printable (sanitized_chunk has_lines char (take size bytes)) _
+          append_printable (safe_chunk has_lines char (take size bytes)) _
           (chunk_printable char (take size bytes) (λ c is. (SpellsChar-decoded bytes c is).scalar))
           (from n (drop size bytes))
+
+  -- ---- escaping the start of commands
+
+  hash_scalars : (cs : List ℕ) → all_scalars cs ≡ true → all_scalars (flat_map without_hash cs) ≡ true
+  hash_scalars [] are = refl
+  hash_scalars (char ∷ cs) are =
+      let both = and_parts (scalar char) (all_scalars cs) are in
+      elim (cases_Bool (char == 35)) [
+        | inl hash ↦ rw hash (hash_scalars cs both.1)
+        | inr other ↦ rw (other, both.0) (hash_scalars cs both.1)
+      ]
+
+  hash_printable : (cs : List ℕ) → IsTrue (list_all (is_printable has_lines) cs)
+      → IsTrue (list_all (is_printable has_lines) (flat_map without_hash cs))
+  hash_printable [] are = refl
+  hash_printable (char ∷ cs) are =
+      let both = and_parts (is_printable has_lines char) (list_all (is_printable has_lines) cs) are in
+      elim (cases_Bool (char == 35)) [
+        | inl hash ↦ rw hash (hash_printable cs both.1)
+        | inr other ↦ rw (other, both.0) (hash_printable cs both.1)
+      ]
+
+  without_printable : (text : List ℕ) → IsPrintableIn has_lines text
+      → IsPrintableIn has_lines (without_commands text)
+  unfolding without_commands
+  without_printable text is = elim (cases_Bool (has_command text)) [
+    | inl has ↦ rw has
+        (chars_printable (flat_map without_hash (chars text)) (hash_scalars (chars text)
+        (scalars-chars text is.utf8)) (hash_printable (chars text) is.all))
+    | inr lacks ↦ rw lacks is
+  ]
+
+  pub sanitized_in_printable : (bytes : List ℕ) → IsPrintableIn has_lines (sanitized_in has_lines bytes)
+  sanitized_in_printable bytes = without_printable (safe_in has_lines bytes) (safe_in_printable bytes)
 
 -- ---- printable text of several lines
 

@@ -1,12 +1,12 @@
--- Sanitized text: invalid UTF-8 and characters that are unsafe to display are escaped, the rest is
--- unchanged.
-use Rattle.std.specs.Prelude.{ℕ, ◌==◌, nat_lt, Bool, true, false, not, ◌&&◌, ◌||◌, IsTrue, List}
-use Rattle.std.specs.Prelude.{[], ◌∷◌, ◌++◌, Option, Some, None, drop, encode_utf8}
-use Rattle.std.specs.Prelude.{if◌then◌else◌, take}
+-- Sanitized text: invalid UTF-8, characters that are unsafe to display, and the start of commands are escaped, the
+-- rest is unchanged.
+use Rattle.std.specs.Prelude.{ℕ, ◌==◌, nat_eq, nat_lt, Bool, true, false, not, ◌&&◌, ◌||◌, IsTrue, List}
+use Rattle.std.specs.Prelude.{[], ◌∷◌, ◌++◌, Option, Some, None, codes, drop, encode_utf8, encode_utf8_all}
+use Rattle.std.specs.Prelude.{flat_map, if◌then◌else◌, take}
 use Rattle.std.specs.Char.{is_control}
 use Rattle.std.specs.Int.{is_in_range}
-use Rattle.std.specs.List.{list_all}
-use Rattle.std.specs.Str.{IsUtf8, chars}
+use Rattle.std.specs.List.{list_all, starts_with}
+use Rattle.std.specs.Str.{IsUtf8, byte, chars}
 use Rattle.bstr.specs.Utf8.{Decoded, pieces}
 use Rattle.texting_robots.specs.Callers.{escaped}
 use Rattle.robots_io.specs.Lines.{lf}
@@ -35,25 +35,49 @@ is_printable has_lines char = not (is_unsafe char) || (has_lines && char == lf)
 abbrev pub is_printable_byte : Bool → ℕ → Bool
 is_printable_byte has_lines byte = nat_lt byte 0x80 && is_printable has_lines byte
 
+-- ---- commands
+
+-- `##[`, with which a command begins in a workflow on GitHub, such as `##[error]`, anywhere in a line
+abbrev pub command_start : List ℕ
+command_start = codes "##["
+
+-- the text contains it
+abbrev pub has_command : List ℕ → Bool
+has_command [] = false
+has_command (b ∷ text) = starts_with nat_eq (b ∷ text) command_start || has_command text
+
+-- a character of a text that contains it: `#` is escaped
+abbrev pub without_hash : ℕ → List ℕ
+without_hash char = if char == byte "#" then codes "%23" else char ∷ []
+
+-- the text, with each `#` escaped if it contains the start of a command
+unfoldable pub without_commands : List ℕ → List ℕ
+without_commands text =
+    if has_command text then encode_utf8_all (flat_map without_hash (chars text)) else text
+
 -- ---- texts
 
 -- a character, or bytes that aren't valid UTF-8 (`None`); `escaped` changes every byte that it gets here to
 -- `%` and two hexadecimal digits
-abbrev pub sanitized_chunk : Bool → Option ℕ → List ℕ → List ℕ
-sanitized_chunk has_lines None bytes = escaped bytes
-sanitized_chunk has_lines (Some char) bytes =
+abbrev pub safe_chunk : Bool → Option ℕ → List ℕ → List ℕ
+safe_chunk has_lines None bytes = escaped bytes
+safe_chunk has_lines (Some char) bytes =
     if is_printable has_lines char then encode_utf8 char else escaped bytes
 
 -- the UTF-8 units of the bytes, one after another
-abbrev pub sanitized_chunks : Bool → List Decoded → List ℕ → List ℕ
-sanitized_chunks has_lines [] bytes = []
-sanitized_chunks has_lines (chunk ∷ later) bytes =
-    sanitized_chunk has_lines chunk.char (take chunk.size bytes)
-    ++ sanitized_chunks has_lines later (drop chunk.size bytes)
+abbrev pub safe_chunks : Bool → List Decoded → List ℕ → List ℕ
+safe_chunks has_lines [] bytes = []
+safe_chunks has_lines (chunk ∷ later) bytes =
+    safe_chunk has_lines chunk.char (take chunk.size bytes)
+    ++ safe_chunks has_lines later (drop chunk.size bytes)
+
+-- the bytes, with all that is unsafe to display escaped, in one line or in several
+abbrev pub safe_in : Bool → List ℕ → List ℕ
+safe_in has_lines bytes = safe_chunks has_lines (pieces bytes) bytes
 
 -- the sanitized bytes, in one line or in several
 abbrev pub sanitized_in : Bool → List ℕ → List ℕ
-sanitized_in has_lines bytes = sanitized_chunks has_lines (pieces bytes) bytes
+sanitized_in has_lines bytes = without_commands (safe_in has_lines bytes)
 
 -- a sanitized value, name or URL; it contains no LF, so it can't forge a line
 abbrev pub sanitized : List ℕ → List ℕ

@@ -1,8 +1,10 @@
-//! Sanitizes untrusted text: escapes invalid UTF-8 and characters that are unsafe to display.
-ghost use Rattle.std.specs.Prelude.{◌≡◌, ◌++◌, OnOk, string_bytes};
+//! Sanitizes untrusted text: escapes invalid UTF-8, characters that are unsafe to display, and the start of commands.
+ghost use Rattle.std.specs.Prelude.{◌≡◌, ◌++◌, OnOk, encode_utf8_all, flat_map, string_bytes};
 ghost use Rattle.std.specs.List.{list_all};
+ghost use Rattle.std.specs.Str.{chars};
 ghost use Rattle.std.specs.Io.{StartsWith};
-ghost use Rattle.robots_io.specs.Sanitize.{is_printable, is_printable_byte, sanitized, sanitized_in, sanitized_lines, sanitized_chunk, turns_text};
+ghost use Rattle.robots_io.specs.Sanitize.{has_command, is_printable, is_printable_byte, safe_chunk, safe_in, sanitized, sanitized_in};
+ghost use Rattle.robots_io.specs.Sanitize.{sanitized_lines, turns_text, without_commands, without_hash};
 
 use bstr::decode_utf8;
 use std::alloc::AllocError;
@@ -53,7 +55,7 @@ fn push_chunk(
     bytes: &[u8],
     has_lines: bool,
 ) -> Result<(), AllocError>
-    ensures added { OnOk result (string_bytes text.new ≡ string_bytes text.old ++ sanitized_chunk has_lines char bytes.now) }
+    ensures added { OnOk result (string_bytes text.new ≡ string_bytes text.old ++ safe_chunk has_lines char bytes.now) }
     ensures kept { StartsWith (string_bytes text.new) (string_bytes text.old) }
 {
     match char {
@@ -62,9 +64,9 @@ fn push_chunk(
     }
 }
 
-/// Appends the sanitized bytes, one UTF-8 unit after another.
+/// Appends the bytes, with all that is unsafe to display escaped, one UTF-8 unit after another.
 fn push_chunks(text: &mut String, bytes: &[u8], has_lines: bool) -> Result<(), AllocError>
-    ensures added { OnOk result (string_bytes text.new ≡ string_bytes text.old ++ sanitized_in has_lines bytes.now) }
+    ensures added { OnOk result (string_bytes text.new ≡ string_bytes text.old ++ safe_in has_lines bytes.now) }
     ensures kept { StartsWith (string_bytes text.new) (string_bytes text.old) }
 {
     let mut rest = bytes;
@@ -77,6 +79,58 @@ fn push_chunks(text: &mut String, bytes: &[u8], has_lines: bool) -> Result<(), A
     Ok(())
 }
 
+/// Whether the text contains `##[`, with which a command begins in a workflow on GitHub.
+fn has_command(text: &[u8]) -> bool
+    ensures { result ≡ has_command text.now }
+{
+    let mut rest = text;
+    while let [_, later @ ..] = rest {
+        if rest.starts_with(b"##[") {
+            return true;
+        }
+        rest = later;
+    }
+    false
+}
+
+/// Appends a character, or its escape if it is `#`.
+fn push_without_hash(text: &mut String, char: char) -> Result<(), AllocError>
+    ensures added { OnOk result (string_bytes text.new
+        ≡ string_bytes text.old ++ encode_utf8_all (without_hash char)) }
+    ensures kept { StartsWith (string_bytes text.new) (string_bytes text.old) }
+{
+    if char == '#' {
+        text.push_str("%23")
+    } else {
+        text.push(char)
+    }
+}
+
+/// Appends the text, with each `#` escaped.
+fn push_without_hashes(text: &mut String, plain: &str) -> Result<(), AllocError>
+    ensures added { OnOk result (string_bytes text.new
+        ≡ string_bytes text.old ++ encode_utf8_all (flat_map without_hash (chars plain.now))) }
+    ensures kept { StartsWith (string_bytes text.new) (string_bytes text.old) }
+{
+    for char in plain.chars() {
+        push_without_hash(text, char)?;
+    }
+    Ok(())
+}
+
+/// Appends the text, with each `#` escaped if it contains the start of a command.
+#[tactic(auto, unfolding(crate::specs::Sanitize::without_commands))]
+fn push_without_commands(text: &mut String, plain: &str) -> Result<(), AllocError>
+    ensures added { OnOk result (string_bytes text.new ≡ string_bytes text.old ++ without_commands plain.now) }
+    ensures kept { StartsWith (string_bytes text.new) (string_bytes text.old) }
+{
+    if has_command(plain.as_bytes()) {
+        push_without_hashes(text, plain)
+    } else {
+        text.push_str(plain)
+    }
+}
+
 /// Appends the sanitized bytes. Bytes that are all printable ASCII are copied at once.
 fn push_sanitized_in(text: &mut String, bytes: &[u8], has_lines: bool) -> Result<(), AllocError>
     ensures added { OnOk result (string_bytes text.new ≡ string_bytes text.old ++ sanitized_in has_lines bytes.now) }
@@ -85,9 +139,11 @@ fn push_sanitized_in(text: &mut String, bytes: &[u8], has_lines: bool) -> Result
     if are_printable_bytes(bytes, has_lines)
         && let Ok(plain) = from_utf8(bytes)
     {
-        return text.push_str(plain);
+        return push_without_commands(text, plain);
     }
-    push_chunks(text, bytes, has_lines)
+    let mut safe = String::new(*text.allocator());
+    push_chunks(&mut safe, bytes, has_lines)?;
+    push_without_commands(text, &safe)
 }
 
 /// Appends a sanitized value, name or URL. The result contains no line end.

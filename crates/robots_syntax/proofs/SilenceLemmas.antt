@@ -10,13 +10,13 @@ use Rattle.robots_warnings.specs.Checks.{Check, file_checks, line_checks, positi
 use Rattle.robots_warnings.specs.Facts.{suppresses_line_warnings}
 use Rattle.robots_warnings.specs.File.{lines_of}
 use Rattle.robots_warnings.specs.Positions.{first_delay, is_above_agents, preceding_with, sole_name}
-use Rattle.robots_warnings.specs.Table.{is_about_meaning}
+use Rattle.robots_warnings.specs.Table.{is_not_about_syntax}
 use Rattle.robots_warnings.specs.Warnings.{WarningValue, line_warnings, lines_warnings}
 use Rattle.robots_warnings.specs.Warnings.{positions_from, warned, warning_of}
 use Rattle.robots_warnings.specs.declared.facts.FileFacts.{FileFacts}
 use Rattle.robots_warnings.specs.declared.positions.Preceding.{Preceding}
 use Rattle.robots_syntax.proofs.{PlainFormLemmas.line_form, QuietLemmas.each_back}
-use Rattle.robots_syntax.specs.Syntax.{AreQuiet, IsAboutMeaning, form_of, is_quiet}
+use Rattle.robots_syntax.specs.Syntax.{AreQuiet, IsNotAboutSyntax, form_of, is_quiet}
 
 -- ---- checks
 
@@ -26,18 +26,18 @@ quiet_by false true is = is refl
 quiet_by false false is = refl
 
 one : (line : Option ℕ) (about : Option (List ℕ)) (check : Check)
-    → Each IsAboutMeaning (warning_of line about check) → is_quiet check ≡ true
-one line about check all = quiet_by (is_about_meaning check.0) check.1 (λ holds. (rw holds at all).0)
+    → Each IsNotAboutSyntax (warning_of line about check) → is_quiet check ≡ true
+one line about check all = quiet_by (is_not_about_syntax check.0) check.1 (λ holds. (rw holds at all).0)
 
 -- checks whose warnings aren't about syntax
 pub warned_quiet : (line : Option ℕ) (about : Option (List ℕ)) (checks : List Check)
-    → Each IsAboutMeaning (warned line about checks) → AreQuiet checks
+    → Each IsNotAboutSyntax (warned line about checks) → AreQuiet checks
 warned_quiet line about [] all = tt
 warned_quiet line about (check ∷ checks) all =
     let first : List WarningValue = warning_of line about check in
     let rest : List WarningValue = warned line about checks in (
-      one line about check (each_front IsAboutMeaning first rest all),
-      warned_quiet line about checks (each_back IsAboutMeaning first rest all),
+      one line about check (each_front IsNotAboutSyntax first rest all),
+      warned_quiet line about checks (each_back IsNotAboutSyntax first rest all),
     )
 
 -- ---- the file
@@ -69,7 +69,7 @@ quiet_file facts (html, (utf_16, (other, (empty, (large, (agent, (mark, (nul, en
 -- ---- the lines
 
 pub lines_forms : (bodies : List (List ℕ)) (labels : List Label) → AllZip IsLineOf (lines_of labels) bodies
-    → Each IsAboutMeaning (lines_warnings true bodies labels)
+    → Each IsNotAboutSyntax (lines_warnings true bodies labels)
     → AllZip HasForm (map form_of (lines_of labels)) bodies
 lines_forms [] [] reads all = tt
 lines_forms [] (label ∷ labels) reads all = absurd reads
@@ -79,15 +79,15 @@ lines_forms (body ∷ bodies) (label ∷ labels) reads all =
     let rest : List WarningValue = lines_warnings true bodies labels in
     let checks : List Check = line_checks true label.line body in (
       line_form label.line body reads.0
-          (warned_quiet (Some label.number) None checks (each_front IsAboutMeaning first rest all)),
-      lines_forms bodies labels reads.1 (each_back IsAboutMeaning first rest all),
+          (warned_quiet (Some label.number) None checks (each_front IsNotAboutSyntax first rest all)),
+      lines_forms bodies labels reads.1 (each_back IsNotAboutSyntax first rest all),
     )
 
 -- ---- the positions
 
 pub none_above : (last : Option ℕ) (preceding : Preceding) (above : Option (List ℕ)) (delay : Option ℕ)
     (labels : List Label)
-    → Each IsAboutMeaning (positions_from last preceding above delay labels)
+    → Each IsNotAboutSyntax (positions_from last preceding above delay labels)
     → Each (λ label. is_above_agents label ≡ false) labels
 none_above last preceding above delay [] all = tt
 none_above last preceding above delay (label ∷ labels) all =
@@ -98,7 +98,7 @@ none_above last preceding above delay (label ∷ labels) all =
     let name : Option (List ℕ) = sole_name preceding above label.line in
     let after : Option ℕ = first_delay delay label.line in
     let rest : List WarningValue = positions_from last next name after labels in
-    let quiets = warned_quiet (Some label.number) None checks (each_front IsAboutMeaning first rest all) in (
+    let quiets = warned_quiet (Some label.number) None checks (each_front IsNotAboutSyntax first rest all) in (
       not-true _ quiets.0,
-      none_above last next name after labels (each_back IsAboutMeaning first rest all),
+      none_above last next name after labels (each_back IsNotAboutSyntax first rest all),
     )

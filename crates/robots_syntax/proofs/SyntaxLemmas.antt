@@ -25,11 +25,11 @@ use Rattle.robots_warnings.specs.declared.positions.Preceding.TheVariants.{Other
 use Rattle.robots_syntax.proofs.{BelowLemmas.rules_below, QuietLemmas.each_back}
 use Rattle.robots_syntax.proofs.{StartLemmas.marked, StartLemmas.no_nul}
 use Rattle.robots_syntax.proofs.SilenceLemmas.{IsQuietFile, lines_forms, none_above, quiet_file, warned_quiet}
-use Rattle.robots_syntax.specs.Syntax.{HasSyntax, IsAboutMeaning, IsRobotStated}
+use Rattle.robots_syntax.specs.Syntax.{HasSyntax, IsNotAboutSyntax, IsRobotStated}
 use Rattle.robots_syntax.specs.Syntax.{IsSilentOn, form_of, warnings_of}
 
 shown : (b : Bool) (warnings : List WarningValue) → b ≡ false
-    → Each IsAboutMeaning (if b then [] else warnings) → Each IsAboutMeaning warnings
+    → Each IsNotAboutSyntax (if b then [] else warnings) → Each IsNotAboutSyntax warnings
 shown true warnings isnt all = absurd (false≢true (sym isnt))
 shown false warnings isnt all = all
 
@@ -62,24 +62,24 @@ module _ (named agents urls : List (List ℕ)) (file : List ℕ)
   abbrev others : List WarningValue
   others = past_limit_warnings facts file labels ++ group_warnings true agents lines labels
 
-  silent_general : Each IsAboutMeaning general
-  silent_general = each_front IsAboutMeaning general (of_lines ++ (of_positions ++ others)) silent
+  silent_general : Each IsNotAboutSyntax general
+  silent_general = each_front IsNotAboutSyntax general (of_lines ++ (of_positions ++ others)) silent
 
-  silent_rest : Each IsAboutMeaning (of_lines ++ (of_positions ++ others))
-  silent_rest = each_back IsAboutMeaning general (of_lines ++ (of_positions ++ others)) silent
+  silent_rest : Each IsNotAboutSyntax (of_lines ++ (of_positions ++ others))
+  silent_rest = each_back IsNotAboutSyntax general (of_lines ++ (of_positions ++ others)) silent
 
-  silent_lines : Each IsAboutMeaning of_lines
-  silent_lines = each_front IsAboutMeaning of_lines (of_positions ++ others) silent_rest
+  silent_lines : Each IsNotAboutSyntax of_lines
+  silent_lines = each_front IsNotAboutSyntax of_lines (of_positions ++ others) silent_rest
 
-  silent_positions : Each IsAboutMeaning of_positions
+  silent_positions : Each IsNotAboutSyntax of_positions
   silent_positions =
-      each_front IsAboutMeaning of_positions others
-      (each_back IsAboutMeaning of_lines (of_positions ++ others) silent_rest)
+      each_front IsNotAboutSyntax of_positions others
+      (each_back IsNotAboutSyntax of_lines (of_positions ++ others) silent_rest)
 
   quiets : IsQuietFile facts
   quiets =
       quiet_file facts (warned_quiet None None (file_checks facts)
-      (each_front IsAboutMeaning (warned None None (file_checks facts))
+      (each_front IsNotAboutSyntax (warned None None (file_checks facts))
       (flat_map (agent_warnings true) named ++ flat_map url_warnings urls) silent_general))
 
   are : AreLabelsOf name lines labels
@@ -116,4 +116,4 @@ module _ (named agents urls : List (List ℕ)) (file : List ℕ)
 pub no_warnings : (named agents urls : List (List ℕ)) (file : List ℕ)
     → warnings_of named agents urls file ≡ [] → HasSyntax file
 no_warnings named agents urls file none =
-    silence named agents urls file (subst (Each IsAboutMeaning) (sym none) tt)
+    silence named agents urls file (subst (Each IsNotAboutSyntax) (sym none) tt)

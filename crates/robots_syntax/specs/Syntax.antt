@@ -11,14 +11,14 @@ use Rattle.robots_rfc9309.specs.StandardRobot.{IsFileWith, IsRobotAs}
 use Rattle.robots_warnings.specs.Checks.{Check, line_checks}
 use Rattle.robots_warnings.specs.Facts.{facts_of}
 use Rattle.robots_warnings.specs.File.{labels_for}
-use Rattle.robots_warnings.specs.Table.{is_about_meaning}
+use Rattle.robots_warnings.specs.Table.{is_not_about_syntax}
 use Rattle.robots_warnings.specs.Warnings.{WarningValue, warnings}
 
 -- ---- warnings about syntax
 
--- the warning isn't about syntax (`ABOUT_MEANING` in `table.rt` of robots_warnings); all others are, notes included
-abbrev pub IsAboutMeaning : WarningValue → Type 0
-IsAboutMeaning warning = is_about_meaning warning.cause ≡ true
+-- the warning isn't about syntax (`NOT_ABOUT_SYNTAX` in `table.rt` of robots_warnings); all others are, notes included
+abbrev pub IsNotAboutSyntax : WarningValue → Type 0
+IsNotAboutSyntax warning = is_not_about_syntax warning.cause ≡ true
 
 -- the warnings about a file if all groups are checked, as with `--agents` or more than one `--agent`; `named`
 -- are the crawlers that the user named, and `agents` those reported on
@@ -30,7 +30,7 @@ warnings_of named agents urls file =
 
 -- none of these warnings is about the syntax of the file
 abbrev pub IsSilentOn : (named agents urls : List (List ℕ)) → List ℕ → Type 0
-IsSilentOn named agents urls file = Each IsAboutMeaning (warnings_of named agents urls file)
+IsSilentOn named agents urls file = Each IsNotAboutSyntax (warnings_of named agents urls file)
 
 -- the first 512,000 bytes of the file, which are those that are read, follow the extended grammar
 abbrev pub HasSyntax : List ℕ → Type 0
@@ -48,7 +48,7 @@ IsRobotStated agent file robot =
 
 -- the check makes no warning about syntax
 abbrev pub is_quiet : Check → Bool
-is_quiet check = is_about_meaning check.0 || not check.1
+is_quiet check = is_not_about_syntax check.0 || not check.1
 
 abbrev pub AreQuiet : List Check → Type 0
 AreQuiet checks = Each (λ check. is_quiet check ≡ true) checks

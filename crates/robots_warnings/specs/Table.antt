@@ -7,7 +7,7 @@ use Rattle.robots_warnings.specs.declared.level.Level.{Level}
 use Rattle.robots_warnings.specs.declared.level.Level.TheVariants as level
 use Rattle.robots_warnings.specs.declared.table.Cause.{Cause}
 use Rattle.robots_warnings.specs.declared.examples.TheConstants.{EXAMPLES}
-use Rattle.robots_warnings.specs.declared.table.TheConstants.{ABOUT_MEANING, WARNINGS}
+use Rattle.robots_warnings.specs.declared.table.TheConstants.{NOT_ABOUT_SYNTAX, WARNINGS}
 
 -- the index of a warning in the table
 abbrev pub number_of : Cause → ℕ
@@ -31,8 +31,8 @@ example_of cause = slice_index_or (map (λ row. row.1.now) EXAMPLES) (number_of 
 
 -- the warning isn't about the syntax of a file, but about the request, the size of the file, or what a file of
 -- the standard's grammar means
-abbrev pub is_about_meaning : Cause → Bool
-is_about_meaning cause = list_any (λ other. number_of other == number_of cause) ABOUT_MEANING
+abbrev pub is_not_about_syntax : Cause → Bool
+is_not_about_syntax cause = list_any (λ other. number_of other == number_of cause) NOT_ABOUT_SYNTAX
 
 -- the reasons for all warnings
 unfoldable pub all_causes : List Cause

@@ -75,8 +75,8 @@ pub static EXAMPLES: [(Cause, &str); 68] = [
     // the position of a line
     (Cause::RuleBeforeUserAgent, "Disallow: /a\nUser-agent: *"),
     (Cause::EmptyGroup, "Disallow: /a\nUser-agent: *"),
-    (Cause::DelaySplitsGroup, "User-agent: a\nCrawl-delay: 1\nUser-agent: b\nDisallow: /"),
     (Cause::DelayAboveStar, "User-agent: a\nCrawl-delay: 1\nUser-agent: *\nDisallow: /b"),
+    (Cause::DelaySplitsGroup, "User-agent: a\nCrawl-delay: 1\nUser-agent: b\nDisallow: /"),
     (Cause::GroupPastSizeLimit, "\\{512000 #}\nUser-agent: a"),
     (Cause::AllowedAndDisallowed, "Allow: /a\nDisallow: /a"),
     // the groups

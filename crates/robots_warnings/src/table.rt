@@ -5,7 +5,7 @@
 ghost use Rattle.std.specs.Prelude.{◌≡◌, ◌<◌, IfOk, bytes_eq, length, map};
 ghost use Rattle.std.specs.List.{list_any};
 ghost use Rattle.robots_warnings.specs.Internal.{IsRowAt};
-ghost use Rattle.robots_warnings.specs.Table.{all_causes, is_about_meaning, is_name, level_of, name_of, text_of};
+ghost use Rattle.robots_warnings.specs.Table.{all_causes, is_not_about_syntax, is_name, level_of, name_of, text_of};
 
 use crate::level::Level;
 use std::alloc::{AllocError, Global};
@@ -80,8 +80,8 @@ pub enum Cause {
     // the position of a line
     RuleBeforeUserAgent,
     EmptyGroup,
-    DelaySplitsGroup,
     DelayAboveStar,
+    DelaySplitsGroup,
     GroupPastSizeLimit,
     AllowedAndDisallowed,
     // the groups
@@ -221,10 +221,10 @@ pub static WARNINGS: [(Cause, Level, &str, &str); 68] = [
         "the rule comes before the first User-agent line, so it belongs to no group and is ignored; move it below the User-agent line it is meant for"),
     (Cause::EmptyGroup, Level::Warning, "empty-group",
         "no rule that is read follows this User-agent line, so its group is empty: if the name has no other group, it may fetch everything; add rules or delete the line"),
-    (Cause::DelaySplitsGroup, Level::Warning, "delay-splits-group",
-        "only a Crawl-delay ends the group above; crawlers that ignore it, such as Google's, apply the rules below to that group too; add to that group the rules meant for it, or move the Crawl-delay down to join the two"),
     (Cause::DelayAboveStar, Level::Note, "delay-splits-group",
         "only a Crawl-delay ends the group above, so it has none of the rules of * below; crawlers that ignore the delay, such as Google's, apply these to that group too; add to it those meant for it, or, if its names have no other group, an empty Disallow"),
+    (Cause::DelaySplitsGroup, Level::Warning, "delay-splits-group",
+        "only a Crawl-delay ends the group above; crawlers that ignore it, such as Google's, apply the rules below to that group too; add to that group the rules meant for it, or move the Crawl-delay down to join the two"),
     (Cause::GroupPastSizeLimit, Level::Warning, "group-past-size-limit",
         "this name isn't in the first 512,000 bytes, so its group is ignored; move the group up or shorten the file"),
     (Cause::AllowedAndDisallowed, Level::Warning, "allowed-and-disallowed",
@@ -256,7 +256,7 @@ pub static WARNINGS: [(Cause, Level, &str, &str); 68] = [
 /// The warnings that aren't about the syntax of a file, but about the request, the size of the file, or what a file of
 /// the standard's grammar means. All others are about syntax, notes included.
 #[rattlefmt::skip]
-pub static ABOUT_MEANING: [Cause; 31] = [
+pub static NOT_ABOUT_SYNTAX: [Cause; 31] = [
     // the request
     Cause::EmptyAgent,
     Cause::SpaceAroundAgent,
@@ -369,10 +369,10 @@ impl Cause {
     }
 
     /// Whether the warning isn't about the syntax of a file.
-    pub fn is_about_meaning(self) -> bool
-        ensures { result ≡ is_about_meaning self }
+    pub fn is_not_about_syntax(self) -> bool
+        ensures { result ≡ is_not_about_syntax self }
     {
-        ABOUT_MEANING.contains(&self)
+        NOT_ABOUT_SYNTAX.contains(&self)
     }
 
     /// The message of the warning.

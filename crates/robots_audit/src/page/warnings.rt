@@ -1,12 +1,12 @@
 //! The warnings of a page: the list at the top, and the rows below their lines.
 #![tactic(auto, using(robots_html::proofs::WritingLemmas::joined))]
 
-ghost use Rattle.std.specs.Prelude.{◌≡◌, ◌<◌, ◌++◌, IfOk, None, OnOk, map, string_bytes, take};
+ghost use Rattle.std.specs.Prelude.{◌≡◌, ◌++◌, IfOk, None, OnOk, drop, map, string_bytes, take};
 ghost use Rattle.robots_html.specs.Html.{each, written};
 ghost use Rattle.robots_warnings.specs.Internal.{warning_value};
-ghost use Rattle.robots_audit.specs.Page.{level_name, line_name, listed_warnings, rest_note, rest_words, warning_entry};
-ghost use Rattle.robots_audit.specs.Page.{warning_item, warning_list, warning_place, warning_row};
-ghost use Rattle.robots_audit.specs.Page.{warning_words};
+ghost use Rattle.robots_audit.specs.Page.{has_row, later_warnings, level_name, line_name, listed_warnings};
+ghost use Rattle.robots_audit.specs.Page.{rest_count, rest_note, rest_words, warning_entry, warning_item, warning_items};
+ghost use Rattle.robots_audit.specs.Page.{warning_list, warning_place, warning_row, warning_words, without_row};
 
 use crate::page::known_row::{KnownRow, push_known_row, push_new_row};
 use crate::page::parts::{numbered, push_line_link, push_simple};
@@ -16,7 +16,7 @@ use robots_warnings::level::Level;
 use robots_warnings::warning::{Warning, push_reported};
 use std::alloc::{AllocError, Global};
 
-/// How many warnings are listed at the top.
+/// How many warnings are listed at the top first.
 const LISTED_WARNINGS: usize = 100;
 
 /// The level of a warning, as its text on a page begins.
@@ -49,6 +49,48 @@ fn listed<'a, 'b>(warnings: &'b [Warning<'a>]) -> &'b [Warning<'a>]
     } else {
         warnings
     }
+}
+
+/// The warnings after those.
+#[tactic(auto)]
+fn later<'a, 'b>(warnings: &'b [Warning<'a>]) -> &'b [Warning<'a>]
+    ensures { result.now ≡ drop listed_warnings warnings.now }
+{
+    if warnings.len() > LISTED_WARNINGS {
+        &warnings[LISTED_WARNINGS..]
+    } else {
+        &[]
+    }
+}
+
+/// Whether a warning about this line has a row in the table of lines, which has this number of lines.
+#[tactic(auto)]
+fn has_row(rows: usize, line: Option<usize>) -> bool
+    ensures { result ≡ has_row rows line }
+{
+    match line {
+        Some(number) => number <= rows,
+        None => false,
+    }
+}
+
+/// The warnings that have no such row.
+#[tactic(auto)]
+fn without_row<'a>(
+    alloc: Global,
+    rows: usize,
+    warnings: &[Warning<'a>],
+) -> Result<Vec<Warning<'a>>, AllocError>
+    ensures { IfOk result (λ found. map warning_value found.items
+        ≡ without_row rows (map warning_value warnings.now)) }
+{
+    let mut found = Vec::new(alloc);
+    for warning in warnings {
+        if !has_row(rows, warning.line) {
+            found.push(*warning)?;
+        }
+    }
+    Ok(found)
 }
 
 /// Appends the name of a line, with a link to its row, if the table of lines has it among its `rows`.
@@ -132,22 +174,60 @@ fn push_listed_items(
     push_warning_items(alloc, out, rows, listed(warnings))
 }
 
-/// The number of the warnings that aren't listed at the top.
+/// Appends those of the later warnings that have no row.
+fn push_later_items(
+    alloc: Global,
+    out: &mut Vec<u8>,
+    rows: usize,
+    warnings: &[Warning<'_>],
+) -> Result<(), AllocError>
+    ensures { OnOk result (out.new.items ≡ out.old.items
+        ++ written (each (warning_item rows) (without_row rows (later_warnings (map warning_value warnings.now))))) }
+{
+    let others = without_row(alloc, rows, later(warnings))?;
+    push_warning_items(alloc, out, rows, &others)
+}
+
+/// Appends the list at the top.
+#[tactic(auto, using(robots_html::proofs::WritingLemmas::joined), unfolding(crate::specs::Page::warning_items))]
+fn push_all_items(
+    alloc: Global,
+    out: &mut Vec<u8>,
+    rows: usize,
+    warnings: &[Warning<'_>],
+) -> Result<(), AllocError>
+    ensures { OnOk result (out.new.items ≡ out.old.items
+        ++ written (warning_items rows (map warning_value warnings.now))) }
+{
+    push_listed_items(alloc, out, rows, warnings)?;
+    push_later_items(alloc, out, rows, warnings)
+}
+
+/// How many of the later warnings have a row.
+#[tactic(auto, using(crate::proofs::PieceLemmas::rest_is))]
+fn rest_count(alloc: Global, rows: usize, warnings: &[Warning<'_>]) -> Result<usize, AllocError>
+    ensures { IfOk result (λ count. count ≡ rest_count rows (later_warnings (map warning_value warnings.now))) }
+{
+    let later = later(warnings);
+    let others = without_row(alloc, rows, later)?;
+    Ok(later.len().saturating_sub(others.len()))
+}
+
+/// The number of the warnings that aren't in the list at the top.
 fn rest_words(alloc: Global, count: usize) -> Result<String, AllocError>
-    requires { listed_warnings < count }
     ensures { IfOk result (λ text. string_bytes text ≡ rest_words count) }
 {
-    let mut text = numbered(alloc, "and ", count - LISTED_WARNINGS)?;
-    text.push_str(" more")?;
+    let mut text = numbered(alloc, "and ", count)?;
+    text.push_str(" more, below their lines")?;
     Ok(text)
 }
 
-/// Appends the number of the warnings that aren't listed at the top.
+/// Appends the number of the warnings that aren't in the list at the top, if there are some.
 #[tactic(auto, using(robots_html::proofs::WritingLemmas::joined), unfolding(crate::specs::Page::rest_note))]
 fn push_rest_note(alloc: Global, out: &mut Vec<u8>, count: usize) -> Result<(), AllocError>
     ensures { OnOk result (out.new.items ≡ out.old.items ++ written (rest_note count)) }
 {
-    if count <= LISTED_WARNINGS {
+    if count == 0 {
         return Ok(());
     }
     let words = rest_words(alloc, count)?;
@@ -166,11 +246,12 @@ fn push_warning_list(
         ++ written (warning_list rows (map warning_value warnings.now))) }
 {
     let count = numbered(alloc, "", warnings.len())?;
+    let rest = rest_count(alloc, rows, warnings)?;
     push_text(out, count.as_bytes())?;
     push_start(out, "ul")?;
-    push_listed_items(alloc, out, rows, warnings)?;
+    push_all_items(alloc, out, rows, warnings)?;
     push_end(out, "ul")?;
-    push_rest_note(alloc, out, warnings.len())
+    push_rest_note(alloc, out, rest)
 }
 
 /// Appends the warnings at the top.

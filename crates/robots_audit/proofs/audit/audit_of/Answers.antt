@@ -39,5 +39,11 @@ returns-clause-ok c =
       labels_are = rw c.labeling_agent.ensures at c.in_ok-labels.ensures;
       agents_are = rw (c.deref-4.ensures.value, names, c.deref-5.ensures.value) at c.in_ok-agents.ensures.ok;
       warnings_are = rw (c.deref-9.ensures.value, all) at c.in_ok-warnings.ensures;
-      syntax_is = rw (c.deref-10.ensures.value, all, c.facts_of-facts.ensures) at c.syntax_of-syntax.ensures;
+      syntax_is = rw (
+        c.rejects_some-is_rejected.ensures,
+        c.deref-10.ensures.value,
+        c.deref-11.ensures.value,
+        all,
+        c.facts_of-facts.ensures,
+      ) at c.syntax_of-syntax.ensures;
     }

@@ -1,0 +1,6 @@
+use Rattle.robots_audit.proofs.ExpectPrintableLemmas.{results_quiet}
+use Rattle.robots_audit.proofs.MessageQuietLemmas.{listed_quiet}
+use Rattle.robots_audit.proofs.laws.no_line_contains_a_command.Goals as goal
+
+pub returns : goal.returns
+returns c = record { expected = results_quiet; warnings = listed_quiet }
