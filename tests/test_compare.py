@@ -37,8 +37,12 @@ crawler *: + Disallow: /products (line 3)
 """
 
 USAGE = "usage: robots_audit [-f FILE] [OPTIONS] AGENT [URL].."
-NOTHING = "no group, delay or rule differs, so no URL's verdict does\n"
-OTHERS = "other crawlers: no group, delay or rule differs, so no URL's verdict does\n"
+SAME_TEXT = "no group, delay or rule differs, so no URL's verdict does; sitemaps aren't compared\n"
+NOTHING = f"crawler Ferris: {SAME_TEXT}"
+ALL = f"all compared crawlers: {SAME_TEXT}"
+OTHERS = f"other compared crawlers: {SAME_TEXT}"
+AGENT = "AGENT isn't a product token without a version, such as Googlebot"
+MISSING = f"robots_audit: missing AGENT (use --agent or --agents); {USAGE}\n"
 SAME = "crawler Ferris: same rules, so no URL's verdict differs\n"
 TOO_LONG = b"User-agent: *\nDisallow: /" + b"x" * 4096 + b"$\n"
 REASON = "a pattern with $ longer than 4,096 bytes isn't supported; shorten it\n"
@@ -98,9 +102,29 @@ def test_difference(tmp_path, old, new, lines):
     assert outcome(compare(tmp_path, old, new, "Ferris", "/a")) == ((1, lines, "") if lines else (0, NOTHING, ""))
 
 
-@pytest.mark.parametrize("words", [["Ferris"], ["GPTBot", "/a", "/b"], ["--agents", "/search/tea"]], ids=" ".join)
-def test_no_difference(tmp_path, words):
-    assert outcome(compare(tmp_path, OLD, OLD, *words)) == (0, NOTHING, "")
+NO_DIFFERENCE = {
+    "one crawler": (["Ferris"], NOTHING),
+    "one crawler and URLs": (["GPTBot", "/a", "/b"], f"crawler GPTBot: {SAME_TEXT}"),
+    "one with spaces": (["Offline Explorer"], f"crawler Offline Explorer: {SAME_TEXT}"),
+    "one by option": (["--agent=*"], f"crawler *: {SAME_TEXT}"),
+    "two crawlers": (["--agent=Ferris", "--agent=GPTBot"], ALL),
+    "all crawlers": (["--agents", "/search/tea"], ALL),
+}
+
+
+@pytest.mark.parametrize("words, line", NO_DIFFERENCE.values(), ids=NO_DIFFERENCE)
+def test_no_difference(tmp_path, words, line):
+    assert outcome(compare(tmp_path, OLD, OLD, *words)) == (0, line, "")
+
+
+def test_another_crawler_is_not_spoken_of(tmp_path):
+    assert outcome(compare(tmp_path, OLD, NEW, "GPTBot")) == (0, f"crawler GPTBot: {SAME_TEXT}", "")
+    lines = STAR.replace("crawler *", "crawler Ferris") + OTHERS
+    assert outcome(compare(tmp_path, OLD, NEW, "--agent=Ferris", "--agent=GPTBot")) == (1, lines, "")
+
+
+def test_sitemaps_are_not_compared(tmp_path):
+    assert outcome(compare(tmp_path, OLD + b"Sitemap: https://e.com/s\n", OLD, "Ferris")) == (0, NOTHING, "")
 
 
 def test_rejected_files(tmp_path):
@@ -118,8 +142,11 @@ def test_other_crawlers_than_one_for_which_a_file_is_rejected(tmp_path):
 
 
 def test_untrusted_text(tmp_path):
-    lines = "crawler a%1Bb: + Disallow: /%07 (line 1)\ncrawler a%1Bb /%07: allow -> deny 1\n"
-    assert outcome(compare(tmp_path, b"", b"Disallow: /\x07", "a\x1bb", "/\x07")) == (1, lines, "")
+    lines = "crawler Ferris: + Disallow: /%07 (line 1)\ncrawler Ferris /%07: allow -> deny 1\n"
+    assert outcome(compare(tmp_path, b"", b"Disallow: /\x07", "Ferris", "/\x07")) == (1, lines, "")
+    new = b"User-agent: *\nDisallow: /a\nUser-agent: a\x1bb\nDisallow: /b"
+    lines = "crawler a%1Bb: group * -> a%1Bb\ncrawler a%1Bb: - Disallow: /a (line 2)\ncrawler a%1Bb: + Disallow: /b (line 4)\n"
+    assert outcome(compare(tmp_path, b"User-agent: *\nDisallow: /a", new, "--agents")) == (1, lines + OTHERS, "")
 
 
 def test_no_command_of_a_workflow(tmp_path):
@@ -153,9 +180,16 @@ def test_older_file_from_standard_input(tmp_path):
     assert outcome(run("robots_audit", ["--compare", "-", "-f", "-", "Ferris"], OLD)) == (2, "", message)
 
 
-def test_agent_is_missing(tmp_path):
-    message = f"robots_audit: missing AGENT (use --agent or --agents); {USAGE}\n"
-    assert outcome(compare(tmp_path, OLD, NEW)) == (2, "", message)
+@pytest.mark.parametrize("words", [[], ["", "/a"], ["--agent="], ["--agent=Ferris", "--agent="]], ids=["none", "empty", "empty option", "one is empty"])
+def test_agent_is_missing(tmp_path, words):
+    assert outcome(compare(tmp_path, OLD, NEW, *words)) == (2, "", MISSING)
+    assert outcome(run("robots_audit", words, OLD)) == (2, "", MISSING)
+
+
+@pytest.mark.parametrize("name, shown", [("Googlebot/2.1", "Googlebot/2.1"), ("Googlebot.2", "Googlebot.2"), ("Googlebot*", "Googlebot*"), (" Bingbot", " Bingbot"), ("a\x1bb", "a%1Bb"), ("Caf\u00e9", "Caf\u00e9")])
+def test_name_that_no_crawler_has(tmp_path, name, shown):
+    for words in ([name], ["--agent=Ferris", f"--agent={name}"]):
+        assert outcome(compare(tmp_path, OLD, OLD, *words)) == (2, "", f"robots_audit: {shown}: {AGENT}\n")
 
 
 @pytest.mark.parametrize("more", ["--expect=old.txt", "-q", "--json", "--color=never", "--strict", "--needless", "--only=missing-slash", "--ignore=missing-slash"])

@@ -264,7 +264,7 @@ def test_warnings_that_are_not_about_syntax_are_listed():
 LONG_RULE = b"Disallow: /b\nAllow: $" + b"a" * 4096
 ERRORS = {
     "unknown option": {"args": ["--bogus"]},
-    "AGENT is missing": {},
+    "AGENT is missing or empty": {},
     "an argument isn't UTF-8": {"args": [b"\xff"]},
     "standard input would be read twice": {"args": ["--urls", "-", "B"]},
     "no warning has this name": {"args": ["--ignore", "NAME", "B"]},

@@ -36,9 +36,41 @@ FAILING = {
     "the start of a command of a workflow": (b"allow GPTBot /a##[error]x", "1: GPTBot must be allowed /a%23%23[error]x, but line 7 denies it"),
 }
 
+GOOGLE = b"""User-agent: *
+Disallow: /private/
+
+User-agent: Googlebot
+Disallow: /news/
+
+User-agent: Mediapartners-Google
+Disallow: /ads/
+"""
+
+NOBODY = "but Google doesn't apply the group * to"
+GOOGLEBOT = "but Google applies the group Googlebot to"
+
+# expectations that would hold if Google applied the same group as other crawlers do, and what is reported on each
+FAILING_AT_GOOGLE = {
+    "no group": (b"deny AdsBot-Google /private/tea", f"AdsBot-Google must be denied /private/tea, {NOBODY} AdsBot-Google"),
+    "another case": (b"deny apis-google /private/tea", f"apis-google must be denied /private/tea, {NOBODY} apis-google"),
+    "the group of Googlebot": (b"allow Googlebot-News /news/1", f"Googlebot-News must be allowed /news/1, {GOOGLEBOT} Googlebot-News, and line 5 denies it"),
+    "no rule of Googlebot": (b"deny Storebot-Google /private/tea", f"Storebot-Google must be denied /private/tea, {GOOGLEBOT} Storebot-Google, and no rule matches it"),
+}
+
+# and others, whose result Google's groups don't change
+AT_GOOGLE = {
+    "allowed by both groups": (b"allow Googlebot-Image /tea", None),
+    "allowed without a group": (b"allow AdsBot-Google /tea", None),
+    "a group of its own": (b"deny Mediapartners-Google /ads/1", None),
+    "Googlebot": (b"deny Googlebot /news/1", None),
+    "denied here": (b"allow AdsBot-Google /private/tea", "AdsBot-Google must be allowed /private/tea, but line 2 denies it"),
+    "allowed here": (b"deny Googlebot-News /news/1", "Googlebot-News must be denied /news/1, but no rule matches it"),
+}
+
 FORM = 'write "allow AGENT URL" or "deny AGENT URL"'
 NOT_UTF_8 = "the line isn't valid UTF-8"
 AGENT = "AGENT isn't a product token without a version, such as Googlebot"
+PATH = "URL has a . or .. segment or a #, which crawlers resolve or drop; write the path that they ask for"
 URL = "URL is neither a path that starts with / nor a valid http:// or https:// URL"
 
 MALFORMED = {
@@ -51,6 +83,15 @@ MALFORMED = {
     "a name that isn't UTF-8": (b"deny Google\xe9 /", 1, NOT_UTF_8),
     "a version": (b"allow Googlebot/2.1 /tea", 1, AGENT),
     "a letter that no product token has": (b"allow Caf\xc3\xa9Bot /tea", 1, AGENT),
+    "a star after a name": (b"allow Googlebot* /tea", 1, AGENT),
+    "two stars": (b"allow ** /tea", 1, AGENT),
+    "a version after a dot": (b"allow Googlebot.2 /tea", 1, AGENT),
+    "a .. segment": (b"allow Googlebot /tea/../private/tea", 1, PATH),
+    "a . segment": (b"deny Googlebot /./private/tea", 1, PATH),
+    "a .. at the end": (b"deny Googlebot /private/tea/..", 1, PATH),
+    "a . at the end": (b"deny Googlebot /private/.", 1, PATH),
+    "a . before a query": (b"deny Googlebot /private/.?tea", 1, PATH),
+    "a fragment": (b"deny Googlebot /private/tea#top", 1, PATH),
     "a path without a slash": (b"allow Googlebot products/tea", 1, URL),
     "a host without a scheme": (b"allow Googlebot example.com/tea", 1, URL),
     "another scheme": (b"allow Googlebot ftp://example.com/tea", 1, URL),
@@ -77,9 +118,27 @@ def test_holding_expectations(tmp_path, text):
     assert outcome(check(tmp_path, text)) == (0, HOLD, "")
 
 
-@pytest.mark.parametrize("agent", [b"*", b"MJ12bot", b"Google-Extended"])
+@pytest.mark.parametrize("agent", [b"*", b"MJ12bot", b"archive.org_bot", b"Google-Extended"])
 def test_one_expectation(tmp_path, agent):
     assert outcome(check(tmp_path, b"allow " + agent + b" /tea")) == (0, "1 expectation holds\n", "")
+
+
+@pytest.mark.parametrize("url", [b"/.tea/..tea/tea../...", b"/tea?a=/../private/", b"https://e.example/private/../tea#top"])
+def test_urls_in_the_form_that_crawlers_ask_for(tmp_path, url):
+    """Here an http(s) URL is resolved as crawlers do it."""
+    assert outcome(check(tmp_path, b"allow Googlebot " + url)) == (0, "1 expectation holds\n", "")
+
+
+@pytest.mark.parametrize("text, line", (FAILING_AT_GOOGLE | AT_GOOGLE).values(), ids=FAILING_AT_GOOGLE | AT_GOOGLE)
+def test_crawler_of_google(tmp_path, text, line):
+    expected = (1, f"expect.txt:1: {line}\n", "") if line else (0, "1 expectation holds\n", "")
+    assert outcome(check(tmp_path, text, robots=GOOGLE)) == expected
+
+
+def test_file_that_is_rejected_for_googlebot(tmp_path):
+    robots = b"User-agent: Googlebot\nDisallow: /" + b"x" * 4096 + b"$\n"
+    line = f"expect.txt:1: Googlebot-News must be allowed /tea, {GOOGLEBOT} Googlebot-News, and the file is rejected for Googlebot: line 2\n"
+    assert outcome(check(tmp_path, b"allow Googlebot-News /tea", robots=robots)) == (1, line, "")
 
 
 @pytest.mark.parametrize("text", [b"", b"\n \t\n", b"# \xe9", b"\xef\xbb\xbf# tea"], ids=["empty", "blank", "a comment", "a byte order mark"])

@@ -25,8 +25,6 @@ LISTED = {
     "the same URL twice": (b"/tea\n/tea\n", "allow - /tea\nallow - /tea\n2 allowed, 0 denied\n"),
     "a byte order mark": (b"\xef\xbb\xbf/private/\n", "deny 2 /private/\n0 allowed, 1 denied\n"),
     "comments": (b"# tea \xe9\n/tea#cup\n \t# /private/\n", "allow - /tea#cup\n1 allowed, 0 denied\n"),
-    "nothing": (b"", "0 allowed, 0 denied\n"),
-    "blank lines": (b"\n  \n", "0 allowed, 0 denied\n"),
 }
 
 
@@ -71,6 +69,12 @@ def test_standard_input_is_read_once(file):
 @pytest.mark.parametrize("text, line", [(b"\xff", 1), (b"/a\n\n/\xe9 \n/\xff\n", 3)])
 def test_a_url_that_is_not_utf_8(tmp_path, text, line):
     assert outcome(check(tmp_path, text, "Ferris")) == (2, "", f"robots_audit: list.txt:{line}: the line isn't valid UTF-8\n")
+
+
+@pytest.mark.parametrize("text", [b"", b"\n  \n", b"# /tea", b"\xef\xbb\xbf"], ids=["nothing", "blank lines", "a comment", "a byte order mark"])
+@pytest.mark.parametrize("more", [[], ["/b"]], ids=["no other URL", "another URL"])
+def test_no_urls(tmp_path, text, more):
+    assert outcome(check(tmp_path, text, "Ferris", *more)) == (2, "", "robots_audit: list.txt: there are no URLs\n")
 
 
 def test_missing_file(tmp_path):

@@ -195,15 +195,28 @@ reports_next urls older newer agents agent old new compared report upto is on ad
       };
     }
 
+-- the names are those of the crawlers that were compared
+names_compared : (urls : List (List ℕ)) (older newer : List LineValue) (agents : List (List ℕ))
+    (compared : List ComparedValue) → AllZip (IsCompared urls older newer) agents compared
+    → map (λ (one : ComparedValue). one.agent) compared ≡ agents
+names_compared urls older newer [] [] all = refl
+names_compared urls older newer [] (one ∷ compared) all = absurd all
+names_compared urls older newer (agent ∷ agents) [] all = absurd all
+names_compared urls older newer (agent ∷ agents) (one ∷ compared) (is, all) =
+    rw (is.agent_is, names_compared urls older newer agents compared all) refl
+
 pub comparison_made : (given : List (List ℕ)) (urls : List (List ℕ)) (older newer : List ℕ)
-    (agents : List (List ℕ)) (old new : Comparison) → IsReportUpto urls older newer agents old
+    (agents named : List (List ℕ)) (old new : Comparison) → IsReportUpto urls older newer agents old
+    → named ≡ agents
     → agents ≡ agents_requested given (lines_read older ++ lines_read newer)
     → string_bytes new.report
-    ≡ string_bytes old.report ++ ended (unchanged_lines old.all_unchanged old.some_unchanged)
+    ≡ string_bytes old.report ++ ended (unchanged_lines named old.all_unchanged old.some_unchanged)
     → new.is_rejected ≡ old.is_rejected → new.some_unchanged ≡ old.some_unchanged
     → new.all_unchanged ≡ old.all_unchanged → IsComparisonOf given urls older newer new
-comparison_made given urls older newer agents old new upto names added rejected some every =
+comparison_made given urls older newer agents named old new upto same names added rejected some every =
     let has = upto.has in
+    let compared =
+    names_compared urls (lines_read older) (lines_read newer) agents upto.compared upto.all ∙ sym same in
     record {
       compared = upto.compared;
       all =
@@ -214,7 +227,7 @@ comparison_made given urls older newer agents old new upto names added rejected 
         text =
             two_appended [] (string_bytes old.report) (string_bytes new.report)
             (flat_map agent_lines upto.compared) _ has.text
-            (rw (sym has.every, sym has.some) added);
+            (rw (sym has.every, sym has.some, compared) added);
         rejected = rejected ∙ has.rejected;
         some = some ∙ has.some;
         every = every ∙ has.every;

@@ -24,7 +24,7 @@ use Rattle.robots_audit.specs.Compare.{is_same_group}
 use Rattle.robots_audit.specs.Compare.{is_unchanged, kind_word, line_note, rejection, rejections}
 use Rattle.robots_audit.specs.Compare.{report_lines}
 use Rattle.robots_audit.specs.Compare.{rule_changes, rule_line, rule_text, same_rules, subject}
-use Rattle.robots_audit.specs.Compare.{unchanged_lines}
+use Rattle.robots_audit.specs.Compare.{unchanged_lines, unchanged_text}
 use Rattle.robots_audit.specs.Compare.{url_changes, url_line, verdict_changes}
 use Rattle.robots_audit.specs.PlainLine.{IsPlainLine, begins_plainly}
 use Rattle.robots_audit.specs.Report.{rejected_lines, rejected_text}
@@ -251,19 +251,28 @@ agent_lines_plain compared =
     (each_append IsPlainLine (differences compared) (same_rules compared) (differences_plain compared)
     (same_plain compared)))
 
-unchanged_plain : (all some : Bool) → Each IsPlainLine (unchanged_lines all some)
-unchanged_plain true some =
-    (fixed_plain (codes "no group, delay or rule differs, so no URL's verdict does") refl refl refl, tt)
-unchanged_plain false true =
-    (fixed_plain (codes "other crawlers: no group, delay or rule differs, so no URL's verdict does") refl refl refl, tt)
-unchanged_plain false false = tt
+-- what is said of several crawlers
+several_plain : (all : Bool)
+    → IsPlainLine ((if all then codes "all compared crawlers" else codes "other compared crawlers") ++ unchanged_text)
+several_plain true = fixed_plain (codes "all compared crawlers" ++ unchanged_text) refl refl refl
+several_plain false = fixed_plain (codes "other compared crawlers" ++ unchanged_text) refl refl refl
+
+unchanged_plain : (agents : List (List ℕ)) (all some : Bool) → Each IsPlainLine (unchanged_lines agents all some)
+unchanged_plain agents all false = tt
+unchanged_plain [] all true = (several_plain all, tt)
+unchanged_plain (one ∷ other ∷ agents) all true = (several_plain all, tt)
+unchanged_plain (agent ∷ []) all true =
+    let printable = subject_printable agent unchanged_text (ascii_printable false unchanged_text refl) in
+    let inside = (subject_is agent unchanged_text (middle_text unchanged_text refl)).quiet in
+    (record { printable = printable; begins = refl; inside = inside }, tt)
 
 pub comparison_plain : (compared : List ComparedValue) → Each IsPlainLine (report_lines compared)
 comparison_plain compared =
-    each_append IsPlainLine (flat_map agent_lines compared)
-    (unchanged_lines (list_all is_unchanged compared) (list_any is_unchanged compared))
-    (each_flat IsPlainLine agent_lines agent_lines_plain compared)
-    (unchanged_plain (list_all is_unchanged compared) (list_any is_unchanged compared))
+    let agents = map (λ (one : ComparedValue). one.agent) compared in
+    let all = list_all is_unchanged compared in
+    let some = list_any is_unchanged compared in
+    each_append IsPlainLine (flat_map agent_lines compared) (unchanged_lines agents all some)
+    (each_flat IsPlainLine agent_lines agent_lines_plain compared) (unchanged_plain agents all some)
 
 pub comparison_printable : (compared : List ComparedValue) → IsPrintable (ended (report_lines compared))
 comparison_printable compared =

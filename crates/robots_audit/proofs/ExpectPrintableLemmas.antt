@@ -10,12 +10,15 @@ use Rattle.robots_io.specs.Sanitize.{IsPrintable, sanitized}
 use Rattle.robots_io.proofs.CommandLemmas.{IsFront, IsMiddle, after_front, before_middle, decimal_middle}
 use Rattle.robots_io.proofs.CommandLemmas.{front_append, front_text, middle_text, sanitized_quiet}
 use Rattle.robots_io.proofs.SanitizeLemmas.{append_printable, ascii_printable, decimal_printable}
-use Rattle.robots_io.proofs.SanitizeLemmas.{ended_printable, sanitized_printable}
-use Rattle.robots_audit.specs.declared.expectations.Finding.{Finding}
-use Rattle.robots_audit.specs.declared.expectations.Finding.TheVariants.{Decided, Rejected}
+use Rattle.robots_io.proofs.SanitizeLemmas.{ended_printable, nil_printable, sanitized_printable}
+use Rattle.robots_audit.specs.declared.checks.AtGoogle.{AtGoogle}
+use Rattle.robots_audit.specs.declared.checks.AtGoogle.TheVariants.{Googlebot, Nobody, Same}
+use Rattle.robots_audit.specs.declared.checks.Finding.{Finding}
+use Rattle.robots_audit.specs.declared.checks.Finding.TheVariants.{Decided, Rejected}
 use Rattle.robots_audit.specs.Expect.{ExpectationValue}
 use Rattle.robots_audit.specs.Expectations.{CheckedValue, IsReport, decision_text, demand_text, demand_word}
-use Rattle.robots_audit.specs.Expectations.{failure_front, failure_line, fails, finding_text, place_text}
+use Rattle.robots_audit.specs.Expectations.{failure_front, failure_line, fails, fails_here, finding_text}
+use Rattle.robots_audit.specs.Expectations.{google_text, place_text, reason_text}
 use Rattle.robots_audit.specs.Expectations.{holding_text, result_lines, unmatched_text}
 use Rattle.robots_audit.specs.Report.{rejected_front}
 use Rattle.robots_audit.proofs.PrintableLemmas.{each_map, either_printable}
@@ -50,15 +53,26 @@ finding_printable agent url (Rejected line) =
     search (append_printable true, ascii_printable true, decimal_printable true, sanitized_printable)
 finding_printable agent url (Decided decision) = decision_printable url decision.allowed decision.line
 
+google_printable : (agent url : List ℕ) (google : AtGoogle) → IsPrintable (google_text agent url google)
+google_printable agent url Same = nil_printable true
+google_printable agent url (Googlebot finding) =
+    search (append_printable true, ascii_printable true, sanitized_printable, finding_printable)
+google_printable agent url Nobody = search (append_printable true, ascii_printable true, sanitized_printable)
+
+reason_printable : (checked : CheckedValue) → IsPrintable (reason_text checked)
+reason_printable checked =
+    let agent = checked.expectation.agent in
+    let url = checked.expectation.url in
+    either_printable true (fails_here checked) (finding_text agent url checked.finding)
+    (google_text agent url checked.google) (finding_printable agent url checked.finding)
+    (google_printable agent url checked.google)
+
 failure_printable : (name : List ℕ) (checked : CheckedValue) → IsPrintable (failure_line name checked)
 failure_printable name checked =
-    let expectation = checked.expectation in
-    let front = failure_front name expectation in
-    let finding = finding_text expectation.agent expectation.url checked.finding in
-    append_printable true (front ++ codes ", but ") finding
-    (append_printable true front (codes ", but ") (front_printable name expectation)
-    (ascii_printable true (codes ", but ") refl))
-    (finding_printable expectation.agent expectation.url checked.finding)
+    let front = failure_front name checked.expectation in
+    append_printable true (front ++ codes ", but ") (reason_text checked)
+    (append_printable true front (codes ", but ") (front_printable name checked.expectation)
+    (ascii_printable true (codes ", but ") refl)) (reason_printable checked)
 
 holding_printable : (number : ℕ) → IsPrintable (holding_text number)
 unfolding holding_text

@@ -15,35 +15,32 @@ use Rattle.std.proofs.lemmas.List.Elements.{filter-append}
 use Rattle.texting_robots.specs.Callers.{IsFirstOverlong, lines_read, placed_rules, prepared}
 use Rattle.texting_robots.proofs.MainTheoremLemmas.{answers_computed, read_robot}
 use Rattle.robots_io.specs.Lines.{ended, lf}
-use Rattle.robots_io.specs.Sanitize.{IsPrintable, sanitized}
-use Rattle.robots_io.proofs.SanitizeLemmas.{append_printable, ascii_printable, decimal_printable, nil_printable}
-use Rattle.robots_io.proofs.SanitizeLemmas.{sanitized_printable}
+use Rattle.robots_io.specs.Sanitize.{IsPrintable}
+use Rattle.robots_io.proofs.SanitizeLemmas.{nil_printable}
 use Rattle.robots_io.specs.declared.streams.ReadFault.{ReadFault}
 use Rattle.robots_io.specs.declared.streams.ReadFault.TheVariants as cause
 use Rattle.robots_audit.specs.declared.audit.Reading.{Reading}
 use Rattle.robots_audit.specs.declared.audit.Reading.TheVariants as reading
 use Rattle.robots_audit.specs.declared.expect.Expectation.{Expectation}
-use Rattle.robots_audit.specs.declared.expectations.Finding.{Finding}
+use Rattle.robots_audit.specs.declared.checks.Finding.{Finding}
 use Rattle.robots_audit.specs.declared.expectations.Results.{Results}
-use Rattle.robots_audit.specs.declared.expectations.Finding.TheVariants.{Decided, Rejected}
+use Rattle.robots_audit.specs.declared.checks.Finding.TheVariants.{Decided, Rejected}
+use Rattle.robots_audit.specs.declared.fault.Entry.TheVariants as entry
 use Rattle.robots_audit.specs.declared.fault.Fault.{Fault}
-use Rattle.robots_audit.specs.declared.fault.Fault.TheVariants.{File, Malformed, Memory}
-use Rattle.robots_audit.specs.declared.fault.Fault.TheVariants.{NoExpectations, NotUtf8, Read, StdinTwice}
-use Rattle.robots_audit.specs.declared.fault.Fault.TheVariants.{UnknownWarning, Usage, Words, Write}
-use Rattle.robots_audit.specs.declared.fault.Flaw.{Flaw}
-use Rattle.robots_audit.specs.declared.fault.Flaw.TheVariants as flaw
+use Rattle.robots_audit.specs.declared.fault.Fault.TheVariants.{Memory, Write}
 use Rattle.robots_audit.specs.declared.fault.Outcome.{Outcome}
 use Rattle.robots_audit.specs.Answer.{Ends}
 use Rattle.robots_audit.specs.Expect.{ExpectationValue, expectations_in}
-use Rattle.robots_audit.specs.Expectations.{CheckedValue, Checks, IsChecked, IsFaultOf, IsFindingOn, IsReport}
-use Rattle.robots_audit.specs.Expectations.{WritesBeginning, failure_line, fails, holding_text, place_text}
-use Rattle.robots_audit.specs.Fault.{fault_of_read, fault_text, flaw_text, message_after}
+use Rattle.robots_audit.specs.Expectations.{CheckedValue, Checks, IsChecked, IsEntryFault, IsFaultOf, IsFindingOn, IsReport}
+use Rattle.robots_audit.specs.Expectations.{WritesBeginning, failure_line, fails, holding_text}
+use Rattle.robots_audit.specs.Fault.{fault_of_read, fault_text, message_after}
 use Rattle.robots_audit.specs.Internal.{IsReading}
 use Rattle.robots_audit.specs.Internal.Expect.{expectation_value}
-use Rattle.robots_audit.specs.Internal.Expectations.{AreFailuresOn, AreResultsOn, IsFindingBy, IsMalformed}
-use Rattle.robots_audit.specs.Internal.Expectations.{IsWithoutExpectations, checked_value, failures_at}
+use Rattle.robots_audit.specs.Internal.Expectations.{AreFailuresOn, AreResultsOn, IsFindingBy}
+use Rattle.robots_audit.specs.Internal.Expectations.{failures_at}
 use Rattle.robots_audit.proofs.AnswerLemmas.{bytes_are_left, bytes_left}
-use Rattle.robots_audit.proofs.MessageLemmas.{memory_printable, named_printable}
+use Rattle.robots_audit.proofs.EntryLemmas.{entry_printable, entry_unwritten}
+use Rattle.robots_audit.proofs.MessageLemmas.{may_fail_printable}
 use Rattle.robots_audit.proofs.RuleSetLemmas.{none_of}
 
 -- ---- findings
@@ -85,24 +82,22 @@ no_failures name file report empty = record { checked = []; all = refl; found = 
 
 -- loop step: one more expectation
 pub failures_next : (name file old new : List ℕ) (items : List Expectation) (place : ℕ) (d : Expectation)
-    (how : Reading) (finding : Finding) → place < length items
+    (next : CheckedValue) → place < length items
     → AreFailuresOn name file (map expectation_value (take place items)) old
-    → IsReading (slice_index_or items place d).agent.now file how
-    → IsFindingBy how (slice_index_or items place d).url.now finding
-    → new ≡ old ++ ended (failures_at name (checked_value (slice_index_or items place d) finding))
+    → next.expectation ≡ expectation_value (slice_index_or items place d) → IsChecked (lines_read file) next
+    → new ≡ old ++ ended (failures_at name next)
     → AreFailuresOn name file (map expectation_value (take (place + 1) items)) new
-failures_next name file old new items place d how finding below are read by added =
+failures_next name file old new items place d next below are same is added =
     let one = slice_index_or items place d in
-    let next = checked_value one finding in
     record {
       checked = are.checked ++ next ∷ [];
       all =
           map-append (λ (one : CheckedValue). one.expectation) are.checked (next ∷ [])
-          ∙ ap (λ t. t ++ expectation_value one ∷ []) are.all
+          ∙ ap (λ t. t ++ next.expectation ∷ []) are.all
+          ∙ ap (λ (expected : ExpectationValue). map expectation_value (take place items) ++ expected ∷ []) same
           ∙ sym (ap (map expectation_value) (take_more items place d below)
           ∙ map-append expectation_value (take place items) (one ∷ []));
-      found = each_push (IsChecked (lines_read file)) are.checked next are.found
-          (finding_found one.agent.now file one.url.now how finding read by);
+      found = each_push (IsChecked (lines_read file)) are.checked next are.found is;
       whole =
           added ∙ ap (λ (t : List ℕ). t ++ ended (failures_at name next)) are.whole
           ∙ sym (failures_more name are.checked next);
@@ -194,45 +189,20 @@ report_made name text file items results is some are = record {
 
 -- ---- a run
 
-pub malformed_fault : (name text : List ℕ) (number : ℕ) (flaw : Flaw) (fault : Fault)
-    → IsMalformed name number flaw fault → expectations_in text ≡ Err (number, flaw)
+pub entry_fault : (name text : List ℕ) (fault : Fault)
+    → IsEntryFault name entry.Expectation (expectations_in text) fault
     → IsFaultOf name text fault × (fault ≢ Write)
-malformed_fault name text number flaw (Malformed place other) (same, is) specified =
-    ((number, subst (λ flaw. expectations_in text ≡ Err (number, flaw)) (sym same) specified, is), λ same. cc)
-malformed_fault name text number flaw Memory is specified = (tt, λ same. cc)
-malformed_fault name text number flaw (NoExpectations shown) is specified = absurd (cc)
-malformed_fault name text number flaw (Words shown) is specified = absurd (cc)
-malformed_fault name text number flaw Usage is specified = absurd (cc)
-malformed_fault name text number flaw NotUtf8 is specified = absurd (cc)
-malformed_fault name text number flaw (UnknownWarning shown) is specified = absurd (cc)
-malformed_fault name text number flaw (File shown) is specified = absurd (cc)
-malformed_fault name text number flaw StdinTwice is specified = absurd (cc)
-malformed_fault name text number flaw Read is specified = absurd (cc)
-malformed_fault name text number flaw Write is specified = absurd (cc)
-
-pub without_fault : (name text : List ℕ) (fault : Fault) → IsWithoutExpectations name fault
-    → expectations_in text ≡ Ok [] → IsFaultOf name text fault × (fault ≢ Write)
-without_fault name text (NoExpectations shown) is specified = ((specified, is), λ same. cc)
-without_fault name text Memory is specified = (tt, λ same. cc)
-without_fault name text (Malformed place flaw) is specified = absurd (cc)
-without_fault name text (Words shown) is specified = absurd (cc)
-without_fault name text Usage is specified = absurd (cc)
-without_fault name text NotUtf8 is specified = absurd (cc)
-without_fault name text (UnknownWarning shown) is specified = absurd (cc)
-without_fault name text (File shown) is specified = absurd (cc)
-without_fault name text StdinTwice is specified = absurd (cc)
-without_fault name text Read is specified = absurd (cc)
-without_fault name text Write is specified = absurd (cc)
+entry_fault name text fault is = (inl is, entry_unwritten name entry.Expectation (expectations_in text) fault is)
 
 pub read_fault : (name text : List ℕ) (why : ReadFault)
     → IsFaultOf name text (fault_of_read why) × (fault_of_read why ≢ Write)
-read_fault name text cause.Read = (tt, λ same. cc)
-read_fault name text cause.Memory = (tt, λ same. cc)
+read_fault name text cause.Read = (inr tt, λ same. cc)
+read_fault name text cause.Memory = (inr tt, λ same. cc)
 
 pub memory_fault : (name text : List ℕ) (fault : Fault) → fault ≡ Memory
     → IsFaultOf name text fault × (fault ≢ Write)
 memory_fault name text fault is =
-    subst (λ (fault : Fault). IsFaultOf name text fault × (fault ≢ Write)) (sym is) (tt, λ same. cc)
+    subst (λ (fault : Fault). IsFaultOf name text fault × (fault ≢ Write)) (sym is) (inr tt, λ same. cc)
 
 -- a run that failed before it wrote anything
 pub stopped : (name text : List ℕ) (ends : Ends) (result : Result Outcome Fault) (file : List ℕ) (fault : Fault)
@@ -268,50 +238,18 @@ write_failed name text ends (Err fault) file is read begun =
       file = file;
       read = read;
       ok = tt;
-      fault = subst (IsFaultOf name text) same tt;
+      fault = subst (IsFaultOf name text) same (inr tt);
       beginning = λ _. begun;
       nothing_written = λ other. absurd (other (sym same));
     }
 
 -- ---- the message on standard error
 
-pub place_printable : (name : List ℕ) (number : ℕ) → IsPrintable (place_text name number)
-place_printable name number =
-    append_printable true (sanitized name ++ codes ":") (decimal number)
-    (append_printable true (sanitized name) (codes ":") (sanitized_printable name)
-    (ascii_printable true (codes ":") refl)) (decimal_printable true number)
-
-flaw_printable : (flaw : Flaw) → IsPrintable (flaw_text flaw)
-flaw_printable flaw.Form = ascii_printable true (flaw_text flaw.Form) refl
-flaw_printable flaw.NotUtf8 = ascii_printable true (flaw_text flaw.NotUtf8) refl
-flaw_printable flaw.Agent = ascii_printable true (flaw_text flaw.Agent) refl
-flaw_printable flaw.Url = ascii_printable true (flaw_text flaw.Url) refl
-
-pub flawed_printable : (name : List ℕ) (number : ℕ) (place : String Global) (flaw : Flaw)
-    → string_bytes place ≡ place_text name number → IsPrintable (fault_text (Malformed place flaw))
-flawed_printable name number place flaw is =
-    named_printable (string_bytes place ++ codes ": ") (flaw_text flaw) []
-    (append_printable true (string_bytes place) (codes ": ")
-    (subst IsPrintable (sym is) (place_printable name number)) (ascii_printable true (codes ": ") refl))
-    (flaw_printable flaw) (nil_printable true)
-
-pub fault_printable : (name text : List ℕ) (fault : Fault) → IsFaultOf name text fault
+fault_printable : (name text : List ℕ) (fault : Fault) → IsFaultOf name text fault
     → IsPrintable (fault_text fault)
-fault_printable name text (Malformed place flaw) (number, specified, is) =
-    flawed_printable name number place flaw is
-fault_printable name text (NoExpectations shown) (specified, is) =
-    let why = codes ": there are no expectations" in
-    named_printable (string_bytes shown) why [] (subst IsPrintable (sym is) (sanitized_printable name))
-    (ascii_printable true why refl) (nil_printable true)
-fault_printable name text Read is = ascii_printable true (fault_text Read) refl
-fault_printable name text Write is = ascii_printable true (fault_text Write) refl
-fault_printable name text Memory is = memory_printable Memory refl
-fault_printable name text (Words shown) is = absurd is
-fault_printable name text Usage is = absurd is
-fault_printable name text NotUtf8 is = absurd is
-fault_printable name text (UnknownWarning shown) is = absurd is
-fault_printable name text (File shown) is = absurd is
-fault_printable name text StdinTwice is = absurd is
+fault_printable name text fault (inl is) =
+    entry_printable name entry.Expectation (expectations_in text) fault is
+fault_printable name text fault (inr is) = may_fail_printable fault is
 
 pub checked_printable : (name text : List ℕ) (ends : Ends) (result : Result Outcome Fault)
     → Checks name text ends result → IsPrintable (message_after result)

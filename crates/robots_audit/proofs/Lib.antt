@@ -10,6 +10,7 @@ pub mod ComparePrintableLemmas
 pub mod ConflictLemmas
 pub mod DelayLemmas
 pub mod DeniedLemmas
+pub mod EntryLemmas
 pub mod ExpectLemmas
 pub mod ExpectPrintableLemmas
 pub mod ExpectationsLemmas

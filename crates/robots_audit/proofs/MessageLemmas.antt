@@ -10,8 +10,8 @@ use Rattle.robots_io.proofs.SanitizeLemmas.{append_printable, ascii_printable, n
 use Rattle.robots_io.proofs.SanitizeLemmas.{sanitized_lines_printable, sanitized_printable}
 use Rattle.robots_audit.specs.declared.command.Request.{Request}
 use Rattle.robots_audit.specs.declared.fault.Fault.{Fault}
-use Rattle.robots_audit.specs.declared.fault.Fault.TheVariants.{File, Malformed, Memory}
-use Rattle.robots_audit.specs.declared.fault.Fault.TheVariants.{NoExpectations, NotUtf8, Read, StdinTwice}
+use Rattle.robots_audit.specs.declared.fault.Fault.TheVariants.{Empty, File, Malformed, Memory}
+use Rattle.robots_audit.specs.declared.fault.Fault.TheVariants.{NotUtf8, Read, StdinTwice}
 use Rattle.robots_audit.specs.declared.fault.Fault.TheVariants.{UnknownWarning, Usage, Words, Write}
 use Rattle.robots_audit.specs.declared.fault.Outcome.{Outcome}
 use Rattle.robots_audit.specs.Answer.{Audits, Ends, IsFileUnreadable, IsRejection, Prints, requested_by}
@@ -41,7 +41,7 @@ may_fail_printable NotUtf8 may = absurd may
 may_fail_printable (UnknownWarning name) may = absurd may
 may_fail_printable (File name) may = absurd may
 may_fail_printable (Malformed place flaw) may = absurd may
-may_fail_printable (NoExpectations other) may = absurd may
+may_fail_printable (Empty other entry) may = absurd may
 may_fail_printable StdinTwice may = absurd may
 may_fail_printable Read may = ascii_printable true (fault_text Read) refl
 may_fail_printable Write may = ascii_printable true (fault_text Write) refl
@@ -55,7 +55,7 @@ rejection_printable text NotUtf8 is = cc
 rejection_printable text (UnknownWarning name) is = cc
 rejection_printable text (File name) is = cc
 rejection_printable text (Malformed place flaw) is = cc
-rejection_printable text (NoExpectations other) is = cc
+rejection_printable text (Empty other entry) is = cc
 rejection_printable text StdinTwice is = cc
 rejection_printable text Read is = cc
 rejection_printable text Write is = cc
@@ -72,7 +72,7 @@ unreadable_printable name (File shown) is =
     (ascii_printable true (codes "cannot read ") refl)
     (subst IsPrintable (sym is) (sanitized_printable name)) (nil_printable true)
 unreadable_printable name (Malformed place flaw) is = cc
-unreadable_printable name (NoExpectations other) is = cc
+unreadable_printable name (Empty other entry) is = cc
 unreadable_printable name StdinTwice is = cc
 unreadable_printable name Read is = cc
 unreadable_printable name Write is = cc
@@ -89,7 +89,7 @@ unknown_printable name (UnknownWarning shown) is =
     (subst IsPrintable (sym is) (sanitized_printable name)) (ascii_printable true usage refl)
 unknown_printable name (File other) is = cc
 unknown_printable name (Malformed place flaw) is = cc
-unknown_printable name (NoExpectations other) is = cc
+unknown_printable name (Empty other entry) is = cc
 unknown_printable name StdinTwice is = cc
 unknown_printable name Read is = cc
 unknown_printable name Write is = cc
@@ -123,12 +123,18 @@ pub memory_outcome : (result : Result Outcome Fault) → IsErrOf result Memory
 memory_outcome (Ok outcome) is = absurd (cc)
 memory_outcome (Err fault) is = memory_printable fault cc
 
+-- a run that ended with this error
+pub error_outcome : (fault : Fault) (result : Result Outcome Fault) → IsErrOf result fault
+    → IsPrintable (fault_text fault) → IsPrintable (message_after result)
+error_outcome fault (Ok outcome) is printable = absurd (cc)
+error_outcome fault (Err other) is printable =
+    let same : fault ≡ other = cc in
+    subst (λ (fault : Fault). IsPrintable (fault_text fault)) same printable
+
 pub request_outcome : (by_default : Bool) (matches : ArgMatches) (fault : Fault) (result : Result Outcome Fault)
     → IsErrOf result fault → Asks by_default matches (Err fault) → IsPrintable (message_after result)
-request_outcome by_default matches fault (Ok outcome) is asks = absurd (cc)
-request_outcome by_default matches fault (Err other) is asks =
-    let same : fault ≡ other = cc in
-    subst (λ (fault : Fault). IsPrintable (fault_text fault)) same (request_printable by_default matches fault asks)
+request_outcome by_default matches fault result is asks =
+    error_outcome fault result is (request_printable by_default matches fault asks)
 
 pub error_for_terminal : (has_colors : Bool) (result : Result Outcome Fault) (fault : Fault)
     → IsErrOf result fault → IsPrintable (fault_text fault) → IsForTerminal has_colors (message_after result)

@@ -212,16 +212,26 @@ agent_lines compared =
     if is_rejected compared then rejections compared
     else if is_unchanged compared then [] else differences compared ++ same_rules compared
 
--- that all crawlers are unchanged, or that some are, on which nothing else is reported
-abbrev pub unchanged_lines : Bool → Bool → List (List ℕ)
-unchanged_lines all some =
-    if all then codes "no group, delay or rule differs, so no URL's verdict does" ∷ []
-    else if some then codes "other crawlers: no group, delay or rule differs, so no URL's verdict does" ∷ [] else []
+-- of these crawlers, which are all that were compared, those on which nothing else is reported; `all` is whether
+-- they are all
+abbrev pub unchanged_subject : List (List ℕ) → Bool → List ℕ
+unchanged_subject (agent ∷ []) all = crawler_text agent
+unchanged_subject agents all = if all then codes "all compared crawlers" else codes "other compared crawlers"
+
+abbrev pub unchanged_text : List ℕ
+unchanged_text =
+    codes ": no group, delay or rule differs, so no URL's verdict does; sitemaps aren't compared"
+
+-- that all of these crawlers are unchanged, or that some are, on which nothing else is reported
+abbrev pub unchanged_lines : List (List ℕ) → (all some : Bool) → List (List ℕ)
+unchanged_lines agents all some =
+    if some then (unchanged_subject agents all ++ unchanged_text) ∷ [] else []
 
 abbrev pub report_lines : List ComparedValue → List (List ℕ)
 report_lines compared =
     flat_map agent_lines compared
-    ++ unchanged_lines (list_all is_unchanged compared) (list_any is_unchanged compared)
+    ++ unchanged_lines (map (λ (one : ComparedValue). one.agent) compared) (list_all is_unchanged compared)
+    (list_any is_unchanged compared)
 
 -- the report on these crawlers, or if there are none on `*` and each that one of the files names; whether a file
 -- is rejected for one of them, and whether all of them are unchanged

@@ -5,10 +5,11 @@ use Rattle.std.specs.Prelude.{bytes_eq, codes, filter, if◌then◌else◌, leng
 use Rattle.std.specs.List.{list_any, starts_with}
 use Rattle.std.specs.Str.{byte, is_utf8}
 use Rattle.robots_warnings.specs.Facts.{mark, without_start}
-use Rattle.robots_warnings.specs.Tokens.{is_invalid_name}
+use Rattle.robots_warnings.specs.Rules.{before_byte, has, somewhere}
 use Rattle.robots_warnings.specs.Urls.{is_absolute_url}
 use Rattle.robots_audit.specs.declared.fault.Flaw.{Flaw}
-use Rattle.robots_audit.specs.declared.fault.Flaw.TheVariants.{Agent, Form, NotUtf8, Url}
+use Rattle.robots_audit.specs.declared.fault.Flaw.TheVariants.{Agent, Form, NotUtf8, Path, Url}
+use Rattle.robots_audit.specs.Crawler.{is_crawler_name}
 
 -- ---- lines and words
 
@@ -80,20 +81,36 @@ abbrev pub is_comment : List ℕ → Bool
 is_comment [] = false
 is_comment (b ∷ _) = b == byte "#"
 
+abbrev pub is_path : List ℕ → Bool
+is_path word = starts_with nat_eq word (codes "/")
+
 -- the word is a path, or an http(s) URL that can be parsed
 abbrev pub is_path_or_url : List ℕ → Bool
-is_path_or_url word = starts_with nat_eq word (codes "/") || is_absolute_url word
+is_path_or_url word = is_path word || is_absolute_url word
+
+-- the text starts with a path segment `.` or `..`, which a slash or the end of the path follows
+abbrev pub begins_dot_segment : List ℕ → Bool
+begins_dot_segment text =
+    (starts_with nat_eq text (codes "/./") || starts_with nat_eq text (codes "/../"))
+    || (bytes_eq text (codes "/.") || bytes_eq text (codes "/.."))
+
+-- the word is a path that crawlers ask for in another form: they resolve such segments, and drop a fragment,
+-- which begins with `#`; in an http(s) URL this parser does so too
+abbrev pub is_asked_otherwise : List ℕ → Bool
+is_asked_otherwise word =
+    is_path word && (has (byte "#") word || somewhere begins_dot_segment (before_byte (byte "?") word))
 
 -- the expectation of a line with these words, whose first is `allow` or `deny`, or what is wrong with the line;
--- what no rule is about, such as a URL without a slash at its start or a name with a version, would be allowed
--- whatever the file says
+-- what no crawler calls itself or asks for, such as a name with a version or a path without a slash at its start,
+-- could be allowed whatever the file says about the crawler or the page that is meant
 abbrev pub expects : ℕ → List ℕ → List ℕ → List ℕ → Result (Option ExpectationValue) MalformedLine
 expects number word agent url =
     let allowed = bytes_eq word (codes "allow") in
     if not (allowed || bytes_eq word (codes "deny")) then Err (number, Form)
     else if not (is_utf8 agent && is_utf8 url) then Err (number, NotUtf8)
-    else if is_invalid_name agent then Err (number, Agent)
+    else if not (is_crawler_name agent) then Err (number, Agent)
     else if not (is_path_or_url url) then Err (number, Url)
+    else if is_asked_otherwise url then Err (number, Path)
     else Ok (Some (record { number = number; allowed = allowed; agent = agent; url = url }))
 
 -- a line with three words is an expectation, any other is malformed

@@ -1,5 +1,5 @@
 -- Expectations checked against a robots.txt file, and the report on those that fail.
-use Rattle.std.specs.Prelude.{◌≡◌, ◌≢◌, ℕ, ◌==◌, Bool, true, false, not, List, ◌++◌}
+use Rattle.std.specs.Prelude.{◌≡◌, ◌≢◌, ℕ, ◌==◌, Bool, true, false, not, ◌||◌, List, ◌++◌}
 use Rattle.std.specs.Prelude.{Option, Some, None, Result, Ok, Err, IfErr, IfOk, IfSome, IsErrOf, ⊤}
 use Rattle.std.specs.Prelude.{[], ◌∷◌, bytes_eq, codes, decimal, filter, if◌then◌else◌, length, map, string_bytes}
 use Rattle.std.specs.List.{AllByRecursion as Each}
@@ -10,13 +10,20 @@ use Rattle.robots_io.specs.Lines.{ended}
 use Rattle.robots_io.specs.Sanitize.{sanitized}
 use Rattle.robots_io.specs.Streams.{AppendsBeginning}
 use Rattle.robots_io.specs.Verdicts.{IsDecisionOn}
+use Rattle.robots_warnings.specs.Google.{gets_googlebots, gets_nobodys}
+use Rattle.robots_audit.specs.declared.fault.Entry.{Entry}
+use Rattle.robots_audit.specs.declared.fault.Entry.TheVariants as entry
 use Rattle.robots_audit.specs.declared.fault.Fault.{Fault}
-use Rattle.robots_audit.specs.declared.fault.Fault.TheVariants.{Malformed, Memory, NoExpectations, Read, Write}
+use Rattle.robots_audit.specs.declared.fault.Fault.TheVariants.{Empty, Malformed, Memory}
+use Rattle.robots_audit.specs.declared.fault.Fault.TheVariants.{Write}
 use Rattle.robots_audit.specs.declared.fault.Outcome.{Outcome}
-use Rattle.robots_audit.specs.declared.expectations.Finding.{Finding}
-use Rattle.robots_audit.specs.declared.expectations.Finding.TheVariants.{Decided, Rejected}
+use Rattle.robots_audit.specs.declared.checks.AtGoogle.{AtGoogle}
+use Rattle.robots_audit.specs.declared.checks.AtGoogle.TheVariants.{Googlebot, Nobody, Same}
+use Rattle.robots_audit.specs.declared.checks.Finding.{Finding}
+use Rattle.robots_audit.specs.declared.checks.Finding.TheVariants.{Decided, Rejected}
 use Rattle.robots_audit.specs.Answer.{Ends}
-use Rattle.robots_audit.specs.Expect.{ExpectationValue, expectations_in}
+use Rattle.robots_audit.specs.Expect.{ExpectationValue, MalformedLine, expectations_in}
+use Rattle.robots_audit.specs.Fault.{MayFail}
 use Rattle.robots_audit.specs.Report.{rejected_front}
 
 -- ---- what the robots.txt file says
@@ -28,21 +35,42 @@ IsFindingOn lines agent url (Rejected line) = IsFirstOverlong (placed_rules agen
 IsFindingOn lines agent url (Decided decision) =
     (¬ IsRejected agent lines) × IsDecisionOn (placed_rules agent lines) url decision
 
--- an expectation and what the file says
+-- what Google's documentation changes for the crawler: nothing; or Google applies the group of Googlebot, for
+-- which this is the finding; or Google applies no group, so everything is allowed
+abbrev pub IsAtGoogle : List LineValue → List ℕ → List ℕ → AtGoogle → Type 0
+IsAtGoogle lines agent url Same = (gets_googlebots lines agent ≡ false) × (gets_nobodys lines agent ≡ false)
+IsAtGoogle lines agent url (Googlebot finding) =
+    (gets_googlebots lines agent ≡ true) × IsFindingOn lines (codes "Googlebot") url finding
+IsAtGoogle lines agent url Nobody = (gets_googlebots lines agent ≡ false) × (gets_nobodys lines agent ≡ true)
+
+-- an expectation and what the file says, here and at Google
 pub record CheckedValue : Type 0 where
   pub expectation : ExpectationValue
   pub finding : Finding
+  pub google : AtGoogle
 
-abbrev pub IsChecked : List LineValue → CheckedValue → Type 0
-IsChecked lines checked = IsFindingOn lines checked.expectation.agent checked.expectation.url checked.finding
+pub record IsChecked (lines : List LineValue) (checked : CheckedValue) : Type 0 where
+  pub here : IsFindingOn lines checked.expectation.agent checked.expectation.url checked.finding
+  pub at_google : IsAtGoogle lines checked.expectation.agent checked.expectation.url checked.google
 
--- an expectation fails if the file is rejected for the crawler, or if the decision isn't the expected one
+-- the file is rejected for the crawler, or the decision isn't the expected one
 abbrev pub fails_at : Bool → Finding → Bool
 fails_at allowed (Rejected line) = true
 fails_at allowed (Decided decision) = if allowed then not decision.allowed else decision.allowed
 
+-- this is so of the group that applies here
+abbrev pub fails_here : CheckedValue → Bool
+fails_here checked = fails_at checked.expectation.allowed checked.finding
+
+-- the same of the group that Google applies in its place, if it is another one; with none everything is allowed
+abbrev pub fails_at_google : Bool → AtGoogle → Bool
+fails_at_google allowed Same = false
+fails_at_google allowed (Googlebot finding) = fails_at allowed finding
+fails_at_google allowed Nobody = not allowed
+
+-- an expectation fails for one of these reasons
 abbrev pub fails : CheckedValue → Bool
-fails checked = fails_at checked.expectation.allowed checked.finding
+fails checked = fails_here checked || fails_at_google checked.expectation.allowed checked.google
 
 -- ---- the report
 
@@ -75,6 +103,21 @@ abbrev pub finding_text : List ℕ → List ℕ → Finding → List ℕ
 finding_text agent url (Rejected line) = codes "the file is " ++ rejected_front agent line
 finding_text agent url (Decided decision) = decision_text url decision.allowed decision.line
 
+-- which group Google applies, and what it says
+abbrev pub google_text : List ℕ → List ℕ → AtGoogle → List ℕ
+google_text agent url Same = []
+google_text agent url (Googlebot finding) =
+    (codes "Google applies the group Googlebot to " ++ sanitized agent ++ codes ", and ")
+    ++ finding_text (codes "Googlebot") url finding
+google_text agent url Nobody = codes "Google doesn't apply the group * to " ++ sanitized agent
+
+-- why an expectation fails
+abbrev pub reason_text : CheckedValue → List ℕ
+reason_text checked =
+    if fails_here checked
+    then finding_text checked.expectation.agent checked.expectation.url checked.finding
+    else google_text checked.expectation.agent checked.expectation.url checked.google
+
 -- where the expectation is, and what it is
 abbrev pub failure_front : List ℕ → ExpectationValue → List ℕ
 failure_front name expectation =
@@ -83,8 +126,7 @@ failure_front name expectation =
 -- such as `expect.txt:7: Googlebot must be allowed /products/tea, but line 3 denies it`
 abbrev pub failure_line : List ℕ → CheckedValue → List ℕ
 failure_line name checked =
-    failure_front name checked.expectation ++ codes ", but "
-    ++ finding_text checked.expectation.agent checked.expectation.url checked.finding
+    failure_front name checked.expectation ++ codes ", but " ++ reason_text checked
 
 -- how many expectations hold
 unfoldable pub holding_text : ℕ → List ℕ
@@ -114,17 +156,19 @@ pub record IsPlain (outcome : Outcome) : Type 0 where
   pub unwarned : outcome.is_warned ≡ false
   pub silent : string_bytes outcome.warnings ≡ []
 
--- the error names the first malformed line of the text, or there are no expectations in the text; otherwise a
--- read, a write or an allocation failed
+-- the error for the entries that a file has, or for its first malformed line: it names this line, or says that
+-- there are no entries, or an allocation failed
+abbrev pub IsEntryFault : {X : Type 0} → List ℕ → Entry → Result (List X) MalformedLine → Fault → Type 0
+IsEntryFault name entry found (Malformed place flaw) =
+    (number : ℕ) × (found ≡ Err (number, flaw)) × (string_bytes place ≡ place_text name number)
+IsEntryFault name entry found (Empty shown other) =
+    (found ≡ Ok []) × (other ≡ entry) × (string_bytes shown ≡ sanitized name)
+IsEntryFault name entry found fault = fault ≡ Memory
+
+-- the error is about the expectations in the text, or a read, a write or an allocation failed
 abbrev pub IsFaultOf : List ℕ → List ℕ → Fault → Type 0
-IsFaultOf name text (Malformed place flaw) = (number : ℕ) × (expectations_in text ≡ Err (number, flaw))
-    × (string_bytes place ≡ place_text name number)
-IsFaultOf name text (NoExpectations shown) =
-    (expectations_in text ≡ Ok []) × (string_bytes shown ≡ sanitized name)
-IsFaultOf name text Read = ⊤
-IsFaultOf name text Write = ⊤
-IsFaultOf name text Memory = ⊤
-IsFaultOf name text _ = ⊥
+IsFaultOf name text fault =
+    IsEntryFault name entry.Expectation (expectations_in text) fault ⊎ MayFail fault
 
 -- the report on the file is written, and the outcome is that all expectations hold, or that some fail
 abbrev pub WritesReport : List ℕ → List ℕ → Ends → List ℕ → Outcome → Type 0

@@ -4,20 +4,29 @@ use Rattle.std.specs.Prelude.{⊤, codes, if◌then◌else◌, string_bytes}
 use Rattle.robots_io.specs.Lines.{lf}
 use Rattle.robots_io.specs.declared.streams.ReadFault.{ReadFault}
 use Rattle.robots_io.specs.declared.streams.ReadFault.TheVariants as read
+use Rattle.robots_audit.specs.declared.fault.Entry.{Entry}
+use Rattle.robots_audit.specs.declared.fault.Entry.TheVariants.{Expectation, Url}
 use Rattle.robots_audit.specs.declared.fault.Fault.{Fault}
-use Rattle.robots_audit.specs.declared.fault.Fault.TheVariants.{File, Malformed, Memory}
-use Rattle.robots_audit.specs.declared.fault.Fault.TheVariants.{NoExpectations, NotUtf8, Read, StdinTwice}
+use Rattle.robots_audit.specs.declared.fault.Fault.TheVariants.{Empty, File, Malformed, Memory}
+use Rattle.robots_audit.specs.declared.fault.Fault.TheVariants.{NotUtf8, Read, StdinTwice}
 use Rattle.robots_audit.specs.declared.fault.Fault.TheVariants.{UnknownWarning, Usage, Words, Write}
 use Rattle.robots_audit.specs.declared.fault.Flaw.{Flaw}
 use Rattle.robots_audit.specs.declared.fault.Flaw.TheVariants as flaw
 use Rattle.robots_audit.specs.declared.fault.Outcome.{Outcome}
 
--- what is wrong with a line of the file of `--expect` or `--urls`
+-- what is wrong with a line of the file of `--expect` or `--urls`, or with the name of a crawler
 abbrev pub flaw_text : Flaw → List ℕ
 flaw_text flaw.Form = codes "write \"allow AGENT URL\" or \"deny AGENT URL\""
 flaw_text flaw.NotUtf8 = codes "the line isn't valid UTF-8"
 flaw_text flaw.Agent = codes "AGENT isn't a product token without a version, such as Googlebot"
 flaw_text flaw.Url = codes "URL is neither a path that starts with / nor a valid http:// or https:// URL"
+flaw_text flaw.Path =
+    codes "URL has a . or .. segment or a #, which crawlers resolve or drop; write the path that they ask for"
+
+-- what there are none of in a file
+abbrev pub entries_word : Entry → List ℕ
+entries_word Expectation = codes "expectations"
+entries_word Url = codes "URLs"
 
 -- the message for an error
 abbrev pub reason_of : Fault → List ℕ
@@ -27,7 +36,7 @@ reason_of NotUtf8 = codes "arguments must be valid UTF-8"
 reason_of (UnknownWarning name) = codes "unknown warning " ++ string_bytes name
 reason_of (File name) = codes "cannot read " ++ string_bytes name
 reason_of (Malformed place flaw) = string_bytes place ++ codes ": " ++ flaw_text flaw
-reason_of (NoExpectations name) = string_bytes name ++ codes ": there are no expectations"
+reason_of (Empty name entry) = string_bytes name ++ codes ": there are no " ++ entries_word entry
 reason_of StdinTwice = codes "standard input can't be both robots.txt and another file (use --file)"
 reason_of Read = codes "cannot read standard input"
 reason_of Write = codes "cannot write the report"
@@ -41,7 +50,7 @@ usage_after NotUtf8 = codes "; usage: robots_audit [-f FILE] [OPTIONS] AGENT [UR
 usage_after (UnknownWarning name) = codes "; usage: robots_audit [-f FILE] [OPTIONS] AGENT [URL].."
 usage_after (File name) = []
 usage_after (Malformed place flaw) = []
-usage_after (NoExpectations name) = []
+usage_after (Empty name entry) = []
 usage_after StdinTwice = codes "; usage: robots_audit [-f FILE] [OPTIONS] AGENT [URL].."
 usage_after Read = []
 usage_after Write = []
@@ -76,7 +85,7 @@ MayFail NotUtf8 = ⊥
 MayFail (UnknownWarning name) = ⊥
 MayFail (File name) = ⊥
 MayFail (Malformed place flaw) = ⊥
-MayFail (NoExpectations name) = ⊥
+MayFail (Empty name entry) = ⊥
 MayFail StdinTwice = ⊥
 MayFail Read = ⊤
 MayFail Write = ⊤

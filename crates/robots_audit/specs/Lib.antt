@@ -17,6 +17,7 @@ pub mod Github
 pub mod Sarif
 pub mod Answer
 pub mod Explain
+pub mod Crawler
 pub mod Expect
 pub mod Expectations
 pub mod UrlList

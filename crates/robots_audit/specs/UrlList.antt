@@ -1,14 +1,14 @@
 -- The URLs in the file of `--urls`, one per line.
-use Rattle.std.specs.Prelude.{◌≡◌, ℕ, ◌-◌, not, List, ◌++◌, Option, Some, None, Result, Ok, Err}
-use Rattle.std.specs.Prelude.{drop, if◌then◌else◌, length, string_bytes, take}
+use Rattle.std.specs.Prelude.{◌≡◌, ℕ, ◌-◌, ◌==◌, false, not, List, ◌++◌, Option, Some, None, Result, Ok, Err}
+use Rattle.std.specs.Prelude.{drop, if◌then◌else◌, length, take}
 use Rattle.std.specs.Char.{is_ascii_whitespace}
 use Rattle.std.specs.List.{prefix_len, suffix_len}
 use Rattle.std.specs.Str.{is_utf8}
 use Rattle.robots_audit.specs.Audit.{RequestValue}
 use Rattle.robots_audit.specs.Expect.{MalformedLine, entries_from, is_comment, is_word, lines}
-use Rattle.robots_audit.specs.Expectations.{place_text}
+use Rattle.robots_audit.specs.Expectations.{IsEntryFault}
+use Rattle.robots_audit.specs.declared.fault.Entry.TheVariants as entry
 use Rattle.robots_audit.specs.declared.fault.Fault.{Fault}
-use Rattle.robots_audit.specs.declared.fault.Fault.TheVariants.{Malformed, Memory}
 use Rattle.robots_audit.specs.declared.fault.Flaw.TheVariants.{NotUtf8}
 use Rattle.robots_warnings.specs.Facts.{mark, without_start}
 
@@ -40,14 +40,13 @@ urls_in text = entries_from url_in 1 (lines (without_start mark text))
 abbrev pub with_urls : List (List ℕ) → RequestValue → RequestValue
 with_urls urls requested = record requested { urls = requested.urls ++ urls }
 
--- the request has the URLs in a text as well
+-- the request has the URLs in a text as well, of which there are some
 pub record HasUrlsIn (text : List ℕ) (requested extended : RequestValue) : Type 0 where
   pub urls : List (List ℕ)
   pub listed : urls_in text ≡ Ok urls
+  pub some : (length urls == 0) ≡ false
   pub extended_is : extended ≡ with_urls urls requested
 
--- the error names the first malformed line of the text, or an allocation failed
+-- the error is about the URLs in the text, or an allocation failed
 abbrev pub IsUrlFault : List ℕ → List ℕ → Fault → Type 0
-IsUrlFault name text (Malformed place flaw) =
-    (number : ℕ) × (urls_in text ≡ Err (number, flaw)) × (string_bytes place ≡ place_text name number)
-IsUrlFault name text fault = fault ≡ Memory
+IsUrlFault name text fault = IsEntryFault name entry.Url (urls_in text) fault

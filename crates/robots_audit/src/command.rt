@@ -3,10 +3,11 @@ ghost use Rattle.std.specs.Prelude.{◌≡◌, ◌≢◌, ◌↔◌, ◌++◌, I
 ghost use Rattle.std.specs.List.{list_all};
 ghost use Rattle.robots_warnings.specs.Table.{is_name};
 ghost use Rattle.robots_audit.specs.Command.{AreNamesOf, Asks, file_read, format_named, HasCrawlers, is_stdin, IsUnknown, IsUnknownIn, LacksAgent, level_named};
-ghost use Rattle.robots_audit.specs.Command.{reads_stdin_twice, requested_format, single, values_of, words_of};
+ghost use Rattle.robots_audit.specs.Command.{reads_stdin_twice, requested_format, value_of, values_of, words_of};
 ghost use Rattle.robots_audit.specs.Color.{requested_colors};
 
 use crate::color::requested_colors;
+use crate::crawler::single;
 use crate::fault::Fault;
 use clap::builder::ValueParser;
 use clap::{Arg, ArgAction, ArgMatches, Command};
@@ -444,16 +445,6 @@ fn crawlers<'a>(
     Ok(agents)
 }
 
-/// The crawler, if there is a single one.
-fn single<'a>(agents: &[&'a str]) -> Option<&'a str>
-    ensures { option_map (λ agent. agent.now) result ≡ single (map (λ agent. agent.now) agents.now) }
-{
-    match agents {
-        [agent] => Some(*agent),
-        _ => None,
-    }
-}
-
 /// Whether the report ends with the numbers of allowed and denied URLs: with `--denied` or `--urls`.
 fn has_totals(is_denied_only: bool, urls: Option<&str>) -> bool
     ensures { result ≡ (is_denied_only || is_some (option_map (λ name. name.now) urls.entry)) }
@@ -462,8 +453,8 @@ fn has_totals(is_denied_only: bool, urls: Option<&str>) -> bool
 }
 
 /// The request that the arguments contain, without the URLs in a file; `has_colors` is whether warnings have colors
-/// without `--color` or with `--color auto`. Fails if AGENT is missing, if standard input would be read twice, if no
-/// warning has a given name, or if an allocation fails.
+/// without `--color` or with `--color auto`. Fails if AGENT is missing, if standard input would be read twice, if
+/// no warning has a given name, or if an allocation fails.
 pub fn requested<'a>(
     alloc: Global,
     matches: &ArgMatches<'a>,

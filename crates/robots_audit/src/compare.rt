@@ -3,12 +3,12 @@ ghost use Rattle.std.specs.Prelude.{◌≡◌, ◌++◌, IfErr, IfOk, OnOk, fals
 ghost use Rattle.texting_robots.specs.Callers.{lines_read};
 ghost use Rattle.robots_io.specs.Lines.{ended};
 ghost use Rattle.robots_audit.specs.Audit.{agents_requested as specified_agents};
-ghost use Rattle.robots_audit.specs.Compare.{Compares, is_rejected, unchanged_lines};
+ghost use Rattle.robots_audit.specs.Compare.{Compares, is_rejected, unchanged_lines, unchanged_subject};
 ghost use Rattle.robots_audit.specs.Internal.Compare.{AddsReport, IsComparisonOf, IsReportOn, IsReportUpto, IsVersion, compared_value};
 
 use crate::agents::agents_requested;
 use crate::compared::{Compared, Version, compared_for, read_version};
-use crate::differences::{push_differences, push_rejections, push_same_rules};
+use crate::differences::{push_crawler, push_differences, push_rejections, push_same_rules};
 use crate::fault::{Fault, Outcome};
 use robots_io::streams::{read_all, write_out};
 use std::alloc::{AllocError, Global};
@@ -150,17 +150,36 @@ fn reports(
     Ok(found)
 }
 
-/// Appends that all crawlers are unchanged, or that some are.
-fn push_unchanged(text: &mut String, all: bool, some: bool) -> Result<(), AllocError>
-    ensures { OnOk result (string_bytes text.new ≡ string_bytes text.old ++ ended (unchanged_lines all some)) }
+/// Appends the crawlers on which nothing else is reported; `agents` are all that were compared, and `all` is whether
+/// those are all.
+fn push_unchanged_subject(text: &mut String, agents: &[String], all: bool) -> Result<(), AllocError>
+    ensures { OnOk result (string_bytes text.new ≡ string_bytes text.old
+        ++ unchanged_subject (map string_bytes agents.now) all) }
 {
-    if all {
-        text.push_str("no group, delay or rule differs, so no URL's verdict does\n")
-    } else if some {
-        text.push_str("other crawlers: no group, delay or rule differs, so no URL's verdict does\n")
-    } else {
-        Ok(())
+    match agents {
+        [agent] => push_crawler(text, agent),
+        _ if all => text.push_str("all compared crawlers"),
+        _ => text.push_str("other compared crawlers"),
     }
+}
+
+/// Appends that all of these crawlers are unchanged, or that some are.
+fn push_unchanged(
+    text: &mut String,
+    agents: &[String],
+    all: bool,
+    some: bool,
+) -> Result<(), AllocError>
+    ensures { OnOk result (string_bytes text.new ≡ string_bytes text.old
+        ++ ended (unchanged_lines (map string_bytes agents.now) all some)) }
+{
+    if !some {
+        return Ok(());
+    }
+    push_unchanged_subject(text, agents, all)?;
+    text.push_str(
+        ": no group, delay or rule differs, so no URL's verdict does; sitemaps aren't compared\n",
+    )
 }
 
 /// The report on two files.
@@ -179,7 +198,8 @@ fn compare_bytes<'a>(
     let newer = read_version(alloc, newer)?;
     let names = agents_of(alloc, agents, &older, &newer)?;
     let mut found = reports(alloc, &names, &older, &newer, urls)?;
-    push_unchanged(&mut found.report, found.all_unchanged, found.some_unchanged)?;
+    let (all, some) = (found.all_unchanged, found.some_unchanged);
+    push_unchanged(&mut found.report, &names, all, some)?;
     Ok(found)
 }
 

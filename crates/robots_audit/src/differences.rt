@@ -22,7 +22,7 @@ use std::alloc::AllocError;
 use texting_robots::robot::Decision;
 
 /// Appends what a line about a crawler begins with.
-fn push_crawler(text: &mut String, agent: &str) -> Result<(), AllocError>
+pub(crate) fn push_crawler(text: &mut String, agent: &str) -> Result<(), AllocError>
     ensures { OnOk result (string_bytes text.new ≡ string_bytes text.old ++ crawler_text agent.now) }
 {
     text.push_str("crawler ")?;

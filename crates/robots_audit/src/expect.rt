@@ -1,13 +1,16 @@
 //! The expectations in the file of `--expect`, one per line, and how a text is cut into parts.
 ghost use Rattle.std.specs.Prelude.{◌≡◌, ◌≢◌, ◌<◌, ◌∷◌, ◌++◌, [], IfErr, IfOk, MatchOption, Ok, OnOk, if◌then◌else◌, length, map, option_map};
 ghost use Rattle.std.specs.Option.{option_to_list};
-ghost use Rattle.robots_audit.specs.Expect.{entries_from, expectation_in, expectations_in, expects, is_comment, is_in, is_path_or_url, is_word, lines, parts, words};
+ghost use Rattle.std.specs.Str.{byte};
+ghost use Rattle.robots_warnings.specs.Rules.{has};
+ghost use Rattle.robots_audit.specs.Expect.{begins_dot_segment, entries_from, expectation_in, expectations_in, expects, is_asked_otherwise, is_comment, is_in, is_path, is_path_or_url, is_word, lines, parts, words};
 ghost use Rattle.robots_audit.specs.Internal.Expect.{HasNone, IsFirstSeparator, IsParseFault, expectation_value};
 
 use crate::agents::as_text;
+use crate::crawler::is_crawler_name;
 use crate::fault::Flaw;
 use robots_warnings::facts::without_mark;
-use robots_warnings::tokens::is_invalid_name;
+use robots_warnings::rules::{before_byte, somewhere};
 use robots_warnings::urls::is_absolute_url;
 use std::alloc::{AllocError, AllocFailed, Global};
 
@@ -120,14 +123,43 @@ pub(crate) fn is_comment(text: &[u8]) -> bool
     }
 }
 
+fn is_path(word: &[u8]) -> bool
+    ensures { result ≡ is_path word.now }
+{
+    word.starts_with(b"/")
+}
+
 /// Whether the word is a path, or an http(s) URL that can be parsed.
-fn is_path_or_url(alloc: Global, word: &str) -> Result<bool, AllocError>
+fn is_path_or_url(alloc: Global, word: &[u8]) -> Result<bool, AllocError>
     ensures { IfOk result (λ answer. answer ≡ is_path_or_url word.now) }
 {
-    if word.starts_with("/") {
+    if is_path(word) {
         return Ok(true);
     }
-    is_absolute_url(alloc, word.as_bytes())
+    is_absolute_url(alloc, word)
+}
+
+/// Whether the text starts with a path segment `.` or `..`, which a slash or the end of the path follows.
+fn begins_dot_segment(text: &[u8]) -> bool
+    ensures { result ≡ begins_dot_segment text.now }
+{
+    (text.starts_with(b"/./") || text.starts_with(b"/../"))
+        || (text == b"/.".as_slice() || text == b"/..".as_slice())
+}
+
+/// Whether the word has a `#`.
+fn has_hash(word: &[u8]) -> bool
+    ensures { result ≡ has (byte "#") word.now }
+{
+    word.iter().any(|byte| *byte == b'#')
+}
+
+/// Whether the word is a path that crawlers ask for in another form: without such segments, and without what begins
+/// with `#`.
+fn is_asked_otherwise(word: &[u8]) -> bool
+    ensures { result ≡ is_asked_otherwise word.now }
+{
+    is_path(word) && (has_hash(word) || somewhere(before_byte(b'?', word), begins_dot_segment))
 }
 
 /// The expectation of a line with these three words.
@@ -149,11 +181,14 @@ fn expects<'a>(
     let (Some(agent), Some(url)) = (as_text(agent), as_text(url)) else {
         return Err(ParseFault::Malformed(number, Flaw::NotUtf8));
     };
-    if is_invalid_name(agent.as_bytes()) {
+    if !is_crawler_name(agent) {
         return Err(ParseFault::Malformed(number, Flaw::Agent));
     }
-    if !is_path_or_url(alloc, url)? {
+    if !is_path_or_url(alloc, url.as_bytes())? {
         return Err(ParseFault::Malformed(number, Flaw::Url));
+    }
+    if is_asked_otherwise(url.as_bytes()) {
+        return Err(ParseFault::Malformed(number, Flaw::Path));
     }
     Ok(Some(Expectation {
         number,

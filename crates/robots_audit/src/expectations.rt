@@ -1,34 +1,28 @@
 //! Expectations checked against a robots.txt file, and the report on those that fail.
-ghost use Rattle.std.specs.Prelude.{◌≡◌, ◌≢◌, ◌==◌, ◌++◌, ◌∷◌, [], IfErr, IfOk, Ok, OnOk, false, if◌then◌else◌, codes, decimal, length, map, string_bytes, take};
+ghost use Rattle.std.specs.Prelude.{◌≡◌, ◌==◌, ◌++◌, ◌∷◌, [], ◌||◌, IfErr, IfOk, Ok, OnOk, false, if◌then◌else◌, codes, decimal, length, map, string_bytes, take};
 ghost use Rattle.texting_robots.specs.Callers.{file_limit};
 ghost use Rattle.robots_io.specs.Lines.{ended};
+ghost use Rattle.robots_io.specs.Sanitize.{sanitized};
 ghost use Rattle.robots_audit.specs.Expect.{expectations_in as specified_in};
-ghost use Rattle.robots_audit.specs.Expectations.{Checks, IsFaultOf, decision_text, demand_text, demand_word, failure_front, failure_line, fails_at, finding_text, holding_text, place_text, unmatched_text};
+ghost use Rattle.robots_audit.specs.Expectations.{Checks, IsEntryFault, decision_text, demand_text, demand_word, failure_front, failure_line, finding_text, google_text, holding_text, reason_text, unmatched_text};
+ghost use Rattle.robots_audit.specs.declared.fault.Entry.TheVariants as entry;
 ghost use Rattle.robots_audit.specs.Internal.{IsReading};
 ghost use Rattle.robots_audit.specs.Internal.Expect.{expectation_value};
-ghost use Rattle.robots_audit.specs.Internal.Expectations.{AreFailuresOn, AreResultsOn, IsFindingBy, IsMalformed, IsReadFor, IsWithoutExpectations, checked_value, failures_at};
+ghost use Rattle.robots_audit.specs.Internal.Expectations.{AreFailuresOn, AreResultsOn, IsReadFor, checked_value, failures_at};
 
 use crate::audit::{Reading, read_for};
+use crate::checks::{AtGoogle, Checked, Finding, checked_on, fails, fails_here};
+use crate::entries::{malformed, push_place, without_entries};
 use crate::expect::{Expectation, ParseFault, expectations_in};
-use crate::fault::{Fault, Flaw, Outcome};
+use crate::fault::{Entry, Fault, Outcome};
 use crate::report::push_rejected_front;
 use robots_io::lines::push_number;
 use robots_io::sanitize::push_sanitized;
 use robots_io::streams::{read_all, write_out};
-use robots_io::verdicts::decision_on;
 use std::alloc::{AllocError, Global};
 use std::io::{Read, Write};
 use texting_robots::robot::Decision;
 use texting_robots::{Error, Robot, Site};
-
-/// What a file says about a URL for a crawler.
-#[derive(Drop)]
-pub(crate) enum Finding {
-    /// The file is rejected for the crawler because of the rule in this line.
-    Rejected(usize),
-    /// The decision on the URL.
-    Decided(Decision),
-}
 
 /// The report on expectations.
 #[derive(Drop)]
@@ -63,46 +57,6 @@ fn reading_for<'a>(
     }
     let reading = read_for(alloc, agent, file, site)?;
     Ok(AgentReading { agent, reading })
-}
-
-/// What a file that was read in this way says about a URL.
-fn finding_on(alloc: Global, reading: &Reading, url: &str) -> Result<Finding, Fault>
-    ensures ok { IfOk result (IsFindingBy reading.now url.now) }
-    ensures fault { IfErr result (λ fault. fault ≡ Fault.Memory) }
-{
-    match reading {
-        Reading::Rejected(line) => Ok(Finding::Rejected(*line)),
-        Reading::Accepted(robot) => match decision_on(alloc, robot, url) {
-            Ok(decision) => Ok(Finding::Decided(decision)),
-            Err(Error::Memory) => Err(Fault::Memory),
-            Err(Error::InvalidRobots | Error::InvalidRule) => unreachable!(),
-        },
-    }
-}
-
-/// Whether an expectation fails.
-fn fails(allowed: bool, finding: &Finding) -> bool
-    ensures { result ≡ fails_at allowed finding.now }
-{
-    match finding {
-        Finding::Rejected(_) => true,
-        Finding::Decided(decision) => {
-            if allowed {
-                !decision.allowed
-            } else {
-                decision.allowed
-            }
-        }
-    }
-}
-
-/// Appends the name of a file, and the number of a line.
-fn push_place(text: &mut String, name: &str, number: usize) -> Result<(), AllocError>
-    ensures { OnOk result (string_bytes text.new ≡ string_bytes text.old ++ place_text name.now number) }
-{
-    push_sanitized(text, name.as_bytes())?;
-    text.push_str(":")?;
-    push_number(text, number)
 }
 
 /// Whether a URL must be allowed or denied, with a space on both sides.
@@ -188,6 +142,55 @@ fn push_finding(
     }
 }
 
+/// Appends that Google applies the group of Googlebot, and starts what it says.
+fn push_googlebots(text: &mut String, agent: &str) -> Result<(), AllocError>
+    ensures { OnOk result (string_bytes text.new ≡ string_bytes text.old
+        ++ (codes "Google applies the group Googlebot to " ++ sanitized agent.now ++ codes ", and ")) }
+{
+    text.push_str("Google applies the group Googlebot to ")?;
+    push_sanitized(text, agent.as_bytes())?;
+    text.push_str(", and ")
+}
+
+/// Appends which group Google applies, and what it says.
+fn push_google(
+    alloc: Global,
+    text: &mut String,
+    agent: &str,
+    url: &str,
+    google: &AtGoogle,
+) -> Result<(), Fault>
+    ensures ok { OnOk result (string_bytes text.new ≡ string_bytes text.old
+        ++ google_text agent.now url.now google.now) }
+    ensures fault { IfErr result (λ fault. fault ≡ Fault.Memory) }
+{
+    match google {
+        AtGoogle::Same => Ok(()),
+        AtGoogle::Googlebot(finding) => {
+            push_googlebots(text, agent)?;
+            push_finding(alloc, text, "Googlebot", url, finding)
+        }
+        AtGoogle::Nobody => {
+            text.push_str("Google doesn't apply the group * to ")?;
+            Ok(push_sanitized(text, agent.as_bytes())?)
+        }
+    }
+}
+
+/// Appends why an expectation fails.
+fn push_reason(alloc: Global, text: &mut String, checked: &Checked<'_>) -> Result<(), Fault>
+    ensures ok { OnOk result (string_bytes text.new ≡ string_bytes text.old
+        ++ reason_text (checked_value checked.now)) }
+    ensures fault { IfErr result (λ fault. fault ≡ Fault.Memory) }
+{
+    let (agent, url) = (checked.expectation.agent, checked.expectation.url);
+    if fails_here(checked) {
+        push_finding(alloc, text, agent, url, &checked.finding)
+    } else {
+        push_google(alloc, text, agent, url, &checked.google)
+    }
+}
+
 /// Appends where an expectation is, and what it is.
 fn push_failure_front(
     text: &mut String,
@@ -207,16 +210,15 @@ fn push_failure(
     alloc: Global,
     text: &mut String,
     name: &str,
-    expectation: &Expectation<'_>,
-    finding: &Finding,
+    checked: &Checked<'_>,
 ) -> Result<(), Fault>
     ensures ok { OnOk result (string_bytes text.new ≡ string_bytes text.old
-        ++ failure_line name.now (checked_value expectation.now finding.now)) }
+        ++ failure_line name.now (checked_value checked.now)) }
     ensures fault { IfErr result (λ fault. fault ≡ Fault.Memory) }
 {
-    push_failure_front(text, name, expectation)?;
+    push_failure_front(text, name, &checked.expectation)?;
     text.push_str(", but ")?;
-    push_finding(alloc, text, expectation.agent, expectation.url, finding)
+    push_reason(alloc, text, checked)
 }
 
 /// Appends a line if the expectation fails.
@@ -224,17 +226,16 @@ fn push_if_failing(
     alloc: Global,
     text: &mut String,
     name: &str,
-    expectation: &Expectation<'_>,
-    finding: &Finding,
+    checked: &Checked<'_>,
 ) -> Result<(), Fault>
     ensures ok { OnOk result (string_bytes text.new ≡ string_bytes text.old
-        ++ ended (failures_at name.now (checked_value expectation.now finding.now))) }
+        ++ ended (failures_at name.now (checked_value checked.now))) }
     ensures fault { IfErr result (λ fault. fault ≡ Fault.Memory) }
 {
-    if !fails(expectation.allowed, finding) {
+    if !fails(checked) {
         return Ok(());
     }
-    push_failure(alloc, text, name, expectation, finding)?;
+    push_failure(alloc, text, name, checked)?;
     Ok(text.push('\n')?)
 }
 
@@ -258,8 +259,8 @@ fn failures(
     let mut report = String::new(alloc);
     for expectation in expectations {
         latest = reading_for(alloc, latest, expectation.agent, file, &site)?;
-        let finding = finding_on(alloc, &latest.reading, expectation.url)?;
-        push_if_failing(alloc, &mut report, name, expectation, &finding)?;
+        let checked = checked_on(alloc, expectation, &latest.reading, file, &site)?;
+        push_if_failing(alloc, &mut report, name, &checked)?;
     }
     Ok(report)
 }
@@ -319,36 +320,14 @@ fn results_of(
     Ok(results)
 }
 
-/// The error for a malformed line; `Fault::Memory` if an allocation fails.
-pub(crate) fn malformed(alloc: Global, name: &str, number: usize, flaw: Flaw) -> Fault
-    ensures { IsMalformed name.now number flaw result }
-{
-    let mut place = String::new(alloc);
-    match push_place(&mut place, name, number) {
-        Ok(()) => Fault::Malformed(place, flaw),
-        Err(AllocError) => Fault::Memory,
-    }
-}
-
-/// The error for a file without expectations; `Fault::Memory` if an allocation fails.
-fn without_expectations(alloc: Global, name: &str) -> Fault
-    ensures { IsWithoutExpectations name.now result }
-{
-    let mut shown = String::new(alloc);
-    match push_sanitized(&mut shown, name.as_bytes()) {
-        Ok(()) => Fault::NoExpectations(shown),
-        Err(AllocError) => Fault::Memory,
-    }
-}
-
 /// The expectations in this text, of a file with this name. Fails if there are none.
 fn parsed<'a>(alloc: Global, name: &str, text: &'a [u8]) -> Result<Vec<Expectation<'a>>, Fault>
     ensures ok { IfOk result (λ found. specified_in text.now ≡ Ok (map expectation_value found.items)) }
     ensures some { IfOk result (λ found. (length found.items == 0) ≡ false) }
-    ensures fault { IfErr result (λ fault. IsFaultOf name.now text.now fault × (fault ≢ Fault.Write)) }
+    ensures fault { IfErr result (IsEntryFault name.now entry.Expectation (specified_in text.now)) }
 {
     match expectations_in(alloc, text) {
-        Ok(found) if found.is_empty() => Err(without_expectations(alloc, name)),
+        Ok(found) if found.is_empty() => Err(without_entries(alloc, name, Entry::Expectation)),
         Ok(found) => Ok(found),
         Err(ParseFault::Malformed(number, flaw)) => Err(malformed(alloc, name, number, flaw)),
         Err(ParseFault::Memory) => Err(Fault::Memory),
@@ -363,8 +342,8 @@ fn parsed<'a>(alloc: Global, name: &str, text: &'a [u8]) -> Result<Vec<Expectati
 ///
 /// # Errors
 ///
-/// `Fault::Malformed` if a line of the text is malformed, `Fault::NoExpectations` if there are no expectations in it,
-/// and the errors of [`crate::program::run`].
+/// `Fault::Malformed` if a line of the text is malformed, `Fault::Empty` if there are no expectations in it, and the
+/// errors of [`crate::program::run`].
 pub fn check<R: Read, W: Write>(
     alloc: Global,
     name: &str,

@@ -1,6 +1,6 @@
 //! The end of a run: its outcome or its error, the message on standard error, and the exit status.
 ghost use Rattle.std.specs.Prelude.{◌≡◌};
-ghost use Rattle.robots_audit.specs.Fault.{flaw_text, status_after, usage_after};
+ghost use Rattle.robots_audit.specs.Fault.{entries_word, flaw_text, status_after, usage_after};
 
 use robots_io::streams::{ReadFault, WriteFault};
 use std::alloc::{AllocError, AllocFailed};
@@ -21,7 +21,7 @@ pub struct Outcome {
     pub warnings: String,
 }
 
-/// What is wrong with a line of the file of `--expect` or `--urls`.
+/// What is wrong with a line of the file of `--expect` or `--urls`, or with the name of a crawler.
 #[derive(Clone, Copy)]
 pub enum Flaw {
     /// It isn't of the form `allow AGENT URL` or `deny AGENT URL`.
@@ -31,6 +31,17 @@ pub enum Flaw {
     /// AGENT isn't a name that crawlers have.
     Agent,
     /// The URL is neither a path nor an http(s) URL that can be parsed.
+    Url,
+    /// The URL is a path that crawlers ask for in another form.
+    Path,
+}
+
+/// What a file has a list of.
+#[derive(Clone, Copy)]
+pub enum Entry {
+    /// Expectations, in the file of `--expect`.
+    Expectation,
+    /// URLs, in the file of `--urls`.
     Url,
 }
 
@@ -47,10 +58,11 @@ pub enum Fault {
     UnknownWarning(String),
     /// The file with this name, which is sanitized, can't be opened or read.
     File(String),
-    /// The line that this text names is malformed: a file's sanitized name, and a number.
+    /// The line that this text names is malformed: a file's sanitized name, and a number. Or this is the sanitized name
+    /// of a crawler that has no such name.
     Malformed(String, Flaw),
-    /// There are no expectations in the file with this name, which is sanitized.
-    NoExpectations(String),
+    /// The file with this name, which is sanitized, has none of these entries.
+    Empty(String, Entry),
     /// Standard input would have to be both the robots.txt file and another one.
     StdinTwice,
     /// A read failed, or the input didn't end within the maximum number of reads.
@@ -70,6 +82,18 @@ fn flaw_text(flaw: Flaw) -> &'static str
         Flaw::NotUtf8 => "the line isn't valid UTF-8",
         Flaw::Agent => "AGENT isn't a product token without a version, such as Googlebot",
         Flaw::Url => "URL is neither a path that starts with / nor a valid http:// or https:// URL",
+        Flaw::Path =>
+            "URL has a . or .. segment or a #, which crawlers resolve or drop; write the path that they ask for",
+    }
+}
+
+/// What there are none of in a file.
+fn entries_word(entry: Entry) -> &'static str
+    ensures { result.now ≡ entries_word entry }
+{
+    match entry {
+        Entry::Expectation => "expectations",
+        Entry::Url => "URLs",
     }
 }
 
@@ -87,7 +111,7 @@ impl fmt::Display for Fault {
             Fault::UnknownWarning(name) => write!(f, "unknown warning {name}"),
             Fault::File(name) => write!(f, "cannot read {name}"),
             Fault::Malformed(place, flaw) => write!(f, "{place}: {}", flaw_text(*flaw)),
-            Fault::NoExpectations(name) => write!(f, "{name}: there are no expectations"),
+            Fault::Empty(name, entry) => write!(f, "{name}: there are no {}", entries_word(*entry)),
             Fault::StdinTwice => {
                 f.write_str("standard input can't be both robots.txt and another file (use --file)")
             }

@@ -26,14 +26,17 @@ ghost use Rattle.robots_audit.specs.Fault.{fault_text, message_after};
 
 mod agents;
 mod audit;
+mod checks;
 mod chosen;
 mod color;
 mod command;
 mod compare;
 mod compared;
+mod crawler;
 mod delay;
 mod denied;
 mod differences;
+mod entries;
 mod expect;
 mod expectations;
 mod explain;
@@ -59,6 +62,7 @@ use clap::error::ErrorKind as WordsKind;
 use color::colors_by_default;
 use command::{Request, command, file_read, reads_stdin_twice, requested};
 use compare::compare;
+use crawler::are_crawlers;
 use expectations::check;
 use explain::{explain, list_warnings};
 use fault::{Fault, Outcome, StderrMessage, status_after};
@@ -224,6 +228,7 @@ fn compared_with(rt: &HostRuntime, matches: &ArgMatches<'_>, older: &str) -> Res
     ensures { IsPrintable (message_after result) }
 {
     let request = requested(rt.alloc(), matches, false)?;
+    are_crawlers(rt.alloc(), &request.agents)?;
     let text = read_named_or_stdin(rt, older)?;
     match request.file {
         Some(name) => compare_named(rt, &request, &text, name),

@@ -1,5 +1,5 @@
 //! The URLs in the file of `--urls`, one per line.
-ghost use Rattle.std.specs.Prelude.{◌≡◌, IfErr, IfOk, Ok, map, option_map};
+ghost use Rattle.std.specs.Prelude.{◌≡◌, ◌==◌, IfErr, IfOk, Ok, false, length, map, option_map};
 ghost use Rattle.robots_audit.specs.Answer.{requested_by};
 ghost use Rattle.robots_audit.specs.Expect.{entries_from, lines};
 ghost use Rattle.robots_audit.specs.Internal.Expect.{IsParseFault};
@@ -7,9 +7,9 @@ ghost use Rattle.robots_audit.specs.UrlList.{HasUrlsIn, IsUrlFault, trimmed, url
 
 use crate::agents::as_text;
 use crate::command::Request;
+use crate::entries::{malformed, without_entries};
 use crate::expect::{ParseFault, cut, is_comment};
-use crate::expectations::malformed;
-use crate::fault::{Fault, Flaw};
+use crate::fault::{Entry, Fault, Flaw};
 use robots_warnings::facts::without_mark;
 use std::alloc::Global;
 
@@ -68,12 +68,26 @@ fn urls_in<'a>(alloc: Global, text: &'a [u8]) -> Result<Vec<&'a str>, ParseFault
     line_urls(alloc, without_mark(text))
 }
 
+/// The URLs in this text, of a file with this name. Fails if there are none.
+fn parsed<'a>(alloc: Global, name: &str, text: &'a [u8]) -> Result<Vec<&'a str>, Fault>
+    ensures ok { IfOk result (λ found. urls_in text.now ≡ Ok (map (λ url. url.now) found.items)) }
+    ensures some { IfOk result (λ found. (length found.items == 0) ≡ false) }
+    ensures fault { IfErr result (IsUrlFault name.now text.now) }
+{
+    match urls_in(alloc, text) {
+        Ok(found) if found.is_empty() => Err(without_entries(alloc, name, Entry::Url)),
+        Ok(found) => Ok(found),
+        Err(ParseFault::Malformed(number, flaw)) => Err(malformed(alloc, name, number, flaw)),
+        Err(ParseFault::Memory) => Err(Fault::Memory),
+    }
+}
+
 /// The request with the URLs in a text, of a file with this name, after its own.
 ///
 /// # Errors
 ///
-/// `Fault::Malformed` if a line isn't UTF-8, and `Fault::Memory` if an allocation fails.
-#[tactic(auto, using(crate::proofs::UrlListLemmas::malformed_url))]
+/// `Fault::Malformed` if a line isn't UTF-8, `Fault::Empty` if there are no URLs in the text, and `Fault::Memory` if an
+/// allocation fails.
 pub fn with_urls<'a>(
     alloc: Global,
     request: Request<'a>,
@@ -84,12 +98,7 @@ pub fn with_urls<'a>(
     ensures fault { IfErr result (IsUrlFault name.now text.now) }
 {
     let mut extended = request;
-    match urls_in(alloc, text) {
-        Ok(urls) => extended.urls.extend_from_slice(&urls)?,
-        Err(ParseFault::Malformed(number, flaw)) => {
-            return Err(malformed(alloc, name, number, flaw));
-        }
-        Err(ParseFault::Memory) => return Err(Fault::Memory),
-    }
+    let urls = parsed(alloc, name, text)?;
+    extended.urls.extend_from_slice(&urls)?;
     Ok(extended)
 }

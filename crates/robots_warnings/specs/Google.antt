@@ -34,21 +34,33 @@ is_line_at_google agent _ = false
 abbrev pub is_named_at_google : List ℕ → List LineValue → Bool
 is_named_at_google agent lines = list_any (is_line_at_google agent) lines
 
--- Google reads the name in no line, and that of Googlebot in one, whose group it applies to the crawler
-abbrev pub gets_googlebots : List LineValue → List ℕ → Bool
-gets_googlebots lines name =
+-- Google reads the name in no line, and that of Googlebot in one
+abbrev pub has_only_googlebots : List LineValue → List ℕ → Bool
+has_only_googlebots lines name =
     not (is_named_at_google name lines) && is_named_at_google (codes "Googlebot") lines
 
--- Google reads the name in no line, and applies no group to the crawler, although there is a group of `*`
+-- Google reads the name in no line, although there is a group of `*`
+abbrev pub has_only_star : List LineValue → List ℕ → Bool
+has_only_star lines name = not (is_named_at_google name lines) && is_named (codes "*") lines
+
+-- one of these names is that of the crawler, ASCII letters in any case
+abbrev pub is_one_of : List (List ℕ) → List ℕ → Bool
+is_one_of names agent = list_any (λ name. str_eq_ignore_ascii_case name agent) names
+
+-- Google applies the group of Googlebot to the crawler
+abbrev pub gets_googlebots : List LineValue → List ℕ → Bool
+gets_googlebots lines agent = is_one_of like_googlebot agent && has_only_googlebots lines agent
+
+-- Google applies no group to the crawler, although there is a group of `*`
 abbrev pub gets_nobodys : List LineValue → List ℕ → Bool
-gets_nobodys lines name = not (is_named_at_google name lines) && is_named (codes "*") lines
+gets_nobodys lines agent = is_one_of without_star agent && has_only_star lines agent
 
 -- of these crawlers, the one with this name, which gets the group of Googlebot if it has none of its own
 abbrev pub googlebot_checks : List LineValue → List (List ℕ) → List ℕ → List Check
 googlebot_checks lines agents name =
-    (cause.GooglebotGroup, is_given agents name && gets_googlebots lines name) ∷ []
+    (cause.GooglebotGroup, is_given agents name && has_only_googlebots lines name) ∷ []
 
 -- of these crawlers, the one with this name, which never gets the group of `*`
 abbrev pub star_checks : List LineValue → List (List ℕ) → List ℕ → List Check
 star_checks lines agents name =
-    (cause.GoogleIgnoresStar, is_given agents name && gets_nobodys lines name) ∷ []
+    (cause.GoogleIgnoresStar, is_given agents name && has_only_star lines name) ∷ []

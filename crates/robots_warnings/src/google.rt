@@ -2,8 +2,9 @@
 ghost use Rattle.std.specs.Prelude.{◌≡◌, ◌||◌, map, string_bytes};
 ghost use Rattle.std.specs.Str.{str_eq_ignore_ascii_case};
 ghost use Rattle.texting_robots.specs.Callers.{by_value, file_lines};
-ghost use Rattle.robots_warnings.specs.Google.{gets_googlebots, gets_nobodys, googlebot_checks, is_given};
-ghost use Rattle.robots_warnings.specs.Google.{is_line_at_google, is_named_at_google, star_checks};
+ghost use Rattle.robots_warnings.specs.Google.{gets_googlebots, gets_nobodys, googlebot_checks, has_only_googlebots};
+ghost use Rattle.robots_warnings.specs.Google.{has_only_star, is_given, is_line_at_google, is_named_at_google, is_one_of};
+ghost use Rattle.robots_warnings.specs.Google.{star_checks};
 
 use crate::checks::Check;
 use crate::table::Cause;
@@ -68,20 +69,39 @@ fn is_named_at_google(site: &Site, agent: &str) -> bool
     false
 }
 
-/// Whether Google reads the name in no user-agent line, and that of Googlebot in one, whose group it applies to
-/// the crawler.
-fn gets_googlebots(site: &Site, name: &str) -> bool
-    ensures { result ≡ gets_googlebots (file_lines site.now) name.now }
+/// Whether Google reads the name in no user-agent line, and that of Googlebot in one.
+fn has_only_googlebots(site: &Site, name: &str) -> bool
+    ensures { result ≡ has_only_googlebots (file_lines site.now) name.now }
 {
     !is_named_at_google(site, name) && is_named_at_google(site, "Googlebot")
 }
 
-/// Whether Google reads the name in no user-agent line, and applies no group to the crawler, although there is
-/// one of `*`.
-fn gets_nobodys(site: &Site, name: &str) -> bool
-    ensures { result ≡ gets_nobodys (file_lines site.now) name.now }
+/// Whether Google reads the name in no user-agent line, although there is a group of `*`.
+fn has_only_star(site: &Site, name: &str) -> bool
+    ensures { result ≡ has_only_star (file_lines site.now) name.now }
 {
     !is_named_at_google(site, name) && site.is_named("*")
+}
+
+/// Whether one of these names is that of the crawler, ASCII letters in any case.
+fn is_one_of(names: &[&str], agent: &str) -> bool
+    ensures { result ≡ is_one_of (map (λ name. name.now) names.now) agent.now }
+{
+    names.iter().any(|name| name.eq_ignore_ascii_case(agent))
+}
+
+/// Whether Google applies the group of Googlebot to the crawler, which has none of its own.
+pub fn gets_googlebots(site: &Site, agent: &str) -> bool
+    ensures { result ≡ gets_googlebots (file_lines site.now) agent.now }
+{
+    is_one_of(&LIKE_GOOGLEBOT, agent) && has_only_googlebots(site, agent)
+}
+
+/// Whether Google applies no group to the crawler, although there is one of `*`.
+pub fn gets_nobodys(site: &Site, agent: &str) -> bool
+    ensures { result ≡ gets_nobodys (file_lines site.now) agent.now }
+{
+    is_one_of(&WITHOUT_STAR, agent) && has_only_star(site, agent)
 }
 
 /// Checks of the one of these crawlers with this name, which gets the group of Googlebot if it has none of its
@@ -89,7 +109,7 @@ fn gets_nobodys(site: &Site, name: &str) -> bool
 pub(crate) fn googlebot_checks(site: &Site, agents: &[String], name: &str) -> [Check; 1]
     ensures { result ≡ googlebot_checks (file_lines site.now) (map string_bytes agents.now) name.now }
 {
-    let holds = is_given(agents, name) && gets_googlebots(site, name);
+    let holds = is_given(agents, name) && has_only_googlebots(site, name);
     [(Cause::GooglebotGroup, holds)]
 }
 
@@ -97,6 +117,6 @@ pub(crate) fn googlebot_checks(site: &Site, agents: &[String], name: &str) -> [C
 pub(crate) fn star_checks(site: &Site, agents: &[String], name: &str) -> [Check; 1]
     ensures { result ≡ star_checks (file_lines site.now) (map string_bytes agents.now) name.now }
 {
-    let holds = is_given(agents, name) && gets_nobodys(site, name);
+    let holds = is_given(agents, name) && has_only_star(site, name);
     [(Cause::GoogleIgnoresStar, holds)]
 }

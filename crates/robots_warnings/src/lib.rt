@@ -10,7 +10,7 @@ pub mod examples;
 pub mod facts;
 pub mod field_names;
 pub mod file;
-mod google;
+pub mod google;
 pub mod level;
 pub mod names;
 mod names_past_limit;

@@ -29,7 +29,7 @@ pub(crate) fn place(byte: u8, text: &[u8]) -> usize
 }
 
 /// The text before the first occurrence of the byte, or all of it if there is none.
-pub(crate) fn before_byte(byte: u8, text: &[u8]) -> &[u8]
+pub fn before_byte(byte: u8, text: &[u8]) -> &[u8]
     ensures { result.now ≡ before_byte byte text.now }
 {
     &text[..place(byte, text)]
@@ -47,7 +47,7 @@ pub(crate) fn after_byte(byte: u8, text: &[u8]) -> &[u8]
 
 /// Whether the test holds for the rest of the text from some byte on.
 #[tactic(auto, using(crate::proofs::RuleLemmas::somewhere_next))]
-pub(crate) fn somewhere<F: Fn(&[u8]) -> bool>(text: &[u8], test: F) -> bool
+pub fn somewhere<F: Fn(&[u8]) -> bool>(text: &[u8], test: F) -> bool
     requires { F.IsAlwaysCallable test }
     ensures { (p : List ℕ → Bool) → ((x : List ℕ) (r : Bool) → FnReturnsAt F.Fn test x r → r ≡ p x)
         → result ≡ somewhere p text.now }

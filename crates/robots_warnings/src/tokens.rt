@@ -8,7 +8,7 @@ use crate::rules::somewhere;
 use crate::urls::begins_in_any_case;
 
 /// Whether the text starts or ends with white space.
-pub(crate) fn has_space_around(text: &str) -> bool
+pub fn has_space_around(text: &str) -> bool
     ensures { result ≡ has_space_around text.now }
 {
     text.trim() != text
@@ -72,7 +72,7 @@ fn is_name_byte(byte: u8) -> bool
 }
 
 /// Whether each byte can occur in such a name.
-fn are_name_bytes(bytes: &[u8]) -> bool
+pub fn are_name_bytes(bytes: &[u8]) -> bool
     ensures { result ≡ list_all is_name_byte bytes.now }
 {
     bytes.iter().all(|byte| is_name_byte(*byte))

@@ -2,9 +2,10 @@ use Rattle.std.proofs.Common.{Bool, ap, rules, subst}
 use Rattle.robots_audit.specs.Audit.{RequestValue}
 use Rattle.robots_audit.specs.Color.{IsForTerminal}
 use Rattle.robots_audit.specs.Fault.{message_after}
-use Rattle.robots_audit.proofs.ColorLemmas.{for_terminal}
+use Rattle.robots_audit.specs.UrlList.{urls_in}
+use Rattle.robots_audit.specs.declared.fault.Entry.TheVariants as entry
+use Rattle.robots_audit.proofs.EntryLemmas.{entry_printable}
 use Rattle.robots_audit.proofs.MessageLemmas.{error_for_terminal}
-use Rattle.robots_audit.proofs.UrlListLemmas.{url_outcome}
 use Rattle.robots_audit.proofs.audit_with_urls.Goals as goal
 
 pub returns-in_err-text : goal.returns-in_err-text
@@ -13,8 +14,8 @@ returns-in_err-text c =
 
 pub returns-in_err-extended : goal.returns-in_err-extended
 returns-in_err-extended c =
-    for_terminal _ _
-    (url_outcome c.args.name.now c.deref.result.now _ c.from_residual-in_err-extended.result (search rules)
+    error_for_terminal _ c.from_residual-in_err-extended.result c.in_err-extended.field-0.0 (search rules)
+    (entry_printable c.args.name.now entry.Url (urls_in c.deref.result.now) c.in_err-extended.field-0.0
     c.in_err-extended.ensures.fault)
 
 pub returns : goal.returns

@@ -7,12 +7,13 @@ use Rattle.robots_io.specs.Sanitize.{sanitized}
 use Rattle.robots_io.specs.Verdicts.{IsDecisionOn}
 use Rattle.robots_audit.specs.declared.audit.Reading.{Reading}
 use Rattle.robots_audit.specs.declared.audit.Reading.TheVariants as reading
-use Rattle.robots_audit.specs.declared.expect.Expectation.{Expectation}
 use Rattle.robots_audit.specs.declared.expectations.AgentReading.{AgentReading}
-use Rattle.robots_audit.specs.declared.expectations.Finding.{Finding}
-use Rattle.robots_audit.specs.declared.expectations.Finding.TheVariants.{Decided, Rejected}
+use Rattle.robots_audit.specs.declared.checks.Checked.{Checked}
+use Rattle.robots_audit.specs.declared.checks.Finding.{Finding}
+use Rattle.robots_audit.specs.declared.checks.Finding.TheVariants.{Decided, Rejected}
 use Rattle.robots_audit.specs.declared.fault.Fault.{Fault}
-use Rattle.robots_audit.specs.declared.fault.Fault.TheVariants.{Malformed, Memory, NoExpectations}
+use Rattle.robots_audit.specs.declared.fault.Entry.{Entry}
+use Rattle.robots_audit.specs.declared.fault.Fault.TheVariants.{Empty, Malformed, Memory}
 use Rattle.robots_audit.specs.declared.fault.Flaw.{Flaw}
 use Rattle.robots_audit.specs.declared.expectations.Results.{Results}
 use Rattle.robots_audit.specs.Expect.{ExpectationValue}
@@ -20,8 +21,12 @@ use Rattle.robots_audit.specs.Expectations.{CheckedValue, IsChecked, failure_lin
 use Rattle.robots_audit.specs.Internal.Expect.{expectation_value}
 use Rattle.robots_audit.specs.Internal.{IsReading}
 
-abbrev pub checked_value : Expectation → Finding → CheckedValue
-checked_value expectation finding = record { expectation = expectation_value expectation; finding = finding }
+abbrev pub checked_value : Checked → CheckedValue
+checked_value checked = record {
+  expectation = expectation_value checked.expectation;
+  finding = checked.finding;
+  google = checked.google;
+}
 
 -- how the file is read for this crawler
 pub record IsReadFor (agent file : List ℕ) (found : AgentReading) : Type 0 where
@@ -62,7 +67,7 @@ IsMalformed name number flaw (Malformed place other) =
     (other ≡ flaw) × (string_bytes place ≡ place_text name number)
 IsMalformed name number flaw fault = fault ≡ Memory
 
--- the error names this file, in which there are no expectations, or an allocation failed
-abbrev pub IsWithoutExpectations : List ℕ → Fault → Type 0
-IsWithoutExpectations name (NoExpectations shown) = string_bytes shown ≡ sanitized name
-IsWithoutExpectations name fault = fault ≡ Memory
+-- the error names this file, in which there are no such entries, or an allocation failed
+abbrev pub IsWithoutEntries : List ℕ → Entry → Fault → Type 0
+IsWithoutEntries name entry (Empty shown other) = (other ≡ entry) × (string_bytes shown ≡ sanitized name)
+IsWithoutEntries name entry fault = fault ≡ Memory

@@ -1,13 +1,14 @@
 use Rattle.std.proofs.Common.{refl, rules, string_bytes}
 use Rattle.robots_audit.specs.Fault.{fault_of_read}
 use Rattle.robots_audit.proofs.AnswerLemmas.{no_fault}
-use Rattle.robots_audit.proofs.ExpectationsLemmas.{read_fault, report_made, unread, write_failed}
+use Rattle.robots_audit.proofs.ExpectationsLemmas.{entry_fault, read_fault, report_made, unread, write_failed}
 use Rattle.robots_audit.proofs.expectations.check.Goals as goal
 
 pub returns-in_err-expectations : goal.returns-in_err-expectations
 returns-in_err-expectations g c =
     unread _ _ _ c.from_residual.result c.in_err-expectations.field-0.0 (search rules)
-    c.in_err-expectations.ensures.fault
+    (entry_fault c.args.name.now c.args.text.now c.in_err-expectations.field-0.0
+    c.in_err-expectations.ensures.fault)
     (search rules)
 
 pub returns-in_err-file : goal.returns-in_err-file
