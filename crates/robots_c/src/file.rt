@@ -44,7 +44,8 @@ pub(crate) fn robot_of(alloc: Global, agent: &[u8], file: &[u8]) -> Result<Robot
     }
 }
 
-/// The crawler's delay in microseconds, from a site. Rules that are too long don't matter, and it doesn't allocate.
+/// The crawler's delay in microseconds, from a site. Rules that are too long don't
+/// matter, and it doesn't allocate.
 pub(crate) fn delay_in(site: &Site, agent: &[u8]) -> Result<u64, Fault>
     ensures ok { IfOk result (λ delay. HasDelay agent.now site.now (Some delay)) }
     ensures fault { IfErr result (IsWhyNoDelayOf agent.now site.now) }

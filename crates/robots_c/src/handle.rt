@@ -27,8 +27,8 @@ fn open(alloc: Global, agent: &[u8], file: &[u8]) -> Result<Box<Robot>, Fault>
     Ok(Box::new(alloc, robot)?)
 }
 
-/// Opens the robot of a file for C. If that fails, the pointer is `at`, and the line of a rule that is too long is
-/// written.
+/// Opens the robot of a file for C. If that fails, the pointer is `at`, and the line of a
+/// rule that is too long is written.
 pub(crate) fn opened(
     alloc: Global,
     agent: &[u8],

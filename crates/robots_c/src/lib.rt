@@ -1,9 +1,9 @@
-//! The functions of `robots.h`, next to `src/`: what a robots.txt file means for a crawler, for C and every language
-//! that calls C.
+//! The functions of `robots.h`, next to `src/`: what a robots.txt file means for a crawler, for C
+//! and every language that calls C.
 //!
-//! A function that can fail returns a status: 0, or the negative number of an error. It writes its result only if the
-//! status is 0. Some also write the length that they need, or the line of a rule that is too long, if they fail for
-//! this reason. `robots_site_is_named` writes nothing and returns its result.
+//! A function that can fail returns a status: 0, or the negative number of an error. It writes its result
+//! only if the status is 0. Some also write the length that they need, or the line of a rule that is too
+//! long, if they fail for this reason. `robots_site_is_named` writes nothing and returns its result.
 #![tactic(auto)]
 
 ghost use Rattle.std.specs.Prelude.{◌≡◌, ◌≢◌, ◌⊎◌, ℕ, List, Some, length, pos};
@@ -48,8 +48,8 @@ pub extern "C" fn robots_version() -> u32
     100
 }
 
-/// Writes a number for each URL: 0 if the crawler may fetch it and no line decides, n if line n of the file allows it,
-/// -n if line n denies it. The URLs are one string, separated by LF.
+/// Writes a number for each URL: 0 if the crawler may fetch it and no line decides, n if line n of the file
+/// allows it, -n if line n denies it. The URLs are one string, separated by LF.
 #[unsafe(no_mangle)]
 pub extern "C" fn robots_decide(
     alloc: Global,
@@ -73,9 +73,9 @@ pub extern "C" fn robots_decide(
     }
 }
 
-/// Writes a matrix of numbers: a row for each crawler with a number for each URL, as `robots_decide` does. The crawlers
-/// are one string, and the URLs another, separated by LF. In the row of a crawler for which the file is rejected, each
-/// number is the least `i64`.
+/// Writes a matrix of numbers: a row for each crawler with a number for each URL, as `robots_decide` does.
+/// The crawlers are one string, and the URLs another, separated by LF. In the row of a crawler for which the
+/// file is rejected, each number is the least `i64`.
 #[unsafe(no_mangle)]
 pub extern "C" fn robots_matrix(
     alloc: Global,
@@ -113,8 +113,8 @@ pub extern "C" fn robots_delay(alloc: Global, agent: &[u8], file: &[u8], out: &m
     }
 }
 
-/// Writes the sitemaps that the file lists, each followed by LF, and their total length. If the buffer is too small, it
-/// writes only the length.
+/// Writes the sitemaps that the file lists, each followed by LF, and their total length. If the buffer is too
+/// small, it writes only the length.
 #[unsafe(no_mangle)]
 pub extern "C" fn robots_sitemaps(
     alloc: Global,
@@ -134,8 +134,8 @@ pub extern "C" fn robots_sitemaps(
     }
 }
 
-/// Writes the names in the file's user-agent lines, each once and followed by LF, and their total length. If the buffer
-/// is too small, it writes only the length.
+/// Writes the names in the file's user-agent lines, each once and followed by LF, and their total length. If
+/// the buffer is too small, it writes only the length.
 #[unsafe(no_mangle)]
 pub extern "C" fn robots_agents(alloc: Global, file: &[u8], out: &mut [u8], len: &mut usize) -> i32
     ensures written { result ≡ pos 0 → IsWritten (AreAgents (bytes_read file.now)) out.old out.new len.new }
@@ -151,8 +151,8 @@ pub extern "C" fn robots_agents(alloc: Global, file: &[u8], out: &mut [u8], len:
     }
 }
 
-/// Writes the address of robots.txt for the site of a URL, and its length. If the buffer is too small, it writes only
-/// the length.
+/// Writes the address of robots.txt for the site of a URL, and its length. If the buffer is too
+/// small, it writes only the length.
 #[unsafe(no_mangle)]
 pub extern "C" fn robots_address(alloc: Global, url: &[u8], out: &mut [u8], len: &mut usize) -> i32
     ensures written { result ≡ pos 0 → IsWritten (IsAddress url.now) out.old out.new len.new }
@@ -185,8 +185,8 @@ pub extern "C" fn robots_open(
     status
 }
 
-/// Writes the result for one URL, as `robots_decide` does. The robot is borrowed, so any number of calls may read it at
-/// once.
+/// Writes the result for one URL, as `robots_decide` does. The robot is borrowed, so any
+/// number of calls may read it at once.
 #[unsafe(no_mangle)]
 pub unsafe extern "C" fn robots_query(
     alloc: Global,
@@ -224,7 +224,8 @@ pub unsafe extern "C" fn robots_query_many(
     query_many(alloc, &*(robot as *const Robot), urls, out)
 }
 
-/// Writes a robot's delay, as `robots_delay` does. The robot is borrowed, as in `robots_query`. It doesn't allocate.
+/// Writes a robot's delay, as `robots_delay` does. The robot is borrowed, as in
+/// `robots_query`. It doesn't allocate.
 #[unsafe(no_mangle)]
 pub unsafe extern "C" fn robots_query_delay(robot: *const u8, out: &mut u64) -> i32
     ghost g: { Lft × Share × RobotValue }
@@ -252,8 +253,8 @@ pub unsafe extern "C" fn robots_close(alloc: Global, robot: *mut u8)
     })
 }
 
-/// Reads a file for all crawlers, and writes a pointer to its site, which C owns from then on. It fails only if an
-/// allocation fails.
+/// Reads a file for all crawlers, and writes a pointer to its site, which C owns from then on. It
+/// fails only if an allocation fails.
 #[unsafe(no_mangle)]
 pub extern "C" fn robots_site_open(alloc: Global, file: &[u8], out: &mut *mut u8) -> i32
     ensures kept { result ≢ pos 0 → out.new ≡ out.old }
@@ -265,8 +266,8 @@ pub extern "C" fn robots_site_open(alloc: Global, file: &[u8], out: &mut *mut u8
     status
 }
 
-/// Writes a pointer to a crawler's robot, as `robots_open` does. The site is borrowed, so any number of calls may read
-/// it at once.
+/// Writes a pointer to a crawler's robot, as `robots_open` does. The site is borrowed, so any
+/// number of calls may read it at once.
 #[unsafe(no_mangle)]
 pub unsafe extern "C" fn robots_site_robot(
     alloc: Global,
@@ -313,8 +314,8 @@ pub unsafe extern "C" fn robots_site_matrix(
     matrix_by(alloc, &*(site as *const Site), agents, urls, out)
 }
 
-/// Writes a crawler's delay, as `robots_delay` does. The site is borrowed, as in `robots_site_robot`. It doesn't
-/// allocate.
+/// Writes a crawler's delay, as `robots_delay` does. The site is borrowed, as in
+/// `robots_site_robot`. It doesn't allocate.
 #[unsafe(no_mangle)]
 pub unsafe extern "C" fn robots_site_delay(site: *const u8, agent: &[u8], out: &mut u64) -> i32
     ghost g: { Lft × Share × List ℕ }
@@ -347,7 +348,8 @@ pub unsafe extern "C" fn robots_site_sitemaps(
     site::sitemaps(alloc, &*(site as *const Site), out, len)
 }
 
-/// Writes the names in user-agent lines, as `robots_agents` does. The site is borrowed, as in `robots_site_robot`.
+/// Writes the names in user-agent lines, as `robots_agents` does. The site is
+/// borrowed, as in `robots_site_robot`.
 #[unsafe(no_mangle)]
 pub unsafe extern "C" fn robots_site_agents(
     alloc: Global,
@@ -367,8 +369,9 @@ pub unsafe extern "C" fn robots_site_agents(
     site::agents(alloc, &*(site as *const Site), out, len)
 }
 
-/// Whether a user-agent line names the crawler: 1 if one does, 0 if none does, so that the crawler has the robot of
-/// `*`, and -1 if the crawler's name isn't UTF-8. The site is borrowed, as in `robots_site_robot`. It doesn't allocate.
+/// Whether a user-agent line names the crawler: 1 if one does, 0 if none does, so that the crawler has the
+/// robot of `*`, and -1 if the crawler's name isn't UTF-8. The site is borrowed, as in
+/// `robots_site_robot`. It doesn't allocate.
 #[unsafe(no_mangle)]
 pub unsafe extern "C" fn robots_site_is_named(site: *const u8, agent: &[u8]) -> i32
     ghost g: { Lft × Share × List ℕ }

@@ -86,8 +86,8 @@ fn shared_row(
     }
 }
 
-/// The rows of the crawlers in a string, one after another. All crawlers that the file doesn't name share the row of
-/// `*`.
+/// The rows of the crawlers in a string, one after another. All crawlers that the file
+/// doesn't name share the row of `*`.
 fn rows_of(
     alloc: Global,
     site: &Site,

@@ -58,8 +58,8 @@ fn robot(alloc: Global, site: &Site, agent: &[u8]) -> Result<Box<Robot>, Fault>
     }
 }
 
-/// Opens a crawler's robot for C. If that fails, the pointer is `at`, and the line of a rule that is too long is
-/// written.
+/// Opens a crawler's robot for C. If that fails, the pointer is `at`, and the line of a
+/// rule that is too long is written.
 pub(crate) fn robot_opened(
     alloc: Global,
     site: &Site,

@@ -78,7 +78,8 @@ pub(crate) fn address(alloc: Global, url: &[u8]) -> Result<String, Fault>
     }
 }
 
-/// Copies the string to the start of `out` if that is long enough, and writes the string's length in any case.
+/// Copies the string to the start of `out` if that is long enough, and writes
+/// the string's length in any case.
 pub(crate) fn put(text: &str, out: &mut [u8], len: &mut usize) -> i32
     ensures put { result ≡ pos 0 → IsPutIn out.old out.new text.now }
     ensures buffer_too_small { result ≡ status_of Fault.BufferTooSmall → length out.old < length text.now }

@@ -11,8 +11,8 @@ use crate::file::{robot_of, text_of};
 use std::alloc::{AllocError, Global};
 use texting_robots::{Decision, Error, Robot};
 
-/// A decision as a number: that of the deciding line, negative if the crawler may not fetch the URL, and 0 if no line
-/// decides.
+/// A decision as a number: that of the deciding line, negative if the crawler may not fetch
+/// the URL, and 0 if no line decides.
 fn number_of(decision: Decision) -> i64
     requires { IfSome decision.line (λ line. line < 2 ^ 63) }
     ensures { result ≡ number_of decision.allowed decision.line }

@@ -1,7 +1,7 @@
 -- Escaping byte by byte, while the bytes from `copied` on aren't copied yet.
-use Rattle.std.proofs.Common.{ℕ, zero, suc, ◌+◌, ◌-◌, ◌/◌, ◌%◌, ◌<◌, ◌≤◌, ◌==◌, true, false, List, [], ◌∷◌, ◌++◌}
-use Rattle.std.proofs.Common.{ap, append_assoc, arith, decimal, drop, flat_map, inl, inr, refl, get_or, length}
-use Rattle.std.proofs.Common.{length-drop, sym, take, ◌≡◌, ◌∙◌}
+use Rattle.std.proofs.Common.{ℕ, zero, suc, ◌+◌, ◌-◌, ◌/◌, ◌%◌, ◌<◌, ◌≤◌, ◌==◌, true, false, List, [], ◌∷◌}
+use Rattle.std.proofs.Common.{◌++◌, ap, append_assoc, arith, decimal, drop, flat_map, inl, inr, refl, get_or}
+use Rattle.std.proofs.Common.{length, length-drop, sym, take, ◌≡◌, ◌∙◌}
 use Rattle.std.specs.Fmt.{digit_glyph, digits, digits_onto}
 use Rattle.std.specs.List.{list_all}
 use Rattle.std.proofs.lemmas.Bool.{and_parts, cases_Bool}

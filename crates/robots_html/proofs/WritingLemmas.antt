@@ -59,7 +59,8 @@ written-each tree (x ∷ xs) =
 pub ruleset joined = (append_assoc, append-nil, written-followed, written-with_text)
 
 -- elements whose tags are constants
-three_pieces : (out start value end : List ℕ) → ((out ++ start) ++ value) ++ end ≡ out ++ (start ++ (value ++ end))
+three_pieces : (out start value end : List ℕ)
+    → ((out ++ start) ++ value) ++ end ≡ out ++ (start ++ (value ++ end))
 three_pieces out start value end =
     append_assoc (out ++ start) value end ∙ append_assoc out start (value ++ end)
 

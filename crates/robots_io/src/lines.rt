@@ -6,7 +6,8 @@ ghost use Rattle.robots_io.specs.Lines.{ended};
 use itoa::{Buffer, Integer};
 use std::alloc::AllocError;
 
-/// Appends a line that consists of two parts. If an allocation fails, the text may end with the start of the line.
+/// Appends a line that consists of two parts. If an allocation fails, the text may
+/// end with the start of the line.
 pub fn push_line(text: &mut String, front: &str, back: &str) -> Result<(), AllocError>
     ensures added { OnOk result (string_bytes text.new ≡ string_bytes text.old
         ++ ended ((front.now ++ back.now) ∷ [])) }

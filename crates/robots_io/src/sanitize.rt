@@ -36,7 +36,8 @@ fn is_printable_byte(byte: u8, has_lines: bool) -> bool
     ((byte >= b' ') & (byte <= b'~')) | (has_lines & (byte == b'\n'))
 }
 
-/// Whether all bytes are such characters. The loop doesn't stop at the first that isn't, since usually all are.
+/// Whether all bytes are such characters. The loop doesn't stop at the first
+/// that isn't, since usually all are.
 fn are_printable_bytes(bytes: &[u8], has_lines: bool) -> bool
     ensures { result ≡ list_all (is_printable_byte has_lines) bytes.now }
 {
@@ -47,8 +48,8 @@ fn are_printable_bytes(bytes: &[u8], has_lines: bool) -> bool
     all
 }
 
-/// Appends a character, or bytes that aren't valid UTF-8 if `char` is `None`: unchanged if it is printable, else
-/// escaped.
+/// Appends a character, or bytes that aren't valid UTF-8 if `char` is `None`: unchanged
+/// if it is printable, else escaped.
 fn push_chunk(
     text: &mut String,
     char: Option<char>,

@@ -58,8 +58,8 @@ fn read_chunk<R: Read>(reader: &mut R, left: &mut u32, chunk: &mut [u8]) -> Resu
 ///
 /// # Errors
 ///
-/// `ReadFault::Read` if a read fails or more than 1,048,576 are needed, and `ReadFault::Memory` if an allocation fails.
-/// An empty input needs no allocation.
+/// `ReadFault::Read` if a read fails or more than 1,048,576 are needed, and `ReadFault::Memory` if an
+/// allocation fails. An empty input needs no allocation.
 pub fn read_all<R: Read>(alloc: Global, reader: &mut R) -> Result<Vec<u8>, ReadFault>
     ensures all { IfOk result (λ all. IfSome (R.remaining reader.old) (λ input. all.items ≡ input)) }
     ensures memory { IsErrOf result ReadFault.Memory → IfSome (R.remaining reader.old) (λ input. input ≢ []) }
@@ -80,8 +80,8 @@ pub fn read_all<R: Read>(alloc: Global, reader: &mut R) -> Result<Vec<u8>, ReadF
 ///
 /// # Errors
 ///
-/// `WriteFault` if a write fails or accepts no bytes, or if the flush fails. Then a prefix of the bytes has been
-/// written, possibly all.
+/// `WriteFault` if a write fails or accepts no bytes, or if the flush fails. Then a prefix of the bytes
+/// has been written, possibly all.
 pub fn write_out<W: Write>(writer: &mut W, text: &[u8]) -> Result<(), WriteFault>
     ensures ok { OnOk result (Appends (W.contents writer.old) (W.contents writer.new) text.now) }
     ensures beginning { AppendsBeginning (W.contents writer.old) (W.contents writer.new) text.now }

@@ -21,8 +21,8 @@ pub fn decision_on(alloc: Global, robot: &Robot, url: &str) -> Result<Decision, 
     robot.decide(alloc, url)
 }
 
-/// The same decision by counted byte comparisons, within the bound that [`Robot::decision`] states. There is no
-/// prefilter, so this is usually slower for a file with many rules.
+/// The same decision by counted byte comparisons, within the bound that [`Robot::decision`] states. There is
+/// no prefilter, so this is usually slower for a file with many rules.
 ///
 /// # Errors
 ///
@@ -53,8 +53,8 @@ fn push_line_number(text: &mut String, line: Option<usize>) -> Result<(), AllocE
     }
 }
 
-/// Appends the part of a verdict's line that precedes the URL. If an allocation fails, the text may end with the start
-/// of that part.
+/// Appends the part of a verdict's line that precedes the URL. If an allocation fails, the text may
+/// end with the start of that part.
 pub fn push_decision(text: &mut String, decision: &Decision) -> Result<(), AllocError>
     ensures added { OnOk result (string_bytes text.new ≡ string_bytes text.old
         ++ verdict_front decision.now.allowed decision.now.line) }

@@ -15,11 +15,12 @@ ghost use Rattle.texting_robots.specs.Executable.{file_lines, rules_for, sitemap
 ghost use Rattle.texting_robots.specs.Robot.{IsFileRejected, IsRobotOfFile, RobotValue, file_limit};
 ghost use Rattle.texting_robots.specs.Trim.{IsTrimOf};
 
-/// Theorems about files that follow the extended grammar `IsFile`, used by site owners who write to the standard:
+/// Theorems about files that follow the extended grammar `IsFile`, used by site
+/// owners who write to the standard:
 ///
-/// - `read`: the rules that this library finds for a crawler are, in order, those that the grammar's groups have for
-///   it, each changed as `IsReadAs` states: the pattern is trimmed and escaped, and an empty Disallow becomes an Allow
-///   of `/`.
+/// - `read`: the rules that this library finds for a crawler are, in order, those that the grammar's groups
+///   have for it, each changed as `IsReadAs` states: the pattern is trimmed and escaped, and an empty
+///   Disallow becomes an Allow of `/`.
 /// - `once`: all ways to parse a file result in the same groups after merging.
 /// - `sitemaps`: the library's sitemaps are, in order, the addresses of the sitemap lines, trimmed.
 /// - `listed`: the grammar yields exactly one list of sitemap addresses for a file.
@@ -38,12 +39,12 @@ pub fn standard_files_are_read_so()
         → rfc.IsFile groups text }
 {}
 
-/// What `Robot::new` returns for a file whose first 512,000 bytes follow the extended grammar, used by crawlers that
-/// call it:
+/// What `Robot::new` returns for a file whose first 512,000 bytes follow the extended
+/// grammar, used by crawlers that call it:
 ///
-/// - `robot`: the robot has the rules, the delay and the sitemaps that the file states for the crawler, as `IsRobotAs`
-///   says. The rules are those of its groups. The delay is the first of its groups, or else the last one above all
-///   groups; in a file without groups it is the first one.
+/// - `robot`: the robot has the rules, the delay and the sitemaps that the file states for the crawler, as
+///   `IsRobotAs` says. The rules are those of its groups. The delay is the first of its groups, or else the
+///   last one above all groups; in a file without groups it is the first one.
 /// - `rejected`: if there is no robot because the file is rejected, one of these rules is too long.
 /// - `delays`: each file has such delays above its groups, maybe none.
 /// - `forms`: the same as `robot`, for a file whose lines have the forms of the grammar's lines.
@@ -65,8 +66,8 @@ pub fn standard_robots()
         × IsRobotAs agent (rfc.merged groups) numbers addresses robot }
 {}
 
-/// The two samples follow the grammars of `standard_files_are_read_so`, and between them they use every production. So
-/// there are files to which that theorem applies.
+/// The two samples follow the grammars of `standard_files_are_read_so`, and between them they use every
+/// production. So there are files to which that theorem applies.
 pub fn standard_samples_are_files()
     ensures bare { rfc.IsRobotstxt sample.bare_groups sample.bare_text }
     ensures wide { rfc.IsFile sample.wide_groups sample.wide_text }
@@ -77,11 +78,13 @@ pub fn standard_samples_are_files()
 /// The conditions on the lines of a text under which it follows the extended grammar, so that
 /// `standard_files_are_read_so` applies to it. Used by audits, which examine a file line by line:
 ///
-/// - `file`: a text follows the grammar if each of its lines has the form of one of the grammar's lines, each rule is
-///   below a user-agent line, and nothing else is in the text than lines and a byte order mark, as `AreForms` says.
+/// - `file`: a text follows the grammar if each of its lines has the form of one of the grammar's
+///   lines, each rule is below a user-agent line, and nothing else is in the text than lines and a byte
+///   order mark, as `AreForms` says.
 /// - `only`: no other text does.
 /// - `test`: a line has a form if its content passes the test `has_form`.
-/// - `exact`: only then, since the content of a line has no CR or LF. So the test is no stricter than the grammar.
+/// - `exact`: only then, since the content of a line has no CR or LF. So the test is
+///   no stricter than the grammar.
 pub fn line_forms_make_files()
     ensures file { (text : List ℕ) (forms : List Form) → AreForms forms text
         → (groups : List rfc.Group) × rfc.IsFile groups text }

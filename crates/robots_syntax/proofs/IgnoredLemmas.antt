@@ -6,8 +6,8 @@ use Rattle.std.specs.Option.{option_or}
 use Rattle.std.proofs.lemmas.Bool.{and_parts, cases_Bool, false≢true, not-true}
 use Rattle.texting_robots.specs.declared.parser.statement.Kind.TheVariants as kind
 use Rattle.robots_warnings.specs.FieldNames.{Row, directive_in, directives, first_that, first_word}
-use Rattle.robots_warnings.specs.FieldNames.{is_accepted, is_either, may_either_mean, meant_by, name_in, unsupported}
-use Rattle.robots_warnings.specs.FieldNames.{unsupported_in}
+use Rattle.robots_warnings.specs.FieldNames.{is_accepted, is_either, may_either_mean, meant_by, name_in}
+use Rattle.robots_warnings.specs.FieldNames.{unsupported, unsupported_in}
 use Rattle.robots_warnings.specs.Table.{is_not_about_syntax}
 use Rattle.robots_warnings.specs.declared.table.Cause.{Cause}
 use Rattle.robots_warnings.specs.declared.table.Cause.TheVariants as cause
@@ -44,9 +44,11 @@ meant : (body : List ℕ) → is_not_about_syntax (meant_by body) ≡ false
 meant body =
     let name = name_in body in
     let word = first_word body in
+    let one = unsupported_in name word in
+    let other = directive_in name word in
     delay_or (is_accepted kind.CrawlDelay name || is_accepted kind.CrawlDelay word)
-    (unwrap_or (option_or (unsupported_in name word) (directive_in name word)) cause.UnrecognizedLine) (either (unsupported_in name word) (directive_in name word)
-    (first_one (is_either name word) unsupported refl)
+    (unwrap_or (option_or one other) cause.UnrecognizedLine)
+    (either one other (first_one (is_either name word) unsupported refl)
     (first_one (may_either_mean name word) directives refl))
 
 pub not_quiet : (body : List ℕ) → is_quiet (meant_by body, true) ≡ true → ⊥

@@ -1,6 +1,6 @@
-//! What the silence of an audit means: a file without warnings about its syntax follows the grammar of RFC 9309,
-//! section 2.2, extended as `robots_rfc9309` says. Theorems about the specification, each the contract of an empty
-//! function.
+//! What the silence of an audit means: a file without warnings about its syntax follows the grammar of
+//! RFC 9309, section 2.2, extended as `robots_rfc9309` says. Theorems about the specification, each
+//! the contract of an empty function.
 #![tactic(auto)]
 
 ghost use Rattle.std.specs.Prelude.{◌≡◌, ℕ, List, [], take};
@@ -15,13 +15,15 @@ pub fn quiet_lines_have_forms()
         → HasForm (form_of line) body }
 {}
 
-/// What the silence of an audit of all groups means, used by owners who want a file with one meaning by the standard,
-/// and by `robots_audit`, whose reports say that a file has RFC 9309 syntax. All warnings count, whichever a report
-/// leaves out. A file with a warning about its syntax may follow the grammar too.
+/// What the silence of an audit of all groups means, used by owners who want a file with one meaning by the
+/// standard, and by `robots_audit`, whose reports say that a file has RFC 9309 syntax. All warnings count,
+/// whichever a report leaves out. A file with a warning about its syntax may follow the grammar too.
 ///
-/// - `syntax`: without a warning about the syntax of a file, what crawlers read of it follows the extended grammar.
+/// - `syntax`: without a warning about the syntax of a file, what crawlers read of it
+///   follows the extended grammar.
 /// - `none`: so it does if there is no warning at all.
-/// - `robot`: `Robot::new` then has the rules, the delay and the sitemaps that the file states for the crawler.
+/// - `robot`: `Robot::new` then has the rules, the delay and the sitemaps that
+///   the file states for the crawler.
 pub fn silence_means_syntax()
     ensures syntax { (named agents urls : List (List ℕ)) (file : List ℕ) → IsSilentOn named agents urls file
         → HasSyntax file }

@@ -1,8 +1,10 @@
 use Rattle.std.proofs.Common.{arith, length, ◌<◌}
 use Rattle.robots_html.proofs.TextLemmas.{kept, replaced}
 use Rattle.robots_html.proofs.write.push_escaped.Goals as goal
-use Rattle.robots_html.proofs.write.push_escaped.Goals.{in-Some+in_ok-extend_from_slice+in_ok-extend_from_slice-2}
-use Rattle.robots_html.proofs.write.push_escaped.Goals.{in_default}
+use Rattle.robots_html.proofs.write.push_escaped.Goals.{
+  in-Some+in_ok-extend_from_slice+in_ok-extend_from_slice-2,
+  in_default,
+}
 
 pub loop-at-preserved : goal.loop-at-preserved
 loop-at-preserved c =
