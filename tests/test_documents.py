@@ -143,7 +143,7 @@ def test_links_lead_to_files_and_headings(name):
 def test_documents_name_what_exists(name):
     """Paths in the repository or in a crate, theorems, and predicates of the specifications."""
     spans = set(re.findall(r"`([^`\n]+)`", DOCUMENTS[name]))
-    assert not [span for span in spans if re.fullmatch(r"(crates|docs|tests|examples|bindings)/[\w./-]+", span) and not (ROOT / span).exists()]
+    assert not [span for span in spans if re.fullmatch(r"(crates|docs|tests|examples|bindings|bench)/[\w./-]+", span) and not (ROOT / span).exists()]
     assert not [span for span in spans if re.fullmatch(r"(specs|src|proofs)/[\w./-]+", span) and not [*CRATES.glob(f"*/{span.rstrip('/')}")]]
     laws = (LIBRARY / "src/laws.rt").read_text()
     assert not [span for span in spans if span.startswith("laws::") and f"pub fn {span[6:]}()" not in laws]

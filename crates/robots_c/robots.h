@@ -56,11 +56,11 @@
 #include <stdint.h>
 #include <string.h>
 
-#define ROBOTS_VERSION_MAJOR 0
-#define ROBOTS_VERSION_MINOR 1
+#define ROBOTS_VERSION_MAJOR 1
+#define ROBOTS_VERSION_MINOR 0
 #define ROBOTS_VERSION_PATCH 0
 #define ROBOTS_VERSION (10000 * ROBOTS_VERSION_MAJOR + 100 * ROBOTS_VERSION_MINOR + ROBOTS_VERSION_PATCH)
-#define ROBOTS_VERSION_TEXT "0.1.0"
+#define ROBOTS_VERSION_TEXT "1.0.0"
 
 #define ROBOTS_FILE_LIMIT 512000 /* bytes of a file that count: no more need be fetched */
 

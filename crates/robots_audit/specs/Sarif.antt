@@ -202,7 +202,7 @@ abbrev pub tool_json : Data
 tool_json = with_one (codes "driver") (object
     (member (codes "name") (string (codes "robots_audit"))
     (member (codes "rules") (list_json rule_json all_rules)
-    (member (codes "version") (string (codes "0.1.0")) no_members))))
+    (member (codes "version") (string (codes "1.0.0")) no_members))))
 
 -- a run (section 3.14)
 abbrev pub run_json : List ℕ → List FindingValue → Data

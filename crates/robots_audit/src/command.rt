@@ -17,7 +17,10 @@ use robots_warnings::table::is_name;
 use std::alloc::{AllocError, Global};
 
 /// The version of the program.
-pub(crate) const VERSION: &str = "0.1.0";
+pub(crate) const VERSION: &str = "1.0.0";
+
+/// What `--version` prints after the name of the program: its version, and the toolchain that proves it.
+const VERSION_AND_TOOLCHAIN: &str = "1.0.0 (proved with rattle-kit-13f logic dac8208d650f15bf)";
 
 /// How a report is written.
 #[derive(Clone, Copy)]
@@ -257,7 +260,7 @@ fn with_lists<'a>(alloc: Global, called: Command<'a>) -> Result<Command<'a>, All
 /// The program's options and arguments.
 pub fn command<'a>(alloc: Global) -> Result<Command<'a>, AllocError> {
     let called = Command::new(alloc, "robots_audit")
-        .version(VERSION)
+        .version(VERSION_AND_TOOLCHAIN)
         .about("Explains how a crawler interprets a robots.txt file")
         .override_usage("robots_audit [-f FILE] [OPTIONS] AGENT [URL]..");
     let called = with_list(alloc, with_words(alloc, called)?)?;

@@ -43,9 +43,9 @@ use urls::{decide, query, query_many};
 /// The library's version as a number: 10,000 × major + 100 × minor + patch.
 #[unsafe(no_mangle)]
 pub extern "C" fn robots_version() -> u32
-    ensures { result ≡ 100 }
+    ensures { result ≡ 10000 }
 {
-    100
+    10_000
 }
 
 /// Writes a number for each URL: 0 if the crawler may fetch it and no line decides, n if line n of the file

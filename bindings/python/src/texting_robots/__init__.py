@@ -17,4 +17,4 @@
 from ._robots import FILE_LIMIT, AgentError, Matrix, OverlongRule, Robots, Verdict, product_token, robots_url
 
 __all__ = ["FILE_LIMIT", "AgentError", "Matrix", "OverlongRule", "Robots", "Verdict", "product_token", "robots_url"]
-__version__ = "0.1.0"
+__version__ = "1.0.0"

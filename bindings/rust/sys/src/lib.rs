@@ -4,7 +4,7 @@
 use std::marker::{PhantomData, PhantomPinned};
 use std::os::raw::{c_char, c_void};
 
-pub const ROBOTS_VERSION: u32 = 100;
+pub const ROBOTS_VERSION: u32 = 10_000;
 pub const ROBOTS_FILE_LIMIT: usize = 512_000;
 
 pub const ROBOTS_OK: i32 = 0;

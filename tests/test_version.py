@@ -1,0 +1,57 @@
+"""One version: each place that names it has the one in the file VERSION. One toolchain: each place that names it has that of `rt version`."""
+
+import re
+import subprocess
+
+import pytest
+from support import ROOT, run
+
+VERSION = (ROOT / "VERSION").read_text().removesuffix("\n")
+MAJOR, MINOR, PATCH = VERSION.split(".")
+NUMBER = str(10_000 * int(MAJOR) + 100 * int(MINOR) + int(PATCH))
+QUOTED = r'"(\d+\.\d+\.\d+)'
+
+# Where the version is, as its first group, and how it is written there if it is a number or a part of it.
+PLACES = [
+    ("CHANGELOG.md", r"\A(?s:.*?)\n## (\d\S*) - \d{4}-\d\d-\d\d\n"),
+    ("README.md", r"\bversion (\d\S*\d)\b"),
+    ("bindings/python/README.md", r"\bversion (\d\S*\d)\b"),
+    ("bindings/rust/README.md", r"\bversion (\d\S*\d)\b"),
+    ("bindings/c/exports", r"^ROBOTS_C_(\d+)", MAJOR),
+    ("bindings/python/pyproject.toml", rf"^version = {QUOTED}"),
+    ("bindings/python/src/texting_robots/__init__.py", rf"^__version__ = {QUOTED}"),
+    ("bindings/rust/Cargo.toml", rf"^(?:|texting_robots_c-sys = .*)version = {QUOTED}"),
+    ("bindings/rust/sys/Cargo.toml", rf"^version = {QUOTED}"),
+    ("bindings/rust/sys/src/lib.rs", r"ROBOTS_VERSION: u32 = ([\d_]+)", NUMBER),
+    ("crates/robots_audit/specs/Sarif.antt", rf'codes "version"\) \(string \(codes (?!"2\.1\.0"){QUOTED}'),
+    ("crates/robots_audit/src/command.rt", rf"VERSION\w*: &str = {QUOTED}"),
+    ("crates/robots_c/robots.h", r"ROBOTS_VERSION_MAJOR (\d+)", MAJOR),
+    ("crates/robots_c/robots.h", r"ROBOTS_VERSION_MINOR (\d+)", MINOR),
+    ("crates/robots_c/robots.h", r"ROBOTS_VERSION_PATCH (\d+)", PATCH),
+    ("crates/robots_c/robots.h", rf"ROBOTS_VERSION_TEXT {QUOTED}"),
+    ("crates/robots_c/src/lib.rt", r"fn robots_version\(\) -> u32\n    ensures \{ result ≡ (\d+) \}\n\{\n    ([\d_]+)\n\}", NUMBER),
+]
+
+
+def toolchain():
+    return subprocess.run(["rt", "version"], capture_output=True, text=True).stdout.splitlines()[0]
+
+
+def test_version_has_three_numbers():
+    assert re.fullmatch(r"\d+\.\d+\.\d+", VERSION)
+
+
+@pytest.mark.parametrize("path, pattern, wanted", [(*it, VERSION)[:3] for it in PLACES], ids=[f"{it[0]}-{number}" for number, it in enumerate(PLACES)])
+def test_place_has_the_version(path, pattern, wanted):
+    found = [text.replace("_", "") for match in re.finditer(pattern, (ROOT / path).read_text(), re.M) for text in match.groups()]
+    assert found and set(found) == {wanted}
+
+
+def test_program_prints_the_version_and_the_toolchain():
+    assert run("robots_audit", ["--version"]).out == f"robots_audit {VERSION} (proved with {toolchain()})\n"
+
+
+@pytest.mark.parametrize("path", ["CHANGELOG.md", "README.md", "docs/PROOFS.md", "crates/robots_audit/src/command.rt"])
+def test_place_names_the_toolchain(path):
+    """And no other one."""
+    assert set(re.findall(r"rattle-kit-\w+ logic [0-9a-f]+", (ROOT / path).read_text())) == {toolchain()}
