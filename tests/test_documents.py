@@ -152,6 +152,24 @@ def test_documents_name_what_exists(name):
 
 
 @pytest.mark.parametrize("name", DOCUMENTS)
+def test_documents_name_functions_and_lemmas_that_exist(name):
+    """Names with an underscore: functions, lemmas, clauses, members of JSON, and crates, also those of the toolchain."""
+    spans = set(re.findall(r"`([a-z0-9]+(?:_[a-z0-9]+)+)(?:\(\))?`", DOCUMENTS[name]))
+    crates = set(re.findall(r"\w+", (ROOT / "crates.txt").read_text() + section(PROOFS, "What is assumed")))
+    text = "".join(path.read_text() for kind in ("src/**/*.rt", "specs/**/*.antt", "proofs/**/*.antt", "robots.h") for path in CRATES.glob(f"*/{kind}"))
+    assert not [span for span in spans - crates if not re.search(rf'\b(?:fn|mod|ensures|int32_t) {span}\b|\b{span} :|"{span}"', text)]
+
+
+@pytest.mark.parametrize("name", DOCUMENTS)
+def test_documents_name_warnings_and_options_that_exist(name):
+    """Names with a hyphen are warnings, field names or Debian's packages. The options in CONTRIBUTING are those of pytest."""
+    names = set(re.findall(r"`(?!python3-)([a-z0-9]+(?:-[a-z0-9]+)+)`", DOCUMENTS[name]))
+    assert names <= {*WARNINGS, "crawl-delay", "site-map", "user-agent"}
+    options = set(re.findall(r"`(?:robots_audit )?(--[a-z-]+)", DOCUMENTS[name])) - {"--lf"}
+    assert options <= set(re.findall(r"`(--[a-z-]+)", "".join(row[0] for row in tables(PROGRAMS))))
+
+
+@pytest.mark.parametrize("name", DOCUMENTS)
 def test_prose_has_at_most_100_columns(name):
     assert not [line for line in prose(DOCUMENTS[name]) if len(line) > 100]
 
