@@ -144,7 +144,7 @@ def table(rows):
     columns = {"first result": [row.first for row in rows], "later result": [row.later for row in rows]}
     parts = [f"of the {name} {shown(statistics.median(its))} ({shown(min(its))} to {shown(max(its))})" for name, its in columns.items()]
     slower = [row.case.name for row in rows if min(row.first, row.later) < 1]
-    return [*lines, "", f"Median and range {', '.join(parts)}.", f"Not faster: {', '.join(slower) or 'none'}."]
+    return [*lines, "", f"Median and range {', '.join(parts)}.", "", f"Not faster: {', '.join(slower) or 'none'}."]
 
 
 def machine():

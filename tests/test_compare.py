@@ -151,8 +151,8 @@ def test_untrusted_text(tmp_path):
 
 def test_no_command_of_a_workflow(tmp_path):
     """GitHub takes `##[` for a command, anywhere in a line."""
-    lines = "crawler a%23%23[b: + Disallow: / (line 1)\ncrawler a%23%23[b /%23%23[error]x: allow -> deny 1\ncrawler a%23%23[b /#[: allow -> deny 1\n"
-    assert outcome(compare(tmp_path, b"", b"Disallow: /", "a##[b", "/##[error]x", "/#[")) == (1, lines, "")
+    lines = "crawler Ferris: + Disallow: / (line 1)\ncrawler Ferris /%23%23[error]x: allow -> deny 1\ncrawler Ferris /#[: allow -> deny 1\n"
+    assert outcome(compare(tmp_path, b"", b"Disallow: /", "Ferris", "/##[error]x", "/#[")) == (1, lines, "")
 
 
 def test_a_name_that_looks_like_a_command(tmp_path):
@@ -180,13 +180,11 @@ def test_older_file_from_standard_input(tmp_path):
     assert outcome(run("robots_audit", ["--compare", "-", "-f", "-", "Ferris"], OLD)) == (2, "", message)
 
 
-@pytest.mark.parametrize("words", [[], ["", "/a"], ["--agent="], ["--agent=Ferris", "--agent="]], ids=["none", "empty", "empty option", "one is empty"])
-def test_agent_is_missing(tmp_path, words):
-    assert outcome(compare(tmp_path, OLD, NEW, *words)) == (2, "", MISSING)
-    assert outcome(run("robots_audit", words, OLD)) == (2, "", MISSING)
+def test_agent_is_missing(tmp_path):
+    assert outcome(compare(tmp_path, OLD, NEW)) == (2, "", MISSING)
 
 
-@pytest.mark.parametrize("name, shown", [("Googlebot/2.1", "Googlebot/2.1"), ("Googlebot.2", "Googlebot.2"), ("Googlebot*", "Googlebot*"), (" Bingbot", " Bingbot"), ("a\x1bb", "a%1Bb"), ("Caf\u00e9", "Caf\u00e9")])
+@pytest.mark.parametrize("name, shown", [("", ""), ("Googlebot/2.1", "Googlebot/2.1"), ("Googlebot.2", "Googlebot.2"), ("Googlebot*", "Googlebot*"), (" Bingbot", " Bingbot"), ("a\x1bb", "a%1Bb"), ("Caf\u00e9", "Caf\u00e9")])
 def test_name_that_no_crawler_has(tmp_path, name, shown):
     for words in ([name], ["--agent=Ferris", f"--agent={name}"]):
         assert outcome(compare(tmp_path, OLD, OLD, *words)) == (2, "", f"robots_audit: {shown}: {AGENT}\n")

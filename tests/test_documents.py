@@ -162,10 +162,10 @@ def test_documents_name_functions_and_lemmas_that_exist(name):
 
 @pytest.mark.parametrize("name", DOCUMENTS)
 def test_documents_name_warnings_and_options_that_exist(name):
-    """Names with a hyphen are warnings, field names or Debian's packages. The options in CONTRIBUTING are those of pytest."""
+    """Names with a hyphen are warnings, field names or Debian's packages. Some options are those of pytest and of bench/compare.py."""
     names = set(re.findall(r"`(?!python3-)([a-z0-9]+(?:-[a-z0-9]+)+)`", DOCUMENTS[name]))
     assert names <= {*WARNINGS, "crawl-delay", "site-map", "user-agent"}
-    options = set(re.findall(r"`(?:robots_audit )?(--[a-z-]+)", DOCUMENTS[name])) - {"--lf"}
+    options = set(re.findall(r"`(?:robots_audit )?(--[a-z-]+)", DOCUMENTS[name])) - {"--lf", "--google", "--results"}
     assert options <= set(re.findall(r"`(--[a-z-]+)", "".join(row[0] for row in tables(PROGRAMS))))
 
 
@@ -282,7 +282,7 @@ def test_warnings_that_are_not_about_syntax_are_listed():
 LONG_RULE = b"Disallow: /b\nAllow: $" + b"a" * 4096
 ERRORS = {
     "unknown option": {"args": ["--bogus"]},
-    "AGENT is missing or empty": {},
+    "AGENT is missing": {},
     "an argument isn't UTF-8": {"args": [b"\xff"]},
     "standard input would be read twice": {"args": ["--urls", "-", "B"]},
     "no warning has this name": {"args": ["--ignore", "NAME", "B"]},

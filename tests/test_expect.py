@@ -33,7 +33,7 @@ FAILING = {
     "a group of its own": (b"allow GPTBot /tea", "1: GPTBot must be allowed /tea, but line 7 denies it"),
     "a rejected file": (b"deny Longbot /", "1: Longbot must be denied /, but the file is rejected for Longbot: line 10"),
     "a control character": (b"allow GPTBot /\x07", "1: GPTBot must be allowed /%07, but line 7 denies it"),
-    "the start of a command of a workflow": (b"allow GPTBot /a##[error]x", "1: GPTBot must be allowed /a%23%23[error]x, but line 7 denies it"),
+    "the start of a command of a workflow": (b"allow GPTBot https://e.com/a##[error]x", "1: GPTBot must be allowed https://e.com/a%23%23[error]x, but line 7 denies it"),
 }
 
 GOOGLE = b"""User-agent: *

@@ -23,6 +23,7 @@ PLACES = [
     ("bindings/rust/Cargo.toml", rf"^(?:|texting_robots_c-sys = .*)version = {QUOTED}"),
     ("bindings/rust/sys/Cargo.toml", rf"^version = {QUOTED}"),
     ("bindings/rust/sys/src/lib.rs", r"ROBOTS_VERSION: u32 = ([\d_]+)", NUMBER),
+    ("crates/robots_audit/proofs/SarifLemmas.antt", rf'codes (?!"2\.1\.0"){QUOTED}'),
     ("crates/robots_audit/specs/Sarif.antt", rf'codes "version"\) \(string \(codes (?!"2\.1\.0"){QUOTED}'),
     ("crates/robots_audit/src/command.rt", rf"VERSION\w*: &str = {QUOTED}"),
     ("crates/robots_c/robots.h", r"ROBOTS_VERSION_MAJOR (\d+)", MAJOR),

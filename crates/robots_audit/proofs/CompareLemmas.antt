@@ -333,3 +333,14 @@ pub compared_printable : (given : List (List ℕ)) (urls : List (List ℕ)) (old
 compared_printable given urls older ends (Ok outcome) is =
     let (report, made, written, quiet) = is.ok in subst IsPrintable (sym quiet.silent) (nil_printable true)
 compared_printable given urls older ends (Err fault) is = may_fail_printable fault is.fault
+
+-- a line whose first part was there already
+pub line_continued : (old subject rest : List ℕ)
+    → (old ++ subject) ++ ended ((rest ++ []) ∷ []) ≡ old ++ ended ((subject ++ rest) ∷ [])
+line_continued old subject rest =
+    rw (
+      append-nil rest,
+      append-nil (rest ++ lf ∷ []),
+      append-nil ((subject ++ rest) ++ lf ∷ []),
+      append_assoc subject rest (lf ∷ []),
+    ) (append_assoc old subject (rest ++ lf ∷ []))

@@ -24,7 +24,7 @@ use Rattle.robots_audit.specs.Compare.{is_same_group}
 use Rattle.robots_audit.specs.Compare.{is_unchanged, kind_word, line_note, rejection, rejections}
 use Rattle.robots_audit.specs.Compare.{report_lines}
 use Rattle.robots_audit.specs.Compare.{rule_changes, rule_line, rule_text, same_rules, subject}
-use Rattle.robots_audit.specs.Compare.{unchanged_lines, unchanged_text}
+use Rattle.robots_audit.specs.Compare.{several_subject, unchanged_lines, unchanged_text}
 use Rattle.robots_audit.specs.Compare.{url_changes, url_line, verdict_changes}
 use Rattle.robots_audit.specs.PlainLine.{IsPlainLine, begins_plainly}
 use Rattle.robots_audit.specs.Report.{rejected_lines, rejected_text}
@@ -252,8 +252,7 @@ agent_lines_plain compared =
     (same_plain compared)))
 
 -- what is said of several crawlers
-several_plain : (all : Bool)
-    → IsPlainLine ((if all then codes "all compared crawlers" else codes "other compared crawlers") ++ unchanged_text)
+several_plain : (all : Bool) → IsPlainLine (several_subject all ++ unchanged_text)
 several_plain true = fixed_plain (codes "all compared crawlers" ++ unchanged_text) refl refl refl
 several_plain false = fixed_plain (codes "other compared crawlers" ++ unchanged_text) refl refl refl
 

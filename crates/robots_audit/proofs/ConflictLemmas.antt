@@ -91,7 +91,7 @@ star_or_same pattern = elim (cases_Bool (bytes_eq pattern (codes "*"))) [
 ]
 
 -- the second pattern matches what the first one matches, and is as long
-Wins : (pattern other text : List ℕ) → Type 0
+pub Wins : (pattern other text : List ℕ) → Type 0
 Wins pattern other text = (Matches pattern text → Matches other text) × (length pattern ≡ length other)
 
 pub same_wins : (pattern other text : List ℕ) → other ≡ pattern → Wins pattern other text

@@ -1,6 +1,6 @@
 -- The errors for a file of entries, and for the name of a crawler.
 use Rattle.std.proofs.Common.{◌≡◌, ◌≢◌, ℕ, List, [], ◌++◌, String, codes, inl, inr, refl, subst, sym, string_bytes}
-use Rattle.std.proofs.Common.{Result, Ok, Err, decimal}
+use Rattle.std.proofs.Common.{Result, decimal, true}
 use Rattle.std.specs.Global.{Global}
 use Rattle.robots_io.specs.Sanitize.{IsPrintable, sanitized}
 use Rattle.robots_io.proofs.SanitizeLemmas.{append_printable, ascii_printable, decimal_printable, nil_printable}
@@ -16,7 +16,7 @@ use Rattle.robots_audit.specs.declared.fault.Flaw.TheVariants as flaw
 use Rattle.robots_audit.specs.Crawler.{IsNoCrawler}
 use Rattle.robots_audit.specs.Expect.{MalformedLine}
 use Rattle.robots_audit.specs.Expectations.{IsEntryFault, place_text}
-use Rattle.robots_audit.specs.Fault.{entries_word, fault_text, flaw_text}
+use Rattle.robots_audit.specs.Fault.{fault_text, flaw_text, none_text}
 use Rattle.robots_audit.proofs.MessageLemmas.{memory_printable, named_printable}
 
 -- it isn't a failed write
@@ -40,10 +40,9 @@ flaw_printable flaw.Agent = ascii_printable true (flaw_text flaw.Agent) refl
 flaw_printable flaw.Url = ascii_printable true (flaw_text flaw.Url) refl
 flaw_printable flaw.Path = ascii_printable true (flaw_text flaw.Path) refl
 
-none_printable : (entry : Entry) → IsPrintable (codes ": there are no " ++ entries_word entry)
-none_printable entry.Expectation =
-    ascii_printable true (codes ": there are no " ++ entries_word entry.Expectation) refl
-none_printable entry.Url = ascii_printable true (codes ": there are no " ++ entries_word entry.Url) refl
+none_printable : (entry : Entry) → IsPrintable (none_text entry)
+none_printable entry.Expectation = ascii_printable true (none_text entry.Expectation) refl
+none_printable entry.Url = ascii_printable true (none_text entry.Url) refl
 
 -- the message for a flaw at a place
 flawed_printable : (place : String Global) (flaw : Flaw) (text : List ℕ) → string_bytes place ≡ text
@@ -59,8 +58,9 @@ pub entry_printable : {X : Type 0} (name : List ℕ) (entry : Entry) (found : Re
 entry_printable name entry found (Malformed place flaw) (number, specified, is) =
     flawed_printable place flaw (place_text name number) is (place_printable name number)
 entry_printable name entry found (Empty shown other) (specified, same, is) =
-    named_printable (string_bytes shown) (codes ": there are no " ++ entries_word other) []
-    (subst IsPrintable (sym is) (sanitized_printable name)) (none_printable other) (nil_printable true)
+    named_printable (string_bytes shown ++ codes ": ") (none_text other) []
+    (append_printable true (string_bytes shown) (codes ": ") (subst IsPrintable (sym is) (sanitized_printable name))
+    (ascii_printable true (codes ": ") refl)) (none_printable other) (nil_printable true)
 entry_printable name entry found (Words shown) is = cc
 entry_printable name entry found Usage is = cc
 entry_printable name entry found NotUtf8 is = cc

@@ -5,7 +5,6 @@ use Rattle.std.proofs.Common.{decimal, filter, length, map, refl, subst, sym}
 use Rattle.std.specs.Prelude.{if◌then◌else◌}
 use Rattle.std.specs.List.{AllByRecursion as Each}
 use Rattle.texting_robots.specs.Callers.{prepared, robots_file}
-use Rattle.robots_io.specs.Lines.{ended}
 use Rattle.robots_io.specs.Sanitize.{IsPrintable, sanitized}
 use Rattle.robots_io.proofs.CommandLemmas.{IsFront, IsMiddle, after_front, before_middle, decimal_middle}
 use Rattle.robots_io.proofs.CommandLemmas.{front_append, front_text, middle_text, sanitized_quiet}
@@ -19,7 +18,7 @@ use Rattle.robots_audit.specs.Expect.{ExpectationValue}
 use Rattle.robots_audit.specs.Expectations.{CheckedValue, IsReport, decision_text, demand_text, demand_word}
 use Rattle.robots_audit.specs.Expectations.{failure_front, failure_line, fails, fails_here, finding_text}
 use Rattle.robots_audit.specs.Expectations.{google_text, place_text, reason_text}
-use Rattle.robots_audit.specs.Expectations.{holding_text, result_lines, unmatched_text}
+use Rattle.robots_audit.specs.Expectations.{holding_text, result_lines}
 use Rattle.robots_audit.specs.Report.{rejected_front}
 use Rattle.robots_audit.proofs.PrintableLemmas.{each_map, either_printable}
 use Rattle.robots_audit.proofs.QuietLemmas.{IsQuiet, either, rejected_front_is}
@@ -135,6 +134,26 @@ finding_quiet agent url (Rejected line) =
     (rejected_front_is agent line).quiet
 finding_quiet agent url (Decided decision) = decision_quiet url decision.allowed decision.line
 
+google_quiet : (agent url : List ℕ) (google : AtGoogle) → IsQuiet (google_text agent url google)
+google_quiet agent url Same = refl
+google_quiet agent url (Googlebot finding) =
+    let to = codes "Google applies the group Googlebot to " in
+    let named = after_front to (sanitized agent) (front_text to refl) (sanitized_quiet false agent) in
+    after_front (to ++ sanitized agent ++ codes ", and ") (finding_text (codes "Googlebot") url finding)
+    (before_middle (to ++ sanitized agent) (codes ", and ") named (middle_text (codes ", and ") refl))
+    (finding_quiet (codes "Googlebot") url finding)
+google_quiet agent url Nobody =
+    let to = codes "Google doesn't apply the group * to " in
+    after_front to (sanitized agent) (front_text to refl) (sanitized_quiet false agent)
+
+reason_quiet : (checked : CheckedValue) → IsQuiet (reason_text checked)
+reason_quiet checked =
+    let agent = checked.expectation.agent in
+    let url = checked.expectation.url in
+    either IsQuiet (fails_here checked) (finding_text agent url checked.finding)
+    (google_text agent url checked.google) (finding_quiet agent url checked.finding)
+    (google_quiet agent url checked.google)
+
 failure_quiet : (name : List ℕ) (checked : CheckedValue) → IsQuiet (failure_line name checked)
 failure_quiet name checked =
     let expectation = checked.expectation in
@@ -143,10 +162,9 @@ failure_quiet name checked =
     let front = after_front (place ++ codes ": ") demand
     (front_append place (codes ": ") (place_front name expectation.number) (front_text (codes ": ") refl))
     (demand_quiet expectation) in
-    after_front (place ++ codes ": " ++ demand ++ codes ", but ")
-    (finding_text expectation.agent expectation.url checked.finding)
+    after_front (place ++ codes ": " ++ demand ++ codes ", but ") (reason_text checked)
     (before_middle (place ++ codes ": " ++ demand) (codes ", but ") front (middle_text (codes ", but ") refl))
-    (finding_quiet expectation.agent expectation.url checked.finding)
+    (reason_quiet checked)
 
 holding_quiet : (number : ℕ) → IsQuiet (holding_text number)
 unfolding holding_text

@@ -1,11 +1,10 @@
 -- How expectations are checked, and the results of a run.
 use Rattle.std.proofs.Common.{◌≡◌, ◌≢◌, ◌∙◌, ℕ, ◌+◌, ◌<◌, ◌==◌, true, false, List, [], ◌∷◌, ◌++◌, IfSome}
-use Rattle.std.proofs.Common.{Result, Ok, Err, IsErrOf, ap, append-nil, arith, codes, decimal, filter, inl, inr}
+use Rattle.std.proofs.Common.{Result, Ok, Err, IsErrOf, ap, append-nil, arith, filter, inl, inr}
 use Rattle.std.proofs.Common.{length, map, refl}
 use Rattle.std.specs.Prelude.{if◌then◌else◌}
 use Rattle.std.proofs.lemmas.Bool.{cases_Bool}
-use Rattle.std.proofs.Common.{String, slice_index_or, string_bytes, subst, sym, take}
-use Rattle.std.specs.Global.{Global}
+use Rattle.std.proofs.Common.{slice_index_or, string_bytes, subst, sym, take}
 use Rattle.std.specs.List.{AllByRecursion as Each}
 use Rattle.std.specs.Io.KnownBytes.{Keeps}
 use Rattle.std.proofs.lemmas.Bool.Decides.{nat_tests}

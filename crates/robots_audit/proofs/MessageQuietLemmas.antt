@@ -18,7 +18,7 @@ use Rattle.robots_warnings.specs.declared.warning.Detail.TheVariants.{Line, Rule
 use Rattle.robots_warnings.specs.Level.{level_word}
 use Rattle.robots_warnings.specs.Table.{level_of, name_of, number_of, text_of}
 use Rattle.robots_warnings.specs.Warnings.{WarningValue, about_text, detail_text, name_text, place_text}
-use Rattle.robots_warnings.specs.Warnings.{warning_line, warning_text}
+use Rattle.robots_warnings.specs.Warnings.{about_word, is_about_crawler, warning_line, warning_text}
 use Rattle.robots_audit.specs.Color.{shown_word}
 use Rattle.robots_audit.specs.Listed.{listed, more, more_of, unlisted}
 use Rattle.robots_audit.specs.Report.{listed_lines, more_front, more_line, shown_warning, warning_lines}
@@ -68,10 +68,17 @@ word_front true Error = front_text (shown_word true Error) refl
 word_front true Warning = front_text (shown_word true Warning) refl
 word_front true Note = front_text (shown_word true Note) refl
 
-about_front : (about : Option (List ℕ)) → IsFront (about_text about)
-about_front None = front_nil
-about_front (Some url) =
-    between (codes "URL '") url (codes "': ") (front_text (codes "URL '") refl) (middle_text (codes "': ") refl)
+named_front : (is_crawler : Bool) (name : List ℕ) → IsFront (about_word is_crawler ++ sanitized name ++ codes "': ")
+named_front true name =
+    let before = codes "crawler '" in
+    between before name (codes "': ") (front_text before refl) (middle_text (codes "': ") refl)
+named_front false name =
+    let before = codes "URL '" in
+    between before name (codes "': ") (front_text before refl) (middle_text (codes "': ") refl)
+
+about_front : (cause : Cause) (about : Option (List ℕ)) → IsFront (about_text cause about)
+about_front cause None = front_nil
+about_front cause (Some name) = named_front (is_about_crawler cause) name
 
 -- a number between two literals
 numbered : (before : List ℕ) (number : ℕ) (after : List ℕ) → IsMiddle before → IsFront after
@@ -93,8 +100,8 @@ with_detail text (Some (Line number)) is =
 
 pub warning_text_quiet : (warning : WarningValue) → IsQuiet (warning_text warning)
 warning_text_quiet warning =
-    after_front (about_text warning.about) (text_of warning.cause ++ detail_text warning.detail)
-    (about_front warning.about) (with_detail (text_of warning.cause) warning.detail (text_quiet warning.cause))
+    after_front (about_text warning.cause warning.about) (text_of warning.cause ++ detail_text warning.detail)
+    (about_front warning.cause warning.about) (with_detail (text_of warning.cause) warning.detail (text_quiet warning.cause))
 
 name_middle : (cause : Cause) → IsMiddle (name_text cause)
 name_middle cause =

@@ -30,7 +30,8 @@ use Rattle.robots_audit.specs.Page.{delay_name, file_caption, file_content, file
 use Rattle.robots_audit.specs.Page.{group_part, is_at, line_columns, line_link, line_name, line_names}
 use Rattle.robots_audit.specs.Page.{bodies, level_name, line_body, line_part, line_row, meta, number_cell, page}
 use Rattle.robots_audit.specs.Page.{page_body}
-use Rattle.robots_audit.specs.Page.{page_content, page_head, page_style, rejection, rest_note}
+use Rattle.robots_audit.specs.Page.{page_content, page_head, page_style, rejection, rest_count, rest_note}
+use Rattle.robots_audit.specs.Page.{later_warnings, rest_part}
 use Rattle.robots_audit.specs.Page.{rest_words, row_name}
 use Rattle.robots_audit.specs.Page.{simple, sitemap_entry, sitemap_item, summary, syntax_entry, title_text}
 use Rattle.robots_audit.specs.Page.{url_body, url_column, url_columns, url_part, url_row, url_table}
@@ -271,6 +272,10 @@ rest_note_is count = elim (cases_Bool (count == 0)) [
   | inr more ↦ rw more (simple_is (codes "p") (rest_words count) refl refl (rest_printable count))
 ]
 
+rest_part_is : (rows : ℕ) (warnings : List WarningValue) → IsPart (rest_part rows warnings)
+unfolding rest_part
+rest_part_is rows warnings = rest_note_is (rest_count rows (later_warnings warnings))
+
 warning_list_is : (rows : ℕ) (warnings : List WarningValue) → IsPart (warning_list rows warnings)
 unfolding warning_list
 warning_list_is rows warnings =
@@ -281,7 +286,7 @@ warning_list_is rows warnings =
       followed,
       decimal_printable true,
       warning_items_is,
-      rest_note_is,
+      rest_part_is,
     )
 
 warning_entry_is : (rows : ℕ) (warnings : List WarningValue) → IsPart (warning_entry rows warnings)

@@ -1,6 +1,6 @@
 -- Rows of the table of lines, whose constant parts are appended at once.
 use Rattle.std.proofs.Common.{◌≡◌, ◌∙◌, ℕ, Bool, true, false, List, [], ◌∷◌, ◌++◌, ap, append_assoc, codes}
-use Rattle.std.proofs.Common.{Option, None, Result, Ok, Err, ◌-◌, decimal, drop, length, map, refl, sym}
+use Rattle.std.proofs.Common.{None, Result, Ok, Err, ◌-◌, decimal, drop, length, map, refl, sym}
 use Rattle.std.specs.Prelude.{if◌then◌else◌}
 use Rattle.std.specs.Result.{OnOk, is_ok}
 use Rattle.std.proofs.lemmas.List.{append-nil, drop-map, length-map}

@@ -252,7 +252,7 @@ tool_has = (
     (
       refl,
       each_has rule_json all_rules (rules_have all_rules all_rules_printable),
-      (refl, ascii_printable true (codes "0.1.0") refl, tt),
+      (refl, ascii_printable true (codes "1.0.0") refl, tt),
     ),
   ),
   tt,

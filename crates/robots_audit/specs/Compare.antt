@@ -212,11 +212,15 @@ agent_lines compared =
     if is_rejected compared then rejections compared
     else if is_unchanged compared then [] else differences compared ++ same_rules compared
 
+-- several crawlers, which are all that were compared, or the others
+abbrev pub several_subject : (all : Bool) → List ℕ
+several_subject all = if all then codes "all compared crawlers" else codes "other compared crawlers"
+
 -- of these crawlers, which are all that were compared, those on which nothing else is reported; `all` is whether
 -- they are all
 abbrev pub unchanged_subject : List (List ℕ) → Bool → List ℕ
 unchanged_subject (agent ∷ []) all = crawler_text agent
-unchanged_subject agents all = if all then codes "all compared crawlers" else codes "other compared crawlers"
+unchanged_subject agents all = several_subject all
 
 abbrev pub unchanged_text : List ℕ
 unchanged_text =

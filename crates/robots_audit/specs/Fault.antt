@@ -23,10 +23,10 @@ flaw_text flaw.Url = codes "URL is neither a path that starts with / nor a valid
 flaw_text flaw.Path =
     codes "URL has a . or .. segment or a #, which crawlers resolve or drop; write the path that they ask for"
 
--- what there are none of in a file
-abbrev pub entries_word : Entry → List ℕ
-entries_word Expectation = codes "expectations"
-entries_word Url = codes "URLs"
+-- that a file has none of these entries
+abbrev pub none_text : Entry → List ℕ
+none_text Expectation = codes "there are no expectations"
+none_text Url = codes "there are no URLs"
 
 -- the message for an error
 abbrev pub reason_of : Fault → List ℕ
@@ -36,7 +36,7 @@ reason_of NotUtf8 = codes "arguments must be valid UTF-8"
 reason_of (UnknownWarning name) = codes "unknown warning " ++ string_bytes name
 reason_of (File name) = codes "cannot read " ++ string_bytes name
 reason_of (Malformed place flaw) = string_bytes place ++ codes ": " ++ flaw_text flaw
-reason_of (Empty name entry) = string_bytes name ++ codes ": there are no " ++ entries_word entry
+reason_of (Empty name entry) = string_bytes name ++ codes ": " ++ none_text entry
 reason_of StdinTwice = codes "standard input can't be both robots.txt and another file (use --file)"
 reason_of Read = codes "cannot read standard input"
 reason_of Write = codes "cannot write the report"

@@ -211,12 +211,16 @@ rest_words count = codes "and " ++ decimal count ++ codes " more, below their li
 unfoldable pub rest_note : ℕ → Html
 rest_note count = if count == 0 then text [] else simple (codes "p") (rest_words count)
 
+-- the same of the warnings after the first
+unfoldable pub rest_part : (rows : ℕ) → List WarningValue → Html
+rest_part rows warnings = rest_note (rest_count rows (later_warnings warnings))
+
 -- the number of warnings, and the list
 unfoldable pub warning_list : (rows : ℕ) → List WarningValue → Html
 warning_list rows warnings =
     text (decimal (length warnings))
     ⊕ tag (codes "ul") [] (warning_items rows warnings)
-    ⊕ rest_note (rest_count rows (later_warnings warnings))
+    ⊕ rest_part rows warnings
 
 unfoldable pub warning_entry : (rows : ℕ) → List WarningValue → Html
 warning_entry rows warnings =

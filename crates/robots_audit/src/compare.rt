@@ -3,13 +3,14 @@ ghost use Rattle.std.specs.Prelude.{◌≡◌, ◌++◌, IfErr, IfOk, OnOk, fals
 ghost use Rattle.texting_robots.specs.Callers.{lines_read};
 ghost use Rattle.robots_io.specs.Lines.{ended};
 ghost use Rattle.robots_audit.specs.Audit.{agents_requested as specified_agents};
-ghost use Rattle.robots_audit.specs.Compare.{Compares, is_rejected, unchanged_lines, unchanged_subject};
+ghost use Rattle.robots_audit.specs.Compare.{Compares, is_rejected, several_subject, unchanged_lines, unchanged_subject};
 ghost use Rattle.robots_audit.specs.Internal.Compare.{AddsReport, IsComparisonOf, IsReportOn, IsReportUpto, IsVersion, compared_value};
 
 use crate::agents::agents_requested;
 use crate::compared::{Compared, Version, compared_for, read_version};
 use crate::differences::{push_crawler, push_differences, push_rejections, push_same_rules};
 use crate::fault::{Fault, Outcome};
+use robots_io::lines::push_line;
 use robots_io::streams::{read_all, write_out};
 use std::alloc::{AllocError, Global};
 use std::io::{Read, Write};
@@ -150,6 +151,21 @@ fn reports(
     Ok(found)
 }
 
+/// What is said of crawlers on which nothing else is reported.
+const UNCHANGED: &str =
+    ": no group, delay or rule differs, so no URL's verdict does; sitemaps aren't compared";
+
+/// Appends that several crawlers are meant, which are all that were compared, or the others.
+fn push_several(text: &mut String, all: bool) -> Result<(), AllocError>
+    ensures { OnOk result (string_bytes text.new ≡ string_bytes text.old ++ several_subject all) }
+{
+    if all {
+        text.push_str("all compared crawlers")
+    } else {
+        text.push_str("other compared crawlers")
+    }
+}
+
 /// Appends the crawlers on which nothing else is reported; `agents` are all that were compared, and `all` is whether
 /// those are all.
 fn push_unchanged_subject(text: &mut String, agents: &[String], all: bool) -> Result<(), AllocError>
@@ -158,8 +174,7 @@ fn push_unchanged_subject(text: &mut String, agents: &[String], all: bool) -> Re
 {
     match agents {
         [agent] => push_crawler(text, agent),
-        _ if all => text.push_str("all compared crawlers"),
-        _ => text.push_str("other compared crawlers"),
+        _ => push_several(text, all),
     }
 }
 
@@ -177,9 +192,7 @@ fn push_unchanged(
         return Ok(());
     }
     push_unchanged_subject(text, agents, all)?;
-    text.push_str(
-        ": no group, delay or rule differs, so no URL's verdict does; sitemaps aren't compared\n",
-    )
+    push_line(text, UNCHANGED, "")
 }
 
 /// The report on two files.

@@ -152,6 +152,22 @@ fn push_googlebots(text: &mut String, agent: &str) -> Result<(), AllocError>
     text.push_str(", and ")
 }
 
+/// Appends a text and a name.
+fn push_named(text: &mut String, words: &str, name: &str) -> Result<(), AllocError>
+    ensures { OnOk result (string_bytes text.new ≡ string_bytes text.old ++ (words.now ++ sanitized name.now)) }
+{
+    text.push_str(words)?;
+    push_sanitized(text, name.as_bytes())
+}
+
+/// Appends that Google applies no group.
+fn push_nobody(text: &mut String, agent: &str) -> Result<(), AllocError>
+    ensures { OnOk result (string_bytes text.new ≡ string_bytes text.old
+        ++ (codes "Google doesn't apply the group * to " ++ sanitized agent.now)) }
+{
+    push_named(text, "Google doesn't apply the group * to ", agent)
+}
+
 /// Appends which group Google applies, and what it says.
 fn push_google(
     alloc: Global,
@@ -170,10 +186,7 @@ fn push_google(
             push_googlebots(text, agent)?;
             push_finding(alloc, text, "Googlebot", url, finding)
         }
-        AtGoogle::Nobody => {
-            text.push_str("Google doesn't apply the group * to ")?;
-            Ok(push_sanitized(text, agent.as_bytes())?)
-        }
+        AtGoogle::Nobody => Ok(push_nobody(text, agent)?),
     }
 }
 

@@ -1,6 +1,6 @@
 //! The end of a run: its outcome or its error, the message on standard error, and the exit status.
 ghost use Rattle.std.specs.Prelude.{◌≡◌};
-ghost use Rattle.robots_audit.specs.Fault.{entries_word, flaw_text, status_after, usage_after};
+ghost use Rattle.robots_audit.specs.Fault.{flaw_text, none_text, status_after, usage_after};
 
 use robots_io::streams::{ReadFault, WriteFault};
 use std::alloc::{AllocError, AllocFailed};
@@ -87,13 +87,13 @@ fn flaw_text(flaw: Flaw) -> &'static str
     }
 }
 
-/// What there are none of in a file.
-fn entries_word(entry: Entry) -> &'static str
-    ensures { result.now ≡ entries_word entry }
+/// That a file has none of these entries.
+fn none_text(entry: Entry) -> &'static str
+    ensures { result.now ≡ none_text entry }
 {
     match entry {
-        Entry::Expectation => "expectations",
-        Entry::Url => "URLs",
+        Entry::Expectation => "there are no expectations",
+        Entry::Url => "there are no URLs",
     }
 }
 
@@ -111,7 +111,7 @@ impl fmt::Display for Fault {
             Fault::UnknownWarning(name) => write!(f, "unknown warning {name}"),
             Fault::File(name) => write!(f, "cannot read {name}"),
             Fault::Malformed(place, flaw) => write!(f, "{place}: {}", flaw_text(*flaw)),
-            Fault::Empty(name, entry) => write!(f, "{name}: there are no {}", entries_word(*entry)),
+            Fault::Empty(name, entry) => write!(f, "{name}: {}", none_text(*entry)),
             Fault::StdinTwice => {
                 f.write_str("standard input can't be both robots.txt and another file (use --file)")
             }

@@ -123,9 +123,7 @@ fn has_name(causes: &[Cause], name: &str) -> bool
 fn has_name_at(causes: &[Cause], name: &str, level: Level) -> bool
     ensures { result ≡ has_name_at name.now level causes.now }
 {
-    causes
-        .iter()
-        .any(|cause| cause.name() == name && cause.level().reaches(level))
+    causes.iter().any(|cause| cause.name() == name && cause.level().reaches(level))
 }
 
 /// The most serious level of these warnings with this name.

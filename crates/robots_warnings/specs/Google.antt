@@ -43,17 +43,21 @@ has_only_googlebots lines name =
 abbrev pub has_only_star : List LineValue → List ℕ → Bool
 has_only_star lines name = not (is_named_at_google name lines) && is_named (codes "*") lines
 
--- one of these names is that of the crawler, ASCII letters in any case
-abbrev pub is_one_of : List (List ℕ) → List ℕ → Bool
-is_one_of names agent = list_any (λ name. str_eq_ignore_ascii_case name agent) names
+-- the crawler is one of Google's that get the group of Googlebot if they have none of their own
+abbrev pub is_like_googlebot : List ℕ → Bool
+is_like_googlebot agent = list_any (λ name. str_eq_ignore_ascii_case name.now agent) LIKE_GOOGLEBOT
+
+-- the crawler is one of Google's that never get the group of `*`
+abbrev pub is_without_star : List ℕ → Bool
+is_without_star agent = list_any (λ name. str_eq_ignore_ascii_case name.now agent) WITHOUT_STAR
 
 -- Google applies the group of Googlebot to the crawler
 abbrev pub gets_googlebots : List LineValue → List ℕ → Bool
-gets_googlebots lines agent = is_one_of like_googlebot agent && has_only_googlebots lines agent
+gets_googlebots lines agent = is_like_googlebot agent && has_only_googlebots lines agent
 
 -- Google applies no group to the crawler, although there is a group of `*`
 abbrev pub gets_nobodys : List LineValue → List ℕ → Bool
-gets_nobodys lines agent = is_one_of without_star agent && has_only_star lines agent
+gets_nobodys lines agent = is_without_star agent && has_only_star lines agent
 
 -- of these crawlers, the one with this name, which gets the group of Googlebot if it has none of its own
 abbrev pub googlebot_checks : List LineValue → List (List ℕ) → List ℕ → List Check

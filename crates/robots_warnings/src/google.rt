@@ -1,9 +1,10 @@
 //! Crawlers of Google to which Google applies another group than the one that applies here.
 ghost use Rattle.std.specs.Prelude.{◌≡◌, ◌||◌, map, string_bytes};
+ghost use Rattle.std.specs.List.{list_any};
 ghost use Rattle.std.specs.Str.{str_eq_ignore_ascii_case};
 ghost use Rattle.texting_robots.specs.Callers.{by_value, file_lines};
 ghost use Rattle.robots_warnings.specs.Google.{gets_googlebots, gets_nobodys, googlebot_checks, has_only_googlebots};
-ghost use Rattle.robots_warnings.specs.Google.{has_only_star, is_given, is_line_at_google, is_named_at_google, is_one_of};
+ghost use Rattle.robots_warnings.specs.Google.{has_only_star, is_given, is_line_at_google, is_named_at_google};
 ghost use Rattle.robots_warnings.specs.Google.{star_checks};
 
 use crate::checks::Check;
@@ -85,7 +86,7 @@ fn has_only_star(site: &Site, name: &str) -> bool
 
 /// Whether one of these names is that of the crawler, ASCII letters in any case.
 fn is_one_of(names: &[&str], agent: &str) -> bool
-    ensures { result ≡ is_one_of (map (λ name. name.now) names.now) agent.now }
+    ensures { result ≡ list_any (λ name. str_eq_ignore_ascii_case name.now agent.now) names.now }
 {
     names.iter().any(|name| name.eq_ignore_ascii_case(agent))
 }

@@ -7,7 +7,7 @@ use Rattle.robots_audit.proofs.audited.Goals as goal
 
 pub returns-in_err-request : goal.returns-in_err-request
 returns-in_err-request c =
-    for_terminal _ _ (request_outcome _ _ _ c.from_residual.result (search rules) c.in_err-request.ensures)
+    for_terminal _ _ (request_outcome c.args.has_colors _ _ c.from_residual.result (search rules) c.in_err-request.ensures)
 
 pub returns-in-Some : goal.returns-in-Some
 returns-in-Some c =

@@ -1,4 +1,4 @@
-use Rattle.std.proofs.Common.{rules}
+use Rattle.std.proofs.Common.{false, rules}
 use Rattle.robots_audit.proofs.CompareLemmas.{compared_printable}
 use Rattle.robots_audit.proofs.MessageLemmas.{error_outcome, request_outcome}
 use Rattle.robots_audit.proofs.EntryLemmas.{no_crawler_printable}
@@ -6,7 +6,7 @@ use Rattle.robots_audit.proofs.compared_with.Goals as goal
 
 pub returns-in_err-request : goal.returns-in_err-request
 returns-in_err-request c =
-    request_outcome _ _ _ c.from_residual.result (search rules) c.in_err-request.ensures
+    request_outcome false _ _ c.from_residual.result (search rules) c.in_err-request.ensures
 
 pub returns-in_err-are_crawlers : goal.returns-in_err-are_crawlers
 returns-in_err-are_crawlers c =

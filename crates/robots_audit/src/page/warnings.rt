@@ -5,7 +5,7 @@ ghost use Rattle.std.specs.Prelude.{◌≡◌, ◌++◌, IfOk, None, OnOk, drop,
 ghost use Rattle.robots_html.specs.Html.{each, written};
 ghost use Rattle.robots_warnings.specs.Internal.{warning_value};
 ghost use Rattle.robots_audit.specs.Page.{has_row, later_warnings, level_name, line_name, listed_warnings};
-ghost use Rattle.robots_audit.specs.Page.{rest_count, rest_note, rest_words, warning_entry, warning_item, warning_items};
+ghost use Rattle.robots_audit.specs.Page.{rest_count, rest_note, rest_part, rest_words, warning_entry, warning_item, warning_items};
 ghost use Rattle.robots_audit.specs.Page.{warning_list, warning_place, warning_row, warning_words, without_row};
 
 use crate::page::known_row::{KnownRow, push_known_row, push_new_row};
@@ -234,6 +234,21 @@ fn push_rest_note(alloc: Global, out: &mut Vec<u8>, count: usize) -> Result<(), 
     push_simple(out, "p", &words)
 }
 
+/// Appends how many of these warnings are only in the table of lines, if some are.
+#[tactic(auto, unfolding(crate::specs::Page::rest_part))]
+fn push_rest(
+    alloc: Global,
+    out: &mut Vec<u8>,
+    rows: usize,
+    warnings: &[Warning<'_>],
+) -> Result<(), AllocError>
+    ensures { OnOk result (out.new.items ≡ out.old.items
+        ++ written (rest_part rows (map warning_value warnings.now))) }
+{
+    let count = rest_count(alloc, rows, warnings)?;
+    push_rest_note(alloc, out, count)
+}
+
 /// Appends the number of warnings, and the list.
 #[tactic(auto, using(robots_html::proofs::WritingLemmas::joined), unfolding(crate::specs::Page::warning_list))]
 fn push_warning_list(
@@ -246,12 +261,11 @@ fn push_warning_list(
         ++ written (warning_list rows (map warning_value warnings.now))) }
 {
     let count = numbered(alloc, "", warnings.len())?;
-    let rest = rest_count(alloc, rows, warnings)?;
     push_text(out, count.as_bytes())?;
     push_start(out, "ul")?;
     push_all_items(alloc, out, rows, warnings)?;
     push_end(out, "ul")?;
-    push_rest_note(alloc, out, rest)
+    push_rest(alloc, out, rows, warnings)
 }
 
 /// Appends the warnings at the top.

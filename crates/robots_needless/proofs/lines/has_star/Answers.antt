@@ -12,5 +12,5 @@ returns-then-eq c =
       at,
       rw (length-map agents name) c.loop-agent-test.true,
       get_or-map name agents at _ _ c.loop-agent-test.true
-      ∙ (bytes_decides _ (codes "*")).0 (sym c.eq.ensures ∙ c.if-eq.true),
+          ∙ (bytes_decides _ (codes "*")).0 (sym c.eq.ensures ∙ c.if-eq.true),
     )

@@ -6,4 +6,4 @@ use Rattle.robots_audit.proofs.page.warnings.push_later_items.Goals as goal
 pub returns : goal.returns
 returns c =
     rw (drop-map warning_value listed_warnings c.args.warnings.now, ← c.later.ensures, ← c.in_ok-others.ensures)
-    c.push_warning_items.ensures
+    (rw c.deref.ensures.value at c.push_warning_items.ensures)
