@@ -23,8 +23,8 @@ is_own_name name =
     (not (length name == 0) && list_all is_name_byte name)
     && (not (has_space_around name) && not (has_version name))
 
--- a crawler can call itself so, or the name is `*`, for all that have no group of their own; names in user-agent
--- lines can have more, such as a `*` at their end
+-- the usual form of a name by which a crawler calls itself, or `*`, for all that have no group of their own;
+-- names in user-agent lines can have more, such as a `*` at their end
 abbrev pub is_crawler_name : List ℕ → Bool
 is_crawler_name name = bytes_eq name (codes "*") || is_own_name name
 

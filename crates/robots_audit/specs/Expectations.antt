@@ -35,8 +35,8 @@ IsFindingOn lines agent url (Rejected line) = IsFirstOverlong (placed_rules agen
 IsFindingOn lines agent url (Decided decision) =
     (¬ IsRejected agent lines) × IsDecisionOn (placed_rules agent lines) url decision
 
--- what Google's documentation changes for the crawler: nothing; or Google applies the group of Googlebot, for
--- which this is the finding; or Google applies no group, so everything is allowed
+-- which of the two notes on Google's crawlers applies: neither; or Google applies the group of Googlebot, for
+-- which this is the finding, as names are compared here; or Google applies no group, so everything is allowed
 abbrev pub IsAtGoogle : List LineValue → List ℕ → List ℕ → AtGoogle → Type 0
 IsAtGoogle lines agent url Same = (gets_googlebots lines agent ≡ false) × (gets_nobodys lines agent ≡ false)
 IsAtGoogle lines agent url (Googlebot finding) =

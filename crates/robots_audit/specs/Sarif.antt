@@ -133,7 +133,7 @@ rule_of all cause = record {
 abbrev pub rule_unless_later : (all : List Cause) → Cause → List Cause → List RuleValue
 rule_unless_later all cause later = if has_name (name_of cause) later then [] else rule_of all cause ∷ []
 
--- the rules of these warnings: a name has the description of the last warning with it, which is the general one
+-- the rules of these warnings: a name has the description of the last warning with it
 abbrev pub rules_of : (all : List Cause) → List Cause → List RuleValue
 rules_of all [] = []
 rules_of all (cause ∷ later) = rule_unless_later all cause later ++ rules_of all later

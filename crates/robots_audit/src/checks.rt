@@ -23,10 +23,10 @@ pub(crate) enum Finding {
     Decided(Decision),
 }
 
-/// What Google's documentation changes for a crawler.
+/// Which note on Google's crawlers applies to a crawler.
 #[derive(Drop)]
 pub(crate) enum AtGoogle {
-    /// Nothing.
+    /// Neither note on its crawlers applies.
     Same,
     /// Google applies the group of Googlebot, and the file says this about it.
     Googlebot(Finding),

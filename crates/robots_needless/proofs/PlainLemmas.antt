@@ -145,9 +145,9 @@ module _ (kept starred rest : List PlacedRule) where
 
 pub overruled_among : (some others : List PlacedRule) (rule : PlacedRule) (line : Option ℕ)
     → AreAmong some others → IfSome line (λ n. (other : PlacedRule) × Contains some other × (other.line ≡ n)
-    × Overrules other.rule rule.rule)
+    × Overrules other rule)
     → IfSome line (λ n. (other : PlacedRule) × Contains others other × (other.line ≡ n)
-    × Overrules other.rule rule.rule)
+    × Overrules other rule)
 overruled_among some others rule None among is = is
 overruled_among some others rule (Some n) among (other, listed, at, is) = (other, among other listed, at, is)
 
@@ -194,8 +194,8 @@ pub reason_among : (some all : List PlacedRule) → AreAmong some all → (rule 
 reason_among some all among rule NoMatch holds = holds
 reason_among some all among rule AllowedAnyway holds = holds
 reason_among some all among rule (Overruled line) (other, has, at, is) = (other, among other has, at, is)
-reason_among some all among rule (Covered line) (other, has, at, kind, covers) =
-    (other, among other has, at, kind, covers)
+reason_among some all among rule (Covered line) (other, has, at, another, kind, covers) =
+    (other, among other has, at, another, kind, covers)
 
 pub found_permuted : (rules others : List PlacedRule) → IsPermutation rules others
     → (found : List NeedlessRule) → All (IsFound others) found → All (IsFound rules) found

@@ -56,11 +56,11 @@ no_rival_more others other m n rule before most apart = record {
 
 -- ---- a rule that covers the rule
 
-pub overruled_goes : (others : List PlacedRule) (rule : Rule) (other : PlacedRule) → Contains others other
-    → Overrules other.rule rule → CanGo (unplaced others) rule
+pub overruled_goes : (others : List PlacedRule) (rule other : PlacedRule) → Contains others other
+    → Overrules other rule → CanGo (unplaced others) rule.rule
 overruled_goes others rule other listed is = inr (inr (
   other.rule,
-  record { listed = unplaced_of others other listed; covers = is.covers; decides = inl is.above },
+  record { listed = unplaced_of others other listed; covers = is.covers; decides = inl is.precedes.above },
 ))
 
 pub covered_goes : (others : List PlacedRule) (floor : ℕ) (rule : Rule) (other : PlacedRule)

@@ -59,8 +59,8 @@ module _ (rules kept rest old : List PlacedRule) (rule : PlacedRule) (last : old
   reason_wider NoMatch holds = holds
   reason_wider AllowedAnyway holds = holds
   reason_wider (Overruled line) (other, has, at, is) = (other, other_listed other has, at, is)
-  reason_wider (Covered line) (other, has, at, kind, covers) =
-      (other, other_listed other has, at, kind, covers)
+  reason_wider (Covered line) (other, has, at, another, kind, covers) =
+      (other, other_listed other has, at, another, kind, covers)
 
   pub found_more : (found more : List NeedlessRule) (line : ℕ) (reason : Reason)
       → more ≡ found ++ record { line = line; reason = reason } ∷ [] → line ≡ rule.line

@@ -1,5 +1,5 @@
 -- Rules that can be removed without changing a verdict.
-use Rattle.std.specs.Prelude.{◌≡◌, ◌≢◌, ◌↔◌, ◌≤◌, ℕ, ◌+◌, ◌==◌, length, not}
+use Rattle.std.specs.Prelude.{◌≡◌, ◌≢◌, ◌↔◌, ◌≤◌, ◌<◌, ℕ, ◌+◌, ◌==◌, length, not}
 use Rattle.std.specs.Prelude.{All, AllPairs, Bool, true, Contains, List, [], ◌∷◌, codes, filter, map}
 use Rattle.std.specs.List.{enumerate_from, list_any}
 use Rattle.robots_needless.specs.declared.needless.NeedlessRule.{NeedlessRule}
@@ -50,24 +50,29 @@ MatchesNothing pattern = (text : List ℕ) → Matches pattern text → text ≡
 abbrev pub numbers_of : List NeedlessRule → List ℕ
 numbers_of found = map (λ (one : NeedlessRule). one.line) found
 
--- of two matching rules, the one with the higher rank decides
+-- of two matching rules, the one with the higher rank decides, and of two with the same rank the one above
 abbrev pub rank_of : Rule → ℕ
 rank_of rule = rank (length rule.0) rule.1
 
--- the other rule matches every text that the rule matches, and ranks at least as high
-pub record Overrules (other rule : Rule) : Type 0 where
-  pub covers : Covers other.0 rule.0
-  pub above : rank_of rule ≤ rank_of other
+-- the other rule decides where both match
+pub record TakesPrecedence (other placed : PlacedRule) : Type 0 where
+  pub above : rank_of placed.rule ≤ rank_of other.rule
+  pub first : rank_of placed.rule ≡ rank_of other.rule → other.line < placed.line
+
+-- it matches every text that the rule matches, too
+pub record Overrules (other placed : PlacedRule) : Type 0 where
+  pub covers : Covers other.rule.0 placed.rule.0
+  pub precedes : TakesPrecedence other placed
 
 -- the reason holds for the rule among these rules
 abbrev pub IsReason : List PlacedRule → PlacedRule → Reason → Type 0
 IsReason rules placed NoMatch = MatchesNothing placed.rule.0
 IsReason rules placed AllowedAnyway = placed.rule.1 ≡ true
 IsReason rules placed (Overruled line) =
-    (other : PlacedRule) × Contains rules other × (other.line ≡ line) × Overrules other.rule placed.rule
+    (other : PlacedRule) × Contains rules other × (other.line ≡ line) × Overrules other placed
 IsReason rules placed (Covered line) =
-    (other : PlacedRule) × Contains rules other × (other.line ≡ line) × (other.rule.1 ≡ placed.rule.1)
-    × Covers other.rule.0 placed.rule.0
+    (other : PlacedRule) × Contains rules other × (other.line ≡ line) × (other.line ≢ placed.line)
+    × (other.rule.1 ≡ placed.rule.1) × Covers other.rule.0 placed.rule.0
 
 -- one of the rules is in this line, and the reason holds for it
 abbrev pub IsFound : List PlacedRule → NeedlessRule → Type 0
@@ -91,7 +96,7 @@ pub record AreFound (lines : List LineValue) (found : List NeedlessRule) : Type 
   -- `*`, and each crawler that the file names
   pub together : (agent : List ℕ) → Contains (codes "*" ∷ agents_in lines) agent
       → AreNeedless (placed_rules agent lines) (numbers_of found)
-  -- deleting their lines from the file removes them from each crawler's rules, and nothing else
+  -- deleting their lines from the file removes them from each crawler's rules, and no other rules
   pub deleted : (agent : List ℕ) → rules_for agent (lines_without (numbers_of found) lines)
       ≡ unplaced (without (numbers_of found) (placed_rules agent lines))
   pub reasons : All (IsFoundFor lines) found

@@ -1,8 +1,8 @@
 //! Which rules of a crawler are needless.
-ghost use Rattle.std.specs.Prelude.{◌≡◌, ◌≤◌, ◌++◌, All, Contains, IfOk, IfSome, IsPermutation, IsTrue, List};
+ghost use Rattle.std.specs.Prelude.{◌≡◌, ◌≢◌, ◌≤◌, ◌++◌, All, Contains, IfOk, IfSome, IsPermutation, IsTrue, List};
 ghost use Rattle.texting_robots.specs.Callers.{PlacedRule, unplaced};
 ghost use Rattle.robots_needless.specs.Internal.{AreAmong, CanGo, HasNoRival, IsNone, IsReducedTo, StandsIn};
-ghost use Rattle.robots_needless.specs.Needless.{IsFound, IsReason, Overrules, numbers_of};
+ghost use Rattle.robots_needless.specs.Needless.{IsFound, IsReason, Overrules, TakesPrecedence, numbers_of};
 
 use crate::rule::Rule;
 use std::alloc::{AllocError, Global};
@@ -19,7 +19,7 @@ pub enum Reason {
     /// It is an Allow of what is allowed without it, as no Disallow that it overrules matches the same text.
     AllowedAnyway,
     /// It never decides, since the rule in the line with this number matches every text that it matches, and
-    /// is longer; or as long, and an Allow or of the same kind.
+    /// is longer; or as long, and an Allow for a Disallow, or in a line above.
     Overruled(usize),
     /// Without it, the same verdict follows from the rule in the line with this number, which is of the same
     /// kind and matches every text that it matches, or from a longer one of that kind.
@@ -89,11 +89,24 @@ pub(crate) fn rival_floor(budget: &mut Budget, others: &[Rule], rule: &Rule, flo
     highest
 }
 
-/// Whether the other rule covers the rule, and ranks at least as high.
-fn overrules(budget: &mut Budget, other: &Rule, rule: &Rule) -> bool
-    ensures { IsTrue result → Overrules other.now.rule rule.now.rule }
+/// Whether the other rule decides where both match.
+fn takes_precedence(other: &Rule, rule: &Rule) -> bool
+    ensures { IsTrue result → TakesPrecedence other.now rule.now }
 {
+    if rule.rank() < other.rank() {
+        return true;
+    }
     if other.rank() < rule.rank() {
+        return false;
+    }
+    other.line() < rule.line()
+}
+
+/// Whether the other rule covers the rule, and decides where both match.
+fn overrules(budget: &mut Budget, other: &Rule, rule: &Rule) -> bool
+    ensures { IsTrue result → Overrules other.now rule.now }
+{
+    if !takes_precedence(other, rule) {
         return false;
     }
     if !budget.spend(rule.cost()) {
@@ -102,10 +115,14 @@ fn overrules(budget: &mut Budget, other: &Rule, rule: &Rule) -> bool
     other.covers(rule)
 }
 
-/// Whether the other rule covers the rule, is of the same kind, and doesn't rank below the floor.
+/// Whether the other rule is in another line, covers the rule, is of the same kind, and doesn't rank below the floor.
 fn stands_in(budget: &mut Budget, other: &Rule, rule: &Rule, floor: usize) -> bool
-    ensures { IsTrue result → StandsIn floor other.now.rule rule.now.rule }
+    ensures stands_in { IsTrue result → StandsIn floor other.now.rule rule.now.rule }
+    ensures another { IsTrue result → other.now.line ≢ rule.now.line }
 {
+    if other.line() == rule.line() {
+        return false;
+    }
     if other.is_allow() != rule.is_allow() {
         return false;
     }
@@ -121,7 +138,7 @@ fn stands_in(budget: &mut Budget, other: &Rule, rule: &Rule, floor: usize) -> bo
 /// The line of the first of the others that overrules the rule.
 pub(crate) fn overruling_line(budget: &mut Budget, others: &[Rule], rule: &Rule) -> Option<usize>
     ensures { IfSome result (λ line. (other : PlacedRule) × Contains others.now other × (other.line ≡ line)
-        × Overrules other.rule rule.now.rule) }
+        × Overrules other rule.now) }
 {
     for other in others {
         if overrules(budget, other, rule) {
@@ -134,7 +151,7 @@ pub(crate) fn overruling_line(budget: &mut Budget, others: &[Rule], rule: &Rule)
 /// The line of the first of the others that stands in for the rule.
 fn covering_line(budget: &mut Budget, others: &[Rule], rule: &Rule, floor: usize) -> Option<usize>
     ensures { IfSome result (λ line. (other : PlacedRule) × Contains others.now other × (other.line ≡ line)
-        × StandsIn floor other.rule rule.now.rule) }
+        × (other.line ≢ rule.now.line) × StandsIn floor other.rule rule.now.rule) }
 {
     for other in others {
         if stands_in(budget, other, rule, floor) {

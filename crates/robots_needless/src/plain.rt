@@ -86,7 +86,7 @@ fn overruling_allow(
     rule: &Rule,
 ) -> Option<usize>
     ensures { IfSome result (λ line. (other : PlacedRule) × Contains rules.now other × (other.line ≡ line)
-        × Overrules other.rule rule.now.rule) }
+        × Overrules other rule.now) }
 {
     if rule.is_allow() {
         return None;

@@ -248,9 +248,9 @@ pub static WARNINGS: [(Cause, Level, &str, &str); 68] = [
     (Cause::MatchesNothing, Level::Note, "needless-rule",
         "this rule matches nothing, except perhaps /robots.txt, which is always allowed; correct it, or delete it together with all other needless rules"),
     (Cause::AllowedAnyway, Level::Note, "needless-rule",
-        "this rule isn't needed: what it allows is allowed without it; it can be deleted together with all other needless rules"),
+        "this rule isn't needed: if all needless rules are deleted, what it allows stays allowed; delete it together with the others, or correct it"),
     (Cause::NotNeeded, Level::Note, "needless-rule",
-        "this rule isn't needed: the verdicts are the same without it, since another one of its kind matches everything that it matches; it can be deleted together with all other needless rules"),
+        "this rule isn't needed: if all needless rules are deleted, the verdicts stay the same, since another one of its kind matches everything that it matches; delete it together with the others, or correct it"),
 ];
 
 /// The warnings that aren't about the syntax of a file, but about the request, the size of the file, or what a file of

@@ -26,20 +26,20 @@ returns-then-floor-eq0-clause-go c others one two none =
 
 pub returns-in-Some-covering_line-clause-go : goal.returns-in-Some-covering_line-clause-go
 returns-in-Some-covering_line-clause-go c others one two none =
-    let (other, listed, line, is) = c.in-Some-covering_line.ensures in
+    let (other, listed, line, another, is) = c.in-Some-covering_line.ensures in
     covered_goes others _ _ other none (one other listed) is
 
 pub returns-in-Some-covering_line-clause-reason : goal.returns-in-Some-covering_line-clause-reason
 returns-in-Some-covering_line-clause-reason c others one two =
-    let (other, listed, line, is) = c.in-Some-covering_line.ensures in
-    (other, one other listed, line, is.kind, is.covers)
+    let (other, listed, line, another, is) = c.in-Some-covering_line.ensures in
+    (other, one other listed, line, another, is.kind, is.covers)
 
 pub returns-in-Some-covering_line-2-clause-go : goal.returns-in-Some-covering_line-2-clause-go
 returns-in-Some-covering_line-2-clause-go c others one two none =
-    let (other, listed, line, is) = c.in-Some-covering_line-2.ensures in
+    let (other, listed, line, another, is) = c.in-Some-covering_line-2.ensures in
     covered_goes others _ _ other none (two other listed) is
 
 pub returns-in-Some-covering_line-2-clause-reason : goal.returns-in-Some-covering_line-2-clause-reason
 returns-in-Some-covering_line-2-clause-reason c others one two =
-    let (other, listed, line, is) = c.in-Some-covering_line-2.ensures in
-    (other, two other listed, line, is.kind, is.covers)
+    let (other, listed, line, another, is) = c.in-Some-covering_line-2.ensures in
+    (other, two other listed, line, another, is.kind, is.covers)
