@@ -105,6 +105,72 @@ def test_program_with_the_installed_library(installed, tmp_path, linked):
     assert run(ask, ["Ferris", "/a"], b"Disallow: /a") == Result(1, b"delay none\ndeny 1 /a\n", b"")
 
 
+def test_installed_files_for_cmake(installed):
+    """What they name is installed: the archive and the shared object below the folder two above theirs, the header, and the version."""
+    folder = installed / "lib/cmake/robots_c"
+    config, version = ((folder / f"robots_c{name}.cmake").read_text() for name in ("Config", "ConfigVersion"))
+    assert 'get_filename_component(robots_c_libdir "${CMAKE_CURRENT_LIST_DIR}/../.." ABSOLUTE)' in config
+    targets = dict(re.findall(r"add_library\((robots_c::\w+) (STATIC|SHARED) IMPORTED\)", config))
+    places = dict(re.findall(r'set_target_properties\((robots_c::\w+) PROPERTIES\s+IMPORTED_LOCATION "\$\{robots_c_libdir\}/([^"]+)"', config))
+    assert targets == {"robots_c::robots_c": "STATIC", "robots_c::shared": "SHARED"}
+    assert places == {"robots_c::robots_c": "librobots_c.a", "robots_c::shared": "librobots_c.so"}
+    assert all((folder / "../.." / name).is_file() for name in places.values())
+    headers = re.findall(r'INTERFACE_INCLUDE_DIRECTORIES "([^"]+)"', config)
+    assert len(headers) == 2 and all(Path(it, "robots.h").is_file() for it in headers)
+    text = re.search(r'ROBOTS_VERSION_TEXT "(.*)"', (LIBRARY / "robots.h").read_text())[1]
+    assert re.findall(r"\d+\.\d+\.\d+", version) == [text, text] and "PACKAGE_FIND_VERSION VERSION_GREATER PACKAGE_VERSION" in version
+
+
+CMAKE = """
+cmake_minimum_required(VERSION 3.10)
+project(caller C)
+find_package(robots_c 0.1 REQUIRED)
+add_executable(ask ask.c)
+target_link_libraries(ask robots_c::{target})
+"""
+
+
+@pytest.mark.parametrize("target", ["robots_c", "shared"])
+def test_program_built_by_cmake(installed, tmp_path, target):
+    if not shutil.which("cmake"):
+        pytest.skip("cmake is missing")
+    shutil.copy(ROOT / "examples/ask.c", tmp_path)
+    (tmp_path / "CMakeLists.txt").write_text(CMAKE.format(target=target))
+    for words in (["-S", ".", "-B", "out", f"-DCMAKE_PREFIX_PATH={installed}"], ["--build", "out"]):
+        ended = subprocess.run(["cmake", *words], cwd=tmp_path, capture_output=True, text=True)
+        assert ended.returncode == 0, ended.stdout + ended.stderr
+    assert run(tmp_path / "out/ask", ["Ferris", "/a"], b"Disallow: /a") == Result(1, b"delay none\ndeny 1 /a\n", b"")
+
+
+def test_texts_of_statuses(robots):
+    """The header and examples/robots.py have the same ones, in the order of the statuses."""
+    header = (LIBRARY / "robots.h").read_text()
+    numbers = {name: int(number) for name, number in re.findall(r"^    (ROBOTS_\w+) = (-?\d+)\b", header, re.M)}
+    texts = {numbers[name]: text for name, text in re.findall(r'case (ROBOTS_\w+): return "([^"]*)";', header)}
+    assert sorted(texts) == sorted(numbers.values()) == [*range(-6, 1)]
+    assert [texts[-number] for number in range(6)] == robots.TEXTS
+    names = dict(NOT_UTF8="isn't UTF-8", OUT_OF_MEMORY="out of memory", BUFFER_TOO_SMALL="too small", NO_DELAY="no delay", NO_ADDRESS="no robots.txt", OVERLONG_RULE="too long")
+    assert all(text in texts[numbers[f"ROBOTS_{name}"]] for name, text in names.items())
+
+
+def test_each_status_has_to_be_used():
+    """The compiler warns of a call whose status is ignored."""
+    header = re.sub(r"/\*.*?\*/", "", (LIBRARY / "robots.h").read_text(), flags=re.S)
+    declared = re.findall(r"^(ROBOTS_CHECK )?int32_t (robots_\w+)\(", header, re.M)
+    assert len(declared) > 15 and [name for check, name in declared if not check] == []
+
+
+def test_place_of_a_result_in_the_matrix(robots):
+    """As the comment of robots_matrix says."""
+    place = re.search(r"the result of crawler i for URL j is results\[(.*?)\], counted from 0", (LIBRARY / "robots.h").read_text())[1]
+    agents, urls, out = ["a", "b"], ["/a", "/b", "/c"], (ctypes.c_int64 * 6)()
+    file = b"User-agent: a\nDisallow: /b\nUser-agent: b\nDisallow: /c\nAllow: /a"
+    words = *robots.joined(agents), *robots.text(file), *robots.joined(urls)
+    assert robots.library.robots_matrix(*words, out, 6) == robots.OK
+    for i, agent in enumerate(agents):
+        assert [out[eval(place, {"i": i, "j": j, "URLs": len(urls)})] for j in range(3)] == robots.decide(agent, file, urls)
+
+
 def test_another_allocator(objects, installed, tmp_path):
     source = tmp_path / "heap.c"
     source.write_text(HEAP)
@@ -312,6 +378,27 @@ def test_example(example, shared_object, case):
     environment = os.environ | {"ROBOTS_SO": str(shared_object), "PYTHONDONTWRITEBYTECODE": "1"}
     result = run(Path(example[0]), [*example[1:], *arguments(case)], input_of(case), env=environment)
     assert result == wanted_of(case)
+
+
+@pytest.mark.parametrize("later", [0, 1], ids=["one allocation", "one and all later ones"])
+def test_example_in_c_reports_each_failed_allocation(failing_heap, objects, tmp_path, later):
+    """And frees what it has allocated, but for the buffers of its input and output. It may have written the beginning of its report."""
+    ask = compiled(tmp_path / "ask", *STRICT, "examples/ask.c", *objects)
+    words = ["Ferris", "https://\u00e9.example/\u00e9", "/a"], b"Disallow: /a\nCrawl-delay: 1\nSitemap: b\n"
+    right, number, reported = run(ask, *words), 0, 0
+    assert right.out.endswith("sitemap b\nallow - https://\u00e9.example/\u00e9\ndeny 1 /a\n")
+    while True:
+        number += 1
+        given = {"LD_PRELOAD": str(failing_heap), "FAIL_ALLOCATION": str(number), "FAIL_LATER": str(later), "COUNTS": "2"}
+        result = run(ask, *words, env=os.environ | given)
+        said, failed, left = re.fullmatch(r"((?:ask: .*\n)?)\d+ (\d+) (\d+) .*\n", result.err).groups()
+        assert int(left) <= 2
+        if failed == "0":
+            break
+        reported += result.status == 2
+        told = (result.status, said) == (2, "ask: out of memory\n") and result.out in [right.out[:end] for end in range(len(right.out))]
+        assert told or (result.status, result.out) in [(1, right.out), (1, right.out.split("\n", 1)[1])], (number, result)
+    assert result.out == right.out and reported > 3
 
 
 @pytest.mark.parametrize("case", EXAMPLES.values(), ids=EXAMPLES)

@@ -91,6 +91,13 @@ def test_hook_checks_what_is_committed(folder):
     assert ran(folder, "git commit -qam robots") != 0
 
 
+def test_hook_checks_new_expectations(folder):
+    """Also if robots.txt itself doesn't change."""
+    assert hook(folder) == 0
+    (folder / "expect.txt").write_text("deny Googlebot /products/tea\n")
+    assert ran(folder, "git commit -qam expectations") != 0
+
+
 def test_hook_stops_a_commit_without_robots_txt(folder):
     assert hook(folder) == 0
     assert ran(folder, "git rm -q robots.txt && git commit -qm gone") != 0
@@ -122,6 +129,16 @@ def test_workflow_reports_on_a_new_file(folder):
     ran(folder, "git rm -q --cached robots.txt && git commit -qm one && git add robots.txt && git commit -qm two")
     result = ended(folder, command)
     assert result.returncode == 0 and "+ Disallow: /private/ (line 2)\n" in result.stdout
+
+
+def test_workflows_run_if_a_file_changes_that_they_read():
+    """And the first one fetches the commit before, which it compares with."""
+    for workflow in blocks("yaml"):
+        read = {name for command, _ in commands(workflow) for name in re.findall(r"--(?:file|expect) (\S+)", command)}
+        assert read == set(re.search(r"paths: \[(.*)\]", workflow)[1].split(", "))
+    changes, alerts = blocks("yaml")
+    assert "HEAD^1" in changes and int(re.search(r"fetch-depth: (\d+)", changes)[1]) == 2
+    assert "contents: read" in alerts and "security-events: write" in alerts
 
 
 @pytest.mark.parametrize("robots, status", [(GOOD, 0), (BAD["a warning is an error"], 3)], ids=["good", "bad"])

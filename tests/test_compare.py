@@ -171,6 +171,14 @@ def test_files_by_name(tmp_path):
     assert outcome(missing) == (2, "", "robots_audit: cannot read missing.txt\n")
 
 
+def test_folders_in_place_of_files(tmp_path):
+    """They can be opened, but each read fails."""
+    (tmp_path / "folder").mkdir()
+    assert outcome(compare(tmp_path, OLD, NEW, "-f", "folder", "Ferris")) == (2, "", "robots_audit: cannot read folder\n")
+    folder = run("robots_audit", ["--compare", "folder", "Ferris"], NEW, cwd=tmp_path)
+    assert outcome(folder) == (2, "", "robots_audit: cannot read folder\n")
+
+
 def test_older_file_from_standard_input(tmp_path):
     (tmp_path / "robots.txt").write_bytes(NEW)
     result = run("robots_audit", ["--compare", "-", "-f", "robots.txt", "Googlebot"], OLD, cwd=tmp_path)
@@ -190,7 +198,7 @@ def test_name_that_no_crawler_has(tmp_path, name, shown):
         assert outcome(compare(tmp_path, OLD, OLD, *words)) == (2, "", f"robots_audit: {shown}: {AGENT}\n")
 
 
-@pytest.mark.parametrize("more", ["--expect=old.txt", "-q", "--json", "--color=never", "--strict", "--needless", "--only=missing-slash", "--ignore=missing-slash"])
+@pytest.mark.parametrize("more", ["--expect=old.txt", "--urls=old.txt", "--denied", "-q", "--format=text", "--json", "--html", "--color=never", "--strict", "--needless", "--only=missing-slash", "--ignore=missing-slash"])
 def test_other_options_conflict(tmp_path, more):
     result = compare(tmp_path, OLD, NEW, more, "Ferris")
     assert (result.status, result.out) == (2, "") and "cannot be used with" in result.err

@@ -367,7 +367,9 @@ def bytes_in(cell):
 def rows_under(name, *columns):
     """The rows of a document's tables that begin with these columns."""
     blocks = re.findall(r"(?:^\|.*\n)+", DOCUMENTS[name], re.M)
-    return [pytest.param(*row, id=" ".join(row[:2])) for rows in map(tables, blocks) if rows[0][: len(columns)] == [*columns] for row in rows[1:] if row[0][0] != "-"]
+    found = [row for rows in map(tables, blocks) if rows[0][: len(columns)] == [*columns] for row in rows[1:] if row[0][0] != "-"]
+    assert found, f"{name} has no table that begins with {columns}"  # pytest would skip a test without rows
+    return [pytest.param(*row, id=" ".join(row[:2])) for row in found]
 
 
 @pytest.mark.parametrize("line, read", rows_under("docs/SPECIFICATION.md", "Line", "Read as"))

@@ -171,6 +171,13 @@ def test_files_by_name(tmp_path):
     assert outcome(missing) == (2, "", "robots_audit: cannot read missing.txt\n")
 
 
+def test_folders_in_place_of_files(tmp_path):
+    """They can be opened, but each read fails."""
+    (tmp_path / "folder").mkdir()
+    assert outcome(check(tmp_path, HOLDING, "-f", "folder")) == (2, "", "robots_audit: cannot read folder\n")
+    assert outcome(run("robots_audit", ["--expect", "folder"], ROBOTS, cwd=tmp_path)) == (2, "", "robots_audit: cannot read folder\n")
+
+
 def test_expectations_from_standard_input(tmp_path):
     (tmp_path / "robots.txt").write_bytes(ROBOTS)
     result = run("robots_audit", ["--expect", "-", "-f", "robots.txt"], b"allow Googlebot /\nallow GPTBot /\n", cwd=tmp_path)

@@ -23,6 +23,11 @@ def report_on(lines, *options):
     return json.loads(run("robots_audit", ["--json", *options, *CRAWLERS, *URLS], "\n".join(lines).encode()).out)
 
 
+def found_in(lines):
+    """The numbers of the lines that are reported."""
+    return [it["line"] for it in report_on(lines, "--needless", "--only", "needless-rule")["warnings"]]
+
+
 def verdicts_on(lines):
     """Of each crawler, the group and whether each URL is allowed."""
     return [(agent["group"], [verdict["allowed"] for verdict in agent["verdicts"]]) for agent in report_on(lines)["agents"]]
@@ -32,7 +37,7 @@ def verdicts_on(lines):
 def test_deleting_the_reported_lines_changes_no_verdict(seed):
     some = random.Random(seed)
     lines = [line for _ in range(some.randrange(1, 4)) for line in block_of(some)]
-    numbers = [it["line"] for it in report_on(lines, "--needless", "--only", "needless-rule")["warnings"]]
+    numbers = found_in(lines)
     assert numbers == sorted(set(numbers))
     left = [line for number, line in enumerate(lines, 1) if number not in numbers]
     assert verdicts_on(left) == verdicts_on(lines)
@@ -41,5 +46,27 @@ def test_deleting_the_reported_lines_changes_no_verdict(seed):
 def test_some_lines_are_reported():
     """The files above aren't all without needless rules."""
     lines = ["User-agent: *", "Disallow: /a", "Disallow: /ab", "Allow: /b", "Disallow: /a$b", "Disallow: /*c", "Disallow: /c"]
-    numbers = [it["line"] for it in report_on(lines, "--needless", "--only", "needless-rule")["warnings"]]
-    assert numbers == [3, 4, 5, 7]
+    assert found_in(lines) == [3, 4, 5, 7]
+
+
+# Files, and their needless lines. No theorem says that they are found, only that what is found is needless.
+FOUND = {
+    "the longest rule that begins it, above the Allow between": (["Disallow: /a", "Allow: /ab", "Disallow: /abc", "Disallow: /abcd"], [5]),
+    "an Allow with a star matches nothing of it": (["Disallow: /", "Allow: /a*c", "Disallow: /bcd"], [4]),
+    "it has a star, and an Allow matches nothing of it": (["Disallow: /", "Allow: /ac", "Disallow: /b*d"], [4]),
+    "patterns with stars, the shortest first": (["Disallow: /*ab", "Allow: /*ab*", "Allow: /*abc*", "Crawl-delay: 1"], [2, 3, 4]),
+    "a long Allow is no rival of a short Disallow": (["Disallow: /a", "Disallow: /ab", "Allow: /abc"], [3]),
+    "equal rules": (["Disallow: /a*", "Disallow: /a*", "Disallow: /b", "Disallow: /b"], [3, 5]),
+}
+
+
+@pytest.mark.parametrize("lines, numbers", FOUND.values(), ids=FOUND)
+def test_lines_are_found(lines, numbers):
+    assert found_in(["User-agent: *", *lines]) == numbers
+
+
+def test_ten_thousand_rules():
+    """The number of bytes that are compared is bounded, but suffices for a file of this size."""
+    lines = ["User-agent: *", *(f"Disallow: /*/s{n}x" for n in range(50))]
+    lines += [line for n in range(5_000) for line in (f"Disallow: /p{n}/", f"Disallow: /p{n}/q")]
+    assert found_in(lines) == [*range(53, 10_052, 2)]

@@ -174,6 +174,22 @@ def test_page_on_a_small_file():
     assert page("Ferris", "/a<b", file=b"User-agent: *\nDisallow: search\n") == wanted
 
 
+CRAWLERS = """
+<h2>Crawlers</h2><div class="scroll" tabindex="0"><table class="agents"><caption>What each crawler may fetch</caption>
+<thead><tr><th scope="col">Crawler</th><th scope="col">Group</th><th scope="col">Crawl delay</th>
+<th scope="col"><code dir="ltr">/b</code></th></tr></thead><tbody>
+<tr><th scope="row"><code dir="ltr">Long</code></th><td>Long; rejected: <a href="#L5">line 5</a></td><td>none</td></tr>
+<tr><th scope="row"><code dir="ltr">B</code></th><td>* (B has no group of its own)</td><td>2.5 s</td>
+<td class="denied">denied, <a href="#L2">line 2</a></td></tr></tbody></table></div><h2>File</h2>
+"""
+
+
+def test_table_of_crawlers():
+    """Each byte of it. The specification takes the longer texts from the source, so no proof sees a wrong one."""
+    file = b"User-agent: *\nDisallow: /b\nCrawl-delay: 2.5\nUser-agent: Long\nDisallow: /$" + b"a" * 4096
+    assert CRAWLERS.replace("\n", "") in page("--agent", "Long", "--agent", "B", "/b", file=file)
+
+
 def test_page_has_the_lines_and_warnings_of_the_json():
     elements, found = Reader(page("FerrisBot", *URLS)).elements, audit("FerrisBot", *URLS)
     rows = rows_of(found)

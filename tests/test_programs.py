@@ -84,6 +84,15 @@ def test_golden(name, case, indented, tmp_path):
         json.loads(result.out)
 
 
+def test_all_golden_cases_are_run():
+    """Each table of each file, and the one in CONTRIBUTING.md."""
+    tables = [name for path in Path(ROOT, "tests/golden").glob("*/*.toml") for name in re.findall(r"""^\[["'].*["']\]$""", path.read_text(), re.M)]
+    folders = {path.name for path in Path(ROOT, "tests/golden").iterdir() if path.is_dir()}
+    values = [it.values for it in golden()]
+    assert len([indented for _, _, indented in values if not indented]) == len(tables) + 1
+    assert {name for name, _, _ in values} == folders == {"robots_audit", "robots_verdict"}
+
+
 def test_golden_cases_have_each_warning():
     warned = {line.split()[0] for _, case, _ in (it.values for it in golden()) for line in re.sub(r"(?m)^\d+ ", "", case.get("warn", "")).split("\n") if line}
     assert warned == set(WARNINGS)
@@ -154,6 +163,15 @@ def test_many_pages():
     text = "BobBot\n" + "".join(f"{page}/open\n{page}/closed\n" for page in pages) + "\nDisallow: /archive/*/closed\n"
     out = "delay none\n" + "".join(f"allow - {page}/open\ndeny 1 {page}/closed\n" for page in pages)
     assert run("robots_verdict", stdin=text.encode()) == Result(0, out, "")
+
+
+def test_messages_of_may_fetch(tmp_path):
+    """The program of docs/GUIDE.md. `rt ci` runs it on its data."""
+    path = tmp_path / "robots.txt"
+    path.write_bytes(b"Disallow: /$" + b"a" * 4096)
+    assert run("may_fetch", ["Ferris"]) == Result(0, "", "usage: may_fetch AGENT FILE URL..\n")
+    assert run("may_fetch", ["Ferris", path, "/a"]) == Result(0, "", "may_fetch: the file can't be used, as a rule is too long\n")
+    assert run("may_fetch", ["Ferris", tmp_path / "missing", "/a"]).status != 0
 
 
 def test_small_rules():

@@ -77,9 +77,10 @@ def test_no_urls(tmp_path, text, more):
     assert outcome(check(tmp_path, text, "Ferris", *more)) == (2, "", "robots_audit: list.txt: there are no URLs\n")
 
 
-def test_missing_file(tmp_path):
-    result = run("robots_audit", ["--urls", "missing.txt", "Ferris"], ROBOTS, cwd=tmp_path)
-    assert outcome(result) == (2, "", "robots_audit: cannot read missing.txt\n")
+@pytest.mark.parametrize("name", ["missing.txt", "."], ids=["missing", "a folder"])
+def test_file_that_cannot_be_read(tmp_path, name):
+    result = run("robots_audit", ["--urls", name, "Ferris"], ROBOTS, cwd=tmp_path)
+    assert outcome(result) == (2, "", f"robots_audit: cannot read {name}\n")
 
 
 def test_denied_urls_alone(tmp_path):

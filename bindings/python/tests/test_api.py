@@ -165,6 +165,7 @@ def test_the_file_limit():
     whole = b"User-agent: *\nDisallow: /\n" + filler
     assert not Robots(whole).allowed("/x", "FerrisBot")
     assert len(pickle.dumps(Robots(whole))) < FILE_LIMIT + 1000
+    assert repr(Robots(whole)) == f"<Robots of {FILE_LIMIT} bytes>"
     rule = b"\nUser-agent: *\nDisallow: /x"
     for over, line in [(0, None), (1, 3)]:  # with one byte too many, the rule is cut to `Disallow: /`
         assert Robots(b"#" * (FILE_LIMIT - len(rule) + over) + rule).verdict("/", "FerrisBot") == Verdict(line is None, line)
@@ -271,6 +272,15 @@ def test_pickles_and_copies():
         assert again.verdict("/search", "FerrisBot") == Verdict(False, 2)
     assert pickle.loads(pickle.dumps(Verdict(True, 3))) == Verdict(True, 3)
     assert repr(shop) == f"<Robots of {len(SHOP)} bytes>"
+
+
+class OwnRobots(Robots):
+    pass
+
+
+def test_pickles_of_a_subclass():
+    own = pickle.loads(pickle.dumps(OwnRobots(SHOP)))
+    assert type(own) is type(copy.copy(own)) is OwnRobots and own.verdict("/search", "FerrisBot") == Verdict(False, 2)
 
 
 IN_A_WORKER = """

@@ -58,11 +58,14 @@ def chunked(body):
     return chunks + b"0\r\n\r\n", b"Transfer-Encoding: chunked\r\nContent-Encoding: gzip\r\n"
 
 
+NO_FILE = ["404 Not Found", "301 Moved Permanently", "500 Internal Server Error", "304 Not Modified"]
+
+
 def warc_records():
     yield b"WARC/1.0\r\nWARC-Type: warcinfo\r\nContent-Length: 4\r\n\r\na: b\r\n\r\n"
     for number, (site, body, _) in enumerate(SITES):
         if number % 50 == 1:
-            yield response(site, b"gone", "404 Not Found")
+            yield response(site, b"User-agent: *\nDisallow: /", NO_FILE[number // 50])
         sent, more = chunked(body) if number % 3 == 0 else (body, b"")
         yield response(site, sent, more=more)
 
@@ -151,6 +154,12 @@ def test_the_program_prints_and_writes_the_same_with_workers(sources, tmp_path):
     assert run(tmp_path, *sources.values(), "--batch", "60", "--workers", "2") == alone
     with workers() as client:
         assert run(tmp_path, *sources.values(), "--batch", "60", "--scheduler", client.scheduler.address) == alone
+
+
+def test_a_chart_of_any_names():
+    chart = census.chart(2, Counter({("<a>", "/b?c&d<e", "deny"): 1}), ["<a>"], ["/b?c&d<e"])
+    texts = [text.firstChild.data for text in xml.dom.minidom.parseString(chart).getElementsByTagName("text")]
+    assert texts == ["Of 2 sites, how many keep a crawler out", "/b?c&d<e", "<a>", "1 (50.0 %)"]
 
 
 def test_a_terminal_shows_a_progress_bar(sources, capsys, monkeypatch):

@@ -135,5 +135,6 @@ def test_the_parser_takes_what_scrapy_gives():
     parser = RobotParser.from_crawler(None, b"User-agent: FerrisBot\nDisallow: /private/")
     assert not parser.allowed("https://example.com/private/", b"FerrisBot/1.0 (+https://example.com)")
     assert not parser.allowed(b"https://example.com/private/", "FerrisBot")
+    assert not parser.allowed("https://example.com/private/", "FerrisBot (+https://example.com)")
     assert parser.allowed("https://example.com/private/", "Mozilla/5.0 (compatible; FerrisBot/1.0)")
     assert parser.allowed("https://example.com/private/", b"\xff/")

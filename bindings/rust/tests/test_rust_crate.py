@@ -82,6 +82,7 @@ def test_each_allocation_fails_in_turn(ask, tmp_path):
         result = run(*call, env=os.environ | {"LD_PRELOAD": str(heap), "FAIL_ALLOCATION": str(number), "COUNTS": "2"})
         counts = re.search(r"^(\d+) (\d+) (\d+) .*\n\Z", result.err, re.M)
         if counts and counts[2] == "0":
+            assert int(counts[3]) <= 2  # which belong to Rust: what is opened is closed
             break
         reported += result.status == 2
         failed = result.status in (2, -6) and re.search("out of memory|memory allocation of", result.err)

@@ -1,0 +1,237 @@
+"""Facts that documents state in prose or tables and that no program prints: numbers, names, lists and versions. Each is compared with the
+source that decides it."""
+
+import re
+import subprocess
+
+import pytest
+from support import CRATES, DOCUMENTS, KEYS, ROOT, run, tables
+from test_documents import GUIDE, PROGRAMS, PROOFS, README, section
+
+SPECIFICATION, ARCHITECTURE = DOCUMENTS["docs/SPECIFICATION.md"], DOCUMENTS["docs/ARCHITECTURE.md"]
+BINDINGS = {name: (ROOT / f"bindings/{name}/README.md").read_text() for name in ("python", "rust")}
+
+
+def source(path):
+    return (CRATES / path).read_text()
+
+
+SOURCES = "".join(path.read_text() for path in sorted(CRATES.glob("*/src/**/*.rt")))
+
+
+def constant(name):
+    """The number that the sources give a constant."""
+    (value,) = re.findall(rf"\bconst {name}: \w+ = ([\d_]+);", SOURCES)
+    return int(value.replace("_", ""))
+
+
+def joined(text):
+    """The text with one space in place of each line break."""
+    return " ".join(text.split())
+
+
+# ---- numbers
+
+
+@pytest.mark.parametrize("name", DOCUMENTS)
+def test_numbers_of_bytes_and_reads_are_those_of_the_sources(name):
+    limits = {constant("FILE_LIMIT"), constant("LONGEST_WITH_DOLLAR")}
+    chunk, reads = (constant(it) for it in ("CHUNK_LEN", "MOST_READS"))
+    found = re.findall(r"(?<!URL of )\b(of at most )?(\d{1,3}(?:,\d{3})+) (bytes|reads)\b", joined(DOCUMENTS[name]))
+    for most, number, what in found:
+        allowed = {reads} if what == "reads" else {chunk} if most and "reads of" in joined(DOCUMENTS[name]) else limits
+        assert int(number.replace(",", "")) in allowed, f"{number} {what}"
+
+
+def test_the_limit_of_the_header():
+    assert re.findall(r"#define ROBOTS_FILE_LIMIT (\d+)", source("robots_c/robots.h")) == [str(constant("FILE_LIMIT"))]
+
+
+def test_the_numbers_of_listed_warnings():
+    assert [int(it) for it in re.findall(r"the first (\d+) warnings", PROGRAMS)] == [constant("LISTED_WARNINGS")]
+    assert constant("MOST") == 20
+    for text in (PROGRAMS, DOCUMENTS["CHANGELOG.md"]):
+        assert re.findall(r"more than (twenty|\d+) (?:more|warnings)|(?:they are )more than (twenty|\d+)", joined(text)) or "first twenty" in joined(text)
+
+
+def test_the_number_of_worked_examples():
+    assert re.findall(r"(\d+) worked examples", joined(PROOFS)) == [str(len(re.findall(r"\{ example\.\w+ \}", source("texting_robots/src/laws.rt"))))]
+
+
+def test_the_number_of_callers_with_proofs():
+    callers = re.findall(r"^pub mod", source("robots_examples/src/lib.rt"), re.M)
+    words = ["no", "one", "two", "three", "four", "five", "six", "seven"]
+    for text in (ARCHITECTURE, DOCUMENTS["docs/CONTRACTS.md"]):
+        assert re.findall(r"(\w+) callers with proofs", text) == [words[len(callers)]]
+
+
+def test_the_greatest_delay():
+    assert re.findall(r"is at most (\d{10,})", joined(SPECIFICATION)) == [str(2**64 - 1)]
+
+
+# ---- lists of names
+
+
+def test_field_names_are_those_of_the_library():
+    found = re.search(r"pub fn field_names.*?^\}", source("texting_robots/src/parser/statement.rt"), re.M | re.S)[0]
+    names = [[it.lower() for it in re.findall(r'"([^"]+)"', arm)] for arm in re.split(r"Kind::\w+ =>", found)[1:]]
+    documented = [row for row in tables(SPECIFICATION) if row[0] in ("User-agent", "Allow", "Disallow", "Sitemap", "Crawl-delay")]
+    assert [re.findall(r"`([^`]+)`", row[1]) for row in documented] == names
+
+
+def test_escaped_characters_are_those_of_the_library():
+    escaped = set(re.findall(r"\.add\(b'(.)'\)", source("texting_robots/src/escape.rt")))
+    sentence = re.search(r"\*\*Escaping\*\*.*?becomes `%`", joined(SPECIFICATION))[0]
+    documented = set(re.findall(r"`(.)`", sentence))
+    documented |= {" "} if " space," in sentence else set()
+    documented |= {"`"} if "backquote" in sentence else set()
+    assert documented - {"%"} == escaped
+    assert "(00 to 1F and 7F)" in sentence and "non-ASCII" in sentence
+
+
+def test_characters_that_change_the_writing_direction():
+    turning = re.search(r"fn turns_text.*?^\}", source("robots_io/src/sanitize.rt"), re.M | re.S)[0]
+    code = {int(it, 16) for first, last in re.findall(r"'\\u\{(\w+)\}'(?:\.\.='\\u\{(\w+)\}')?", turning) for it in (first, last) if it}
+    sentence = re.search(r"writing direction \((.*?)\)", joined(PROGRAMS))[1]
+    assert {int(it, 16) for it in re.findall(r"U\+(\w+)", sentence)} == code
+    assert sentence.count(" to ") == turning.count("..=") - 1  # U+200E and U+200F are two
+
+
+GOOGLE = re.search(r"\*\* Google's crawlers (.*?)get the group of `Googlebot`(.*?)never get the group of `\*`\. A group is", joined(PROGRAMS))
+LIKE_GOOGLEBOT, WITHOUT_STAR = ([name for name in re.findall(r"`([^`]+)`", GOOGLE[part])] for part in (1, 2))
+
+
+def test_crawlers_of_google():
+    lists = re.findall(r"const \w+: \[&str; \d\] = \[(.*?)\];", source("robots_warnings/src/google.rt"), re.S)
+    assert [LIKE_GOOGLEBOT, WITHOUT_STAR] == [re.findall(r'"([^"]+)"', names) for names in lists]
+
+
+@pytest.mark.parametrize("name", [*LIKE_GOOGLEBOT, *WITHOUT_STAR])
+def test_crawler_of_google_has_its_note(name):
+    """The specification takes the names from the source, so no proof sees a wrong one."""
+    note, group = ("googlebot-group", "Googlebot") if name in LIKE_GOOGLEBOT else ("google-ignores-star", "*")
+    result = run("robots_audit", ["-q", name], f"User-agent: {group}\nDisallow: /a\n".encode())
+    assert f" [{note}]\n" in result.err
+    result = run("robots_audit", ["-q", name], f"User-agent: {group}\nUser-agent: {name}\nDisallow: /a\n".encode())
+    assert result.err == ""
+
+
+def test_crates_and_modules_of_the_architecture():
+    crates = re.findall(r"^(\w+)(?: staticlib)?:", (ROOT / "crates.txt").read_text(), re.M)
+    documented = [name for row in tables(ARCHITECTURE) for name in re.findall(r"`([^`]+)`", row[0])]
+    assert set(crates) - {"texting_robots"} <= set(documented)
+    modules = {path.relative_to(CRATES / "texting_robots/src").with_suffix("").as_posix() for path in (CRATES / "texting_robots/src").rglob("*.rt")}
+    assert not [name for name in modules - {"lib", "laws"} if name.rpartition("/")[2] not in documented]
+
+
+def test_errors_of_the_guide_are_those_of_the_library():
+    variants = re.findall(r"^    (\w+),$", re.search(r"pub enum Error \{.*?^\}", source("texting_robots/src/error.rt"), re.M | re.S)[0], re.M)
+    documented = [name for row in tables(section(GUIDE, "From Rattle")) for name in re.findall(r"`Error::(\w+)`", row[0])]
+    assert documented == [name for name in variants if name != "InvalidRobots"]  # which no call returns
+
+
+def test_keys_of_golden_cases():
+    table = [row for row in tables(DOCUMENTS["CONTRIBUTING.md"].split("\n## Golden cases\n")[1]) if row[0].startswith("`")]
+    assert {name for row in table for name in re.findall(r"`([^`]+)`", row[0])} == KEYS
+
+
+# ---- tables whose rows are tested by their columns' names: a table with other names would be passed over
+
+COLUMNS = {
+    "docs/SPECIFICATION.md": {
+        "Term | Meaning", "Directive | Field names", "Line | Read as", "File | URL | Result", "URL | Match target",
+    },
+    "docs/COMPATIBILITY.md": {
+        "File | URL | RFC 9309 | Google | Rust crate | Here | Warning", "Input | RFC 9309 | Google | Rust crate | Here",
+        "Section | Topic | Here", "URL | Rust crate | Here",
+    },
+}  # fmt: skip
+
+
+@pytest.mark.parametrize("name", COLUMNS)
+def test_tables_have_the_columns_by_which_they_are_tested(name):
+    first = re.findall(r"^\| (.*) \|\n\|---", DOCUMENTS[name], re.M)
+    assert COLUMNS[name] <= set(first) <= COLUMNS[name] | {"Difference | Parser | File | URL | There | Here"}
+
+
+# ---- HTTP, as RFC 9309 states it in 2.3.1
+
+
+def test_http_status_codes_are_those_of_the_standard():
+    rows = {row[2]: (row[0], row[1]) for row in tables(section(GUIDE, "HTTP status codes")) if re.match(r"2\.3", row[2])}
+    assert {number: row[0] for number, row in rows.items()} == {
+        "2.3.1.1": "success", "2.3.1.2": "redirect", "2.3.1.3": "400 to 499", "2.3.1.4": "500 to 599, or a network error",
+    }  # fmt: skip
+    assert "five" in rows["2.3.1.2"][1] and "may fetch everything" in rows["2.3.1.3"][1] and "must not fetch anything" in rows["2.3.1.4"][1]
+    assert "24 hours" in section(GUIDE, "HTTP status codes")
+
+
+# ---- versions
+
+
+def test_one_version_of_the_toolchain():
+    version = subprocess.run(["rt", "version"], capture_output=True, text=True).stdout.splitlines()[0]
+    named = [it for text in DOCUMENTS.values() for it in re.findall(r"rattle-kit-\w+ logic \w+", text)]
+    assert len(named) >= 2 and set(named) == {version}
+
+
+def test_one_version_of_the_repository():
+    version = re.search(r'const VERSION: &str = "([^"]+)"', SOURCES)[1]
+    texts = [(ROOT / path).read_text() for path in ("bindings/python/pyproject.toml", "bindings/rust/Cargo.toml", "bindings/rust/sys/Cargo.toml")]
+    found = [it for text in texts for it in re.findall(r'^version = "([^"]+)"|\bversion = "([^"]+)" \}', text, re.M)]
+    found += re.findall(r'ROBOTS_VERSION_TEXT "([^"]+)"()', source("robots_c/robots.h"))
+    found += re.findall(r'__version__ = "([^"]+)"()', (ROOT / "bindings/python/src/texting_robots/__init__.py").read_text())
+    found += re.findall(r"^(?:## \[?)?(\d+\.\d+\.\d+)()\b", DOCUMENTS["CHANGELOG.md"], re.M)[:1]
+    assert len(found) == 7 and {first or second for first, second in found} == {version}
+
+
+def test_least_versions_of_python_and_rust():
+    python = re.search(r'requires-python = ">=([\d.]+)"', (ROOT / "bindings/python/pyproject.toml").read_text())[1]
+    assert re.findall(r"CPython ([\d.]+\d) or later", joined(BINDINGS["python"])) == [python]
+    rust = re.search(r'rust-version = "([\d.]+)"', (ROOT / "bindings/rust/Cargo.toml").read_text())[1]
+    assert re.findall(r"Rust ([\d.]+\d) or later", joined(BINDINGS["rust"])) == [rust]
+
+
+def test_one_version_of_the_rust_crate():
+    texts = [*DOCUMENTS.values(), BINDINGS["rust"]]
+    assert {it for text in texts for it in re.findall(r"`texting_robots` (0\.[\d.]*\d)", joined(text))} == {"0.2.2"}
+
+
+# ---- exit statuses
+
+LONG = b"User-agent: *\nDisallow: $" + b"a" * 4096
+
+
+def test_readme_has_the_exit_statuses():
+    text = re.search(r"The exit status is (.*?)\. ", joined(README))[1]
+    statuses = {words: int(status) for status, words in re.findall(r"(\d) ((?:if|after) [^,]*?)(?:,|$| or if)", text)}
+    assert statuses == {
+        "if every URL is allowed": run("robots_audit", ["B", "/a"], b"Disallow: /b").status,
+        "if one is denied": run("robots_audit", ["B", "/a", "/b"], b"Disallow: /b").status,
+        "after an error": run("robots_audit", ["-f", "NAME", "B"]).status,
+    }
+    assert run("robots_audit", ["B"], LONG).status == statuses["after an error"]
+
+
+def test_table_of_exit_statuses(tmp_path):
+    """Of each column the first thing that a row with a status other than 0 names."""
+    expect, old = tmp_path / "expect.txt", tmp_path / "old.txt"
+    expect.write_text("allow B /b\n")
+    old.write_text("Disallow: /a\n")
+    calls = {
+        "a URL is denied": (["B", "/b"], b"Disallow: /b"),
+        "an expectation fails": (["--expect", expect], b"Disallow: /b"),
+        "something differs": (["--compare", old, "B"], b"Disallow: /b"),
+        "the file is rejected for a crawler": (["B"], LONG),
+        "one of the files is rejected for a crawler": (["--compare", old, "B"], LONG),
+        "nothing differs": (["--compare", old, "B"], b"Disallow: /a"),
+        "all expectations hold": (["--expect", expect], b"Disallow: /a"),
+    }
+    columns = {"An audit": ["a URL is denied", "the file is rejected for a crawler"], "--expect": ["an expectation fails", "all expectations hold"]}
+    columns["--compare"] = ["something differs", "one of the files is rejected for a crawler", "nothing differs"]
+    rows = tables(PROGRAMS.split("\n### Exit status and errors\n")[1].split("\n### ")[0])
+    header, rows = [it.strip("`") for it in rows[0]], [row for row in rows if re.fullmatch(r"\d", row[0])]
+    for name, causes in columns.items():
+        for cause in causes:
+            (status,) = [int(row[0]) for row in rows if cause in row[header.index(name)]]
+            assert run("robots_audit", *calls[cause]).status == status, cause
