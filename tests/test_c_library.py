@@ -124,7 +124,7 @@ def test_installed_files_for_cmake(installed):
 CMAKE = """
 cmake_minimum_required(VERSION 3.10)
 project(caller C)
-find_package(robots_c 0.1 REQUIRED)
+find_package(robots_c 1.0 REQUIRED)
 add_executable(ask ask.c)
 target_link_libraries(ask robots_c::{target})
 """
