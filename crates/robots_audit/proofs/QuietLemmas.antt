@@ -2,7 +2,8 @@
 use Rattle.std.proofs.Common.{◌≡◌, ℕ, zero, suc, ◌*◌, ◌-◌, ◌/◌, ◌%◌, ◌==◌, Bool, true, false, List, []}
 use Rattle.std.proofs.Common.{◌++◌, Option, Some, None, bytes_eq, codes, decimal, length, refl, replicate}
 use Rattle.std.specs.Prelude.{if◌then◌else◌}
-use Rattle.texting_robots.specs.Callers.{Allow, CrawlDelay, Disallow, Label, LineValue, PlacedRule, Raw, Sitemap}
+use Rattle.texting_robots.specs.Callers.{Allow, CrawlDelay, Disallow, Label, LineValue, PlacedRule, Raw}
+use Rattle.texting_robots.specs.Callers.{Sitemap}
 use Rattle.texting_robots.specs.Callers.{UserAgent}
 use Rattle.texting_robots.specs.declared.decision.Decision.{Decision}
 use Rattle.texting_robots.specs.declared.labels.Membership.{Membership}
@@ -16,7 +17,8 @@ use Rattle.robots_warnings.specs.File.{is_blank, space}
 use Rattle.robots_audit.specs.declared.group.Group.{Group}
 use Rattle.robots_audit.specs.declared.group.Group.TheVariants.{Everyone, Named, Nobody, Star}
 use Rattle.robots_audit.specs.Compare.{change_text, crawler_text, decision_text, delay_word}
-use Rattle.robots_audit.specs.Compare.{group_word, kind_word, line_note, rule_line, rule_text, subject, url_line}
+use Rattle.robots_audit.specs.Compare.{group_word, kind_word, line_note, rule_line, rule_text, subject}
+use Rattle.robots_audit.specs.Compare.{url_line}
 use Rattle.robots_audit.specs.Delay.{delay_line, delay_text, fraction, million, seconds}
 use Rattle.robots_audit.specs.Report.{group_line, group_text, rejected_front, rejected_text, total_front}
 use Rattle.robots_audit.specs.Rows.{has_value, kind_text, label_text, row, value_text}
@@ -38,7 +40,8 @@ fraction_front : (digits millionths : ℕ) → IsFront (fraction digits milliont
 fraction_front zero millionths = front_nil
 fraction_front (suc digits) millionths =
     let tenths = millionths * 10 in
-    either IsFront (millionths == 0) [] (decimal (tenths / million) ++ fraction digits (tenths % million)) front_nil
+    either IsFront (millionths == 0) [] (decimal (tenths / million) ++ fraction digits (tenths % million))
+    front_nil
     (front_append (decimal (tenths / million)) (fraction digits (tenths % million))
     (decimal_middle (tenths / million)).front (fraction_front digits (tenths % million)))
 
@@ -96,7 +99,8 @@ row_quiet width label =
     let sign = label_text label.membership in
     after_front (blanks ++ number ++ codes " " ++ sign ++ codes " ") (word_and_value label.line)
     (front_append (blanks ++ number ++ codes " " ++ sign) (codes " ")
-    (front_append (blanks ++ number ++ codes " ") sign (front_append (blanks ++ number) (codes " ") aligned blank)
+    (front_append (blanks ++ number ++ codes " ") sign
+    (front_append (blanks ++ number) (codes " ") aligned blank)
     (label_front label.membership)) blank) (column_quiet label.line)
 
 -- ---- the part for a crawler
@@ -105,7 +109,8 @@ row_quiet width label =
 pub between : (before bytes after : List ℕ) → IsFront before → IsMiddle after
     → IsFront (before ++ sanitized bytes ++ after)
 between before bytes after is too =
-    before_middle (before ++ sanitized bytes) after (after_front before (sanitized bytes) is (shown bytes)) too
+    before_middle (before ++ sanitized bytes) after
+    (after_front before (sanitized bytes) is (shown bytes)) too
 
 group_text_quiet : (agent : List ℕ) (group : Group) → IsQuiet (group_text agent group)
 group_text_quiet agent Named = shown agent
@@ -136,11 +141,13 @@ verdict_front_is true None = front_text (codes "allow - ") refl
 verdict_front_is false None = front_text (codes "deny - ") refl
 verdict_front_is true (Some line) =
     front_append (codes "allow " ++ decimal line) (codes " ")
-    (front_append (codes "allow ") (decimal line) (front_text (codes "allow ") refl) (decimal_middle line).front)
+    (front_append (codes "allow ") (decimal line) (front_text (codes "allow ") refl)
+    (decimal_middle line).front)
     (front_text (codes " ") refl)
 verdict_front_is false (Some line) =
     front_append (codes "deny " ++ decimal line) (codes " ")
-    (front_append (codes "deny ") (decimal line) (front_text (codes "deny ") refl) (decimal_middle line).front)
+    (front_append (codes "deny ") (decimal line) (front_text (codes "deny ") refl)
+    (decimal_middle line).front)
     (front_text (codes " ") refl)
 
 pub verdict_quiet : (allowed : Bool) (line : Option ℕ) (url : List ℕ)
@@ -205,16 +212,19 @@ kind_word_is false = front_text (codes "Disallow: ") refl
 note_is : (line : ℕ) → IsMiddle (line_note line)
 note_is line =
     middle_append (codes " (line " ++ decimal line) (codes ")")
-    (middle_append (codes " (line ") (decimal line) (middle_text (codes " (line ") refl) (decimal_middle line).front)
+    (middle_append (codes " (line ") (decimal line) (middle_text (codes " (line ") refl)
+    (decimal_middle line).front)
     (front_text (codes ")") refl)
 
-pub rule_quiet : (agent sign : List ℕ) (placed : PlacedRule) → IsMiddle sign → IsQuiet (rule_line agent sign placed)
+pub rule_quiet : (agent sign : List ℕ) (placed : PlacedRule) → IsMiddle sign
+    → IsQuiet (rule_line agent sign placed)
 rule_quiet agent sign placed is =
     after_front (subject agent sign) (rule_text placed) (subject_is agent sign is)
     (between (kind_word placed.rule.1) placed.rule.0 (line_note placed.line) (kind_word_is placed.rule.1)
     (note_is placed.line)).quiet
 
-decision_quiet : (allowed : Bool) (line : Option ℕ) → IsQuiet (decision_text (record { allowed = allowed; line = line }))
+decision_quiet : (allowed : Bool) (line : Option ℕ)
+    → IsQuiet (decision_text (record { allowed = allowed; line = line }))
 decision_quiet true None = refl
 decision_quiet false None = refl
 decision_quiet true (Some line) =
@@ -227,11 +237,15 @@ decision_quiet false (Some line) =
 pub url_quiet : (agent url : List ℕ) (older newer : Decision) → IsQuiet (url_line agent url older newer)
 url_quiet agent url older newer =
     let front = crawler_text agent ++ codes " " in
-    let named = before_middle (crawler_text agent) (codes " ") (crawler_quiet agent) (middle_text (codes " ") refl) in
-    after_front (front ++ sanitized url ++ codes ": ") (change_text (decision_text older) (decision_text newer))
+    let named = before_middle (crawler_text agent) (codes " ") (crawler_quiet agent)
+    (middle_text (codes " ") refl) in
+    after_front (front ++ sanitized url ++ codes ": ")
+    (change_text (decision_text older) (decision_text newer))
     (between front url (codes ": ") named (middle_text (codes ": ") refl))
     (change_quiet (decision_text older) (decision_text newer) (decision_quiet older.allowed older.line)
     (decision_quiet newer.allowed newer.line))
 
-pub rejection_quiet : (file agent : List ℕ) (line : ℕ) → IsFront file → IsQuiet (file ++ rejected_text agent line)
-rejection_quiet file agent line is = after_front file (rejected_text agent line) is (rejected_is agent line).quiet
+pub rejection_quiet : (file agent : List ℕ) (line : ℕ) → IsFront file
+    → IsQuiet (file ++ rejected_text agent line)
+rejection_quiet file agent line is =
+    after_front file (rejected_text agent line) is (rejected_is agent line).quiet
