@@ -98,15 +98,15 @@ def test_characters_that_change_the_writing_direction():
 
 
 GOOGLE = re.search(r"\*\* Google's crawlers (.*?)get the group of `Googlebot`(.*?)never get the group of `\*`\. A group is", joined(PROGRAMS))
-LIKE_GOOGLEBOT, WITHOUT_STAR = ([name for name in re.findall(r"`([^`]+)`", GOOGLE[part])] for part in (1, 2))
+LIKE_GOOGLEBOT, IGNORING_STAR = ([name for name in re.findall(r"`([^`]+)`", GOOGLE[part])] for part in (1, 2))
 
 
 def test_crawlers_of_google():
     lists = re.findall(r"const \w+: \[&str; \d\] = \[(.*?)\];", source("robots_warnings/src/google.rt"), re.S)
-    assert [LIKE_GOOGLEBOT, WITHOUT_STAR] == [re.findall(r'"([^"]+)"', names) for names in lists]
+    assert [LIKE_GOOGLEBOT, IGNORING_STAR] == [re.findall(r'"([^"]+)"', names) for names in lists]
 
 
-@pytest.mark.parametrize("name", [*LIKE_GOOGLEBOT, *WITHOUT_STAR])
+@pytest.mark.parametrize("name", [*LIKE_GOOGLEBOT, *IGNORING_STAR])
 def test_crawler_of_google_has_its_note(name):
     """The specification takes the names from the source, so no proof sees a wrong one."""
     note, group = ("googlebot-group", "Googlebot") if name in LIKE_GOOGLEBOT else ("google-ignores-star", "*")

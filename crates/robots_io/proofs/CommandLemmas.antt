@@ -1,17 +1,21 @@
--- Sanitized texts don't contain the start of a command; nor do texts that are appended to each other, unless one
--- ends and the next one begins with a part of it.
-use Rattle.std.proofs.Common.{◌≡◌, ◌≢◌, ℕ, zero, suc, ◌<◌, ◌/◌, ◌%◌, ◌==◌, Bool, true, false, List, [], ◌∷◌, ◌++◌}
-use Rattle.std.proofs.Common.{append-nil, arith, decimal, flat_map, get_or, inl, inr, length, refl, replicate, sym, ◌∙◌}
+-- Sanitized texts don't contain the start of a command; nor do texts that are appended to each other, unless
+-- one ends and the next one begins with a part of it.
+use Rattle.std.proofs.Common.{◌≡◌, ◌≢◌, ℕ, zero, suc, ◌<◌, ◌/◌, ◌%◌, ◌==◌, Bool, true, false, List, [], ◌∷◌}
+use Rattle.std.proofs.Common.{◌++◌}
+use Rattle.std.proofs.Common.{append-nil, arith, decimal, flat_map, get_or, inl, inr, length, refl, replicate}
+use Rattle.std.proofs.Common.{sym, ◌∙◌}
 use Rattle.std.specs.Prelude.{encode_utf8, nat_eq, not, ◌&&◌, ◌||◌}
 use Rattle.std.specs.Fmt.{digit_glyph, digits, digits_onto}
 use Rattle.std.specs.List.{list_all, starts_with}
 use Rattle.std.specs.Str.{chars, encode_utf8_all}
-use Rattle.std.proofs.lemmas.Bool.{and_cases, and_left, and_parts, and_right, cases_Bool, false≢true, not-true}
+use Rattle.std.proofs.lemmas.Bool.{and_cases, and_left, and_parts, and_right, cases_Bool, false≢true}
+use Rattle.std.proofs.lemmas.Bool.{not-true}
 use Rattle.std.proofs.lemmas.Bool.{or_from, or_parts, or_right}
 use Rattle.std.proofs.lemmas.Bool.Decides.{nat_tests}
 use Rattle.std.proofs.lemmas.List.Folds.{list_all-append}
 use Rattle.std.proofs.lemmas.Str.{inside_one}
-use Rattle.robots_io.specs.Sanitize.{command_start, has_command, safe_in, sanitized_in, without_commands, without_hash}
+use Rattle.robots_io.specs.Sanitize.{command_start, has_command, safe_in, sanitized_in, without_commands}
+use Rattle.robots_io.specs.Sanitize.{without_hash}
 
 -- ---- sanitized texts
 
@@ -156,7 +160,8 @@ middle_text text is =
     record { front = front_text text both.1; begins = both.0 }
 
 -- a text after a front
-pub after_front : (one two : List ℕ) → IsFront one → has_command two ≡ false → has_command (one ++ two) ≡ false
+pub after_front : (one two : List ℕ) → IsFront one → has_command two ≡ false
+    → has_command (one ++ two) ≡ false
 after_front one two is too = seam one two is.quiet too (rw is.ends refl)
 
 pub front_append : (one two : List ℕ) → IsFront one → IsFront two → IsFront (one ++ two)
@@ -170,7 +175,8 @@ front_append one (b ∷ two) is too = record {
 pub before_middle : (one two : List ℕ) → has_command one ≡ false → IsMiddle two → IsFront (one ++ two)
 before_middle one [] is too = absurd (false≢true too.begins)
 before_middle one (b ∷ two) is too = record {
-  quiet = seam one (b ∷ two) is too.front.quiet (or_right (ends_apart one) (begins_apart (b ∷ two)) too.begins);
+  quiet = seam one (b ∷ two) is too.front.quiet
+      (or_right (ends_apart one) (begins_apart (b ∷ two)) too.begins);
   ends = ends_append one b two ∙ too.front.ends;
 }
 

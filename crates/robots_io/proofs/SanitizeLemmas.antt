@@ -23,7 +23,8 @@ use Rattle.bstr.proofs.lemmas.SoundLemmas.{SpellsChar-decoded}
 use Rattle.texting_robots.specs.Escape.{escape_byte, is_escaped}
 use Rattle.robots_io.specs.Lines.{ended, lf}
 use Rattle.robots_io.specs.Sanitize.{IsPrintable, IsPrintableIn, has_command, is_printable, is_printable_byte}
-use Rattle.robots_io.specs.Sanitize.{safe_chunk, safe_chunks, safe_in, sanitized, sanitized_in, sanitized_lines}
+use Rattle.robots_io.specs.Sanitize.{safe_chunk, safe_chunks, safe_in, sanitized, sanitized_in}
+use Rattle.robots_io.specs.Sanitize.{sanitized_lines}
 use Rattle.robots_io.specs.Sanitize.{without_commands, without_hash}
 use lib.Utf8.{scalar}
 

@@ -1,5 +1,5 @@
--- Sanitized text: invalid UTF-8, characters that are unsafe to display, and the start of commands are escaped, the
--- rest is unchanged.
+-- Sanitized text: invalid UTF-8, characters that are unsafe to display, and the start of commands are
+-- escaped, the rest is unchanged.
 use Rattle.std.specs.Prelude.{ℕ, ◌==◌, nat_eq, nat_lt, Bool, true, false, not, ◌&&◌, ◌||◌, IsTrue, List}
 use Rattle.std.specs.Prelude.{[], ◌∷◌, ◌++◌, Option, Some, None, codes, drop, encode_utf8, encode_utf8_all}
 use Rattle.std.specs.Prelude.{flat_map, if◌then◌else◌, take}

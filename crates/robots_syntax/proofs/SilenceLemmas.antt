@@ -98,7 +98,8 @@ none_above last preceding above delay (label ∷ labels) all =
     let name : Option (List ℕ) = sole_name preceding above label.line in
     let after : Option ℕ = first_delay delay label.line in
     let rest : List WarningValue = positions_from last next name after labels in
-    let quiets = warned_quiet (Some label.number) None checks (each_front IsNotAboutSyntax first rest all) in (
+    let quiets =
+    warned_quiet (Some label.number) None checks (each_front IsNotAboutSyntax first rest all) in (
       not-true _ quiets.0,
       none_above last next name after labels (each_back IsNotAboutSyntax first rest all),
     )

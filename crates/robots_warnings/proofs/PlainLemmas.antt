@@ -1,5 +1,6 @@
 -- No check of a rule holds for a plain rule.
-use Rattle.std.proofs.Common.{◌≡◌, ℕ, suc, zero, ◌+◌, ◌-◌, nat_le, nat_lt, ◌<◌, ◌==◌, ◌||◌, ◌&&◌, Bool, List, [], ◌∷◌, Option}
+use Rattle.std.proofs.Common.{◌≡◌, ℕ, suc, zero, ◌+◌, ◌-◌, nat_le, nat_lt, ◌<◌, ◌==◌, ◌||◌, ◌&&◌, Bool, List}
+use Rattle.std.proofs.Common.{[], ◌∷◌, Option}
 use Rattle.std.proofs.Common.{ap, arith, drop, false, length, not, refl, subst, sym, take, true, ◌∙◌}
 use Rattle.std.proofs.Common.{eqb}
 use Rattle.std.specs.Cmp.Lexicographic.{pointwise}
@@ -13,7 +14,8 @@ use Rattle.std.proofs.lemmas.Str.Ascii.{IsAscii-cons, IsAscii-nil}
 use Rattle.robots_warnings.specs.Checks.{rule_checks}
 use Rattle.robots_warnings.specs.Internal.Plain.{is_plain, is_plain_byte}
 use Rattle.robots_warnings.specs.Rules.{after_byte, begins_any, begins_class, begins_dot_segment}
-use Rattle.robots_warnings.specs.Rules.{begins_range, begins_sign, has_choice, has_dollar_inside, has_final_plus}
+use Rattle.robots_warnings.specs.Rules.{begins_range, begins_sign, has_choice, has_dollar_inside}
+use Rattle.robots_warnings.specs.Rules.{has_final_plus}
 use Rattle.robots_warnings.specs.Rules.{has_dot_segment, holds_otherwise, is_expression, is_quoted}
 use Rattle.robots_warnings.specs.Rules.{is_written_otherwise, somewhere}
 use Rattle.robots_warnings.specs.SeveralValues.{begins_next_value, has_several_values}
@@ -188,11 +190,11 @@ below_root line about rest plain =
       several value plain,
     ) refl
 
-pub plain_has_no_warning : (line : Option ℕ) (about : Option (List ℕ)) (value : List ℕ) → is_plain value ≡ true
-    → warned line about (rule_checks value) ≡ []
+pub plain_has_no_warning : (line : Option ℕ) (about : Option (List ℕ)) (value : List ℕ)
+    → is_plain value ≡ true → warned line about (rule_checks value) ≡ []
 plain_has_no_warning line about [] plain = absurd (false≢true plain)
 plain_has_no_warning line about (c ∷ rest) plain =
     let both = and_parts (eqb 47 c && true) (are_plain (c ∷ rest)) plain in
     let slash : 47 ≡ c = eqb-true 47 c (and_parts (eqb 47 c) true both.0).0 in
-    subst (λ first. are_plain (first ∷ rest) ≡ true → warned line about (rule_checks (first ∷ rest)) ≡ []) slash
-    (below_root line about rest) both.1
+    subst (λ first. are_plain (first ∷ rest) ≡ true → warned line about (rule_checks (first ∷ rest)) ≡ [])
+    slash (below_root line about rest) both.1

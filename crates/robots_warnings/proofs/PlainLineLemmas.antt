@@ -126,7 +126,8 @@ rule_line line is_in_scope value body plain spelled colon tail comment =
     rw (tail, comment) (texts line value all) in
     none line (field_checks body ++ raws) (rules ++ text_checks (tail_of body) (comment_of body))
     (none line (field_checks body) raws fields raw)
-    (none line rules (text_checks (tail_of body) (comment_of body)) (values line is_in_scope value plain) text)
+    (none line rules (text_checks (tail_of body) (comment_of body))
+    (values line is_in_scope value plain) text)
 
 allow_line : (line : Option ℕ) (is_in_scope : Bool) (value : List ℕ) → is_plain value ≡ true
     → warned line None (line_checks is_in_scope (Allow value) (codes "Allow: " ++ value)) ≡ []

@@ -6,7 +6,8 @@ use Rattle.std.specs.Option.{option_or}
 use Rattle.texting_robots.specs.declared.labels.LabeledLine.{LabeledLine}
 use Rattle.texting_robots.specs.Callers.{by_value, label_by_value}
 use Rattle.robots_warnings.specs.File.{lines_of}
-use Rattle.robots_warnings.specs.Positions.{begin_with_one, begin_with_rules, group_number, last_group, name_star}
+use Rattle.robots_warnings.specs.Positions.{begin_with_one, begin_with_rules, group_number, last_group}
+use Rattle.robots_warnings.specs.Positions.{name_star}
 
 -- the number of the last rule or delay from index `at` on, in terms of the line there
 pub last_from : (labels : List LabeledLine) (at : ℕ) (labeled : LabeledLine) → at < length labels

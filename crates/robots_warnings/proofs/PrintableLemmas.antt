@@ -61,8 +61,10 @@ about_printable cause (Some name) =
 
 detail_printable : (detail : Option Detail) → IsPrintable (detail_text detail)
 detail_printable None = nil_printable true
-detail_printable (Some (Rules count)) = search (append_printable true, ascii_printable true, decimal_printable true)
-detail_printable (Some (Line number)) = search (append_printable true, ascii_printable true, decimal_printable true)
+detail_printable (Some (Rules count)) =
+    search (append_printable true, ascii_printable true, decimal_printable true)
+detail_printable (Some (Line number)) =
+    search (append_printable true, ascii_printable true, decimal_printable true)
 
 pub text_printable : (warning : WarningValue) → IsPrintable (warning_text warning)
 text_printable warning =

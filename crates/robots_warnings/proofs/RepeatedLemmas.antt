@@ -56,7 +56,8 @@ met_allow old new value is meets same = record {
 
 -- a Disallow is met
 pub met_disallow : (old new : Met) (value : List ℕ) (is : Bool)
-    → MeetsValue old.disallows new.disallows value is → new.allows ≡ old.allows → MeetsLine old new (Disallow value) is
+    → MeetsValue old.disallows new.disallows value is → new.allows ≡ old.allows
+    → MeetsLine old new (Disallow value) is
 met_disallow old new value is meets same = record {
   was = λ above has. meets.was false above has.disallows;
   has = λ above has. record {

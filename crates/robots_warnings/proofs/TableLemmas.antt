@@ -23,7 +23,8 @@ pub part_at : {R X : Type 0} (part : R → X) {rows : List R} {at : ℕ} {row : 
     → IsAt rows at row → slice_index_or (map part rows) at other ≡ part row
 part_at part {rows} {at} {row} other is = at_place part rows at row other is.found
 
--- if the items are about the warnings in the order of their numbers, the item at a number is about that warning
+-- if the items are about the warnings in the order of their numbers, the item at a number is about that
+-- warning
 pub own_row : {R : Type 0} (cause_of : R → Cause) {rows : List R} {row : R} (cause : Cause)
     → IsAt rows (number_of cause) row
     → map (λ row. number_of (cause_of row)) rows ≡ range_with_len 0 (length WARNINGS) → cause_of row ≡ cause

@@ -10,11 +10,14 @@ use Rattle.robots_warnings.specs.declared.facts.FileFacts.{FileFacts}
 use Rattle.robots_warnings.specs.declared.positions.Preceding.{Preceding}
 use Rattle.robots_warnings.specs.declared.table.Cause.{Cause}
 use Rattle.robots_warnings.specs.declared.table.Cause.TheVariants as cause
-use Rattle.robots_warnings.specs.Contents.{comment_of, has_odd_comment, has_odd_delay, has_odd_space, is_cut_short, is_cut_to_root, tail_of}
+use Rattle.robots_warnings.specs.Contents.{comment_of, has_odd_comment, has_odd_delay, has_odd_space}
+use Rattle.robots_warnings.specs.Contents.{is_cut_short, is_cut_to_root, tail_of}
 use Rattle.robots_warnings.specs.FieldNames.{has_inner_field, is_misspelled, is_without_colon, meant_by}
 use Rattle.robots_warnings.specs.File.{is_blank}
-use Rattle.robots_warnings.specs.Positions.{is_above_agents, is_empty_group, is_other_delay, is_split_from_others, is_split_from_star}
-use Rattle.robots_warnings.specs.Rules.{has_dollar_inside, has_dot_segment, has_odd_start, holds_otherwise, is_expression, is_quoted}
+use Rattle.robots_warnings.specs.Positions.{is_above_agents, is_empty_group, is_other_delay}
+use Rattle.robots_warnings.specs.Positions.{is_split_from_others, is_split_from_star}
+use Rattle.robots_warnings.specs.Rules.{has_dollar_inside, has_dot_segment, has_odd_start, holds_otherwise}
+use Rattle.robots_warnings.specs.Rules.{is_expression, is_quoted}
 use Rattle.robots_warnings.specs.SeveralValues.{has_several_values}
 use Rattle.robots_warnings.specs.Tokens.{has_slash, has_space_around, is_invalid_name, is_unusual_name}
 use Rattle.robots_warnings.specs.Urls.{begins_as_url, is_absolute_url, is_invalid_url, is_url_or_path}

@@ -4,13 +4,13 @@ use Rattle.std.specs.Prelude.{if◌then◌else◌}
 use Rattle.std.specs.List.{list_any}
 use Rattle.texting_robots.specs.Callers.{AreRulesFor, LineValue, PlacedRule, placed_rules}
 
--- the pattern as it is compared with others: `/` in place of `*`, which matches the same paths and is as long,
--- so that an Allow of one wins over a Disallow of the other
+-- the pattern as it is compared with others: `/` in place of `*`, which matches the same paths and is as
+-- long, so that an Allow of one wins over a Disallow of the other
 abbrev pub compared : List ℕ → List ℕ
 compared pattern = if bytes_eq pattern (codes "*") then codes "/" else pattern
 
--- the line with this number is a Disallow that applies to the crawler, as does an Allow with the same pattern,
--- where `/` and `*` are the same. An empty Disallow is an Allow of `/`
+-- the line with this number is a Disallow that applies to the crawler, as does an Allow with the same
+-- pattern, where `/` and `*` are the same. An empty Disallow is an Allow of `/`
 pub record IsConflict (agent : List ℕ) (lines : List LineValue) (number : ℕ) : Type 0 where
   pub rules : List PlacedRule
   pub are : AreRulesFor agent lines rules

@@ -1,5 +1,5 @@
--- Conditions on what the content of a directive has besides its value: white space, a comment, and the text of
--- a delay. Those on a raw value are for directives with a colon after the field name.
+-- Conditions on what the content of a directive has besides its value: white space, a comment, and the text
+-- of a delay. Those on a raw value are for directives with a colon after the field name.
 use Rattle.std.specs.Prelude.{ℕ, ◌==◌, nat_eq, Bool, not, ◌||◌, ◌&&◌, List, bytes_eq, codes, drop, length}
 use Rattle.std.specs.Prelude.{nat_lt}
 use Rattle.std.specs.Char.{is_ascii_digit}

@@ -76,7 +76,8 @@ seems_html file = starts_with nat_eq (without_white (without_start mark file)) (
 
 -- the file starts with a byte of a byte order mark, but not with all of it; the bytes there are skipped
 abbrev pub has_damaged_mark : List ℕ → Bool
-has_damaged_mark file = list_any (λ b. starts_with nat_eq file (b ∷ [])) mark && not (starts_with nat_eq file mark)
+has_damaged_mark file =
+    list_any (λ b. starts_with nat_eq file (b ∷ [])) mark && not (starts_with nat_eq file mark)
 
 -- a NUL is within the size limit, where it ends a line
 abbrev pub has_nul : List ℕ → Bool

@@ -3,7 +3,7 @@ use Rattle.std.specs.Prelude.{ℕ, Bool, false, not, ◌&&◌, List, [], ◌∷�
 use Rattle.std.specs.List.{before_first, list_any}
 use Rattle.std.specs.Str.{str_eq_ignore_ascii_case}
 use Rattle.texting_robots.specs.Callers.{LineValue, UserAgent, is_named}
-use Rattle.robots_warnings.specs.declared.google.TheConstants.{LIKE_GOOGLEBOT, WITHOUT_STAR}
+use Rattle.robots_warnings.specs.declared.google.TheConstants.{LIKE_GOOGLEBOT, IGNORING_STAR}
 use Rattle.robots_warnings.specs.declared.table.Cause.TheVariants as cause
 use Rattle.robots_warnings.specs.Checks.{Check}
 use Rattle.robots_warnings.specs.Tokens.{ends_token}
@@ -13,8 +13,8 @@ abbrev pub like_googlebot : List (List ℕ)
 like_googlebot = map (λ name. name.now) LIKE_GOOGLEBOT
 
 -- those of Google's crawlers that never get the group of `*`
-abbrev pub without_star : List (List ℕ)
-without_star = map (λ name. name.now) WITHOUT_STAR
+abbrev pub ignoring_star : List (List ℕ)
+ignoring_star = map (λ name. name.now) IGNORING_STAR
 
 -- one of these crawlers has this name, ASCII letters in any case
 abbrev pub is_given : List (List ℕ) → List ℕ → Bool
@@ -48,8 +48,8 @@ abbrev pub is_like_googlebot : List ℕ → Bool
 is_like_googlebot agent = list_any (λ name. str_eq_ignore_ascii_case name.now agent) LIKE_GOOGLEBOT
 
 -- the crawler is one of Google's that never get the group of `*`
-abbrev pub is_without_star : List ℕ → Bool
-is_without_star agent = list_any (λ name. str_eq_ignore_ascii_case name.now agent) WITHOUT_STAR
+abbrev pub is_ignoring_star : List ℕ → Bool
+is_ignoring_star agent = list_any (λ name. str_eq_ignore_ascii_case name.now agent) IGNORING_STAR
 
 -- Google applies the group of Googlebot to the crawler
 abbrev pub gets_googlebots : List LineValue → List ℕ → Bool
@@ -57,7 +57,7 @@ gets_googlebots lines agent = is_like_googlebot agent && has_only_googlebots lin
 
 -- Google applies no group to the crawler, although there is a group of `*`
 abbrev pub gets_nobodys : List LineValue → List ℕ → Bool
-gets_nobodys lines agent = is_without_star agent && has_only_star lines agent
+gets_nobodys lines agent = is_ignoring_star agent && has_only_star lines agent
 
 -- of these crawlers, the one with this name, which gets the group of Googlebot if it has none of its own
 abbrev pub googlebot_checks : List LineValue → List (List ℕ) → List ℕ → List Check

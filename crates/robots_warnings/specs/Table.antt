@@ -29,8 +29,8 @@ text_of cause = slice_index_or (map (λ row. row.3.now) WARNINGS) (number_of cau
 unfoldable pub example_of : Cause → List ℕ
 example_of cause = slice_index_or (map (λ row. row.1.now) EXAMPLES) (number_of cause) []
 
--- the warning isn't about the syntax of a file, but about the request, the size of the file, or what a file of
--- the standard's grammar means
+-- the warning isn't about the syntax of a file, but about the request, the size of the file, or what a file
+-- of the standard's grammar means
 abbrev pub is_not_about_syntax : Cause → Bool
 is_not_about_syntax cause = list_any (λ other. number_of other == number_of cause) NOT_ABOUT_SYNTAX
 

@@ -16,7 +16,7 @@ use Rattle.robots_warnings.specs.declared.warning.Detail.{Detail}
 use Rattle.robots_warnings.specs.declared.warning.Detail.TheVariants.{Line, Rules}
 use Rattle.robots_warnings.specs.Closed.{is_closed}
 use Rattle.robots_warnings.specs.Conflicts.{is_conflict}
-use Rattle.robots_warnings.specs.Google.{googlebot_checks, like_googlebot, star_checks, without_star}
+use Rattle.robots_warnings.specs.Google.{googlebot_checks, like_googlebot, star_checks, ignoring_star}
 use Rattle.robots_warnings.specs.Checks.{Check, agent_checks, file_checks, line_checks, position_checks}
 use Rattle.robots_warnings.specs.Checks.{is_in_scope_of, url_checks}
 use Rattle.robots_warnings.specs.Facts.{suppresses_line_warnings}
@@ -172,7 +172,7 @@ star_warnings everywhere agents lines name =
 abbrev pub google_warnings : Bool → List (List ℕ) → List LineValue → List WarningValue
 google_warnings everywhere agents lines =
     flat_map (googlebot_warnings everywhere agents lines) like_googlebot
-    ++ flat_map (star_warnings everywhere agents lines) without_star
+    ++ flat_map (star_warnings everywhere agents lines) ignoring_star
 
 -- warnings about the rules of a group or of a crawler as a whole
 abbrev pub group_warnings : Bool → List (List ℕ) → List LineValue → List Label → List WarningValue

@@ -23,7 +23,7 @@ pub(crate) const LIKE_GOOGLEBOT: [&str; 5] = [
 ];
 
 /// Crawlers that never get the group of `*`.
-pub(crate) const WITHOUT_STAR: [&str; 4] = [
+pub(crate) const IGNORING_STAR: [&str; 4] = [
     "AdsBot-Google",
     "AdsBot-Google-Mobile",
     "APIs-Google",
@@ -102,7 +102,7 @@ pub fn gets_googlebots(site: &Site, agent: &str) -> bool
 pub fn gets_nobodys(site: &Site, agent: &str) -> bool
     ensures { result ≡ gets_nobodys (file_lines site.now) agent.now }
 {
-    is_one_of(&WITHOUT_STAR, agent) && has_only_star(site, agent)
+    is_one_of(&IGNORING_STAR, agent) && has_only_star(site, agent)
 }
 
 /// Checks of the one of these crawlers with this name, which gets the group of Googlebot if it has none of its

@@ -19,7 +19,7 @@ use crate::contents::split_content;
 use crate::facts::{FileFacts, suppresses_line_warnings};
 use crate::field_names::is_without_colon;
 use crate::file::{counted, is_blank};
-use crate::google::{LIKE_GOOGLEBOT, WITHOUT_STAR, googlebot_checks, star_checks};
+use crate::google::{IGNORING_STAR, LIKE_GOOGLEBOT, googlebot_checks, star_checks};
 use crate::names_past_limit::names_past_limit;
 use crate::plain::{is_plain, is_plain_line};
 use crate::positions::{Preceding, first_delay, last_group, preceding_with, sole_name};
@@ -410,7 +410,7 @@ fn warn_of_google(
         (google_warnings everywhere (map string_bytes agents.now) (file_lines site.now))) }
 {
     warn_of_googlebots(found, everywhere, site, agents, &LIKE_GOOGLEBOT)?;
-    warn_of_nobodys(found, everywhere, site, agents, &WITHOUT_STAR)
+    warn_of_nobodys(found, everywhere, site, agents, &IGNORING_STAR)
 }
 
 /// Appends the warnings about the rules of a group or of a crawler as a whole.

@@ -1,5 +1,6 @@
 -- The set of the patterns of the Disallows of `*`, and that of the names of crawlers that have none of these.
-use Rattle.std.specs.Prelude.{◌≡◌, ℕ, Bool, false, not, ◌||◌, ◌&&◌, List, [], Option, None, Some, bytes_eq, codes}
+use Rattle.std.specs.Prelude.{◌≡◌, ℕ, Bool, false, not, ◌||◌, ◌&&◌, List, [], Option, None, Some, bytes_eq}
+use Rattle.std.specs.Prelude.{codes}
 use Rattle.std.specs.BTreeSet.{BTreeSet, contains}
 use Rattle.std.specs.HashSet.{contains_text}
 use Rattle.std.specs.List.{cons_option, list_any}

@@ -14,6 +14,7 @@ invariant-loop-line l =
       can_next : (goal.iterator-loop-line).can_next l.line-iterator;
       is_finite : (goal.iterator-loop-line).is_finite l.line-iterator;
       all : (number : ℕ) → (contains nat_cmp l.numbers number
-          || list_any (is_conflict_at (placed_rules l.agent lines) number) (filter_map rule_of l.line-iterator))
+          || list_any (is_conflict_at (placed_rules l.agent lines) number)
+          (filter_map rule_of l.line-iterator))
           ≡ (contains nat_cmp l.fn.numbers number || is_conflict_for lines number l.agent);
     }

@@ -8,7 +8,8 @@ use Rattle.robots_warnings.proofs.warnings.warn_of_positions.Given as goal
 abbrev pub invariant-loop-rest : goal.invariant-loop-rest
 invariant-loop-rest l =
     map warning_value l.found.items
-    ++ positions_from l.last l.preceding (option_map (λ name. name.now) l.above) l.delay (map label_by_value l.rest)
+    ++ positions_from l.last l.preceding (option_map (λ name. name.now) l.above) l.delay
+    (map label_by_value l.rest)
     ≡ map warning_value l.fn.found.items ++ position_warnings (map label_by_value l.labels)
 
 abbrev pub decreases-loop-rest : goal.decreases-loop-rest

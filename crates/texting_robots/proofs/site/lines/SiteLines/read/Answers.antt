@@ -1,4 +1,5 @@
-use Rattle.std.proofs.Common.{◌≡◌, ◌+◌, ◌-◌, ◌++◌, [], ◌∷◌, ℕ, List, append_assoc, append-nil, ap, arith, cond}
+use Rattle.std.proofs.Common.{◌≡◌, ◌+◌, ◌-◌, ◌++◌, [], ◌∷◌, ℕ, List, append_assoc, append-nil, ap, arith}
+use Rattle.std.proofs.Common.{cond}
 use Rattle.std.proofs.Common.{drop, length, length-drop, map, None, refl, sym, take, true, ◌∙◌}
 use Rattle.std.proofs.lemmas.{Bool.Decides.nat_tests, List.length-append, List.nil_from_length}
 use Rattle.std.proofs.lemmas.List.{take-append-drop}
