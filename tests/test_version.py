@@ -23,9 +23,9 @@ PLACES = [
     ("bindings/rust/Cargo.toml", rf"^(?:|texting_robots_c-sys = .*)version = {QUOTED}"),
     ("bindings/rust/sys/Cargo.toml", rf"^version = {QUOTED}"),
     ("bindings/rust/sys/src/lib.rs", r"ROBOTS_VERSION: u32 = ([\d_]+)", NUMBER),
-    ("crates/robots_audit/proofs/SarifLemmas.antt", rf'codes (?!"2\.1\.0"){QUOTED}'),
-    ("crates/robots_audit/specs/Sarif.antt", rf'codes "version"\) \(string \(codes (?!"2\.1\.0"){QUOTED}'),
-    ("crates/robots_audit/src/command.rt", rf"VERSION\w*: &str = {QUOTED}"),
+    ("crates/audit_formats/proofs/SarifLemmas.antt", rf'codes (?!"2\.1\.0"){QUOTED}'),
+    ("crates/audit_formats/specs/Sarif.antt", rf'codes "version"\) \(string \(codes (?!"2\.1\.0"){QUOTED}'),
+    ("crates/audit_core/src/version.rt", rf"VERSION\w*: &str = {QUOTED}"),
     ("crates/robots_c/robots.h", r"ROBOTS_VERSION_MAJOR (\d+)", MAJOR),
     ("crates/robots_c/robots.h", r"ROBOTS_VERSION_MINOR (\d+)", MINOR),
     ("crates/robots_c/robots.h", r"ROBOTS_VERSION_PATCH (\d+)", PATCH),
@@ -52,7 +52,7 @@ def test_program_prints_the_version_and_the_toolchain():
     assert run("robots_audit", ["--version"]).out == f"robots_audit {VERSION} (proved with {toolchain()})\n"
 
 
-@pytest.mark.parametrize("path", ["CHANGELOG.md", "README.md", "docs/PROOFS.md", "crates/robots_audit/src/command.rt"])
+@pytest.mark.parametrize("path", ["CHANGELOG.md", "README.md", "docs/PROOFS.md", "crates/audit_core/src/version.rt"])
 def test_place_names_the_toolchain(path):
     """And no other one."""
     assert set(re.findall(r"rattle-kit-\w+ logic [0-9a-f]+", (ROOT / path).read_text())) == {toolchain()}

@@ -1,7 +1,6 @@
 -- The results of a run.
-use Rattle.std.proofs.Common.{◌≡◌, ◌≢◌, ◌∙◌, ℕ, List, IfSome, Option, None, Some}
-use Rattle.std.proofs.Common.{Result, Ok, Err, IsErrOf}
-use Rattle.std.proofs.Common.{[], refl, subst, sym, drop, length, map, slice_index_or, ◌+◌, ◌<◌, ◌||◌}
+use Rattle.std.proofs.Common.{◌≡◌, ◌≢◌, ◌∙◌, ℕ, List, IfSome, Some, Result, Ok, Err, IsErrOf, refl, subst}
+use Rattle.std.proofs.Common.{sym, drop, length, map, slice_index_or, ◌+◌, ◌<◌, ◌||◌}
 use Rattle.std.proofs.lemmas.List.{drop_more}
 use Rattle.robots_warnings.specs.declared.level.Level.{Level}
 use Rattle.robots_warnings.specs.declared.warning.Warning.{Warning}
@@ -10,30 +9,17 @@ use Rattle.robots_warnings.specs.Level.{reaches}
 use Rattle.robots_warnings.specs.Table.{level_of}
 use Rattle.std.specs.Io.KnownBytes.{Keeps}
 use Rattle.robots_io.specs.Streams.{AppendsBeginning}
-use Rattle.robots_audit.specs.declared.command.Request.{Request}
-use Rattle.robots_audit.specs.declared.fault.Fault.{Fault}
-use Rattle.robots_audit.specs.declared.fault.Fault.TheVariants.{Write}
-use Rattle.robots_audit.specs.declared.fault.Outcome.{Outcome}
-use Rattle.robots_audit.specs.Answer.{Audits, Ends, HasAudit, is_warned, requested_by, output}
-use Rattle.robots_audit.specs.Fault.{MayFail, fault_of_read}
+use Rattle.audit_core.specs.declared.request.Request.{Request}
+use Rattle.audit_core.specs.declared.fault.Fault.{Fault}
+use Rattle.audit_core.specs.declared.fault.Fault.TheVariants.{Write}
+use Rattle.audit_core.specs.declared.fault.Outcome.{Outcome}
+use Rattle.robots_audit.specs.Answer.{Audits, HasAudit, is_warned, output}
+use Rattle.audit_core.specs.Run.{Ends}
+use Rattle.audit_core.specs.Request.{requested_by}
+use Rattle.audit_core.specs.Fault.{MayFail, fault_of_read}
 use Rattle.robots_io.specs.declared.streams.ReadFault.{ReadFault}
 use Rattle.robots_io.specs.declared.streams.ReadFault.TheVariants as cause
-
--- what the reader has left, or no bytes if that can't be observed
-abbrev pub bytes_left : Option (List ℕ) → List ℕ
-bytes_left None = []
-bytes_left (Some file) = file
-
-pub bytes_are_left : (left : Option (List ℕ)) → IfSome left (λ file. bytes_left left ≡ file)
-bytes_are_left None = tt
-bytes_are_left (Some file) = refl
-
-pub read_may_fail : (fault : ReadFault) → MayFail (fault_of_read fault) × (fault_of_read fault ≢ Write)
-read_may_fail cause.Read = (tt, λ same. cc)
-read_may_fail cause.Memory = (tt, λ same. cc)
-
-pub no_fault : (outcome : Outcome) (fault : Fault) → ¬ (IsErrOf (Ok outcome) fault)
-no_fault outcome fault is = cc
+use Rattle.audit_core.proofs.RunLemmas.{bytes_are_left, bytes_left, read_may_fail}
 
 -- a run that failed before it wrote anything
 pub failed : (request : Request) (ends : Ends) (result : Result Outcome Fault) (file : List ℕ) (fault : Fault)
@@ -58,7 +44,8 @@ pub failed_to_read : (request : Request) (ends : Ends) (result : Result Outcome 
     → IsErrOf result (fault_of_read cause) → Keeps ends.old ends.new → Audits request ends result
 failed_to_read request ends result cause is kept =
     let (may, other) = read_may_fail cause in
-    failed request ends result (bytes_left ends.left) (fault_of_read cause) is (bytes_are_left ends.left) other
+    failed request ends result (bytes_left ends.left) (fault_of_read cause) is
+    (bytes_are_left ends.left) other
     may kept
 
 -- a run that read these bytes, and whose write failed after a prefix of the output

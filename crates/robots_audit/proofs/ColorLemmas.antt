@@ -1,5 +1,6 @@
 -- Messages with colors are printable apart from color codes. Without the codes they are those without colors.
-use Rattle.std.proofs.Common.{◌≡◌, ℕ, Bool, true, false, List, [], ◌∷◌, ◌++◌, ap₂, append-nil, codes, flat_map}
+use Rattle.std.proofs.Common.{◌≡◌, ℕ, Bool, true, false, List, [], ◌∷◌, ◌++◌, ap₂, append-nil, codes}
+use Rattle.std.proofs.Common.{flat_map}
 use Rattle.std.proofs.Common.{inl, inr, map, refl, subst, sym, ◌∙◌}
 use Rattle.std.specs.List.{AllByRecursion as Each}
 use Rattle.std.proofs.lemmas.Grind.{flat_map-append}
@@ -12,14 +13,15 @@ use Rattle.robots_warnings.specs.Level.{level_word}
 use Rattle.robots_warnings.specs.Table.{level_of}
 use Rattle.robots_warnings.specs.Warnings.{WarningValue, name_text, place_text, warning_line, warning_text}
 use Rattle.robots_warnings.proofs.PrintableLemmas.{place_printable, reported_printable, word_printable}
-use Rattle.robots_audit.specs.declared.command.Format.{Format}
-use Rattle.robots_audit.specs.declared.command.Format.TheVariants.{Github, Html, Json, Sarif, Text}
+use Rattle.audit_core.specs.declared.request.Format.{Format}
+use Rattle.audit_core.specs.declared.request.Format.TheVariants.{Github, Html, Json, Sarif, Text}
 use Rattle.robots_audit.specs.Answer.{message, message_in, shown_name, without_colors}
-use Rattle.robots_audit.specs.Audit.{AuditValue, RequestValue}
-use Rattle.robots_audit.specs.Color.{IsColored, IsForTerminal, IsShownAs, shown_word}
-use Rattle.robots_audit.specs.Listed.{listed, more, unlisted}
-use Rattle.robots_audit.specs.Report.{more_line, shown_warning, warning_lines}
-use Rattle.robots_audit.proofs.PrintableLemmas.{each_more}
+use Rattle.audit_core.specs.Audit.{AuditValue}
+use Rattle.audit_core.specs.Request.{RequestValue}
+use Rattle.audit_core.specs.Color.{IsColored, IsForTerminal, IsShownAs, shown_word}
+use Rattle.audit_report.specs.Listed.{listed, more, unlisted}
+use Rattle.audit_report.specs.Report.{more_line, shown_warning, warning_lines}
+use Rattle.audit_report.proofs.PrintableLemmas.{each_more}
 
 -- ---- texts with color codes
 
@@ -59,7 +61,8 @@ plain_printable plain text is = subst IsPrintable (sym is.plain_is) (all_shown i
 
 -- ---- warnings
 
-colored_word : (has_colors : Bool) (level : Level) → IsColored (level_word level) (shown_word has_colors level)
+colored_word : (has_colors : Bool) (level : Level)
+    → IsColored (level_word level) (shown_word has_colors level)
 colored_word false level = colored_same (level_word level) (word_printable level)
 colored_word true level = record {
   parts = (shown_word true level, level_word level) ∷ [];
@@ -135,7 +138,8 @@ for_terminal false text is = is
 for_terminal true text is = (text, colored_same text is)
 
 -- one that may have colors can be sent if there are colors
-pub with_colors : (has_colors : Bool) (text : List ℕ) → IsForTerminal has_colors text → IsForTerminal true text
+pub with_colors : (has_colors : Bool) (text : List ℕ) → IsForTerminal has_colors text
+    → IsForTerminal true text
 with_colors false text is = for_terminal true text is
 with_colors true text is = is
 

@@ -1,51 +1,30 @@
 -- The message on standard error contains no control or bidirectional-formatting characters other than LF,
 -- whatever the run returns.
-use Rattle.std.proofs.Common.{◌≡◌, ℕ, Bool, true, List, [], ◌∷◌, ◌++◌, Result, Ok, Err, Option}
-use Rattle.std.proofs.Common.{codes, inl, inr, refl, string_bytes, subst, sym, IfErr, IsErrAnd, IsErrOf}
+use Rattle.std.proofs.Common.{◌≡◌, ℕ, Bool, true, List, [], Result, Ok, Err, Option, codes, inl, inr, refl}
+use Rattle.std.proofs.Common.{string_bytes, subst, sym, IfErr, IsErrAnd, IsErrOf}
 use Rattle.std.proofs.lemmas.Bool.{cases_Bool}
 use Rattle.clap.specs.declared.parser.matches.ArgMatches.{ArgMatches}
-use Rattle.robots_io.specs.Lines.{lf}
 use Rattle.robots_io.specs.Sanitize.{IsPrintable}
-use Rattle.robots_io.proofs.SanitizeLemmas.{append_printable, ascii_printable, nil_printable}
-use Rattle.robots_io.proofs.SanitizeLemmas.{sanitized_lines_printable, sanitized_printable}
-use Rattle.robots_audit.specs.declared.command.Request.{Request}
-use Rattle.robots_audit.specs.declared.fault.Fault.{Fault}
-use Rattle.robots_audit.specs.declared.fault.Fault.TheVariants.{Empty, File, Malformed, Memory}
-use Rattle.robots_audit.specs.declared.fault.Fault.TheVariants.{NotUtf8, Read, StdinTwice}
-use Rattle.robots_audit.specs.declared.fault.Fault.TheVariants.{UnknownWarning, Usage, Words, Write}
-use Rattle.robots_audit.specs.declared.fault.Outcome.{Outcome}
-use Rattle.robots_audit.specs.Answer.{Audits, Ends, IsFileUnreadable, IsRejection, Prints, requested_by}
-use Rattle.robots_audit.specs.Command.{Asks, IsUnknown, IsUnknownIn}
-use Rattle.robots_audit.specs.Explain.{Explains, MayPrint, explanation}
-use Rattle.robots_audit.specs.Fault.{MayFail, fault_text, message_after}
+use Rattle.robots_io.proofs.SanitizeLemmas.{ascii_printable, nil_printable, sanitized_lines_printable}
+use Rattle.robots_io.proofs.SanitizeLemmas.{sanitized_printable}
+use Rattle.audit_core.specs.declared.request.Request.{Request}
+use Rattle.audit_core.specs.declared.fault.Fault.{Fault}
+use Rattle.audit_core.specs.declared.fault.Fault.TheVariants.{Empty, File, Malformed, Memory, NotUtf8}
+use Rattle.audit_core.specs.declared.fault.Fault.TheVariants.{Read, StdinTwice, UnknownWarning, Usage}
+use Rattle.audit_core.specs.declared.fault.Fault.TheVariants.{Words, Write}
+use Rattle.audit_core.specs.declared.fault.Outcome.{Outcome}
+use Rattle.robots_audit.specs.Answer.{Audits, IsFileUnreadable, IsRejection}
+use Rattle.audit_core.specs.Run.{Ends, Prints}
+use Rattle.audit_core.specs.Request.{requested_by}
+use Rattle.audit_command.specs.Command.{Asks, IsUnknownIn}
+use Rattle.audit_core.specs.Fault.{IsUnknown, fault_text, message_after}
+use Rattle.audit_report.specs.Explain.{Explains, MayPrint, explanation}
 use Rattle.robots_warnings.specs.Table.{is_name}
-use Rattle.robots_audit.specs.Color.{IsForTerminal}
+use Rattle.audit_core.specs.Color.{IsForTerminal}
 use Rattle.robots_audit.proofs.ColorLemmas.{for_terminal, message_for_terminal}
-
--- the message for an error with a name
-pub named_printable : (before name after : List ℕ) → IsPrintable before → IsPrintable name → IsPrintable after
-    → IsPrintable (codes "robots_audit: " ++ (before ++ name) ++ after ++ lf ∷ [])
-named_printable before name after first is last = search (append_printable true, ascii_printable true)
+use Rattle.audit_core.proofs.FaultLemmas.{may_fail_printable, memory_printable, named_printable}
 
 -- ---- errors
-
-pub memory_printable : (fault : Fault) → fault ≡ Memory → IsPrintable (fault_text fault)
-memory_printable fault is =
-    subst (λ (fault : Fault). IsPrintable (fault_text fault)) (sym is)
-    (ascii_printable true (fault_text Memory) refl)
-
-pub may_fail_printable : (fault : Fault) → MayFail fault → IsPrintable (fault_text fault)
-may_fail_printable (Words text) may = absurd may
-may_fail_printable Usage may = absurd may
-may_fail_printable NotUtf8 may = absurd may
-may_fail_printable (UnknownWarning name) may = absurd may
-may_fail_printable (File name) may = absurd may
-may_fail_printable (Malformed place flaw) may = absurd may
-may_fail_printable (Empty other entry) may = absurd may
-may_fail_printable StdinTwice may = absurd may
-may_fail_printable Read may = ascii_printable true (fault_text Read) refl
-may_fail_printable Write may = ascii_printable true (fault_text Write) refl
-may_fail_printable Memory may = ascii_printable true (fault_text Memory) refl
 
 pub rejection_printable : (text : List ℕ) (fault : Fault) → IsRejection text fault
     → IsPrintable (fault_text fault)
@@ -78,7 +57,8 @@ unreadable_printable name Read is = cc
 unreadable_printable name Write is = cc
 unreadable_printable name Memory is = memory_printable Memory refl
 
-pub unknown_printable : (name : List ℕ) (fault : Fault) → IsUnknown name fault → IsPrintable (fault_text fault)
+pub unknown_printable : (name : List ℕ) (fault : Fault) → IsUnknown name fault
+    → IsPrintable (fault_text fault)
 unknown_printable name (Words text) is = cc
 unknown_printable name Usage is = cc
 unknown_printable name NotUtf8 is = cc
@@ -100,7 +80,8 @@ unknown_in_printable : (names : List (List ℕ)) (fault : Fault) → IsUnknownIn
 unknown_in_printable names fault (inl is) = memory_printable fault is
 unknown_in_printable names fault (inr (name, among, unknown, is)) = unknown_printable name fault is
 
-pub request_printable : (by_default : Bool) (matches : ArgMatches) (fault : Fault) → Asks by_default matches (Err fault)
+pub request_printable : (by_default : Bool) (matches : ArgMatches) (fault : Fault)
+    → Asks by_default matches (Err fault)
     → IsPrintable (fault_text fault)
 request_printable by_default matches fault (inl (lacks, is)) =
     subst (λ (fault : Fault). IsPrintable (fault_text fault)) (sym is)
@@ -131,7 +112,8 @@ error_outcome fault (Err other) is printable =
     let same : fault ≡ other = cc in
     subst (λ (fault : Fault). IsPrintable (fault_text fault)) same printable
 
-pub request_outcome : (by_default : Bool) (matches : ArgMatches) (fault : Fault) (result : Result Outcome Fault)
+pub request_outcome : (by_default : Bool) (matches : ArgMatches) (fault : Fault)
+    (result : Result Outcome Fault)
     → IsErrOf result fault → Asks by_default matches (Err fault) → IsPrintable (message_after result)
 request_outcome by_default matches fault result is asks =
     error_outcome fault result is (request_printable by_default matches fault asks)

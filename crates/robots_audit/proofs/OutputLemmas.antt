@@ -3,20 +3,21 @@ use Rattle.std.proofs.Common.{◌++◌}
 use Rattle.texting_robots.proofs.TrimLemmas.{each_append}
 use Rattle.robots_io.specs.Sanitize.{IsPrintable}
 use Rattle.robots_io.proofs.SanitizeLemmas.{ended_printable}
-use Rattle.robots_audit.specs.declared.command.Format.{Format}
-use Rattle.robots_audit.specs.declared.command.Format.TheVariants.{Github, Html, Json, Sarif, Text}
+use Rattle.audit_core.specs.declared.request.Format.{Format}
+use Rattle.audit_core.specs.declared.request.Format.TheVariants.{Github, Html, Json, Sarif, Text}
 use Rattle.robots_audit.specs.Answer.{has_rows, output, output_in, reported, shown_name, total_lines}
-use Rattle.robots_audit.specs.Audit.{AuditValue, RequestValue}
-use Rattle.robots_audit.specs.Findings.{findings}
-use Rattle.robots_audit.specs.PlainLine.{IsPlainLine}
-use Rattle.robots_audit.specs.Report.{report_lines}
-use Rattle.robots_audit.proofs.FindingLemmas.{findings_have}
-use Rattle.robots_audit.proofs.GithubLemmas.{github_printable}
-use Rattle.robots_audit.proofs.JsonLemmas.{json_printable}
-use Rattle.robots_audit.proofs.PageLemmas.{page_printable}
-use Rattle.robots_audit.proofs.PlainLemmas.{each_printable}
-use Rattle.robots_audit.proofs.PrintableLemmas.{report_plain, totals_plain}
-use Rattle.robots_audit.proofs.SarifLemmas.{sarif_printable}
+use Rattle.audit_core.specs.Audit.{AuditValue}
+use Rattle.audit_core.specs.Request.{RequestValue}
+use Rattle.audit_formats.specs.Findings.{findings}
+use Rattle.audit_core.specs.PlainLine.{IsPlainLine}
+use Rattle.audit_report.specs.Report.{report_lines}
+use Rattle.audit_formats.proofs.FindingLemmas.{findings_have}
+use Rattle.audit_formats.proofs.GithubLemmas.{github_printable}
+use Rattle.audit_formats.proofs.JsonLemmas.{json_printable}
+use Rattle.audit_page.proofs.PageLemmas.{page_printable}
+use Rattle.audit_core.proofs.PlainLemmas.{each_printable}
+use Rattle.audit_report.proofs.PrintableLemmas.{report_plain, totals_plain}
+use Rattle.audit_formats.proofs.SarifLemmas.{sarif_printable}
 
 output_in_printable : (format : Format) (requested : RequestValue) (audit : AuditValue)
     → IsPrintable (output_in format requested audit)

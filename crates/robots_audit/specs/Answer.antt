@@ -1,57 +1,34 @@
 -- The result of a run. `Appends` and `Keeps` claim nothing about a writer whose bytes the specification
 -- can't observe.
-use Rattle.std.specs.Prelude.{◌≡◌, ◌≢◌, ℕ, Bool, true, false, List, [], ◌∷◌, ◌++◌, None, Option, Some}
-use Rattle.std.specs.Prelude.{Result, codes, if◌then◌else◌, is_some, not, ◌&&◌}
-use Rattle.std.specs.Prelude.{IfErr, IfOk, IfSome, IsErrOf, map, option_map, string_bytes}
+use Rattle.std.specs.Prelude.{◌≡◌, ◌≢◌, ℕ, Bool, true, false, List, [], ◌∷◌, ◌++◌, None, Option, Some, Result}
+use Rattle.std.specs.Prelude.{codes, if◌then◌else◌, is_some, not, ◌&&◌, IfErr, IfOk, IfSome, IsErrOf}
+use Rattle.std.specs.Prelude.{string_bytes}
 use Rattle.std.specs.List.{list_any}
 use Rattle.std.specs.Io.KnownBytes.{Appends, Keeps}
 use Rattle.robots_html.specs.Html.{document}
 use Rattle.robots_io.specs.Streams.{AppendsBeginning}
 use Rattle.robots_io.specs.Lines.{ended}
-use Rattle.robots_audit.specs.declared.command.Format.{Format}
-use Rattle.robots_audit.specs.declared.command.Format.TheVariants.{Github, Html, Json, Sarif, Text}
-use Rattle.robots_audit.specs.declared.command.Request.{Request}
-use Rattle.robots_audit.specs.declared.fault.Fault.{Fault}
-use Rattle.robots_audit.specs.declared.fault.Fault.TheVariants.{File, Memory, Words, Write}
-use Rattle.robots_audit.specs.declared.fault.Outcome.{Outcome}
-use Rattle.robots_audit.specs.Audit.{RequestValue, AuditValue, IsAuditOf, all_allowed, rejects_some, shown}
-use Rattle.robots_audit.specs.Fault.{MayFail}
-use Rattle.robots_audit.specs.Findings.{findings}
-use Rattle.robots_audit.specs.Github.{github_text}
-use Rattle.robots_audit.specs.Json.{json_text}
-use Rattle.robots_audit.specs.Report.{listed_lines, report_lines, total_line}
-use Rattle.robots_audit.specs.Page.{page}
-use Rattle.robots_audit.specs.Sarif.{sarif_text}
+use Rattle.audit_core.specs.declared.request.Format.{Format}
+use Rattle.audit_core.specs.declared.request.Format.TheVariants.{Github, Html, Json, Sarif, Text}
+use Rattle.audit_core.specs.declared.request.Request.{Request}
+use Rattle.audit_core.specs.declared.fault.Fault.{Fault}
+use Rattle.audit_core.specs.declared.fault.Fault.TheVariants.{File, Memory, Words, Write}
+use Rattle.audit_core.specs.declared.fault.Outcome.{Outcome}
+use Rattle.audit_core.specs.Request.{RequestValue, requested_by}
+use Rattle.audit_core.specs.Audit.{AuditValue, IsAuditOf, all_allowed, rejects_some, shown}
+use Rattle.audit_core.specs.Fault.{MayFail}
+use Rattle.audit_formats.specs.Findings.{findings}
+use Rattle.audit_formats.specs.Github.{github_text}
+use Rattle.audit_formats.specs.Json.{json_text}
+use Rattle.audit_report.specs.Report.{listed_lines, report_lines, total_line}
+use Rattle.audit_page.specs.Page.{page}
+use Rattle.audit_formats.specs.Sarif.{sarif_text}
 use Rattle.robots_io.specs.Sanitize.{sanitized, sanitized_lines}
 use Rattle.robots_warnings.specs.declared.level.Level.{Level}
 use Rattle.robots_warnings.specs.Level.{reaches}
 use Rattle.robots_warnings.specs.Table.{level_of}
 use Rattle.robots_warnings.specs.Warnings.{WarningValue}
-
--- the bytes that the reader has left, and those that the writer held before and holds after the run; `None`
--- if the specification can't observe them
-pub record Ends : Type 0 where
-  pub left : Option (List ℕ)
-  pub old : Option (List ℕ)
-  pub new : Option (List ℕ)
-
--- the request, by value
-abbrev pub requested_by : Request → RequestValue
-requested_by request = record {
-  file = option_map (λ name. name.now) request.file;
-  agent = option_map (λ agent. agent.now) request.agent;
-  agents = map (λ agent. agent.now) request.agents.items;
-  urls = map (λ url. url.now) request.urls.items;
-  is_quiet = request.is_quiet;
-  format = request.format;
-  has_colors = request.has_colors;
-  strict = request.strict;
-  only = map (λ name. name.now) request.only.items;
-  ignored = map (λ name. name.now) request.ignored.items;
-  is_denied_only = request.is_denied_only;
-  has_totals = request.has_totals;
-  has_needless = request.has_needless;
-}
+use Rattle.audit_core.specs.Run.{Ends}
 
 -- ---- the report and the warnings
 
@@ -99,8 +76,8 @@ output_in Sarif requested audit =
 abbrev pub output : RequestValue → AuditValue → List ℕ
 output requested audit = output_in requested.format requested audit
 
--- the message with a report in this format: of each name the first twenty warnings and the number of the others,
--- unless they are in the report
+-- the message with a report in this format: of each name the first twenty warnings and the number of the
+-- others, unless they are in the report
 abbrev pub message_in : Format → RequestValue → AuditValue → List ℕ
 message_in Text requested audit =
     ended (listed_lines requested.has_colors (shown_name requested.file) audit.warnings)
@@ -153,17 +130,6 @@ pub record Audits (request : Request) (ends : Ends) (result : Result Outcome Fau
   pub read : IfSome ends.left (λ left. file ≡ left)
   pub reported : AuditsFile request ends result file
   pub nothing_written : IfErr result (λ fault. fault ≢ Write → Keeps ends.old ends.new)
-
--- the text, such as the help, is written, or if the write fails a prefix of it; the outcome has no warnings,
--- and leads to exit status 0
-pub record Prints (text : List ℕ) (old new : Option (List ℕ)) (result : Result Outcome Fault)
-    : Type 0 where
-  pub ok : IfOk result (λ outcome. Appends old new text)
-  pub quiet : IfOk result (λ outcome. (outcome.is_rejected ≡ false) × (outcome.has_passed ≡ true)
-      × (outcome.is_warned ≡ false)
-      × (string_bytes outcome.warnings ≡ []))
-  pub fault : IfErr result (λ fault. fault ≡ Write)
-  pub beginning : AppendsBeginning old new text
 
 -- the error has the sanitized message of `clap`, or an allocation failed
 abbrev pub IsRejection : List ℕ → Fault → Type 0

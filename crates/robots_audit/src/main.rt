@@ -20,60 +20,32 @@
 
 ghost use Rattle.std.specs.Prelude.{IfErr, codes, true};
 ghost use Rattle.robots_io.specs.Sanitize.{IsPrintable};
-ghost use Rattle.robots_audit.specs.Color.{IsForTerminal, requested_colors};
-ghost use Rattle.robots_audit.specs.Command.{value_of};
-ghost use Rattle.robots_audit.specs.Fault.{fault_text, message_after};
+ghost use Rattle.audit_core.specs.Color.{IsForTerminal, requested_colors};
+ghost use Rattle.audit_command.specs.Command.{value_of};
+ghost use Rattle.audit_core.specs.Fault.{fault_text, message_after};
 
-mod agents;
-mod audit;
-mod checks;
-mod chosen;
-mod color;
-mod command;
-mod compare;
-mod compared;
-mod crawler;
-mod delay;
-mod denied;
-mod differences;
-mod entries;
-mod expect;
-mod expectations;
-mod explain;
-mod fault;
-mod findings;
-mod github;
-mod group;
-mod json;
 mod laws;
-mod listed;
-mod needless;
-mod page;
 mod program;
-mod report;
-mod rows;
-mod rule_sets;
-mod sarif;
-mod syntax;
-mod url_list;
 
+use audit_command::command::{command, file_read, reads_stdin_twice, requested};
+use audit_compare::compare::compare;
+use audit_core::color::colors_by_default;
+use audit_core::crawler::are_crawlers;
+use audit_core::fault::{Fault, Outcome, StderrMessage, status_after};
+use audit_core::print::print;
+use audit_core::request::Request;
+use audit_expect::expectations::check;
+use audit_expect::url_list::with_urls;
+use audit_report::explain::{explain, list_warnings};
 use clap::ArgMatches;
 use clap::error::ErrorKind as WordsKind;
-use color::colors_by_default;
-use command::{Request, command, file_read, reads_stdin_twice, requested};
-use compare::compare;
-use crawler::are_crawlers;
-use expectations::check;
-use explain::{explain, list_warnings};
-use fault::{Fault, Outcome, StderrMessage, status_after};
-use program::{print, rejected, run, unread};
+use program::{rejected, run, unread};
 use robots_io::streams::{ReadFault, read_all};
 use std::alloc::Global;
 use std::env;
 use std::fs::File;
 use std::io::ErrorKind;
 use std::process::ExitCode;
-use url_list::with_urls;
 
 /// The command line, including the program's name.
 fn words(rt: &HostRuntime) -> Result<Vec<String>, Fault>

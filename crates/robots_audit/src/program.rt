@@ -1,18 +1,20 @@
 //! The program for any reader and writer, without the command line.
 ghost use Rattle.std.specs.Prelude.{◌≡◌, IfOk, Some, map, option_map, string_bytes};
-ghost use Rattle.robots_audit.specs.Answer.{Audits, Prints, IsRejection, IsFileUnreadable, has_all_urls, has_rows, is_warned, leaves_out_allowed, requested_by, output, message, shown_name};
-ghost use Rattle.robots_audit.specs.Internal.{audit_value};
+ghost use Rattle.robots_audit.specs.Answer.{Audits, IsRejection, IsFileUnreadable, has_all_urls, has_rows};
+ghost use Rattle.robots_audit.specs.Answer.{is_warned, leaves_out_allowed, output, message, shown_name};
+ghost use Rattle.audit_core.specs.Request.{requested_by};
+ghost use Rattle.audit_core.specs.Internal.{audit_value};
 ghost use Rattle.robots_warnings.specs.Internal.{warning_value};
 
-use crate::audit::{Audit, all_allowed, audit_of, rejects_some};
-use crate::command::{Format, Request};
-use crate::denied::{shown, totals_of};
-use crate::fault::{Fault, Outcome};
-use crate::github::github_text;
-use crate::json::json_text;
-use crate::page::page_text;
-use crate::report::{listed_lines, push_totals, report_text};
-use crate::sarif::sarif_text;
+use audit_core::audit::{Audit, all_allowed, audit_of, rejects_some};
+use audit_core::fault::{Fault, Outcome};
+use audit_core::request::{Format, Request};
+use audit_formats::github::github_text;
+use audit_formats::json::json_text;
+use audit_formats::sarif::sarif_text;
+use audit_page::page::page_text;
+use audit_report::denied::{shown, totals_of};
+use audit_report::report::{listed_lines, push_totals, report_text};
 use robots_io::sanitize::{push_sanitized, push_sanitized_lines};
 use robots_io::streams::{read_all, write_out};
 use robots_warnings::level::Level;
@@ -151,19 +153,6 @@ pub fn run<R: Read, W: Write>(
     let report = output(alloc, request, audit)?;
     write_out(writer, &report)?;
     Ok(outcome)
-}
-
-/// Writes a text that is no report, such as the help.
-pub fn print<W: Write>(alloc: Global, text: &[u8], writer: &mut W) -> Result<Outcome, Fault>
-    ensures { Prints text.now (W.contents writer.old) (W.contents writer.new) result }
-{
-    write_out(writer, text)?;
-    Ok(Outcome {
-        is_rejected: false,
-        has_passed: true,
-        is_warned: false,
-        warnings: String::new(alloc),
-    })
 }
 
 /// The error for arguments that `clap` rejects with this message. The message is sanitized, as it may repeat an

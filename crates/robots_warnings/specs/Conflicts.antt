@@ -21,7 +21,7 @@ pub record IsConflict (agent : List ℕ) (lines : List LineValue) (number : ℕ)
   pub disallow : Contains rules (record { rule = (pattern, false); line = number })
   pub allow : Contains rules (record { rule = (allowed, true); line = other })
 
--- ---- as functions; by the theorem `allowed_and_disallowed` of `robots_audit` they agree
+-- ---- as functions; by the theorem `allowed_and_disallowed` of `audit_laws` they agree
 
 -- the rule is an Allow whose pattern is compared as this one
 abbrev pub allows : List ℕ → PlacedRule → Bool

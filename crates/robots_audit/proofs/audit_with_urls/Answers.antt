@@ -1,10 +1,10 @@
 use Rattle.std.proofs.Common.{Bool, ap, rules, subst}
-use Rattle.robots_audit.specs.Audit.{RequestValue}
-use Rattle.robots_audit.specs.Color.{IsForTerminal}
-use Rattle.robots_audit.specs.Fault.{message_after}
-use Rattle.robots_audit.specs.UrlList.{urls_in}
-use Rattle.robots_audit.specs.declared.fault.Entry.TheVariants as entry
-use Rattle.robots_audit.proofs.EntryLemmas.{entry_printable}
+use Rattle.audit_core.specs.Request.{RequestValue}
+use Rattle.audit_core.specs.Color.{IsForTerminal}
+use Rattle.audit_core.specs.Fault.{message_after}
+use Rattle.audit_expect.specs.UrlList.{urls_in}
+use Rattle.audit_core.specs.declared.fault.Entry.TheVariants as entry
+use Rattle.audit_expect.proofs.EntryLemmas.{entry_printable}
 use Rattle.robots_audit.proofs.MessageLemmas.{error_for_terminal}
 use Rattle.robots_audit.proofs.audit_with_urls.Goals as goal
 

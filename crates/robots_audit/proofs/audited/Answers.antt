@@ -1,13 +1,14 @@
 use Rattle.std.proofs.Common.{Bool, rules, subst}
-use Rattle.robots_audit.specs.Color.{IsForTerminal}
-use Rattle.robots_audit.specs.Fault.{message_after}
+use Rattle.audit_core.specs.Color.{IsForTerminal}
+use Rattle.audit_core.specs.Fault.{message_after}
 use Rattle.robots_audit.proofs.ColorLemmas.{for_terminal}
 use Rattle.robots_audit.proofs.MessageLemmas.{request_outcome}
 use Rattle.robots_audit.proofs.audited.Goals as goal
 
 pub returns-in_err-request : goal.returns-in_err-request
 returns-in_err-request c =
-    for_terminal _ _ (request_outcome c.args.has_colors _ _ c.from_residual.result (search rules) c.in_err-request.ensures)
+    for_terminal _ _
+    (request_outcome c.args.has_colors _ _ c.from_residual.result (search rules) c.in_err-request.ensures)
 
 pub returns-in-Some : goal.returns-in-Some
 returns-in-Some c =

@@ -1,4 +1,4 @@
-use Rattle.robots_audit.proofs.ExpectationsLemmas.{checked_printable}
+use Rattle.audit_expect.proofs.ExpectationsLemmas.{checked_printable}
 use Rattle.robots_audit.proofs.MessageLemmas.{unreadable_printable}
 use Rattle.robots_audit.proofs.check_named.Goals as goal
 

@@ -1,8 +1,8 @@
 use Rattle.std.proofs.Common.{refl, true}
 use Rattle.robots_io.proofs.SanitizeLemmas.{ascii_printable}
-use Rattle.robots_audit.specs.Fault.{fault_text}
-use Rattle.robots_audit.specs.declared.fault.Fault.TheVariants.{StdinTwice}
-use Rattle.robots_audit.proofs.ExpectationsLemmas.{checked_printable}
+use Rattle.audit_core.specs.Fault.{fault_text}
+use Rattle.audit_core.specs.declared.fault.Fault.TheVariants.{StdinTwice}
+use Rattle.audit_expect.proofs.ExpectationsLemmas.{checked_printable}
 use Rattle.robots_audit.proofs.checked.Goals as goal
 
 pub returns-then-reads_stdin_twice : goal.returns-then-reads_stdin_twice

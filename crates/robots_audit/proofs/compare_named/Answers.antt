@@ -1,4 +1,4 @@
-use Rattle.robots_audit.proofs.CompareLemmas.{compared_printable}
+use Rattle.audit_compare.proofs.CompareLemmas.{compared_printable}
 use Rattle.robots_audit.proofs.MessageLemmas.{unreadable_printable}
 use Rattle.robots_audit.proofs.compare_named.Goals as goal
 

@@ -1,7 +1,7 @@
 use Rattle.std.proofs.Common.{false, rules}
-use Rattle.robots_audit.proofs.CompareLemmas.{compared_printable}
+use Rattle.audit_compare.proofs.CompareLemmas.{compared_printable}
 use Rattle.robots_audit.proofs.MessageLemmas.{error_outcome, request_outcome}
-use Rattle.robots_audit.proofs.EntryLemmas.{no_crawler_printable}
+use Rattle.audit_expect.proofs.EntryLemmas.{no_crawler_printable}
 use Rattle.robots_audit.proofs.compared_with.Goals as goal
 
 pub returns-in_err-request : goal.returns-in_err-request

@@ -1,6 +1,7 @@
 use Rattle.std.proofs.Common.{refl}
-use Rattle.robots_audit.specs.declared.fault.Fault.TheVariants.{Memory}
-use Rattle.robots_audit.proofs.MessageLemmas.{memory_printable, unreadable_printable}
+use Rattle.audit_core.specs.declared.fault.Fault.TheVariants.{Memory}
+use Rattle.audit_core.proofs.FaultLemmas.{memory_printable}
+use Rattle.robots_audit.proofs.MessageLemmas.{unreadable_printable}
 use Rattle.robots_audit.proofs.read_named.Goals as goal
 
 pub returns-in_default : goal.returns-in_default

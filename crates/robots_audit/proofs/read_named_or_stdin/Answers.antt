@@ -1,5 +1,5 @@
 use Rattle.std.proofs.Common.{rules}
-use Rattle.robots_audit.proofs.UrlListLemmas.{read_error}
+use Rattle.audit_expect.proofs.UrlListLemmas.{read_error}
 use Rattle.robots_audit.proofs.read_named_or_stdin.Goals as goal
 
 pub returns-in_err-read_all-in-None : goal.returns-in_err-read_all-in-None

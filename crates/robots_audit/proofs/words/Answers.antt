@@ -1,8 +1,9 @@
 use Rattle.std.proofs.Common.{refl, rules, true}
 use Rattle.robots_io.proofs.SanitizeLemmas.{ascii_printable}
-use Rattle.robots_audit.specs.Fault.{fault_text}
-use Rattle.robots_audit.specs.declared.fault.Fault.TheVariants.{Memory, NotUtf8}
-use Rattle.robots_audit.proofs.MessageLemmas.{memory_error, memory_printable}
+use Rattle.audit_core.specs.Fault.{fault_text}
+use Rattle.audit_core.specs.declared.fault.Fault.TheVariants.{Memory, NotUtf8}
+use Rattle.robots_audit.proofs.MessageLemmas.{memory_error}
+use Rattle.audit_core.proofs.FaultLemmas.{memory_printable}
 use Rattle.robots_audit.proofs.words.Goals as goal
 
 pub returns-in_err-collect-in-Ok : goal.returns-in_err-collect-in-Ok

@@ -1,4 +1,4 @@
-use Rattle.robots_audit.proofs.ExpectPrintableLemmas.{results_quiet}
+use Rattle.audit_expect.proofs.ExpectPrintableLemmas.{results_quiet}
 use Rattle.robots_audit.proofs.MessageQuietLemmas.{listed_quiet}
 use Rattle.robots_audit.proofs.laws.no_line_contains_a_command.Goals as goal
 

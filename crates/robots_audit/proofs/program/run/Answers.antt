@@ -1,7 +1,8 @@
 use Rattle.std.proofs.Common.{rules}
-use Rattle.robots_audit.specs.Internal.{audit_value}
-use Rattle.robots_audit.specs.declared.fault.Fault.TheVariants.{Memory}
-use Rattle.robots_audit.proofs.AnswerLemmas.{broken_off, failed, failed_to_read, no_fault}
+use Rattle.audit_core.specs.Internal.{audit_value}
+use Rattle.audit_core.specs.declared.fault.Fault.TheVariants.{Memory}
+use Rattle.robots_audit.proofs.AnswerLemmas.{broken_off, failed, failed_to_read}
+use Rattle.audit_core.proofs.RunLemmas.{no_fault}
 use Rattle.robots_audit.proofs.program.run.Goals as goal
 
 pub returns-in_err-write_out : goal.returns-in_err-write_out
@@ -20,7 +21,8 @@ returns-in_err-audit g c =
 
 pub returns-in_err-report : goal.returns-in_err-report
 returns-in_err-report g c =
-    failed _ _ c.from_residual-in_err-report.result _ Memory (search rules) c.in_ok-input.ensures.all (λ same. cc) tt
+    failed _ _ c.from_residual-in_err-report.result _ Memory (search rules) c.in_ok-input.ensures.all
+    (λ same. cc) tt
     (search rules)
 
 pub returns-in_err-warnings : goal.returns-in_err-warnings

@@ -1,0 +1,139 @@
+-- The request that the arguments contain, specified by what `clap` found in them.
+use Rattle.std.specs.Prelude.{◌≡◌, ◌⊎◌, ℕ, Bool, true, false, List, [], ◌∷◌, ◌++◌, Option, Some, None}
+use Rattle.std.specs.Prelude.{Contains, IsTrue, Result, Ok, Err, bytes_eq, codes, if◌then◌else◌, is_none}
+use Rattle.std.specs.Prelude.{is_some, map, ◌&&◌, ◌||◌, option_map}
+use Rattle.std.specs.List.{list_all}
+use Rattle.std.specs.Option.{option_map_or}
+use Rattle.clap.specs.Words.{first_value, found_of, matched_of, one_text, raw_values}
+use Rattle.clap.specs.declared.parser.matches.ArgMatches.{ArgMatches}
+use Rattle.audit_core.specs.Color.{requested_colors}
+use Rattle.audit_core.specs.declared.request.Format.{Format}
+use Rattle.audit_core.specs.declared.request.Format.TheVariants.{Github, Html, Json, Sarif, Text}
+use Rattle.audit_core.specs.declared.request.Request.{Request}
+use Rattle.audit_core.specs.declared.fault.Fault.{Fault}
+use Rattle.audit_core.specs.declared.fault.Fault.TheVariants.{Memory, StdinTwice, Usage}
+use Rattle.robots_warnings.specs.declared.level.Level.{Level}
+use Rattle.robots_warnings.specs.declared.level.Level.TheVariants as level
+use Rattle.robots_warnings.specs.Table.{is_name}
+use Rattle.audit_core.specs.Crawler.{single}
+use Rattle.audit_core.specs.Fault.{IsUnknown}
+
+-- the first value of an option or argument
+abbrev pub value_of : ArgMatches → List ℕ → Option (List ℕ)
+value_of matches id = first_value (found_of matches) id
+
+-- all of its values
+abbrev pub values_of : ArgMatches → List ℕ → List (List ℕ)
+values_of matches id = option_map_or raw_values (matched_of (found_of matches) id) []
+
+-- the arguments that aren't options
+abbrev pub words_of : ArgMatches → List (List ℕ)
+words_of matches = values_of matches (codes "agent") ++ values_of matches (codes "url")
+
+-- the value of an option that is on or off
+abbrev pub IsOn : ArgMatches → List ℕ → Bool → Type 0
+IsOn matches id answer =
+    (one_text (found_of matches) id ≡ Some (codes "true") → answer ≡ true)
+    × (one_text (found_of matches) id ≡ Some (codes "false") → answer ≡ false)
+    × (one_text (found_of matches) id ≡ None → answer ≡ false)
+
+-- the name of the file that is read; `None` for standard input, which `-` means too
+abbrev pub file_read : Option (List ℕ) → Option (List ℕ)
+file_read None = None
+file_read (Some name) = if bytes_eq name (codes "-") then None else Some name
+
+-- a file with this name is read from standard input; without a name no file is read
+abbrev pub is_stdin : Option (List ℕ) → Bool
+is_stdin None = false
+is_stdin (Some name) = bytes_eq name (codes "-")
+
+-- both the robots.txt file and another one would be read from standard input: the URLs, the expectations or
+-- the older version of the file
+abbrev pub reads_stdin_twice : ArgMatches → Bool
+reads_stdin_twice matches =
+    is_none (file_read (value_of matches (codes "file")))
+    && (is_stdin (value_of matches (codes "urls"))
+    || (is_stdin (value_of matches (codes "expect")) || is_stdin (value_of matches (codes "compare"))))
+
+-- the level with this word; `clap` accepts none but those of the three levels
+abbrev pub level_named : List ℕ → Level
+level_named word =
+    if bytes_eq word (codes "error") then level.Error
+    else if bytes_eq word (codes "note") then level.Note else level.Warning
+
+-- the format with this name; `clap` accepts no others
+abbrev pub format_named : List ℕ → Format
+format_named name =
+    if bytes_eq name (codes "json") then Json
+    else if bytes_eq name (codes "html") then Html
+    else if bytes_eq name (codes "github") then Github
+    else if bytes_eq name (codes "sarif") then Sarif else Text
+
+-- the format that `--json` and `--html`, if they are given, and the value of `--format` request
+abbrev pub requested_format : (is_json is_html : Bool) → Option (List ℕ) → Format
+requested_format is_json is_html name =
+    if is_json then Json else if is_html then Html else option_map_or format_named name Text
+
+-- the format is the one that the options request
+abbrev pub IsFormatOf : ArgMatches → Format → Type 0
+IsFormatOf matches format = (is_json is_html : Bool) × IsOn matches (codes "json") is_json
+    × IsOn matches (codes "html") is_html
+    × (format ≡ requested_format is_json is_html (value_of matches (codes "format")))
+
+-- the crawlers and the URLs, where these names are the values of `--agent`: without it, the first argument is
+-- a product token; otherwise all arguments are URLs
+abbrev pub AreWordsOf : List (List ℕ) → List (List ℕ) → List (List ℕ) → List (List ℕ) → Type 0
+AreWordsOf [] words agents urls = (agent : List ℕ) × (words ≡ agent ∷ urls) × (agents ≡ agent ∷ [])
+AreWordsOf (name ∷ names) words agents urls = (words ≡ urls) × (agents ≡ name ∷ names)
+
+-- the crawlers and the URLs of these arguments; with `--agents` no crawler is given, and all arguments are
+-- URLs
+abbrev pub HasCrawlers : ArgMatches → List (List ℕ) → List (List ℕ) → List (List ℕ) → Type 0
+HasCrawlers matches words agents urls =
+    (IsOn matches (codes "agents") true × (words ≡ urls) × (agents ≡ []))
+    ⊎ (IsOn matches (codes "agents") false
+    × AreWordsOf (values_of matches (codes "crawler")) words agents urls)
+
+-- neither `--agents` nor `--agent` nor AGENT is given
+pub record LacksAgent (matches : ArgMatches) (words : List (List ℕ)) : Type 0 where
+  pub off : IsOn matches (codes "agents") false
+  pub unnamed : values_of matches (codes "crawler") ≡ []
+  pub missing : words ≡ []
+
+-- the names given with this option; each is that of a warning
+pub record AreNamesOf (matches : ArgMatches) (id : List ℕ) (names : List (List ℕ)) : Type 0 where
+  pub all : names ≡ values_of matches id
+  pub known : IsTrue (list_all is_name names)
+
+-- the request that the arguments contain; `by_default` is whether warnings have colors without `--color`
+pub record IsRequestOf (by_default : Bool) (matches : ArgMatches) (request : Request) : Type 0 where
+  pub once : reads_stdin_twice matches ≡ false
+  pub file : option_map (λ name. name.now) request.file ≡ file_read (value_of matches (codes "file"))
+  pub quiet : IsOn matches (codes "quiet") request.is_quiet
+  pub format : IsFormatOf matches request.format
+  pub denied : IsOn matches (codes "denied") request.is_denied_only
+  pub totals : request.has_totals ≡ (request.is_denied_only || is_some (value_of matches (codes "urls")))
+  pub needless : IsOn matches (codes "needless") request.has_needless
+  pub colors : request.has_colors ≡ requested_colors (value_of matches (codes "color")) by_default
+  pub strict : request.strict ≡ option_map level_named (value_of matches (codes "strict"))
+  pub words : HasCrawlers matches (words_of matches) (map (λ agent. agent.now) request.agents.items)
+      (map (λ url. url.now) request.urls.items)
+  pub agent : option_map (λ agent. agent.now) request.agent
+      ≡ single (map (λ agent. agent.now) request.agents.items)
+  pub only : AreNamesOf matches (codes "only") (map (λ name. name.now) request.only.items)
+  pub ignored : AreNamesOf matches (codes "ignore") (map (λ name. name.now) request.ignored.items)
+
+-- the error reports one of these names, which no warning has, or an allocation failed
+abbrev pub IsUnknownIn : List (List ℕ) → Fault → Type 0
+IsUnknownIn names fault =
+    (fault ≡ Memory) ⊎ ((name : List ℕ) × Contains names name × (is_name name ≡ false) × IsUnknown name fault)
+
+-- a request, or an error: no crawler is given, standard input would be read twice, no warning has a given
+-- name, or an allocation failed
+abbrev pub Asks : (by_default : Bool) → ArgMatches → Result Request Fault → Type 0
+Asks by_default matches (Ok request) = IsRequestOf by_default matches request
+Asks by_default matches (Err fault) =
+    (LacksAgent matches (words_of matches) × (fault ≡ Usage))
+    ⊎ (((reads_stdin_twice matches ≡ true) × (fault ≡ StdinTwice))
+    ⊎ (IsUnknownIn (values_of matches (codes "only")) fault
+    ⊎ IsUnknownIn (values_of matches (codes "ignore")) fault))

@@ -1,0 +1,4 @@
+//! The command line of `robots_audit`.
+#![tactic(auto)]
+
+pub mod command;

@@ -1,0 +1,4 @@
+pub mod CompareLemmas
+pub mod ComparePrintableLemmas
+pub mod QuietLemmas
+pub mod RuleSetLemmas

@@ -1,0 +1,5 @@
+use Rattle.audit_compare.proofs.RuleSetLemmas.{none_listed, reported_alike, same_rules_decide_alike}
+use Rattle.audit_compare.proofs.laws.same_rules_decide_alike.Goals as goal
+
+pub returns : goal.returns
+returns c = record { rules = same_rules_decide_alike; reported = reported_alike; listed = none_listed }

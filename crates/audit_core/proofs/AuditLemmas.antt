@@ -1,0 +1,135 @@
+-- How an audit is built.
+use Rattle.std.proofs.Common.{◌≡◌, ℕ, List, [], ◌∷◌, ◌++◌, ◌+◌, ◌<◌, ◌||◌}
+use Rattle.std.proofs.Common.{ap, ◌&&◌, drop, length, ◌∙◌, None, Option, is_some, map, refl, slice_index_or}
+use Rattle.std.proofs.Common.{take}
+use Rattle.std.specs.List.{AllZip, enumerate_from}
+use Rattle.std.proofs.lemmas.List.{drop_more, map-append, take_more}
+use Rattle.audit_core.specs.declared.audit.AgentAudit.{AgentAudit}
+use Rattle.audit_core.specs.declared.audit.Verdict.{Verdict}
+use Rattle.texting_robots.specs.declared.labels.LabeledLine.{LabeledLine}
+use Rattle.texting_robots.specs.Callers.{AnswerAlike, HasLines, IsDelayFor, IsRobotOfFile, LineValue}
+use Rattle.texting_robots.specs.Callers.{PlacedRule}
+use Rattle.texting_robots.specs.Callers.{RobotValue, delay_for, file_limit, group_name, lines_read}
+use Rattle.texting_robots.specs.Callers.{label_by_value}
+use Rattle.texting_robots.specs.Callers.{placed_rules, prepared}
+use Rattle.texting_robots.specs.Labels.{label_at}
+use Rattle.texting_robots.proofs.GivenLemmas.{delay_is_computed}
+use Rattle.texting_robots.proofs.MainTheoremLemmas.{answers_computed, lines_are_read, of_lines, read_robot}
+use Rattle.robots_warnings.specs.File.{lines_of, labels_for}
+use Rattle.audit_core.specs.Audit.{AgentValue, IsAgentAudit, IsRuling, IsVerdictOn, VerdictValue}
+use Rattle.audit_core.specs.Audit.{agents_requested, all_allowed, allows_all, group_of, rejects_some}
+use Rattle.audit_core.specs.Internal.{agent_value, verdict_value}
+use Rattle.audit_core.specs.Syntax.{has_syntax_warning, is_about_syntax}
+use Rattle.robots_warnings.specs.Internal.{warning_value}
+use Rattle.robots_warnings.specs.declared.warning.Warning.{Warning}
+
+-- one more item, and the result for it
+pub zip_push : {B V : Type 0} (R : B → V → Type 0) (items : List B) (found : List V) (item : B) (next : V)
+    → AllZip R items found → R item next → AllZip R (items ++ item ∷ []) (found ++ next ∷ [])
+zip_push R [] [] item next are is = (is, tt)
+zip_push R [] (_ ∷ _) item next are is = absurd are
+zip_push R (_ ∷ _) [] item next are is = absurd are
+zip_push R (_ ∷ items) (_ ∷ found) item next (first, later) is =
+    (first, zip_push R items found item next later is)
+
+-- loop step: one more item, and the result for it
+pub zip_next : {A B C V : Type 0} (R : B → V → Type 0) (f : A → B) (g : C → V) (items : List A)
+    (place : ℕ) (item : A) (found : List C) (next : C) → place < length items
+    → AllZip R (map f (take place items)) (map g found) → R (f (slice_index_or items place item)) (g next)
+    → AllZip R (map f (take (place + 1) items)) (map g (found ++ next ∷ []))
+zip_next R f g items place item found next below are is =
+    rw (take_more items place item below, map-append, map-append)
+    (zip_push R (map f (take place items)) (map g found) (f (slice_index_or items place item)) (g next)
+    are is)
+
+-- whether all verdicts allow from index `at` on, in terms of the verdict there
+pub allows_next : (verdicts : List Verdict) (at : ℕ) (verdict : Verdict) → at < length verdicts
+    → allows_all (map verdict_value (drop at verdicts))
+    ≡ ((slice_index_or verdicts at verdict).decision.allowed
+    && allows_all (map verdict_value (drop (at + 1) verdicts)))
+allows_next verdicts at verdict below = rw (drop_more verdicts at verdict below) refl
+
+-- whether a warning is about syntax from index `at` on, in terms of the warning there
+pub syntax_next : (warnings : List Warning) (at : ℕ) (warning : Warning) → at < length warnings
+    → has_syntax_warning (map warning_value (drop at warnings))
+    ≡ (is_about_syntax (slice_index_or warnings at warning).cause
+    || has_syntax_warning (map warning_value (drop (at + 1) warnings)))
+syntax_next warnings at warning below = rw (drop_more warnings at warning below) refl
+
+pub rejects_next : (agents : List AgentAudit) (at : ℕ) (agent : AgentAudit) → at < length agents
+    → rejects_some (map agent_value (drop at agents))
+    ≡ (is_some (slice_index_or agents at agent).rejected || rejects_some
+    (map agent_value (drop (at + 1) agents)))
+rejects_next agents at agent below = rw (drop_more agents at agent below) refl
+
+pub allowed_next : (agents : List AgentAudit) (at : ℕ) (agent : AgentAudit) → at < length agents
+    → all_allowed (map agent_value (drop at agents))
+    ≡ (allows_all (map verdict_value (slice_index_or agents at agent).verdicts.items)
+    && all_allowed (map agent_value (drop (at + 1) agents)))
+allowed_next agents at agent below = rw (drop_more agents at agent below) refl
+
+lines_from : (name : List ℕ) (all lines : List LineValue) (n : ℕ)
+    → lines_of (map (label_at name all) (enumerate_from n lines)) ≡ lines
+lines_from name all [] n = refl
+lines_from name all (line ∷ lines) n = ap (λ t. line ∷ t) (lines_from name all lines (n + 1))
+
+-- the lines of the labels are the original lines
+pub lines_labeled : (agent : List ℕ) (lines : List LineValue) → lines_of (labels_for agent lines) ≡ lines
+lines_labeled agent lines = lines_from (group_name agent lines) lines lines 0
+
+-- the crawlers requested, computed from labels, are those computed from the lines
+pub names_requested : (agents : List (List ℕ)) (labeling : List ℕ) (lines : List LineValue)
+    (labels others : List LabeledLine) (names : List (List ℕ))
+    → names ≡ agents_requested agents (lines_of (map label_by_value others)) → others ≡ labels
+    → map label_by_value labels ≡ labels_for labeling lines → names ≡ agents_requested agents lines
+names_requested agents labeling lines labels others names requested same are =
+    requested ∙ ap (λ labels. agents_requested agents (lines_of (map label_by_value labels))) same
+    ∙ ap (λ labels. agents_requested agents (lines_of labels)) are
+    ∙ ap (agents_requested agents) (lines_labeled labeling lines)
+
+-- ---- the audit for a crawler
+
+verdicts_like : (rules others : List PlacedRule) → AnswerAlike rules others
+    → (urls : List (List ℕ)) (verdicts : List VerdictValue) → AllZip (IsVerdictOn rules) urls verdicts
+    → AllZip (IsVerdictOn others) urls verdicts
+verdicts_like rules others alike [] [] are = tt
+verdicts_like rules others alike [] (_ ∷ _) are = absurd are
+verdicts_like rules others alike (_ ∷ _) [] are = absurd are
+verdicts_like rules others alike (url ∷ urls) (verdict ∷ verdicts) (first, later) =
+    let text = prepared url in (
+      record {
+        url_is = first.url_is;
+        decided = record {
+          verdict = (alike.verdicts text verdict.decision.allowed).0 first.decided.verdict;
+          deciding = (alike.deciding text verdict.decision.line).0 first.decided.deciding;
+        };
+      },
+      verdicts_like rules others alike urls verdicts later,
+    )
+
+-- the values of a robot made from the file are those of the crawler's audit
+pub agent_made : (urls : List (List ℕ)) (file agent : List ℕ) (value : AgentValue) (robot : RobotValue)
+    → IsRobotOfFile agent (take file_limit file) robot → value.agent ≡ agent
+    → value.group ≡ group_of agent (lines_read file) → value.delay ≡ robot.delay → value.rejected ≡ None
+    → AllZip (IsVerdictOn robot.rules) urls value.verdicts
+    → IsAgentAudit urls (lines_read file) agent value
+agent_made urls file agent value robot of name group delay accepted are =
+    let lines = lines_read file in
+    let is = read_robot agent file robot of in
+    let alike = answers_computed agent lines robot.rules is.rules in
+    let found : IsRuling urls lines agent None value.verdicts =
+    (is.accepted, verdicts_like robot.rules (placed_rules agent lines) alike urls value.verdicts are) in
+    record {
+      agent_is = name;
+      group_is = group;
+      delay_is = delay ∙ (delay_is_computed agent lines robot.delay).0 is.delay;
+      ruling = rw accepted found;
+    }
+
+-- a delay as the specification states it is the computed one
+pub delay_read : (agent file : List ℕ) (delay : Option ℕ)
+    → HasLines (take file_limit file) (λ lines. IsDelayFor agent lines delay)
+    → delay ≡ delay_for agent (lines_read file)
+delay_read agent file delay has =
+    (delay_is_computed agent (lines_read file) delay).0
+    (of_lines _ (λ lines. IsDelayFor agent lines delay) has (lines_read file) (lines_are_read file))

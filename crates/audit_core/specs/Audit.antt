@@ -1,0 +1,168 @@
+-- The audit of a file: its lines, what applies to each requested crawler, and the warnings.
+use Rattle.std.specs.Prelude.{◌≡◌, ℕ, Bool, false, List, [], ◌∷◌, ◌++◌, Option, Some, None, bytes_eq, codes}
+use Rattle.std.specs.Prelude.{count_by, filter, is_none, is_some, map, not, sum_by, if◌then◌else◌}
+use Rattle.std.specs.List.{AllZip, list_all, list_any}
+use Rattle.std.specs.Str.{is_utf8, str_to_ascii_lowercase}
+use Rattle.texting_robots.specs.Callers.{IsFirstOverlong, IsRejected, LineValue, Label, PlacedRule, UserAgent}
+use Rattle.texting_robots.specs.Callers.{delay_for, is_named, lines_read, placed_rules}
+use Rattle.texting_robots.specs.Group.{is_agent}
+use Rattle.texting_robots.specs.declared.decision.Decision.{Decision}
+use Rattle.robots_io.specs.Verdicts.{IsDecisionOn}
+use Rattle.audit_core.specs.declared.group.Group.{Group}
+use Rattle.audit_core.specs.declared.group.Group.TheVariants.{Everyone, Named, Nobody, Star}
+use Rattle.robots_needless.specs.Needless.{AreFound}
+use Rattle.robots_needless.specs.declared.needless.NeedlessRule.{NeedlessRule}
+use Rattle.robots_warnings.specs.Facts.{facts_of, is_too_large}
+use Rattle.robots_warnings.specs.File.{labels_for}
+use Rattle.robots_warnings.specs.Warnings.{WarningValue, warnings}
+use Rattle.audit_core.specs.Chosen.{chosen}
+use Rattle.audit_core.specs.Needless.{needless_warning}
+use Rattle.audit_core.specs.Syntax.{syntax_of}
+use Rattle.audit_core.specs.declared.syntax.Syntax.{Syntax}
+use Rattle.audit_core.specs.Request.{RequestValue}
+
+-- ---- the crawlers of a report
+
+-- the name is in the list, compared without regard to the case of ASCII letters
+abbrev pub is_among : List ℕ → List (List ℕ) → Bool
+is_among name names =
+    list_any (λ other. bytes_eq (str_to_ascii_lowercase other) (str_to_ascii_lowercase name)) names
+
+-- the list, with the name of a user-agent line appended if it is new; a name that isn't UTF-8 is left out,
+-- as a crawler's name is a string
+abbrev pub with_name : List (List ℕ) → LineValue → List (List ℕ)
+with_name names (UserAgent name) =
+    if is_utf8 name then (if is_among name names then names else names ++ name ∷ []) else names
+with_name names _ = names
+
+abbrev pub with_names : List (List ℕ) → List LineValue → List (List ℕ)
+with_names names [] = names
+with_names names (line ∷ lines) = with_names (with_name names line) lines
+
+-- `*`, and then each crawler that the lines name, once, in the order of the lines
+abbrev pub agents_in : List LineValue → List (List ℕ)
+agents_in lines = with_names (codes "*" ∷ []) lines
+
+-- the crawlers that are given, or if none is, those that the lines name
+abbrev pub agents_requested : List (List ℕ) → List LineValue → List (List ℕ)
+agents_requested [] lines = agents_in lines
+agents_requested (agent ∷ agents) lines = agent ∷ agents
+
+-- ---- what a file means for a crawler
+
+-- which user-agent lines determine the group of the crawler
+abbrev pub group_of : List ℕ → List LineValue → Group
+group_of agent lines =
+    if is_named agent lines then Named
+    else if is_named (codes "*") lines then Star
+    else if list_any is_agent lines then Nobody else Everyone
+
+pub record VerdictValue : Type 0 where
+  pub url : List ℕ
+  pub decision : Decision
+
+pub record AgentValue : Type 0 where
+  pub agent : List ℕ
+  pub group : Group
+  pub delay : Option ℕ
+  pub rejected : Option ℕ
+  pub verdicts : List VerdictValue
+
+-- the URL, and the decision of the rules on it
+pub record IsVerdictOn (rules : List PlacedRule) (url : List ℕ) (verdict : VerdictValue) : Type 0 where
+  pub url_is : verdict.url ≡ url
+  pub decided : IsDecisionOn rules url verdict.decision
+
+-- either the file isn't rejected for the crawler, and these are the verdicts on the URLs; or its first
+-- overlong rule is in line `rejected`, and there are no verdicts
+abbrev pub IsRuling : List (List ℕ) → List LineValue → List ℕ → Option ℕ → List VerdictValue → Type 0
+IsRuling urls lines agent None verdicts =
+    (¬ IsRejected agent lines) × AllZip (IsVerdictOn (placed_rules agent lines)) urls verdicts
+IsRuling urls lines agent (Some line) verdicts =
+    IsFirstOverlong (placed_rules agent lines) line × (verdicts ≡ [])
+
+-- what the file means for the crawler
+pub record IsAgentAudit (urls : List (List ℕ)) (lines : List LineValue) (agent : List ℕ)
+    (value : AgentValue) : Type 0 where
+  pub agent_is : value.agent ≡ agent
+  pub group_is : value.group ≡ group_of agent lines
+  pub delay_is : value.delay ≡ delay_for agent lines
+  pub ruling : IsRuling urls lines agent value.rejected value.verdicts
+
+-- ---- a file
+
+pub record AuditValue : Type 0 where
+  pub labels : List Label
+  pub agents : List AgentValue
+  pub warnings : List WarningValue
+  pub syntax : Syntax
+
+-- the crawler for which lines are labeled; `*` if there is no single one
+abbrev pub labeling_agent : Option (List ℕ) → List ℕ
+labeling_agent (Some agent) = agent
+labeling_agent None = codes "*"
+
+-- the labeled lines of the file
+abbrev pub labels_requested : RequestValue → List ℕ → List Label
+labels_requested requested file = labels_for (labeling_agent requested.agent) (lines_read file)
+
+-- all warnings about the file and the request, and then those about the needless rules that were found
+abbrev pub warnings_found : RequestValue → List ℕ → List Label → List NeedlessRule → List WarningValue
+warnings_found requested file labels needless =
+    warnings (is_none requested.agent) requested.agents (agents_requested requested.agents (lines_read file))
+    requested.urls file (facts_of file labels) labels (lines_read file) ++ map needless_warning needless
+
+-- the warnings that the request doesn't exclude
+abbrev pub warnings_requested : RequestValue → List ℕ → List Label → List NeedlessRule → List WarningValue
+warnings_requested requested file labels needless =
+    chosen requested.only requested.ignored (warnings_found requested file labels needless)
+
+-- the file is rejected for at least one of these crawlers
+abbrev pub rejects_some : List AgentValue → Bool
+rejects_some agents = list_any (λ (agent : AgentValue). is_some agent.rejected) agents
+
+-- Of needless rules, it is only stated that those found are needless together: there may be more. So with
+-- `--needless` a file may have several audits, but without it only one. They are those of all groups,
+-- whichever crawler the report is about, since deleting only some of them could change a verdict.
+pub record IsAuditOf (requested : RequestValue) (file : List ℕ) (audit : AuditValue) : Type 0 where
+  pub needless : List NeedlessRule
+  pub needless_are : AreFound (lines_read file) needless
+  pub unrequested : requested.has_needless ≡ false → needless ≡ []
+  pub labels_are : audit.labels ≡ labels_requested requested file
+  pub agents_are : AllZip (IsAgentAudit requested.urls (lines_read file))
+      (agents_requested requested.agents (lines_read file)) audit.agents
+  pub warnings_are : audit.warnings ≡ warnings_requested requested file (labels_requested requested file)
+      needless
+  pub syntax_is : audit.syntax ≡ syntax_of requested.agent (is_too_large file) (rejects_some audit.agents)
+      (warnings_found requested file (labels_requested requested file) needless)
+
+-- ---- denied URLs
+
+abbrev pub is_allowed : VerdictValue → Bool
+is_allowed verdict = verdict.decision.allowed
+
+abbrev pub is_denied : VerdictValue → Bool
+is_denied verdict = not verdict.decision.allowed
+
+-- what the file means for a crawler, with the denied URLs alone
+abbrev pub with_denied : AgentValue → AgentValue
+with_denied agent = record agent { verdicts = filter is_denied agent.verdicts }
+
+-- the audit that is reported: with `--denied`, that with the denied URLs alone
+abbrev pub shown : Bool → AuditValue → AuditValue
+shown denied_only audit =
+    if denied_only then record audit { agents = map with_denied audit.agents } else audit
+
+-- how many verdicts of all crawlers pass this test
+abbrev pub total : (VerdictValue → Bool) → List AgentValue → ℕ
+total test agents = sum_by (λ (agent : AgentValue). count_by test agent.verdicts) agents
+
+-- ---- the outcome
+
+-- all of these verdicts are "allowed"
+abbrev pub allows_all : List VerdictValue → Bool
+allows_all verdicts = list_all (λ (verdict : VerdictValue). verdict.decision.allowed) verdicts
+
+-- each of these crawlers may fetch all of its URLs
+abbrev pub all_allowed : List AgentValue → Bool
+all_allowed agents = list_all (λ (agent : AgentValue). allows_all agent.verdicts) agents

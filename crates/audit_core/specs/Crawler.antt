@@ -1,0 +1,47 @@
+-- What crawlers call themselves: names in arguments and in the file of `--expect`.
+use Rattle.std.specs.Prelude.{◌≡◌, ◌⊎◌, ℕ, Bool, false, not, ◌&&◌, ◌||◌, ◌==◌, List, Contains, bytes_eq}
+use Rattle.std.specs.Prelude.{codes, String, length, string_bytes, [], ◌∷◌, Option, Some, None}
+use Rattle.std.specs.Global.{Global}
+use Rattle.std.specs.List.{list_all, list_any}
+use Rattle.std.specs.Char.{is_ascii_digit}
+use Rattle.std.specs.Str.{byte}
+use Rattle.robots_io.specs.Sanitize.{sanitized}
+use Rattle.robots_warnings.specs.Rules.{has}
+use Rattle.robots_warnings.specs.Tokens.{has_space_around, is_name_byte}
+use Rattle.audit_core.specs.declared.fault.Fault.{Fault}
+use Rattle.audit_core.specs.declared.fault.Fault.TheVariants.{Malformed, Memory}
+use Rattle.audit_core.specs.declared.fault.Flaw.TheVariants as flaw
+
+-- the name has a dot and a digit, which are those of a version, as in `Googlebot.2`
+abbrev pub has_version : List ℕ → Bool
+has_version name = has (byte ".") name && list_any is_ascii_digit name
+
+-- the name has letters, digits, `_`, `-`, dots and spaces, such as `MJ12bot` and `archive.org_bot`, but no
+-- version
+abbrev pub is_own_name : List ℕ → Bool
+is_own_name name =
+    (not (length name == 0) && list_all is_name_byte name)
+    && (not (has_space_around name) && not (has_version name))
+
+-- the usual form of a name by which a crawler calls itself, or `*`, for all that have no group of their own;
+-- names in user-agent lines can have more, such as a `*` at their end
+abbrev pub is_crawler_name : List ℕ → Bool
+is_crawler_name name = bytes_eq name (codes "*") || is_own_name name
+
+-- the error shows this name, or an allocation failed
+abbrev pub IsNoCrawler : List ℕ → Fault → Type 0
+IsNoCrawler name fault = (fault ≡ Memory)
+    ⊎ ((shown : String Global) × (string_bytes shown ≡ sanitized name) × (fault ≡ Malformed shown flaw.Agent))
+
+-- the error shows one of these names, which no crawler has, or an allocation failed
+abbrev pub IsNoCrawlerIn : List (List ℕ) → Fault → Type 0
+IsNoCrawlerIn names fault =
+    (name : List ℕ) × Contains names name × (is_crawler_name name ≡ false) × IsNoCrawler name fault
+
+-- the crawler, if there is a single one
+abbrev pub single : List (List ℕ) → Option (List ℕ)
+single (agent ∷ []) = Some agent
+single agents = None
+
+abbrev pub is_word : List ℕ → Bool
+is_word word = not (length word == 0)

@@ -1,0 +1,14 @@
+pub mod Request
+pub mod Run
+pub mod Texts
+pub mod Fault
+pub mod Delay
+pub mod Rows
+pub mod Audit
+pub mod Chosen
+pub mod Color
+pub mod Syntax
+pub mod Needless
+pub mod PlainLine
+pub mod Crawler
+pub mod Internal

@@ -1,0 +1,44 @@
+-- What a run is requested to do.
+use Rattle.std.specs.Prelude.{ℕ, Bool, List, Option, map, option_map}
+use Rattle.audit_core.specs.declared.request.Format.{Format}
+use Rattle.audit_core.specs.declared.request.Request.{Request}
+use Rattle.robots_warnings.specs.declared.level.Level.{Level}
+
+-- a request: the name of the file, or `None` for standard input; the crawler, if the report is about a single
+-- one; the crawlers, where an empty list means `*` and each that the file names; the URLs; whether the rows
+-- are left out; how the report is written; whether the levels of warnings on standard error have colors; the
+-- level of `--strict`, if it is given; the names of the warnings that are reported, where an empty list means
+-- all; the names of those that are left out; whether only denied URLs are listed; whether the report ends
+-- with the numbers of allowed and denied URLs; and whether needless rules are looked for
+pub record RequestValue : Type 0 where
+  pub file : Option (List ℕ)
+  pub agent : Option (List ℕ)
+  pub agents : List (List ℕ)
+  pub urls : List (List ℕ)
+  pub is_quiet : Bool
+  pub format : Format
+  pub has_colors : Bool
+  pub strict : Option Level
+  pub only : List (List ℕ)
+  pub ignored : List (List ℕ)
+  pub is_denied_only : Bool
+  pub has_totals : Bool
+  pub has_needless : Bool
+
+-- the request, by value
+abbrev pub requested_by : Request → RequestValue
+requested_by request = record {
+  file = option_map (λ name. name.now) request.file;
+  agent = option_map (λ agent. agent.now) request.agent;
+  agents = map (λ agent. agent.now) request.agents.items;
+  urls = map (λ url. url.now) request.urls.items;
+  is_quiet = request.is_quiet;
+  format = request.format;
+  has_colors = request.has_colors;
+  strict = request.strict;
+  only = map (λ name. name.now) request.only.items;
+  ignored = map (λ name. name.now) request.ignored.items;
+  is_denied_only = request.is_denied_only;
+  has_totals = request.has_totals;
+  has_needless = request.has_needless;
+}

@@ -1,0 +1,49 @@
+-- What the warnings tell about the syntax of a file.
+use Rattle.std.specs.Prelude.{ℕ, ◌==◌, Bool, true, false, not, ◌||◌, List, [], ◌∷◌, Option, codes}
+use Rattle.std.specs.Prelude.{if◌then◌else◌, is_some, length}
+use Rattle.std.specs.List.{list_any}
+use Rattle.robots_warnings.specs.declared.table.Cause.{Cause}
+use Rattle.robots_warnings.specs.Table.{is_not_about_syntax}
+use Rattle.robots_warnings.specs.Warnings.{WarningValue}
+use Rattle.audit_core.specs.declared.syntax.Syntax.{Syntax}
+use Rattle.audit_core.specs.declared.syntax.Syntax.TheVariants.{Standard, StandardWithoutWarnings}
+use Rattle.audit_core.specs.declared.syntax.Syntax.TheVariants.{Unstated}
+
+-- a warning with this reason is about syntax
+unfoldable pub is_about_syntax : Cause → Bool
+is_about_syntax cause = not (is_not_about_syntax cause)
+
+abbrev pub has_syntax_warning : List WarningValue → Bool
+has_syntax_warning warnings = list_any (λ (warning : WarningValue). is_about_syntax warning.cause) warnings
+
+abbrev pub are_none : List WarningValue → Bool
+are_none warnings = length warnings == 0
+
+-- nothing is stated about the syntax: not for a single crawler, since the rules of other groups aren't
+-- checked; not if the file is larger than the size limit, since the rest isn't read; not if the file is
+-- rejected for a crawler, as that would look like a file without faults; and not if a warning is about syntax
+abbrev pub is_unstated : Option (List ℕ) → (is_too_large is_rejected : Bool) → List WarningValue → Bool
+is_unstated agent is_too_large is_rejected warnings =
+    ((is_some agent || is_too_large) || is_rejected) || has_syntax_warning warnings
+
+-- what all warnings about a file, reported or not, tell about its syntax
+abbrev pub syntax_of : Option (List ℕ) → (is_too_large is_rejected : Bool) → List WarningValue → Syntax
+syntax_of agent is_too_large is_rejected warnings =
+    if is_unstated agent is_too_large is_rejected warnings then Unstated
+    else if are_none warnings then StandardWithoutWarnings else Standard
+
+-- the file is stated to have the syntax of RFC 9309
+abbrev pub is_standard : Syntax → Bool
+is_standard Unstated = false
+is_standard Standard = true
+is_standard StandardWithoutWarnings = true
+
+-- the sentence about it in a report; empty if nothing is stated
+abbrev pub sentence : Syntax → List ℕ
+sentence Unstated = []
+sentence Standard = codes "no warnings about syntax: the file has RFC 9309 syntax"
+sentence StandardWithoutWarnings = codes "no warnings: the file has RFC 9309 syntax"
+
+-- the line with this sentence
+abbrev pub syntax_lines : Syntax → List (List ℕ)
+syntax_lines syntax = if is_standard syntax then sentence syntax ∷ [] else []

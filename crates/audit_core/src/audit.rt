@@ -1,0 +1,290 @@
+//! The audit of a file: its lines, what applies to each requested crawler, and the warnings.
+ghost use Rattle.std.specs.Prelude.{◌≡◌, ◌++◌, IfErr, IfOk, is_none, map, option_map, string_bytes, take};
+ghost use Rattle.std.specs.List.{AllZip, list_any};
+ghost use Rattle.texting_robots.specs.Callers.{file_limit, file_lines, lines_read, label_by_value};
+ghost use Rattle.texting_robots.specs.Group.{is_agent};
+ghost use Rattle.audit_core.specs.Request.{requested_by};
+ghost use Rattle.audit_core.specs.Audit.{IsAgentAudit, IsAuditOf, IsVerdictOn, agents_requested, all_allowed, allows_all, labeling_agent};
+ghost use Rattle.audit_core.specs.Audit.{rejects_some};
+ghost use Rattle.audit_core.specs.Chosen.{chosen};
+ghost use Rattle.audit_core.specs.Needless.{needless_warning};
+ghost use Rattle.robots_warnings.specs.File.{lines_of, labels_for};
+ghost use Rattle.robots_warnings.specs.Internal.{warning_value};
+ghost use Rattle.robots_warnings.specs.Warnings.{warnings};
+ghost use Rattle.audit_core.specs.Internal.{IsReading, agent_value, audit_value, verdict_value};
+
+use crate::agents::agents_requested;
+use crate::chosen::chosen;
+use crate::fault::Fault;
+use crate::group::{Group, group_of};
+use crate::needless::{add_needless, needless_rules};
+use crate::request::Request;
+use crate::syntax::{Syntax, syntax_of};
+use robots_io::verdicts::decision_on;
+use robots_needless::needless::NeedlessRule;
+use robots_warnings::facts::{FileFacts, facts_of};
+use robots_warnings::file::{counted, labels_for};
+use robots_warnings::warning::Warning;
+use robots_warnings::warnings::warnings;
+use std::alloc::{AllocError, Global};
+use texting_robots::labels::{LabeledLine, first_overlong_line};
+use texting_robots::robot::Decision;
+use texting_robots::{Error, Robot, Site};
+
+/// The verdict on a URL.
+#[derive(Drop)]
+pub struct Verdict<'a> {
+    pub url: &'a str,
+    pub decision: Decision,
+}
+
+/// What a file means for one crawler.
+#[derive(Drop)]
+pub struct AgentAudit<'a> {
+    pub agent: String,
+    pub group: Group,
+    /// In microseconds.
+    pub delay: Option<u64>,
+    /// The line of the crawler's first overlong rule, if it has one; then this parser rejects the file for the crawler.
+    pub rejected: Option<usize>,
+    /// Empty if the file is rejected for the crawler.
+    pub verdicts: Vec<Verdict<'a>>,
+}
+
+/// The audit of a file.
+#[derive(Drop)]
+pub struct Audit<'a, 'b> {
+    pub labels: Vec<LabeledLine<'b>>,
+    pub agents: Vec<AgentAudit<'a>>,
+    pub warnings: Vec<Warning<'a>>,
+    pub syntax: Syntax,
+}
+
+/// A crawler's robot, or the line of the crawler's first overlong rule.
+#[derive(Drop)]
+pub enum Reading {
+    Accepted(Robot),
+    Rejected(usize),
+}
+
+/// Parses the first 512,000 bytes of the file for the crawler.
+pub fn read_for(alloc: Global, agent: &str, file: &[u8], site: &Site) -> Result<Reading, Fault>
+    requires { site.now ≡ take file_limit file.now }
+    ensures ok { IfOk result (IsReading agent.now file.now) }
+    ensures fault { IfErr result (λ fault. fault ≡ Fault.Memory) }
+{
+    match site.robot(alloc, agent) {
+        Ok(robot) => Ok(Reading::Accepted(robot)),
+        Err(Error::InvalidRule) => match first_overlong_line(alloc, agent, counted(file))? {
+            Some(line) => Ok(Reading::Rejected(line)),
+            None => unreachable!(),
+        },
+        Err(Error::Memory | Error::InvalidRobots) => Err(Fault::Memory),
+    }
+}
+
+/// The robot's verdict on each URL, in order.
+fn verdicts_on<'a>(
+    alloc: Global,
+    robot: &Robot,
+    urls: &[&'a str],
+) -> Result<Vec<Verdict<'a>>, Error>
+    ensures ok { IfOk result (λ verdicts. AllZip (IsVerdictOn robot.now.rules) (map (λ url. url.now) urls.now)
+        (map verdict_value verdicts.items)) }
+    ensures memory { IfErr result (λ error. error ≡ Error.Memory) }
+{
+    let mut verdicts = Vec::with_capacity(alloc, urls.len())?;
+    for url in urls {
+        let decision = decision_on(alloc, robot, url)?;
+        verdicts.push(Verdict { url, decision })?;
+    }
+    Ok(verdicts)
+}
+
+/// What the file means for one crawler. `has_agents` is true if the file has a user-agent line.
+pub fn agent_audit<'a>(
+    alloc: Global,
+    agent: &str,
+    file: &[u8],
+    site: &Site,
+    has_agents: bool,
+    urls: &[&'a str],
+) -> Result<AgentAudit<'a>, Fault>
+    requires agents { has_agents ≡ list_any is_agent (lines_read file.now) }
+    requires site { site.now ≡ take file_limit file.now }
+    ensures ok { IfOk result (λ audit. IsAgentAudit (map (λ url. url.now) urls.now) (lines_read file.now)
+        agent.now (agent_value audit)) }
+    ensures fault { IfErr result (λ fault. fault ≡ Fault.Memory) }
+{
+    let group = group_of(agent, site, has_agents);
+    let name = String::from_str(alloc, agent)?;
+    match read_for(alloc, agent, file, site)? {
+        Reading::Accepted(robot) => match verdicts_on(alloc, &robot, urls) {
+            Ok(verdicts) => Ok(AgentAudit {
+                agent: name,
+                group,
+                delay: robot.delay,
+                rejected: None,
+                verdicts,
+            }),
+            Err(Error::Memory) => Err(Fault::Memory),
+            Err(Error::InvalidRobots | Error::InvalidRule) => unreachable!(),
+        },
+        Reading::Rejected(line) => Ok(AgentAudit {
+            agent: name,
+            group,
+            delay: site.delay(agent),
+            rejected: Some(line),
+            verdicts: Vec::new(alloc),
+        }),
+    }
+}
+
+/// What the file means for each of these crawlers. `has_agents` is true if the file has a user-agent line.
+fn agent_audits<'a>(
+    alloc: Global,
+    agents: &[String],
+    file: &[u8],
+    site: &Site,
+    has_agents: bool,
+    urls: &[&'a str],
+) -> Result<Vec<AgentAudit<'a>>, Fault>
+    requires agents { has_agents ≡ list_any is_agent (lines_read file.now) }
+    requires site { site.now ≡ take file_limit file.now }
+    ensures ok { IfOk result (λ audits. AllZip (IsAgentAudit (map (λ url. url.now) urls.now) (lines_read file.now))
+        (map string_bytes agents.now) (map agent_value audits.items)) }
+    ensures fault { IfErr result (λ fault. fault ≡ Fault.Memory) }
+{
+    let mut audits = Vec::with_capacity(alloc, agents.len())?;
+    for agent in agents {
+        audits.push(agent_audit(alloc, agent, file, site, has_agents, urls)?)?;
+    }
+    Ok(audits)
+}
+
+/// The crawler for which lines are labeled: with `None`, `*`.
+pub fn labeling_agent<'a>(agent: Option<&'a str>) -> &'a str
+    ensures { result.now ≡ labeling_agent (option_map (λ agent. agent.now) agent.entry) }
+{
+    match agent {
+        Some(agent) => agent,
+        None => "*",
+    }
+}
+
+/// Whether the report isn't about a single crawler, so that the rules of all groups are checked.
+fn covers_all_groups(agent: Option<&str>) -> bool
+    ensures { result ≡ is_none (option_map (λ agent. agent.now) agent.entry) }
+{
+    match agent {
+        Some(_) => false,
+        None => true,
+    }
+}
+
+/// All warnings about the file and the request, and then those about these needless rules. `facts` and `labels` are
+/// those of this file.
+fn warnings_of<'a>(
+    alloc: Global,
+    request: &Request<'a>,
+    agents: &[String],
+    file: &[u8],
+    facts: FileFacts,
+    labels: &[LabeledLine<'_>],
+    site: &Site,
+    needless: &[NeedlessRule],
+) -> Result<Vec<Warning<'a>>, AllocError>
+    ensures { IfOk result (λ found. map warning_value found.items
+        ≡ warnings (is_none (requested_by request.now).agent) (requested_by request.now).agents
+        (map string_bytes agents.now) (requested_by request.now).urls file.now facts (map label_by_value labels.now)
+        (file_lines site.now) ++ map needless_warning needless.now) }
+{
+    let everywhere = covers_all_groups(request.agent);
+    let (named, urls) = (&request.agents, &request.urls);
+    let mut found = warnings(
+        alloc, everywhere, named, agents, urls, file, facts, labels, site,
+    )?;
+    add_needless(&mut found, needless)?;
+    Ok(found)
+}
+
+/// The warnings that the request doesn't exclude.
+fn warnings_chosen<'a>(
+    alloc: Global,
+    request: &Request<'a>,
+    all: &[Warning<'a>],
+) -> Result<Vec<Warning<'a>>, AllocError>
+    ensures { IfOk result (λ found. map warning_value found.items
+        ≡ chosen (requested_by request.now).only (requested_by request.now).ignored (map warning_value all.now)) }
+{
+    chosen(alloc, &request.only, &request.ignored, all)
+}
+
+/// Audits a file for the crawlers and URLs of the request.
+pub fn audit_of<'a, 'b>(
+    alloc: Global,
+    request: &Request<'a>,
+    file: &'b [u8],
+) -> Result<Audit<'a, 'b>, Fault>
+    ensures ok { IfOk result (λ audit. IsAuditOf (requested_by request.now) file.now (audit_value audit)) }
+    ensures fault { IfErr result (λ fault. fault ≡ Fault.Memory) }
+{
+    let labels = labels_for(alloc, labeling_agent(request.agent), file)?;
+    let facts = facts_of(file, &labels);
+    let names = agents_requested(alloc, &request.agents, &labels)?;
+    let site = Site::new(alloc, file)?;
+    let has_agents = facts.kinds.user_agent;
+    let agents = agent_audits(alloc, &names, file, &site, has_agents, &request.urls)?;
+    let needless = needless_rules(alloc, request.has_needless, &site)?;
+    let all = warnings_of(
+        alloc, request, &names, file, facts, &labels, &site, &needless,
+    )?;
+    let warnings = warnings_chosen(alloc, request, &all)?;
+    let is_rejected = rejects_some(&agents);
+    let syntax = syntax_of(request.agent, facts.is_too_large, is_rejected, &all);
+    Ok(Audit {
+        labels,
+        agents,
+        warnings,
+        syntax,
+    })
+}
+
+/// Whether all of these verdicts are "allowed".
+#[tactic(auto, using(crate::proofs::AuditLemmas::allows_next))]
+fn allows_all(verdicts: &[Verdict<'_>]) -> bool
+    ensures { result ≡ allows_all (map verdict_value verdicts.now) }
+{
+    for verdict in verdicts {
+        if !verdict.decision.allowed {
+            return false;
+        }
+    }
+    true
+}
+
+/// Whether each of these crawlers may fetch all of its URLs.
+#[tactic(auto, using(crate::proofs::AuditLemmas::allowed_next))]
+pub fn all_allowed(agents: &[AgentAudit<'_>]) -> bool
+    ensures { result ≡ all_allowed (map agent_value agents.now) }
+{
+    for agent in agents {
+        if !allows_all(&agent.verdicts) {
+            return false;
+        }
+    }
+    true
+}
+
+/// Whether the file is rejected for at least one of these crawlers.
+#[tactic(auto, using(crate::proofs::AuditLemmas::rejects_next))]
+pub fn rejects_some(agents: &[AgentAudit<'_>]) -> bool
+    ensures { result ≡ rejects_some (map agent_value agents.now) }
+{
+    for agent in agents {
+        if agent.rejected.is_some() {
+            return true;
+        }
+    }
+    false
+}

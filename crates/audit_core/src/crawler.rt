@@ -1,0 +1,83 @@
+//! The names of crawlers in arguments and in the file of `--expect`.
+ghost use Rattle.std.specs.Prelude.{◌≡◌, IfErr, IsTrue, OnOk, map, not, option_map};
+ghost use Rattle.std.specs.Char.{is_ascii_digit};
+ghost use Rattle.std.specs.List.{list_all, list_any};
+ghost use Rattle.std.specs.Str.{byte};
+ghost use Rattle.robots_warnings.specs.Rules.{has};
+ghost use Rattle.audit_core.specs.Crawler.{single};
+ghost use Rattle.audit_core.specs.Crawler.{IsNoCrawler, IsNoCrawlerIn, has_version, is_crawler_name, is_own_name};
+
+use crate::fault::{Fault, Flaw};
+use robots_io::sanitize::push_sanitized;
+use robots_warnings::tokens::{are_name_bytes, has_space_around};
+use std::alloc::{AllocError, Global};
+
+/// Whether the name has a dot.
+fn has_dot(name: &[u8]) -> bool
+    ensures { result ≡ has (byte ".") name.now }
+{
+    name.iter().any(|byte| *byte == b'.')
+}
+
+/// Whether the name has a digit.
+fn has_digit(name: &[u8]) -> bool
+    ensures { result ≡ list_any is_ascii_digit name.now }
+{
+    name.iter().any(|byte| byte.is_ascii_digit())
+}
+
+/// Whether the name has a dot and a digit, which are those of a version.
+fn has_version(name: &[u8]) -> bool
+    ensures { result ≡ has_version name.now }
+{
+    has_dot(name) && has_digit(name)
+}
+
+/// Whether the name has only letters, digits, `_`, `-`, dots and spaces, and no version.
+fn is_own_name(name: &str) -> bool
+    ensures { result ≡ is_own_name name.now }
+{
+    let bytes = name.as_bytes();
+    (!name.is_empty() && are_name_bytes(bytes)) && (!has_space_around(name) && !has_version(bytes))
+}
+
+/// Whether a crawler can call itself so, or the name is `*`.
+pub fn is_crawler_name(name: &str) -> bool
+    ensures { result ≡ is_crawler_name name.now }
+{
+    name == "*" || is_own_name(name)
+}
+
+/// The crawler, if there is a single one.
+pub fn single<'a>(agents: &[&'a str]) -> Option<&'a str>
+    ensures { option_map (λ agent. agent.now) result ≡ single (map (λ agent. agent.now) agents.now) }
+{
+    match agents {
+        [agent] => Some(*agent),
+        _ => None,
+    }
+}
+
+/// The error for a name that no crawler has; `Fault::Memory` if an allocation fails.
+fn no_crawler(alloc: Global, name: &str) -> Fault
+    ensures { IsNoCrawler name.now result }
+{
+    let mut shown = String::new(alloc);
+    match push_sanitized(&mut shown, name.as_bytes()) {
+        Ok(()) => Fault::Malformed(shown, Flaw::Agent),
+        Err(AllocError) => Fault::Memory,
+    }
+}
+
+/// Fails with the first of these names that no crawler has.
+pub fn are_crawlers(alloc: Global, names: &[&str]) -> Result<(), Fault>
+    ensures ok { OnOk result (IsTrue (list_all is_crawler_name (map (λ name. name.now) names.now))) }
+    ensures fault { IfErr result (IsNoCrawlerIn (map (λ name. name.now) names.now)) }
+{
+    for name in names {
+        if !is_crawler_name(name) {
+            return Err(no_crawler(alloc, name));
+        }
+    }
+    Ok(())
+}

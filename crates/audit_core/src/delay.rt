@@ -1,0 +1,61 @@
+//! Formats a delay in seconds, exactly.
+ghost use Rattle.std.specs.Prelude.{◌≡◌, ◌++◌, ◌∷◌, ◌<◌, [], OnOk, string_bytes};
+ghost use Rattle.robots_io.specs.Lines.{ended};
+ghost use Rattle.audit_core.specs.Delay.{delay_line, delay_text, fraction, million, seconds};
+
+use robots_io::lines::{push_line, push_number};
+use std::alloc::AllocError;
+
+/// Microseconds per second.
+const MILLION: u64 = 1_000_000;
+
+/// The maximum number of digits after the decimal point.
+const DIGITS: u32 = 6;
+
+/// Appends the digits after the decimal point, without trailing zeros.
+fn push_fraction(text: &mut String, millionths: u64) -> Result<(), AllocError>
+    requires { millionths < million }
+    ensures { OnOk result (string_bytes text.new ≡ string_bytes text.old ++ fraction 6 millionths) }
+{
+    let mut rest = millionths;
+    let mut digits = DIGITS;
+    while rest > 0 && digits > 0 {
+        push_number(text, rest * 10 / MILLION)?;
+        rest = rest * 10 % MILLION;
+        digits -= 1;
+    }
+    Ok(())
+}
+
+/// Appends the microseconds as a number of seconds.
+fn push_seconds(text: &mut String, micros: u64) -> Result<(), AllocError>
+    ensures { OnOk result (string_bytes text.new ≡ string_bytes text.old ++ seconds micros) }
+{
+    push_number(text, micros / MILLION)?;
+    let millionths = micros % MILLION;
+    if millionths > 0 {
+        text.push('.')?;
+        push_fraction(text, millionths)?;
+    }
+    Ok(())
+}
+
+/// Appends the microseconds as a number of seconds with the unit.
+pub fn push_delay_text(text: &mut String, micros: u64) -> Result<(), AllocError>
+    ensures { OnOk result (string_bytes text.new ≡ string_bytes text.old ++ delay_text micros) }
+{
+    push_seconds(text, micros)?;
+    text.push_str(" s")
+}
+
+/// Appends the line with the delay.
+pub fn push_delay(text: &mut String, delay: Option<u64>) -> Result<(), AllocError>
+    ensures { OnOk result (string_bytes text.new ≡ string_bytes text.old ++ ended (delay_line delay ∷ [])) }
+{
+    let Some(micros) = delay else {
+        return push_line(text, "delay: ", "none");
+    };
+    text.push_str("delay: ")?;
+    push_delay_text(text, micros)?;
+    push_line(text, "", "")
+}

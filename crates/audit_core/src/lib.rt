@@ -1,0 +1,20 @@
+//! What a robots.txt file means for the crawlers that a request names: the request, the audit of a file, and how a run
+//! ends. It also has what several reports share: rows, delays, groups, colors, and the lines of texts.
+#![tactic(auto)]
+
+pub mod agents;
+pub mod audit;
+mod chosen;
+pub mod color;
+pub mod crawler;
+pub mod delay;
+pub mod fault;
+pub mod group;
+mod needless;
+pub mod print;
+pub mod request;
+pub mod rows;
+pub mod sitemaps;
+pub mod syntax;
+pub mod texts;
+pub mod version;

@@ -1,0 +1,158 @@
+//! The rows of a report: one for each line of the file.
+ghost use Rattle.std.specs.Prelude.{◌≡◌, ◌++◌, ◌∷◌, [], OnOk, codes, decimal, length, map, replicate};
+ghost use Rattle.std.specs.Prelude.{string_bytes};
+ghost use Rattle.texting_robots.specs.Callers.{by_value, label_by_value};
+ghost use Rattle.robots_io.specs.Lines.{ended};
+ghost use Rattle.robots_warnings.specs.File.{space};
+ghost use Rattle.audit_core.specs.Rows.{has_value, kind_text, label_text, right_aligned, row, rows};
+ghost use Rattle.audit_core.specs.Rows.{value_text, word_and_value, membership_word};
+
+use crate::delay::push_delay_text;
+use itoa::Buffer;
+use robots_io::sanitize::push_sanitized;
+use robots_warnings::file::is_blank;
+use std::alloc::AllocError;
+use texting_robots::labels::{LabeledLine, Membership};
+use texting_robots::parser::Line;
+
+/// The width of the column with the directives; the longest one is followed by a space.
+const WORD_WIDTH: usize = 12;
+
+/// Appends this many spaces.
+#[tactic(auto, using(crate::proofs::RowLemmas::blanks_more))]
+fn push_blanks(text: &mut String, count: usize) -> Result<(), AllocError>
+    ensures { OnOk result (string_bytes text.new ≡ string_bytes text.old ++ replicate count space) }
+{
+    for _ in 0..count {
+        text.push(' ')?;
+    }
+    Ok(())
+}
+
+/// Appends a string, right-aligned within the width.
+fn push_right(text: &mut String, width: usize, added: &str) -> Result<(), AllocError>
+    ensures { OnOk result (string_bytes text.new ≡ string_bytes text.old ++ right_aligned width added.now) }
+{
+    push_blanks(text, width.saturating_sub(added.len()))?;
+    text.push_str(added)
+}
+
+/// The label of a line: `+` in the crawler's group, `-` in another, a space in none.
+fn label_text(membership: Membership) -> &'static str
+    ensures { result.now ≡ label_text membership }
+{
+    match membership {
+        Membership::Own => "+",
+        Membership::Other => "-",
+        Membership::Ungrouped => " ",
+    }
+}
+
+/// The name of the line's directive, or `empty` or `ignored`.
+pub fn kind_text(line: Line<'_>) -> &'static str
+    ensures { result.now ≡ kind_text (by_value line.entry) }
+{
+    match line {
+        Line::UserAgent(_) => "user-agent",
+        Line::Allow(_) => "allow",
+        Line::Disallow(_) => "disallow",
+        Line::CrawlDelay(_) => "crawl-delay",
+        Line::Sitemap(_) => "sitemap",
+        Line::Raw(body) if is_blank(body) => "empty",
+        Line::Raw(_) => "ignored",
+    }
+}
+
+/// Whether a line has a value that is shown.
+pub fn has_value(line: Line<'_>) -> bool
+    ensures { result ≡ has_value (by_value line.entry) }
+{
+    match line {
+        Line::UserAgent(value)
+        | Line::Allow(value)
+        | Line::Disallow(value)
+        | Line::Sitemap(value)
+        | Line::Raw(value) => !value.is_empty(),
+        Line::CrawlDelay(delay) => delay.is_some(),
+    }
+}
+
+/// Appends the value of a line: a delay in seconds, any other value sanitized.
+pub fn push_value(text: &mut String, line: Line<'_>) -> Result<(), AllocError>
+    ensures { OnOk result (string_bytes text.new ≡ string_bytes text.old ++ value_text (by_value line.entry)) }
+{
+    match line {
+        Line::UserAgent(value)
+        | Line::Allow(value)
+        | Line::Disallow(value)
+        | Line::Sitemap(value)
+        | Line::Raw(value) => push_sanitized(text, value),
+        Line::CrawlDelay(Some(micros)) => push_delay_text(text, micros),
+        Line::CrawlDelay(None) => Ok(()),
+    }
+}
+
+/// Appends the line's directive, and if the line has a value, spaces up to the next column and the value.
+fn push_word_and_value(text: &mut String, line: Line<'_>) -> Result<(), AllocError>
+    ensures { OnOk result (string_bytes text.new ≡ string_bytes text.old ++ word_and_value (by_value line.entry)) }
+{
+    let word = kind_text(line);
+    text.push_str(word)?;
+    if has_value(line) {
+        push_blanks(text, WORD_WIDTH.saturating_sub(word.len()))?;
+        push_value(text, line)?;
+    }
+    Ok(())
+}
+
+/// Appends the number and the label of a line.
+fn push_front(text: &mut String, width: usize, labeled: &LabeledLine<'_>) -> Result<(), AllocError>
+    ensures { OnOk result (string_bytes text.new ≡ string_bytes text.old
+        ++ (right_aligned width (decimal labeled.now.number) ++ codes " "
+        ++ label_text labeled.now.membership ++ codes " ")) }
+{
+    push_right(text, width, Buffer::new().format(labeled.number))?;
+    text.push(' ')?;
+    text.push_str(label_text(labeled.membership))?;
+    text.push(' ')
+}
+
+/// Appends the row of a line.
+fn push_row(text: &mut String, width: usize, labeled: &LabeledLine<'_>) -> Result<(), AllocError>
+    ensures { OnOk result (string_bytes text.new ≡ string_bytes text.old
+        ++ ended (row width (label_by_value labeled.now) ∷ [])) }
+{
+    push_front(text, width, labeled)?;
+    push_word_and_value(text, labeled.line)?;
+    text.push('\n')
+}
+
+/// The number of decimal digits of a number.
+fn digits(number: usize) -> usize
+    ensures { result ≡ length (decimal number) }
+{
+    Buffer::new().format(number).len()
+}
+
+/// Appends a row for each line.
+pub fn push_rows(text: &mut String, labels: &[LabeledLine<'_>]) -> Result<(), AllocError>
+    ensures { OnOk result (string_bytes text.new ≡ string_bytes text.old
+        ++ ended (rows (map label_by_value labels.now))) }
+{
+    let width = digits(labels.len());
+    for labeled in labels {
+        push_row(text, width, labeled)?;
+    }
+    Ok(())
+}
+
+/// The name of a membership in the JSON.
+pub fn membership_word(membership: Membership) -> &'static str
+    ensures { result.now ≡ membership_word membership }
+{
+    match membership {
+        Membership::Own => "own",
+        Membership::Other => "other",
+        Membership::Ungrouped => "ungrouped",
+    }
+}

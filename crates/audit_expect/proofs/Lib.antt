@@ -1,0 +1,5 @@
+pub mod EntryLemmas
+pub mod ExpectLemmas
+pub mod ExpectPrintableLemmas
+pub mod ExpectationsLemmas
+pub mod UrlListLemmas

@@ -1,0 +1,5 @@
+use Rattle.audit_expect.specs.Internal.Expect.{HasNone}
+use Rattle.audit_expect.proofs.expect.find_separator.Given as goal
+
+abbrev pub invariant-loop-place : goal.invariant-loop-place
+invariant-loop-place l = HasNone l.separators l.text l.place

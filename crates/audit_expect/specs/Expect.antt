@@ -1,0 +1,129 @@
+-- The lines of a text and the entries in them, and the expectations in the file of `--expect`, one per line.
+use Rattle.std.specs.Prelude.{ℕ, nat_eq, suc, ◌==◌, Bool, false, not, ◌&&◌, ◌||◌, List, [], ◌∷◌, Option, Some}
+use Rattle.std.specs.Prelude.{None, Result, Ok, Err, bytes_eq, codes, filter, if◌then◌else◌}
+use Rattle.std.specs.List.{list_any, starts_with}
+use Rattle.std.specs.Str.{byte, is_utf8}
+use Rattle.robots_warnings.specs.Facts.{mark, without_start}
+use Rattle.robots_warnings.specs.Rules.{before_byte, has, somewhere}
+use Rattle.robots_warnings.specs.Urls.{is_absolute_url}
+use Rattle.audit_core.specs.declared.fault.Flaw.{Flaw}
+use Rattle.audit_core.specs.declared.fault.Flaw.TheVariants.{Agent, Form, NotUtf8, Path, Url}
+use Rattle.audit_core.specs.Crawler.{is_crawler_name, is_word}
+
+-- ---- lines and words
+
+abbrev pub is_in : List ℕ → ℕ → Bool
+is_in separators byte = list_any (λ separator. separator == byte) separators
+
+-- the parts, with the byte at the start of the first
+abbrev pub with_byte : ℕ → List (List ℕ) → List (List ℕ)
+with_byte byte [] = (byte ∷ []) ∷ []
+with_byte byte (part ∷ parts) = (byte ∷ part) ∷ parts
+
+-- the parts of a text, each of which ends before a separator or at the end of the text; after the last
+-- separator there is no part if the text ends there
+abbrev pub parts : List ℕ → List ℕ → List (List ℕ)
+parts separators [] = []
+parts separators (byte ∷ text) =
+    if is_in separators byte then [] ∷ parts separators text else with_byte byte (parts separators text)
+
+-- a line ends with LF
+abbrev pub line_separators : List ℕ
+line_separators = codes "\n"
+
+-- words are separated by spaces, tabs and CRs
+abbrev pub word_separators : List ℕ
+word_separators = codes " \t\r"
+
+abbrev pub lines : List ℕ → List (List ℕ)
+lines text = parts line_separators text
+
+abbrev pub words : List ℕ → List (List ℕ)
+words line = filter is_word (parts word_separators line)
+
+-- ---- entries, of which a line has at most one
+
+-- the number of a malformed line, and what is wrong with it
+abbrev pub MalformedLine : Type 0
+MalformedLine = ℕ × Flaw
+
+-- a line's entry before those of later lines; the first malformed line counts
+abbrev pub before_others : {X : Type 0} → Result (Option X) MalformedLine → Result (List X) MalformedLine
+    → Result (List X) MalformedLine
+before_others (Err malformed) others = Err malformed
+before_others (Ok None) others = others
+before_others (Ok (Some first)) (Ok others) = Ok (first ∷ others)
+before_others (Ok (Some first)) (Err malformed) = Err malformed
+
+-- the entries of these lines, of which the first has this number, or the first malformed line; `entry` is the
+-- entry of a line, if it has one, or what is wrong with the line
+abbrev pub entries_from : {X : Type 0} → (ℕ → List ℕ → Result (Option X) MalformedLine) → ℕ
+    → List (List ℕ) → Result (List X) MalformedLine
+entries_from entry number [] = Ok []
+entries_from entry number (line ∷ others) =
+    before_others (entry number line) (entries_from entry (suc number) others)
+
+-- ---- expectations
+
+-- whether the crawler must be allowed the URL, or must be denied it, and the number of the line that says so
+pub record ExpectationValue : Type 0 where
+  pub number : ℕ
+  pub allowed : Bool
+  pub agent : List ℕ
+  pub url : List ℕ
+
+-- the text starts a comment
+abbrev pub is_comment : List ℕ → Bool
+is_comment [] = false
+is_comment (b ∷ _) = b == byte "#"
+
+abbrev pub is_path : List ℕ → Bool
+is_path word = starts_with nat_eq word (codes "/")
+
+-- the word is a path, or an http(s) URL that can be parsed
+abbrev pub is_path_or_url : List ℕ → Bool
+is_path_or_url word = is_path word || is_absolute_url word
+
+-- the text starts with a path segment `.` or `..`, which a slash or the end of the path follows
+abbrev pub begins_dot_segment : List ℕ → Bool
+begins_dot_segment text =
+    (starts_with nat_eq text (codes "/./") || starts_with nat_eq text (codes "/../"))
+    || (bytes_eq text (codes "/.") || bytes_eq text (codes "/.."))
+
+-- the word is a path that crawlers ask for in another form: they resolve such segments, and drop a fragment,
+-- which begins with `#`; in an http(s) URL this parser does so too
+abbrev pub is_asked_otherwise : List ℕ → Bool
+is_asked_otherwise word =
+    is_path word && (has (byte "#") word || somewhere begins_dot_segment (before_byte (byte "?") word))
+
+-- the expectation of a line with these words, whose first is `allow` or `deny`, or what is wrong with the
+-- line; what no crawler calls itself or asks for, such as a name with a version or a path without a slash at
+-- its start, could be allowed whatever the file says about the crawler or the page that is meant
+abbrev pub expects : ℕ → List ℕ → List ℕ → List ℕ → Result (Option ExpectationValue) MalformedLine
+expects number word agent url =
+    let allowed = bytes_eq word (codes "allow") in
+    if not (allowed || bytes_eq word (codes "deny")) then Err (number, Form)
+    else if not (is_utf8 agent && is_utf8 url) then Err (number, NotUtf8)
+    else if not (is_crawler_name agent) then Err (number, Agent)
+    else if not (is_path_or_url url) then Err (number, Url)
+    else if is_asked_otherwise url then Err (number, Path)
+    else Ok (Some (record { number = number; allowed = allowed; agent = agent; url = url }))
+
+-- a line with three words is an expectation, any other is malformed
+abbrev pub three_words : ℕ → List (List ℕ) → Result (Option ExpectationValue) MalformedLine
+three_words number (word ∷ agent ∷ url ∷ []) = expects number word agent url
+three_words number _ = Err (number, Form)
+
+-- a line without words is blank, and one whose first word starts with `#` is a comment
+abbrev pub words_expect : ℕ → List (List ℕ) → Result (Option ExpectationValue) MalformedLine
+words_expect number [] = Ok None
+words_expect number (word ∷ others) =
+    if is_comment word then Ok None else three_words number (word ∷ others)
+
+-- the expectation of the line with this number, if it has one, or what is wrong with the line
+abbrev pub expectation_in : ℕ → List ℕ → Result (Option ExpectationValue) MalformedLine
+expectation_in number line = words_expect number (words line)
+
+-- the expectations in a text, possibly after a byte order mark, or its first malformed line
+abbrev pub expectations_in : List ℕ → Result (List ExpectationValue) MalformedLine
+expectations_in text = entries_from expectation_in 1 (lines (without_start mark text))

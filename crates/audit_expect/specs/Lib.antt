@@ -1,0 +1,4 @@
+pub mod Expect
+pub mod Expectations
+pub mod UrlList
+pub mod Internal

@@ -1,0 +1,53 @@
+-- The URLs in the file of `--urls`, one per line.
+use Rattle.std.specs.Prelude.{◌≡◌, ℕ, ◌-◌, ◌==◌, false, not, List, ◌++◌, Option, Some, None, Result, Ok, Err}
+use Rattle.std.specs.Prelude.{drop, if◌then◌else◌, length, take}
+use Rattle.std.specs.Char.{is_ascii_whitespace}
+use Rattle.std.specs.List.{prefix_len, suffix_len}
+use Rattle.std.specs.Str.{is_utf8}
+use Rattle.audit_core.specs.Request.{RequestValue}
+use Rattle.audit_expect.specs.Expect.{MalformedLine, entries_from, is_comment, lines}
+use Rattle.audit_core.specs.Crawler.{is_word}
+use Rattle.audit_expect.specs.Expectations.{IsEntryFault}
+use Rattle.audit_core.specs.declared.fault.Entry.TheVariants as entry
+use Rattle.audit_core.specs.declared.fault.Fault.{Fault}
+use Rattle.audit_core.specs.declared.fault.Flaw.TheVariants.{NotUtf8}
+use Rattle.robots_warnings.specs.Facts.{mark, without_start}
+
+-- the line without ASCII white space at its start
+abbrev pub without_front : List ℕ → List ℕ
+without_front line = drop (prefix_len is_ascii_whitespace line) line
+
+-- the line without ASCII white space at its end
+abbrev pub without_back : List ℕ → List ℕ
+without_back line = take (length line - suffix_len is_ascii_whitespace line) line
+
+-- the line without ASCII white space (space, tab, CR, form feed) at its start and end
+abbrev pub trimmed : List ℕ → List ℕ
+trimmed line = without_back (without_front line)
+
+-- the URL of the line with this number, if the line is neither blank nor a comment, which starts with `#` as
+-- no URL does; or that the line isn't UTF-8
+abbrev pub url_in : ℕ → List ℕ → Result (Option (List ℕ)) MalformedLine
+url_in number line =
+    if is_comment (trimmed line) then Ok None
+    else if not (is_utf8 (trimmed line)) then Err (number, NotUtf8)
+    else if is_word (trimmed line) then Ok (Some (trimmed line)) else Ok None
+
+-- the URLs in a text, possibly after a byte order mark, or the first line that isn't UTF-8
+abbrev pub urls_in : List ℕ → Result (List (List ℕ)) MalformedLine
+urls_in text = entries_from url_in 1 (lines (without_start mark text))
+
+-- the request has these URLs as well, after its own
+abbrev pub with_urls : List (List ℕ) → RequestValue → RequestValue
+with_urls urls requested = record requested { urls = requested.urls ++ urls }
+
+-- the request has the URLs in a text as well, of which there are some
+pub record HasUrlsIn (text : List ℕ) (requested extended : RequestValue) : Type 0 where
+  pub urls : List (List ℕ)
+  pub listed : urls_in text ≡ Ok urls
+  pub some : (length urls == 0) ≡ false
+  pub extended_is : extended ≡ with_urls urls requested
+
+-- the error is about the URLs in the text, or an allocation failed
+abbrev pub IsUrlFault : List ℕ → List ℕ → Fault → Type 0
+IsUrlFault name text fault = IsEntryFault name entry.Url (urls_in text) fault

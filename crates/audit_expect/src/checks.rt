@@ -1,0 +1,161 @@
+//! What a robots.txt file says about an expectation, here and at Google, and whether the expectation fails.
+ghost use Rattle.std.specs.Prelude.{◌≡◌, IfErr, IfOk, take};
+ghost use Rattle.texting_robots.specs.Callers.{file_limit, lines_read};
+ghost use Rattle.audit_expect.specs.Expectations.{IsAtGoogle, IsChecked, IsFindingOn, fails, fails_at, fails_at_google, fails_here};
+ghost use Rattle.audit_core.specs.Internal.{IsReading};
+ghost use Rattle.audit_expect.specs.Internal.Expectations.{IsFindingBy, checked_value};
+
+use crate::expect::Expectation;
+use audit_core::audit::{Reading, read_for};
+use audit_core::fault::Fault;
+use robots_io::verdicts::decision_on;
+use robots_warnings::google::{gets_googlebots, gets_nobodys};
+use std::alloc::Global;
+use texting_robots::robot::Decision;
+use texting_robots::{Error, Site};
+
+/// What a file says about a URL for a crawler.
+#[derive(Drop)]
+pub(crate) enum Finding {
+    /// The file is rejected for the crawler because of the rule in this line.
+    Rejected(usize),
+    /// The decision on the URL.
+    Decided(Decision),
+}
+
+/// Which note on Google's crawlers applies to a crawler.
+#[derive(Drop)]
+pub(crate) enum AtGoogle {
+    /// Neither note on its crawlers applies.
+    Same,
+    /// Google applies the group of Googlebot, and the file says this about it.
+    Googlebot(Finding),
+    /// Google applies no group, so everything is allowed.
+    Nobody,
+}
+
+/// An expectation, and what the file says about it here and at Google.
+#[derive(Drop)]
+pub(crate) struct Checked<'a> {
+    pub(crate) expectation: Expectation<'a>,
+    pub(crate) finding: Finding,
+    pub(crate) google: AtGoogle,
+}
+
+/// What a file that was read in this way says about a URL.
+fn finding_on(alloc: Global, reading: &Reading, url: &str) -> Result<Finding, Fault>
+    ensures ok { IfOk result (IsFindingBy reading.now url.now) }
+    ensures fault { IfErr result (λ fault. fault ≡ Fault.Memory) }
+{
+    match reading {
+        Reading::Rejected(line) => Ok(Finding::Rejected(*line)),
+        Reading::Accepted(robot) => match decision_on(alloc, robot, url) {
+            Ok(decision) => Ok(Finding::Decided(decision)),
+            Err(Error::Memory) => Err(Fault::Memory),
+            Err(Error::InvalidRobots | Error::InvalidRule) => unreachable!(),
+        },
+    }
+}
+
+/// What a file says about a URL for a crawler.
+fn finding_for(
+    alloc: Global,
+    agent: &str,
+    url: &str,
+    file: &[u8],
+    site: &Site,
+) -> Result<Finding, Fault>
+    requires { site.now ≡ take file_limit file.now }
+    ensures ok { IfOk result (IsFindingOn (lines_read file.now) agent.now url.now) }
+    ensures fault { IfErr result (λ fault. fault ≡ Fault.Memory) }
+{
+    let reading = read_for(alloc, agent, file, site)?;
+    let finding = finding_on(alloc, &reading, url)?;
+    Ok(finding)
+}
+
+/// What Google's documentation changes for a crawler and a URL.
+fn at_google(
+    alloc: Global,
+    agent: &str,
+    url: &str,
+    file: &[u8],
+    site: &Site,
+) -> Result<AtGoogle, Fault>
+    requires { site.now ≡ take file_limit file.now }
+    ensures ok { IfOk result (IsAtGoogle (lines_read file.now) agent.now url.now) }
+    ensures fault { IfErr result (λ fault. fault ≡ Fault.Memory) }
+{
+    if gets_googlebots(site, agent) {
+        let finding = finding_for(alloc, "Googlebot", url, file, site)?;
+        return Ok(AtGoogle::Googlebot(finding));
+    }
+    if gets_nobodys(site, agent) {
+        return Ok(AtGoogle::Nobody);
+    }
+    Ok(AtGoogle::Same)
+}
+
+/// What the file says about an expectation, where `reading` is how it is read for the crawler.
+pub(crate) fn checked_on<'a>(
+    alloc: Global,
+    expectation: &Expectation<'a>,
+    reading: &Reading,
+    file: &[u8],
+    site: &Site,
+) -> Result<Checked<'a>, Fault>
+    requires reading { IsReading expectation.now.agent.now file.now reading.now }
+    requires site { site.now ≡ take file_limit file.now }
+    ensures expectation { IfOk result (λ checked. checked.expectation ≡ expectation.now) }
+    ensures checked { IfOk result (λ checked. IsChecked (lines_read file.now) (checked_value checked)) }
+    ensures fault { IfErr result (λ fault. fault ≡ Fault.Memory) }
+{
+    let finding = finding_on(alloc, reading, expectation.url)?;
+    let google = at_google(alloc, expectation.agent, expectation.url, file, site)?;
+    Ok(Checked {
+        expectation: *expectation,
+        finding,
+        google,
+    })
+}
+
+/// Whether the file is rejected for the crawler, or the decision isn't the expected one.
+fn fails_at(allowed: bool, finding: &Finding) -> bool
+    ensures { result ≡ fails_at allowed finding.now }
+{
+    match finding {
+        Finding::Rejected(_) => true,
+        Finding::Decided(decision) => {
+            if allowed {
+                !decision.allowed
+            } else {
+                decision.allowed
+            }
+        }
+    }
+}
+
+/// Whether the same is so of the group that Google applies, if it is another one.
+fn fails_at_google(allowed: bool, google: &AtGoogle) -> bool
+    ensures { result ≡ fails_at_google allowed google.now }
+{
+    match google {
+        AtGoogle::Same => false,
+        AtGoogle::Googlebot(finding) => fails_at(allowed, finding),
+        AtGoogle::Nobody => !allowed,
+    }
+}
+
+/// Whether an expectation fails because of the group that applies here.
+pub(crate) fn fails_here(checked: &Checked<'_>) -> bool
+    ensures { result ≡ fails_here (checked_value checked.now) }
+{
+    fails_at(checked.expectation.allowed, &checked.finding)
+}
+
+/// Whether an expectation fails.
+pub(crate) fn fails(checked: &Checked<'_>) -> bool
+    ensures { result ≡ fails (checked_value checked.now) }
+{
+    fails_here(checked) || fails_at_google(checked.expectation.allowed, &checked.google)
+}

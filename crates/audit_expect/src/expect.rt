@@ -1,0 +1,271 @@
+//! The expectations in the file of `--expect`, one per line, and how a text is cut into parts.
+ghost use Rattle.std.specs.Prelude.{◌≡◌, ◌≢◌, ◌<◌, ◌∷◌, ◌++◌, [], IfErr, IfOk, MatchOption, Ok, OnOk, if◌then◌else◌, length, map, option_map};
+ghost use Rattle.std.specs.Option.{option_to_list};
+ghost use Rattle.std.specs.Str.{byte};
+ghost use Rattle.robots_warnings.specs.Rules.{has};
+ghost use Rattle.audit_expect.specs.Expect.{begins_dot_segment, entries_from, expectation_in};
+ghost use Rattle.audit_expect.specs.Expect.{expectations_in, expects, is_asked_otherwise, is_comment, is_in};
+ghost use Rattle.audit_expect.specs.Expect.{is_path, is_path_or_url, lines, parts, words};
+ghost use Rattle.audit_core.specs.Crawler.{is_word};
+ghost use Rattle.audit_expect.specs.Internal.Expect.{HasNone, IsFirstSeparator, IsParseFault, expectation_value};
+
+use audit_core::agents::as_text;
+use audit_core::crawler::is_crawler_name;
+use audit_core::fault::Flaw;
+use robots_warnings::facts::without_mark;
+use robots_warnings::rules::{before_byte, somewhere};
+use robots_warnings::urls::is_absolute_url;
+use std::alloc::{AllocError, AllocFailed, Global};
+
+/// What has to be allowed or denied.
+#[derive(Clone, Copy)]
+pub(crate) struct Expectation<'a> {
+    /// The number of the line that says so.
+    pub(crate) number: usize,
+    /// Whether the crawler must be allowed the URL; otherwise it must be denied it.
+    pub(crate) allowed: bool,
+    pub(crate) agent: &'a str,
+    pub(crate) url: &'a str,
+}
+
+/// Why the entries of a text can't be read.
+#[derive(Drop)]
+pub(crate) enum ParseFault {
+    /// The line with this number is malformed.
+    Malformed(usize, Flaw),
+    /// An allocation failed.
+    Memory,
+}
+
+impl From<AllocError> for ParseFault {
+    ghost use Rattle.std.specs.Prelude.{◌≡◌};
+    ghost use Rattle.audit_expect.specs.declared.expect.ParseFault.TheVariants.{Memory};
+
+    ghost from_gives = { λ _ fault. fault ≡ Memory };
+
+    fn from(_: AllocError) -> ParseFault {
+        ParseFault::Memory
+    }
+}
+
+impl<T: Drop> From<AllocFailed<T>> for ParseFault {
+    ghost use Rattle.std.specs.Prelude.{◌≡◌};
+    ghost use Rattle.audit_expect.specs.declared.expect.ParseFault.TheVariants.{Memory};
+
+    ghost from_gives = { λ _ fault. fault ≡ Memory };
+
+    fn from(_: AllocFailed<T>) -> ParseFault {
+        ParseFault::Memory
+    }
+}
+
+/// Whether the byte is one of the separators.
+fn is_in(separators: &[u8], byte: u8) -> bool
+    ensures { result ≡ is_in separators.now byte }
+{
+    separators.contains(&byte)
+}
+
+/// The index of the first separator.
+fn find_separator(separators: &[u8], text: &[u8]) -> Option<usize>
+    ensures { MatchOption result (HasNone separators.now text.now (length text.now))
+        (IsFirstSeparator separators.now text.now) }
+{
+    for (place, byte) in text.iter().enumerate() {
+        if is_in(separators, *byte) {
+            return Some(place);
+        }
+    }
+    None
+}
+
+/// The first part of a text, and what follows its separator.
+pub(crate) fn cut<'a>(separators: &[u8], text: &'a [u8]) -> (&'a [u8], &'a [u8])
+    requires { text.now ≢ [] }
+    ensures parts { parts separators.now text.now ≡ result.0.now ∷ parts separators.now result.1.now }
+    ensures shorter { length result.1.now < length text.now }
+{
+    match find_separator(separators, text) {
+        Some(end) => (&text[..end], &text[end + 1..]),
+        None => (text, &text[text.len()..]),
+    }
+}
+
+/// Appends a word, if it isn't empty.
+fn push_word<'a>(found: &mut Vec<&'a [u8]>, word: &'a [u8]) -> Result<(), AllocError>
+    ensures { OnOk result (map (λ word. word.now) found.new.items ≡ map (λ word. word.now) found.old.items
+        ++ (if is_word word.entry.now then word.entry.now ∷ [] else [])) }
+{
+    if !word.is_empty() {
+        found.push(word)?;
+    }
+    Ok(())
+}
+
+/// The words of a line.
+fn words<'a>(alloc: Global, line: &'a [u8]) -> Result<Vec<&'a [u8]>, AllocError>
+    ensures { IfOk result (λ found. map (λ word. word.now) found.items ≡ words line.now) }
+{
+    let mut found = Vec::new(alloc);
+    let mut rest = line;
+    while !rest.is_empty() {
+        let (word, later) = cut(b" \t\r", rest);
+        push_word(&mut found, word)?;
+        rest = later;
+    }
+    Ok(found)
+}
+
+/// Whether the text starts a comment.
+pub(crate) fn is_comment(text: &[u8]) -> bool
+    ensures { result ≡ is_comment text.now }
+{
+    match text.first() {
+        Some(byte) => *byte == b'#',
+        None => false,
+    }
+}
+
+fn is_path(word: &[u8]) -> bool
+    ensures { result ≡ is_path word.now }
+{
+    word.starts_with(b"/")
+}
+
+/// Whether the word is a path, or an http(s) URL that can be parsed.
+fn is_path_or_url(alloc: Global, word: &[u8]) -> Result<bool, AllocError>
+    ensures { IfOk result (λ answer. answer ≡ is_path_or_url word.now) }
+{
+    if is_path(word) {
+        return Ok(true);
+    }
+    is_absolute_url(alloc, word)
+}
+
+/// Whether the text starts with a path segment `.` or `..`, which a slash or the end of the path follows.
+fn begins_dot_segment(text: &[u8]) -> bool
+    ensures { result ≡ begins_dot_segment text.now }
+{
+    (text.starts_with(b"/./") || text.starts_with(b"/../"))
+        || (text == b"/.".as_slice() || text == b"/..".as_slice())
+}
+
+/// Whether the word has a `#`.
+fn has_hash(word: &[u8]) -> bool
+    ensures { result ≡ has (byte "#") word.now }
+{
+    word.iter().any(|byte| *byte == b'#')
+}
+
+/// Whether the word is a path that crawlers ask for in another form: without such segments, and without what begins
+/// with `#`.
+fn is_asked_otherwise(word: &[u8]) -> bool
+    ensures { result ≡ is_asked_otherwise word.now }
+{
+    is_path(word) && (has_hash(word) || somewhere(before_byte(b'?', word), begins_dot_segment))
+}
+
+/// The expectation of a line with these three words.
+fn expects<'a>(
+    alloc: Global,
+    number: usize,
+    word: &[u8],
+    agent: &'a [u8],
+    url: &'a [u8],
+) -> Result<Option<Expectation<'a>>, ParseFault>
+    ensures ok { IfOk result (λ found. expects number word.now agent.now url.now
+        ≡ Ok (option_map expectation_value found)) }
+    ensures fault { IfErr result (IsParseFault (expects number word.now agent.now url.now)) }
+{
+    let allowed = word == b"allow".as_slice();
+    if !allowed && word != b"deny".as_slice() {
+        return Err(ParseFault::Malformed(number, Flaw::Form));
+    }
+    let (Some(agent), Some(url)) = (as_text(agent), as_text(url)) else {
+        return Err(ParseFault::Malformed(number, Flaw::NotUtf8));
+    };
+    if !is_crawler_name(agent) {
+        return Err(ParseFault::Malformed(number, Flaw::Agent));
+    }
+    if !is_path_or_url(alloc, url.as_bytes())? {
+        return Err(ParseFault::Malformed(number, Flaw::Url));
+    }
+    if is_asked_otherwise(url.as_bytes()) {
+        return Err(ParseFault::Malformed(number, Flaw::Path));
+    }
+    Ok(Some(Expectation {
+        number,
+        allowed,
+        agent,
+        url,
+    }))
+}
+
+/// The expectation of the line with this number, if it has one.
+fn expectation_in<'a>(
+    alloc: Global,
+    number: usize,
+    line: &'a [u8],
+) -> Result<Option<Expectation<'a>>, ParseFault>
+    ensures ok { IfOk result (λ found. expectation_in number line.now ≡ Ok (option_map expectation_value found)) }
+    ensures fault { IfErr result (IsParseFault (expectation_in number line.now)) }
+{
+    let words = words(alloc, line)?;
+    if words.is_empty() {
+        return Ok(None);
+    }
+    if is_comment(words[0]) {
+        return Ok(None);
+    }
+    if words.len() != 3 {
+        return Err(ParseFault::Malformed(number, Flaw::Form));
+    }
+    expects(alloc, number, words[0], words[1], words[2])
+}
+
+/// Appends the expectation of a line, if it has one.
+fn push_expectation<'a>(
+    found: &mut Vec<Expectation<'a>>,
+    expectation: Option<Expectation<'a>>,
+) -> Result<(), AllocError>
+    ensures { OnOk result (map expectation_value found.new.items ≡ map expectation_value found.old.items
+        ++ option_to_list (option_map expectation_value expectation.entry)) }
+{
+    if let Some(expectation) = expectation {
+        found.push(expectation)?;
+    }
+    Ok(())
+}
+
+/// The expectations in the lines of a text.
+fn line_expectations<'a>(alloc: Global, text: &'a [u8]) -> Result<Vec<Expectation<'a>>, ParseFault>
+    ensures ok { IfOk result (λ found. entries_from expectation_in 1 (lines text.now)
+        ≡ Ok (map expectation_value found.items)) }
+    ensures fault { IfErr result (IsParseFault (entries_from expectation_in 1 (lines text.now))) }
+{
+    let mut found = Vec::new(alloc);
+    let mut rest = text;
+    let mut number = 1;
+    while !rest.is_empty() {
+        let (line, later) = cut(b"\n", rest);
+        push_expectation(&mut found, expectation_in(alloc, number, line)?)?;
+        rest = later;
+        number += 1;
+    }
+    Ok(found)
+}
+
+/// The expectations in a text, possibly after a byte order mark.
+///
+/// # Errors
+///
+/// `ParseFault::Malformed` for the first malformed line, and `ParseFault::Memory` if an allocation fails.
+pub(crate) fn expectations_in<'a>(
+    alloc: Global,
+    text: &'a [u8],
+) -> Result<Vec<Expectation<'a>>, ParseFault>
+    ensures ok { IfOk result (λ found. expectations_in text.now ≡ Ok (map expectation_value found.items)) }
+    ensures fault { IfErr result (IsParseFault (expectations_in text.now)) }
+{
+    line_expectations(alloc, without_mark(text))
+}

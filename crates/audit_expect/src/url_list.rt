@@ -1,0 +1,104 @@
+//! The URLs in the file of `--urls`, one per line.
+ghost use Rattle.std.specs.Prelude.{◌≡◌, ◌==◌, IfErr, IfOk, Ok, false, length, map, option_map};
+ghost use Rattle.audit_core.specs.Request.{requested_by};
+ghost use Rattle.audit_expect.specs.Expect.{entries_from, lines};
+ghost use Rattle.audit_expect.specs.Internal.Expect.{IsParseFault};
+ghost use Rattle.audit_expect.specs.UrlList.{HasUrlsIn, IsUrlFault, trimmed, url_in, urls_in};
+
+use crate::entries::{malformed, without_entries};
+use crate::expect::{ParseFault, cut, is_comment};
+use audit_core::agents::as_text;
+use audit_core::fault::{Entry, Fault, Flaw};
+use audit_core::request::Request;
+use robots_warnings::facts::without_mark;
+use std::alloc::Global;
+
+/// The line without white space at its start and end.
+fn trimmed<'a>(line: &'a [u8]) -> &'a [u8]
+    ensures { result.now ≡ trimmed line.now }
+{
+    line.trim_ascii()
+}
+
+/// The URL of the line with this number, if the line is neither blank nor a comment.
+fn url_in<'a>(number: usize, line: &'a [u8]) -> Result<Option<&'a str>, ParseFault>
+    ensures ok { IfOk result (λ found. url_in number line.now ≡ Ok (option_map (λ url. url.now) found)) }
+    ensures fault { IfErr result (IsParseFault (url_in number line.now)) }
+{
+    let line = trimmed(line);
+    if is_comment(line) {
+        return Ok(None);
+    }
+    match as_text(line) {
+        Some(url) if url.is_empty() => Ok(None),
+        Some(url) => Ok(Some(url)),
+        None => Err(ParseFault::Malformed(number, Flaw::NotUtf8)),
+    }
+}
+
+/// The URLs in the lines of a text.
+fn line_urls<'a>(alloc: Global, text: &'a [u8]) -> Result<Vec<&'a str>, ParseFault>
+    ensures ok { IfOk result (λ found. entries_from url_in 1 (lines text.now)
+        ≡ Ok (map (λ url. url.now) found.items)) }
+    ensures fault { IfErr result (IsParseFault (entries_from url_in 1 (lines text.now))) }
+{
+    let mut found = Vec::new(alloc);
+    let mut rest = text;
+    let mut number = 1;
+    while !rest.is_empty() {
+        let (line, later) = cut(b"\n", rest);
+        if let Some(url) = url_in(number, line)? {
+            found.push(url)?;
+        }
+        rest = later;
+        number += 1;
+    }
+    Ok(found)
+}
+
+/// The URLs in a text, possibly after a byte order mark.
+///
+/// # Errors
+///
+/// `ParseFault::Malformed` for the first line that isn't UTF-8, and `ParseFault::Memory` if an allocation fails.
+fn urls_in<'a>(alloc: Global, text: &'a [u8]) -> Result<Vec<&'a str>, ParseFault>
+    ensures ok { IfOk result (λ found. urls_in text.now ≡ Ok (map (λ url. url.now) found.items)) }
+    ensures fault { IfErr result (IsParseFault (urls_in text.now)) }
+{
+    line_urls(alloc, without_mark(text))
+}
+
+/// The URLs in this text, of a file with this name. Fails if there are none.
+fn parsed<'a>(alloc: Global, name: &str, text: &'a [u8]) -> Result<Vec<&'a str>, Fault>
+    ensures ok { IfOk result (λ found. urls_in text.now ≡ Ok (map (λ url. url.now) found.items)) }
+    ensures some { IfOk result (λ found. (length found.items == 0) ≡ false) }
+    ensures fault { IfErr result (IsUrlFault name.now text.now) }
+{
+    match urls_in(alloc, text) {
+        Ok(found) if found.is_empty() => Err(without_entries(alloc, name, Entry::Url)),
+        Ok(found) => Ok(found),
+        Err(ParseFault::Malformed(number, flaw)) => Err(malformed(alloc, name, number, flaw)),
+        Err(ParseFault::Memory) => Err(Fault::Memory),
+    }
+}
+
+/// The request with the URLs in a text, of a file with this name, after its own.
+///
+/// # Errors
+///
+/// `Fault::Malformed` if a line isn't UTF-8, `Fault::Empty` if there are no URLs in the text, and `Fault::Memory` if an
+/// allocation fails.
+pub fn with_urls<'a>(
+    alloc: Global,
+    request: Request<'a>,
+    name: &str,
+    text: &'a [u8],
+) -> Result<Request<'a>, Fault>
+    ensures ok { IfOk result (λ extended. HasUrlsIn text.now (requested_by request.entry) (requested_by extended)) }
+    ensures fault { IfErr result (IsUrlFault name.now text.now) }
+{
+    let mut extended = request;
+    let urls = parsed(alloc, name, text)?;
+    extended.urls.extend_from_slice(&urls)?;
+    Ok(extended)
+}

@@ -1,0 +1,101 @@
+-- The audit as one line of JSON.
+use Rattle.std.specs.Prelude.{ℕ, Bool, true, List, [], ◌∷◌, ◌++◌, Option, Some, None, codes, if◌then◌else◌}
+use Rattle.std.specs.Prelude.{map}
+use Rattle.serde_json.specs.Data.{Data, array, boolean, member, no_members, null, number, object, string}
+use Rattle.serde_json.specs.Data.{unsigned}
+use Rattle.serde_json.specs.View.{items_of}
+use Rattle.serde_json.specs.Written.{compact_text}
+use Rattle.texting_robots.specs.Callers.{CrawlDelay, LineValue, Label, sitemaps_in}
+use Rattle.robots_io.specs.Lines.{lf}
+use Rattle.audit_core.specs.declared.group.Group.{Group}
+use Rattle.audit_core.specs.declared.group.Group.TheVariants.{Everyone, Named, Nobody, Star}
+use Rattle.audit_core.specs.Audit.{AgentValue, AuditValue, VerdictValue}
+use Rattle.robots_warnings.specs.File.{lines_of}
+use Rattle.robots_warnings.specs.Level.{level_word}
+use Rattle.audit_core.specs.Syntax.{is_standard}
+use Rattle.audit_core.specs.declared.syntax.Syntax.{Syntax}
+use Rattle.audit_core.specs.Rows.{has_value, kind_text, value_text, membership_word}
+use Rattle.robots_io.specs.Sanitize.{sanitized}
+use Rattle.robots_warnings.specs.Table.{level_of, name_of}
+use Rattle.robots_warnings.specs.Warnings.{WarningValue, warning_text}
+
+-- ---- values
+
+-- untrusted bytes as a JSON string, sanitized
+abbrev pub sanitized_json : List ℕ → Data
+sanitized_json text = string (sanitized text)
+
+-- a number, or null for `None`
+abbrev pub number_json : Option ℕ → Data
+number_json None = null
+number_json (Some n) = number (unsigned n)
+
+-- the values of the items, in order
+abbrev pub list_json : {X : Type 0} → (X → Data) → List X → Data
+list_json value xs = array (items_of (map value xs))
+
+-- ---- a crawler
+
+-- whether the URL is allowed, the line that decides, and the URL
+abbrev pub verdict_json : VerdictValue → Data
+verdict_json verdict = object
+    (member (codes "allowed") (boolean verdict.decision.allowed)
+    (member (codes "line") (number_json verdict.decision.line)
+    (member (codes "url") (sanitized_json verdict.url) no_members)))
+
+abbrev pub group_word : Group → List ℕ
+group_word Named = codes "named"
+group_word Star = codes "star"
+group_word Nobody = codes "none"
+group_word Everyone = codes "everyone"
+
+-- the crawler, its delay in microseconds, the group that applies to it, and the verdicts
+abbrev pub agent_json : AgentValue → Data
+agent_json agent = object
+    (member (codes "agent") (sanitized_json agent.agent)
+    (member (codes "delay") (number_json agent.delay)
+    (member (codes "group") (string (group_word agent.group))
+    (member (codes "rejected") (number_json agent.rejected)
+    (member (codes "verdicts") (list_json verdict_json agent.verdicts) no_members)))))
+
+-- ---- a line
+
+-- a delay in microseconds; for other lines the sanitized value; null if there is no value
+abbrev pub value_json : LineValue → Data
+value_json (CrawlDelay delay) = number_json delay
+value_json line = if has_value line then string (value_text line) else null
+
+-- a line of the file: its directive, its number, its membership and its value
+abbrev pub line_json : Label → Data
+line_json label = object
+    (member (codes "kind") (string (kind_text label.line))
+    (member (codes "membership") (string (membership_word label.membership))
+    (member (codes "number") (number (unsigned label.number))
+    (member (codes "value") (value_json label.line) no_members))))
+
+-- ---- the audit
+
+-- a warning: its level, the number of its line, its name and its message
+abbrev pub warning_json : WarningValue → Data
+warning_json warning = object
+    (member (codes "level") (string (level_word (level_of warning.cause)))
+    (member (codes "line") (number_json warning.line)
+    (member (codes "name") (string (name_of warning.cause))
+    (member (codes "text") (string (warning_text warning)) no_members))))
+
+-- true if the file is known to have the syntax of RFC 9309, or else null
+abbrev pub syntax_json : Syntax → Data
+syntax_json syntax = if is_standard syntax then boolean true else null
+
+-- what the file means for each crawler, its syntax, the lines if there are rows, the sitemaps, the warnings
+abbrev pub audit_json : Bool → AuditValue → Data
+audit_json has_rows audit = object
+    (member (codes "agents") (list_json agent_json audit.agents)
+    (member (codes "has_rfc_9309_syntax") (syntax_json audit.syntax)
+    (member (codes "lines") (list_json line_json (if has_rows then audit.labels else []))
+    (member (codes "sitemaps") (list_json sanitized_json (sitemaps_in (lines_of audit.labels)))
+    (member (codes "warnings") (list_json warning_json audit.warnings) no_members)))))
+
+-- the JSON object in one line
+abbrev pub json_text : Bool → AuditValue → List ℕ
+json_text has_rows audit = compact_text (audit_json has_rows audit) ++ lf ∷ []

@@ -1,0 +1,5 @@
+pub mod Json
+pub mod Findings
+pub mod Github
+pub mod Sarif
+pub mod Internal

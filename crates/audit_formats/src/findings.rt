@@ -1,0 +1,200 @@
+//! What an audit found, as one list, for formats that don't distinguish verdicts and warnings.
+ghost use Rattle.std.specs.Prelude.{◌≡◌, ◌++◌, ◌∷◌, [], IfOk, OnOk, codes, flat_map, map, string_bytes};
+ghost use Rattle.robots_io.specs.Sanitize.{sanitized};
+ghost use Rattle.robots_warnings.specs.Internal.{warning_value};
+ghost use Rattle.audit_formats.specs.Findings.{agent_findings, denials, denied_text, finding_in_part, findings, is_in_part, rejections, warning_finding, warning_findings};
+ghost use Rattle.audit_core.specs.Internal.{agent_value, audit_value, verdict_value};
+ghost use Rattle.audit_formats.specs.Internal.{finding_value};
+
+use audit_core::audit::{AgentAudit, Audit, Verdict};
+use audit_core::texts::push_rejected_text;
+use robots_io::sanitize::push_sanitized;
+use robots_warnings::level::Level;
+use robots_warnings::warning::{Warning, push_warning_text};
+use std::alloc::{AllocError, Global};
+
+/// A denied URL, a rejected file or a warning.
+#[derive(Drop)]
+pub(crate) struct Finding {
+    pub(crate) level: Level,
+    pub(crate) line: Option<usize>,
+    pub(crate) name: &'static str,
+    pub(crate) message: String,
+}
+
+pub(crate) type Findings = Vec<Finding>;
+
+/// Appends two sanitized texts, and a third one between them.
+fn push_between(
+    text: &mut String,
+    first: &str,
+    between: &str,
+    second: &str,
+) -> Result<(), AllocError>
+    ensures { OnOk result (string_bytes text.new ≡ string_bytes text.old
+        ++ (sanitized first.now ++ (between.now ++ sanitized second.now))) }
+{
+    push_sanitized(text, first.as_bytes())?;
+    text.push_str(between)?;
+    push_sanitized(text, second.as_bytes())
+}
+
+/// Appends that the crawler may not fetch the URL.
+fn push_denied(text: &mut String, agent: &str, url: &str) -> Result<(), AllocError>
+    ensures { OnOk result (string_bytes text.new ≡ string_bytes text.old ++ denied_text agent.now url.now) }
+{
+    push_between(text, agent, " may not fetch ", url)
+}
+
+/// Adds that the crawler may not fetch the URL, if the verdict says so.
+fn add_denial(
+    alloc: Global,
+    found: &mut Findings,
+    agent: &str,
+    verdict: &Verdict<'_>,
+) -> Result<(), AllocError>
+    ensures { OnOk result (map finding_value found.new.items
+        ≡ map finding_value found.old.items ++ denials agent.now (verdict_value verdict.now)) }
+{
+    if verdict.decision.allowed {
+        return Ok(());
+    }
+    let mut message = String::new(alloc);
+    push_denied(&mut message, agent, verdict.url)?;
+    Ok(found.push(Finding {
+        level: Level::Error,
+        line: verdict.decision.line,
+        name: "denied",
+        message,
+    })?)
+}
+
+/// Adds each URL that the crawler may not fetch.
+fn add_denials(
+    alloc: Global,
+    found: &mut Findings,
+    agent: &str,
+    verdicts: &[Verdict<'_>],
+) -> Result<(), AllocError>
+    ensures { OnOk result (map finding_value found.new.items
+        ≡ map finding_value found.old.items ++ flat_map (denials agent.now) (map verdict_value verdicts.now)) }
+{
+    for verdict in verdicts {
+        add_denial(alloc, found, agent, verdict)?;
+    }
+    Ok(())
+}
+
+/// Adds that the file is rejected for the crawler, if it is.
+fn add_rejection(
+    alloc: Global,
+    found: &mut Findings,
+    agent: &str,
+    rejected: Option<usize>,
+) -> Result<(), AllocError>
+    ensures { OnOk result (map finding_value found.new.items
+        ≡ map finding_value found.old.items ++ rejections agent.now rejected) }
+{
+    let Some(line) = rejected else {
+        return Ok(());
+    };
+    let mut message = String::new(alloc);
+    push_rejected_text(&mut message, agent, line)?;
+    Ok(found.push(Finding {
+        level: Level::Error,
+        line: rejected,
+        name: "rejected",
+        message,
+    })?)
+}
+
+/// Adds what is wrong for a crawler.
+fn add_agent(alloc: Global, found: &mut Findings, agent: &AgentAudit<'_>) -> Result<(), AllocError>
+    ensures { OnOk result (map finding_value found.new.items
+        ≡ map finding_value found.old.items ++ agent_findings (agent_value agent.now)) }
+{
+    add_rejection(alloc, found, &agent.agent, agent.rejected)?;
+    add_denials(alloc, found, &agent.agent, &agent.verdicts)
+}
+
+/// Adds what is wrong for each crawler.
+fn add_agents(
+    alloc: Global,
+    found: &mut Findings,
+    agents: &[AgentAudit<'_>],
+) -> Result<(), AllocError>
+    ensures { OnOk result (map finding_value found.new.items
+        ≡ map finding_value found.old.items ++ flat_map agent_findings (map agent_value agents.now)) }
+{
+    for agent in agents {
+        add_agent(alloc, found, agent)?;
+    }
+    Ok(())
+}
+
+/// Adds a warning.
+fn add_warning(alloc: Global, found: &mut Findings, warning: &Warning<'_>) -> Result<(), AllocError>
+    ensures { OnOk result (map finding_value found.new.items
+        ≡ map finding_value found.old.items ++ warning_finding (warning_value warning.now) ∷ []) }
+{
+    let mut message = String::new(alloc);
+    push_warning_text(&mut message, warning)?;
+    Ok(found.push(Finding {
+        level: warning.cause.level(),
+        line: warning.line,
+        name: warning.cause.name(),
+        message,
+    })?)
+}
+
+/// Whether a warning is in the part with the errors, or in the one with the others.
+fn is_in_part(errors: bool, warning: &Warning<'_>) -> bool
+    ensures { result ≡ is_in_part errors (warning_value warning.now) }
+{
+    let is_error = warning.cause.level().reaches(Level::Error);
+    if errors { is_error } else { !is_error }
+}
+
+/// Adds a warning if it is in this part.
+fn add_in_part(
+    alloc: Global,
+    found: &mut Findings,
+    errors: bool,
+    warning: &Warning<'_>,
+) -> Result<(), AllocError>
+    ensures { OnOk result (map finding_value found.new.items
+        ≡ map finding_value found.old.items ++ finding_in_part errors (warning_value warning.now)) }
+{
+    if is_in_part(errors, warning) {
+        add_warning(alloc, found, warning)?;
+    }
+    Ok(())
+}
+
+/// Adds the warnings that are errors, or the others.
+fn add_warnings(
+    alloc: Global,
+    found: &mut Findings,
+    errors: bool,
+    warnings: &[Warning<'_>],
+) -> Result<(), AllocError>
+    ensures { OnOk result (map finding_value found.new.items
+        ≡ map finding_value found.old.items ++ warning_findings errors (map warning_value warnings.now)) }
+{
+    for warning in warnings {
+        add_in_part(alloc, found, errors, warning)?;
+    }
+    Ok(())
+}
+
+/// What an audit found: the errors among the warnings; for each crawler why the file is rejected or which URLs are denied;
+/// and then the other warnings.
+pub(crate) fn findings_of(alloc: Global, audit: &Audit<'_, '_>) -> Result<Findings, AllocError>
+    ensures { IfOk result (λ found. map finding_value found.items ≡ findings (audit_value audit.now)) }
+{
+    let mut found = Vec::new(alloc);
+    add_warnings(alloc, &mut found, true, &audit.warnings)?;
+    add_agents(alloc, &mut found, &audit.agents)?;
+    add_warnings(alloc, &mut found, false, &audit.warnings)?;
+    Ok(found)
+}

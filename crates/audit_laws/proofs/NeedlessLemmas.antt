@@ -1,0 +1,37 @@
+-- Needless rules can be deleted together.
+use Rattle.std.proofs.Common.{◌≡◌, ◌↔◌, ℕ, Bool, false, List, ◌∷◌, Contains, arith, codes, refl, subst, sym}
+use Rattle.std.specs.Str.{str_to_ascii_lowercase}
+use Rattle.texting_robots.specs.Callers.{IsVerdict, LineValue, PlacedRule, agents_in, is_named, placed_rules}
+use Rattle.texting_robots.specs.Callers.{rules_for}
+use Rattle.robots_needless.specs.declared.needless.NeedlessRule.{NeedlessRule}
+use Rattle.robots_needless.specs.Needless.{AreFound, AreNeedless, lines_without, numbers_of}
+use Rattle.robots_needless.proofs.CrawlerLemmas.{rules_in_any_case, rules_of_star}
+
+-- a crawler with this name decides each text as it does without the found lines
+abbrev DecidesAlike : List LineValue → List NeedlessRule → List ℕ → Type 0
+DecidesAlike lines found agent = (text : List ℕ) (answer : Bool)
+    → IsVerdict (rules_for agent lines) text answer
+    ↔ IsVerdict (rules_for agent (lines_without (numbers_of found) lines)) text answer
+
+-- a crawler that has the rules of one of those for which the found lines are needless
+alike : (lines : List LineValue) (found : List NeedlessRule) (agent other : List ℕ) → AreFound lines found
+    → Contains (codes "*" ∷ agents_in lines) other → placed_rules agent lines ≡ placed_rules other lines
+    → DecidesAlike lines found agent
+alike lines found agent other are has same =
+    let needless : AreNeedless (placed_rules agent lines) (numbers_of found) =
+    subst (λ (rules : List PlacedRule). AreNeedless rules (numbers_of found)) (sym same)
+    (are.together other has) in
+    λ text answer. rw (are.deleted agent) (needless text answer)
+
+pub named_alike : (lines : List LineValue) (found : List NeedlessRule) (agent name : List ℕ)
+    → AreFound lines found
+    → Contains (codes "*" ∷ agents_in lines) name → str_to_ascii_lowercase agent ≡ str_to_ascii_lowercase name
+    → DecidesAlike lines found agent
+named_alike lines found agent name are has same =
+    alike lines found agent name are has (rules_in_any_case agent name lines same)
+
+pub others_alike : (lines : List LineValue) (found : List NeedlessRule) (agent : List ℕ)
+    → AreFound lines found
+    → is_named agent lines ≡ false → DecidesAlike lines found agent
+others_alike lines found agent are isnt =
+    alike lines found agent (codes "*") are (0, omega arith, refl) (rules_of_star agent lines isnt)

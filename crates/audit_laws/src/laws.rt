@@ -1,0 +1,134 @@
+//! Theorems about the specification, each written as the contract of an empty function.
+ghost use Rattle.std.specs.Prelude.{Any, Bool, codes, Contains, false, if◌then◌else◌, IsTrue, List};
+ghost use Rattle.std.specs.Prelude.{slice_get, Some, take, true, ℕ, ◌+◌, ◌↔◌, ◌∷◌, ◌≡◌, ◌≢◌};
+ghost use Rattle.std.specs.Str.{byte, is_utf8, IsUtf8, str_to_ascii_lowercase};
+ghost use Rattle.texting_robots.specs.Callers.{Allow, AreLabelsOf, AreRulesFor, Disallow, escaped};
+ghost use Rattle.texting_robots.specs.Callers.{file_limit, file_lines, HoldsRule, is_named, IsDecidingLine};
+ghost use Rattle.texting_robots.specs.Callers.{IsDenied, IsRobotOfFile, IsVerdict, Label, LineValue, Matches};
+ghost use Rattle.texting_robots.specs.Callers.{PlacedRule, prepared, RobotValue, Rule, agents_in, lines_read};
+ghost use Rattle.texting_robots.specs.Callers.{rules_for, unplaced, UserAgent};
+ghost use Rattle.texting_robots.specs.Verdict.{robots_file};
+ghost use Rattle.robots_needless.specs.Needless.{lines_without, numbers_of};
+ghost use Rattle.robots_rfc9309.specs.Rfc9309.{Group, IsFile};
+ghost use Rattle.robots_syntax.specs.Syntax.{IsRobotStated};
+ghost use Rattle.robots_warnings.specs.Closed.{is_closed_for};
+ghost use Rattle.robots_warnings.specs.Conflicts.{IsConflict, is_conflict};
+ghost use Rattle.robots_warnings.specs.NamesPastLimit.{names_past_limit};
+ghost use Rattle.robots_warnings.specs.Positions.{is_above_agents};
+ghost use Rattle.robots_warnings.specs.Rules.{begins_oddly, has_dollar_inside};
+ghost use Rattle.robots_warnings.specs.Tokens.{has_space_around};
+ghost use Rattle.robots_warnings.specs.Urls.{is_invalid_url};
+ghost use Rattle.audit_core.specs.Audit.{AuditValue, IsAuditOf};
+ghost use Rattle.audit_core.specs.Request.{RequestValue};
+ghost use Rattle.audit_core.specs.Syntax.{is_standard};
+
+/// Without `--needless`, a request and a file have at most one audit, and so at most one report; with it, at most one for
+/// each list of needless rules.
+pub fn each_file_has_one_audit()
+    ensures one { (requested : RequestValue) (file : List ℕ) (audit other : AuditValue) → requested.has_needless ≡ false
+        → IsAuditOf requested file audit → IsAuditOf requested file other → audit ≡ other }
+    ensures same { (requested : RequestValue) (file : List ℕ) (audit other : AuditValue)
+        → (is : IsAuditOf requested file audit) → (too : IsAuditOf requested file other)
+        → is.needless ≡ too.needless → audit ≡ other }
+{}
+
+/// Every request and file have an audit.
+pub fn each_file_has_an_audit()
+    ensures { (requested : RequestValue) (file : List ℕ) → (audit : AuditValue) × IsAuditOf requested file audit }
+{}
+
+/// Of the lines that are read, those that an audit with `--needless` warns of as needless can be deleted together: if
+/// exactly these are deleted, every verdict is the same, on any text, for `*` and each crawler that the file names, with
+/// ASCII letters in any case, and for each crawler that it doesn't name.
+pub fn needless_lines_decide_nothing()
+    ensures named { (requested : RequestValue) (file : List ℕ) (audit : AuditValue) → (is : IsAuditOf requested file audit)
+        → (agent name : List ℕ) → Contains (codes "*" ∷ agents_in (lines_read file)) name
+        → str_to_ascii_lowercase agent ≡ str_to_ascii_lowercase name → (text : List ℕ) (answer : Bool)
+        → IsVerdict (rules_for agent (lines_read file)) text answer
+        ↔ IsVerdict (rules_for agent (lines_without (numbers_of is.needless) (lines_read file))) text answer }
+    ensures others { (requested : RequestValue) (file : List ℕ) (audit : AuditValue) → (is : IsAuditOf requested file audit)
+        → (agent : List ℕ) → is_named agent (lines_read file) ≡ false → (text : List ℕ) (answer : Bool)
+        → IsVerdict (rules_for agent (lines_read file)) text answer
+        ↔ IsVerdict (rules_for agent (lines_without (numbers_of is.needless) (lines_read file))) text answer }
+{}
+
+/// If a report says that the file has RFC 9309 syntax, whichever warnings it leaves out, the whole file follows the
+/// standard's grammar with the extensions of `robots_rfc9309`, and each crawler for which it isn't rejected gets the
+/// rules, the delay and the sitemaps that it states.
+pub fn syntax_is_that_of_the_standard()
+    ensures syntax { (requested : RequestValue) (file : List ℕ) (audit : AuditValue) → IsAuditOf requested file audit
+        → is_standard audit.syntax ≡ true → (groups : List Group) × IsFile groups file }
+    ensures robot { (requested : RequestValue) (file : List ℕ) (audit : AuditValue) (agent : List ℕ) (robot : RobotValue)
+        → IsAuditOf requested file audit → is_standard audit.syntax ≡ true
+        → IsRobotOfFile agent (take file_limit file) robot → IsRobotStated agent file robot }
+{}
+
+/// `allowed-and-disallowed` is given for a line exactly if it has a Disallow that applies to one of the crawlers reported
+/// on, and an Allow with the same pattern applies to that crawler too, where `/` and `*` are the same.
+pub fn allowed_and_disallowed()
+    ensures { (agents : List (List ℕ)) (lines : List LineValue) (number : ℕ)
+        → IsTrue (is_conflict agents lines number) ↔ Any (λ agent. IsConflict agent lines number) agents }
+{}
+
+/// The Disallow of an `allowed-and-disallowed` decides no verdict for the crawler to which both apply: none at all
+/// if the patterns are equal, and none on a path if they are `/` and `*`.
+pub fn allowed_and_disallowed_never_decides()
+    ensures same { (agent : List ℕ) (lines : List LineValue) (rules : List PlacedRule) (number : ℕ)
+        (text : List ℕ) → (is : IsConflict agent lines number) → is.allowed ≡ is.pattern → AreRulesFor agent lines rules
+        → ¬ IsDecidingLine rules text (Some number) }
+    ensures path { (agent : List ℕ) (lines : List LineValue) (rules : List PlacedRule) (number : ℕ)
+        (path : List ℕ) → IsConflict agent lines number → AreRulesFor agent lines rules
+        → ¬ IsDecidingLine rules (byte "/" ∷ path) (Some number) }
+{}
+
+/// If `closes-everything` is given because of the rules of a crawler, every path is denied to the crawler, except
+/// `/robots.txt`.
+pub fn closes_everything()
+    ensures { (agent : List ℕ) (lines : List LineValue) (rules : List PlacedRule) (number : ℕ) (text : List ℕ)
+        → is_closed_for lines number agent ≡ true → AreRulesFor agent lines rules
+        → byte "/" ∷ text ≢ robots_file → IsDenied (unplaced rules) (byte "/" ∷ text) }
+{}
+
+/// A line with `group-past-size-limit` is a user-agent line whose name none of the lines within the size limit has.
+pub fn group_past_size_limit()
+    ensures { (read : List LineValue) (file : List ℕ) (number : ℕ) → Contains (names_past_limit read file) number
+        → (position : ℕ) × (value : List ℕ) × (number ≡ position + 1)
+        × (slice_get (file_lines file) position ≡ Some (UserAgent value)) × (is_named value read ≡ false) }
+{}
+
+/// A line with `rule-not-utf-8` has no rule, for any crawler.
+pub fn rule_not_utf_8()
+    ensures { (value agent : List ℕ) (lines : List LineValue) (position : ℕ) (is_allow : Bool) (rule : Rule)
+        → is_utf8 value ≡ false → slice_get lines position ≡ Some (if is_allow then Allow value else Disallow value)
+        → ¬ HoldsRule agent lines position rule }
+{}
+
+/// A line with `rule-before-user-agent` has no rule, for any crawler. The labels may be those for another crawler.
+pub fn rule_before_user_agent()
+    ensures { (name agent : List ℕ) (lines : List LineValue) (labels : List Label) (position : ℕ) (label : Label) (rule : Rule)
+        → AreLabelsOf name lines labels → slice_get labels position ≡ Some label → is_above_agents label ≡ true
+        → ¬ HoldsRule agent lines position rule }
+{}
+
+/// A rule with `dollar-not-at-end` matches no text.
+pub fn dollar_not_at_end()
+    ensures { (value text : List ℕ) → has_dollar_inside value ≡ true → ¬ Matches (escaped value) text }
+{}
+
+/// A rule with `missing-slash`, `url-as-rule` or `quoted-rule` that starts with neither a slash nor a star matches no text
+/// that starts with a slash, as all paths do.
+pub fn missing_slash()
+    ensures { (value text : List ℕ) → begins_oddly value ≡ true → ¬ Matches (escaped value) (byte "/" ∷ text) }
+{}
+
+/// A URL with `invalid-url` is matched as the escaped string.
+pub fn invalid_url()
+    ensures { (url : List ℕ) → is_invalid_url url ≡ true → prepared url ≡ escaped url }
+{}
+
+/// A crawler's name with `space-around-agent` matches no user-agent line, in any file.
+#[tactic(auto, using(crate::proofs::SpaceLemmas::space_around_agent))]
+pub fn space_around_agent()
+    ensures { (agent file : List ℕ) → IsUtf8 agent → has_space_around agent ≡ true
+        → is_named agent (file_lines file) ≡ false }
+{}

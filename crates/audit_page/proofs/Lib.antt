@@ -1,0 +1,5 @@
+pub mod BodyLemmas
+pub mod ByLineLemmas
+pub mod HtmlLemmas
+pub mod PageLemmas
+pub mod PieceLemmas

@@ -1,0 +1,5 @@
+//! The audit as an HTML page.
+#![tactic(auto)]
+
+pub mod laws;
+pub mod page;

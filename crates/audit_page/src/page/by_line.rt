@@ -1,0 +1,53 @@
+//! Warnings by line, so that finding those about a line takes no search.
+ghost use Rattle.std.specs.Prelude.{◌≡◌, ◌<◌, ◌++◌, ◌∷◌, [], ◌==◌, ℕ, IfOk, OnOk, if◌then◌else◌, map};
+ghost use Rattle.std.specs.Vec.{vec_len};
+ghost use Rattle.robots_warnings.specs.Internal.{warning_value};
+ghost use Rattle.audit_page.specs.Internal.ByLine.{AreByLine, list_at};
+
+use robots_warnings::warning::Warning;
+use std::alloc::{AllocError, Global};
+
+/// Appends empty lists until there is one with this index. The last one has room for a warning.
+#[tactic(auto, using(crate::proofs::ByLineLemmas::empty_appended))]
+fn grow(alloc: Global, lists: &mut Vec<Vec<Warning<'_>>>, index: usize) -> Result<(), AllocError>
+    ensures len { OnOk result (index < vec_len lists.new) }
+    ensures same { OnOk result ((k : ℕ) → list_at lists.new.items k ≡ list_at lists.old.items k) }
+{
+    if index < lists.len() {
+        return Ok(());
+    }
+    for _ in 0..index - lists.len() {
+        lists.push(Vec::new(alloc))?;
+    }
+    Ok(lists.push(Vec::with_capacity(alloc, 1)?)?)
+}
+
+/// Appends a warning to the list with this index.
+fn add<'a>(
+    alloc: Global,
+    lists: &mut Vec<Vec<Warning<'a>>>,
+    index: usize,
+    warning: &Warning<'a>,
+) -> Result<(), AllocError>
+    ensures { OnOk result ((k : ℕ) → list_at lists.new.items k ≡ list_at lists.old.items k
+        ++ (if index == k then warning_value warning.now ∷ [] else [])) }
+{
+    grow(alloc, lists, index)?;
+    Ok(lists[index].push(*warning)?)
+}
+
+/// For the number of each line, the list of the warnings about it, in order.
+pub(crate) fn by_line<'a>(
+    alloc: Global,
+    warnings: &[Warning<'a>],
+) -> Result<Vec<Vec<Warning<'a>>>, AllocError>
+    ensures { IfOk result (λ lists. AreByLine lists.items (map warning_value warnings.now)) }
+{
+    let mut lists = Vec::new(alloc);
+    for warning in warnings {
+        if let Some(line) = warning.line {
+            add(alloc, &mut lists, line, warning)?;
+        }
+    }
+    Ok(lists)
+}

@@ -1,0 +1,60 @@
+-- The list of warnings and the explanations contain no control or bidirectional-formatting characters other
+-- than LF.
+use Rattle.std.proofs.Common.{ℕ, Bool, true, false, List, [], ◌∷◌, ◌++◌, arith, bytes_eq, codes, map, refl}
+use Rattle.std.specs.Prelude.{if◌then◌else◌}
+use Rattle.std.proofs.lemmas.Bool.Decides.{nat_tests}
+use Rattle.robots_io.specs.Lines.{ended, lf}
+use Rattle.robots_io.specs.Sanitize.{IsPrintable}
+use Rattle.robots_io.proofs.SanitizeLemmas.{append_printable, ascii_printable, ended_printable}
+use Rattle.robots_io.proofs.SanitizeLemmas.{flat_printable}
+use Rattle.robots_io.proofs.SanitizeLemmas.{nil_printable}
+use Rattle.robots_warnings.specs.declared.table.Cause.{Cause}
+use Rattle.robots_warnings.specs.Level.{level_word}
+use Rattle.robots_warnings.specs.Table.{all_causes, example_of, level_of, name_of, text_of}
+use Rattle.robots_warnings.proofs.PrintableLemmas.{example_printable, names_printable, texts_printable}
+use Rattle.robots_warnings.proofs.PrintableLemmas.{word_printable}
+use Rattle.audit_report.specs.Explain.{example_lines, explained, explained_if_named, explanation, indented}
+use Rattle.audit_report.specs.Explain.{indented_byte, list_text, listed}
+use Rattle.audit_core.proofs.EscapeLemmas.{escaped_printable}
+use Rattle.audit_core.proofs.ListLemmas.{each_map}
+
+listed_printable : (cause : Cause) → IsPrintable (listed cause)
+listed_printable cause =
+    let text = name_of cause ++ (codes ": " ++ text_of cause) in
+    append_printable true (level_word (level_of cause)) (codes " " ++ text) (word_printable (level_of cause))
+    (append_printable true (codes " ") text (ascii_printable true (codes " ") refl)
+    (append_printable true (name_of cause) (codes ": " ++ text_of cause) (names_printable cause)
+    (append_printable true (codes ": ") (text_of cause) (ascii_printable true (codes ": ") refl)
+    (texts_printable cause))))
+
+pub list_printable : IsPrintable list_text
+list_printable = ended_printable (map listed all_causes)
+    (each_map IsPrintable listed listed_printable all_causes)
+
+indented_printable : (text : List ℕ) → IsPrintable text → IsPrintable (indented text)
+unfolding indented
+indented_printable text is =
+    append_printable true (codes "    ") _ (ascii_printable true (codes "    ") refl)
+    (escaped_printable indented_byte refl (λ b high. grind (arith, nat_tests)) text is)
+
+example_lines_printable : (cause : Cause) → IsPrintable (example_lines cause)
+example_lines_printable cause =
+    let front = codes "for example:\n" in
+    let lines = indented (example_of cause) in
+    append_printable true front (lines ++ lf ∷ []) (ascii_printable true front refl)
+    (append_printable true lines (lf ∷ []) (indented_printable (example_of cause) (example_printable cause))
+    (ascii_printable true (lf ∷ []) refl))
+
+explained_printable : (cause : Cause) → IsPrintable (explained cause)
+explained_printable cause =
+    append_printable true (ended (listed cause ∷ [])) (example_lines cause)
+    (ended_printable (listed cause ∷ []) (listed_printable cause, tt)) (example_lines_printable cause)
+
+pub explanation_printable : (name : List ℕ) → IsPrintable (explanation name)
+explanation_printable name =
+    flat_printable true (explained_if_named name)
+    (λ cause. either cause (bytes_eq (name_of cause) name)) all_causes
+  where
+    either : (cause : Cause) (named : Bool) → IsPrintable (if named then explained cause else [])
+    either cause true = explained_printable cause
+    either cause false = nil_printable true

@@ -1,0 +1,5 @@
+pub mod DeniedLemmas
+pub mod ExplainPrintableLemmas
+pub mod ListedLemmas
+pub mod PrintableLemmas
+pub mod QuietLemmas

@@ -1,0 +1,4 @@
+pub mod Listed
+pub mod Report
+pub mod Explain
+pub mod Internal

@@ -1,0 +1,72 @@
+//! Which URLs a report lists, and how many are allowed and denied.
+ghost use Rattle.std.specs.Prelude.{◌≡◌, count_by, filter, map};
+ghost use Rattle.audit_core.specs.Audit.{is_allowed, is_denied, shown, total, with_denied};
+ghost use Rattle.audit_core.specs.Internal.{agent_value, audit_value, verdict_value};
+
+use audit_core::audit::{AgentAudit, Audit, Verdict};
+
+/// How many URLs are allowed and how many are denied, for all crawlers together.
+#[derive(Clone, Copy)]
+pub struct Totals {
+    pub allowed: u128,
+    pub denied: u128,
+}
+
+/// Removes the verdicts that allow.
+fn keep_denied(verdicts: &mut Vec<Verdict<'_>>)
+    ensures { map verdict_value verdicts.new.items ≡ filter is_denied (map verdict_value verdicts.old.items) }
+{
+    verdicts.retain(|verdict| !verdict.decision.allowed);
+}
+
+/// Removes the verdicts that allow, for each crawler.
+fn keep_all_denied(agents: &mut [AgentAudit<'_>])
+    ensures { map agent_value agents.new ≡ map with_denied (map agent_value agents.old) }
+{
+    for agent in agents.iter_mut() {
+        keep_denied(&mut agent.verdicts);
+    }
+}
+
+/// The audit that is reported: all of it, or if `denied_only` is true that with the denied URLs alone.
+pub fn shown<'a, 'b>(denied_only: bool, audit: Audit<'a, 'b>) -> Audit<'a, 'b>
+    ensures { audit_value result ≡ shown denied_only (audit_value audit.entry) }
+{
+    let mut reported = audit;
+    if denied_only {
+        keep_all_denied(&mut reported.agents);
+    }
+    reported
+}
+
+/// How many of these verdicts allow.
+#[tactic(auto, using(crate::proofs::DeniedLemmas::count_next))]
+fn count_allowed(verdicts: &[Verdict<'_>]) -> usize
+    ensures { result ≡ count_by is_allowed (map verdict_value verdicts.now) }
+{
+    let mut count = 0;
+    for verdict in verdicts {
+        if verdict.decision.allowed {
+            count += 1;
+        }
+    }
+    count
+}
+
+/// How many verdicts allow and deny, for all of these crawlers.
+#[tactic(auto, using(crate::proofs::DeniedLemmas::total_next, crate::proofs::DeniedLemmas::count_parts))]
+pub fn totals_of(agents: &[AgentAudit<'_>]) -> Totals
+    ensures allowed { result.allowed ≡ total is_allowed (map agent_value agents.now) }
+    ensures denied { result.denied ≡ total is_denied (map agent_value agents.now) }
+{
+    let mut totals = Totals {
+        allowed: 0,
+        denied: 0,
+    };
+    for agent in agents {
+        let allowed = count_allowed(&agent.verdicts);
+        totals.allowed += allowed as u128;
+        totals.denied += (agent.verdicts.len() - allowed) as u128;
+    }
+    totals
+}

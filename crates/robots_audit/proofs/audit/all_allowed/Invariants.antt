@@ -1,8 +1,0 @@
-use Rattle.std.proofs.Common.{◌≡◌, drop, map}
-use Rattle.robots_audit.specs.Audit.{all_allowed}
-use Rattle.robots_audit.specs.Internal.{agent_value}
-use Rattle.robots_audit.proofs.audit.all_allowed.Given as goal
-
-abbrev pub invariant-loop-agent : goal.invariant-loop-agent
-invariant-loop-agent l =
-    all_allowed (map agent_value (drop l.agent-index l.agents)) ≡ all_allowed (map agent_value l.agents)

@@ -1,8 +1,0 @@
-use Rattle.std.proofs.Common.{◌≡◌, drop, map}
-use Rattle.robots_audit.specs.Audit.{rejects_some}
-use Rattle.robots_audit.specs.Internal.{agent_value}
-use Rattle.robots_audit.proofs.audit.rejects_some.Given as goal
-
-abbrev pub invariant-loop-agent : goal.invariant-loop-agent
-invariant-loop-agent l =
-    rejects_some (map agent_value (drop l.agent-index l.agents)) ≡ rejects_some (map agent_value l.agents)

@@ -1,5 +1,0 @@
-use Rattle.robots_audit.proofs.RuleSetLemmas.{none_listed, reported_alike, same_rules_decide_alike}
-use Rattle.robots_audit.proofs.laws.same_rules_decide_alike.Goals as goal
-
-pub returns : goal.returns
-returns c = record { rules = same_rules_decide_alike; reported = reported_alike; listed = none_listed }

@@ -1,9 +1,0 @@
-use Rattle.std.proofs.Common.{◌≡◌, ◌++◌, map, take}
-use Rattle.robots_warnings.specs.Internal.{warning_value}
-use Rattle.robots_audit.specs.Needless.{needless_warning}
-use Rattle.robots_audit.proofs.needless.add_needless.Given as goal
-
-abbrev pub invariant-loop-rule : goal.invariant-loop-rule
-invariant-loop-rule l =
-    map warning_value l.found.items
-    ≡ map warning_value l.fn.found.items ++ map needless_warning (take l.rule-index l.rules)

@@ -1,7 +1,0 @@
-use Rattle.std.proofs.Common.{map, take}
-use Rattle.robots_warnings.specs.Internal.{warning_value}
-use Rattle.robots_audit.specs.Internal.ByLine.{AreByLine}
-use Rattle.robots_audit.proofs.page.by_line.by_line.Given as goal
-
-abbrev pub invariant-loop-warning : goal.invariant-loop-warning
-invariant-loop-warning l = AreByLine l.lists.items (map warning_value (take l.warning-index l.warnings))
