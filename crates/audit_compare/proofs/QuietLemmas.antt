@@ -1,4 +1,4 @@
--- No line of a report contains the start of a command.
+-- No line of a comparison contains the start of a command.
 use Rattle.std.proofs.Common.{ℕ, Bool, true, false, List, ◌++◌, Option, Some, None, codes, decimal, refl}
 use Rattle.texting_robots.specs.Callers.{PlacedRule}
 use Rattle.texting_robots.specs.declared.decision.Decision.{Decision}

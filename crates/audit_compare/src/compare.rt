@@ -224,7 +224,10 @@ fn compare_bytes<'a>(
 ///
 /// # Errors
 ///
-/// Those of [`robots_audit::program::run`].
+/// `Fault::Read` if a read of the newer file failed or too many would be needed, `Fault::Write` if a write or
+/// a flush failed or a write accepted no bytes, and `Fault::Memory` if an allocation failed or a URL is too
+/// long for `url`. The contract doesn't state when they occur. A file that is rejected for a crawler isn't an
+/// error: the outcome says so.
 pub fn compare<R: Read, W: Write>(
     alloc: Global,
     agents: &[&str],

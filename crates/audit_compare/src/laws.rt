@@ -6,7 +6,9 @@ ghost use Rattle.audit_compare.specs.Compare.{report_lines, rules_only_in, verdi
 ghost use Rattle.robots_io.specs.Lines.{ended};
 ghost use Rattle.robots_io.specs.Sanitize.{IsPrintable};
 
-/// Nor does the report of `--compare` contain such characters.
+/// The report of `--compare` contains neither invalid UTF-8 nor a control character other than LF, a
+/// bidirectional control character or a line separator, whatever the bytes of the files, the crawlers' names
+/// and the URLs are.
 pub fn no_comparison_steers_a_terminal()
     ensures { (compared : List ComparedValue) → IsPrintable (ended (report_lines compared)) }
 {}

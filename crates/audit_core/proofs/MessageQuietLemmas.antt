@@ -1,4 +1,4 @@
--- No line about a warning on standard error contains the start of a command.
+-- The names and the messages of warnings contain no start of a command.
 use Rattle.std.proofs.Common.{◌≡◌, ℕ, zero, suc, Bool, true, false, List, [], ◌∷◌, ◌++◌, Option, Some, None}
 use Rattle.std.proofs.Common.{append-nil, codes, decimal, map, refl}
 use Rattle.std.specs.Prelude.{not, slice_index_or}

@@ -1,4 +1,4 @@
--- No line of a report contains the start of a command.
+-- Delays, and texts about rejected files, contain no start of a command.
 use Rattle.std.proofs.Common.{◌≡◌, ℕ, zero, suc, ◌*◌, ◌/◌, ◌%◌, ◌==◌, Bool, true, false, List, [], ◌++◌}
 use Rattle.std.proofs.Common.{codes, decimal, refl}
 use Rattle.std.specs.Prelude.{if◌then◌else◌}
@@ -19,7 +19,7 @@ either P false one two is too = too
 pub shown : (bytes : List ℕ) → IsQuiet (sanitized bytes)
 shown bytes = sanitized_quiet false bytes
 
--- ---- rows
+-- ---- delays
 
 fraction_front : (digits millionths : ℕ) → IsFront (fraction digits millionths)
 fraction_front zero millionths = front_nil
@@ -41,7 +41,7 @@ delay_middle micros =
     (front_append (codes ".") (fraction 6 millionths) (front_text (codes ".") refl)
     (fraction_front 6 millionths)))) (front_text (codes " s") refl)
 
--- ---- the part for a crawler
+-- ---- a rejected file
 
 -- a sanitized text between two literals
 pub between : (before bytes after : List ℕ) → IsFront before → IsMiddle after

@@ -1,4 +1,4 @@
--- The program's own types, by value.
+-- An audit by value, and how a file is read for a crawler.
 pub mod Agents
 use Rattle.std.specs.Prelude.{ℕ, List, map, string_bytes, take}
 use Rattle.texting_robots.specs.Callers.{IsFirstOverlong, IsRobotOfFile, file_limit, lines_read}

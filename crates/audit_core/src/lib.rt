@@ -1,5 +1,6 @@
-//! What a robots.txt file means for the crawlers that a request names: the request, the audit of a file, and how a run
-//! ends. It also has what several reports share: rows, delays, groups, colors, and the lines of texts.
+//! What a robots.txt file means for the crawlers that a request names: the request, the audit of a file, and
+//! how a run ends. It also has what several reports share: rows, delays, sitemaps, colors, and the texts
+//! about groups, rejected files and syntax.
 #![tactic(auto)]
 
 pub mod agents;

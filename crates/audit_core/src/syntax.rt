@@ -6,8 +6,8 @@ ghost use Rattle.audit_core.specs.Syntax.{are_none, has_syntax_warning, is_about
 use robots_warnings::table::Cause;
 use robots_warnings::warning::Warning;
 
-/// What all warnings about a file, reported or not, tell about its syntax. That it is the standard's is proved by
-/// [`audit_laws::laws::syntax_is_that_of_the_standard`].
+/// What all warnings about a file, reported or not, tell about its syntax. That it is the standard's is the
+/// theorem `syntax_is_that_of_the_standard` of `audit_laws`.
 #[derive(Clone, Copy, PartialEq, Eq)]
 pub enum Syntax {
     /// Nothing: a warning is about syntax, not all of the file is checked, or it is rejected for a crawler.

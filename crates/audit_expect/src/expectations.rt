@@ -355,8 +355,11 @@ fn parsed<'a>(alloc: Global, name: &str, text: &'a [u8]) -> Result<Vec<Expectati
 ///
 /// # Errors
 ///
-/// `Fault::Malformed` if a line of the text is malformed, `Fault::Empty` if there are no expectations in it, and the
-/// errors of [`robots_audit::program::run`].
+/// `Fault::Malformed` if a line of the text is malformed, `Fault::Empty` if there are no expectations in it,
+/// `Fault::Read` if a read of the robots.txt file failed or too many would be needed, `Fault::Write` if a
+/// write or a flush failed or a write accepted no bytes, and `Fault::Memory` if an allocation failed or a URL
+/// is too long for `url`. The contract doesn't state when the last three occur. An expectation fails if the
+/// file is rejected for its crawler, which isn't an error.
 pub fn check<R: Read, W: Write>(
     alloc: Global,
     name: &str,

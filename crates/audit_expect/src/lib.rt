@@ -1,4 +1,5 @@
-//! Files with a line for each URL: expectations, and what a file says about them; and lists of URLs.
+//! Files with a line for each URL: expectations, with the report on what a robots.txt file says about them,
+//! and lists of URLs.
 #![tactic(auto)]
 
 mod checks;

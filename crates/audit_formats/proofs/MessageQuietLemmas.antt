@@ -1,4 +1,4 @@
--- No line about a warning on standard error contains the start of a command.
+-- The names of warnings contain no start of a command.
 use Rattle.robots_warnings.specs.declared.table.Cause.{Cause}
 use Rattle.robots_warnings.specs.Table.{name_of}
 use Rattle.audit_core.proofs.QuietLemmas.{IsQuiet}

@@ -1,5 +1,5 @@
--- The output of an audit, and its messages on standard error, contain no control or bidirectional-formatting
--- characters other than LF.
+-- An audit as lines of text consists of plain lines; and the lines about how many more warnings there are
+-- contain no control or bidirectional-formatting characters.
 use Rattle.std.proofs.Common.{◌≡◌, ℕ, ◌-◌, Bool, true, false, List, [], ◌∷◌, ◌++◌, Option, Some, None, codes}
 use Rattle.std.proofs.Common.{decimal, flat_map, length, map, refl, replicate}
 use Rattle.std.specs.Prelude.{if◌then◌else◌}

@@ -1,4 +1,4 @@
--- No line of a report contains the start of a command.
+-- No line of a report as text contains the start of a command.
 use Rattle.std.proofs.Common.{ℕ, ◌-◌, Bool, true, false, List, ◌++◌, Option, Some, None, bytes_eq, codes}
 use Rattle.std.proofs.Common.{decimal, length, refl, replicate}
 use Rattle.texting_robots.specs.Callers.{Allow, CrawlDelay, Disallow, Label, LineValue, Raw, Sitemap}

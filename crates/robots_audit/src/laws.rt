@@ -1,4 +1,5 @@
-//! Theorems about all that the program writes, each written as the contract of an empty function.
+//! Theorems about what the program writes, each written as the contract of an empty function. Those about a
+//! single format, or about comparisons alone, are in the crates that write these.
 ghost use Rattle.std.specs.Prelude.{Bool, false, List, ℕ, ◌≡◌};
 ghost use Rattle.std.specs.List.{AllByRecursion as Each};
 ghost use Rattle.robots_audit.specs.Answer.{output, message, without_colors};

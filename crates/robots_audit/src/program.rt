@@ -1,4 +1,4 @@
-//! The program for any reader and writer, without the command line.
+//! The audit of a file and the report on it, for any reader and writer, without the command line.
 ghost use Rattle.std.specs.Prelude.{◌≡◌, IfOk, Some, map, option_map, string_bytes};
 ghost use Rattle.robots_audit.specs.Answer.{Audits, IsRejection, IsFileUnreadable, has_all_urls, has_rows};
 ghost use Rattle.robots_audit.specs.Answer.{is_warned, leaves_out_allowed, output, message, shown_name};
