@@ -54,7 +54,7 @@ FOUND = {
     "the longest rule that begins it, above the Allow between": (["Disallow: /a", "Allow: /ab", "Disallow: /abc", "Disallow: /abcd"], [5]),
     "an Allow with a star matches nothing of it": (["Disallow: /", "Allow: /a*c", "Disallow: /bcd"], [4]),
     "it has a star, and an Allow matches nothing of it": (["Disallow: /", "Allow: /ac", "Disallow: /b*d"], [4]),
-    "patterns with stars, the shortest first": (["Disallow: /*ab", "Allow: /*ab*", "Allow: /*abc*", "Crawl-delay: 1"], [2, 3, 4]),
+    "patterns with stars, the shortest first": (["Disallow: /*ab", "Allow: /*ab*", "Allow: /*abc*", "Allow: /"], [2, 3, 4]),
     "a long Allow is no rival of a short Disallow": (["Disallow: /a", "Disallow: /ab", "Allow: /abc"], [3]),
     "equal rules": (["Disallow: /a*", "Disallow: /a*", "Disallow: /b", "Disallow: /b"], [3, 5]),
 }

@@ -1,19 +1,19 @@
--- Lines that can be removed from a file: each block keeps a group line, so the other
--- lines apply to the same crawlers.
+-- Rules that can be removed from a file: each block that has rules keeps one, so the other lines apply to the
+-- same crawlers.
 use Rattle.std.proofs.Common.{◌≡◌, inl, inr, ℕ, ◌+◌, ◌==◌, Bool, true, false, not, ◌||◌, List, [], ◌∷◌}
 use Rattle.std.proofs.Common.{Option, Some, None, ap, sym, refl, ◌∙◌, cond, filter, map, if◌then◌else◌}
 use Rattle.std.specs.List.{cons_option, enumerate_from, list_any}
 use Rattle.std.specs.{Option.option_map_or}
 use Rattle.std.proofs.lemmas.Bool.{cases_Bool, false≢true}
 use Rattle.texting_robots.specs.Line.{LineValue, UserAgent, Allow, Disallow, Sitemap, CrawlDelay, Raw}
-use Rattle.texting_robots.specs.Group.{group_name, is_agent, is_agent_named, is_group}
+use Rattle.texting_robots.specs.Group.{group_name, is_agent, is_agent_named}
 use Rattle.texting_robots.specs.Rules.{PlacedRule, Rule, unplaced}
 use Rattle.texting_robots.specs.Executable.{placed_in, placed_rules, rule_in, rules_for}
 use Rattle.texting_robots.specs.Internal.Group.{from_captured, placed, start_of, step}
 use Rattle.texting_robots.specs.declared.groups.GroupTracker.{GroupTracker}
 use Rattle.texting_robots.proofs.CapturedLemmas.{captured_walked, given_captured, rules_are}
 use Rattle.robots_needless.specs.declared.blocks.Block.{Block}
-use Rattle.robots_needless.specs.Blocks.{block_after, keep_blocks_from, no_line, with_line}
+use Rattle.robots_needless.specs.Blocks.{block_after, is_rule, keep_blocks_from, no_rule, with_rule}
 use Rattle.robots_needless.specs.Needless.{lines_without, without}
 
 -- the lines that are left of those from a position on
@@ -61,7 +61,7 @@ one_goes gone position true (Some rule) rest goes = rw goes refl
 record AreAlike (block : Block) (tracker other : GroupTracker) : Type 0 where
   captured : tracker.captured ≡ other.captured
   named : block.is_lost ≡ false → tracker.named ≡ other.named
-  unnamed : block.has_line ≡ true → other.named ≡ false
+  unnamed : block.has_rule ≡ true → other.named ≡ false
 
 not_false : (b : Bool) → not b ≡ false → b ≡ true
 not_false true is = refl
@@ -93,15 +93,15 @@ module _ (gone : ℕ → Bool) (name : List ℕ) where
         ∙ one_stays gone position tracker.captured (rule_in line) left rest stays
         (later next (step name tracker line) (step name other line) after keeps))
 
-    -- a group line
-    group_line : ((t : GroupTracker)
+    -- a rule
+    rule_line : ((t : GroupTracker)
         → ◌≡◌ {A = GroupTracker} (step name t line) (record { captured = t.captured; named = false }))
-        → ((g : Bool) → block_after block g line ≡ Some (with_line block g))
+        → ((g : Bool) → block_after block g line ≡ Some (with_rule block g))
         → keep_blocks_from gone block position (line ∷ lines) ≡ true
         → SameRules tracker other position (line ∷ lines)
-    group_line moves after keeps = elim (cases_Bool (gone (position + 1))) [
+    rule_line moves after keeps = elim (cases_Bool (gone (position + 1))) [
       | inr stays ↦
-          line_stays stays (with_line block false)
+          line_stays stays (with_rule block false)
           (rw (moves tracker, moves other) (record {
             captured = alike.captured;
             named = λ _. refl;
@@ -110,45 +110,45 @@ module _ (gone : ℕ → Bool) (name : List ℕ) where
           (rw (stays, after false) at keeps)
       | inl goes ↦
           let moved = step name tracker line in
-          let next : AreAlike (with_line block true) moved other = rw (moves tracker) (record {
+          let next : AreAlike (with_rule block true) moved other = rw (moves tracker) (record {
             captured = alike.captured;
-            named = λ none. sym (alike.unnamed (not_false block.has_line none));
+            named = λ none. sym (alike.unnamed (not_false block.has_rule none));
             unnamed = alike.unnamed;
           }) in
           let rest = from_captured placed_in name moved (position + 1) lines in
-          rw goes (later (with_line block true) moved other next (rw (goes, after true) at keeps)
+          rw goes (later (with_rule block true) moved other next (rw (goes, after true) at keeps)
           ∙ one_goes gone position tracker.captured (rule_in line) rest goes)
+    ]
+
+    -- neither a rule nor a user-agent line
+    other_line : ((g : Bool) → block_after block g line ≡ (if g then None else Some block))
+        → AreAlike block (step name tracker line) (step name other line)
+        → keep_blocks_from gone block position (line ∷ lines) ≡ true
+        → SameRules tracker other position (line ∷ lines)
+    other_line after next keeps = elim (cases_Bool (gone (position + 1))) [
+      | inl goes ↦ absurd (false≢true (rw (goes, after true) at keeps))
+      | inr stays ↦ line_stays stays block next (rw (stays, after false) at keeps)
     ]
 
   same_rules : (position : ℕ) (lines : List LineValue) → Later position lines
   same_rules position [] block tracker other alike keeps = refl
   same_rules position (Allow value ∷ lines) block tracker other alike keeps =
-      group_line block tracker other alike position (Allow value) lines (same_rules (position + 1) lines)
+      rule_line block tracker other alike position (Allow value) lines (same_rules (position + 1) lines)
       (λ t. refl) (λ g. refl) keeps
   same_rules position (Disallow value ∷ lines) block tracker other alike keeps =
-      group_line block tracker other alike position (Disallow value) lines (same_rules (position + 1) lines)
+      rule_line block tracker other alike position (Disallow value) lines (same_rules (position + 1) lines)
       (λ t. refl) (λ g. refl) keeps
   same_rules position (CrawlDelay delay ∷ lines) block tracker other alike keeps =
-      group_line block tracker other alike position (CrawlDelay delay) lines (same_rules (position + 1) lines)
-      (λ t. refl) (λ g. refl) keeps
+      other_line block tracker other alike position (CrawlDelay delay) lines (same_rules (position + 1) lines)
+      (λ g. refl) (record { captured = alike.captured; named = λ _. refl; unnamed = λ _. refl }) keeps
   same_rules position (Sitemap value ∷ lines) block tracker other alike keeps =
-      elim (cases_Bool (gone (position + 1))) [
-        | inl goes ↦ absurd (false≢true (rw goes at keeps))
-        | inr stays ↦
-            line_stays block tracker other alike position (Sitemap value) lines
-            (same_rules (position + 1) lines) stays block
-            (record { captured = alike.captured; named = alike.named; unnamed = alike.unnamed })
-            (rw stays at keeps)
-      ]
+      other_line block tracker other alike position (Sitemap value) lines (same_rules (position + 1) lines)
+      (λ g. refl)
+      (record { captured = alike.captured; named = alike.named; unnamed = alike.unnamed }) keeps
   same_rules position (Raw body ∷ lines) block tracker other alike keeps =
-      elim (cases_Bool (gone (position + 1))) [
-        | inl goes ↦ absurd (false≢true (rw goes at keeps))
-        | inr stays ↦
-            line_stays block tracker other alike position (Raw body) lines
-            (same_rules (position + 1) lines) stays block
-            (record { captured = alike.captured; named = alike.named; unnamed = alike.unnamed })
-            (rw stays at keeps)
-      ]
+      other_line block tracker other alike position (Raw body) lines (same_rules (position + 1) lines)
+      (λ g. refl)
+      (record { captured = alike.captured; named = alike.named; unnamed = alike.unnamed }) keeps
   same_rules position (UserAgent value ∷ lines) block tracker other alike keeps =
       elim (cases_Bool (gone (position + 1))) [
         | inl goes ↦ absurd (false≢true (rw goes at keeps))
@@ -158,7 +158,7 @@ module _ (gone : ℕ → Bool) (name : List ℕ) where
               let named = alike.named left in
               let here = is_agent_named name (UserAgent value) in
               line_stays block tracker other alike position (UserAgent value) lines
-              (same_rules (position + 1) lines) stays no_line (record {
+              (same_rules (position + 1) lines) stays no_rule (record {
                 captured = ap (λ b. here || b) named;
                 named = λ _. ap (λ b. here || b) named;
                 unnamed = λ wrong. absurd (false≢true wrong);
@@ -169,7 +169,7 @@ module _ (gone : ℕ → Bool) (name : List ℕ) where
 
 -- ---- user-agent lines stay
 
-no_agent : (line : LineValue) → is_group line ≡ true → is_agent line ≡ false
+no_agent : (line : LineValue) → is_rule line ≡ true → is_agent line ≡ false
 no_agent (UserAgent value) is = sym is
 no_agent (Allow value) is = refl
 no_agent (Disallow value) is = refl
@@ -193,9 +193,9 @@ any_left gone test others block position (line ∷ lines) keeps =
     let same = any_left gone test others next (position + 1) lines rest in
     elim (cases_Bool (gone (position + 1))) [
       | inr stays ↦ rw stays (ap (λ b. test line || b) same)
-      | inl goes ↦ elim (cases_Bool (is_group line)) [
-        | inl group ↦ rw (goes, others line (no_agent line group)) same
-        | inr not_group ↦ absurd (false≢true (rw (goes, not_group) at keeps))
+      | inl goes ↦ elim (cases_Bool (is_rule line)) [
+        | inl rule ↦ rw (goes, others line (no_agent line rule)) same
+        | inr not_rule ↦ absurd (false≢true (rw (goes, not_rule) at keeps))
       ]
     ]
 
@@ -210,13 +210,13 @@ others_unnamed name (Raw body) is = refl
 -- ---- all lines of a file
 
 module _ (gone : ℕ → Bool) (lines : List LineValue)
-    (keeps : keep_blocks_from gone no_line 0 lines ≡ true) where
+    (keeps : keep_blocks_from gone no_rule 0 lines ≡ true) where
   same_name : (agent : List ℕ) → group_name agent (left_from gone 0 lines) ≡ group_name agent lines
   same_name agent =
-      rw (any_left gone (is_agent_named _) (others_unnamed _) no_line 0 lines keeps) refl
+      rw (any_left gone (is_agent_named _) (others_unnamed _) no_rule 0 lines keeps) refl
 
   same_start : start_of (left_from gone 0 lines) ≡ start_of lines
-  same_start = rw (any_left gone is_agent (λ line other. other) no_line 0 lines keeps) refl
+  same_start = rw (any_left gone is_agent (λ line other. other) no_rule 0 lines keeps) refl
 
   rules_left : (agent : List ℕ) → rules_for agent (left_from gone 0 lines)
       ≡ unplaced (filter (λ (p : PlacedRule). not (gone p.line)) (placed_rules agent lines))
@@ -224,17 +224,17 @@ module _ (gone : ℕ → Bool) (lines : List LineValue)
       let name = group_name agent lines in
       let start = start_of lines in
       let walked = captured_walked placed_in name lines in
-      let alike : AreAlike no_line start start = record {
+      let alike : AreAlike no_rule start start = record {
         captured = refl;
         named = λ _. refl;
         unnamed = λ wrong. absurd (false≢true wrong);
       } in
       rules_are agent (left_from gone 0 lines)
       ∙ rw (same_name agent, same_start, walked)
-      (same_rules gone name 0 lines no_line start start alike keeps)
+      (same_rules gone name 0 lines no_rule start start alike keeps)
 
 pub deleted : (numbers : List ℕ) (lines : List LineValue)
-    → keep_blocks_from (among numbers) no_line 0 lines ≡ true → (agent : List ℕ)
+    → keep_blocks_from (among numbers) no_rule 0 lines ≡ true → (agent : List ℕ)
     → rules_for agent (lines_without numbers lines) ≡ unplaced (without numbers (placed_rules agent lines))
 deleted numbers lines keeps agent =
     ap (λ ls. rules_for agent ls) (left_are numbers 0 lines) ∙ rules_left (among numbers) lines keeps agent

@@ -16,8 +16,7 @@ use Rattle.texting_robots.specs.Rules.{PlacedRule, unplaced}
 use Rattle.texting_robots.proofs.{BestLemmas.placed_of}
 use Rattle.robots_needless.specs.declared.needless.NeedlessRule.{NeedlessRule}
 use Rattle.robots_needless.specs.declared.needless.Reason.{Reason}
-use Rattle.robots_needless.specs.declared.needless.Reason.TheVariants.{AllowedAnyway, Covered, NoMatch}
-use Rattle.robots_needless.specs.declared.needless.Reason.TheVariants.{Overruled}
+use Rattle.robots_needless.specs.declared.needless.Reason.TheVariants as reasons
 use Rattle.robots_needless.specs.Internal.{AreAmong, CanGo, HasNoRival, IsReducedTo}
 use Rattle.robots_needless.specs.Needless.{IsFound, IsReason, Overrules, rank_of}
 use Rattle.robots_needless.specs.Prefixes.{AreDescending, AreIndexed, AreNotBelow, HasPlace, IsPlain, Places}
@@ -191,10 +190,10 @@ reduced_permuted rules others left numbers same is = record {
 
 pub reason_among : (some all : List PlacedRule) → AreAmong some all → (rule : PlacedRule) (reason : Reason)
     → IsReason some rule reason → IsReason all rule reason
-reason_among some all among rule NoMatch holds = holds
-reason_among some all among rule AllowedAnyway holds = holds
-reason_among some all among rule (Overruled line) (other, has, at, is) = (other, among other has, at, is)
-reason_among some all among rule (Covered line) (other, has, at, another, kind, covers) =
+reason_among some all among rule reasons.MatchesNothing holds = holds
+reason_among some all among rule reasons.AllowedAnyway holds = holds
+reason_among some all among rule (reasons.NeverDecides line) (other, has, at, is) = (other, among other has, at, is)
+reason_among some all among rule (reasons.NotNeeded line) (other, has, at, another, kind, covers) =
     (other, among other has, at, another, kind, covers)
 
 pub found_permuted : (rules others : List PlacedRule) → IsPermutation rules others

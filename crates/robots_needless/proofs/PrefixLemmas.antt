@@ -10,7 +10,7 @@ use Rattle.texting_robots.specs.Pattern.{Matches, MatchesWith}
 use Rattle.texting_robots.specs.Rules.{PlacedRule, Rule, unplaced}
 use Rattle.texting_robots.specs.Internal.Entries.{rank}
 use Rattle.texting_robots.proofs.{BestLemmas.placed_of, PatternLemmas.in_front}
-use Rattle.robots_needless.specs.Internal.{HasNoRival, IsNone}
+use Rattle.robots_needless.specs.Internal.{HasNoRival, IsNoRival}
 use Rattle.robots_needless.specs.Needless.{AreApart}
 use Rattle.robots_needless.specs.Prefixes.{AreIndexed, HasPlace, IsAbove, IsPlainByte, Places, hash_from}
 use Rattle.robots_needless.specs.Prefixes.{next_hash, seed}
@@ -78,7 +78,7 @@ other_kind places floor p q allows plain other_plain above has low less text fit
 
 no_plain_rival : {S : Type 0} (places : Places S) (floor : ℕ) (rule other : Rule) → All IsPlainByte rule.0
     → All IsPlainByte other.0 → IsAbove places rule.0 (not rule.1) floor
-    → HasPlace places (hash_from (seed other.1) other.0) → IsNone floor rule other
+    → HasPlace places (hash_from (seed other.1) other.0) → IsNoRival floor rule other
 no_plain_rival places floor (p, true) (q, true) plain other_plain above has differ low less =
     absurd (differ refl)
 no_plain_rival places floor (p, false) (q, false) plain other_plain above has differ low less =
@@ -94,7 +94,7 @@ pub no_plain_rivals : {S : Type 0} (rules : List PlacedRule) (places : Places S)
 no_plain_rivals rules places floor rule are plain above = record {
   none = λ other has.
       let (placed, listed, is) = placed_of rules other has in
-      subst (λ (r : Rule). IsNone floor rule r) is
+      subst (λ (r : Rule). IsNoRival floor rule r) is
       (no_plain_rival places floor rule placed.rule plain (are.plain placed listed) above
       (are.found placed listed));
 }

@@ -11,7 +11,7 @@ use Rattle.texting_robots.specs.Pattern.{IsOverlong}
 use Rattle.texting_robots.specs.{Escape.escaped, Internal.Group.placed}
 use Rattle.texting_robots.specs.Executable.{placed_rules, rule_with}
 use Rattle.texting_robots.proofs.{BestLemmas.placed_of, HeldLemmas.computed_are}
-use Rattle.robots_needless.specs.Internal.{CanGo, HasNoRival, IsNone, StandsIn}
+use Rattle.robots_needless.specs.Internal.{CanGo, HasNoRival, IsNoRival, CanReplace}
 use Rattle.robots_needless.specs.Needless.{AreDistinct, Overrules}
 use Rattle.robots_needless.proofs.TogetherLemmas.{unplaced_of}
 
@@ -38,14 +38,14 @@ no_rival_both kept rest m n rule one most two = record {
   ];
 }
 
-of_one : (floor : ℕ) (rule : Rule) (other : PlacedRule) → IsNone floor rule other.rule → (x : Rule)
-    → Contains (unplaced (other ∷ [])) x → IsNone floor rule x
-of_one floor rule other apart x (zero, below, is) = subst (λ (r : Rule). IsNone floor rule r) is apart
+of_one : (floor : ℕ) (rule : Rule) (other : PlacedRule) → IsNoRival floor rule other.rule → (x : Rule)
+    → Contains (unplaced (other ∷ [])) x → IsNoRival floor rule x
+of_one floor rule other apart x (zero, below, is) = subst (λ (r : Rule). IsNoRival floor rule r) is apart
 of_one floor rule other apart x (suc k, below, is) = absurd (omega arith)
 
 -- one more of the others
 pub no_rival_more : (others : List PlacedRule) (other : PlacedRule) (m n : ℕ) (rule : Rule)
-    → HasNoRival (unplaced others) m rule → m ≤ n → IsNone n rule other.rule
+    → HasNoRival (unplaced others) m rule → m ≤ n → IsNoRival n rule other.rule
     → HasNoRival (unplaced (others ++ other ∷ [])) n rule
 no_rival_more others other m n rule before most apart = record {
   none = λ x has kinds low high. elim (unplaced_cases others (other ∷ []) x has) [
@@ -64,7 +64,7 @@ overruled_goes others rule other listed is = inr (inr (
 ))
 
 pub covered_goes : (others : List PlacedRule) (floor : ℕ) (rule : Rule) (other : PlacedRule)
-    → HasNoRival (unplaced others) floor rule → Contains others other → StandsIn floor other.rule rule
+    → HasNoRival (unplaced others) floor rule → Contains others other → CanReplace floor other.rule rule
     → CanGo (unplaced others) rule
 covered_goes others floor rule other none listed is =
     let above = is.above in inr (inr (

@@ -19,7 +19,7 @@ use Rattle.texting_robots.specs.Callers.{LineValue, PlacedRule, agents_in, place
 use Rattle.texting_robots.specs.Verdict.{IsDenied}
 use Rattle.robots_needless.specs.declared.needless.NeedlessRule.{NeedlessRule}
 use Rattle.robots_needless.specs.declared.needless.Reason.{Reason}
-use Rattle.robots_needless.specs.Blocks.{KeepBlocks, is_found, no_line}
+use Rattle.robots_needless.specs.Blocks.{KeepBlocks, is_found, no_rule}
 use Rattle.robots_needless.specs.Internal.{AddsFound, AddsLines, AddsNumber, AreFree, AreReasons, AreSettled}
 use Rattle.robots_needless.specs.Internal.{Grow, Has, HasLine, IsReducedTo, IsSettled, Reasons, rule_at}
 use Rattle.robots_needless.specs.Needless.{AreFound, AreNeedless, IsFound, IsFoundFor, numbers_of, without}
@@ -304,7 +304,7 @@ are_found lines found stays list are free settled reasons keep = record {
       settled_needless found stays list are free (placed_rules agent lines) (settled agent has);
   deleted = deleted (numbers_of list) lines
       (same_test (λ n. list_any (λ number. number == n) (numbers_of list)) (is_found found)
-      (is_key found list are) no_line 0 lines ∙ keep);
+      (is_key found list are) no_rule 0 lines ∙ keep);
   reasons = reasons;
 }
 

@@ -10,8 +10,7 @@ use Rattle.std.proofs.lemmas.List.Sorted.{IsPermutation-append_right, IsPermutat
 use Rattle.texting_robots.specs.Rules.{PlacedRule, unplaced}
 use Rattle.robots_needless.specs.declared.needless.NeedlessRule.{NeedlessRule}
 use Rattle.robots_needless.specs.declared.needless.Reason.{Reason}
-use Rattle.robots_needless.specs.declared.needless.Reason.TheVariants.{AllowedAnyway, Covered, NoMatch}
-use Rattle.robots_needless.specs.declared.needless.Reason.TheVariants.{Overruled}
+use Rattle.robots_needless.specs.declared.needless.Reason.TheVariants as reasons
 use Rattle.robots_needless.specs.Internal.{CanGo, IsReducedTo}
 use Rattle.robots_needless.specs.Needless.{IsFound, IsReason, numbers_of}
 use Rattle.robots_needless.proofs.TogetherLemmas.{one_less, reordered}
@@ -56,10 +55,10 @@ module _ (rules kept rest old : List PlacedRule) (rule : PlacedRule) (last : old
       (subst (λ r. Contains r rule) (sym last) (Contains-append_right rest one rule (0, omega arith, refl))))
 
   reason_wider : (reason : Reason) → IsReason (kept ++ rest) rule reason → IsReason rules rule reason
-  reason_wider NoMatch holds = holds
-  reason_wider AllowedAnyway holds = holds
-  reason_wider (Overruled line) (other, has, at, is) = (other, other_listed other has, at, is)
-  reason_wider (Covered line) (other, has, at, another, kind, covers) =
+  reason_wider reasons.MatchesNothing holds = holds
+  reason_wider reasons.AllowedAnyway holds = holds
+  reason_wider (reasons.NeverDecides line) (other, has, at, is) = (other, other_listed other has, at, is)
+  reason_wider (reasons.NotNeeded line) (other, has, at, another, kind, covers) =
       (other, other_listed other has, at, another, kind, covers)
 
   pub found_more : (found more : List NeedlessRule) (line : ℕ) (reason : Reason)

@@ -30,13 +30,13 @@ IsMatcherOf pattern (Some regex) = regex ≡ pattern
 
 -- from this floor on, the other rule is no rival of the rule: it isn't of the other kind, or doesn't rank
 -- below the rule and at least as high as the floor, or matches no text that the rule matches
-abbrev pub IsNone : ℕ → Rule → Rule → Type 0
-IsNone floor rule other = other.1 ≢ rule.1 → floor ≤ rank_of other → rank_of other < rank_of rule
+abbrev pub IsNoRival : ℕ → Rule → Rule → Type 0
+IsNoRival floor rule other = other.1 ≢ rule.1 → floor ≤ rank_of other → rank_of other < rank_of rule
     → AreApart other.0 rule.0
 
 -- none of the others is a rival
 pub record HasNoRival (others : List Rule) (floor : ℕ) (rule : Rule) : Type 0 where
-  pub none : (other : Rule) → Contains others other → IsNone floor rule other
+  pub none : (other : Rule) → Contains others other → IsNoRival floor rule other
 
 -- the other rule covers the rule. It ranks at least as high, or it is of the
 -- same kind and no rival is above it.
@@ -79,7 +79,7 @@ pub record HeadsDiffer (one other : List ℕ) : Type 0 where
   pub other_fixed : slice_index other at ≢ fresh
 
 -- the other rule covers the rule, is of the same kind, and doesn't rank below the floor
-pub record StandsIn (floor : ℕ) (other rule : Rule) : Type 0 where
+pub record CanReplace (floor : ℕ) (other rule : Rule) : Type 0 where
   pub covers : Covers other.0 rule.0
   pub kind : other.1 ≡ rule.1
   pub above : floor ≤ rank_of other

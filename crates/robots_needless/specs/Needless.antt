@@ -4,8 +4,7 @@ use Rattle.std.specs.Prelude.{All, AllPairs, Bool, true, Contains, List, [], ◌
 use Rattle.std.specs.List.{enumerate_from, list_any}
 use Rattle.robots_needless.specs.declared.needless.NeedlessRule.{NeedlessRule}
 use Rattle.robots_needless.specs.declared.needless.Reason.{Reason}
-use Rattle.robots_needless.specs.declared.needless.Reason.TheVariants.{AllowedAnyway, Covered, NoMatch}
-use Rattle.robots_needless.specs.declared.needless.Reason.TheVariants.{Overruled}
+use Rattle.robots_needless.specs.declared.needless.Reason.TheVariants as reasons
 use Rattle.texting_robots.specs.Callers.{IsVerdict, LineValue, Matches, PlacedRule, Rule, agents_in}
 use Rattle.texting_robots.specs.Callers.{placed_rules, robots_file, rules_for, unplaced}
 use Rattle.texting_robots.specs.Internal.Entries.{rank}
@@ -40,7 +39,7 @@ Covers wide narrow = (text : List ℕ) → Matches narrow text → Matches wide 
 abbrev pub AreApart : List ℕ → List ℕ → Type 0
 AreApart one other = (text : List ℕ) → Matches one text → ¬ Matches other text
 
--- the pattern matches no text except `/robots.txt`, which is always allowed
+-- the pattern matches no text, except perhaps `/robots.txt`, which is always allowed
 abbrev pub MatchesNothing : List ℕ → Type 0
 MatchesNothing pattern = (text : List ℕ) → Matches pattern text → text ≡ robots_file
 
@@ -66,11 +65,11 @@ pub record Overrules (other placed : PlacedRule) : Type 0 where
 
 -- the reason holds for the rule among these rules
 abbrev pub IsReason : List PlacedRule → PlacedRule → Reason → Type 0
-IsReason rules placed NoMatch = MatchesNothing placed.rule.0
-IsReason rules placed AllowedAnyway = placed.rule.1 ≡ true
-IsReason rules placed (Overruled line) =
+IsReason rules placed reasons.MatchesNothing = MatchesNothing placed.rule.0
+IsReason rules placed reasons.AllowedAnyway = placed.rule.1 ≡ true
+IsReason rules placed (reasons.NeverDecides line) =
     (other : PlacedRule) × Contains rules other × (other.line ≡ line) × Overrules other placed
-IsReason rules placed (Covered line) =
+IsReason rules placed (reasons.NotNeeded line) =
     (other : PlacedRule) × Contains rules other × (other.line ≡ line) × (other.line ≢ placed.line)
     × (other.rule.1 ≡ placed.rule.1) × Covers other.rule.0 placed.rule.0
 

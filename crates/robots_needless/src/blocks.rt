@@ -1,64 +1,65 @@
-//! Whether each block of a file keeps a group line. A block is the group lines below a run of user-agent
-//! lines: without all of them, these user-agent lines would join the next run.
+//! Whether each block of a file that has rules keeps one. A block is the group lines below a run of user-agent
+//! lines: without all of them, these user-agent lines would join the next run, at crawlers that ignore delays
+//! even if a delay is left.
 ghost use Rattle.std.specs.Prelude.{◌≡◌, IsTrue};
 ghost use Rattle.texting_robots.specs.Callers.{by_value, file_lines};
-ghost use Rattle.robots_needless.specs.Blocks.{KeepBlocks, block_after, with_line};
+ghost use Rattle.robots_needless.specs.Blocks.{KeepBlocks, block_after, with_rule};
 
 use crate::needless::{Numbers, Reason};
 use std::alloc::AllocError;
 use std::collections::BTreeMap;
 use texting_robots::parser::{Line, file_lines};
 
-/// The group lines since the last user-agent line.
+/// The rules since the last user-agent line.
 #[derive(Clone, Copy)]
 struct Block {
     /// Whether some of them are removed, and none stays.
     is_lost: bool,
     /// Whether one of them stays.
-    has_line: bool,
+    has_rule: bool,
 }
 
-/// No group lines.
-const NO_LINE: Block = Block {
+/// No rules.
+const NO_RULE: Block = Block {
     is_lost: false,
-    has_line: false,
+    has_rule: false,
 };
 
-/// The block with one more group line.
-fn with_line(block: Block, is_gone: bool) -> Block
-    ensures { result ≡ with_line block is_gone }
+/// The block with one more rule.
+fn with_rule(block: Block, is_gone: bool) -> Block
+    ensures { result ≡ with_rule block is_gone }
 {
     if is_gone {
         return Block {
-            is_lost: !block.has_line,
-            has_line: block.has_line,
+            is_lost: !block.has_rule,
+            has_rule: block.has_rule,
         };
     }
     Block {
         is_lost: false,
-        has_line: true,
+        has_rule: true,
     }
 }
 
-/// The block after one more line. `None` if a line is removed that isn't a group line, or if all group
-/// lines above a user-agent line are.
+/// The block after one more line. `None` if a line is removed that isn't an Allow or a Disallow, or if all
+/// rules above a user-agent line are.
 fn block_after(block: Block, is_gone: bool, line: Line<'_>) -> Option<Block>
     ensures { result ≡ block_after block is_gone (by_value line.entry) }
 {
     match line {
-        Line::Allow(_) | Line::Disallow(_) | Line::CrawlDelay(_) => Some(with_line(block, is_gone)),
+        Line::Allow(_) | Line::Disallow(_) => Some(with_rule(block, is_gone)),
         Line::UserAgent(_) if is_gone || block.is_lost => None,
-        Line::UserAgent(_) => Some(NO_LINE),
-        Line::Sitemap(_) | Line::Raw(_) if is_gone => None,
-        Line::Sitemap(_) | Line::Raw(_) => Some(block),
+        Line::UserAgent(_) => Some(NO_RULE),
+        Line::CrawlDelay(_) | Line::Sitemap(_) | Line::Raw(_) if is_gone => None,
+        Line::CrawlDelay(_) | Line::Sitemap(_) | Line::Raw(_) => Some(block),
     }
 }
 
-/// Whether each block keeps a group line if these lines are removed, and they are all group lines.
+/// Whether each block that has rules keeps one if these lines are removed, which are all Allows and Disallows.
 pub(crate) fn keep_blocks(text: &[u8], found: &BTreeMap<usize, Reason>) -> bool
     ensures { IsTrue result → KeepBlocks found.now (file_lines text.now) }
 {
-    let mut block = NO_LINE;
+    let mut block = NO_RULE;
     for (index, line) in file_lines(text).enumerate() {
         match block_after(block, found.contains_key(&(index + 1)), line) {
             Some(next) => block = next,
@@ -68,13 +69,13 @@ pub(crate) fn keep_blocks(text: &[u8], found: &BTreeMap<usize, Reason>) -> bool
     !block.is_lost
 }
 
-/// Inserts a line of each block that would lose all its group lines.
+/// Inserts a line of each block that would lose all its rules.
 pub(crate) fn add_lost(
     text: &[u8],
     found: &BTreeMap<usize, Reason>,
     stays: &mut Numbers,
 ) -> Result<(), AllocError> {
-    let mut block = NO_LINE;
+    let mut block = NO_RULE;
     let mut last = 0;
     for (index, line) in file_lines(text).enumerate() {
         let is_gone = found.contains_key(&(index + 1));
@@ -82,7 +83,7 @@ pub(crate) fn add_lost(
             Some(next) => block = next,
             None => {
                 stays.insert(last)?;
-                block = NO_LINE;
+                block = NO_RULE;
             }
         }
         if is_gone {

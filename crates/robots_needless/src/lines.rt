@@ -172,7 +172,7 @@ fn are_free(rules: &[NeedlessRule], stays: &Numbers) -> bool
     true
 }
 
-/// Whether the rules can be removed: none is in a line that stays, and each block keeps a group line.
+/// Whether the rules can be removed: none is in a line that stays, and each block that has rules keeps one.
 fn can_be_removed(rules: &[NeedlessRule], findings: &Findings, text: &[u8]) -> bool
     ensures free { IsTrue result → AreFree rules.now findings.now.stays }
     ensures keep { IsTrue result → KeepBlocks findings.now.found (file_lines text.now) }
@@ -183,7 +183,7 @@ fn can_be_removed(rules: &[NeedlessRule], findings: &Findings, text: &[u8]) -> b
     keep_blocks(text, &findings.found)
 }
 
-/// The needless rules of all crawlers, in order, or none if the check doesn't settle.
+/// The needless rules of all crawlers, in order, or none if lines are still found to be needed in the last round.
 fn settled_lines(alloc: Global, site: &Site) -> Result<Vec<NeedlessRule>, Error>
     ensures { IfOk result (λ found. AreFound (file_lines site.now) found.items) }
 {
@@ -202,8 +202,9 @@ fn settled_lines(alloc: Global, site: &Site) -> Result<Vec<NeedlessRule>, Error>
 }
 
 /// The lines of rules that can be removed together without changing a verdict of any crawler, in order. There
-/// may be more: a rule is found only if one other rule covers it, and a bounded number of bytes is compared.
-/// None is found if a rule is too long, so that the file is rejected for a crawler.
+/// may be more: a rule that several others replace only together isn't found, nor is the last one of a block,
+/// and a bounded number of bytes is compared. None is found if a rule is too long, so that the file is
+/// rejected for a crawler, or if crawlers need each other's rules in too many ways.
 ///
 /// # Errors
 ///

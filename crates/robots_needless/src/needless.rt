@@ -1,7 +1,7 @@
 //! Which rules of a crawler are needless.
 ghost use Rattle.std.specs.Prelude.{◌≡◌, ◌≢◌, ◌≤◌, ◌++◌, All, Contains, IfOk, IfSome, IsPermutation, IsTrue, List};
 ghost use Rattle.texting_robots.specs.Callers.{PlacedRule, unplaced};
-ghost use Rattle.robots_needless.specs.Internal.{AreAmong, CanGo, HasNoRival, IsNone, IsReducedTo, StandsIn};
+ghost use Rattle.robots_needless.specs.Internal.{AreAmong, CanGo, HasNoRival, IsNoRival, IsReducedTo, CanReplace};
 ghost use Rattle.robots_needless.specs.Needless.{IsFound, IsReason, Overrules, TakesPrecedence, numbers_of};
 
 use crate::rule::Rule;
@@ -14,16 +14,16 @@ const BUDGET: usize = 50_000_000;
 /// Why a rule is needless.
 #[derive(Clone, Copy, Debug, Eq, PartialEq)]
 pub enum Reason {
-    /// Its pattern matches no text.
-    NoMatch,
-    /// It is an Allow of what is allowed without it, as no Disallow that it overrules matches the same text.
+    /// Its pattern matches no text, except perhaps `/robots.txt`, which is always allowed.
+    MatchesNothing,
+    /// It is an Allow, and what it allows stays allowed once all needless rules are deleted.
     AllowedAnyway,
     /// It never decides, since the rule in the line with this number matches every text that it matches, and
     /// is longer; or as long, and an Allow for a Disallow, or in a line above.
-    Overruled(usize),
-    /// Without it, the same verdict follows from the rule in the line with this number, which is of the same
-    /// kind and matches every text that it matches, or from a longer one of that kind.
-    Covered(usize),
+    NeverDecides(usize),
+    /// Once all needless rules are deleted, the same verdict follows from the rule in the line with this
+    /// number, which is of the same kind and matches every text that it matches, or from another rule.
+    NotNeeded(usize),
 }
 
 /// A needless rule.
@@ -63,7 +63,7 @@ impl Budget {
 /// floor, and may match a text that the rule matches.
 fn floor_above(budget: &mut Budget, other: &Rule, rule: &Rule, floor: usize) -> usize
     ensures most { floor ≤ result }
-    ensures apart { IsNone result rule.now.rule other.now.rule }
+    ensures apart { IsNoRival result rule.now.rule other.now.rule }
 {
     if other.is_allow() == rule.is_allow() {
         return floor;
@@ -116,8 +116,8 @@ fn overrules(budget: &mut Budget, other: &Rule, rule: &Rule) -> bool
 }
 
 /// Whether the other rule is in another line, covers the rule, is of the same kind, and doesn't rank below the floor.
-fn stands_in(budget: &mut Budget, other: &Rule, rule: &Rule, floor: usize) -> bool
-    ensures stands_in { IsTrue result → StandsIn floor other.now.rule rule.now.rule }
+fn can_replace(budget: &mut Budget, other: &Rule, rule: &Rule, floor: usize) -> bool
+    ensures can_replace { IsTrue result → CanReplace floor other.now.rule rule.now.rule }
     ensures another { IsTrue result → other.now.line ≢ rule.now.line }
 {
     if other.line() == rule.line() {
@@ -148,20 +148,20 @@ pub(crate) fn overruling_line(budget: &mut Budget, others: &[Rule], rule: &Rule)
     None
 }
 
-/// The line of the first of the others that stands in for the rule.
+/// The line of the first of the others that can replace the rule.
 fn covering_line(budget: &mut Budget, others: &[Rule], rule: &Rule, floor: usize) -> Option<usize>
     ensures { IfSome result (λ line. (other : PlacedRule) × Contains others.now other × (other.line ≡ line)
-        × (other.line ≢ rule.now.line) × StandsIn floor other.rule rule.now.rule) }
+        × (other.line ≢ rule.now.line) × CanReplace floor other.rule rule.now.rule) }
 {
     for other in others {
-        if stands_in(budget, other, rule, floor) {
+        if can_replace(budget, other, rule, floor) {
             return Some(other.line());
         }
     }
     None
 }
 
-/// Why the rule can go, if one of these rules overrules it or stands in for it, or if it is an Allow without
+/// Why the rule can go, if one of these rules overrules it or can replace it, or if it is an Allow without
 /// rivals. From the floor on it must have no rivals.
 pub(crate) fn reason_among(
     budget: &mut Budget,
@@ -176,19 +176,19 @@ pub(crate) fn reason_among(
         → AreAmong two.now others → IsReason others rule.now reason) }
 {
     if let Some(line) = overruling_line(budget, one, rule) {
-        return Some(Reason::Overruled(line));
+        return Some(Reason::NeverDecides(line));
     }
     if let Some(line) = overruling_line(budget, two, rule) {
-        return Some(Reason::Overruled(line));
+        return Some(Reason::NeverDecides(line));
     }
     if rule.is_allow() && floor == 0 {
         return Some(Reason::AllowedAnyway);
     }
     if let Some(line) = covering_line(budget, one, rule, floor) {
-        return Some(Reason::Covered(line));
+        return Some(Reason::NotNeeded(line));
     }
     if let Some(line) = covering_line(budget, two, rule, floor) {
-        return Some(Reason::Covered(line));
+        return Some(Reason::NotNeeded(line));
     }
     None
 }
@@ -214,7 +214,7 @@ fn reason_to_go(
         return None;
     }
     if rule.matches_nothing() {
-        return Some(Reason::NoMatch);
+        return Some(Reason::MatchesNothing);
     }
     let kept_floor = rival_floor(budget, kept, rule, 0);
     let floor = rival_floor(budget, rest, rule, kept_floor);

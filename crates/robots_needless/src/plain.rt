@@ -116,7 +116,7 @@ fn plain_reason(
         return None;
     }
     if let Some(line) = overruling_allow(budget, rest, allows, rule) {
-        return Some(Reason::Overruled(line));
+        return Some(Reason::NeverDecides(line));
     }
     let floor = rival_floor(budget, starred, rule, kept.rival_floor(rule));
     reason_among(budget, kept.nearest(rule), starred, rule, floor)
@@ -199,8 +199,8 @@ fn settle_plain(
 }
 
 /// The rules that can go one after the other, without those in the lines that stay: first plain rules,
-/// then the others. There may be more: a rule is found only if one other rule covers it, and the budget
-/// bounds how many bytes are compared.
+/// then the others. There may be more: a rule that several others replace only together isn't found, and
+/// the budget bounds how many bytes are compared.
 pub(crate) fn settle(
     alloc: Global,
     budget: &mut Budget,

@@ -107,7 +107,7 @@ impl Rule {
         self.is_match(other.generic_text.as_str())
     }
 
-    /// Whether the pattern matches no text.
+    /// Whether the pattern matches no text, except perhaps `/robots.txt`.
     pub(crate) fn matches_nothing(&self) -> bool
         ensures { IsTrue result → MatchesNothing self.now.rule.0 }
     {

@@ -23,17 +23,20 @@ fn covered_rules_are_found(rt: HostRuntime) {
     check_case(
         &rt,
         b"User-agent: *\nDisallow: /a\nDisallow: /ab\n",
-        &[found(3, Reason::Covered(2))],
+        &[found(3, Reason::NotNeeded(2))],
     );
     check_case(
         &rt,
         b"User-agent: *\nDisallow: /*.pdf\nDisallow: /docs/*.pdf\n",
-        &[found(3, Reason::Covered(2))],
+        &[found(3, Reason::NotNeeded(2))],
     );
     check_case(
         &rt,
         b"User-agent: *\nDisallow: /abc\nDisallow: /ab\nDisallow: /a\n",
-        &[found(2, Reason::Covered(4)), found(3, Reason::Covered(4))],
+        &[
+            found(2, Reason::NotNeeded(4)),
+            found(3, Reason::NotNeeded(4)),
+        ],
     );
 }
 
@@ -43,19 +46,19 @@ fn rules_that_never_decide_are_found(rt: HostRuntime) {
     check_case(
         &rt,
         b"User-agent: *\nDisallow: /a\nDisallow: /a\n",
-        &[found(3, Reason::Overruled(2))],
+        &[found(3, Reason::NeverDecides(2))],
     );
     // of two rules with one pattern the Allow decides
     check_case(
         &rt,
         b"User-agent: *\nDisallow: /\nAllow: /ab\nDisallow: /ab\n",
-        &[found(4, Reason::Overruled(3))],
+        &[found(4, Reason::NeverDecides(3))],
     );
     // a longer pattern that matches the same texts
     check_case(
         &rt,
         b"User-agent: *\nDisallow: /\nAllow: /ab*\nDisallow: /ab\n",
-        &[found(4, Reason::Overruled(3))],
+        &[found(4, Reason::NeverDecides(3))],
     );
 }
 
@@ -71,7 +74,7 @@ fn rules_between_are_rivals(rt: HostRuntime) {
     check_case(
         &rt,
         b"User-agent: *\nDisallow: /\nAllow: /a\nDisallow: /bcd\n",
-        &[found(4, Reason::Covered(2))],
+        &[found(4, Reason::NotNeeded(2))],
     );
     // this one matches `/bcda`
     check_case(
@@ -86,7 +89,7 @@ fn rules_without_effect_are_found(rt: HostRuntime) {
     check_case(
         &rt,
         b"User-agent: *\nDisallow: /a$b\nDisallow: /c\n",
-        &[found(2, Reason::NoMatch)],
+        &[found(2, Reason::MatchesNothing)],
     );
     check_case(
         &rt,
@@ -112,11 +115,11 @@ fn lower_ranks_go_first(rt: HostRuntime) {
     // without the Disallow, which never decides, both Allows are needless too
     check_case(
         &rt,
-        b"User-agent: *\nDisallow: /ab\nAllow: /ab*\nAllow: /abc\nCrawl-delay: 1\n",
+        b"User-agent: *\nDisallow: /ab\nAllow: /ab*\nAllow: /abc\nDisallow: /c\n",
         &[
-            found(2, Reason::Overruled(3)),
+            found(2, Reason::NeverDecides(3)),
             found(3, Reason::AllowedAnyway),
-            found(4, Reason::Overruled(3)),
+            found(4, Reason::NeverDecides(3)),
         ],
     );
 }
@@ -133,7 +136,7 @@ fn rules_are_needless_for_every_crawler(rt: HostRuntime) {
     check_case(
         &rt,
         b"User-agent: A\nUser-agent: B\nDisallow: /b\nDisallow: /ab\n\nUser-agent: B\nDisallow: /a\n\nUser-agent: A\nDisallow: /a*\n",
-        &[found(4, Reason::Covered(7))],
+        &[found(4, Reason::NotNeeded(7))],
     );
     // what `*` has doesn't matter for A
     check_case(
@@ -145,12 +148,12 @@ fn rules_are_needless_for_every_crawler(rt: HostRuntime) {
     check_case(
         &rt,
         b"Disallow: /a\nDisallow: /ab\n",
-        &[found(2, Reason::Covered(1))],
+        &[found(2, Reason::NotNeeded(1))],
     );
 }
 
 #[test]
-fn a_block_keeps_a_line(rt: HostRuntime) {
+fn a_block_keeps_a_rule(rt: HostRuntime) {
     // without its only rule, A would get the rules of B
     check_case(
         &rt,
@@ -162,10 +165,15 @@ fn a_block_keeps_a_line(rt: HostRuntime) {
         b"User-agent: A\nAllow: /a\nAllow: /b\n\nUser-agent: B\nDisallow: /\n",
         &[found(2, Reason::AllowedAnyway)],
     );
-    // a delay is a group line too
+    // crawlers that ignore delays would give A the rules of B
+    check_case(
+        &rt,
+        b"User-agent: A\nCrawl-delay: 1\nAllow: /a\n\nUser-agent: B\nDisallow: /\n",
+        NONE,
+    );
     check_case(
         &rt,
         b"User-agent: A\nAllow: /a\nCrawl-delay: 1\n\nUser-agent: B\nDisallow: /\n",
-        &[found(2, Reason::AllowedAnyway)],
+        NONE,
     );
 }
