@@ -8,7 +8,7 @@ use Rattle.std.proofs.lemmas.Bool.{cases_Bool}
 use Rattle.std.proofs.lemmas.List.{append-nil}
 use Rattle.std.proofs.lemmas.Slice.Eq.{bytes_eq-Decides}
 use Rattle.texting_robots.specs.Callers.{UserAgent}
-use Rattle.audit_core.specs.Audit.{is_among}
+use Rattle.texting_robots.specs.Agents.{is_among}
 use Rattle.robots_warnings.specs.Internal.Names.{AddsName, Key}
 use Rattle.audit_core.specs.Internal.Agents.{AddsAgent, HasAgents, has_lowered}
 use Rattle.robots_warnings.proofs.NameLemmas.{any_last}

@@ -1,11 +1,11 @@
 -- The audit of a file: its lines, what applies to each requested crawler, and the warnings.
-use Rattle.std.specs.Prelude.{◌≡◌, ℕ, Bool, false, List, [], ◌∷◌, ◌++◌, Option, Some, None, bytes_eq, codes}
+use Rattle.std.specs.Prelude.{◌≡◌, ℕ, Bool, false, List, [], ◌∷◌, ◌++◌, Option, Some, None, codes}
 use Rattle.std.specs.Prelude.{count_by, filter, is_none, is_some, map, not, sum_by, if◌then◌else◌}
 use Rattle.std.specs.List.{AllZip, list_all, list_any}
-use Rattle.std.specs.Str.{is_utf8, str_to_ascii_lowercase}
+use Rattle.std.specs.Str.{is_utf8}
 use Rattle.texting_robots.specs.Callers.{IsFirstOverlong, IsRejected, LineValue, Label, PlacedRule, UserAgent}
 use Rattle.texting_robots.specs.Callers.{delay_for, is_named, lines_read, placed_rules}
-use Rattle.texting_robots.specs.Group.{is_agent}
+use Rattle.texting_robots.specs.{Agents.is_among, Group.is_agent}
 use Rattle.texting_robots.specs.declared.decision.Decision.{Decision}
 use Rattle.robots_io.specs.Verdicts.{IsDecisionOn}
 use Rattle.audit_core.specs.declared.group.Group.{Group}
@@ -23,11 +23,6 @@ use Rattle.audit_core.specs.Request.{RequestValue}
 
 -- ---- the crawlers of a report
 
--- the name is in the list, compared without regard to the case of ASCII letters
-abbrev pub is_among : List ℕ → List (List ℕ) → Bool
-is_among name names =
-    list_any (λ other. bytes_eq (str_to_ascii_lowercase other) (str_to_ascii_lowercase name)) names
-
 -- the list, with the name of a user-agent line appended if it is new; a name that isn't UTF-8 is left out,
 -- as a crawler's name is a string
 abbrev pub with_name : List (List ℕ) → LineValue → List (List ℕ)
@@ -40,12 +35,12 @@ with_names names [] = names
 with_names names (line ∷ lines) = with_names (with_name names line) lines
 
 -- `*`, and then each crawler that the lines name, once, in the order of the lines
-abbrev pub agents_in : List LineValue → List (List ℕ)
-agents_in lines = with_names (codes "*" ∷ []) lines
+abbrev pub crawlers_in : List LineValue → List (List ℕ)
+crawlers_in lines = with_names (codes "*" ∷ []) lines
 
 -- the crawlers that are given, or if none is, those that the lines name
 abbrev pub agents_requested : List (List ℕ) → List LineValue → List (List ℕ)
-agents_requested [] lines = agents_in lines
+agents_requested [] lines = crawlers_in lines
 agents_requested (agent ∷ agents) lines = agent ∷ agents
 
 -- ---- what a file means for a crawler

@@ -2,7 +2,7 @@
 ghost use Rattle.std.specs.Prelude.{◌≡◌, ◌++◌, ◌∷◌, [], IfOk, MatchOption, OnOk, false, if◌then◌else◌, true, map, string_bytes};
 ghost use Rattle.std.specs.Str.{is_utf8};
 ghost use Rattle.texting_robots.specs.Callers.{by_value, label_by_value};
-ghost use Rattle.audit_core.specs.Audit.{agents_requested, agents_in};
+ghost use Rattle.audit_core.specs.Audit.{agents_requested, crawlers_in};
 ghost use Rattle.robots_warnings.specs.File.{lines_of};
 ghost use Rattle.audit_core.specs.Internal.Agents.{AddsAgent};
 
@@ -23,12 +23,12 @@ pub fn as_text<'a>(bytes: &'a [u8]) -> Option<&'a str>
     }
 }
 
-/// Appends the name to the list if `cause` is true.
-fn add_if(alloc: Global, names: &mut Vec<String>, cause: bool, name: &str) -> Result<(), AllocError>
+/// Appends the name to the list if `holds` is true.
+fn add_if(alloc: Global, names: &mut Vec<String>, holds: bool, name: &str) -> Result<(), AllocError>
     ensures { OnOk result (map string_bytes names.new.items
-        ≡ map string_bytes names.old.items ++ (if cause then name.now ∷ [] else [])) }
+        ≡ map string_bytes names.old.items ++ (if holds then name.now ∷ [] else [])) }
 {
-    if cause {
+    if holds {
         names.push(String::from_str(alloc, name)?)?;
     }
     Ok(())
@@ -66,9 +66,9 @@ fn list_of(alloc: Global, given: &[&str]) -> Result<Vec<String>, AllocError>
 }
 
 /// `*`, and then each crawler that the lines name, once, in the order of the lines.
-fn agents_in(alloc: Global, labels: &[LabeledLine<'_>]) -> Result<Vec<String>, AllocError>
+fn crawlers_in(alloc: Global, labels: &[LabeledLine<'_>]) -> Result<Vec<String>, AllocError>
     ensures { IfOk result (λ names. map string_bytes names.items
-        ≡ agents_in (lines_of (map label_by_value labels.now))) }
+        ≡ crawlers_in (lines_of (map label_by_value labels.now))) }
 {
     let mut met = BTreeSet::new(alloc);
     add_name(alloc, &mut met, b"*")?;
@@ -89,7 +89,7 @@ pub fn agents_requested(
         ≡ agents_requested (map (λ name. name.now) given.now) (lines_of (map label_by_value labels.now))) }
 {
     if given.is_empty() {
-        agents_in(alloc, labels)
+        crawlers_in(alloc, labels)
     } else {
         list_of(alloc, given)
     }

@@ -59,8 +59,8 @@ pub enum Fault {
     UnknownWarning(String),
     /// The file with this name, which is sanitized, can't be opened or read.
     File(String),
-    /// The line that this text names is malformed: a file's sanitized name, and a number. Or this is the sanitized name
-    /// of a crawler that has no such name.
+    /// The line that this text names, a file's sanitized name and a number, is malformed. Or the text is a sanitized name
+    /// that no crawler has.
     Malformed(String, Flaw),
     /// The file with this name, which is sanitized, has none of these entries.
     Empty(String, Entry),

@@ -17,10 +17,10 @@ fn cause_of(reason: Reason) -> Cause
     ensures { result ≡ cause_of reason }
 {
     match reason {
-        Reason::NoMatch => Cause::MatchesNothing,
+        Reason::MatchesNothing => Cause::MatchesNothing,
         Reason::AllowedAnyway => Cause::AllowedAnyway,
-        Reason::Overruled(_) => Cause::NeverDecides,
-        Reason::Covered(_) => Cause::NotNeeded,
+        Reason::NeverDecides(_) => Cause::NeverDecides,
+        Reason::NotNeeded(_) => Cause::NotNeeded,
     }
 }
 
@@ -29,8 +29,8 @@ fn detail_of(reason: Reason) -> Option<Detail>
     ensures { result ≡ detail_of reason }
 {
     match reason {
-        Reason::NoMatch | Reason::AllowedAnyway => None,
-        Reason::Overruled(line) | Reason::Covered(line) => Some(Detail::Line(line)),
+        Reason::MatchesNothing | Reason::AllowedAnyway => None,
+        Reason::NeverDecides(line) | Reason::NotNeeded(line) => Some(Detail::Line(line)),
     }
 }
 

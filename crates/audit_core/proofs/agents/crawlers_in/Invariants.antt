@@ -1,14 +1,14 @@
 use Rattle.std.proofs.Common.{◌≡◌, drop, map, string_bytes}
 use Rattle.texting_robots.specs.Callers.{label_by_value}
-use Rattle.audit_core.specs.Audit.{agents_in, with_names}
+use Rattle.audit_core.specs.Audit.{crawlers_in, with_names}
 use Rattle.robots_warnings.specs.File.{lines_of}
 use Rattle.audit_core.specs.Internal.Agents.{HasAgents}
-use Rattle.audit_core.proofs.agents.agents_in.Given as goal
+use Rattle.audit_core.proofs.agents.crawlers_in.Given as goal
 
 abbrev pub invariant-loop-labeled : goal.invariant-loop-labeled
 invariant-loop-labeled l = record {
   met : HasAgents l.met (map string_bytes l.names.items);
   names : with_names (map string_bytes l.names.items)
       (lines_of (map label_by_value (drop l.labeled-index l.labels)))
-      ≡ agents_in (lines_of (map label_by_value l.labels));
+      ≡ crawlers_in (lines_of (map label_by_value l.labels));
 }
