@@ -26,10 +26,10 @@
  * an absolute URL (https://example.com/a?b) or a path (/a?b). Any other text, as example.com/a, isn't an error: it is escaped and
  * compared with the rules, usually matches none, and then may be fetched. Check URLs before you query them.
  *
- * STATUS. Each call returns 0 (ROBOTS_OK) or a negative status; robots_site_is_named returns 1 too. Where the status isn't 0, nothing is
- * written, except where the call's comment says so, and nothing stays allocated. If two errors apply, either may be the status.
- * ROBOTS_OUT_OF_MEMORY can replace every other status, but not for text that isn't UTF-8, and not from a call that is documented not to
- * allocate.
+ * STATUS. Each call that returns int32_t returns 0 (ROBOTS_OK) or a negative status; robots_site_is_named returns 1 too. Where the status
+ * isn't 0, nothing is written, except where the call's comment says so, and nothing stays allocated. If two errors apply, either may be the
+ * status. ROBOTS_OUT_OF_MEMORY can replace every other status, but not for text that isn't UTF-8, and not from a call that is documented
+ * not to allocate.
  *
  * RESULT. The result for a URL is a number: 0 if the crawler may fetch it and no line decides, n if line n of the file allows it, and -n if
  * line n denies it. Lines count from 1. Don't write `if (result)`: use robots_may_fetch(result) and robots_line(result).
@@ -77,7 +77,7 @@ extern "C" {
 enum robots_status {
     ROBOTS_OK = 0,
     ROBOTS_NOT_UTF8 = -1,         /* the agent or a URL isn't UTF-8 */
-    ROBOTS_OUT_OF_MEMORY = -2,    /* an allocation failed, or a URL has 4 GiB or more; the call may be repeated */
+    ROBOTS_OUT_OF_MEMORY = -2,    /* an allocation failed, or a URL, escaped, has 4 GiB or more; the call may be repeated */
     ROBOTS_BUFFER_TOO_SMALL = -3, /* the results don't fit into the buffer */
     ROBOTS_NO_DELAY = -4,         /* the file has no delay for this crawler */
     ROBOTS_NO_ADDRESS = -5,       /* the text isn't a URL of http or https with a host */
@@ -134,9 +134,9 @@ ROBOTS_CHECK int32_t robots_matrix(const char *agents, size_t agents_len, const 
 /* robots_query_delay without a robot. No rule of the file matters, so it never returns ROBOTS_OVERLONG_RULE. */
 ROBOTS_CHECK int32_t robots_delay(const char *agent, size_t agent_len, const void *file, size_t file_len, uint64_t *microseconds);
 
-/* Writes the sitemaps, which are the same for every crawler, each with '\n' at its end, and their length in bytes to *len. At
- * ROBOTS_BUFFER_TOO_SMALL *len is the length that is needed: call with (NULL, 0, &len) to get it. A buffer of file_len bytes is
- * always large enough. No rule of the file matters. */
+/* Writes the sitemaps, which are the same for every crawler, each with '\n' at its end, and their length in bytes to *len. Empty ones are
+ * among them, those that aren't UTF-8 aren't. At ROBOTS_BUFFER_TOO_SMALL *len is the length that is needed: call with (NULL, 0, &len) to
+ * get it. A buffer of file_len bytes is always large enough. No rule of the file matters. */
 ROBOTS_CHECK int32_t robots_sitemaps(const void *file, size_t file_len, char *out, size_t out_len, size_t *len);
 
 /* Writes the names in the file's user-agent lines, as robots_sitemaps writes sitemaps: in the file's order, `*` like any other, and of
