@@ -9,10 +9,9 @@ use Rattle.texting_robots.specs.declared.labels.LabeledLine.{LabeledLine}
 use Rattle.texting_robots.specs.Callers.{Allow, Disallow, Label, LineValue, by_value, label_by_value}
 use Rattle.robots_warnings.specs.declared.repeated.Met.{Met}
 use Rattle.robots_warnings.specs.declared.values.Value.{Value}
-use Rattle.robots_warnings.specs.Checks.{is_in_scope_of}
 use Rattle.robots_warnings.specs.Internal.Repeated.{HasMet, IsFoundUpto, MeetsLine}
 use Rattle.robots_warnings.specs.Internal.Values.{HasValues, MeetsValue, Values, value_eq}
-use Rattle.robots_warnings.specs.Repeated.{above_next, repeated_from}
+use Rattle.robots_warnings.specs.Repeated.{above_next, is_checked, repeated_from}
 use Rattle.robots_warnings.specs.Spellings.{is_rule_with}
 use Rattle.robots_warnings.proofs.NameLemmas.{any_last, either}
 
@@ -82,13 +81,13 @@ met_other met line none above has = record {
 pub found_more : (everywhere : Bool) {met new_met : Met} {found new : List ℕ} {label : Label}
     {left all : List Label} {is : Bool}
     → IsFoundUpto everywhere met found (label ∷ left) all → MeetsLine met new_met label.line is
-    → new ≡ found ++ (if is_in_scope_of everywhere label.membership && is then label.number ∷ [] else [])
+    → new ≡ found ++ (if is_checked everywhere label.membership && is then label.number ∷ [] else [])
     → IsFoundUpto everywhere new_met new left all
 found_more everywhere {found} {label} {left} {is} upto meets added =
     let above = upto.above in
     let rest = repeated_from everywhere (above_next above label.line) left in
     let one : Bool → List ℕ = λ is.
-    if is_in_scope_of everywhere label.membership && is then label.number ∷ [] else [] in
+    if is_checked everywhere label.membership && is then label.number ∷ [] else [] in
     record {
       above = above_next above label.line;
       has = meets.has above upto.has;
@@ -101,7 +100,7 @@ pub found_next : (everywhere : Bool) {met new_met : Met} {found new : List ℕ} 
     (at : ℕ) (labeled : LabeledLine) {all : List Label} {is : Bool} → at < length labels
     → IsFoundUpto everywhere met found (map label_by_value (drop at labels)) all
     → MeetsLine met new_met (by_value (slice_index_or labels at labeled).line) is
-    → new ≡ found ++ (if is_in_scope_of everywhere (slice_index_or labels at labeled).membership && is
+    → new ≡ found ++ (if is_checked everywhere (slice_index_or labels at labeled).membership && is
     then (slice_index_or labels at labeled).number ∷ [] else [])
     → IsFoundUpto everywhere new_met new (map label_by_value (drop (at + 1) labels)) all
 found_next everywhere labels at labeled below upto meets added =

@@ -1,9 +1,11 @@
 -- Rules that repeat a rule above them in their group.
-use Rattle.std.specs.Prelude.{ℕ, Bool, true, false, ◌&&◌, List, [], ◌∷◌, ◌++◌, if◌then◌else◌}
+use Rattle.std.specs.Prelude.{ℕ, Bool, true, false, not, ◌&&◌, List, [], ◌∷◌, ◌++◌, if◌then◌else◌}
 use Rattle.std.specs.List.{list_any}
 use Rattle.texting_robots.specs.Callers.{Allow, Disallow, LineValue, Label}
+use Rattle.texting_robots.specs.declared.labels.Membership.{Membership}
 use Rattle.texting_robots.specs.Group.{is_agent}
 use Rattle.robots_warnings.specs.Checks.{is_in_scope_of}
+use Rattle.robots_warnings.specs.Positions.{is_outside}
 use Rattle.robots_warnings.specs.Spellings.{is_rule_with}
 
 -- the line is a rule, and one of the lines above it in its group is a rule of the same kind with the same
@@ -17,12 +19,16 @@ is_repeated above _ = false
 abbrev pub above_next : List LineValue → LineValue → List LineValue
 above_next above line = if is_agent line then [] else above ++ line ∷ []
 
--- the numbers of such rules that are checked, among these lines; `above` are the lines of their group above
--- them
+-- a rule with this membership is checked and belongs to a group
+abbrev pub is_checked : Bool → Membership → Bool
+is_checked everywhere membership = is_in_scope_of everywhere membership && not (is_outside membership)
+
+-- the numbers of such rules that are checked and belong to a group, among these lines; `above` are the lines
+-- of their group above them
 abbrev pub repeated_from : Bool → List LineValue → List Label → List ℕ
 repeated_from everywhere above [] = []
 repeated_from everywhere above (label ∷ labels) =
-    (if is_in_scope_of everywhere label.membership && is_repeated above label.line
+    (if is_checked everywhere label.membership && is_repeated above label.line
     then label.number ∷ [] else [])
     ++ repeated_from everywhere (above_next above label.line) labels
 

@@ -1,10 +1,9 @@
 //! Rules that repeat a rule above them in their group.
-ghost use Rattle.std.specs.Prelude.{◌≡◌, ◌&&◌, IfOk, [], map};
+ghost use Rattle.std.specs.Prelude.{◌≡◌, IfOk, [], map};
 ghost use Rattle.texting_robots.specs.Callers.{by_value, label_by_value};
-ghost use Rattle.robots_warnings.specs.Checks.{is_in_scope_of};
 ghost use Rattle.robots_warnings.specs.Internal.Repeated.{HasMet, MeetsLine};
 ghost use Rattle.robots_warnings.specs.Internal.Values.{MeetsValue};
-ghost use Rattle.robots_warnings.specs.Repeated.{repeated};
+ghost use Rattle.robots_warnings.specs.Repeated.{is_checked, repeated};
 
 use crate::checks::is_in_scope_of;
 use crate::names_past_limit::add;
@@ -53,14 +52,14 @@ fn meet_line<'a>(alloc: Global, met: &mut Met<'a>, line: Line<'a>) -> Result<boo
     }
 }
 
-/// Whether a rule with this membership is checked, and `is` is true.
-fn is_checked(everywhere: bool, membership: Membership, is: bool) -> bool
-    ensures { result ≡ (is_in_scope_of everywhere membership && is) }
+/// Whether a rule with this membership is checked and belongs to a group.
+fn is_checked(everywhere: bool, membership: Membership) -> bool
+    ensures { result ≡ is_checked everywhere membership }
 {
-    is_in_scope_of(everywhere, membership) && is
+    is_in_scope_of(everywhere, membership) && membership != Membership::Ungrouped
 }
 
-/// The numbers of the rules that are checked and repeat a rule above them in their group.
+/// The numbers of the rules that are checked, belong to a group, and repeat a rule above them in it.
 #[tactic(auto, using(crate::proofs::RepeatedLemmas::found_next))]
 pub(crate) fn repeated(
     alloc: Global,
@@ -72,9 +71,9 @@ pub(crate) fn repeated(
     let mut met = nothing(alloc);
     let mut found = Vec::new(alloc);
     for labeled in labels {
-        let is = meet_line(alloc, &mut met, labeled.line)?;
-        let repeats = is_checked(everywhere, labeled.membership, is);
-        add(&mut found, repeats, labeled.number)?;
+        let repeats = meet_line(alloc, &mut met, labeled.line)?;
+        let is = is_checked(everywhere, labeled.membership) && repeats;
+        add(&mut found, is, labeled.number)?;
     }
     Ok(found)
 }
