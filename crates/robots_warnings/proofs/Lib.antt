@@ -4,6 +4,7 @@ pub mod FactLemmas
 pub mod FileLemmas
 pub mod NameLemmas
 pub mod NamesPastLimitLemmas
+pub mod NumberLemmas
 pub mod PositionLemmas
 pub mod PlainLemmas
 pub mod PlainLineLemmas

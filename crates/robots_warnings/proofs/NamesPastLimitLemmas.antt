@@ -1,5 +1,5 @@
 -- How names past the size limit are found.
-use Rattle.std.proofs.Common.{◌≡◌, ℕ, ◌+◌, ◌<◌, Bool, cond, false, refl, true, List, [], ◌∷◌, ◌++◌, ap}
+use Rattle.std.proofs.Common.{◌≡◌, ℕ, ◌+◌, ◌<◌, Bool, List, [], ◌∷◌, ◌++◌, ap}
 use Rattle.std.proofs.Common.{append_assoc, filter, if◌then◌else◌, length, map, slice_index_or, sym, take}
 use Rattle.std.proofs.Common.{◌∙◌}
 use Rattle.std.specs.BTreeSet.{BTreeSet}
@@ -11,13 +11,7 @@ use Rattle.texting_robots.specs.Callers.{LineValue, by_value, file_lines, label_
 use Rattle.robots_warnings.specs.File.{lines_of}
 use Rattle.robots_warnings.specs.NamesPastLimit.{is_past_limit}
 use Rattle.robots_warnings.specs.Internal.Names.{HasNames, IsFoundUpto, Key, MeetsLine, past_limit_from}
-
--- the numbers of one item more, if it is taken
-pub picked : {X : Type 0} (number : X → ℕ) (cause : Bool) (x : X) (xs : List X)
-    → map number (cond cause (x ∷ xs) xs)
-    ≡ (if cause then number x ∷ [] else []) ++ map number xs
-picked number true x xs = refl
-picked number false x xs = refl
+use Rattle.robots_warnings.proofs.NumberLemmas.{picked}
 
 -- loop step: the set has the names of one more line within the size limit
 pub read_more : (labels : List LabeledLine) (at : ℕ) (labeled : LabeledLine) {old new : BTreeSet Key}

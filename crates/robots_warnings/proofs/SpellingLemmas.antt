@@ -22,7 +22,7 @@ use Rattle.robots_warnings.specs.Internal.Spellings.{AddsValue, HasValues, has_o
 use Rattle.robots_warnings.specs.Spellings.{is_agent_line, is_escape, is_unpaired_at, is_unpaired_line}
 use Rattle.robots_warnings.specs.Spellings.{standard_escape, standard_spelling}
 use Rattle.robots_warnings.proofs.NameLemmas.{either}
-use Rattle.robots_warnings.proofs.NamesPastLimitLemmas.{picked}
+use Rattle.robots_warnings.proofs.NumberLemmas.{picked}
 
 -- ---- the standard spelling
 

@@ -10,7 +10,7 @@ ghost use Rattle.texting_robots.specs.Internal.Site.{rule_of, tag_of};
 ghost use Rattle.robots_warnings.specs.Closed.{is_closed, is_closed_for, is_closing, is_opening, is_whole_site};
 ghost use Rattle.robots_warnings.specs.Internal.Closed.{is_shut};
 
-use crate::conflicts::{Numbers, add_number};
+use crate::numbers::{Numbers, insert_if};
 use crate::rules::is_utf8;
 use std::alloc::{AllocError, Global};
 use std::collections::BTreeSet;
@@ -80,7 +80,7 @@ fn add_closed(numbers: &mut Numbers, site: &Site, agent: &str) -> Result<(), All
     }
     for line in site.own_lines(agent) {
         let is = is_closing(&line);
-        add_number(numbers, is, line.number)?;
+        insert_if(numbers, is, line.number)?;
     }
     Ok(())
 }

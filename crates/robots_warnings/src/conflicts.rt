@@ -1,5 +1,5 @@
 //! Rules that are both allowed and disallowed.
-ghost use Rattle.std.specs.Prelude.{◌≡◌, ◌==◌, ◌&&◌, ◌||◌, ℕ, IfOk, None, OnOk, Some, if◌then◌else◌, map, option_map, string_bytes};
+ghost use Rattle.std.specs.Prelude.{◌≡◌, ◌==◌, ◌||◌, ℕ, IfOk, None, OnOk, Some, if◌then◌else◌, map, option_map, string_bytes};
 ghost use Rattle.std.specs.BTreeSet.{contains};
 ghost use Rattle.std.specs.Ordering.{nat_cmp};
 ghost use Rattle.std.specs.Str.{is_utf8};
@@ -8,6 +8,7 @@ ghost use Rattle.texting_robots.specs.Internal.Site.{rule_of, tag_of};
 ghost use Rattle.robots_warnings.specs.Conflicts.{compared, is_conflict, is_conflict_for};
 ghost use Rattle.robots_warnings.specs.Internal.Conflicts.{AddsAllowed, HasAllowed, is_allowed_too};
 
+use crate::numbers::{Numbers, insert_if};
 use crate::rules::is_utf8;
 use std::alloc::{AllocError, Global};
 use std::collections::{BTreeSet, HashSet};
@@ -16,8 +17,6 @@ use texting_robots::push_escaped_bytes;
 use texting_robots::site::{GroupLine, Site};
 
 pub(crate) type Patterns = HashSet<String>;
-
-pub(crate) type Numbers = BTreeSet<usize>;
 
 /// The pattern of a rule with this value, if it is UTF-8.
 pub(crate) fn pattern_of(alloc: Global, value: &[u8]) -> Result<Option<String>, AllocError>
@@ -88,21 +87,6 @@ fn is_allowed_too(
     }
 }
 
-/// Inserts the number if `cause` is true.
-pub(crate) fn add_number(
-    numbers: &mut Numbers,
-    cause: bool,
-    number: usize,
-) -> Result<(), AllocError>
-    ensures { OnOk result ((other : ℕ) → contains nat_cmp numbers.new other
-        ≡ (contains nat_cmp numbers.old other || (cause && number == other))) }
-{
-    if cause {
-        numbers.insert(number)?;
-    }
-    Ok(())
-}
-
 /// Inserts the line numbers of the Disallows that apply to the crawler, as does an Allow with the same pattern.
 fn add_conflicts(
     alloc: Global,
@@ -119,7 +103,7 @@ fn add_conflicts(
     }
     for line in site.own_lines(agent) {
         let is = is_allowed_too(alloc, &allowed, &line)?;
-        add_number(numbers, is, line.number)?;
+        insert_if(numbers, is, line.number)?;
     }
     Ok(())
 }

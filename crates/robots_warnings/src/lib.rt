@@ -14,6 +14,7 @@ pub mod google;
 pub mod level;
 pub mod names;
 mod names_past_limit;
+mod numbers;
 mod plain;
 pub mod positions;
 mod repeated;

@@ -1,11 +1,12 @@
 //! Crawlers that a file names only past the size limit.
-ghost use Rattle.std.specs.Prelude.{◌≡◌, ◌++◌, ◌∷◌, [], IfOk, OnOk, if◌then◌else◌, map};
+ghost use Rattle.std.specs.Prelude.{◌≡◌, IfOk, map};
 ghost use Rattle.texting_robots.specs.Callers.{by_value, label_by_value};
 ghost use Rattle.robots_warnings.specs.File.{lines_of};
 ghost use Rattle.robots_warnings.specs.NamesPastLimit.{names_past_limit};
 ghost use Rattle.robots_warnings.specs.Internal.Names.{HasNames, MeetsLine};
 
 use crate::names::{Names, add_name};
+use crate::numbers::push_if;
 use std::alloc::{AllocError, Global};
 use std::collections::BTreeSet;
 use texting_robots::labels::LabeledLine;
@@ -33,16 +34,6 @@ fn names_read(alloc: Global, labels: &[LabeledLine<'_>]) -> Result<Names, AllocE
     Ok(met)
 }
 
-/// Appends the number if `cause` is true.
-pub(crate) fn add(found: &mut Vec<usize>, cause: bool, number: usize) -> Result<(), AllocError>
-    ensures { OnOk result (found.new.items ≡ found.old.items ++ (if cause then number ∷ [] else [])) }
-{
-    if cause {
-        found.push(number)?;
-    }
-    Ok(())
-}
-
 /// The numbers of the user-agent lines that are the first in the file to have their name, and whose name isn't in
 /// `labels`, the lines within the size limit.
 pub(crate) fn names_past_limit(
@@ -55,7 +46,7 @@ pub(crate) fn names_past_limit(
     let mut met = names_read(alloc, labels)?;
     let mut found = Vec::new(alloc);
     for (index, line) in file_lines(file).enumerate() {
-        add(&mut found, insert_name(alloc, &mut met, line)?, index + 1)?;
+        push_if(&mut found, insert_name(alloc, &mut met, line)?, index + 1)?;
     }
     Ok(found)
 }

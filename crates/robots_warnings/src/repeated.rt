@@ -6,7 +6,7 @@ ghost use Rattle.robots_warnings.specs.Internal.Values.{MeetsValue};
 ghost use Rattle.robots_warnings.specs.Repeated.{is_checked, repeated};
 
 use crate::checks::is_in_scope_of;
-use crate::names_past_limit::add;
+use crate::numbers::push_if;
 use crate::values::{Value, Values};
 use std::alloc::{AllocError, Global};
 use std::collections::HashSet;
@@ -73,7 +73,7 @@ pub(crate) fn repeated(
     for labeled in labels {
         let repeats = meet_line(alloc, &mut met, labeled.line)?;
         let is = is_checked(everywhere, labeled.membership) && repeats;
-        add(&mut found, is, labeled.number)?;
+        push_if(&mut found, is, labeled.number)?;
     }
     Ok(found)
 }

@@ -15,7 +15,7 @@ ghost use Rattle.robots_warnings.specs.Replaced.{star_count, star_rules};
 use crate::closed::is_whole_site;
 use crate::conflicts::{Patterns, pattern_of};
 use crate::names::{Names, add_name};
-use crate::names_past_limit::add;
+use crate::numbers::push_if;
 use crate::positions::{Preceding, name_star, preceding_with};
 use crate::rules::is_utf8;
 use std::alloc::{AllocError, Global};
@@ -269,7 +269,7 @@ pub(crate) fn replacing(
     let mut rest = labels;
     while let [labeled, after @ ..] = rest {
         let is = is_replacing(alloc, &names, preceding, labeled.line, rest)?;
-        add(&mut found, is, labeled.number)?;
+        push_if(&mut found, is, labeled.number)?;
         preceding = preceding_with(preceding, labeled.line);
         rest = after;
     }

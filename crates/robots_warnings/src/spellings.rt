@@ -9,7 +9,7 @@ ghost use Rattle.robots_warnings.specs.Spellings.{is_agent_line, is_escape, is_u
 ghost use Rattle.robots_warnings.specs.Spellings.{standard_escape, standard_spelling, unpaired_in};
 
 use crate::checks::is_in_scope_of;
-use crate::names_past_limit::add;
+use crate::numbers::push_if;
 use crate::rules::{has_odd_escape, hex_value, needs_no_escape};
 use std::alloc::{AllocError, Global};
 use std::collections::BTreeSet;
@@ -174,7 +174,7 @@ fn add_unpaired(
     let disallows = values_of(alloc, false, group)?;
     for labeled in group {
         let is = is_unpaired_at(alloc, everywhere, &allows, &disallows, labeled)?;
-        add(found, is, labeled.number)?;
+        push_if(found, is, labeled.number)?;
     }
     Ok(())
 }

@@ -21,5 +21,5 @@ loop-index-init c =
 pub loop-index-preserved : goal.loop-index-preserved
 loop-index-preserved c =
     let (next, here, further, _) = c.in-Some.ensures.steps in
-    let added = rw here at c.in_ok-add.ensures in
+    let added = rw here at c.in_ok-push_if.ensures in
     rw further (found_more (rw next at c.loop-index.invariant) c.in_ok-insert_name.ensures added)

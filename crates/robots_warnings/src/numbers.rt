@@ -1,0 +1,31 @@
+//! Line numbers, collected from the lines for which a condition holds.
+ghost use Rattle.std.specs.Prelude.{◌≡◌, ◌==◌, ◌&&◌, ◌||◌, ◌++◌, ◌∷◌, [], ℕ, OnOk, if◌then◌else◌};
+ghost use Rattle.std.specs.BTreeSet.{contains};
+ghost use Rattle.std.specs.Ordering.{nat_cmp};
+
+use std::alloc::AllocError;
+use std::collections::BTreeSet;
+
+/// A set of line numbers.
+pub(crate) type Numbers = BTreeSet<usize>;
+
+/// Inserts the number if `holds` is true.
+pub(crate) fn insert_if(numbers: &mut Numbers, holds: bool, number: usize) -> Result<(), AllocError>
+    ensures { OnOk result ((other : ℕ) → contains nat_cmp numbers.new other
+        ≡ (contains nat_cmp numbers.old other || (holds && number == other))) }
+{
+    if holds {
+        numbers.insert(number)?;
+    }
+    Ok(())
+}
+
+/// Appends the number if `holds` is true.
+pub(crate) fn push_if(found: &mut Vec<usize>, holds: bool, number: usize) -> Result<(), AllocError>
+    ensures { OnOk result (found.new.items ≡ found.old.items ++ (if holds then number ∷ [] else [])) }
+{
+    if holds {
+        found.push(number)?;
+    }
+    Ok(())
+}
