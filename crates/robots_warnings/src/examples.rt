@@ -8,7 +8,7 @@ use crate::table::Cause;
 /// For each warning, in the order of [`crate::table::WARNINGS`], a file that triggers it for FerrisBot, or with
 /// the arguments in its first line, or a command. In a file, `\xFF` is a byte, and `\{512000 a}` is 512,000 times an `a`.
 #[rattlefmt::skip]
-pub static EXAMPLES: [(Cause, &str); 68] = [
+pub(crate) static EXAMPLES: [(Cause, &str); 68] = [
     // the file
     (Cause::LooksLikeHtml, "<html>\n</html>"),
     (Cause::LooksLikeUtf16, "\\xFF\\xFED\\x00"),

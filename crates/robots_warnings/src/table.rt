@@ -256,7 +256,7 @@ pub static WARNINGS: [(Cause, Level, &str, &str); 68] = [
 /// The warnings that aren't about the syntax of a file, but about the request, the size of the file, or what a file of
 /// the standard's grammar means. All others are about syntax, notes included.
 #[rattlefmt::skip]
-pub static NOT_ABOUT_SYNTAX: [Cause; 31] = [
+pub(crate) static NOT_ABOUT_SYNTAX: [Cause; 31] = [
     // the request
     Cause::EmptyAgent,
     Cause::SpaceAroundAgent,

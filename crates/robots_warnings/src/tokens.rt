@@ -129,7 +129,7 @@ fn is_usual_name(value: &[u8]) -> bool
 }
 
 /// Whether the value of a user-agent line is neither a product token nor such a name.
-pub fn is_invalid_name(value: &[u8]) -> bool
+pub(crate) fn is_invalid_name(value: &[u8]) -> bool
     ensures { result ≡ is_invalid_name value.now }
 {
     !is_product_token(value) && !is_usual_name(value)
