@@ -49,7 +49,7 @@ agent_added {old_met} {new_met} {old} {new} {name} {is_new} utf8 adds added =
     λ has.
     let is : is_new ≡ not (is_among name old) =
     adds.new_if ∙ ap not (has.each adds.lowered)
-    ∙ ap (λ (lowered : List ℕ). not (has_lowered lowered old)) adds.spells in
+    ∙ ap (λ (lowered : List ℕ). not (has_lowered lowered old)) adds.in_lower_case in
     added ∙ ap (λ is. old ++ (if is then name ∷ [] else [])) is ∙ kept old name (is_among name old) in
     record {
       names = λ has. rw utf8 (grown has);

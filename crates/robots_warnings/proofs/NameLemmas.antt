@@ -22,16 +22,16 @@ either false false = refl
 pub name_added : (old new : BTreeSet Key) (lowered : Key) (name : List ℕ) (is_new : Bool)
     → lowered.items ≡ str_to_ascii_lowercase name → is_new ≡ not (contains key_cmp old lowered)
     → Updates key_cmp old new lowered true → AddsName old new name is_new
-name_added old new lowered name is_new spells is updates = record {
+name_added old new lowered name is_new in_lower_case is updates = record {
   lowered = lowered;
-  spells = spells;
+  in_lower_case = in_lower_case;
   new_if = is;
   each = λ key.
       let has : Bool = contains key_cmp old key in
       updates.0 key
       ∙ ap (λ (t : Bool). cond t true has) (is_eq-slice_cmp lowered.items key.items)
       ∙ either has (bytes_eq lowered.items key.items)
-      ∙ ap (λ (items : List ℕ). has || bytes_eq items key.items) spells;
+      ∙ ap (λ (items : List ℕ). has || bytes_eq items key.items) in_lower_case;
 }
 
 -- whether a test holds for one of the first names, in terms of the last of these

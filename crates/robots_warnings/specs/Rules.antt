@@ -52,13 +52,13 @@ holds_otherwise in_query (b ∷ value) =
 -- ---- quotes
 
 -- the byte is both the first and the last of at least two bytes
-abbrev pub stands_around : ℕ → List ℕ → Bool
-stands_around b value =
+abbrev pub begins_and_ends_with : ℕ → List ℕ → Bool
+begins_and_ends_with b value =
     nat_lt 1 (length value)
     && (slice_index value 0 == b && slice_index value (length value - 1) == b)
 
 abbrev pub is_quoted : List ℕ → Bool
-is_quoted value = stands_around (byte "\"") value || stands_around (byte "'") value
+is_quoted value = begins_and_ends_with (byte "\"") value || begins_and_ends_with (byte "'") value
 
 -- the first byte is neither `/` nor `*`, and the value isn't an absolute URL or in quotes
 abbrev pub has_odd_start : List ℕ → Bool

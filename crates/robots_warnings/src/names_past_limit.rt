@@ -3,7 +3,7 @@ ghost use Rattle.std.specs.Prelude.{◌≡◌, IfOk, map};
 ghost use Rattle.texting_robots.specs.Callers.{by_value, label_by_value};
 ghost use Rattle.robots_warnings.specs.File.{lines_of};
 ghost use Rattle.robots_warnings.specs.NamesPastLimit.{names_past_limit};
-ghost use Rattle.robots_warnings.specs.Internal.Names.{HasNames, MeetsLine};
+ghost use Rattle.robots_warnings.specs.Internal.Names.{AddsLine, HasNames};
 
 use crate::names::{Names, add_name};
 use crate::numbers::push_if;
@@ -13,11 +13,11 @@ use texting_robots::labels::LabeledLine;
 use texting_robots::parser::{Line, file_lines};
 
 /// Inserts the name of a user-agent line, and returns whether it is new; `false` for other lines.
-fn insert_name(alloc: Global, met: &mut Names, line: Line<'_>) -> Result<bool, AllocError>
-    ensures { IfOk result (λ is_new. MeetsLine met.old met.new (by_value line.entry) is_new) }
+fn insert_name(alloc: Global, names: &mut Names, line: Line<'_>) -> Result<bool, AllocError>
+    ensures { IfOk result (λ is_new. AddsLine names.old names.new (by_value line.entry) is_new) }
 {
     match line {
-        Line::UserAgent(value) => add_name(alloc, met, value),
+        Line::UserAgent(value) => add_name(alloc, names, value),
         _ => Ok(false),
     }
 }
@@ -25,13 +25,13 @@ fn insert_name(alloc: Global, met: &mut Names, line: Line<'_>) -> Result<bool, A
 /// The names in these lines.
 #[tactic(auto, using(crate::proofs::NamesPastLimitLemmas::read_more))]
 fn names_read(alloc: Global, labels: &[LabeledLine<'_>]) -> Result<Names, AllocError>
-    ensures { IfOk result (λ met. HasNames met (lines_of (map label_by_value labels.now))) }
+    ensures { IfOk result (λ names. HasNames names (lines_of (map label_by_value labels.now))) }
 {
-    let mut met = BTreeSet::new(alloc);
+    let mut names = BTreeSet::new(alloc);
     for labeled in labels {
-        insert_name(alloc, &mut met, labeled.line)?;
+        insert_name(alloc, &mut names, labeled.line)?;
     }
-    Ok(met)
+    Ok(names)
 }
 
 /// The numbers of the user-agent lines that are the first in the file to have their name, and whose name isn't in
@@ -43,10 +43,10 @@ pub(crate) fn names_past_limit(
 ) -> Result<Vec<usize>, AllocError>
     ensures { IfOk result (λ found. found.items ≡ names_past_limit (lines_of (map label_by_value labels.now)) file.now) }
 {
-    let mut met = names_read(alloc, labels)?;
+    let mut names = names_read(alloc, labels)?;
     let mut found = Vec::new(alloc);
     for (index, line) in file_lines(file).enumerate() {
-        push_if(&mut found, insert_name(alloc, &mut met, line)?, index + 1)?;
+        push_if(&mut found, insert_name(alloc, &mut names, line)?, index + 1)?;
     }
     Ok(found)
 }

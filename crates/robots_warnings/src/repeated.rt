@@ -1,8 +1,8 @@
 //! Rules that repeat a rule above them in their group.
 ghost use Rattle.std.specs.Prelude.{◌≡◌, IfOk, [], map};
 ghost use Rattle.texting_robots.specs.Callers.{by_value, label_by_value};
-ghost use Rattle.robots_warnings.specs.Internal.Repeated.{HasMet, MeetsLine};
-ghost use Rattle.robots_warnings.specs.Internal.Values.{MeetsValue};
+ghost use Rattle.robots_warnings.specs.Internal.Repeated.{AddsLine, HasSeen};
+ghost use Rattle.robots_warnings.specs.Internal.Values.{AddsValue};
 ghost use Rattle.robots_warnings.specs.Repeated.{is_checked, repeated};
 
 use crate::checks::is_in_scope_of;
@@ -13,39 +13,40 @@ use std::collections::HashSet;
 use texting_robots::labels::{LabeledLine, Membership};
 use texting_robots::parser::Line;
 
-/// The rules of a group that were met, by their values.
+/// The rules of a group that were seen so far, by their values.
 #[derive(Drop)]
-struct Met<'a> {
+struct Seen<'a> {
     allows: Values<'a>,
     disallows: Values<'a>,
 }
 
 /// No rules.
-fn nothing<'a>(alloc: Global) -> Met<'a>
-    ensures { HasMet result [] }
+fn nothing<'a>(alloc: Global) -> Seen<'a>
+    ensures { HasSeen result [] }
 {
-    Met {
+    Seen {
         allows: HashSet::new(alloc),
         disallows: HashSet::new(alloc),
     }
 }
 
 /// Inserts the value, and returns whether the set had it already.
-fn meet<'a>(values: &mut Values<'a>, bytes: &'a [u8]) -> Result<bool, AllocError>
-    ensures { IfOk result (λ is. MeetsValue values.old values.new bytes.now is) }
+fn add_value<'a>(values: &mut Values<'a>, bytes: &'a [u8]) -> Result<bool, AllocError>
+    ensures { IfOk result (λ is. AddsValue values.old values.new bytes.now is) }
 {
     Ok(!values.insert(Value { bytes })?)
 }
 
-/// Meets a line, and returns whether it repeats a rule.
-fn meet_line<'a>(alloc: Global, met: &mut Met<'a>, line: Line<'a>) -> Result<bool, AllocError>
-    ensures { IfOk result (λ is. MeetsLine met.old met.new (by_value line.entry) is) }
+/// Adds the line if it is a rule, or drops all rules if it is a user-agent line. It returns whether the line repeats a
+/// rule.
+fn add_line<'a>(alloc: Global, seen: &mut Seen<'a>, line: Line<'a>) -> Result<bool, AllocError>
+    ensures { IfOk result (λ is. AddsLine seen.old seen.new (by_value line.entry) is) }
 {
     match line {
-        Line::Allow(value) => meet(&mut met.allows, value),
-        Line::Disallow(value) => meet(&mut met.disallows, value),
+        Line::Allow(value) => add_value(&mut seen.allows, value),
+        Line::Disallow(value) => add_value(&mut seen.disallows, value),
         Line::UserAgent(_) => {
-            *met = nothing(alloc);
+            *seen = nothing(alloc);
             Ok(false)
         }
         Line::CrawlDelay(_) | Line::Sitemap(_) | Line::Raw(_) => Ok(false),
@@ -68,10 +69,10 @@ pub(crate) fn repeated(
 ) -> Result<Vec<usize>, AllocError>
     ensures { IfOk result (λ found. found.items ≡ repeated everywhere (map label_by_value labels.now)) }
 {
-    let mut met = nothing(alloc);
+    let mut seen = nothing(alloc);
     let mut found = Vec::new(alloc);
     for labeled in labels {
-        let repeats = meet_line(alloc, &mut met, labeled.line)?;
+        let repeats = add_line(alloc, &mut seen, labeled.line)?;
         let is = is_checked(everywhere, labeled.membership) && repeats;
         push_if(&mut found, is, labeled.number)?;
     }

@@ -380,7 +380,7 @@ fn warn_of_googlebots<'a>(
 
 /// Appends the warnings about those of these crawlers with one of these names, which never get the group of
 /// `*`.
-fn warn_of_nobodys<'a>(
+fn warn_of_star<'a>(
     found: &mut Found<'a>,
     everywhere: bool,
     site: &Site,
@@ -410,7 +410,7 @@ fn warn_of_google(
         (google_warnings everywhere (map string_bytes agents.now) (file_lines site.now))) }
 {
     warn_of_googlebots(found, everywhere, site, agents, &LIKE_GOOGLEBOT)?;
-    warn_of_nobodys(found, everywhere, site, agents, &IGNORING_STAR)
+    warn_of_star(found, everywhere, site, agents, &IGNORING_STAR)
 }
 
 /// Appends the warnings about the rules of a group or of a crawler as a whole.

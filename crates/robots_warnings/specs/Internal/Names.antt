@@ -22,7 +22,7 @@ key_cmp one two = slice_cmp nat_cmp one.items two.items
 -- the name was inserted into the old set, and is new if the old set didn't contain it
 pub record AddsName (old new : BTreeSet Key) (name : List ℕ) (is_new : Bool) : Type 0 where
   pub lowered : Key
-  pub spells : lowered.items ≡ str_to_ascii_lowercase name
+  pub in_lower_case : lowered.items ≡ str_to_ascii_lowercase name
   pub new_if : is_new ≡ not (contains key_cmp old lowered)
   pub each : (key : Key) → contains key_cmp new key
       ≡ (contains key_cmp old key || bytes_eq (str_to_ascii_lowercase name) key.items)
@@ -30,11 +30,11 @@ pub record AddsName (old new : BTreeSet Key) (name : List ℕ) (is_new : Bool) :
 -- ---- the names in user-agent lines
 
 -- the set contains exactly the names in these lines
-pub record HasNames (met : BTreeSet Key) (lines : List LineValue) : Type 0 where
-  pub each : (key : Key) → contains key_cmp met key ≡ list_any (is_agent_named key.items) lines
+pub record HasNames (names : BTreeSet Key) (lines : List LineValue) : Type 0 where
+  pub each : (key : Key) → contains key_cmp names key ≡ list_any (is_agent_named key.items) lines
 
 -- the name of one more line was inserted into the set, and `is_new` is true if it was a new one
-pub record MeetsLine (old new : BTreeSet Key) (line : LineValue) (is_new : Bool) : Type 0 where
+pub record AddsLine (old new : BTreeSet Key) (line : LineValue) (is_new : Bool) : Type 0 where
   pub was : (lines : List LineValue) → HasNames old lines → is_new ≡ has_new_name lines line
   pub has : (lines : List LineValue) → HasNames old lines → HasNames new (lines ++ line ∷ [])
 
@@ -46,11 +46,11 @@ past_limit_from read file index left =
 -- the search at this index: `left` are the lines of the file from it on, the set contains the names in the
 -- lines within the size limit and in those before the index, and `found` with the numbers among `left` is
 -- the result
-pub record IsFoundUpto (read : List LineValue) (file : List ℕ) (met : BTreeSet Key) (found : List ℕ)
+pub record IsFoundUpto (read : List LineValue) (file : List ℕ) (names : BTreeSet Key) (found : List ℕ)
     (index : ℕ)
     (left : List LineValue) : Type 0 where
   pub before : List LineValue
   pub count : length before ≡ index
   pub parts : before ++ left ≡ file_lines file
-  pub has : HasNames met (read ++ before)
+  pub has : HasNames names (read ++ before)
   pub all : found ++ past_limit_from read file index left ≡ names_past_limit read file

@@ -20,7 +20,7 @@ pub record HasValues {S : Type 0} (values : Values S) (is_allow : Bool) (lines :
       ≡ list_any (is_rule_with is_allow key.bytes.now) lines
 
 -- the value was inserted, and `is` is true if the set had it already
-pub record MeetsValue {S : Type 0} (old new : Values S) (value : List ℕ) (is : Bool) : Type 0 where
+pub record AddsValue {S : Type 0} (old new : Values S) (value : List ℕ) (is : Bool) : Type 0 where
   pub was : (is_allow : Bool) (lines : List LineValue) → HasValues old is_allow lines
       → is ≡ list_any (is_rule_with is_allow value) lines
   pub each : (key : Value) → contains value_eq new key

@@ -14,7 +14,7 @@ loop-index-init c =
       before = [];
       count = refl;
       parts = refl;
-      has = rw append-nil c.in_ok-met.ensures;
+      has = rw append-nil c.in_ok-names.ensures;
       all = refl;
     })
 

@@ -7,5 +7,5 @@ use Rattle.robots_warnings.proofs.names_past_limit.names_past_limit.Given as goa
 
 abbrev pub invariant-loop-index : goal.invariant-loop-index
 invariant-loop-index l =
-    IsFoundUpto (lines_of (map label_by_value l.labels)) l.file l.met l.found.items
+    IsFoundUpto (lines_of (map label_by_value l.labels)) l.file l.names l.found.items
     (enumerate_count l.index-iterator) (enumerate_source l.index-iterator)

@@ -5,4 +5,4 @@ use Rattle.robots_warnings.specs.Internal.Names.{HasNames}
 use Rattle.robots_warnings.proofs.names_past_limit.names_read.Given as goal
 
 abbrev pub invariant-loop-labeled : goal.invariant-loop-labeled
-invariant-loop-labeled l = HasNames l.met (lines_of (map label_by_value (take l.labeled-index l.labels)))
+invariant-loop-labeled l = HasNames l.names (lines_of (map label_by_value (take l.labeled-index l.labels)))

@@ -2,7 +2,7 @@ use Rattle.std.proofs.Common.{◌≡◌, ◌++◌, flat_map, map, string_bytes, 
 use Rattle.texting_robots.specs.Callers.{file_lines}
 use Rattle.robots_warnings.specs.Internal.{warning_value}
 use Rattle.robots_warnings.specs.Warnings.{star_warnings}
-use Rattle.robots_warnings.proofs.warnings.warn_of_nobodys.Given as goal
+use Rattle.robots_warnings.proofs.warnings.warn_of_star.Given as goal
 
 abbrev pub invariant-loop-name : goal.invariant-loop-name
 invariant-loop-name l =
