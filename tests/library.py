@@ -58,12 +58,16 @@ def objects():
     return [archive(), kit() / "c/liblibc_c.a"]
 
 
+def make(*words, **options):
+    """What `make` in bindings/c ends with."""
+    return subprocess.run(["make", "-C", ROOT / "bindings/c", f"CC={CC}", *words], capture_output=True, text=True, **options)
+
+
 @pytest.fixture(scope="session")
 def installed(objects, tmp_path_factory):
     """The folder into which bindings/c/Makefile installs the library."""
     folder = tmp_path_factory.mktemp("installed")
-    words = ["make", "-C", ROOT / "bindings/c", "install", f"PREFIX={folder}", f"OUT={folder}/out", f"CC={CC}"]
-    ended = subprocess.run(words, capture_output=True, text=True)
+    ended = make("install", f"PREFIX={folder}", f"OUT={folder}/out")
     assert ended.returncode == 0, ended.stderr
     return folder
 

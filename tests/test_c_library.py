@@ -5,6 +5,7 @@ import mmap
 import os
 import random
 import re
+import shlex
 import shutil
 import subprocess
 import sys
@@ -12,7 +13,7 @@ from decimal import Decimal
 from pathlib import Path
 
 import pytest
-from library import LIBRARY, random_case
+from library import LIBRARY, make, random_case
 from support import CC, ROOT, Result, cases_of, compiled, input_of, program, run, shown, spelled, wanted_of
 
 STRICT = ["-Wpedantic", "-Werror", f"-I{LIBRARY}"]
@@ -94,13 +95,64 @@ def test_header_in_cplusplus(objects, tmp_path):
     assert run(tmp_path / "program").status == 0
 
 
+# ---- packaged by bindings/c/Makefile
+
+
+@pytest.mark.parametrize("name", ["job@2", "a,b", "a=b", "[a]", "a(b)", "\u00e9"])
+def test_library_packaged_in_a_folder_with_any_name(objects, tmp_path, name):
+    """Nothing is written outside of the folder, as `ar` does that is given such names in a script."""
+    ended = make(f"OUT={tmp_path / name}")
+    assert (ended.returncode, ended.stderr, [*tmp_path.iterdir()]) == (0, "", [tmp_path / name])
+    archives = [tmp_path / name / "librobots_c.a", *objects]
+    members = [subprocess.run(["ar", "t", it], capture_output=True, text=True).stdout.split() for it in archives]
+    assert sorted(members[0]) == sorted(members[1] + members[2]) and all(members)
+
+
+@pytest.fixture
+def without_rt(tmp_path):
+    """An environment in which `rt` isn't the toolchain's, as sudo has one."""
+    (tmp_path / "bin").mkdir()
+    (tmp_path / "bin/rt").write_text("#!/bin/sh\nexit 127\n")
+    (tmp_path / "bin/rt").chmod(0o755)
+    return os.environ | {"PATH": f"{tmp_path}/bin:{os.environ['PATH']}"}
+
+
+@pytest.mark.parametrize(
+    "words, message",
+    [(["OUT={}/out"], "put `rt` on the PATH, or set HEAP"), (["OUT={}/out", "HEAP=/no/heap.a"], "/no/heap.a is missing"), (["OUT={}/a b"], "has a space")],
+)
+def test_make_says_why_it_cannot_package(objects, tmp_path, without_rt, words, message):
+    ended = make(*(word.format(tmp_path) for word in words), env=without_rt)
+    assert ended.returncode == 2 and message in ended.stderr
+
+
+def test_installed_after_make_without_the_toolchain_and_uninstalled(installed, tmp_path, without_rt):
+    words = f"OUT={installed}/out", "PREFIX=/opt/two words", f"DESTDIR={tmp_path}/a stage"
+    for target, count in [("install", 8), ("uninstall", 0)]:
+        ended = make(target, *words, env=without_rt)
+        assert (ended.returncode, ended.stderr) == (0, "")
+        assert len([it for it in (tmp_path / "a stage/opt/two words").rglob("*") if not it.is_dir()]) == count
+
+
+@pytest.fixture(scope="session")
+def moved(installed, tmp_path_factory):
+    """A folder with an installation that was made for another one."""
+    folder = tmp_path_factory.mktemp("moved")
+    ended = make("install", f"OUT={installed}/out", "PREFIX=/opt/robots", f"DESTDIR={folder}")
+    assert ended.returncode == 0, ended.stderr
+    return folder / "opt/robots"
+
+
 @pytest.mark.parametrize("linked", ["shared", "static"])
-def test_program_with_the_installed_library(installed, tmp_path, linked):
+@pytest.mark.parametrize("folder", ["installed", "moved"])
+def test_program_with_the_installed_library(request, tmp_path, folder, linked):
     if not shutil.which("pkg-config"):
         pytest.skip("pkg-config is missing")
-    path = {"PKG_CONFIG_PATH": f"{installed}/lib/pkgconfig"}
-    words = subprocess.run(["pkg-config", "--cflags", "--libs", "robots_c"], env=os.environ | path, capture_output=True, text=True).stdout.split()
-    way = [f"-Wl,-rpath,{installed}/lib"] if linked == "shared" else ["-static"]
+    folder = request.getfixturevalue(folder)
+    path = {"PKG_CONFIG_PATH": f"{folder}/lib/pkgconfig"}
+    words = ["pkg-config", "--define-prefix", "--cflags", "--libs", "robots_c"]
+    words = shlex.split(subprocess.run(words, env=os.environ | path, capture_output=True, text=True).stdout)
+    way = [f"-Wl,-rpath,{folder}/lib"] if linked == "shared" else ["-static"]
     ask = compiled(tmp_path / "ask", "examples/ask.c", *words, *way)
     assert run(ask, ["Ferris", "/a"], b"Disallow: /a") == Result(1, b"delay none\ndeny 1 /a\n", b"")
 
@@ -109,14 +161,14 @@ def test_installed_files_for_cmake(installed):
     """What they name is installed: the archive and the shared object below the folder two above theirs, the header, and the version."""
     folder = installed / "lib/cmake/robots_c"
     config, version = ((folder / f"robots_c{name}.cmake").read_text() for name in ("Config", "ConfigVersion"))
-    assert 'get_filename_component(robots_c_libdir "${CMAKE_CURRENT_LIST_DIR}/../.." ABSOLUTE)' in config
+    folders = {name: folder / way for name, way in re.findall(r'get_filename_component\((robots_c_\w+dir) "\$\{robots_c_folder\}/([^"]+)" ABSOLUTE\)', config)}
     targets = dict(re.findall(r"add_library\((robots_c::\w+) (STATIC|SHARED) IMPORTED\)", config))
     places = dict(re.findall(r'set_target_properties\((robots_c::\w+) PROPERTIES\s+IMPORTED_LOCATION "\$\{robots_c_libdir\}/([^"]+)"', config))
     assert targets == {"robots_c::robots_c": "STATIC", "robots_c::shared": "SHARED"}
     assert places == {"robots_c::robots_c": "librobots_c.a", "robots_c::shared": "librobots_c.so"}
-    assert all((folder / "../.." / name).is_file() for name in places.values())
-    headers = re.findall(r'INTERFACE_INCLUDE_DIRECTORIES "([^"]+)"', config)
-    assert len(headers) == 2 and all(Path(it, "robots.h").is_file() for it in headers)
+    assert all((folders["robots_c_libdir"] / name).is_file() for name in places.values())
+    headers = re.findall(r'INTERFACE_INCLUDE_DIRECTORIES "\$\{(\w+)\}"', config)
+    assert len(headers) == 2 and all((folders[it] / "robots.h").is_file() for it in headers)
     text = re.search(r'ROBOTS_VERSION_TEXT "(.*)"', (LIBRARY / "robots.h").read_text())[1]
     assert re.findall(r"\d+\.\d+\.\d+", version) == [text, text] and "PACKAGE_FIND_VERSION VERSION_GREATER PACKAGE_VERSION" in version
 
@@ -131,15 +183,19 @@ target_link_libraries(ask robots_c::{target})
 
 
 @pytest.mark.parametrize("target", ["robots_c", "shared"])
-def test_program_built_by_cmake(installed, tmp_path, target):
+@pytest.mark.parametrize("folder", ["installed", "moved"])
+def test_program_built_by_cmake(request, tmp_path, folder, target):
     if not shutil.which("cmake"):
         pytest.skip("cmake is missing")
     shutil.copy(ROOT / "examples/ask.c", tmp_path)
     (tmp_path / "CMakeLists.txt").write_text(CMAKE.format(target=target))
-    for words in (["-S", ".", "-B", "out", f"-DCMAKE_PREFIX_PATH={installed}"], ["--build", "out"]):
+    for words in (["-S", ".", "-B", "out", f"-DCMAKE_PREFIX_PATH={request.getfixturevalue(folder)}"], ["--build", "out"]):
         ended = subprocess.run(["cmake", *words], cwd=tmp_path, capture_output=True, text=True)
         assert ended.returncode == 0, ended.stdout + ended.stderr
     assert run(tmp_path / "out/ask", ["Ferris", "/a"], b"Disallow: /a") == Result(1, b"delay none\ndeny 1 /a\n", b"")
+
+
+# ---- the header, and calls from Python
 
 
 def test_texts_of_statuses(robots):

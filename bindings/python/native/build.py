@@ -1,11 +1,12 @@
 """Builds texting_robots._native: the C library and shared.c, linked statically, by cffi in API mode and for the stable ABI.
 
-ROBOTS_C names a folder where `make install` of bindings/c has put the library. Otherwise it is taken from this repository, and `rt lib`
+ROBOTS_C names a folder where `make install` of bindings/c has put the library, its PREFIX. Otherwise it is taken from this repository, and `rt lib`
 proves and builds it first if that hasn't been done.
 """
 
 import os
 import subprocess
+import sys
 from pathlib import Path
 
 from cffi import FFI
@@ -18,12 +19,16 @@ def library() -> tuple[Path, Path]:
     """The folder with robots.h, and the archive."""
     installed = os.environ.get("ROBOTS_C")
     if installed:
-        return Path(installed, "include"), Path(installed, "lib/librobots_c.a")
-    crate, built = ROOT / "crates/robots_c", PROJECT / "build/c"
+        archive = Path(installed, "lib/librobots_c.a")
+        if not archive.is_file():
+            sys.exit(f"{archive} is missing: ROBOTS_C is the absolute PREFIX of `make install` in bindings/c, run without LIBDIR")
+        return Path(installed, "include"), archive
+    crate = ROOT / "crates/robots_c"
     if not (crate / "out/librobots_c.a").is_file():
         subprocess.run(["rt", "lib"], cwd=crate, check=True)
-    subprocess.run(["make", "-s", "-C", ROOT / "bindings/c", f"OUT={built}", built / "librobots_c.a"], check=True)
-    return crate, built / "librobots_c.a"
+    out = "../python/build/c"  # not the absolute path, which may have a space
+    subprocess.run(["make", "-s", "-C", ROOT / "bindings/c", f"OUT={out}", f"{out}/librobots_c.a"], check=True)
+    return crate, PROJECT / "build/c/librobots_c.a"
 
 
 folder, archive = library()

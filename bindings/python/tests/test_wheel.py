@@ -1,12 +1,15 @@
 """The wheel: it installs into a virtual environment, and there the lines of the README print what they say. The README itself."""
 
 import re
+import shutil
 import subprocess
 import sys
 from pathlib import Path
 
 import package
 import pytest
+from library import LIBRARY
+from support import ROOT
 from test_documents import PRIVATE_WORDS, anchors, prose, tables
 
 README = (package.PACKAGE / "README.md").read_text()
@@ -47,6 +50,24 @@ def test_the_wheel_is_for_every_cpython_and_exports_nothing():
     assert [it.name for it in package.SITE.glob("*.dist-info/LICENSE-*")]
     names = subprocess.run(["nm", "-D", "--defined-only", package.SITE / "texting_robots/_native.abi3.so"], capture_output=True, text=True)
     assert [line.split()[-1] for line in names.stdout.splitlines()] == ["PyInit__native"]
+
+
+def test_the_library_comes_from_a_repository_whose_folder_has_a_space(objects, tmp_path):
+    root = tmp_path / "my crawler"
+    for name in ["bindings/c", "bindings/python/native"]:
+        shutil.copytree(ROOT / name, root / name)
+    (root / "crates/robots_c/out").mkdir(parents=True)
+    shutil.copy(LIBRARY / "robots.h", root / "crates/robots_c")
+    shutil.copy(objects[0], root / "crates/robots_c/out")
+    package.run([root / "bindings/python/native/build.py"])
+    assert (root / "bindings/python/build/c/librobots_c.a").stat().st_size > objects[0].stat().st_size
+
+
+def test_a_library_that_is_not_where_robots_c_says(tmp_path):
+    words = [sys.executable, package.PACKAGE / "native/build.py"]
+    ended = subprocess.run(words, env=package.WITH_PACKAGE | {"ROBOTS_C": str(tmp_path)}, capture_output=True, text=True)
+    message = "librobots_c.a is missing: ROBOTS_C is the absolute PREFIX of `make install` in bindings/c, run without LIBDIR"
+    assert (ended.returncode, ended.stderr) == (1, f"{tmp_path}/lib/{message}\n")
 
 
 def test_mypy_is_strict(tmp_path):

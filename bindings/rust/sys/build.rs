@@ -1,5 +1,5 @@
-//! Links the C library. ROBOTS_C names a folder where `make install` of bindings/c has put it. Otherwise it is taken from this
-//! repository, and `rt lib` proves and builds it first if that hasn't been done.
+//! Links the C library. ROBOTS_C names a folder where `make install` of bindings/c has put it, its PREFIX. Otherwise it is taken from
+//! this repository, and `rt lib` proves and builds it first if that hasn't been done.
 
 use std::env;
 use std::path::{Path, PathBuf};
@@ -16,7 +16,10 @@ fn main() {
         None => from_repository(),
     };
     if !archive.is_file() {
-        fail(&format!("{} is missing: ROBOTS_C is the PREFIX of `make install` in bindings/c", archive.display()));
+        fail(&format!(
+            "{} is missing: ROBOTS_C is the absolute PREFIX of `make install` in bindings/c, run without LIBDIR",
+            archive.display()
+        ));
     }
     println!("cargo:rerun-if-changed={}", archive.display());
     println!("cargo:rustc-link-search=native={}", archive.parent().unwrap().display());
