@@ -67,8 +67,8 @@ def test_denials():
     ]  # fmt: skip
     assert matrix.denials(OVERLONG) == [("LongBot", "/", None), ("LongBot", "/search", None), ("LongBot", "/search/help", None)]
     assert matrix.denials(b"") == matrix.denials(b"#" * (FILE_LIMIT - 1) + b"\nUser-agent: *\nDisallow: /") == []
-    for wrong in ["User-agent: *", bytearray(SHOP), None]:
-        with pytest.raises(TypeError):
+    for wrong in ["User-agent: *", bytearray(SHOP), None, texting_robots._native.ffi.new("char[]", 10)]:
+        with pytest.raises(TypeError, match="a file is bytes, not "):
             matrix.denials(wrong)
     for urls, agents in [([], ["a"]), (["/"], []), (["/a\nb"], ["a"]), (["/"], ["a\nb"]), (["/"], ["a/1"]), (["/\ud800"], ["a"])]:
         with pytest.raises(ValueError):
@@ -76,6 +76,18 @@ def test_denials():
     for urls, agents in [("/", ["a"]), (["/"], "a"), ([None], ["a"]), (["/"], [b"a"]), (["/"], ["a/1"])]:
         with pytest.raises(TypeError):
             Matrix(urls, agents)
+
+
+class BytesOfAnotherLength(bytes):
+    def __len__(self):
+        return 0
+
+
+def test_a_file_has_as_many_bytes_as_there_are():
+    """Whatever its len() says: with a greater one, the library would read memory that isn't the file's."""
+    body = BytesOfAnotherLength(SHOP)
+    assert Matrix(["/search"], ["FerrisBot"]).denials(body) == [("FerrisBot", "/search", 2)]
+    assert Robots(body).verdict("/search", "FerrisBot") == Verdict(False, 2)
 
 
 def test_a_verdict_is_true_if_it_allows():

@@ -220,9 +220,11 @@ class Matrix:
     def denials(self, body: bytes) -> list[tuple[str, str, int | None]]:
         """Each agent with each URL that the file denies it, and the number of the line that does, or None if the file can't be used for
         the agent: agent by agent, in the order of the constructor's arguments. ``body`` is the file, as received."""
-        length = len(self._pairs)
+        if not isinstance(body, bytes):
+            raise TypeError(f"a file is bytes, not {type(body).__name__}")
+        body_length, length = bytes.__len__(body), len(self._pairs)  # a subclass may have another len()
         results = ffi.new("int64_t[]", length)
-        _check(lib.robots_matrix(self._agents, len(self._agents), body, len(body), self._urls, len(self._urls), results, length))
+        _check(lib.robots_matrix(self._agents, len(self._agents), body, body_length, self._urls, len(self._urls), results, length))
         return [
             (agent, url, None if result == _NO_RESULT else -result)
             for (agent, url), result in zip(self._pairs, ffi.unpack(results, length))
