@@ -3,10 +3,13 @@
 
     python census.py SOURCE.. [--agents A,B] [--paths /,/search] [--csv FILE] [--svg FILE] [--workers N | --scheduler ADDRESS]
 
-A SOURCE is a folder of robots.txt files, one for each site; a JSONL file with a line {"host": NAME, "body": BASE64} for each; or a WARC
-file, .warc or .warc.gz, of which the successful responses for /robots.txt count. Workers read the sources themselves, so on a cluster
-they need the same paths, and the package texting_robots. A record that can't be read, or that ends its worker, is listed as damaged, and
-nothing else is lost.
+A SOURCE is a folder of files HOST/robots.txt, HOST.robots.txt or HOST.txt, also in folders below; a JSONL file with a line {"host": NAME,
+"body": BASE64} for each; or a WARC file, .warc or .warc.gz, of which the successful responses for /robots.txt count. A site is a host,
+whatever the scheme and the port. If there are several files for one, the first is counted, by the path of its record and by its place
+there, and the others are among the other records.
+
+Workers read the sources themselves, so on a cluster they need the same paths, and the package texting_robots. A record that can't be
+read, or that ends its worker, is listed as damaged, and nothing else is lost.
 """
 
 from __future__ import annotations
@@ -22,6 +25,7 @@ import io
 import json
 import mmap
 import os
+import stat
 import sys
 import time
 import zlib
@@ -33,10 +37,11 @@ from texting_robots import FILE_LIMIT, Matrix, OverlongRule, Robots
 
 AGENTS = "GPTBot,CCBot,ClaudeBot,Google-Extended,Bingbot,Googlebot,Bytespider,PerplexityBot"
 MOST = 64_000_000
-"""A record of a WARC file with more bytes counts as damaged."""
+"""A record of a .warc.gz file that has more bytes when unpacked counts as damaged."""
 
 # A batch is a tuple: 'files' and paths, or 'jsonl' or 'warc', a path, and the range of bytes in which its records begin. Each reader
-# yields the place of a record with its site and body, with None if it is no robots.txt file, or with the error that damages it.
+# yields the place of a record, a tuple of its path and its first byte, with its site and body, with None if it is no robots.txt file, or
+# with the error that damages it.
 
 
 def attempt(read, given):
@@ -48,16 +53,20 @@ def attempt(read, given):
 
 def files(*paths):
     for path in paths:
-        yield path, attempt(read_file, path)
+        yield (path,), attempt(read_file, path)
 
 
 def read_file(path):
-    file = os.open(path, os.O_RDONLY)
+    file = os.open(path, os.O_RDONLY | os.O_NONBLOCK)  # without waiting for the writer of a pipe
     try:
-        body = os.read(file, min(os.fstat(file).st_size, FILE_LIMIT))
+        status = os.fstat(file)
+        if not stat.S_ISREG(status.st_mode):
+            raise ValueError("it isn't a regular file")
+        body = os.read(file, min(status.st_size, FILE_LIMIT))
     finally:
         os.close(file)
-    return os.path.basename(path).removesuffix(".txt").removesuffix(".robots"), body
+    folder, name = os.path.split(path)
+    return os.path.basename(folder) if name == "robots.txt" else name.removesuffix(".txt").removesuffix(".robots"), body
 
 
 def json_lines(path, start, end):
@@ -66,7 +75,7 @@ def json_lines(path, start, end):
             lines.seek(start - 1)
             lines.readline()
         while (place := lines.tell()) < end and (line := lines.readline()):
-            yield f"{path}:{place}", attempt(read_json, line) if line.strip() else None
+            yield (path, place), attempt(read_json, line) if line.strip() else None
 
 
 def read_json(line):
@@ -84,12 +93,12 @@ def warc(path, start, end):
                 record, following = record_at(data, place)
             except Exception as error:
                 if is_sound:
-                    yield f"{path}:{place}", error
+                    yield (path, place), error
                 place, is_sound = data.find(mark, place + 1), False
                 continue
             if place >= end:
                 return
-            yield f"{path}:{place}", attempt(read_response, record)
+            yield (path, place), attempt(read_response, record)
             place, is_sound = following, True
 
 
@@ -100,7 +109,7 @@ def record_at(data, place):
     head = data.find(b"\r\n\r\n", place, place + 100_000)
     if data[place : place + 7] != b"WARC/1." or head < 0:
         raise ValueError("no record begins here")
-    end = head + 4 + int(fields_of(data[place:head])[b"content-length"])
+    end = head + 4 + length_of(fields_of(data[place:head]))
     if end > len(data):
         raise ValueError("the record is cut")
     following = end
@@ -117,14 +126,25 @@ def unpacked(data, place):
         if not piece or len(record) >= MOST:
             raise ValueError("the record is cut or too large")
         place += len(piece)
-    if not record.startswith(b"WARC/1."):
+    head = record.find(b"\r\n\r\n")
+    if not record.startswith(b"WARC/1.") or head < 0:
         raise ValueError("no record begins here")
+    end = head + 4 + length_of(fields_of(bytes(record[:head])))
+    if record[end:].strip(b"\r\n"):
+        raise ValueError("records are packed together and not one by one: unpack the file by gunzip")
     return bytes(record), place - len(unpacker.unused_data)
 
 
 def fields_of(head):
     lines = (line.partition(b":") for line in head.split(b"\r\n")[1:])
     return {name.strip().lower(): value.strip() for name, _, value in lines}
+
+
+def length_of(fields):
+    length = int(fields[b"content-length"])
+    if length < 0:
+        raise ValueError("a record has a negative length")
+    return length
 
 
 class OfBytes:
@@ -143,15 +163,25 @@ def read_response(record):
     url = urlsplit(fields.get(b"warc-target-uri", b"").decode().strip("<>"))
     if fields.get(b"warc-type") != b"response" or url.path != "/robots.txt":
         return None
-    length = int(fields[b"content-length"])
+    if not url.hostname:
+        raise ValueError("the URL has no host")
+    length = length_of(fields)
     if len(block) < length:
         raise ValueError("the record is cut")
     response = http.client.HTTPResponse(OfBytes(block[:length]))
     response.begin()
     if response.status // 100 != 2:
         return None
-    body = response.read()
-    return url.netloc, gzip.decompress(body) if response.getheader("Content-Encoding") == "gzip" else body
+    return url.hostname, decoded(response.read(), response.getheader("Content-Encoding", "identity").lower())
+
+
+def decoded(body, encoding):
+    """The body without this Content-Encoding. Of a packed one no more is unpacked than counts."""
+    if encoding in ("", "identity"):
+        return body
+    if encoding not in ("gzip", "x-gzip"):
+        raise ValueError(f"the body is encoded as {encoding}, which isn't understood")
+    return gzip.open(io.BytesIO(body)).read(FILE_LIMIT)
 
 
 READERS = {"files": files, "jsonl": json_lines, "warc": warc}
@@ -183,11 +213,17 @@ def lines_of(rows):
     return lines.getvalue()
 
 
+def keep_first(sites, site, record):
+    """Adds the record of a site, or keeps the one whose place is first; and whether there was one."""
+    is_known = site in sites
+    sites[site] = min(sites.get(site, record), record)
+    return is_known
+
+
 def census_of(batch, agents, paths):
-    """How many sites a batch has, and how many other records; how many sites have each result for a crawler and a path; the name of each
-    site that keeps a crawler out of a path, with its lines of the CSV file, so that only text is left to collect; and the places and
-    errors of its damaged records."""
-    matrix, sites, others, counts, written, damaged = Matrix(sorted(paths), sorted(agents)), 0, 0, Counter(), [], []
+    """Each site of a batch with its record: the place, the lines of the CSV file, so that little but text is left to collect, and the
+    results for a crawler and a path; how many other records there are; and the places and errors of damaged ones."""
+    matrix, sites, others, damaged, same = Matrix(sorted(paths), sorted(agents)), {}, 0, [], {}
     for place, read in READERS[batch[0]](*batch[1:]):
         try:
             if isinstance(read, Exception):
@@ -196,21 +232,28 @@ def census_of(batch, agents, paths):
                 others += 1
                 continue
             rows = rows_of(*read, matrix)
-            sites += 1
-            if rows:
-                counts.update(row[1:4] for row in rows)
-                written.append((read[0], lines_of(rows)))
+            results = tuple(row[1:4] for row in rows)
+            others += keep_first(sites, read[0], (place, lines_of(rows), same.setdefault(results, results)))
         except Exception as error:
             damaged.append((place, f"{type(error).__name__}: {error}"))
-    return sites, others, counts, written, damaged
+    return sites, others, damaged
+
+
+def paths_below(source):
+    """The files below a folder, and the folders that can't be read, which can't be read as files either."""
+    unreadable = []
+    walked = os.walk(source, onerror=lambda error: unreadable.append(error.filename))
+    return sorted([os.path.join(folder, name) for folder, _, names in walked for name in names] + unreadable)
 
 
 def batches_of(source, size):
     """Batches of about so many records that together have each record of a source once."""
     path = Path(source)
     if path.is_dir():
-        paths = sorted(os.path.join(folder, name) for folder, _, names in os.walk(source) for name in names)
+        paths = paths_below(source)
         return [("files", *paths[start : start + size]) for start in range(0, len(paths), size)]
+    if not path.is_file() or not os.access(source, os.R_OK):
+        raise ValueError(f"{source} isn't a folder, or a file that can be read")
     kind = "warc" if path.name.endswith((".warc", ".warc.gz")) else "jsonl"
     step, length = size * (1024 if kind == "warc" else 4096), path.stat().st_size
     return [(kind, source, start, min(start + step, length)) for start in range(0, length, step)]
@@ -230,7 +273,7 @@ def alone(batch):
     if batch[0] == "files":
         return [("files", path) for path in batch[1:]]
     kind, path, start, end = batch
-    places = [int(place.rpartition(":")[2]) for place, _ in READERS[kind](path, start, end)]
+    places = [place for (_, place), _ in READERS[kind](path, start, end)]
     return [(kind, path, place, place + 1) for place in places if place < end]
 
 
@@ -262,7 +305,7 @@ def run_on(client, batches, *words, work=census_of):
         try:
             yield client.submit(work, batch, *words, pure=False).result()
         except KilledWorker:
-            yield 0, 0, Counter(), [], [(":".join(map(str, batch[1:3])), "KilledWorker: the worker died")]
+            yield {}, 0, [(batch[1:3], "KilledWorker: the worker died")]
 
 
 @contextlib.contextmanager
@@ -286,21 +329,25 @@ def client_of(workers, scheduler):
 
 
 def census(results, batches=0):
-    """The sum of the results, with the rows and the damaged records in an order that doesn't depend on where they ran."""
-    sites, others, counts, rows, damaged, done = 0, 0, Counter(), [], [], 0
-    for more_sites, more_others, more_counts, more_rows, more_damaged in results:
-        sites, others, done = sites + more_sites, others + more_others, done + 1
-        counts.update(more_counts)
-        rows += more_rows
+    """The sum of the results: how many sites there are, and how many other records; how many sites have each result for a crawler and a
+    path; the sites that keep a crawler out of a path, with their lines of the CSV file; and the damaged records. No order depends on
+    where they ran."""
+    sites, others, damaged, done = {}, 0, [], 0
+    for more_sites, more_others, more_damaged in results:
+        others, done = others + more_others, done + 1
+        others += sum(keep_first(sites, site, record) for site, record in more_sites.items())
         damaged += more_damaged
         if batches and sys.stderr.isatty():
             width = min(40, 40 * done // batches)
-            print(f"\r[{'#' * width}{'.' * (40 - width)}] {sites} sites", end="", file=sys.stderr, flush=True)
-    return sites, others, counts, sorted(rows), sorted(damaged)
+            print(f"\r[{'#' * width}{'.' * (40 - width)}] {len(sites)} sites", end="", file=sys.stderr, flush=True)
+    counts = Counter(result for _, _, results in sites.values() for result in results)
+    rows = sorted((site, lines) for site, (_, lines, _) in sites.items() if lines)
+    return len(sites), others, counts, rows, [(":".join(map(str, place)), error) for place, error in sorted(damaged)]
 
 
 def write_csv(path, rows, damaged):
-    with open(path, "w", newline="", encoding="utf-8") as file:
+    # a name that isn't Unicode, as a file may have, is written with escapes
+    with open(path, "w", newline="", encoding="utf-8", errors="backslashreplace") as file:
         file.write(lines_of([("site", "crawler", "path", "result", "line")]))
         file.writelines(lines for _, lines in rows)
         file.write(lines_of((place, "", "", f"damaged: {error}", "") for place, error in damaged))
@@ -340,11 +387,17 @@ def report(sites, others, counts, damaged, agents, paths):
         print(f"damaged: {place}: {error}")
 
 
-def main():
+def items(text):
+    """What is between the commas, each once."""
+    return list(dict.fromkeys(item.strip() for item in text.split(",") if item.strip()))
+
+
+def parsed():
+    """What the command line says, with the batches of its sources. What can't be used is an error before any of them is read."""
     words = argparse.ArgumentParser(description=__doc__, formatter_class=argparse.RawDescriptionHelpFormatter)
     words.add_argument("sources", nargs="+", metavar="SOURCE")
-    words.add_argument("--agents", default=AGENTS, help=f"crawlers, separated by commas; {AGENTS}")
-    words.add_argument("--paths", default="/,/search", help="paths or URLs, separated by commas; /,/search")
+    words.add_argument("--agents", type=items, default=AGENTS, help=f"crawlers, separated by commas; {AGENTS}")
+    words.add_argument("--paths", type=items, default="/,/search", help="paths or URLs, separated by commas; /,/search")
     words.add_argument("--csv", metavar="FILE", help="writes each path that a site keeps a crawler out of")
     words.add_argument("--svg", metavar="FILE", help="writes a bar chart")
     words.add_argument("--batch", type=int, default=500, help="records in a batch; 500")
@@ -352,8 +405,22 @@ def main():
     where.add_argument("--workers", type=int, default=0, help="workers of a LocalCluster; without, this process does it")
     where.add_argument("--scheduler", metavar="ADDRESS", help="the scheduler of a Dask cluster, as tcp://HOST:8786")
     given = words.parse_args()
-    agents, paths = given.agents.split(","), given.paths.split(",")
-    batches = [batch for source in given.sources for batch in batches_of(source, given.batch)]
+    if given.batch < 1 or given.workers < 0:
+        words.error("a batch has at least one record, and no number of workers is negative")
+    try:
+        Matrix(given.paths, given.agents)
+        given.batches = [batch for source in given.sources for batch in batches_of(source, given.batch)]
+        for path in filter(None, [given.csv, given.svg]):
+            open(path, "a").close()
+    except (OSError, ValueError) as error:
+        words.error(str(error))
+    return given
+
+
+def main():
+    sys.stdout.reconfigure(errors="backslashreplace")
+    given = parsed()
+    agents, paths, batches = given.agents, given.paths, given.batches
     with client_of(given.workers, given.scheduler) if given.workers or given.scheduler else contextlib.nullcontext() as client:
         start = time.perf_counter()
         results = run_on(client, batches, agents, paths) if client else run_here(batches, agents, paths)
