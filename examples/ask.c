@@ -50,6 +50,8 @@ int main(int argc, char **argv) {
     uint64_t delay;
     robots *robot = NULL;
 
+    if (ferror(stdin)) /* the rest of the file is missing, perhaps with the rules that deny */
+        return perror("ask: standard input"), 2;
     if (argc > 2 && robots_address(ROBOTS_STRING(argv[2]), text, sizeof text, &len) == ROBOTS_OK)
         printf("robots %.*s\n", (int)len, text);
     int32_t status = robots_open(ROBOTS_STRING(argv[1]), file, file_len, &robot, &line);
@@ -64,5 +66,7 @@ int main(int argc, char **argv) {
         print_lines("sitemap", text, len);
     int exit_status = status == ROBOTS_OK ? print_verdicts(robot, argv + 2, argc - 2) : report(status, 0);
     robots_close(robot);
+    if (fflush(stdout) != 0 || ferror(stdout))
+        return perror("ask: standard output"), 2;
     return exit_status;
 }

@@ -31,6 +31,6 @@ if __name__ == "__main__":
         sys.exit(2)
     try:
         sys.exit(main(*sys.argv[1:]))
-    except (robots.RobotsError, MemoryError) as error:
+    except (robots.RobotsError, MemoryError, OSError) as error:
         print(f"ask: {error or 'out of memory'}", file=sys.stderr)
         sys.exit(2)

@@ -436,6 +436,17 @@ def test_example(example, shared_object, case):
     assert result == wanted_of(case)
 
 
+@pytest.mark.parametrize("reading, output", [(os.O_WRONLY, os.devnull), (os.O_RDONLY, "/dev/full")], ids=["unreadable input", "full disk"])
+def test_example_reports_what_cannot_be_read_or_written(example, shared_object, reading, output):
+    """The status is neither that of allowed nor that of denied URLs."""
+    environment = os.environ | {"ROBOTS_SO": str(shared_object), "PYTHONDONTWRITEBYTECODE": "1"}
+    ends = os.open(os.devnull, reading), os.open(output, os.O_WRONLY)
+    result = run(Path(example[0]), [*example[1:], "Ferris", "/a"], ends[0], stdout=ends[1], env=environment)
+    for end in ends:
+        os.close(end)
+    assert result.status > 1 and result.err
+
+
 @pytest.mark.parametrize("later", [0, 1], ids=["one allocation", "one and all later ones"])
 def test_example_in_c_reports_each_failed_allocation(failing_heap, objects, tmp_path, later):
     """And frees what it has allocated, but for the buffers of its input and output. It may have written the beginning of its report."""

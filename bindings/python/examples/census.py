@@ -3,8 +3,8 @@
 
     python census.py SOURCE.. [--agents A,B] [--paths /,/search] [--csv FILE] [--svg FILE] [--workers N | --scheduler ADDRESS]
 
-A SOURCE is a folder of files HOST/robots.txt, HOST.robots.txt or HOST.txt, also in folders below; a JSONL file with a line {"host": NAME,
-"body": BASE64} for each; or a WARC file, .warc or .warc.gz, of which the successful responses for /robots.txt count. A site is a host,
+A SOURCE is a folder of files HOST/robots.txt, HOST.robots.txt, HOST.txt or HOST, also in folders below; a JSONL file with a line {"host":
+NAME, "body": BASE64} for each; or a WARC file, .warc or .warc.gz, of which the successful responses for /robots.txt count. A site is a host,
 whatever the scheme and the port. If there are several files for one, the first is counted, by the path of its record and by its place
 there, and the others are among the other records.
 
