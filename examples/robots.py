@@ -66,6 +66,8 @@ def text(data):
 
 
 def joined(items):
+    if isinstance(items, str):
+        raise TypeError("URLs or crawlers are several texts, for example in a list, and not one")
     if any("\n" in item for item in items):
         raise ValueError("a URL or a crawler with a line feed: use Robot.query")
     return text("\n".join(items))

@@ -268,6 +268,9 @@ def test_python_verdicts(robots):
     assert robots.decide("Bot", b"", [""]) == [0]
     assert robots.decide("Bot", b"", []) == []
     assert robots.delay("Bot", b"Disallow: /") is None
+    for call, agent, urls in [(robots.decide, "Bot", "/a"), (robots.matrix, ["Bot"], "/a"), (robots.matrix, "Bot", ["/a"])]:
+        with pytest.raises(TypeError, match="several"):
+            call(agent, FILE, urls)
     with robots.Robot("Bot", FILE) as robot:
         assert [robot.query(url) for url in URLS] == robot.query_many(URLS) == VERDICTS
         assert robot.delay() == robots.delay("Bot", FILE) == 2_500_000

@@ -134,9 +134,9 @@ ROBOTS_CHECK int32_t robots_matrix(const char *agents, size_t agents_len, const 
 /* robots_query_delay without a robot. No rule of the file matters, so it never returns ROBOTS_OVERLONG_RULE. */
 ROBOTS_CHECK int32_t robots_delay(const char *agent, size_t agent_len, const void *file, size_t file_len, uint64_t *microseconds);
 
-/* Writes the sitemaps, which are the same for every crawler, each with '\n' at its end, and their length in bytes to *len. Empty ones are
- * among them, those that aren't UTF-8 aren't. At ROBOTS_BUFFER_TOO_SMALL *len is the length that is needed: call with (NULL, 0, &len) to
- * get it. A buffer of file_len bytes is always large enough. No rule of the file matters. */
+/* Writes the sitemaps, which are the same for every crawler, each with '\n' at its end, and their length in bytes to *len. At
+ * ROBOTS_BUFFER_TOO_SMALL *len is the length that is needed: call with (NULL, 0, &len) to get it. A buffer of file_len bytes is
+ * always large enough. An empty sitemap is written, and one that isn't UTF-8 is left out. No rule of the file matters. */
 ROBOTS_CHECK int32_t robots_sitemaps(const void *file, size_t file_len, char *out, size_t out_len, size_t *len);
 
 /* Writes the names in the file's user-agent lines, as robots_sitemaps writes sitemaps: in the file's order, `*` like any other, and of

@@ -38,7 +38,7 @@ pub struct Robot {
     /// How long the crawler waits between two requests, if the file specifies that. It may be half a million years, so limit it before
     /// you add it to a time.
     pub delay: Option<Duration>,
-    /// The sitemaps that the file lists, in its order. They are the same for every crawler.
+    /// The sitemaps that the file lists, in its order: also empty ones, but none that isn't UTF-8. They are the same for every crawler.
     pub sitemaps: Vec<String>,
     rules: handle::Robot,
 }
@@ -89,7 +89,7 @@ impl fmt::Debug for Robot {
 ///
 /// Threads can share it, and none waits for another.
 pub struct Site {
-    /// The sitemaps that the file lists, in its order.
+    /// The sitemaps that the file lists, in its order: also empty ones, but none that isn't UTF-8.
     pub sitemaps: Vec<String>,
     lines: handle::Site,
 }
