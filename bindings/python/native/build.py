@@ -24,6 +24,8 @@ def library() -> tuple[Path, Path]:
             sys.exit(f"{archive} is missing: ROBOTS_C is the absolute PREFIX of `make install` in bindings/c, run without LIBDIR")
         return Path(installed, "include"), archive
     crate = ROOT / "crates/robots_c"
+    if not crate.is_dir():
+        sys.exit("the C library isn't here: set ROBOTS_C to the absolute PREFIX of `make install` in bindings/c of the repository")
     if not (crate / "out/librobots_c.a").is_file():
         subprocess.run(["rt", "lib"], cwd=crate, check=True)
     out = "../python/build/c"  # not the absolute path, which may have a space

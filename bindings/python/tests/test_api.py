@@ -109,6 +109,7 @@ def test_sitemaps_and_agents():
     assert Robots(SHOP).sitemaps == ["https://example.com/one.xml", "https://example.com/zwölf.xml"]
     assert Robots(SHOP + b"User-agent: SLOWBOT\nUser-agent: b\xc3\xb6tbot\nUser-agent: \xff").agents == ["*", "SlowBot", "bötbot"]
     assert Robots(b"").sitemaps == Robots(b"").agents == []
+    assert Robots(b"Sitemap: \xff\nSitemap:\nSitemap: a").sitemaps == ["", "a"]
     many = [f"https://example.com/{n}.xml" for n in range(1000)]
     assert Robots("".join(f"Sitemap: {url}\n" for url in many)).sitemaps == many
     assert Robots("".join(f"User-agent: {url}\n" for url in many)).agents == many
@@ -117,7 +118,7 @@ def test_sitemaps_and_agents():
 def test_robots_url():
     assert robots_url("HTTPS://Bücher.example:443/ä?b#c") == "https://xn--bcher-kva.example/robots.txt"
     for url in ["", "/a", "example.com/a", "mailto:a@example.com", "ftp://example.com/", "https://"]:
-        with pytest.raises(ValueError, match="no URL"):
+        with pytest.raises(ValueError, match=f"^{url!r} is no URL"):
             robots_url(url)
     assert robots_url("https://example.com/" + "a" * 5000) == "https://example.com/robots.txt"
     assert robots_url("https://" + "a." * 1000 + "com") == "https://" + "a." * 1000 + "com/robots.txt"
@@ -260,6 +261,8 @@ def test_an_overlong_rule():
     [
         ("FerrisBot", "FerrisBot"),
         ("FerrisBot/1.0 (+https://example.com/bot)", "FerrisBot"),
+        (" \t FerrisBot/1.0", "FerrisBot"),
+        (" (FerrisBot)", "*"),
         ("Scrapy/2.8.0 (+https://scrapy.org)", "Scrapy"),
         ("Mozilla/5.0 (compatible; FerrisBot/1.0)", "Mozilla"),
         ("Google-Extended", "Google-Extended"),

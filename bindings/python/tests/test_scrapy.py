@@ -45,11 +45,12 @@ FILES = {
     "a rule that is too long": OVERLONG,
 }
 TABLE = {row[0]: row[1:] for row in tables((package.PACKAGE / "README.md").read_text()) if row[0] in FILES}
+STATUSES = {"rules with status 404": 404, "a page with status 503": 503}
 TWO_GROUPS = b"User-agent: *\nDisallow: /public/\nUser-agent: FerrisBot\nDisallow: /private/"
 
 
-def handler_of(robots, fetched):
-    """Serves the file and some pages that link to each other, and notes which of them are fetched."""
+def handler_of(robots, fetched, status):
+    """Serves the file with this status, and some pages that link to each other, and notes which of them are fetched."""
     home = "".join(f'<a href="{page}">{page}</a>' for page in PAGES).encode()
 
     class Handler(BaseHTTPRequestHandler):
@@ -57,7 +58,7 @@ def handler_of(robots, fetched):
             if self.path != "/robots.txt":
                 fetched.append(self.path)
             body = robots if self.path == "/robots.txt" else home
-            self.send_response(200)
+            self.send_response(status if self.path == "/robots.txt" else 200)
             self.send_header("Content-Type", "text/plain" if self.path == "/robots.txt" else "text/html")
             self.send_header("Content-Length", str(len(body)))
             self.end_headers()
@@ -70,9 +71,9 @@ def handler_of(robots, fetched):
 
 
 @contextlib.contextmanager
-def site(robots, fetched):
+def site(robots, fetched, status):
     """The address of a small site with this file, while it is served."""
-    server = ThreadingHTTPServer(("127.0.0.1", 0), handler_of(robots, fetched))
+    server = ThreadingHTTPServer(("127.0.0.1", 0), handler_of(robots, fetched, status))
     thread = threading.Thread(target=server.serve_forever, kwargs={"poll_interval": 0.05})
     thread.start()
     try:
@@ -89,11 +90,13 @@ def crawls():
     wanted = {(name, parser): (file, USER_AGENT) for name, file in FILES.items() for parser in (OURS, PROTEGO, URLLIB)}
     wanted |= {("as a browser", parser): (TWO_GROUPS, BROWSER) for parser in (OURS, PROTEGO)}
     wanted["as a browser, with its name", OURS] = TWO_GROUPS, BROWSER | {"ROBOTSTXT_USER_AGENT": "FerrisBot"}
+    wanted |= {(name, OURS): (body, USER_AGENT) for name, body in zip(STATUSES, [RULES, b"<html>sorry</html>"])}
     fetched = {case: [] for case in wanted}
     with contextlib.ExitStack() as sites:
         given = []
         for case, (file, settings) in wanted.items():
-            given.append([sites.enter_context(site(file, fetched[case])), settings | {"ROBOTSTXT_PARSER": case[1]}])
+            address = sites.enter_context(site(file, fetched[case], STATUSES.get(case[0], 200)))
+            given.append([address, settings | {"ROBOTSTXT_PARSER": case[1]}])
         words = [sys.executable, Path(__file__).with_name("crawl.py")]
         ended = subprocess.run(words, input=json.dumps(given), capture_output=True, text=True, timeout=600, env=package.WITH_PACKAGE)
     assert ended.returncode == 0, ended.stderr
@@ -121,14 +124,19 @@ def test_a_user_agent_like_a_browsers(crawls):
     assert crawls[0]["as a browser", PROTEGO] == crawls[0]["as a browser, with its name", OURS] == RESPECTED
 
 
-WARNING = "robots.txt: FerrisBot, the rule in line 3 is too long: the file can't be used for this crawler: nothing is fetched"
+def test_scrapy_gives_the_parser_the_body_of_every_status(crawls):
+    """As the README says: so the rules of a 404 count, and a 503 allows everything."""
+    assert [crawls[0][name, OURS] for name in STATUSES] == [RESPECTED, PAGES]
+
+
+WARNING = "FerrisBot, the rule in line 3 is too long: the file can't be used for this crawler: nothing is fetched"
 
 
 def test_an_overlong_rule_is_logged_once(crawls, caplog):
-    assert len(re.findall(rf"WARNING: {WARNING}", crawls[1])) == 1 and "texting_robots/" not in crawls[1]
+    assert len(re.findall(rf"WARNING: robots.txt for http://127.0.0.1:\d+/: {WARNING}", crawls[1])) == 1 and "texting_robots/" not in crawls[1]
     parser = RobotParser.from_crawler(None, OVERLONG)
     assert not any(parser.allowed("https://example.com/", "FerrisBot/1.0") for _ in range(3))
-    assert [record.getMessage() for record in caplog.records] == [WARNING]
+    assert [record.getMessage() for record in caplog.records] == [f"robots.txt for https://example.com/: {WARNING}"]
 
 
 def test_the_parser_takes_what_scrapy_gives():

@@ -70,6 +70,20 @@ def test_a_library_that_is_not_where_robots_c_says(tmp_path):
     assert (ended.returncode, ended.stderr) == (1, f"{tmp_path}/lib/{message}\n")
 
 
+def test_a_source_distribution_is_built_with_an_installed_library(installed, tmp_path):
+    package_of = shutil.copytree(package.PACKAGE, tmp_path / "package", ignore=shutil.ignore_patterns("build", "*.egg-info"))
+    environment = package.WITH_PACKAGE | {"ROBOTS_C": str(installed)}
+    words = [sys.executable, "-c", "from setuptools.build_meta import build_sdist; build_sdist('.')"]
+    ended = subprocess.run(words, cwd=package_of, env=environment, capture_output=True, text=True)
+    assert ended.returncode == 0, ended.stdout + ended.stderr
+    shutil.unpack_archive(next(package_of.glob("*.tar.gz")), tmp_path)
+    build = next(tmp_path.glob("texting*/native/build.py"))
+    assert sorted(it.name for it in build.parent.iterdir()) == ["build.py", "shared.c", "shared.h"]
+    for given, status in [(environment, 0), (package.WITH_PACKAGE, 1)]:
+        ended = subprocess.run([sys.executable, build], env=given, capture_output=True, text=True)
+        assert (ended.returncode, "set ROBOTS_C" in ended.stderr) == (status, status == 1), ended.stderr
+
+
 def test_mypy_is_strict(tmp_path):
     pytest.importorskip("mypy")
     caller = tmp_path / "caller.py"

@@ -55,21 +55,21 @@ class Verdict(NamedTuple):
 
 
 def product_token(user_agent: str) -> str:
-    """The name at the front of a User-Agent, up to its version or a space, or ``*`` if there is none.
+    """The name at the front of a User-Agent, after any spaces and up to its version or a space, or ``*`` if there is none.
 
     >>> product_token("GPTBot/1.2 (+https://openai.com/gptbot)")
     'GPTBot'
 
     The front of a User-Agent like a browser's is ``Mozilla``. Such a crawler gives its name itself.
     """
-    front = re.match(r"[^\s/(),;:]+", user_agent)
-    return front[0] if front else "*"
+    front = re.match(r"\s*([^\s/(),;:]+)", user_agent)
+    return front[1] if front else "*"
 
 
 def robots_url(url: str) -> str:
     """The address of the robots.txt file for a URL of http or https. Any other text is a ValueError."""
     text = str.encode(url)
-    return _written(lambda *out: lib.robots_address(text, len(text), *out), 256)
+    return _written(lambda *out: lib.robots_address(text, len(text), *out), 256, url)
 
 
 class Robots:
@@ -158,7 +158,7 @@ class Robots:
 
     @property
     def sitemaps(self) -> list[str]:
-        """The sitemaps, which are the same for every crawler, in the file's order."""
+        """The sitemaps, which are the same for every crawler, in the file's order; also empty ones, but none that isn't UTF-8."""
         # for sitemaps the length of the file is always enough room
         return _written(lambda *out: lib.site_sitemaps(self._site, *out), len(self._body)).split("\n")[:-1]
 
@@ -262,25 +262,25 @@ def _opened(opened: CData, close: Callable[[CData], None]) -> CData:
     return ffi.gc(opened, close)
 
 
-def _written(call: Callable[[CData, int, CData], int], room: int) -> str:
-    """What a call writes with this room, or with as much as it then asks for."""
+def _written(call: Callable[[CData, int, CData], int], room: int, url: str = "") -> str:
+    """What a call writes, for a URL if it is about one, with this room, or with as much as it then asks for."""
     length = ffi.new("size_t *")
     while True:
         out = ffi.new("char[]", room)
         status = call(out, room, length)
         if status != lib.ROBOTS_BUFFER_TOO_SMALL:
-            _check(status)
+            _check(status, url=url)
             return str(ffi.unpack(out, length[0]), "utf-8")
         room = length[0]
 
 
-def _check(status: int, robot: CData | None = None) -> None:
+def _check(status: int, robot: CData | None = None, url: str = "") -> None:
     if status == lib.ROBOTS_OK:
         return
     if status == lib.ROBOTS_OUT_OF_MEMORY:
         raise MemoryError
     if status == lib.ROBOTS_NO_ADDRESS:
-        raise ValueError("the text is no URL of http or https with a host, so it has no robots.txt file")
+        raise ValueError(f"{url!r} is no URL of http or https with a host, so it has no robots.txt file")
     if status == lib.ROBOTS_OVERLONG_RULE and robot is not None:
         raise OverlongRule(lib.robot_overlong_line(robot))
     raise AssertionError(f"robots.h: status {status}")

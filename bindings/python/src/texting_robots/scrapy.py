@@ -30,13 +30,13 @@ class RobotParser(ScrapyRobotParser):
 
     def allowed(self, url: str | bytes, user_agent: str | bytes) -> bool:
         """Whether the crawler may fetch the URL. ``user_agent`` is the whole User-Agent, or a product token."""
-        token = product_token(_text(user_agent))
+        url, token = _text(url), product_token(_text(user_agent))
         try:
-            return self._robots.allowed(_text(url), token)
+            return self._robots.allowed(url, token)
         except OverlongRule as error:
             if token not in self._warned:
                 self._warned.add(token)
-                logger.warning("robots.txt: %s, %s: nothing is fetched", token, error, extra={"spider": self._spider})
+                logger.warning("robots.txt for %s: %s, %s: nothing is fetched", url, token, error, extra={"spider": self._spider})
             return False
 
 
