@@ -42,6 +42,7 @@ NOTHING = f"crawler Ferris: {SAME_TEXT}"
 ALL = f"all compared crawlers: {SAME_TEXT}"
 OTHERS = f"other compared crawlers: {SAME_TEXT}"
 AGENT = "AGENT isn't a product token without a version, such as Googlebot"
+URL = "URL is neither a path that starts with / nor a valid http:// or https:// URL"
 MISSING = f"robots_audit: missing AGENT (use --agent or --agents); {USAGE}\n"
 SAME = "crawler Ferris: same rules, so no URL's verdict differs\n"
 TOO_LONG = b"User-agent: *\nDisallow: /" + b"x" * 4096 + b"$\n"
@@ -196,6 +197,18 @@ def test_agent_is_missing(tmp_path):
 def test_name_that_no_crawler_has(tmp_path, name, shown):
     for words in ([name], ["--agent=Ferris", f"--agent={name}"]):
         assert outcome(compare(tmp_path, OLD, OLD, *words)) == (2, "", f"robots_audit: {shown}: {AGENT}\n")
+
+
+@pytest.mark.parametrize("url, shown", [("", ""), ("products/tea", "products/tea"), ("*", "*"), ("e.com/a", "e.com/a"), ("ftp://e.com/a", "ftp://e.com/a"), ("https:/a", "https:/a"), ("https://", "https://"), ("http://[1/a", "http://[1/a"), (" /a", " /a"), ("a\x1bb", "a%1Bb")])
+def test_neither_a_path_nor_a_url(tmp_path, url, shown):
+    for words in (["Ferris", url], ["--agents", "/", "https://e.com/a", "HTTP://e.com", url, "tea"]):
+        assert outcome(compare(tmp_path, OLD, NEW, *words)) == (2, "", f"robots_audit: {shown}: {URL}\n")
+
+
+def test_names_are_checked_before_urls_and_both_before_files(tmp_path):
+    assert outcome(compare(tmp_path, OLD, NEW, "Ferris/1", "tea")) == (2, "", f"robots_audit: Ferris/1: {AGENT}\n")
+    missing = run("robots_audit", ["--compare", "missing.txt", "Ferris", "tea"], NEW, cwd=tmp_path)
+    assert outcome(missing) == (2, "", f"robots_audit: tea: {URL}\n")
 
 
 @pytest.mark.parametrize("more", ["--expect=old.txt", "--urls=old.txt", "--denied", "-q", "--format=text", "--json", "--html", "--color=never", "--strict", "--needless", "--only=missing-slash", "--ignore=missing-slash"])

@@ -15,7 +15,8 @@ use Rattle.audit_core.specs.declared.fault.Flaw.TheVariants as flaw
 use Rattle.audit_core.specs.declared.fault.Outcome.{Outcome}
 use Rattle.robots_io.specs.Sanitize.{sanitized}
 
--- what is wrong with a line of the file of `--expect` or `--urls`, or with the name of a crawler
+-- what is wrong with a line of the file of `--expect` or `--urls`, or with a crawler's name or a URL in
+-- arguments
 abbrev pub flaw_text : Flaw → List ℕ
 flaw_text flaw.Form = codes "write \"allow AGENT URL\" or \"deny AGENT URL\""
 flaw_text flaw.NotUtf8 = codes "the line isn't valid UTF-8"

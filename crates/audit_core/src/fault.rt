@@ -22,7 +22,7 @@ pub struct Outcome {
     pub warnings: String,
 }
 
-/// What is wrong with a line of the file of `--expect` or `--urls`, or with the name of a crawler.
+/// What is wrong with a line of the file of `--expect` or `--urls`, or with a crawler's name or a URL in arguments.
 #[derive(Clone, Copy)]
 pub enum Flaw {
     /// It isn't of the form `allow AGENT URL` or `deny AGENT URL`.
@@ -60,7 +60,7 @@ pub enum Fault {
     /// The file with this name, which is sanitized, can't be opened or read.
     File(String),
     /// The line that this text names, a file's sanitized name and a number, is malformed. Or the text is a sanitized name
-    /// that no crawler has.
+    /// that no crawler has, or a sanitized text that is no URL.
     Malformed(String, Flaw),
     /// The file with this name, which is sanitized, has none of these entries.
     Empty(String, Entry),

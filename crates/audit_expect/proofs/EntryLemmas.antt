@@ -1,4 +1,4 @@
--- The errors for a file of entries, and for the name of a crawler.
+-- The errors for a file of entries, for the name of a crawler, and for a URL.
 use Rattle.std.proofs.Common.{◌≡◌, ◌≢◌, ℕ, List, [], ◌++◌, String, codes, inl, inr, refl, subst, sym}
 use Rattle.std.proofs.Common.{string_bytes}
 use Rattle.std.proofs.Common.{Result, decimal, true}
@@ -18,6 +18,7 @@ use Rattle.audit_core.specs.declared.fault.Flaw.TheVariants as flaw
 use Rattle.audit_core.specs.Crawler.{IsNoCrawler}
 use Rattle.audit_expect.specs.Expect.{MalformedLine}
 use Rattle.audit_expect.specs.Expectations.{IsEntryFault, place_text}
+use Rattle.audit_expect.specs.UrlList.{IsMalformedUrl, IsMalformedUrlIn}
 use Rattle.audit_core.specs.Fault.{fault_text, flaw_text, none_text}
 use Rattle.audit_core.proofs.FaultLemmas.{memory_printable, named_printable}
 
@@ -80,3 +81,15 @@ no_crawler_printable name fault (inl is) = memory_printable fault is
 no_crawler_printable name fault (inr (shown, named, is)) =
     subst (λ (fault : Fault). IsPrintable (fault_text fault)) (sym is)
     (flawed_printable shown flaw.Agent (sanitized name) named (sanitized_printable name))
+
+malformed_url_printable : (url : List ℕ) (fault : Fault) → IsMalformedUrl url fault
+    → IsPrintable (fault_text fault)
+malformed_url_printable url fault (inl is) = memory_printable fault is
+malformed_url_printable url fault (inr (shown, named, is)) =
+    subst (λ (fault : Fault). IsPrintable (fault_text fault)) (sym is)
+    (flawed_printable shown flaw.Url (sanitized url) named (sanitized_printable url))
+
+pub malformed_url_in_printable : (urls : List (List ℕ)) (fault : Fault) → IsMalformedUrlIn urls fault
+    → IsPrintable (fault_text fault)
+malformed_url_in_printable urls fault (inl is) = memory_printable fault is
+malformed_url_in_printable urls fault (inr (url, first, is)) = malformed_url_printable url fault is

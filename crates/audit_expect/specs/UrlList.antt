@@ -1,16 +1,19 @@
--- The URLs in the file of `--urls`, one per line.
-use Rattle.std.specs.Prelude.{◌≡◌, ℕ, ◌-◌, ◌==◌, false, not, List, ◌++◌, Option, Some, None, Result, Ok, Err}
-use Rattle.std.specs.Prelude.{drop, if◌then◌else◌, length, take}
+-- The URLs in the file of `--urls`, one per line, and those in arguments.
+use Rattle.std.specs.Prelude.{◌≡◌, ◌⊎◌, ℕ, ◌-◌, ◌==◌, false, not, List, ◌++◌, Option, Some, None, Result, Ok}
+use Rattle.std.specs.Prelude.{Err, String, drop, if◌then◌else◌, length, string_bytes, take}
+use Rattle.std.specs.Global.{Global}
 use Rattle.std.specs.Char.{is_ascii_whitespace}
-use Rattle.std.specs.List.{prefix_len, suffix_len}
+use Rattle.std.specs.List.{find, prefix_len, suffix_len}
 use Rattle.std.specs.Str.{is_utf8}
+use Rattle.robots_io.specs.Sanitize.{sanitized}
 use Rattle.audit_core.specs.Request.{RequestValue}
-use Rattle.audit_expect.specs.Expect.{MalformedLine, entries_from, is_comment, lines}
+use Rattle.audit_expect.specs.Expect.{MalformedLine, entries_from, is_comment, is_path_or_url, lines}
 use Rattle.audit_core.specs.Crawler.{is_word}
 use Rattle.audit_expect.specs.Expectations.{IsEntryFault}
 use Rattle.audit_core.specs.declared.fault.Entry.TheVariants as entry
 use Rattle.audit_core.specs.declared.fault.Fault.{Fault}
-use Rattle.audit_core.specs.declared.fault.Flaw.TheVariants.{NotUtf8}
+use Rattle.audit_core.specs.declared.fault.Fault.TheVariants.{Malformed, Memory}
+use Rattle.audit_core.specs.declared.fault.Flaw.TheVariants.{NotUtf8, Url}
 use Rattle.robots_warnings.specs.Facts.{mark, without_start}
 
 -- the line without ASCII white space at its start
@@ -51,3 +54,19 @@ pub record HasUrlsIn (text : List ℕ) (requested extended : RequestValue) : Typ
 -- the error is about the URLs in the text, or an allocation failed
 abbrev pub IsUrlFault : List ℕ → List ℕ → Fault → Type 0
 IsUrlFault name text fault = IsEntryFault name entry.Url (urls_in text) fault
+
+-- ---- URLs in arguments
+
+-- the first of these that is neither a path nor an http(s) URL that can be parsed
+abbrev pub first_malformed : List (List ℕ) → Option (List ℕ)
+first_malformed urls = find (λ url. not (is_path_or_url url)) urls
+
+-- the error shows this URL, or an allocation failed
+abbrev pub IsMalformedUrl : List ℕ → Fault → Type 0
+IsMalformedUrl url fault = (fault ≡ Memory)
+    ⊎ ((shown : String Global) × (string_bytes shown ≡ sanitized url) × (fault ≡ Malformed shown Url))
+
+-- the error shows the first malformed one of these URLs, or an allocation failed
+abbrev pub IsMalformedUrlIn : List (List ℕ) → Fault → Type 0
+IsMalformedUrlIn urls fault =
+    (fault ≡ Memory) ⊎ ((url : List ℕ) × (first_malformed urls ≡ Some url) × IsMalformedUrl url fault)

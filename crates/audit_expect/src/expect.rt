@@ -133,7 +133,7 @@ fn is_path(word: &[u8]) -> bool
 }
 
 /// Whether the word is a path, or an http(s) URL that can be parsed.
-fn is_path_or_url(alloc: Global, word: &[u8]) -> Result<bool, AllocError>
+pub(crate) fn is_path_or_url(alloc: Global, word: &[u8]) -> Result<bool, AllocError>
     ensures { IfOk result (λ answer. answer ≡ is_path_or_url word.now) }
 {
     if is_path(word) {

@@ -1,17 +1,19 @@
-//! The URLs in the file of `--urls`, one per line.
-ghost use Rattle.std.specs.Prelude.{◌≡◌, ◌==◌, IfErr, IfOk, Ok, false, length, map, option_map};
+//! The URLs in the file of `--urls`, one per line, and those in arguments.
+ghost use Rattle.std.specs.Prelude.{◌≡◌, ◌==◌, IfErr, IfOk, None, Ok, OnOk, false, length, map, option_map};
 ghost use Rattle.audit_core.specs.Request.{requested_by};
 ghost use Rattle.audit_expect.specs.Expect.{entries_from, lines};
 ghost use Rattle.audit_expect.specs.Internal.Expect.{IsParseFault};
-ghost use Rattle.audit_expect.specs.UrlList.{HasUrlsIn, IsUrlFault, trimmed, url_in, urls_in};
+ghost use Rattle.audit_expect.specs.UrlList.{HasUrlsIn, IsMalformedUrl, IsMalformedUrlIn, IsUrlFault};
+ghost use Rattle.audit_expect.specs.UrlList.{first_malformed, trimmed, url_in, urls_in};
 
 use crate::entries::{malformed, without_entries};
-use crate::expect::{ParseFault, cut, is_comment};
+use crate::expect::{ParseFault, cut, is_comment, is_path_or_url};
 use audit_core::agents::as_text;
 use audit_core::fault::{Entry, Fault, Flaw};
 use audit_core::request::Request;
+use robots_io::sanitize::push_sanitized;
 use robots_warnings::facts::without_mark;
-use std::alloc::Global;
+use std::alloc::{AllocError, Global};
 
 /// The line without white space at its start and end.
 fn trimmed<'a>(line: &'a [u8]) -> &'a [u8]
@@ -101,4 +103,33 @@ pub fn with_urls<'a>(
     let urls = parsed(alloc, name, text)?;
     extended.urls.extend_from_slice(&urls)?;
     Ok(extended)
+}
+
+/// The error for a URL that is neither a path nor an http(s) URL that can be parsed; `Fault::Memory` if an allocation
+/// fails.
+fn malformed_url(alloc: Global, url: &str) -> Fault
+    ensures { IsMalformedUrl url.now result }
+{
+    let mut shown = String::new(alloc);
+    match push_sanitized(&mut shown, url.as_bytes()) {
+        Ok(()) => Fault::Malformed(shown, Flaw::Url),
+        Err(AllocError) => Fault::Memory,
+    }
+}
+
+/// Fails with the first of these URLs that is neither a path nor an http(s) URL that can be parsed.
+///
+/// # Errors
+///
+/// `Fault::Malformed` for this URL, and `Fault::Memory` if an allocation fails.
+pub fn are_paths_or_urls(alloc: Global, urls: &[&str]) -> Result<(), Fault>
+    ensures ok { OnOk result (first_malformed (map (λ url. url.now) urls.now) ≡ None) }
+    ensures fault { IfErr result (IsMalformedUrlIn (map (λ url. url.now) urls.now)) }
+{
+    for url in urls {
+        if !is_path_or_url(alloc, url.as_bytes())? {
+            return Err(malformed_url(alloc, url));
+        }
+    }
+    Ok(())
 }

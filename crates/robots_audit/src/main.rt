@@ -35,7 +35,7 @@ use audit_core::fault::{Fault, Outcome, StderrMessage, status_after};
 use audit_core::print::print;
 use audit_core::request::Request;
 use audit_expect::expectations::check;
-use audit_expect::url_list::with_urls;
+use audit_expect::url_list::{are_paths_or_urls, with_urls};
 use audit_report::explain::{explain, list_warnings};
 use clap::ArgMatches;
 use clap::error::ErrorKind as WordsKind;
@@ -201,6 +201,7 @@ fn compared_with(rt: &HostRuntime, matches: &ArgMatches<'_>, older: &str) -> Res
 {
     let request = requested(rt.alloc(), matches, false)?;
     are_crawlers(rt.alloc(), &request.agents)?;
+    are_paths_or_urls(rt.alloc(), &request.urls)?;
     let text = read_named_or_stdin(rt, older)?;
     match request.file {
         Some(name) => compare_named(rt, &request, &text, name),
