@@ -3,7 +3,7 @@
 use Rattle.std.proofs.Common.{◌≡◌, ℕ, ◌/◌, ◌%◌, ◌<◌, ◌==◌, Bool, true, false, List, [], ◌∷◌, ◌++◌, Option}
 use Rattle.std.proofs.Common.{Some, None}
 use Rattle.std.proofs.Common.{ap, append-nil, arith, codes, flat_map, inl, inr, refl, sym, unwrap_or, ◌∙◌}
-use Rattle.std.specs.Prelude.{IsTrue, if◌then◌else◌, not, option_map, ◌&&◌, ◌||◌}
+use Rattle.std.specs.Prelude.{IsTrue, bytes_eq, if◌then◌else◌, not, option_map, ◌&&◌, ◌||◌}
 use Rattle.std.specs.List.{AllByRecursion as Each, list_all}
 use Rattle.std.specs.Fmt.{digit_glyph}
 use Rattle.std.specs.Str.{IsUtf8, all_scalars, chars, encode_utf8_all}
@@ -20,14 +20,15 @@ use Rattle.robots_io.specs.Sanitize.{IsPrintable, is_printable, is_printable_byt
 use Rattle.robots_io.proofs.SanitizeLemmas.{append_printable, ascii_printable, chars_printable}
 use Rattle.robots_io.proofs.SanitizeLemmas.{decimal_printable, flat_printable}
 use Rattle.robots_warnings.specs.declared.table.Cause.{Cause}
-use Rattle.robots_warnings.specs.Table.{all_causes, name_of}
+use Rattle.robots_warnings.specs.Table.{all_causes, name_of, text_of}
 use Rattle.robots_warnings.proofs.PrintableLemmas.{example_printable, names_printable, texts_printable}
 use Rattle.robots_warnings.proofs.PrintableLemmas.{word_printable}
+use Rattle.audit_core.proofs.ListLemmas.{either_printable}
 use Rattle.audit_formats.specs.Findings.{FindingValue}
 use Rattle.audit_formats.specs.Sarif.{RuleValue, all_rules, denied_rule, has_name, help_text, is_brace}
 use Rattle.audit_formats.specs.Sarif.{is_escape}
 use Rattle.audit_formats.specs.Sarif.{is_uri_byte, literal_char, literal_text, log_json, message_json}
-use Rattle.audit_formats.specs.Sarif.{one_slash}
+use Rattle.audit_formats.specs.Sarif.{needless_text, one_slash}
 use Rattle.audit_formats.specs.Sarif.{place_json, rejected_rule, result_json, rule_json, rule_of}
 use Rattle.audit_formats.specs.Sarif.{rule_unless_later, rules_of, sarif_text, shown, shown_after}
 use Rattle.audit_formats.specs.Sarif.{takes_backslash, tool_json, uri_byte, uri_of}
@@ -197,7 +198,12 @@ rule_has rule (name, text, example) = (
 )
 
 rule_printable : (all : List Cause) (cause : Cause) → IsPrintableRule (rule_of all cause)
-rule_printable all cause = (names_printable cause, texts_printable cause, example_printable cause)
+rule_printable all cause = (
+  names_printable cause,
+  either_printable true (bytes_eq (name_of cause) (codes "needless-rule")) needless_text (text_of cause)
+      (ascii_printable true needless_text refl) (texts_printable cause),
+  example_printable cause,
+)
 
 rules_printable : (all causes : List Cause) → Each IsPrintableRule (rules_of all causes)
 rules_printable all [] = tt

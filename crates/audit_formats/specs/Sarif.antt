@@ -122,12 +122,22 @@ abbrev pub worst_level : List ℕ → List Cause → Level
 worst_level name causes =
     if has_name_at name Error causes then Error else if has_name_at name Warning causes then Warning else Note
 
+abbrev pub needless_text : List ℕ
+needless_text =
+    codes "this rule can be deleted together with all other needless rules, and every verdict stays the same"
+
+-- what the rule of a warning says: its message, but the messages of `needless-rule` differ in why a rule can
+-- be deleted, so its description gives no reason
+abbrev pub description_of : Cause → List ℕ
+description_of cause =
+    if bytes_eq (name_of cause) (codes "needless-rule") then needless_text else text_of cause
+
 -- the rule of a warning, with the most serious level of all these warnings with its name
 abbrev pub rule_of : (all : List Cause) → Cause → RuleValue
 rule_of all cause = record {
   name = name_of cause;
   level = worst_level (name_of cause) all;
-  text = text_of cause;
+  text = description_of cause;
   example = example_of cause;
 }
 

@@ -5,7 +5,7 @@ ghost use Rattle.audit_formats.specs.Findings.{findings};
 ghost use Rattle.audit_core.specs.Internal.{audit_value};
 ghost use Rattle.audit_formats.specs.Internal.{finding_value, rule_value};
 ghost use Rattle.audit_formats.specs.Json.{list_json};
-ghost use Rattle.audit_formats.specs.Sarif.{all_rules, begins_with_slash, has_name, has_name_at, help_text, is_uri_byte, worst_level, literal_char, literal_text, log_json, log_text};
+ghost use Rattle.audit_formats.specs.Sarif.{all_rules, begins_with_slash, description_of, has_name, has_name_at, help_text, is_uri_byte, worst_level, literal_char, literal_text, log_json, log_text};
 ghost use Rattle.audit_formats.specs.Sarif.{message_json, one_slash, place_json, result_json, rule_json, rule_unless_later, rules_of, sarif_text, tool_json, uri_byte, uri_of};
 
 use crate::findings::{Finding, findings_of};
@@ -140,6 +140,17 @@ fn worst_level(causes: &[Cause], name: &str) -> Level
     }
 }
 
+/// What the rule of a warning says: its message, unless the messages with its name differ in their reasons.
+fn description_of(cause: Cause) -> &'static str
+    ensures { result.now ≡ description_of cause }
+{
+    if cause.name() == "needless-rule" {
+        "this rule can be deleted together with all other needless rules, and every verdict stays the same"
+    } else {
+        cause.text()
+    }
+}
+
 /// Appends the rule of one of all these warnings, unless one of the `later` ones has the same name.
 fn add_rule(
     rules: &mut Vec<Rule>,
@@ -156,7 +167,7 @@ fn add_rule(
     Ok(rules.push(Rule {
         name: cause.name(),
         level: worst_level(all, cause.name()),
-        text: cause.text(),
+        text: description_of(cause),
         example: cause.example(),
     })?)
 }
