@@ -84,16 +84,16 @@ struct Tally<'a> {
     unlisted: Vec<Warning<'a>>,
 }
 
-/// Appends the warning if `cause` is true.
+/// Appends the warning if `holds` is true.
 fn push_if<'a>(
     found: &mut Vec<Warning<'a>>,
-    cause: bool,
+    holds: bool,
     warning: &Warning<'a>,
 ) -> Result<(), AllocError>
     ensures { OnOk result (map warning_value found.new.items ≡ map warning_value found.old.items
-        ++ (if cause then warning_value warning.now ∷ [] else [])) }
+        ++ (if holds then warning_value warning.now ∷ [] else [])) }
 {
-    if cause {
+    if holds {
         found.push(*warning)?;
     }
     Ok(())

@@ -26,7 +26,7 @@ use robots_warnings::warning::{Warning, push_warning};
 use std::alloc::{AllocError, Global};
 
 /// Appends the sanitized bytes and a line end.
-pub(crate) fn push_sanitized_line(text: &mut String, bytes: &[u8]) -> Result<(), AllocError>
+fn push_sanitized_line(text: &mut String, bytes: &[u8]) -> Result<(), AllocError>
     ensures { OnOk result (string_bytes text.new ≡ string_bytes text.old ++ ended (sanitized bytes.now ∷ [])) }
 {
     push_sanitized(text, bytes)?;

@@ -2,7 +2,8 @@
 //! for each line of the first 512,000 bytes, with its number, whether it is in the crawler's group, and its directive;
 //! then the group and the delay that apply to the crawler; then for each URL whether the crawler may fetch it, and
 //! which line decides. Warnings about lines that probably don't do what was intended go to standard error. All of this
-//! can be written as JSON, as an HTML page, as annotations for GitHub or as a SARIF log instead.
+//! can be written as JSON or as an HTML page instead. Annotations for GitHub and a SARIF log have what was found: the
+//! URLs that are denied, the crawlers for which the file is rejected, and the warnings.
 //!
 //! `robots_audit [OPTIONS] AGENT [URL]..`
 //!
