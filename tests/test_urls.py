@@ -77,10 +77,11 @@ def test_no_urls(tmp_path, text, more):
     assert outcome(check(tmp_path, text, "Ferris", *more)) == (2, "", "robots_audit: list.txt: there are no URLs\n")
 
 
-@pytest.mark.parametrize("name", ["missing.txt", "."], ids=["missing", "a folder"])
-def test_file_that_cannot_be_read(tmp_path, name):
-    result = run("robots_audit", ["--urls", name, "Ferris"], ROBOTS, cwd=tmp_path)
-    assert outcome(result) == (2, "", f"robots_audit: cannot read {name}\n")
+@pytest.mark.parametrize("option", ["--urls", "--file"])
+@pytest.mark.parametrize("name, shown", [("missing.txt", "missing.txt"), (".", "."), ("", '""')], ids=["missing", "a folder", "no name"])
+def test_file_that_cannot_be_read(tmp_path, option, name, shown):
+    result = run("robots_audit", [option, name, "Ferris"], ROBOTS, cwd=tmp_path)
+    assert outcome(result) == (2, "", f"robots_audit: cannot read {shown}\n")
 
 
 def test_denied_urls_alone(tmp_path):

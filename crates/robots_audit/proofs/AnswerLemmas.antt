@@ -18,7 +18,6 @@ use Rattle.audit_core.specs.Run.{Ends}
 use Rattle.audit_core.specs.Request.{requested_by}
 use Rattle.audit_core.specs.Fault.{MayFail, fault_of_read}
 use Rattle.robots_io.specs.declared.streams.ReadFault.{ReadFault}
-use Rattle.robots_io.specs.declared.streams.ReadFault.TheVariants as cause
 use Rattle.audit_core.proofs.RunLemmas.{bytes_are_left, bytes_left, read_may_fail}
 
 -- a run that failed before it wrote anything

@@ -2,7 +2,7 @@
 -- can't observe.
 use Rattle.std.specs.Prelude.{◌≡◌, ◌≢◌, ℕ, Bool, true, false, List, [], ◌∷◌, ◌++◌, None, Option, Some, Result}
 use Rattle.std.specs.Prelude.{codes, if◌then◌else◌, is_some, not, ◌&&◌, IfErr, IfOk, IfSome, IsErrOf}
-use Rattle.std.specs.Prelude.{string_bytes}
+use Rattle.std.specs.Prelude.{length, string_bytes, ◌==◌}
 use Rattle.std.specs.List.{list_any}
 use Rattle.std.specs.Io.KnownBytes.{Appends, Keeps}
 use Rattle.robots_html.specs.Html.{document}
@@ -136,7 +136,11 @@ abbrev pub IsRejection : List ℕ → Fault → Type 0
 IsRejection message (Words text) = string_bytes text ≡ sanitized_lines message
 IsRejection message fault = fault ≡ Memory
 
--- the error has the sanitized name of the file that can't be read, or an allocation failed
+-- the name of a file in a message; an empty one, as that of an unset variable, is shown as quotes
+abbrev pub name_shown : List ℕ → List ℕ
+name_shown name = if length name == 0 then codes "\"\"" else name
+
+-- the error has this name of the file that can't be read, sanitized, or an allocation failed
 abbrev pub IsFileUnreadable : List ℕ → Fault → Type 0
 IsFileUnreadable name (File text) = string_bytes text ≡ sanitized name
 IsFileUnreadable name fault = fault ≡ Memory

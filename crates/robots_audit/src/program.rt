@@ -1,6 +1,6 @@
 //! The audit of a file and the report on it, for any reader and writer, without the command line.
 ghost use Rattle.std.specs.Prelude.{◌≡◌, IfOk, Some, map, option_map, string_bytes};
-ghost use Rattle.robots_audit.specs.Answer.{Audits, IsRejection, IsFileUnreadable, has_all_urls, has_rows};
+ghost use Rattle.robots_audit.specs.Answer.{Audits, IsRejection, IsFileUnreadable, has_all_urls, has_rows, name_shown};
 ghost use Rattle.robots_audit.specs.Answer.{is_warned, leaves_out_allowed, output, message, shown_name};
 ghost use Rattle.audit_core.specs.Request.{requested_by};
 ghost use Rattle.audit_core.specs.Internal.{audit_value};
@@ -167,12 +167,22 @@ pub fn rejected(alloc: Global, text: &str) -> Fault
     }
 }
 
+/// The name of a file in a message; an empty one, as that of an unset variable, is shown as quotes.
+fn name_shown(name: &str) -> &str
+    ensures { result.now ≡ name_shown name.now }
+{
+    if name.is_empty() {
+        return "\"\"";
+    }
+    name
+}
+
 /// The error for a file with this name that can't be opened or read.
 pub fn unread(alloc: Global, name: &str) -> Fault
-    ensures { IsFileUnreadable name.now result }
+    ensures { IsFileUnreadable (name_shown name.now) result }
 {
     let mut sanitized = String::new(alloc);
-    match push_sanitized(&mut sanitized, name.as_bytes()) {
+    match push_sanitized(&mut sanitized, name_shown(name).as_bytes()) {
         Ok(()) => Fault::File(sanitized),
         Err(AllocError) => Fault::Memory,
     }
