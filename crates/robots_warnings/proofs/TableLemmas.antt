@@ -1,7 +1,8 @@
 -- The rows of the tables of warnings and of their examples.
-use Rattle.std.proofs.Common.{◌≡◌, ℕ, zero, suc, List, [], ◌∷◌, Some, ap, get_or, length, map, sym, ◌∙◌}
+use Rattle.std.proofs.Common.{◌≡◌, ℕ, zero, suc, Bool, List, [], ◌∷◌, Some, ap, get_or, length, map}
+use Rattle.std.proofs.Common.{refl, sym, ◌∙◌}
 use Rattle.std.specs.Prelude.{slice_get, slice_index_or}
-use Rattle.std.specs.List.{range_with_len}
+use Rattle.std.specs.List.{list_any, range_with_len}
 use Rattle.std.proofs.lemmas.List.FromFn.{get_or-range_with_len}
 use borrow.Enum.Match.{tag_small}
 use denote.Enum.Bare.{tag_one}
@@ -9,7 +10,7 @@ use native.Mathlib.Nat.{zero-add}
 use Rattle.robots_warnings.specs.contracts.table.Cause.{the_type}
 use Rattle.robots_warnings.specs.declared.table.Cause.{Cause}
 use Rattle.robots_warnings.specs.declared.table.TheConstants.{WARNINGS}
-use Rattle.robots_warnings.specs.Table.{number_of}
+use Rattle.robots_warnings.specs.Table.{all_causes, number_of}
 use Rattle.robots_warnings.specs.Internal.{IsAt}
 
 -- a field of the row at an index is at the same index in the list of that field of all rows
@@ -23,13 +24,27 @@ pub part_at : {R X : Type 0} (part : R → X) {rows : List R} {at : ℕ} {row : 
     → IsAt rows at row → slice_index_or (map part rows) at other ≡ part row
 part_at part {rows} {at} {row} other is = at_place part rows at row other is.found
 
--- if the items are about the warnings in the order of their numbers, the item at a number is about that
--- warning
+-- a test of some part is a test of the list of these parts
+pub any_part : {R X : Type 0} (test : X → Bool) (part : R → X) (rows : List R)
+    → list_any test (map part rows) ≡ list_any (λ row. test (part row)) rows
+any_part test part [] = refl
+any_part test part (row ∷ rows) = rw (any_part test part rows) refl
+
+numbers_of : {R : Type 0} (cause_of : R → Cause) (rows : List R)
+    → map (λ row. number_of (cause_of row)) rows ≡ map number_of (map cause_of rows)
+numbers_of cause_of [] = refl
+numbers_of cause_of (row ∷ rows) = ap (λ rest. number_of (cause_of row) ∷ rest) (numbers_of cause_of rows)
+
+in_order : map number_of all_causes ≡ range_with_len 0 (length WARNINGS)
+unfolding all_causes
+in_order = refl
+
+-- if the items are about all warnings in order, the item at the index of a warning is about it
 pub own_row : {R : Type 0} (cause_of : R → Cause) {rows : List R} {row : R} (cause : Cause)
-    → IsAt rows (number_of cause) row
-    → map (λ row. number_of (cause_of row)) rows ≡ range_with_len 0 (length WARNINGS) → cause_of row ≡ cause
-own_row cause_of {rows} {row} cause is order =
+    → IsAt rows (number_of cause) row → map cause_of rows ≡ all_causes → cause_of row ≡ cause
+own_row cause_of {rows} {row} cause is same =
     let at = number_of cause in
+    let numbers = numbers_of cause_of rows ∙ ap (map number_of) same ∙ in_order in
     tag_one the_type tt (cause_of row) cause (sym (part_at (λ row. number_of (cause_of row)) 0 is)
-    ∙ ap (λ (numbers : List ℕ). get_or numbers at 0) order
+    ∙ ap (λ (numbers : List ℕ). get_or numbers at 0) numbers
     ∙ get_or-range_with_len 0 (length WARNINGS) at 0 (tag_small the_type cause) ∙ zero-add at)

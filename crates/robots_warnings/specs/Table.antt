@@ -13,17 +13,31 @@ use Rattle.robots_warnings.specs.declared.table.TheConstants.{NOT_ABOUT_SYNTAX, 
 abbrev pub number_of : Cause → ℕ
 number_of cause = tag_of the_type cause
 
+-- the reasons for all warnings
+unfoldable pub all_causes : List Cause
+all_causes = map (λ row. row.0) WARNINGS
+
+-- their levels, their names, as in `[..]`, and their messages
+abbrev pub all_levels : List Level
+all_levels = map (λ row. row.1) WARNINGS
+
+abbrev pub all_names : List (List ℕ)
+all_names = map (λ row. row.2.now) WARNINGS
+
+abbrev pub all_texts : List (List ℕ)
+all_texts = map (λ row. row.3.now) WARNINGS
+
 -- the level of a warning
 unfoldable pub level_of : Cause → Level
-level_of cause = slice_index_or (map (λ row. row.1) WARNINGS) (number_of cause) level.Warning
+level_of cause = slice_index_or all_levels (number_of cause) level.Warning
 
--- the name of a warning, as in `[..]`
+-- the name of a warning
 unfoldable pub name_of : Cause → List ℕ
-name_of cause = slice_index_or (map (λ row. row.2.now) WARNINGS) (number_of cause) []
+name_of cause = slice_index_or all_names (number_of cause) []
 
 -- the message of a warning
 unfoldable pub text_of : Cause → List ℕ
-text_of cause = slice_index_or (map (λ row. row.3.now) WARNINGS) (number_of cause) []
+text_of cause = slice_index_or all_texts (number_of cause) []
 
 -- an example of a warning
 unfoldable pub example_of : Cause → List ℕ
@@ -34,10 +48,6 @@ example_of cause = slice_index_or (map (λ row. row.1.now) EXAMPLES) (number_of 
 abbrev pub is_not_about_syntax : Cause → Bool
 is_not_about_syntax cause = list_any (λ other. number_of other == number_of cause) NOT_ABOUT_SYNTAX
 
--- the reasons for all warnings
-unfoldable pub all_causes : List Cause
-all_causes = map (λ row. row.0) WARNINGS
-
 -- some warning has this name
 unfoldable pub is_name : List ℕ → Bool
-is_name name = list_any (λ row. bytes_eq row.2.now name) WARNINGS
+is_name name = list_any (λ other. bytes_eq other name) all_names

@@ -5,7 +5,9 @@
 ghost use Rattle.std.specs.Prelude.{◌≡◌, ◌<◌, IfOk, bytes_eq, length, map};
 ghost use Rattle.std.specs.List.{list_any};
 ghost use Rattle.robots_warnings.specs.Internal.{IsRowAt};
-ghost use Rattle.robots_warnings.specs.Table.{all_causes, is_not_about_syntax, is_name, level_of, name_of, text_of};
+ghost use Rattle.robots_warnings.specs.Table.{all_causes, all_levels, all_names, all_texts};
+ghost use Rattle.robots_warnings.specs.Table.{is_not_about_syntax, is_name, level_of, name_of, text_of};
+ghost use Rattle.robots_warnings.specs.declared.table.TheConstants.{WARNINGS};
 
 use crate::level::Level;
 use std::alloc::{AllocError, Global};
@@ -295,11 +297,23 @@ pub(crate) static NOT_ABOUT_SYNTAX: [Cause; 31] = [
     Cause::NotNeeded,
 ];
 
+/// A row of [`WARNINGS`].
+type Row = (Cause, Level, &'static str, &'static str);
+
+/// The rows of [`WARNINGS`]. Each function that names this long table takes a minute to prove, so no other does.
+#[tactic(auto, unfolding(crate::specs::Table::all_causes))]
+fn rows() -> &'static [Row]
+    ensures length { length result.now ≡ length WARNINGS }
+    ensures causes { map (λ row. row.0) result.now ≡ all_causes }
+    ensures levels { map (λ row. row.1) result.now ≡ all_levels }
+    ensures names { map (λ row. row.2.now) result.now ≡ all_names }
+    ensures texts { map (λ row. row.3.now) result.now ≡ all_texts }
+{
+    &WARNINGS
+}
+
 /// The row at this index.
-fn row_at(
-    rows: &'static [(Cause, Level, &'static str, &'static str)],
-    number: usize,
-) -> &'static (Cause, Level, &'static str, &'static str)
+fn row_at(rows: &'static [Row], number: usize) -> &'static Row
     requires { number < length rows.now }
     ensures { IsRowAt rows.now number result.now }
 {
@@ -307,25 +321,21 @@ fn row_at(
 }
 
 /// Whether one of the rows has this name.
-fn has_name(rows: &'static [(Cause, Level, &'static str, &'static str)], name: &str) -> bool
+fn has_name(rows: &'static [Row], name: &str) -> bool
     ensures { result ≡ list_any (λ row. bytes_eq row.2.now name.now) rows.now }
 {
     rows.iter().any(|row| row.2 == name)
 }
 
 /// Whether a warning has this name.
-#[tactic(auto, unfolding(crate::specs::Table::is_name))]
 pub fn is_name(name: &str) -> bool
     ensures { result ≡ is_name name.now }
 {
-    has_name(&WARNINGS, name)
+    has_name(rows(), name)
 }
 
 /// The reasons in these rows.
-fn causes_in(
-    alloc: Global,
-    rows: &'static [(Cause, Level, &'static str, &'static str)],
-) -> Result<Vec<Cause>, AllocError>
+fn causes_in(alloc: Global, rows: &'static [Row]) -> Result<Vec<Cause>, AllocError>
     ensures { IfOk result (λ causes. causes.items ≡ map (λ row. row.0) rows.now) }
 {
     let mut causes = Vec::with_capacity(alloc, rows.len())?;
@@ -340,18 +350,18 @@ fn causes_in(
 pub fn causes(alloc: Global) -> Result<Vec<Cause>, AllocError>
     ensures { IfOk result (λ causes. causes.items ≡ all_causes) }
 {
-    causes_in(alloc, &WARNINGS)
+    causes_in(alloc, rows())
 }
 
 impl Cause {
     /// The row of the warning.
-    fn row(self) -> &'static (Cause, Level, &'static str, &'static str)
+    fn row(self) -> &'static Row
         ensures own { result.now.0 ≡ self }
         ensures level { result.now.1 ≡ level_of self }
         ensures name { result.now.2.now ≡ name_of self }
         ensures text { result.now.3.now ≡ text_of self }
     {
-        row_at(&WARNINGS, self as usize)
+        row_at(rows(), self as usize)
     }
 
     /// The level of the warning.
