@@ -1,4 +1,4 @@
-//! The command line: its options, and the request that they result in.
+//! The command line, and the request that it results in.
 ghost use Rattle.std.specs.Prelude.{◌≡◌, ◌≢◌, ◌++◌, IfErr, IfOk, IsTrue, OnOk, is_some, map, option_map};
 ghost use Rattle.std.specs.Prelude.{◌||◌};
 ghost use Rattle.std.specs.List.{list_all};
@@ -7,205 +7,16 @@ ghost use Rattle.audit_command.specs.Command.{AreNamesOf, Asks, file_read, forma
 ghost use Rattle.audit_command.specs.Command.{is_stdin, IsUnknownIn, LacksAgent, level_named};
 ghost use Rattle.audit_command.specs.Command.{reads_stdin_twice, requested_format, values_of, words_of};
 
+use crate::options::with_options;
 use audit_core::color::requested_colors;
 use audit_core::crawler::single;
 use audit_core::fault::{Fault, unknown};
 use audit_core::request::{Format, Request};
 use audit_core::version::VERSION_AND_TOOLCHAIN;
-use clap::builder::ValueParser;
-use clap::{Arg, ArgAction, ArgMatches, Command};
+use clap::{ArgMatches, Command};
 use robots_warnings::level::Level;
 use robots_warnings::table::is_name;
 use std::alloc::{AllocError, Global};
-
-/// An option without a value.
-fn switch<'a>(alloc: Global, name: &'a str, help: &'a str) -> Arg<'a> {
-    Arg::new(alloc, name)
-        .long(name)
-        .action(ArgAction::SetTrue)
-        .help(help)
-}
-
-/// Adds the arguments AGENT and URL, and the option `--file`.
-fn with_words<'a>(alloc: Global, called: Command<'a>) -> Result<Command<'a>, AllocError> {
-    let agent = Arg::new(alloc, "agent")
-        .value_name("AGENT")
-        .help("The crawler's product token, without a version");
-    let called = called.arg(agent)?;
-    let urls = Arg::new(alloc, "url")
-        .value_name("URL")
-        .num_args(0..)
-        .help("URLs or paths to check");
-    let called = called.arg(urls)?;
-    let file = Arg::new(alloc, "file")
-        .short('f')
-        .long("file")
-        .value_name("FILE")
-        .help("robots.txt file to read (default, or -: standard input)");
-    called.arg(file)
-}
-
-/// The option `--strict`, whose value can only follow a `=`, as AGENT may follow the option.
-fn strict<'a>(alloc: Global) -> Arg<'a> {
-    Arg::new(alloc, "strict")
-        .long("strict")
-        .value_name("LEVEL")
-        .num_args(0..=1)
-        .require_equals(true)
-        .default_missing_value("warning")
-        .value_parser(ValueParser::Names(&["error", "warning", "note"]))
-        .help("Exit with status 3 if there is a warning at this level or a more serious one")
-}
-
-/// Adds the options `--urls` and `--denied`.
-fn with_list<'a>(alloc: Global, called: Command<'a>) -> Result<Command<'a>, AllocError> {
-    let urls = Arg::new(alloc, "urls").long("urls").value_name("FILE").help(
-        "Check the URLs in this file too, one per line (-: standard input)",
-    );
-    let denied = switch(alloc, "denied", "List only the URLs that are denied");
-    called.arg(urls)?.arg(denied)
-}
-
-/// Adds the option `--format`, and its short forms `--json` and `--html`, of which only one can be given.
-fn with_format<'a>(alloc: Global, called: Command<'a>) -> Result<Command<'a>, AllocError> {
-    let format = Arg::new(alloc, "format")
-        .long("format")
-        .value_name("FORMAT")
-        .value_parser(ValueParser::Names(&["text", "json", "html", "github", "sarif"]))
-        .help(
-            "How to write the report: text (default), json, an html page, annotations for github, or sarif 2.1.0",
-        );
-    let called = called.arg(format)?;
-    let json = switch(alloc, "json", "The same as --format json");
-    let called = called.arg(json.conflicts_with("format")?)?;
-    let html = switch(alloc, "html", "The same as --format html");
-    called.arg(html.conflicts_with("format")?.conflicts_with("json")?)
-}
-
-/// The option `--color`.
-fn color<'a>(alloc: Global) -> Arg<'a> {
-    Arg::new(alloc, "color")
-        .long("color")
-        .value_name("WHEN")
-        .value_parser(ValueParser::Names(&["auto", "always", "never"]))
-        .help(
-            "Color the levels of warnings; auto (default): on a terminal, unless NO_COLOR isn't empty or TERM is dumb",
-        )
-}
-
-/// Adds the options without a value, `--format`, `--color` and `--strict`.
-fn with_switches<'a>(alloc: Global, called: Command<'a>) -> Result<Command<'a>, AllocError> {
-    let agents = switch(
-        alloc,
-        "agents",
-        "Report on * and every crawler named in the file, instead of AGENT",
-    );
-    let called = called.arg(agents.short('a'))?;
-    let quiet = switch(alloc, "quiet", "Don't list the lines of the file");
-    let called = called.arg(quiet.short('q'))?;
-    with_format(alloc, called)?
-        .arg(color(alloc))?
-        .arg(strict(alloc))
-}
-
-/// An option whose value is a name, and which can be repeated.
-fn naming<'a>(alloc: Global, name: &'a str, help: &'a str) -> Arg<'a> {
-    Arg::new(alloc, name)
-        .long(name)
-        .value_name("NAME")
-        .action(ArgAction::Append)
-        .help(help)
-}
-
-/// Adds the option `--agent`, which excludes `--agents`.
-fn with_crawlers<'a>(alloc: Global, called: Command<'a>) -> Result<Command<'a>, AllocError> {
-    let crawlers = naming(
-        alloc,
-        "crawler",
-        "Report on this crawler, instead of AGENT; may be repeated",
-    )
-    .long("agent")
-    .conflicts_with("agents")?;
-    called.arg(crawlers)
-}
-
-/// Adds the option `--needless`, and those that choose warnings by name.
-fn with_names<'a>(alloc: Global, called: Command<'a>) -> Result<Command<'a>, AllocError> {
-    let needless = switch(alloc, "needless", "Warn also of rules that can be deleted");
-    let called = called.arg(needless)?;
-    let only = naming(
-        alloc,
-        "only",
-        "Give only warnings with this name; may be repeated",
-    );
-    let called = called.arg(only)?;
-    let ignored = naming(
-        alloc,
-        "ignore",
-        "Leave out warnings with this name; may be repeated",
-    );
-    called.arg(ignored)
-}
-
-/// The arguments and options of an audit, other than `--file`.
-fn of_audits<'a>() -> [&'a str; 15] {
-    [
-        "agent", "url", "agents", "crawler", "urls", "denied", "quiet", "format", "json", "html",
-        "color", "strict", "needless", "only", "ignore",
-    ]
-}
-
-/// Adds the option `--expect`, which excludes all others but `--file`.
-fn with_expect<'a>(alloc: Global, called: Command<'a>) -> Result<Command<'a>, AllocError> {
-    let others = of_audits();
-    let expect = Arg::new(alloc, "expect")
-        .long("expect")
-        .value_name("FILE")
-        .help(
-            "Check instead the lines \"allow AGENT URL\" and \"deny AGENT URL\" of this file (-: standard input)",
-        )
-        .conflicts_with_all(&others)?;
-    called.arg(expect)
-}
-
-/// Adds the option `--compare`, which excludes those about warnings and the form of the report.
-fn with_compare<'a>(alloc: Global, called: Command<'a>) -> Result<Command<'a>, AllocError> {
-    let others = [
-        "expect", "urls", "denied", "quiet", "format", "json", "html", "color", "strict",
-        "needless", "only", "ignore",
-    ];
-    let compare = Arg::new(alloc, "compare")
-        .long("compare")
-        .value_name("OLD")
-        .help("Report instead what differs from OLD (-: standard input) to the file that -f names")
-        .conflicts_with_all(&others)?;
-    called.arg(compare)
-}
-
-/// Adds the options `--list-warnings` and `--explain`, which exclude all others.
-fn with_lists<'a>(alloc: Global, called: Command<'a>) -> Result<Command<'a>, AllocError> {
-    let others = of_audits();
-    let list = switch(
-        alloc,
-        "list-warnings",
-        "List all warnings with their levels and messages",
-    )
-    .conflicts_with_all(&others)?
-    .conflicts_with("file")?
-    .conflicts_with("expect")?
-    .conflicts_with("compare")?;
-    let called = called.arg(list)?;
-    let explain = Arg::new(alloc, "explain")
-        .long("explain")
-        .value_name("NAME")
-        .help("Show the level, the message and an example of the warning with this name")
-        .conflicts_with_all(&others)?
-        .conflicts_with("file")?
-        .conflicts_with("expect")?
-        .conflicts_with("compare")?
-        .conflicts_with("list-warnings")?;
-    called.arg(explain)
-}
 
 /// The program's options and arguments.
 pub fn command<'a>(alloc: Global) -> Result<Command<'a>, AllocError> {
@@ -213,10 +24,7 @@ pub fn command<'a>(alloc: Global) -> Result<Command<'a>, AllocError> {
         .version(VERSION_AND_TOOLCHAIN)
         .about("Explains how a crawler interprets a robots.txt file")
         .override_usage("robots_audit [-f FILE] [OPTIONS] AGENT [URL]..");
-    let called = with_list(alloc, with_words(alloc, called)?)?;
-    let called = with_switches(alloc, with_crawlers(alloc, called)?)?;
-    let called = with_expect(alloc, with_names(alloc, called)?)?;
-    with_lists(alloc, with_compare(alloc, called)?)
+    with_options(alloc, called)
 }
 
 /// The name of the file that is read; `None` for standard input, which `-` means too.

@@ -1,0 +1,269 @@
+//! The options and arguments of `robots_audit`.
+use clap::builder::ValueParser;
+use clap::{Arg, ArgAction, Command};
+use std::alloc::{AllocError, Global};
+
+/// The value of an option, or the text of an argument: what `--help` calls it, and what it can be.
+#[derive(Clone, Copy)]
+enum Value {
+    /// Nothing: the option is on or off.
+    Absent,
+    /// One text.
+    Text(&'static str),
+    /// Any number of texts.
+    Texts(&'static str),
+    /// One text each time that the option is given.
+    Repeated(&'static str),
+    /// One of these words.
+    OneOf(&'static str, &'static [&'static str]),
+    /// One of these words, which can only follow a `=`, as AGENT may follow the option. Without a
+    /// `=` the value is the text after the list of words.
+    OneOfAfterEquals(&'static str, &'static [&'static str], &'static str),
+}
+
+/// A row of the table: an option, or an argument, which has neither a short nor a long name.
+struct Parameter {
+    /// The name by which its values are read.
+    id: &'static str,
+    short: Option<char>,
+    long: Option<&'static str>,
+    value: Value,
+    help: &'static str,
+    /// Lists of options and arguments that can't be given with it, by their ids. If two exclude
+    /// each other, one of them names the other.
+    excludes: &'static [&'static [&'static str]],
+}
+
+/// The arguments, and the options that choose crawlers.
+const OF_CRAWLERS: &[&str] = &["agent", "url", "agents", "crawler"];
+
+/// The other options of an audit than `--file`: about URLs, warnings and the form of the report.
+const OF_REPORTS: &[&str] = &[
+    "urls", "denied", "quiet", "format", "json", "html", "color", "strict", "needless", "only",
+    "ignore",
+];
+
+/// The arguments in their order, and the options in that of the help.
+const PARAMETERS: &[Parameter] = &[
+    Parameter {
+        id: "agent",
+        short: None,
+        long: None,
+        value: Value::Text("AGENT"),
+        help: "The crawler's product token, without a version",
+        excludes: &[],
+    },
+    Parameter {
+        id: "url",
+        short: None,
+        long: None,
+        value: Value::Texts("URL"),
+        help: "URLs or paths to check",
+        excludes: &[],
+    },
+    Parameter {
+        id: "file",
+        short: Some('f'),
+        long: Some("file"),
+        value: Value::Text("FILE"),
+        help: "robots.txt file to read (default, or -: standard input)",
+        excludes: &[],
+    },
+    Parameter {
+        id: "urls",
+        short: None,
+        long: Some("urls"),
+        value: Value::Text("FILE"),
+        help: "Check the URLs in this file too, one per line (-: standard input)",
+        excludes: &[],
+    },
+    Parameter {
+        id: "denied",
+        short: None,
+        long: Some("denied"),
+        value: Value::Absent,
+        help: "List only the URLs that are denied",
+        excludes: &[],
+    },
+    Parameter {
+        id: "crawler",
+        short: None,
+        long: Some("agent"),
+        value: Value::Repeated("NAME"),
+        help: "Report on this crawler, instead of AGENT; may be repeated",
+        excludes: &[&["agents"]],
+    },
+    Parameter {
+        id: "agents",
+        short: Some('a'),
+        long: Some("agents"),
+        value: Value::Absent,
+        help: "Report on * and every crawler named in the file, instead of AGENT",
+        excludes: &[],
+    },
+    Parameter {
+        id: "quiet",
+        short: Some('q'),
+        long: Some("quiet"),
+        value: Value::Absent,
+        help: "Don't list the lines of the file",
+        excludes: &[],
+    },
+    Parameter {
+        id: "format",
+        short: None,
+        long: Some("format"),
+        value: Value::OneOf("FORMAT", &["text", "json", "html", "github", "sarif"]),
+        help: "How to write the report: text (default), json, an html page, annotations for github, or sarif 2.1.0",
+        excludes: &[],
+    },
+    Parameter {
+        id: "json",
+        short: None,
+        long: Some("json"),
+        value: Value::Absent,
+        help: "The same as --format json",
+        excludes: &[&["format"]],
+    },
+    Parameter {
+        id: "html",
+        short: None,
+        long: Some("html"),
+        value: Value::Absent,
+        help: "The same as --format html",
+        excludes: &[&["format", "json"]],
+    },
+    Parameter {
+        id: "color",
+        short: None,
+        long: Some("color"),
+        value: Value::OneOf("WHEN", &["auto", "always", "never"]),
+        help: "Color the levels of warnings; auto (default): on a terminal, unless NO_COLOR isn't empty or TERM is dumb",
+        excludes: &[],
+    },
+    Parameter {
+        id: "strict",
+        short: None,
+        long: Some("strict"),
+        value: Value::OneOfAfterEquals("LEVEL", &["error", "warning", "note"], "warning"),
+        help: "Exit with status 3 if there is a warning at this level or a more serious one",
+        excludes: &[],
+    },
+    Parameter {
+        id: "needless",
+        short: None,
+        long: Some("needless"),
+        value: Value::Absent,
+        help: "Warn also of rules that can be deleted",
+        excludes: &[],
+    },
+    Parameter {
+        id: "only",
+        short: None,
+        long: Some("only"),
+        value: Value::Repeated("NAME"),
+        help: "Give only warnings with this name; may be repeated",
+        excludes: &[],
+    },
+    Parameter {
+        id: "ignore",
+        short: None,
+        long: Some("ignore"),
+        value: Value::Repeated("NAME"),
+        help: "Leave out warnings with this name; may be repeated",
+        excludes: &[],
+    },
+    Parameter {
+        id: "expect",
+        short: None,
+        long: Some("expect"),
+        value: Value::Text("FILE"),
+        help: "Check instead the lines \"allow AGENT URL\" and \"deny AGENT URL\" of this file (-: standard input)",
+        excludes: &[OF_CRAWLERS, OF_REPORTS],
+    },
+    Parameter {
+        id: "compare",
+        short: None,
+        long: Some("compare"),
+        value: Value::Text("OLD"),
+        help: "Report instead what differs from OLD (-: standard input) to the file that -f names",
+        excludes: &[&["expect"], OF_REPORTS],
+    },
+    Parameter {
+        id: "list-warnings",
+        short: None,
+        long: Some("list-warnings"),
+        value: Value::Absent,
+        help: "List all warnings with their levels and messages",
+        excludes: &[OF_CRAWLERS, OF_REPORTS, &["file", "expect", "compare"]],
+    },
+    Parameter {
+        id: "explain",
+        short: None,
+        long: Some("explain"),
+        value: Value::Text("NAME"),
+        help: "Show the level, the message and an example of the warning with this name",
+        excludes: &[
+            OF_CRAWLERS,
+            OF_REPORTS,
+            &["file", "expect", "compare", "list-warnings"],
+        ],
+    },
+];
+
+/// The option with its short and long names, if it has them.
+fn with_names<'a>(arg: Arg<'a>, short: Option<char>, long: Option<&'a str>) -> Arg<'a> {
+    let arg = match short {
+        Some(short) => arg.short(short),
+        None => arg,
+    };
+    match long {
+        Some(long) => arg.long(long),
+        None => arg,
+    }
+}
+
+/// The option or argument with this value.
+fn with_value<'a>(arg: Arg<'a>, value: Value) -> Arg<'a> {
+    match value {
+        Value::Absent => arg.action(ArgAction::SetTrue),
+        Value::Text(name) => arg.value_name(name),
+        Value::Texts(name) => arg.value_name(name).num_args(0..),
+        Value::Repeated(name) => arg.value_name(name).action(ArgAction::Append),
+        Value::OneOf(name, words) => arg.value_name(name).value_parser(ValueParser::Names(words)),
+        Value::OneOfAfterEquals(name, words, missing) => arg
+            .value_name(name)
+            .value_parser(ValueParser::Names(words))
+            .num_args(0..=1)
+            .require_equals(true)
+            .default_missing_value(missing),
+    }
+}
+
+/// The option or argument, which excludes all of these.
+fn excluding<'a>(mut arg: Arg<'a>, lists: &[&[&'a str]]) -> Result<Arg<'a>, AllocError> {
+    for ids in lists {
+        arg = arg.conflicts_with_all(ids)?;
+    }
+    Ok(arg)
+}
+
+impl Parameter {
+    /// The option or argument for `clap`.
+    fn arg<'a>(&self, alloc: Global) -> Result<Arg<'a>, AllocError> {
+        let arg = Arg::new(alloc, self.id).help(self.help);
+        let arg = with_value(with_names(arg, self.short, self.long), self.value);
+        excluding(arg, self.excludes)
+    }
+}
+
+/// Adds all options and arguments.
+pub(crate) fn with_options<'a>(
+    alloc: Global,
+    mut called: Command<'a>,
+) -> Result<Command<'a>, AllocError> {
+    for parameter in PARAMETERS {
+        called = called.arg(parameter.arg(alloc)?)?;
+    }
+    Ok(called)
+}
