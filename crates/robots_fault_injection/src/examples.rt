@@ -1,5 +1,6 @@
 //! Worked examples of the callers: an audit, a cache of robots, a crawler's plans, a link checker, and a single query
 //! of one file.
+use crate::calls::outcome_of;
 use robots_examples::audit::{Kind, Row, audit};
 use robots_examples::cache::{Cache, CacheError, MAX_ROBOTS};
 use robots_examples::crawler::{DelayPolicy, plan_for};
@@ -39,7 +40,7 @@ pub(crate) const CALLS: &[(&str, Call)] = &[
 /// Makes a call, and returns whether its result is right.
 pub(crate) fn answer(alloc: Global, call: &Call) -> Result<bool, Error> {
     match call {
-        Call::Audit => Ok(are_rows(&audit(alloc, AUDITED)?)),
+        Call::Audit => audits(alloc),
         Call::OneSite => keeps_one_site(alloc),
         Call::FullCache => forgets_oldest(alloc),
         Call::Plan => Ok(plans(alloc)? && caps_delay(alloc)?),
@@ -64,6 +65,11 @@ const KINDS: &[Kind] = &[
     Kind::Sitemap,
 ];
 
+fn audits(alloc: Global) -> Result<bool, Error> {
+    let rows = audit(alloc, AUDITED)?;
+    Ok(are_rows(&rows))
+}
+
 /// Whether each line of the audited file has its row, and the third one is the rule without its comment.
 fn are_rows(rows: &[Row<'_>]) -> bool {
     for (position, row) in rows.iter().enumerate() {
@@ -78,7 +84,7 @@ fn are_rows(rows: &[Row<'_>]) -> bool {
 const CACHED: &[u8] = b"User-agent: *\nDisallow: /a\n";
 
 /// Whether a cache stored a robot; `None` if its URL isn't on a site.
-fn is_stored(answer: Result<(), CacheError>) -> Result<Option<bool>, Error> {
+fn is_stored(answer: &Result<(), CacheError>) -> Result<Option<bool>, Error> {
     match answer {
         Ok(()) => Ok(Some(true)),
         Err(CacheError::Memory | CacheError::File(Error::Memory)) => Err(Error::Memory),
@@ -95,12 +101,14 @@ pub(crate) fn stores(
     url: &str,
     file: &[u8],
 ) -> Result<bool, Error> {
-    Ok(is_stored(cache.put(alloc, "Bot", url, file))? == Some(true))
+    let answer = cache.put(alloc, "Bot", url, file);
+    Ok(is_stored(&answer)? == Some(true))
 }
 
 /// Whether a cache rejects a URL that isn't on a site.
 fn rejects_mail(alloc: Global, cache: &mut Cache) -> Result<bool, Error> {
-    Ok(is_stored(cache.put(alloc, "Bot", "mailto:a@example.com", b""))?.is_none())
+    let answer = cache.put(alloc, "Bot", "mailto:a@example.com", b"");
+    Ok(is_stored(&answer)?.is_none())
 }
 
 /// Whether the robot that is stored for the site of a page has this verdict on a URL; `None` means that no robot is
@@ -115,8 +123,7 @@ pub(crate) fn has_verdict(
     match cache.find(alloc, page) {
         Ok(Some(robot)) => Ok(Some(robot.allowed(alloc, url)?) == want),
         Ok(None) => Ok(want.is_none()),
-        Err(ParseError::OutOfMemory | ParseError::Overflow) => Err(Error::Memory),
-        Err(_) => Ok(false),
+        Err(error) => outcome_of(error),
     }
 }
 
@@ -137,35 +144,52 @@ const SAID: &[(&str, &str, Option<bool>)] = &[
 
 fn keeps_one_site(alloc: Global) -> Result<bool, Error> {
     let mut cache = Cache::new(alloc);
-    if !stores(alloc, &mut cache, "https://example.com/a/b", CACHED)? {
-        return Ok(false);
-    }
+    stores_one(alloc, &mut cache)
+}
+
+fn stores_one(alloc: Global, cache: &mut Cache) -> Result<bool, Error> {
+    Ok(
+        stores(alloc, cache, "https://example.com/a/b", CACHED)?
+            && has_verdicts(alloc, cache)?
+            && rejects_mail(alloc, cache)?,
+    )
+}
+
+fn has_verdicts(alloc: Global, cache: &Cache) -> Result<bool, Error> {
     for (page, url, want) in SAID {
-        if !has_verdict(alloc, &cache, page, url, *want)? {
+        if !has_verdict(alloc, cache, page, url, *want)? {
             return Ok(false);
         }
     }
-    rejects_mail(alloc, &mut cache)
+    Ok(true)
 }
 
-/// Whether a cache stores the robots of the maximum number of sites.
-fn keeps_most(alloc: Global, cache: &mut Cache) -> Result<bool, Error> {
-    for site in 0..MAX_ROBOTS {
-        let url = format!(in alloc; "https://s{site}.example.com/")?;
-        if !stores(alloc, cache, &url, b"")? {
+/// Whether a cache stores the robots of the maximum number of sites: s1.example.com, s2.example.com and so on.
+pub(crate) fn stores_most(alloc: Global, cache: &mut Cache) -> Result<bool, Error> {
+    for site in 1..=MAX_ROBOTS {
+        if !stores_site(alloc, cache, site)? {
             return Ok(false);
         }
     }
     Ok(cache.robots.len() == MAX_ROBOTS)
 }
 
-/// The robot of example.com is the oldest, so it is removed.
+fn stores_site(alloc: Global, cache: &mut Cache, site: usize) -> Result<bool, Error> {
+    let url = format!(in alloc; "https://s{site}.example.com/")?;
+    stores(alloc, cache, &url, b"")
+}
+
 fn forgets_oldest(alloc: Global) -> Result<bool, Error> {
     let mut cache = Cache::new(alloc);
+    stores_one_more(alloc, &mut cache)
+}
+
+/// The robot of example.com is the oldest, so it is removed.
+fn stores_one_more(alloc: Global, cache: &mut Cache) -> Result<bool, Error> {
     Ok(
-        stores(alloc, &mut cache, "https://example.com/a/b", CACHED)?
-            && keeps_most(alloc, &mut cache)?
-            && has_verdict(alloc, &cache, "https://example.com/", "/", None)?,
+        stores(alloc, cache, "https://example.com/a/b", CACHED)?
+            && stores_most(alloc, cache)?
+            && has_verdict(alloc, cache, "https://example.com/", "/", None)?,
     )
 }
 
@@ -174,7 +198,8 @@ const CRAWLED: &[u8] =
     b"User-agent: Ferris\nDisallow: /private\nAllow: /private/open\nCrawl-delay: 2.5\n\n\
     User-agent: *\nDisallow: /\n";
 
-const WAITS: DelayPolicy = DelayPolicy {
+/// How long crawlers wait between two requests: one second, and at most a minute.
+pub(crate) const WAITS: DelayPolicy = DelayPolicy {
     usual: 1_000_000,
     longest: 60_000_000,
 };
@@ -199,23 +224,36 @@ const PLANS: &[(&str, u64, &[&str])] = &[
 
 fn plans(alloc: Global) -> Result<bool, Error> {
     for (agent, wait, urls) in PLANS {
-        let plan = plan_for(alloc, agent, CRAWLED, URLS, WAITS)?;
-        if plan.wait != *wait || plan.urls.as_slice() != *urls {
+        if !has_plan(alloc, agent, CRAWLED, URLS, *wait, urls)? {
             return Ok(false);
         }
     }
     Ok(true)
 }
 
+/// Whether a crawler that found these URLs has this wait, and fetches exactly the wanted ones.
+pub(crate) fn has_plan(
+    alloc: Global,
+    agent: &str,
+    file: &[u8],
+    urls: &[&str],
+    wait: u64,
+    want: &[&str],
+) -> Result<bool, Error> {
+    let plan = plan_for(alloc, agent, file, urls, WAITS)?;
+    Ok(plan.wait == wait && plan.urls.as_slice() == want)
+}
+
 /// An infinite delay is capped at the longest wait.
 fn caps_delay(alloc: Global) -> Result<bool, Error> {
-    let plan = plan_for(alloc, "Ferris", b"Crawl-delay: inf", &[], WAITS)?;
-    Ok(plan.wait == 60_000_000)
+    let file = b"Crawl-delay: inf";
+    has_plan(alloc, "Ferris", file, &[], WAITS.longest, &[])
 }
 
 fn counts_denied(alloc: Global) -> Result<bool, Error> {
     let file = b"User-agent: *\nDisallow: /a\nDisallow: /*.pdf$\n";
-    Ok(denies_two(&Robot::new(alloc, "LinkBot", file)?))
+    let robot = Robot::new(alloc, "LinkBot", file)?;
+    Ok(denies_two(&robot))
 }
 
 /// Whether a robot with two rules denies two of five links, which have 31 bytes in all, within the bound on looks; and

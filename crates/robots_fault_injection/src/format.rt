@@ -28,10 +28,21 @@ pub(crate) fn answer(alloc: Global, call: &Call) -> Result<bool, Error> {
     }
 }
 
+/// A pattern, as printed.
+pub(crate) fn printed_pattern(alloc: Global, pattern: &str) -> Result<String, Error> {
+    let pattern = MinRegex::new(alloc, pattern)?;
+    Ok(format!(in alloc; "{pattern:?}")?)
+}
+
+/// The robot of a file, as printed.
+pub(crate) fn printed_robot(alloc: Global, file: &[u8]) -> Result<String, Error> {
+    let robot = Robot::new(alloc, "Bot", file)?;
+    Ok(format!(in alloc; "{robot:?}")?)
+}
+
 /// A pattern is printed unchanged.
 fn prints_pattern(alloc: Global) -> Result<bool, Error> {
-    let pattern = MinRegex::new(alloc, "/a**b")?;
-    let text = format!(in alloc; "{pattern:?}")?;
+    let text = printed_pattern(alloc, "/a**b")?;
     Ok(text.as_str() == "MinRegex(\"/a**b\")")
 }
 
@@ -39,8 +50,7 @@ fn prints_pattern(alloc: Global) -> Result<bool, Error> {
 /// fifteen bytes and its number, and a comma and a space follow it, except for the last.
 fn prints_robot(alloc: Global) -> Result<bool, Error> {
     let file = "Disallow: /a\n".repeat(alloc, 101)?;
-    let robot = Robot::new(alloc, "Bot", file.as_bytes())?;
-    let text = format!(in alloc; "{robot:?}")?;
+    let text = printed_robot(alloc, file.as_bytes())?;
     Ok(is_robot_of_101(&text))
 }
 
@@ -67,10 +77,14 @@ const ERRORS: &[(CacheError, &str)] = &[
 
 fn prints_errors(alloc: Global) -> Result<bool, Error> {
     for (error, want) in ERRORS {
-        let text = error.to_string(alloc)?;
-        if text.as_str() != *want {
+        if !prints_error(alloc, error, want)? {
             return Ok(false);
         }
     }
     Ok(true)
+}
+
+fn prints_error(alloc: Global, error: &CacheError, want: &str) -> Result<bool, Error> {
+    let text = error.to_string(alloc)?;
+    Ok(text.as_str() == want)
 }

@@ -1,14 +1,12 @@
 //! The library's calls on large inputs. With enough memory each result is right: no length and no number leads to
 //! `Error::Memory`.
-use crate::calls::is_address;
+use crate::calls::{has_address, has_target};
 use std::alloc::Global;
 use texting_robots::labels::{is_named, labeled_lines};
 use texting_robots::minregex::MinRegex;
 use texting_robots::parser::{Line, file_lines, lines, read_delay, robots_txt_parse};
 use texting_robots::view::View;
-use texting_robots::{
-    Decision, Error, Robot, allowed_in_file, get_robots_url, push_escaped_bytes, robots_url_of,
-};
+use texting_robots::{Decision, Error, Robot, allowed_in_file, push_escaped_bytes};
 
 /// A call on large inputs.
 pub(crate) enum Call {
@@ -62,9 +60,21 @@ pub(crate) type Parts<'a> = &'a [(&'a str, usize)];
 pub(crate) fn long(alloc: Global, parts: Parts<'_>) -> Result<String, Error> {
     let mut text = String::new(alloc);
     for (part, count) in parts {
-        text.push_str(&part.repeat(alloc, *count)?)?;
+        push_repeated(alloc, &mut text, part, *count)?;
     }
     Ok(text)
+}
+
+fn push_repeated(alloc: Global, text: &mut String, part: &str, count: usize) -> Result<(), Error> {
+    let repeated = part.repeat(alloc, count)?;
+    text.push_str(&repeated)?;
+    Ok(())
+}
+
+/// Whether a text consists of these parts.
+pub(crate) fn has_parts(alloc: Global, text: &str, parts: Parts<'_>) -> Result<bool, Error> {
+    let want = long(alloc, parts)?;
+    Ok(want.as_str() == text)
 }
 
 /// Makes a call, and returns whether its result is right.
@@ -105,12 +115,17 @@ const ADDRESSES: &[(Parts<'static>, Parts<'static>)] = &[
 
 fn addresses(alloc: Global) -> Result<bool, Error> {
     for (page, want) in ADDRESSES {
-        let page = long(alloc, page)?;
-        if !is_address(get_robots_url(alloc, &page), &long(alloc, want)?)? {
+        if !has_long_address(alloc, page, want)? {
             return Ok(false);
         }
     }
     Ok(true)
+}
+
+fn has_long_address(alloc: Global, page: Parts<'_>, want: Parts<'_>) -> Result<bool, Error> {
+    let page = long(alloc, page)?;
+    let want = long(alloc, want)?;
+    has_address(alloc, &page, &want)
 }
 
 /// A file of many equal lines.
@@ -152,20 +167,28 @@ const DELAYS: &[(Parts<'static>, u64)] = &[
 
 fn reads_delays(alloc: Global) -> Result<bool, Error> {
     for (parts, want) in DELAYS {
-        let text = long(alloc, parts)?;
-        if read_delay(text.as_bytes()) != Some(*want) {
+        if !is_delay(alloc, parts, *want)? {
             return Ok(false);
         }
     }
     Ok(true)
 }
 
+fn is_delay(alloc: Global, parts: Parts<'_>, want: u64) -> Result<bool, Error> {
+    let text = long(alloc, parts)?;
+    Ok(read_delay(text.as_bytes()) == Some(want))
+}
+
 fn patterns(alloc: Global) -> Result<bool, Error> {
     let pattern = long(alloc, &[("/", 1), ("a*", LONG)])?;
-    let text = long(alloc, &[("/", 1), ("a", LONG)])?;
     let made = MinRegex::new(alloc, &pattern)?;
     let copy = made.clone(alloc)?;
-    Ok(copy == made && copy.as_str() == pattern.as_str() && matches_all(&copy, &text))
+    Ok(copy == made && copy.as_str() == pattern.as_str() && matches_long(alloc, &copy)?)
+}
+
+fn matches_long(alloc: Global, pattern: &MinRegex) -> Result<bool, Error> {
+    let text = long(alloc, &[("/", 1), ("a", LONG)])?;
+    Ok(matches_all(pattern, &text))
 }
 
 /// Whether a pattern of many stars matches the text of its segments. Each segment occurs where the search for it
@@ -178,17 +201,27 @@ fn matches_all(pattern: &MinRegex, text: &str) -> bool {
         && view.seen() == 1 + 1_000_001
 }
 
-/// Whether this line decides, after exactly this many looks.
-fn decides_after(robot: &Robot, text: &str, line: Option<usize>, looks: u64) -> bool {
+/// Whether a robot has this verdict on a text because of this line, after exactly this many looks.
+pub(crate) fn decides_after(
+    robot: &Robot,
+    text: &str,
+    allowed: bool,
+    line: Option<usize>,
+    looks: u64,
+) -> bool {
     let mut view = View::new(text);
-    robot.decision(&mut view).line == line && view.seen() == looks
+    let decision = robot.decision(&mut view);
+    decision == Decision { allowed, line } && view.seen() == looks
 }
 
 /// A file of 511,996 bytes. The last rule is the longest, so it is tried first, and then the first rule.
 fn many_rules(alloc: Global) -> Result<bool, Error> {
     let file = long(alloc, &[("Allow:/\n", 63_998), ("Disallow:/a\n", 1)])?;
     let robot = Robot::new(alloc, "Bot", file.as_bytes())?;
-    Ok(decides_after(&robot, "/ab", Some(63_999), 2) && decides_after(&robot, "/b", Some(1), 2 + 1))
+    Ok(
+        decides_after(&robot, "/ab", false, Some(63_999), 2)
+            && decides_after(&robot, "/b", true, Some(1), 2 + 1),
+    )
 }
 
 /// A file of 512,000 bytes.
@@ -202,7 +235,10 @@ fn many_sitemaps(alloc: Global) -> Result<bool, Error> {
 fn with_limit(alloc: Global) -> Result<bool, Error> {
     let file = many_lines(alloc)?;
     let robot = Robot::with_limit(alloc, "Bot", file.as_bytes(), usize::MAX)?;
-    Ok(decides_after(&robot, "/ab", Some(1), 2) && decides_after(&robot, "/b", None, 400_002))
+    Ok(
+        decides_after(&robot, "/ab", false, Some(1), 2)
+            && decides_after(&robot, "/b", true, None, 400_002),
+    )
 }
 
 /// Paths and URLs, and whether a crawler may fetch them if `/*z$` and `/a%00` are disallowed.
@@ -230,12 +266,21 @@ const VERDICTS: &[(Parts<'static>, bool)] = &[
 
 fn allows(alloc: Global) -> Result<bool, Error> {
     let robot = Robot::new(alloc, "Bot", b"Disallow: /*z$\nDisallow: /a%00\n")?;
+    allows_each(alloc, &robot)
+}
+
+fn allows_each(alloc: Global, robot: &Robot) -> Result<bool, Error> {
     for (parts, want) in VERDICTS {
-        if robot.allowed(alloc, &long(alloc, parts)?)? != *want {
+        if allows_long(alloc, robot, parts)? != *want {
             return Ok(false);
         }
     }
     Ok(true)
+}
+
+fn allows_long(alloc: Global, robot: &Robot, url: Parts<'_>) -> Result<bool, Error> {
+    let url = long(alloc, url)?;
+    robot.allowed(alloc, &url)
 }
 
 /// Paths and URLs, and their match targets.
@@ -249,12 +294,18 @@ const PREPARED: &[(Parts<'static>, Parts<'static>)] = &[
 ];
 
 fn prepares(alloc: Global) -> Result<bool, Error> {
-    for (parts, want) in PREPARED {
-        if Robot::prepare_url(alloc, &long(alloc, parts)?)? != long(alloc, want)? {
+    for (url, want) in PREPARED {
+        if !has_long_target(alloc, url, want)? {
             return Ok(false);
         }
     }
     Ok(true)
+}
+
+fn has_long_target(alloc: Global, url: Parts<'_>, want: Parts<'_>) -> Result<bool, Error> {
+    let url = long(alloc, url)?;
+    let want = long(alloc, want)?;
+    has_target(alloc, &url, &want)
 }
 
 fn decides(alloc: Global) -> Result<bool, Error> {
@@ -266,7 +317,7 @@ fn decides(alloc: Global) -> Result<bool, Error> {
 /// Whether a rule with a star denies a target. It takes one look at each byte up to the `z`.
 fn denies_by_star(robot: &Robot, text: &str) -> bool {
     let mut view = View::new(text);
-    decides_after(robot, text, Some(1), 1 + 1_000_001 + 1)
+    decides_after(robot, text, false, Some(1), 1 + 1_000_001 + 1)
         && !robot.allowed_view(&mut view)
         && !robot.allowed_prepared(text)
 }
@@ -275,13 +326,30 @@ fn denies_by_star(robot: &Robot, text: &str) -> bool {
 fn one_agent(alloc: Global) -> Result<bool, Error> {
     let file = long(alloc, &[("Disallow:/b\n", 40_000)])?;
     let text = long(alloc, &[("/", 1), ("a", LONG)])?;
-    let mut view = View::new(&text);
-    Ok(allowed_in_file(alloc, "Bot", file.as_bytes(), &mut view)? && view.seen() == 80_000)
+    file_allows_after(alloc, file.as_bytes(), &text, true, 80_000)
+}
+
+/// Whether a file has this verdict on a text, after exactly this many looks.
+pub(crate) fn file_allows_after(
+    alloc: Global,
+    file: &[u8],
+    text: &str,
+    want: bool,
+    looks: u64,
+) -> Result<bool, Error> {
+    let mut view = View::new(text);
+    let allowed = allowed_in_file(alloc, "Bot", file, &mut view)?;
+    Ok(allowed == want && view.seen() == looks)
 }
 
 fn pushes_escaped(alloc: Global) -> Result<bool, Error> {
-    let bytes = long(alloc, &[("é", LONG)])?;
+    are_escaped(alloc, &[("é", LONG)], &[("%C3%A9", LONG)])
+}
+
+/// Whether the bytes of these parts are escaped as the wanted parts.
+pub(crate) fn are_escaped(alloc: Global, parts: Parts<'_>, want: Parts<'_>) -> Result<bool, Error> {
+    let bytes = long(alloc, parts)?;
     let mut text = String::new(alloc);
     push_escaped_bytes(&mut text, bytes.as_bytes())?;
-    Ok(text == long(alloc, &[("%C3%A9", LONG)])?)
+    has_parts(alloc, &text, want)
 }

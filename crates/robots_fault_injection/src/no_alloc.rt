@@ -293,13 +293,13 @@ fn looks() -> bool {
 }
 
 /// Whether a pattern has this result for a text, after exactly this many looks.
-fn matches_after(pattern: &MinRegex, text: &str, want: bool, looks: u64) -> bool {
+pub(crate) fn matches_after(pattern: &MinRegex, text: &str, want: bool, looks: u64) -> bool {
     let mut view = View::new(text);
     pattern.matches_view(&mut view) == want && view.seen() == looks
 }
 
 /// Whether a robot has this verdict on a text, after exactly this many looks.
-fn allows_after(robot: &Robot, text: &str, want: bool, looks: u64) -> bool {
+pub(crate) fn allows_after(robot: &Robot, text: &str, want: bool, looks: u64) -> bool {
     let mut view = View::new(text);
     robot.allowed_view(&mut view) == want && view.seen() == looks
 }

@@ -1,5 +1,5 @@
 //! Calls on a site that allocate. Those that don't are in `no_alloc`.
-use crate::calls::{FILE, is_right_robot};
+use crate::calls::{FILE, SITEMAP, is_one, is_right_robot};
 use crate::large::{MANY, long};
 use std::alloc::Global;
 use texting_robots::{Decision, Error, Robot, Site};
@@ -45,8 +45,8 @@ fn answer_of(alloc: Global, site: &Site, call: &Call) -> Result<bool, Error> {
             site.is_named("ferriscrawler") && site.delay("FerrisCrawler") == Some(10_000_000),
         ),
         Call::Robot => gives_robot(alloc, site),
-        Call::Agents => Ok(site.agents(alloc)?.as_slice() == ["FerrisCrawler", "*"].as_slice()),
-        Call::Sitemaps => lists_sitemaps(alloc, site),
+        Call::Agents => lists_agents(alloc, site, &["FerrisCrawler", "*"]),
+        Call::Sitemaps => lists_sitemap(alloc, site, SITEMAP),
         Call::Decide => decides(alloc, site),
         Call::RejectedRobot | Call::LargeFile => Ok(false),
     }
@@ -63,13 +63,16 @@ fn gives_robot(alloc: Global, site: &Site) -> Result<bool, Error> {
     }
 }
 
-fn lists_sitemaps(alloc: Global, site: &Site) -> Result<bool, Error> {
+/// Whether a site has exactly these names.
+pub(crate) fn lists_agents(alloc: Global, site: &Site, want: &[&str]) -> Result<bool, Error> {
+    let agents = site.agents(alloc)?;
+    Ok(agents.as_slice() == want)
+}
+
+/// Whether a site has this sitemap and no other.
+pub(crate) fn lists_sitemap(alloc: Global, site: &Site, want: &str) -> Result<bool, Error> {
     let sitemaps = site.sitemaps(alloc)?;
-    Ok(
-        sitemaps.len() == 1
-            && sitemaps.get(0).map(|sitemap| sitemap.as_str())
-                == Some("https://www.example.com/site.xml"),
-    )
+    Ok(is_one(&sitemaps, want))
 }
 
 /// A URL in which something has to be escaped.
@@ -79,7 +82,8 @@ fn decides(alloc: Global, site: &Site) -> Result<bool, Error> {
         allowed: false,
         line: Some(3),
     };
-    Ok(robot.decide(alloc, "https://www.rust-lang.org/rust/\u{e1}")? == wanted)
+    let decided = robot.decide(alloc, "https://www.rust-lang.org/rust/\u{e1}")?;
+    Ok(decided == wanted)
 }
 
 /// A crawler with a rule that is too long has no robot, but another crawler has one.
@@ -96,12 +100,21 @@ fn rejects_robot(alloc: Global) -> Result<bool, Error> {
 }
 
 fn rejects_robot_of(alloc: Global, site: &Site) -> Result<bool, Error> {
-    let other = site.robot(alloc, "c")?;
-    match site.robot(alloc, "a") {
+    Ok(has_no_robot(alloc, site, "a")? && !allows(alloc, site, "c", "/d")?)
+}
+
+/// Whether no robot is made for a crawler, because a rule is too long.
+fn has_no_robot(alloc: Global, site: &Site, name: &str) -> Result<bool, Error> {
+    match site.robot(alloc, name) {
         Ok(_) => Ok(false),
-        Err(Error::InvalidRule) => Ok(!other.allowed_prepared("/d")),
+        Err(Error::InvalidRule) => Ok(true),
         Err(error) => Err(error),
     }
+}
+
+fn allows(alloc: Global, site: &Site, name: &str, target: &str) -> Result<bool, Error> {
+    let robot = site.robot(alloc, name)?;
+    Ok(robot.allowed_prepared(target))
 }
 
 /// Many user-agent lines with the same name, and many rules.
@@ -119,13 +132,19 @@ fn reads_large_file(alloc: Global) -> Result<bool, Error> {
 }
 
 fn reads_large_site(alloc: Global, site: &Site) -> Result<bool, Error> {
-    let agents = site.agents(alloc)?;
-    let robot = site.robot(alloc, "A")?;
-    let line = robot.decision_prepared("/b").line;
     Ok(
-        agents.as_slice() == ["a", "c"].as_slice()
-            && line == Some(MANY + 1)
-            && site.sitemaps(alloc)?.len() == 1
-            && site.robot(alloc, "c")?.allowed_prepared("/b"),
+        lists_agents(alloc, site, &["a", "c"])?
+            && lists_sitemap(alloc, site, "/s")?
+            && denies_by_first_rule(alloc, site)?
+            && allows(alloc, site, "c", "/b")?,
     )
+}
+
+fn denies_by_first_rule(alloc: Global, site: &Site) -> Result<bool, Error> {
+    let robot = site.robot(alloc, "A")?;
+    let want = Decision {
+        allowed: false,
+        line: Some(MANY + 1),
+    };
+    Ok(robot.decision_prepared("/b") == want)
 }

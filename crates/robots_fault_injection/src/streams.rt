@@ -46,10 +46,10 @@ pub(crate) fn answer(alloc: Global, call: &Call) -> Result<bool, Error> {
     }
 }
 
-/// Whether the source returns all bytes.
-fn gives_text(alloc: Global, source: &mut Source<'_>) -> Result<bool, Error> {
+/// Whether the source returns these bytes.
+pub(crate) fn gives(alloc: Global, source: &mut Source<'_>, want: &[u8]) -> Result<bool, Error> {
     match read_all(alloc, source) {
-        Ok(all) => Ok(all.as_slice() == TEXT),
+        Ok(all) => Ok(all.as_slice() == want),
         Err(ReadFault::Memory) => Err(Error::Memory),
         Err(ReadFault::Read) => Ok(false),
     }
@@ -67,10 +67,12 @@ fn fails_to_read(alloc: Global, source: &mut Source<'_>) -> Result<bool, Error> 
 /// Whether the bytes are read in chunks of at most this length, and reading fails if one of these reads does.
 fn reads_in_chunks(alloc: Global, chunk: usize) -> Result<bool, Error> {
     let mut source = Source::new(TEXT, chunk);
-    if !gives_text(alloc, &mut source)? {
-        return Ok(false);
-    }
-    for call in 0..source.calls {
+    Ok(gives(alloc, &mut source, TEXT)? && fails_at_each_read(alloc, chunk, source.calls)?)
+}
+
+/// Whether reading in chunks of at most this length fails, whichever of this many reads does.
+fn fails_at_each_read(alloc: Global, chunk: usize, calls: u32) -> Result<bool, Error> {
+    for call in 0..calls {
         let mut failing = Source::new(TEXT, chunk);
         failing.good_calls = Some(call);
         if !fails_to_read(alloc, &mut failing)? {
@@ -105,6 +107,11 @@ fn sink(alloc: Global, chunk: usize) -> Result<Sink, Error> {
     Ok(sink)
 }
 
+/// Whether writing succeeds, and the sink, which was empty, contains exactly the bytes.
+pub(crate) fn takes(sink: &mut Sink, bytes: &[u8]) -> bool {
+    write_out(sink, bytes).is_ok() && sink.held.as_slice() == bytes
+}
+
 /// Whether writing fails, and the sink contains a prefix of the bytes.
 fn fails_to_write(sink: &mut Sink) -> bool {
     write_out(sink, TEXT) == Err(WriteFault) && TEXT.starts_with(&sink.held)
@@ -113,17 +120,23 @@ fn fails_to_write(sink: &mut Sink) -> bool {
 /// Whether the bytes are written in chunks of at most this length, and writing fails if one of these writes does.
 fn writes_in_chunks(alloc: Global, chunk: usize) -> Result<bool, Error> {
     let mut good = sink(alloc, chunk)?;
-    if write_out(&mut good, TEXT).is_err() || good.held.as_slice() != TEXT {
-        return Ok(false);
-    }
-    for call in 0..good.calls {
-        let mut failing = sink(alloc, chunk)?;
-        failing.good_calls = Some(call);
-        if !fails_to_write(&mut failing) {
+    Ok(takes(&mut good, TEXT) && fails_at_each_write(alloc, chunk, good.calls)?)
+}
+
+/// Whether writing in chunks of at most this length fails, whichever of this many writes does.
+fn fails_at_each_write(alloc: Global, chunk: usize, calls: u32) -> Result<bool, Error> {
+    for call in 0..calls {
+        if !fails_at_write(alloc, chunk, call)? {
             return Ok(false);
         }
     }
     Ok(true)
+}
+
+fn fails_at_write(alloc: Global, chunk: usize, call: u32) -> Result<bool, Error> {
+    let mut failing = sink(alloc, chunk)?;
+    failing.good_calls = Some(call);
+    Ok(fails_to_write(&mut failing))
 }
 
 fn write_chunks(alloc: Global) -> Result<bool, Error> {
@@ -136,7 +149,8 @@ fn write_chunks(alloc: Global) -> Result<bool, Error> {
 }
 
 fn write_takes_nothing(alloc: Global) -> Result<bool, Error> {
-    Ok(fails_to_write(&mut sink(alloc, 0)?))
+    let mut full = sink(alloc, 0)?;
+    Ok(fails_to_write(&mut full))
 }
 
 fn flush_fails(alloc: Global) -> Result<bool, Error> {
