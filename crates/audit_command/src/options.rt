@@ -146,7 +146,7 @@ const PARAMETERS: &[Parameter] = &[
         short: None,
         long: Some("strict"),
         value: Value::OneOfAfterEquals("LEVEL", &["error", "warning", "note"], "warning"),
-        help: "Exit with status 3 if there is a warning at this level or a more serious one",
+        help: "Exit with status 3 if there is a warning at this level (default: warning) or a more serious one",
         excludes: &[],
     },
     Parameter {
@@ -186,7 +186,7 @@ const PARAMETERS: &[Parameter] = &[
         short: None,
         long: Some("compare"),
         value: Value::Text("OLD"),
-        help: "Report instead what differs from OLD (-: standard input) to the file that -f names",
+        help: "Report instead what differs from OLD (-: standard input) to the robots.txt file",
         excludes: &[&["expect"], OF_REPORTS],
     },
     Parameter {
