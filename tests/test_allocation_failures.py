@@ -121,6 +121,8 @@ AUDIT_RUNS = {
     "a name after the first 512,000 bytes": ["--file", BEYOND, "Ferris"],
     "more than twenty warnings with one name": ["--file", JUNK, "Ferris"],
     "needless rules": ["--needless", "--file", NEEDLESS, "--agents"],
+    "colors": ["--color", "always", "Ferris", *URLS],
+    "warnings by name": ["--only", "noindex-line", "--only", "missing-slash", "--ignore", "noindex-line", "--strict", "Ferris", *URLS],
 }
 
 
@@ -160,12 +162,44 @@ def test_robots_audit_reports_a_failed_read(failing_heap, long_file, is_named):
     break_each(program, "READ", lambda result, right, number: result == Result(2, "", f"robots_audit: {why}\n"))
 
 
-@pytest.mark.parametrize(
-    "options",
-    [[], ["--json"], ["--html"], ["--format", "sarif"], ["--compare", OLDER]],
-    ids=["text", "JSON", "page", "SARIF", "a comparison"],
-)
-def test_robots_audit_reports_a_failed_write(failing_heap, long_file, options):
+OTHER_FILES = {
+    "URLs": (["Ferris", "--urls"], b"/a\n" * 50_000),
+    "expectations": (["--expect"], b"allow Ferris /\n" + b"#" * 200_000),
+    "an older version": (["Ferris", "--compare"], AUDIT_INPUT + b"#" * 200_000),
+}
+
+
+@pytest.mark.parametrize("what", OTHER_FILES)
+def test_robots_audit_reports_a_failed_read_of_one_of_two_files(failing_heap, long_file, tmp_path, what):
+    args, text = OTHER_FILES[what]
+    other = tmp_path / "other"
+    other.write_bytes(text)
+    files, unread = {long_file, other}, set()
+
+    def is_reported(result, right, number):
+        named = {file for file in files if result == Result(2, "", f"robots_audit: cannot read {file}\n")}
+        unread.update(named)
+        return named != set()
+
+    break_each(Failing(failing_heap, "robots_audit", ["--file", long_file, *args, other]), "READ", is_reported)
+    assert unread == files
+
+
+WRITTEN = {
+    "text": ["Ferris", URLS[0]],
+    "JSON": ["--json", "Ferris", URLS[0]],
+    "page": ["--html", "Ferris", URLS[0]],
+    "annotations": ["--format", "github", "Ferris", URLS[0]],
+    "SARIF": ["--format", "sarif", "Ferris", URLS[0]],
+    "a comparison": ["--compare", OLDER, "Ferris", URLS[0]],
+    "expectations": ["--expect", EXPECTED],
+    "the list of warnings": ["--list-warnings"],
+    "an explanation": ["--explain", "missing-slash"],
+}
+
+
+@pytest.mark.parametrize("what", WRITTEN)
+def test_robots_audit_reports_a_failed_write(failing_heap, long_file, made, what):
     """It writes a beginning of its report and says that it can't write the rest, or the whole report and a beginning of what it says on
     standard error."""
 
@@ -174,7 +208,8 @@ def test_robots_audit_reports_a_failed_write(failing_heap, long_file, options):
             return right.out.startswith(result.out) and result.err == "robots_audit: cannot write the report\n"
         return (result.status, result.out) == (right.status, right.out) and right.err.startswith(result.err)
 
-    program = Failing(failing_heap, "robots_audit", [*options, "Ferris", URLS[0]], long_file.read_bytes())
+    args = [made.get(word, word) for word in WRITTEN[what]]
+    program = Failing(failing_heap, "robots_audit", args, long_file.read_bytes())
     break_each(program, "WRITE", is_reported)
 
 
