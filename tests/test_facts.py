@@ -97,8 +97,8 @@ def test_characters_that_change_the_writing_direction():
     assert sentence.count(" to ") == turning.count("..=") - 1  # U+200E and U+200F are two
 
 
-GOOGLE = re.search(r"\*\* Google's crawlers (.*?)get the group of `Googlebot`(.*?)never get the group of `\*`\. A group is", joined(PROGRAMS))
-LIKE_GOOGLEBOT, IGNORING_STAR = ([name for name in re.findall(r"`([^`]+)`", GOOGLE[part])] for part in (1, 2))
+GOOGLE = {row[1]: re.findall(r"`([^`]+)`", row[0]) for row in tables(PROGRAMS)}
+LIKE_GOOGLEBOT, IGNORING_STAR = GOOGLE["the group of `Googlebot`, if there is one"], GOOGLE["no group, not even that of `*`"]
 
 
 def test_crawlers_of_google():
