@@ -128,7 +128,7 @@ in_group : (kind : Bool) (value : List ℕ) → is_group (cond kind (Allow value
 in_group true value = refl
 in_group false value = refl
 
-named_agent : (name : List ℕ) (line : Option LineValue)
+pub named_agent : (name : List ℕ) (line : Option LineValue)
     → option_map_or (is_agent_named name) line false ≡ true → option_map_or is_agent line false ≡ true
 named_agent name None is = cc
 named_agent name (Some (UserAgent value)) is = refl

@@ -1,5 +1,5 @@
 //! Theorems about the specification, each written as the contract of an empty function.
-ghost use Rattle.std.specs.Prelude.{Any, Bool, codes, Contains, false, if◌then◌else◌, IsTrue, List};
+ghost use Rattle.std.specs.Prelude.{All, Any, Bool, codes, Contains, false, if◌then◌else◌, IsTrue, List};
 ghost use Rattle.std.specs.Prelude.{slice_get, Some, take, true, ℕ, ◌+◌, ◌↔◌, ◌∷◌, ◌≡◌, ◌≢◌};
 ghost use Rattle.std.specs.Str.{byte, is_utf8, IsUtf8, str_to_ascii_lowercase};
 ghost use Rattle.texting_robots.specs.Callers.{Allow, AreLabelsOf, AreRulesFor, Disallow, escaped};
@@ -15,6 +15,7 @@ ghost use Rattle.robots_warnings.specs.Closed.{is_closed_for};
 ghost use Rattle.robots_warnings.specs.Conflicts.{IsConflict, is_conflict};
 ghost use Rattle.robots_warnings.specs.NamesPastLimit.{names_past_limit};
 ghost use Rattle.robots_warnings.specs.Positions.{is_above_agents};
+ghost use Rattle.robots_warnings.specs.Repeated.{repeated};
 ghost use Rattle.robots_warnings.specs.Rules.{begins_oddly, has_dollar_inside};
 ghost use Rattle.robots_warnings.specs.Tokens.{has_space_around};
 ghost use Rattle.robots_warnings.specs.Urls.{is_invalid_url};
@@ -87,6 +88,23 @@ pub fn closes_everything()
     ensures { (agent : List ℕ) (lines : List LineValue) (rules : List PlacedRule) (number : ℕ) (text : List ℕ)
         → is_closed_for lines number agent ≡ true → AreRulesFor agent lines rules
         → byte "/" ∷ text ≢ robots_file → IsDenied (unplaced rules) (byte "/" ∷ text) }
+{}
+
+/// A rule with `repeated-rule` decides no verdict, for any crawler. The labels may be those for another crawler.
+pub fn repeated_rule()
+    ensures { (everywhere : Bool) (name agent : List ℕ) (lines : List LineValue) (labels : List Label)
+        (rules : List PlacedRule) (text : List ℕ) (number : ℕ) → AreLabelsOf name lines labels
+        → Contains (repeated everywhere labels) number → AreRulesFor agent lines rules
+        → ¬ IsDecidingLine rules text (Some number) }
+{}
+
+/// Lines with `repeated-rule` can be deleted, one or several or all: every verdict stays the same, on any text, for any
+/// crawler. The labels may be those for another crawler.
+pub fn repeated_rules_can_be_deleted()
+    ensures { (everywhere : Bool) (name agent : List ℕ) (lines : List LineValue) (labels : List Label)
+        (numbers text : List ℕ) (answer : Bool) → AreLabelsOf name lines labels
+        → All (Contains (repeated everywhere labels)) numbers → IsVerdict (rules_for agent lines) text answer
+        ↔ IsVerdict (rules_for agent (lines_without numbers lines)) text answer }
 {}
 
 /// A line with `group-past-size-limit` is a user-agent line whose name none of the lines within the size limit has.
