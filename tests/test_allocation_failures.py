@@ -99,7 +99,7 @@ def test_robots_verdict(failing_heap, later):
     fail_each_allocation(program, VERDICT, Result(4, "", "robots_verdict: out of memory\n"), later)
 
 
-BEYOND, JUNK, EXPECTED, ODD, NONE, NEEDLESS = "BEYOND", "JUNK", "EXPECTED", "ODD", "NONE", "NEEDLESS"
+BEYOND, JUNK, EXPECTED, ODD, NONE, NEEDLESS, LIST = "BEYOND", "JUNK", "EXPECTED", "ODD", "NONE", "NEEDLESS", "LIST"
 AUDIT_RUNS = {
     "the example": AUDIT_ARGS,
     "a named file": ["--file", CRATES / "robots_audit/stdin", "Ferris", *URLS],
@@ -110,6 +110,7 @@ AUDIT_RUNS = {
     "a page": ["--html", "Ferris", *URLS],
     "a page about each agent": ["--html", "--agents", *URLS],
     "a comparison": ["--compare", OLDER, "--agents", *URLS],
+    "a comparison with URLs in a file": ["--compare", OLDER, "--urls", LIST, "Ferris", *URLS],
     "expectations": ["--expect", EXPECTED],
     "an expectation about no URL": ["--expect", ODD],
     "no expectations": ["--expect", NONE],
@@ -130,7 +131,7 @@ AUDIT_RUNS = {
 def made(tmp_path):
     """The paths of the files that runs name."""
     texts = {BEYOND: b"#" * 512_000 + b"\nUser-agent: a\n", JUNK: b"Disallow: /a\n" + b"hello\nHost: a\n" * 22}
-    texts |= {EXPECTED: b"allow Ferris https://e.com/\ndeny other /a", ODD: b"allow Ferris a", NONE: b"# allow Ferris /"}
+    texts |= {LIST: b"/a\nhttps://e.com/a%20b/c\n", EXPECTED: b"allow Ferris https://e.com/\ndeny other /a", ODD: b"allow Ferris a", NONE: b"# allow Ferris /"}
     texts[NEEDLESS] = b"User-agent: *\nDisallow: /a\nDisallow: /ab\nAllow: /c\n\nUser-agent: b\nDisallow: /*d\nDisallow: /d\nDisallow: /$e\n"
     for name, text in texts.items():
         (tmp_path / name).write_bytes(text)

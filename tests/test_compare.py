@@ -89,6 +89,36 @@ crawler Googlebot /cart: allow -> deny 6
     assert outcome(compare(tmp_path, OLD, NEW, "Googlebot", *urls)) == (1, GOOGLEBOT + lines, "")
 
 
+def test_urls_in_a_file(tmp_path):
+    """They come after those of the command line, and only those whose verdict differs have a line."""
+    (tmp_path / "list.txt").write_bytes(b"# pages\n/\n /cart \r\nhttps://shop.example/search/milk\n")
+    lines = """crawler Googlebot /search/tea: allow 3 -> allow
+crawler Googlebot /cart: allow -> deny 6
+crawler Googlebot https://shop.example/search/milk: deny 2 -> allow
+"""
+    assert outcome(compare(tmp_path, OLD, NEW, "--urls", "list.txt", "Googlebot", "/search/tea")) == (1, GOOGLEBOT + lines, "")
+
+
+@pytest.mark.parametrize("text, why", [(b"# none\n", "list.txt: there are no URLs"), (b"/a\n\xff\n", "list.txt:2: the line isn't valid UTF-8"), (b"/a\ntea\n", f"tea: {URL}")], ids=["no URL", "not UTF-8", "neither a path nor a URL"])
+def test_file_of_urls_that_is_none(tmp_path, text, why):
+    (tmp_path / "list.txt").write_bytes(text)
+    assert outcome(compare(tmp_path, OLD, NEW, "--urls", "list.txt", "Ferris")) == (2, "", f"robots_audit: {why}\n")
+
+
+def test_urls_from_standard_input(tmp_path):
+    (tmp_path / "new.txt").write_bytes(NEW)
+    result = compare(tmp_path, OLD, b"/search/tea\n", "-f", "new.txt", "--urls", "-", "GPTBot")
+    assert outcome(result) == (0, NOTHING.replace("Ferris", "GPTBot"), "")
+
+
+@pytest.mark.parametrize("words", [["--compare", "old.txt", "--urls", "-"], ["--compare", "-", "--urls", "-", "-f", "new.txt"], ["--compare", "-", "--urls", "list.txt"]])
+def test_standard_input_is_read_once(tmp_path, words):
+    for name in ("old.txt", "new.txt", "list.txt"):
+        (tmp_path / name).write_bytes(b"/a\n")
+    message = f"robots_audit: standard input can't be both robots.txt and another file (use --file); {USAGE}\n"
+    assert outcome(run("robots_audit", [*words, "Ferris"], NEW, cwd=tmp_path)) == (2, "", message)
+
+
 def test_all_crawlers(tmp_path):
     assert outcome(compare(tmp_path, OLD, NEW, "--agents")) == (1, STAR + GOOGLEBOT + OTHERS, "")
 
@@ -211,7 +241,7 @@ def test_names_are_checked_before_urls_and_both_before_files(tmp_path):
     assert outcome(missing) == (2, "", f"robots_audit: tea: {URL}\n")
 
 
-@pytest.mark.parametrize("more", ["--expect=old.txt", "--urls=old.txt", "--denied", "-q", "--format=text", "--json", "--html", "--color=never", "--strict", "--needless", "--only=missing-slash", "--ignore=missing-slash"])
+@pytest.mark.parametrize("more", ["--expect=old.txt", "--denied", "-q", "--format=text", "--json", "--html", "--color=never", "--strict", "--needless", "--only=missing-slash", "--ignore=missing-slash"])
 def test_other_options_conflict(tmp_path, more):
     result = compare(tmp_path, OLD, NEW, more, "Ferris")
     assert (result.status, result.out) == (2, "") and "cannot be used with" in result.err

@@ -47,13 +47,14 @@ abbrev pub is_stdin : Option (List ℕ) → Bool
 is_stdin None = false
 is_stdin (Some name) = bytes_eq name (codes "-")
 
--- both the robots.txt file and another one would be read from standard input: the URLs, the expectations or
--- the older version of the file
+-- the robots.txt file and another one would be read from standard input: the URLs, the expectations or the
+-- older version of the robots.txt file; or both the URLs and that version would
 abbrev pub reads_stdin_twice : ArgMatches → Bool
 reads_stdin_twice matches =
-    is_none (file_read (value_of matches (codes "file")))
+    (is_none (file_read (value_of matches (codes "file")))
     && (is_stdin (value_of matches (codes "urls"))
-    || (is_stdin (value_of matches (codes "expect")) || is_stdin (value_of matches (codes "compare"))))
+    || (is_stdin (value_of matches (codes "expect")) || is_stdin (value_of matches (codes "compare")))))
+    || (is_stdin (value_of matches (codes "urls")) && is_stdin (value_of matches (codes "compare")))
 
 -- the level with this word; `clap` accepts none but those of the three levels
 abbrev pub level_named : List ℕ → Level

@@ -47,15 +47,16 @@ fn is_stdin(name: Option<&str>) -> bool
     }
 }
 
-/// Whether both the robots.txt file and another one would be read from standard input: the URLs, the expectations or the
-/// older version of the file.
+/// Whether the robots.txt file and another one would be read from standard input: the URLs, the expectations or the older
+/// version of the robots.txt file; or both the URLs and that version would.
 pub fn reads_stdin_twice(matches: &ArgMatches<'_>) -> bool
     ensures { result ≡ reads_stdin_twice matches.now }
 {
     let urls = is_stdin(matches.get_str("urls"));
     let expected = is_stdin(matches.get_str("expect"));
     let older = is_stdin(matches.get_str("compare"));
-    file_read(matches.get_str("file")).is_none() && (urls || expected || older)
+    let has_no_file = file_read(matches.get_str("file")).is_none();
+    has_no_file && (urls || expected || older) || urls && older
 }
 
 /// The level with this word. `clap` accepts none but those of the three levels.

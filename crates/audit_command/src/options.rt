@@ -34,13 +34,12 @@ struct Parameter {
     excludes: &'static [&'static [&'static str]],
 }
 
-/// The arguments, and the options that choose crawlers.
-const OF_CRAWLERS: &[&str] = &["agent", "url", "agents", "crawler"];
+/// The arguments, and the options that choose crawlers and URLs.
+const OF_QUERIES: &[&str] = &["agent", "url", "agents", "crawler", "urls"];
 
-/// The other options of an audit than `--file`: about URLs, warnings and the form of the report.
+/// The other options of an audit than `--file`: about warnings and the form of the report.
 const OF_REPORTS: &[&str] = &[
-    "urls", "denied", "quiet", "format", "json", "html", "color", "strict", "needless", "only",
-    "ignore",
+    "denied", "quiet", "format", "json", "html", "color", "strict", "needless", "only", "ignore",
 ];
 
 /// The arguments in their order, and the options in that of the help.
@@ -179,7 +178,7 @@ const PARAMETERS: &[Parameter] = &[
         long: Some("expect"),
         value: Value::Text("FILE"),
         help: "Check instead the lines \"allow AGENT URL\" and \"deny AGENT URL\" of this file (-: standard input)",
-        excludes: &[OF_CRAWLERS, OF_REPORTS],
+        excludes: &[OF_QUERIES, OF_REPORTS],
     },
     Parameter {
         id: "compare",
@@ -195,7 +194,7 @@ const PARAMETERS: &[Parameter] = &[
         long: Some("list-warnings"),
         value: Value::Absent,
         help: "List all warnings with their levels and messages",
-        excludes: &[OF_CRAWLERS, OF_REPORTS, &["file", "expect", "compare"]],
+        excludes: &[OF_QUERIES, OF_REPORTS, &["file", "expect", "compare"]],
     },
     Parameter {
         id: "explain",
@@ -204,7 +203,7 @@ const PARAMETERS: &[Parameter] = &[
         value: Value::Text("NAME"),
         help: "Show the level, the message and an example of the warning with this name",
         excludes: &[
-            OF_CRAWLERS,
+            OF_QUERIES,
             OF_REPORTS,
             &["file", "expect", "compare", "list-warnings"],
         ],

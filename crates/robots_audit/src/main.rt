@@ -196,16 +196,14 @@ fn compare_named(
     outcome
 }
 
-/// Compares the file `older` with the file that the parsed arguments name, or standard input.
-fn compared_with(rt: &HostRuntime, matches: &ArgMatches<'_>, older: &str) -> Result<Outcome, Fault>
+/// Compares the file `older` with the file that the request names, or standard input.
+fn compare_requested(rt: &HostRuntime, request: &Request<'_>, older: &str) -> Result<Outcome, Fault>
     ensures { IsPrintable (message_after result) }
 {
-    let request = requested(rt.alloc(), matches, false)?;
-    are_crawlers(rt.alloc(), &request.agents)?;
     are_paths_or_urls(rt.alloc(), &request.urls)?;
     let text = read_named_or_stdin(rt, older)?;
     match request.file {
-        Some(name) => compare_named(rt, &request, &text, name),
+        Some(name) => compare_named(rt, request, &text, name),
         None => compare(
             rt.alloc(),
             &request.agents,
@@ -214,6 +212,32 @@ fn compared_with(rt: &HostRuntime, matches: &ArgMatches<'_>, older: &str) -> Res
             &mut rt.stdin(),
             &mut rt.stdout(),
         ),
+    }
+}
+
+/// Compares these files for the URLs in the file with this name too.
+fn compare_with_urls(
+    rt: &HostRuntime,
+    request: Request<'_>,
+    older: &str,
+    name: &str,
+) -> Result<Outcome, Fault>
+    ensures { IsPrintable (message_after result) }
+{
+    let text = read_named_or_stdin(rt, name)?;
+    let extended = with_urls(rt.alloc(), request, name, &text)?;
+    compare_requested(rt, &extended, older)
+}
+
+/// Compares the file `older` with the file that the parsed arguments name, or standard input.
+fn compared_with(rt: &HostRuntime, matches: &ArgMatches<'_>, older: &str) -> Result<Outcome, Fault>
+    ensures { IsPrintable (message_after result) }
+{
+    let request = requested(rt.alloc(), matches, false)?;
+    are_crawlers(rt.alloc(), &request.agents)?;
+    match matches.get_str("urls") {
+        Some(name) => compare_with_urls(rt, request, older, name),
+        None => compare_requested(rt, &request, older),
     }
 }
 

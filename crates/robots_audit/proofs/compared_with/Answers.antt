@@ -1,7 +1,6 @@
-use Rattle.std.proofs.Common.{false, map, rules}
-use Rattle.audit_compare.proofs.CompareLemmas.{compared_printable}
+use Rattle.std.proofs.Common.{false, rules}
 use Rattle.robots_audit.proofs.MessageLemmas.{error_outcome, request_outcome}
-use Rattle.audit_expect.proofs.EntryLemmas.{malformed_url_in_printable, no_crawler_printable}
+use Rattle.audit_expect.proofs.EntryLemmas.{no_crawler_printable}
 use Rattle.robots_audit.proofs.compared_with.Goals as goal
 
 pub returns-in_err-request : goal.returns-in_err-request
@@ -13,13 +12,3 @@ returns-in_err-are_crawlers c =
     let (name, among, unnamed, is) = c.in_err-are_crawlers.ensures.fault in
     error_outcome c.in_err-are_crawlers.field-0.0 c.from_residual-in_err-are_crawlers.result (search rules)
     (no_crawler_printable name c.in_err-are_crawlers.field-0.0 is)
-
-pub returns-in_err-are_paths_or_urls : goal.returns-in_err-are_paths_or_urls
-returns-in_err-are_paths_or_urls c =
-    let fault = c.in_err-are_paths_or_urls.field-0.0 in
-    error_outcome fault c.from_residual-in_err-are_paths_or_urls.result (search rules)
-    (malformed_url_in_printable (map (λ url. url.now) c.deref-2.result.now) fault
-    c.in_err-are_paths_or_urls.ensures.fault)
-
-pub returns : goal.returns
-returns c = compared_printable _ _ _ _ _ c.compare.ensures
