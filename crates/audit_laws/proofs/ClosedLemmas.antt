@@ -1,19 +1,20 @@
--- What `closes-everything` implies for paths.
+-- What `closes-everything` and `hash-cuts-rule` imply for paths.
 use Rattle.std.proofs.Common.{◌≡◌, ◌≢◌, ℕ, ◌<◌, ◌==◌, ◌&&◌, ◌||◌, Bool, true, false, List, [], ◌∷◌, Contains}
 use Rattle.std.proofs.Common.{ap, arith, inl, inr, length, not, refl, subst, suc, sym, zero}
 use Rattle.std.specs.List.{list_all, list_any}
 use Rattle.std.specs.Str.{byte}
-use Rattle.std.proofs.lemmas.Bool.{cases_Bool, eqb-true}
+use Rattle.std.proofs.lemmas.Bool.{cases_Bool, eqb-true, or_cases}
 use Rattle.std.proofs.lemmas.Bool.Decides.{nat_tests}
 use Rattle.std.proofs.lemmas.List.Folds.{Any-from_list_any, list_any-from_Any}
 use Rattle.std.proofs.lemmas.List.Sorted.{Contains-permutation}
 use Rattle.texting_robots.specs.Callers.{AreRulesFor, IsDenied, LineValue, Matches, PlacedRule, Rule}
-use Rattle.texting_robots.specs.Callers.{placed_rules, unplaced}
+use Rattle.texting_robots.specs.Callers.{escaped, placed_rules, unplaced}
 use Rattle.texting_robots.specs.Verdict.{robots_file}
 use Rattle.texting_robots.specs.Pattern.{MatchesWith, star}
 use Rattle.texting_robots.proofs.BestLemmas.{placed_of}
 use Rattle.texting_robots.proofs.HeldLemmas.{computed_are, one_list}
 use Rattle.robots_warnings.specs.Closed.{is_closed_for, is_closing_at, is_opening, is_whole_site}
+use Rattle.robots_warnings.specs.Contents.{is_cut_to_root}
 use Rattle.audit_laws.proofs.WarningLemmas.{both, none}
 
 -- ---- patterns
@@ -26,24 +27,42 @@ stars_match (b ∷ pattern) text stars =
     subst (λ b. Matches (b ∷ pattern) text) (sym (eqb-true b star first))
     (text, ([], refl), stars_match pattern text later)
 
-left : (a b : Bool) → (a || b) ≡ true → b ≡ false → a ≡ true
-left true b either isnt = refl
-left false b either isnt = cc
-
 pub whole_site_matches : (pattern text : List ℕ) → is_whole_site pattern ≡ true
     → Matches pattern (byte "/" ∷ text)
 unfolding MatchesWith
 whole_site_matches [] text whole = cc
 whole_site_matches (b ∷ pattern) text whole =
     let (first, stars) = both (b == byte "/" || b == star) _ whole in
-    elim (cases_Bool (b == star)) [
+    elim (or_cases (b == byte "/") (b == star) first) [
       | inl is ↦
+          subst (λ b. Matches (b ∷ pattern) (byte "/" ∷ text)) (sym (eqb-true b (byte "/") is))
+          (text, refl, stars_match pattern text stars)
+      | inr is ↦
           subst (λ b. Matches (b ∷ pattern) (byte "/" ∷ text)) (sym (eqb-true b star is))
           (byte "/" ∷ text, ([], refl), stars_match pattern (byte "/" ∷ text) stars)
-      | inr isnt ↦
-          subst (λ b. Matches (b ∷ pattern) (byte "/" ∷ text))
-          (sym (eqb-true b (byte "/") (left _ _ first isnt))) (text, refl, stars_match pattern text stars)
     ]
+
+-- none of these bytes is escaped
+stars_stay : (pattern : List ℕ) → list_all (λ c. c == byte "*") pattern ≡ true → escaped pattern ≡ pattern
+stars_stay [] stars = refl
+stars_stay (b ∷ pattern) stars =
+    let (first, later) = both (b == star) _ stars in
+    rw (eqb-true b star first, stars_stay pattern later) refl
+
+whole_site_stays : (pattern : List ℕ) → is_whole_site pattern ≡ true → escaped pattern ≡ pattern
+whole_site_stays [] whole = refl
+whole_site_stays (b ∷ pattern) whole =
+    let (first, stars) = both (b == byte "/" || b == star) _ whole in
+    elim (or_cases (b == byte "/") (b == star) first) [
+      | inl is ↦ rw (eqb-true b (byte "/") is, stars_stay pattern stars) refl
+      | inr is ↦ rw (eqb-true b star is, stars_stay pattern stars) refl
+    ]
+
+pub cut_to_root_matches : (value tail comment path : List ℕ) → is_cut_to_root value tail comment ≡ true
+    → Matches (escaped value) (byte "/" ∷ path)
+cut_to_root_matches value tail comment path is =
+    let whole = (both _ _ is).1 in
+    rw (whole_site_stays value whole) (whole_site_matches value path whole)
 
 some_bytes : (pattern : List ℕ) → is_whole_site pattern ≡ true → 0 < length pattern
 some_bytes [] whole = cc

@@ -13,6 +13,7 @@ ghost use Rattle.robots_rfc9309.specs.Rfc9309.{Group, IsFile};
 ghost use Rattle.robots_syntax.specs.Syntax.{IsRobotStated};
 ghost use Rattle.robots_warnings.specs.Closed.{is_closed_for};
 ghost use Rattle.robots_warnings.specs.Conflicts.{IsConflict, is_conflict};
+ghost use Rattle.robots_warnings.specs.Contents.{is_cut_to_root};
 ghost use Rattle.robots_warnings.specs.NamesPastLimit.{names_past_limit};
 ghost use Rattle.robots_warnings.specs.Positions.{is_above_agents};
 ghost use Rattle.robots_warnings.specs.Repeated.{repeated};
@@ -105,6 +106,12 @@ pub fn repeated_rules_can_be_deleted()
         (numbers text : List ℕ) (answer : Bool) → AreLabelsOf name lines labels
         → All (Contains (repeated everywhere labels)) numbers → IsVerdict (rules_for agent lines) text answer
         ↔ IsVerdict (rules_for agent (lines_without numbers lines)) text answer }
+{}
+
+/// A rule with the error `hash-cuts-rule` matches every path.
+pub fn hash_cuts_rule()
+    ensures { (value tail comment path : List ℕ) → is_cut_to_root value tail comment ≡ true
+        → Matches (escaped value) (byte "/" ∷ path) }
 {}
 
 /// A line with `group-past-size-limit` is a user-agent line whose name none of the lines within the size limit has.
