@@ -1,8 +1,10 @@
 pub mod ClosedLemmas
 pub mod ConflictLemmas
 pub mod LawLemmas
+pub mod LineLemmas
 pub mod NeedlessLemmas
 pub mod RepeatedLemmas
+pub mod ReplacedLemmas
 pub mod SpaceLemmas
 pub mod SyntaxLemmas
 pub mod WarningLemmas

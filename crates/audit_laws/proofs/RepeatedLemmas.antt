@@ -1,5 +1,5 @@
 -- A rule with `repeated-rule` decides no verdict, and can be deleted.
-use Rattle.std.proofs.Common.{◌≡◌, ◌≢◌, ◌<◌, ◌≤◌, ◌+◌, ◌⊎◌, ◌↔◌, ℕ, suc, zero, Bool, true, false}
+use Rattle.std.proofs.Common.{◌≡◌, ◌≢◌, ◌<◌, ◌≤◌, ◌+◌, ◌↔◌, ℕ, suc, zero, Bool, true, false}
 use Rattle.std.proofs.Common.{List, [], ◌∷◌, ◌++◌, All, Contains, if◌then◌else◌, slice_get, Option, Some}
 use Rattle.std.proofs.Common.{◌&&◌, ◌==◌, ap, arith, inl, inr, refl, subst, sym, ◌∙◌}
 use Rattle.std.specs.List.{list_any}
@@ -19,9 +19,10 @@ use Rattle.robots_needless.specs.Needless.{lines_without, without}
 use Rattle.robots_needless.proofs.BlockLemmas.{deleted}
 use Rattle.robots_needless.proofs.DistinctLemmas.{in_filter, to_filter}
 use Rattle.robots_needless.proofs.TogetherLemmas.{unplaced_of, verdicts}
-use Rattle.robots_warnings.specs.File.{lines_of}
 use Rattle.robots_warnings.specs.Repeated.{above_next, is_checked, is_repeated, repeated, repeated_from}
 use Rattle.robots_warnings.specs.Spellings.{is_rule_with}
+use Rattle.audit_laws.proofs.LineLemmas.{AreFrom, IsFrom, all_from, all_labels, first_or_later, from_next}
+use Rattle.audit_laws.proofs.LineLemmas.{here, labels_next}
 use Rattle.audit_laws.proofs.WarningLemmas.{both, named_agent}
 
 -- ---- the line above that is repeated
@@ -60,29 +61,14 @@ repeats_one above line is = cc
 
 -- ---- from line to line
 
--- the rest are the lines from this position on
-record IsFrom (lines : List LineValue) (position : ℕ) (rest : List LineValue) : Type 0 where
-  each : (i : ℕ) → slice_get lines (position + i) ≡ slice_get rest i
-
-all_from : (lines : List LineValue) → IsFrom lines 0 lines
-all_from lines = record { each = λ i. let same : 0 + i ≡ i = omega arith in rw same refl }
-
 module _ {lines : List LineValue} {position : ℕ} {line : LineValue} {rest : List LineValue}
     (from : IsFrom lines position (line ∷ rest)) where
-  here : slice_get lines position ≡ Some line
-  here = subst (λ n. slice_get lines n ≡ Some line) (omega arith) (from.each 0)
-
-  from_next : IsFrom lines (position + 1) rest
-  from_next = record {
-    each = λ i. subst (λ n. slice_get lines n ≡ slice_get rest i) (omega arith) (from.each (suc i));
-  }
-
   -- if this line isn't a user-agent line, it and the lines above it are above the next position
   above_next_is : is_agent line ≡ false → (above : List LineValue)
       → ((other : LineValue) → Contains above other → IsAbove lines position (Some other))
       → (other : LineValue) → Contains (above ++ line ∷ []) other → IsAbove lines (position + 1) (Some other)
   above_next_is isnt above group other has =
-      let passes : passes_at is_agent lines position ≡ false = rw here isnt in
+      let passes : passes_at is_agent lines position ≡ false = rw (here from) isnt in
       elim (Contains-push_cases above line other has) [
         | inl older ↦
             let is = group other older in record {
@@ -97,7 +83,7 @@ module _ {lines : List LineValue} {position : ℕ} {line : LineValue} {rest : Li
         | inr same ↦ record {
           other = position;
           above = omega arith;
-          is = here ∙ ap Some same;
+          is = here from ∙ ap Some same;
           no_agent = λ k from below. let same : k ≡ position = omega arith in rw same passes;
         }
       ]
@@ -107,7 +93,7 @@ module _ {lines : List LineValue} {position : ℕ} {line : LineValue} {rest : Li
       → IsAbove lines (position + 1) (Some other) → IsAbove lines position (Some other)
   above_this other differs is =
       let apart : is.other ≢ position =
-      λ same. differs (same_Some line other (sym here ∙ rw same at is.is)) in record {
+      λ same. differs (same_Some line other (sym (here from) ∙ rw same at is.is)) in record {
         other = is.other;
         above = omega arith;
         is = is.is;
@@ -118,8 +104,7 @@ module _ {lines : List LineValue} {position : ℕ} {line : LineValue} {rest : Li
 -- in its group
 record IsReached (lines : List LineValue) (position : ℕ) (above : List LineValue) (labels : List Label)
     : Type 0 where
-  numbers : (i : ℕ) (label : Label) → slice_get labels i ≡ Some label → label.number ≡ position + i + 1
-  from : IsFrom lines position (lines_of labels)
+  labeled : AreFrom lines position labels
   group : (line : LineValue) → Contains above line → IsAbove lines position (Some line)
 
 module _ {lines above : List LineValue} {position : ℕ} {label : Label} {labels : List Label}
@@ -127,26 +112,17 @@ module _ {lines above : List LineValue} {position : ℕ} {label : Label} {labels
   first_repeat : is_repeated above label.line ≡ true → IsRepeat lines label.number
   first_repeat is place number_is =
       let (rule, listed) = repeats_one above label.line is in
-      let same : place ≡ position = omega (arith, reached.numbers 0 label refl) in
-      rw (same, here reached.from) (rule, reached.group label.line listed)
+      let same : place ≡ position = omega (arith, reached.labeled.numbers 0 label refl) in
+      rw (same, here reached.labeled.from) (rule, reached.group label.line listed)
 
   next : IsReached lines (position + 1) (above_next above label.line) labels
   next = record {
-    numbers = λ i later at. omega (arith, reached.numbers (suc i) later at);
-    from = from_next reached.from;
+    labeled = labels_next reached.labeled;
     group = elim (cases_Bool (is_agent label.line)) [
       | inl is ↦ rw is (λ line (k, below, at). absurd (omega arith))
-      | inr isnt ↦ rw isnt (above_next_is reached.from isnt above reached.group)
+      | inr isnt ↦ rw isnt (above_next_is reached.labeled.from isnt above reached.group)
     ];
   }
-
--- the number is the first one, if the condition holds, or one of the others
-first_or_later : (is : Bool) (first number : ℕ) (later : List ℕ)
-    → Contains ((if is then first ∷ [] else []) ++ later) number
-    → ((is ≡ true) × (first ≡ number)) ⊎ Contains later number
-first_or_later true first number later (zero, below, at) = inl (refl, at)
-first_or_later true first number later (suc k, below, at) = inr (k, omega arith, at)
-first_or_later false first number later has = inr has
 
 repeat_from : (everywhere : Bool) (lines : List LineValue) (position : ℕ) (above : List LineValue)
     (labels : List Label) (number : ℕ) → IsReached lines position above labels
@@ -164,8 +140,7 @@ repeat_from everywhere lines position above (label ∷ labels) number reached ha
 is_repeat : {name : List ℕ} {lines : List LineValue} {labels : List Label} → AreLabelsOf name lines labels
     → (everywhere : Bool) (number : ℕ) → Contains (repeated everywhere labels) number → IsRepeat lines number
 is_repeat {lines} {labels} are everywhere number = repeat_from everywhere lines 0 [] labels number (record {
-  numbers = λ i label at. omega (arith, (are.each i label at).0);
-  from = subst (IsFrom lines 0) (sym are.lines_are) (all_from lines);
+  labeled = all_labels are;
   group = λ line (k, below, at). absurd (omega arith);
 })
 

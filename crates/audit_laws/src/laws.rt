@@ -1,12 +1,14 @@
 //! Theorems about the specification, each written as the contract of an empty function.
 ghost use Rattle.std.specs.Prelude.{All, Any, Bool, codes, Contains, false, if◌then◌else◌, IsTrue, List};
-ghost use Rattle.std.specs.Prelude.{slice_get, Some, take, true, ℕ, ◌+◌, ◌↔◌, ◌∷◌, ◌≡◌, ◌≢◌};
+ghost use Rattle.std.specs.Prelude.{not, slice_get, Some, take, true, ℕ, ◌+◌, ◌↔◌, ◌∷◌, ◌≡◌, ◌≢◌};
+ghost use Rattle.std.specs.List.{count_by};
 ghost use Rattle.std.specs.Str.{byte, is_utf8, IsUtf8, str_to_ascii_lowercase};
 ghost use Rattle.texting_robots.specs.Callers.{Allow, AreLabelsOf, AreRulesFor, Disallow, escaped};
 ghost use Rattle.texting_robots.specs.Callers.{file_limit, file_lines, HoldsRule, is_named, IsDecidingLine};
 ghost use Rattle.texting_robots.specs.Callers.{IsDenied, IsRobotOfFile, IsVerdict, Label, LineValue, Matches};
 ghost use Rattle.texting_robots.specs.Callers.{PlacedRule, prepared, RobotValue, Rule, agents_in, lines_read};
 ghost use Rattle.texting_robots.specs.Callers.{rules_for, unplaced, UserAgent};
+ghost use Rattle.texting_robots.specs.Labels.{IsInOwnGroup};
 ghost use Rattle.texting_robots.specs.Verdict.{robots_file};
 ghost use Rattle.robots_needless.specs.Needless.{lines_without, numbers_of};
 ghost use Rattle.robots_rfc9309.specs.Rfc9309.{Group, IsFile};
@@ -17,6 +19,7 @@ ghost use Rattle.robots_warnings.specs.Contents.{is_cut_to_root};
 ghost use Rattle.robots_warnings.specs.NamesPastLimit.{names_past_limit};
 ghost use Rattle.robots_warnings.specs.Positions.{is_above_agents};
 ghost use Rattle.robots_warnings.specs.Repeated.{repeated};
+ghost use Rattle.robots_warnings.specs.Replaced.{replacing, star_count};
 ghost use Rattle.robots_warnings.specs.Rules.{begins_oddly, has_dollar_inside};
 ghost use Rattle.robots_warnings.specs.Tokens.{has_space_around};
 ghost use Rattle.robots_warnings.specs.Urls.{is_invalid_url};
@@ -112,6 +115,21 @@ pub fn repeated_rules_can_be_deleted()
 pub fn hash_cuts_rule()
     ensures { (value tail comment path : List ℕ) → is_cut_to_root value tail comment ≡ true
         → Matches (escaped value) (byte "/" ∷ path) }
+{}
+
+/// A line with `replaces-star` is a user-agent line, and its list of user-agent lines has the name of a crawler that is
+/// reported on, with ASCII letters in any case. No Disallow that applies to this crawler has the pattern of a Disallow that
+/// applies to `*`. The labels may be those for another crawler. The number in the message is how many Disallows `*` has.
+pub fn replaces_star()
+    ensures group { (agents : List (List ℕ)) (name : List ℕ) (lines : List LineValue) (labels : List Label) (number : ℕ)
+        → AreLabelsOf name lines labels → Contains (replacing agents lines labels) number
+        → (position : ℕ) × (value agent : List ℕ) × (number ≡ position + 1)
+        × (slice_get lines position ≡ Some (UserAgent value)) × Contains agents agent
+        × IsInOwnGroup (str_to_ascii_lowercase agent) lines position
+        × ((star other : ℕ) (pattern : List ℕ) → HoldsRule (codes "*") lines star (pattern, false)
+        → ¬ HoldsRule agent lines other (pattern, false)) }
+    ensures count { (lines : List LineValue) (rules : List PlacedRule) → AreRulesFor (codes "*") lines rules
+        → star_count lines ≡ count_by (λ (placed : PlacedRule). not placed.rule.1) rules }
 {}
 
 /// A line with `group-past-size-limit` is a user-agent line whose name none of the lines within the size limit has.
