@@ -1,5 +1,6 @@
 pub mod ClosedLemmas
 pub mod ConflictLemmas
+pub mod DelayLemmas
 pub mod LawLemmas
 pub mod LineLemmas
 pub mod NeedlessLemmas

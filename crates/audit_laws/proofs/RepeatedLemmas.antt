@@ -217,8 +217,15 @@ denied_by_same : (rules others : List Rule) (text : List ℕ)
 denied_by_same rules others text same (differs, p, has, fits, longest) =
     (differs, p, (same (p, false)).0 has, fits, λ q listed. longest q ((same (q, true)).1 listed))
 
-abbrev among : List ℕ → ℕ → Bool
+abbrev pub among : List ℕ → ℕ → Bool
 among numbers number = list_any (λ one. one == number) numbers
+
+-- what holds of all numbers of a list holds of each that is among them
+pub holds_among : (P : ℕ → Type 0) (numbers : List ℕ) → All P numbers → (number : ℕ)
+    → among numbers number ≡ true → P number
+holds_among P numbers all number is =
+    let (k, one, below, at, same) = Any-from_list_any (λ one. one == number) numbers is in
+    subst P (at ∙ eqb-true one number same) (all k one below)
 
 module _ (numbers : List ℕ) (lines : List LineValue)
     (repeats : (number : ℕ) → among numbers number ≡ true → IsRepeat lines number) where
@@ -298,6 +305,5 @@ repeated_can_be_deleted everywhere name agent lines labels numbers text answer l
   where
     repeats : (number : ℕ) → among numbers number ≡ true → IsRepeat lines number
     repeats number is =
-        let (k, one, below, at, same) = Any-from_list_any (λ one. one == number) numbers is in
         is_repeat labeled everywhere number
-        (subst (Contains (repeated everywhere labels)) (at ∙ eqb-true one number same) (all k one below))
+        (holds_among (Contains (repeated everywhere labels)) numbers all number is)

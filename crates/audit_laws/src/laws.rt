@@ -7,7 +7,7 @@ ghost use Rattle.texting_robots.specs.Callers.{Allow, AreLabelsOf, AreRulesFor, 
 ghost use Rattle.texting_robots.specs.Callers.{file_limit, file_lines, HoldsRule, is_named, IsDecidingLine};
 ghost use Rattle.texting_robots.specs.Callers.{IsDenied, IsRobotOfFile, IsVerdict, Label, LineValue, Matches};
 ghost use Rattle.texting_robots.specs.Callers.{PlacedRule, prepared, RobotValue, Rule, agents_in, lines_read};
-ghost use Rattle.texting_robots.specs.Callers.{rules_for, unplaced, UserAgent};
+ghost use Rattle.texting_robots.specs.Callers.{delay_for, rules_for, unplaced, UserAgent};
 ghost use Rattle.texting_robots.specs.Labels.{IsInOwnGroup};
 ghost use Rattle.texting_robots.specs.Verdict.{robots_file};
 ghost use Rattle.robots_needless.specs.Needless.{lines_without, numbers_of};
@@ -23,6 +23,8 @@ ghost use Rattle.robots_warnings.specs.Replaced.{replacing, star_count};
 ghost use Rattle.robots_warnings.specs.Rules.{begins_oddly, has_dollar_inside};
 ghost use Rattle.robots_warnings.specs.Tokens.{has_space_around};
 ghost use Rattle.robots_warnings.specs.Urls.{is_invalid_url};
+ghost use Rattle.robots_warnings.specs.Warnings.{position_warnings, warned_at};
+ghost use Rattle.robots_warnings.specs.declared.table.Cause.TheVariants.{TwoDelays};
 ghost use Rattle.audit_core.specs.Audit.{AuditValue, IsAuditOf};
 ghost use Rattle.audit_core.specs.Request.{RequestValue};
 ghost use Rattle.audit_core.specs.Syntax.{is_standard};
@@ -130,6 +132,14 @@ pub fn replaces_star()
         → ¬ HoldsRule agent lines other (pattern, false)) }
     ensures count { (lines : List LineValue) (rules : List PlacedRule) → AreRulesFor (codes "*") lines rules
         → star_count lines ≡ count_by (λ (placed : PlacedRule). not placed.rule.1) rules }
+{}
+
+/// Lines with `two-delays` can be deleted, one or several or all: the delay of every crawler stays the same. The labels may
+/// be those for another crawler.
+pub fn two_delays()
+    ensures { (name agent : List ℕ) (lines : List LineValue) (labels : List Label) (numbers : List ℕ)
+        → AreLabelsOf name lines labels → All (Contains (position_warnings labels)) (warned_at TwoDelays None numbers)
+        → delay_for agent (lines_without numbers lines) ≡ delay_for agent lines }
 {}
 
 /// A line with `group-past-size-limit` is a user-agent line whose name none of the lines within the size limit has.
