@@ -98,7 +98,7 @@ def test_characters_that_change_the_writing_direction():
 
 
 GOOGLE = {row[1]: re.findall(r"`([^`]+)`", row[0]) for row in tables(PROGRAMS)}
-LIKE_GOOGLEBOT, IGNORING_STAR = GOOGLE["the group of `Googlebot`, if there is one"], GOOGLE["no group, not even that of `*`"]
+LIKE_GOOGLEBOT, IGNORING_STAR = GOOGLE["the group of `Googlebot`; if there is none, that of `*`, as here"], GOOGLE["no group, not even that of `*`"]
 
 
 def test_crawlers_of_google():

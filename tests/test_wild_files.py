@@ -1,4 +1,4 @@
-"""Whole robots.txt files, as they occur: `robots_audit` warns of what their owners got wrong, and gives at most notes on healthy ones."""
+"""Whole robots.txt files, like those that occur: `robots_audit` warns of what their owners got wrong, and gives at most notes on healthy ones."""
 
 import json
 import tomllib
@@ -34,7 +34,7 @@ def test_healthy_files_have_notes_at_most(file, for_all):
 
 
 def test_a_misspelled_crawler_is_found_by_an_expectation(tmp_path):
-    """An audit doesn't know the names of crawlers, so it has no warning."""
+    """An audit has no warning for it."""
     expected = tmp_path / "expect.txt"
     expected.write_text("deny Google-Extended /\ndeny ChatGPT-User /\n")
     result = run("robots_audit", ["-f", WILD / "misspelled-names.txt", "--expect", expected])
@@ -43,4 +43,4 @@ def test_a_misspelled_crawler_is_found_by_an_expectation(tmp_path):
 
 
 def test_each_file_is_tried():
-    assert {path.name for path in WILD.glob("*.txt")} == {*FILES, "misspelled-names.txt"}
+    assert {path.name for path in WILD.glob("*.txt")} == {*FILES}

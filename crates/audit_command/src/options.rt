@@ -16,8 +16,8 @@ enum Value {
     Repeated(&'static str),
     /// One of these words.
     OneOf(&'static str, &'static [&'static str]),
-    /// One of these words, which can only follow a `=`, as AGENT may follow the option. Without a
-    /// `=` the value is the text after the list of words.
+    /// One of these words, which can only follow a `=`, as AGENT may follow the option. If the
+    /// option is given without a `=`, its value is the last field of this variant.
     OneOfAfterEquals(&'static str, &'static [&'static str], &'static str),
 }
 
@@ -37,7 +37,7 @@ struct Parameter {
 /// The arguments, and the options that choose crawlers and URLs.
 const OF_QUERIES: &[&str] = &["agent", "url", "agents", "crawler", "urls"];
 
-/// The other options of an audit than `--file`: about warnings and the form of the report.
+/// The options of an audit that are about warnings and the form of the report.
 const OF_REPORTS: &[&str] = &[
     "denied", "quiet", "format", "json", "html", "color", "strict", "needless", "only", "ignore",
 ];
@@ -73,7 +73,7 @@ const PARAMETERS: &[Parameter] = &[
         short: None,
         long: Some("urls"),
         value: Value::Text("FILE"),
-        help: "Check the URLs in this file too, one per line (-: standard input)",
+        help: "Check or compare the URLs in this file too, one per line (-: standard input)",
         excludes: &[],
     },
     Parameter {

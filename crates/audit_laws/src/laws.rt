@@ -104,8 +104,8 @@ pub fn repeated_rule()
         → ¬ IsDecidingLine rules text (Some number) }
 {}
 
-/// Lines with `repeated-rule` can be deleted, one or several or all: every verdict stays the same, on any text, for any
-/// crawler. The labels may be those for another crawler.
+/// If lines with `repeated-rule` are deleted, one or several or all, every verdict stays the same, on any text, for any
+/// crawler; it says nothing about delays. The labels may be those for another crawler.
 pub fn repeated_rules_can_be_deleted()
     ensures { (everywhere : Bool) (name agent : List ℕ) (lines : List LineValue) (labels : List Label)
         (numbers text : List ℕ) (answer : Bool) → AreLabelsOf name lines labels
@@ -113,7 +113,7 @@ pub fn repeated_rules_can_be_deleted()
         ↔ IsVerdict (rules_for agent (lines_without numbers lines)) text answer }
 {}
 
-/// A rule with the error `hash-cuts-rule` matches every path.
+/// A rule with the error `hash-cuts-rule` matches every path, also an empty Disallow, which is an Allow of `/`.
 pub fn hash_cuts_rule()
     ensures { (value tail comment path : List ℕ) → is_cut_to_root value tail comment ≡ true
         → Matches (escaped value) (byte "/" ∷ path) }
@@ -134,8 +134,8 @@ pub fn replaces_star()
         → star_count lines ≡ count_by (λ (placed : PlacedRule). not placed.rule.1) rules }
 {}
 
-/// Lines with `two-delays` can be deleted, one or several or all: the delay of every crawler stays the same. The labels may
-/// be those for another crawler.
+/// If lines with `two-delays` are deleted, one or several or all, the delay of every crawler stays the same; it says
+/// nothing about verdicts. The labels may be those for another crawler.
 pub fn two_delays()
     ensures { (name agent : List ℕ) (lines : List LineValue) (labels : List Label) (numbers : List ℕ)
         → AreLabelsOf name lines labels → All (Contains (position_warnings labels)) (warned_at TwoDelays None numbers)

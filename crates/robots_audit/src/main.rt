@@ -215,7 +215,7 @@ fn compare_requested(rt: &HostRuntime, request: &Request<'_>, older: &str) -> Re
     }
 }
 
-/// Compares these files for the URLs in the file with this name too.
+/// The same as `compare_requested`, with the URLs in the file `name` after those of the request.
 fn compare_with_urls(
     rt: &HostRuntime,
     request: Request<'_>,
