@@ -218,7 +218,7 @@ def test_guide_shows_may_fetch():
 
 def test_readme_shows_what_the_first_command_prints():
     """Some lines of the output, in its order."""
-    words = shlex.split(re.search(r"^    \(cd crates/robots_audit && rt run -- (.*)\)$", README, re.M)[1])
+    words = shlex.split(re.search(r"^    \(cd crates/robots_audit && rt try -- (.*)\)$", README, re.M)[1])
     at = words.index("<")
     result = run("robots_audit", words[:at], (CRATES / "robots_audit" / words[at + 1]).read_bytes())
     assert result.status == 1
