@@ -4,12 +4,14 @@
     python census.py SOURCE.. [--agents A,B] [--paths /,/search] [--csv FILE] [--svg FILE] [--workers N | --scheduler ADDRESS]
 
 A SOURCE is a folder of files HOST/robots.txt, HOST.robots.txt, HOST.txt or HOST, also in folders below; a JSONL file with a line {"host":
-NAME, "body": BASE64} for each; or a WARC file, .warc or .warc.gz, of which the successful responses for /robots.txt count. A site is a host,
-whatever the scheme and the port. If there are several files for one, the first is counted, by the path of its record and by its place
-there, and the others are among the other records.
+NAME, "body": BASE64} for each; or a WARC file, .warc or .warc.gz, of which complete responses for /robots.txt with a status 2xx count. A
+site is a host, whatever the scheme and the port. If there are several files for one, the first is counted, by the path of its record and
+by its place there. How many records are left out is shown, with the reason.
 
-Workers read the sources themselves, so on a cluster they need the same paths, and the package texting_robots. A record that can't be
-read, or that ends its worker, is listed as damaged, and nothing else is lost.
+Workers read the sources themselves, so on a cluster they need the same paths, and the package texting_robots. A WARC file is read by one
+of them, from its start, and a record ends where its length says, so that nothing in a body can be taken for a record. A record, or a file
+of a folder, that can't be understood is listed as damaged. A source that can't be read on, or of which a worker dies, is listed as unread,
+with the place of the last record that was read. The others are counted.
 """
 
 from __future__ import annotations
@@ -20,11 +22,10 @@ import contextlib
 import csv
 import gzip
 import html
-import http.client
 import io
 import json
-import mmap
 import os
+import re
 import stat
 import sys
 import time
@@ -33,22 +34,44 @@ from collections import Counter
 from pathlib import Path
 from urllib.parse import urlsplit
 
-from texting_robots import FILE_LIMIT, Matrix, OverlongRule, Robots
+from texting_robots import FILE_LIMIT, Matrix, OverlongRule, Robots, robots_url
 
 AGENTS = "GPTBot,CCBot,ClaudeBot,Google-Extended,Bingbot,Googlebot,Bytespider,PerplexityBot"
-MOST = 64_000_000
-"""A record of a .warc.gz file that has more bytes when unpacked counts as damaged."""
+MOST = 4_000_000
+"""Of a record in a WARC file no more bytes are kept, and no line of its head is longer."""
+GZIP = b"\x1f\x8b"
+ADDRESS = re.compile(r"(?i:https?)://(?:[^\s/?#\\@]*@)?([^\s/?#\\@]*)/robots\.txt")
+STATUS = re.compile(rb"HTTP/[0-9.]+ +([1-9][0-9][0-9])\b")
+CHUNK = re.compile(rb"([0-9A-Fa-f]{1,8})[ \t]*(?:;[^\n]*)?\r?\n")
+CONTROL = re.compile(rb"[\x00-\x08\x0e-\x1f\x7f]")
 
-# A batch is a tuple: 'files' and paths, or 'jsonl' or 'warc', a path, and the range of bytes in which its records begin. Each reader
-# yields the place of a record, a tuple of its path and its first byte, with its site and body, with None if it is no robots.txt file, or
-# with the error that damages it.
+# A batch is a tuple: 'files' and paths; 'jsonl', a path, and the range of bytes in which its lines begin; or 'warc' and a path. Each
+# reader yields the place of a record, a tuple of its path and its first byte (unpacked), with its site and body, with the reason for
+# which it is left out, or with the error that damages it. It raises an error after which it can't go on.
 
 
-def attempt(read, given):
+def attempt(read, *given):
     try:
-        return read(given)
+        return read(*given)
     except Exception as error:
         return error
+
+
+def site_of(url):
+    """The host of the address of a robots.txt file, as the library writes it, without a dot at its end; or None for another URL."""
+    address = ADDRESS.fullmatch(url)
+    if address is None:
+        return None
+    if not address[1].strip("."):
+        raise ValueError("the URL has no host")
+    return urlsplit(robots_url(url)).hostname.rstrip(".")
+
+
+def site_named(host):
+    site = site_of("https://" + host + "/robots.txt")
+    if site is None:
+        raise ValueError(f"{host!r} is no host")
+    return site
 
 
 def files(*paths):
@@ -56,17 +79,19 @@ def files(*paths):
         yield (path,), attempt(read_file, path)
 
 
+def at_once(path, flags):
+    """Opens a file without waiting for the writer of a pipe."""
+    return os.open(path, flags | os.O_NONBLOCK)
+
+
 def read_file(path):
-    file = os.open(path, os.O_RDONLY | os.O_NONBLOCK)  # without waiting for the writer of a pipe
-    try:
-        status = os.fstat(file)
+    with open(path, "rb", opener=at_once) as file:
+        status = os.fstat(file.fileno())
         if not stat.S_ISREG(status.st_mode):
             raise ValueError("it isn't a regular file")
-        body = os.read(file, min(status.st_size, FILE_LIMIT))
-    finally:
-        os.close(file)
+        body = file.read(min(status.st_size, FILE_LIMIT))
     folder, name = os.path.split(path)
-    return os.path.basename(folder) if name == "robots.txt" else name.removesuffix(".txt").removesuffix(".robots"), body
+    return site_named(os.path.basename(folder) if name == "robots.txt" else name.removesuffix(".txt").removesuffix(".robots")), body
 
 
 def json_lines(path, start, end):
@@ -75,113 +100,129 @@ def json_lines(path, start, end):
             lines.seek(start - 1)
             lines.readline()
         while (place := lines.tell()) < end and (line := lines.readline()):
-            yield (path, place), attempt(read_json, line) if line.strip() else None
+            yield (path, place), attempt(read_json, line) if line.strip() else "empty lines"
 
 
 def read_json(line):
     record = json.loads(line)
-    return str(record["host"]), base64.b64decode(record["body"], validate=True)
+    return site_named(record["host"]), base64.b64decode(record["body"], validate=True)
 
 
-def warc(path, start, end):
-    """A damaged stretch belongs to the range of the last sound record before it, so it is yielded once, whatever the ranges."""
-    with open(path, "rb") as file, mmap.mmap(file.fileno(), 0, access=mmap.ACCESS_READ) as data:
-        mark = b"\x1f\x8b\x08" if data[:2] == b"\x1f\x8b" else b"WARC/1."
-        place, is_sound = start, start == 0
-        while 0 <= place < len(data):
-            try:
-                record, following = record_at(data, place)
-            except Exception as error:
-                if is_sound:
-                    yield (path, place), error
-                place, is_sound = data.find(mark, place + 1), False
-                continue
-            if place >= end:
-                return
-            yield (path, place), attempt(read_response, record)
-            place, is_sound = following, True
+def warc(path):
+    with open(path, "rb") as file:
+        stream = gzip.open(file) if file.peek(2).startswith(GZIP) else file
+        place, version = next_record(stream)
+        while version:
+            record = read_record(stream, version)
+            following = attempt(next_record, stream)
+            # only here gzip has compared the checksum of the record
+            if not str(following).startswith(("CRC check failed", "Incorrect length")):
+                yield (path, place), attempt(read_response, *record)
+            if isinstance(following, Exception):
+                raise following
+            place, version = following
 
 
-def record_at(data, place):
-    """The bytes of a record without its version, and where the next one begins."""
-    if data[place : place + 2] == b"\x1f\x8b":
-        return unpacked(data, place)
-    head = data.find(b"\r\n\r\n", place, place + 100_000)
-    if data[place : place + 7] != b"WARC/1." or head < 0:
+def next_record(stream):
+    """Where the next record begins, and its first line, which is empty at the end of the file."""
+    place = stream.tell()
+    while (line := stream.readline(MOST)) in (b"\r\n", b"\n"):
+        place = stream.tell()
+    return place, line
+
+
+def read_record(stream, version):
+    """The fields of a record, and its content, of which no more than MOST bytes are kept."""
+    if not version.startswith(b"WARC/"):
         raise ValueError("no record begins here")
-    end = head + 4 + length_of(fields_of(data[place:head]))
-    if end > len(data):
+    fields = fields_of(stream)
+    length = length_of(fields)
+    if length is None:
+        raise ValueError("a record has no length")
+    block = stream.read(min(length, MOST))
+    length -= len(block)
+    while length and (piece := stream.read(min(length, MOST))):
+        length -= len(piece)
+    if length:
         raise ValueError("the record is cut")
-    following = end
-    while data[following : following + 2] == b"\r\n":
-        following += 2
-    return data[place:end], following
+    return fields, block
 
 
-def unpacked(data, place):
-    unpacker, record = zlib.decompressobj(31), bytearray()
-    while not unpacker.eof:
-        piece = data[place : place + 65536]
-        record += unpacker.decompress(piece, MOST)
-        if not piece or len(record) >= MOST:
-            raise ValueError("the record is cut or too large")
-        place += len(piece)
-    head = record.find(b"\r\n\r\n")
-    if not record.startswith(b"WARC/1.") or head < 0:
-        raise ValueError("no record begins here")
-    end = head + 4 + length_of(fields_of(bytes(record[:head])))
-    if record[end:].strip(b"\r\n"):
-        raise ValueError("records are packed together and not one by one: unpack the file by gunzip")
-    return bytes(record), place - len(unpacker.unused_data)
-
-
-def fields_of(head):
-    lines = (line.partition(b":") for line in head.split(b"\r\n")[1:])
-    return {name.strip().lower(): value.strip() for name, _, value in lines}
+def fields_of(stream):
+    """The fields of a head, by their names in small letters, up to its empty line."""
+    fields = {}
+    while line := stream.readline(MOST):
+        if not line.endswith(b"\n"):
+            break
+        if line in (b"\r\n", b"\n"):
+            return fields
+        name, _, value = line.decode(errors="replace").partition(":")
+        fields[name.strip().lower()] = value.strip()
+    raise ValueError("a head is cut or too long")
 
 
 def length_of(fields):
-    length = int(fields[b"content-length"])
-    if length < 0:
-        raise ValueError("a record has a negative length")
-    return length
+    length = fields.get("content-length", "")
+    return int(length) if re.fullmatch("[0-9]{1,18}", length) else None
 
 
-class OfBytes:
-    """What http.client takes for a socket."""
-
-    def __init__(self, data):
-        self.data = data
-
-    def makefile(self, *_):
-        return io.BytesIO(self.data)
-
-
-def read_response(record):
-    head, _, block = record.partition(b"\r\n\r\n")
-    fields = fields_of(head)
-    url = urlsplit(fields.get(b"warc-target-uri", b"").decode().strip("<>"))
-    if fields.get(b"warc-type") != b"response" or url.path != "/robots.txt":
-        return None
-    if not url.hostname:
-        raise ValueError("the URL has no host")
-    length = length_of(fields)
-    if len(block) < length:
-        raise ValueError("the record is cut")
-    response = http.client.HTTPResponse(OfBytes(block[:length]))
-    response.begin()
-    if response.status // 100 != 2:
-        return None
-    return url.hostname, decoded(response.read(), response.getheader("Content-Encoding", "identity").lower())
+def read_response(fields, block):
+    """The site and the body of a response for a robots.txt file, or why the record is left out."""
+    kind = fields.get("warc-type")
+    site = site_of(fields.get("warc-target-uri", "").strip("<>")) if kind in ("response", "revisit") else None
+    if site is None:
+        return "other records"
+    if kind == "revisit":
+        return "revisits"
+    stream = io.BytesIO(block)
+    status = STATUS.match(stream.readline())
+    if status is None:
+        raise ValueError("the response has no status")
+    if not status[1].startswith(b"2"):
+        return f"with status {status[1][:1].decode()}xx"
+    body, is_whole = body_of(fields_of(stream), stream.read())
+    if status[1] == b"206" or len(body) < FILE_LIMIT and ("warc-truncated" in fields or not is_whole):
+        return "incomplete"
+    return site, body
 
 
-def decoded(body, encoding):
-    """The body without this Content-Encoding. Of a packed one no more is unpacked than counts."""
-    if encoding in ("", "identity"):
-        return body
+def body_of(headers, body):
+    """The body without its encodings, of a packed one no more than counts, and whether its end is there. An archive may have undone an
+    encoding and kept its header, so what has no control character isn't packed."""
+    encoding, length, is_whole = headers.get("content-encoding", "").lower(), length_of(headers), True
+    if "chunked" in headers.get("transfer-encoding", "").lower():
+        body, is_whole = unchunked(body)
+    elif encoding in ("", "identity") and length is not None:
+        is_whole = len(body) >= length
+    if encoding in ("", "identity") or not CONTROL.search(body):
+        return body, is_whole
     if encoding not in ("gzip", "x-gzip"):
         raise ValueError(f"the body is encoded as {encoding}, which isn't understood")
-    return gzip.open(io.BytesIO(body)).read(FILE_LIMIT)
+    return unpacked(body)
+
+
+def unchunked(body):
+    """The chunks of a body together, and whether the last one is there; or the body, if it doesn't begin with a chunk."""
+    chunks, place = [], 0
+    while chunk := CHUNK.match(body, place):
+        size, start = int(chunk[1], 16), chunk.end()
+        if size == 0:
+            return b"".join(chunks), True
+        chunks.append(body[start : start + size])
+        place = start + size + 2
+    return (b"".join(chunks), False) if chunks else (body, True)
+
+
+def unpacked(body):
+    """What gzip has packed, in one member or in several, and whether the end is there. Other bytes after it don't count."""
+    whole = b""
+    for _ in range(100):  # each of them copies the rest
+        unpacker = zlib.decompressobj(31)
+        whole += unpacker.decompress(body, FILE_LIMIT - len(whole))
+        body = unpacker.unused_data
+        if len(whole) == FILE_LIMIT or not body.startswith(GZIP):
+            return whole, unpacker.eof
+    raise ValueError("the body is packed in too many members")
 
 
 READERS = {"files": files, "jsonl": json_lines, "warc": warc}
@@ -207,36 +248,41 @@ def rows_of(site, body, matrix):
 
 
 def lines_of(rows):
-    """Rows as lines of a CSV file."""
+    """Rows as lines of a CSV file, with an apostrophe before what a spreadsheet would take for a formula."""
     lines = io.StringIO()
-    csv.writer(lines).writerows(rows)
+    csv.writer(lines).writerows([f"'{it}" if str(it).startswith(("=", "+", "-", "@")) else it for it in row] for row in rows)
     return lines.getvalue()
 
 
-def keep_first(sites, site, record):
-    """Adds the record of a site, or keeps the one whose place is first; and whether there was one."""
-    is_known = site in sites
+def described(error):
+    return f"{type(error).__name__}: {error}"[:500]  # a text of the archive in it may be of any length
+
+
+def keep_first(sites, left_out, site, record):
+    """Adds the record of a site, or keeps the one whose place is first."""
+    if site in sites:
+        left_out["more files of a site"] += 1
     sites[site] = min(sites.get(site, record), record)
-    return is_known
 
 
 def census_of(batch, agents, paths):
     """Each site of a batch with its record: the place, the lines of the CSV file, so that little but text is left to collect, and the
-    results for a crawler and a path; how many other records there are; and the places and errors of damaged ones."""
-    matrix, sites, others, damaged, same = Matrix(sorted(paths), sorted(agents)), {}, 0, [], {}
-    for place, read in READERS[batch[0]](*batch[1:]):
-        try:
-            if isinstance(read, Exception):
-                raise read
-            if read is None:
-                others += 1
-                continue
-            rows = rows_of(*read, matrix)
-            results = tuple(row[1:4] for row in rows)
-            others += keep_first(sites, read[0], (place, lines_of(rows), same.setdefault(results, results)))
-        except Exception as error:
-            damaged.append((place, f"{type(error).__name__}: {error}"))
-    return sites, others, damaged
+    results for a crawler and a path; how many records are left out, by the reason; and the errors, with what they do and the place."""
+    matrix, sites, left_out, errors, same = Matrix(sorted(paths), sorted(agents)), {}, Counter(), [], {}
+    place = batch[1:3]
+    try:
+        for place, read in READERS[batch[0]](*batch[1:]):
+            rows = attempt(rows_of, *read, matrix) if isinstance(read, tuple) else read
+            if isinstance(rows, Exception):
+                errors.append(("damaged", place, described(rows)))
+            elif isinstance(rows, str):
+                left_out[rows] += 1
+            else:
+                results = tuple(row[1:4] for row in rows)
+                keep_first(sites, left_out, read[0], (place, lines_of(rows), same.setdefault(results, results)))
+    except Exception as error:
+        errors.append(("unread", place, described(error)))
+    return sites, left_out, errors
 
 
 def paths_below(source):
@@ -247,16 +293,17 @@ def paths_below(source):
 
 
 def batches_of(source, size):
-    """Batches of about so many records that together have each record of a source once."""
+    """Batches of about so many records that together have each record of a source once; a WARC file is one batch."""
     path = Path(source)
     if path.is_dir():
         paths = paths_below(source)
         return [("files", *paths[start : start + size]) for start in range(0, len(paths), size)]
-    if not path.is_file() or not os.access(source, os.R_OK):
+    if not path.is_file():
         raise ValueError(f"{source} isn't a folder, or a file that can be read")
-    kind = "warc" if path.name.endswith((".warc", ".warc.gz")) else "jsonl"
-    step, length = size * (1024 if kind == "warc" else 4096), path.stat().st_size
-    return [(kind, source, start, min(start + step, length)) for start in range(0, length, step)]
+    if path.name.endswith((".warc", ".warc.gz")):
+        return [("warc", source)]
+    step, length = size * 4096, path.stat().st_size
+    return [("jsonl", source, start, min(start + step, length)) for start in range(0, length, step)]
 
 
 # ---- where they run
@@ -268,44 +315,41 @@ def run_here(batches, *words):
         yield census_of(batch, *words)
 
 
-def alone(batch):
-    """The batch as batches of one record each."""
-    if batch[0] == "files":
-        return [("files", path) for path in batch[1:]]
-    kind, path, start, end = batch
-    places = [place for (_, place), _ in READERS[kind](path, start, end)]
-    return [(kind, path, place, place + 1) for place in places if place < end]
-
-
-def sent(client, work, batches, words):
-    """The batches by the futures of their results. One call for all of them is much faster than a call for each."""
-    return dict(zip(client.map(work, batches, *([word] * len(batches) for word in words), pure=False), batches))
+def unread(batch, error):
+    """The result of a batch that no worker could read."""
+    places = [(path,) for path in batch[1:]] if batch[0] == "files" else [batch[1:3]]
+    return {}, Counter(), [("unread", place, described(error)) for place in places]
 
 
 def run_on(client, batches, *words, work=census_of):
-    """The results from the workers of a client. When a worker dies, its batches are tried again record by record, and those with which
-    another one dies one after the other at the end: so only a record that itself ends its worker is lost."""
+    """The results from the workers of a client. When one dies, so may others' batches with it: they are tried again at the end, one after
+    the other. One call that sends all batches is much faster than a call for each."""
     from distributed import KilledWorker, as_completed
 
-    waiting = sent(client, work, batches, words)
-    finished, suspects = as_completed(waiting), []
-    for future in finished:
+    waiting = dict(zip(client.map(work, batches, *([word] * len(batches) for word in words), pure=False), batches))
+    suspects = []
+    for future in as_completed(waiting):
         batch = waiting.pop(future)
         try:
             yield future.result()
         except KilledWorker:
-            records = alone(batch)
-            if len(records) < 2:
-                suspects.append(batch)
-                continue
-            again = sent(client, work, records, words)
-            waiting.update(again)
-            finished.update(again)
+            suspects.append(batch)
+        except Exception as error:
+            yield unread(batch, error)
     for batch in suspects:
-        try:
-            yield client.submit(work, batch, *words, pure=False).result()
-        except KilledWorker:
-            yield {}, 0, [(batch[1:3], "KilledWorker: the worker died")]
+        yield from run_alone(client, batch, words, work)
+
+
+def run_alone(client, batch, words, work):
+    """The results of a batch while nothing else runs: of one with which a worker dies, file by file if it is of files."""
+    try:
+        yield client.submit(work, batch, *words, pure=False).result()
+    except Exception as error:
+        if batch[0] == "files" and len(batch) > 2:
+            for path in batch[1:]:
+                yield from run_alone(client, ("files", path), words, work)
+        else:
+            yield unread(batch, error)
 
 
 @contextlib.contextmanager
@@ -328,29 +372,35 @@ def client_of(workers, scheduler):
 # ---- what is written
 
 
+def printable(text):
+    """The text with escapes for control characters, for those that change the direction of writing, and for lone surrogates."""
+    return "".join(it if it.isprintable() else it.encode("unicode_escape").decode() for it in text)
+
+
 def census(results, batches=0):
-    """The sum of the results: how many sites there are, and how many other records; how many sites have each result for a crawler and a
-    path; the sites that keep a crawler out of a path, with their lines of the CSV file; and the damaged records. No order depends on
-    where they ran."""
-    sites, others, damaged, done = {}, 0, [], 0
-    for more_sites, more_others, more_damaged in results:
-        others, done = others + more_others, done + 1
-        others += sum(keep_first(sites, site, record) for site, record in more_sites.items())
-        damaged += more_damaged
+    """The sum of the results: how many sites there are, and how many records are left out; how many sites have each result for a crawler
+    and a path; the sites that keep a crawler out of a path, with their lines of the CSV file; and the errors. No order depends on where
+    they ran."""
+    sites, left_out, errors, done = {}, Counter(), [], 0
+    for more_sites, more_left_out, more_errors in results:
+        left_out, done = left_out + more_left_out, done + 1
+        for site, record in more_sites.items():
+            keep_first(sites, left_out, site, record)
+        errors += more_errors
         if batches and sys.stderr.isatty():
             width = min(40, 40 * done // batches)
             print(f"\r[{'#' * width}{'.' * (40 - width)}] {len(sites)} sites", end="", file=sys.stderr, flush=True)
     counts = Counter(result for _, _, results in sites.values() for result in results)
     rows = sorted((site, lines) for site, (_, lines, _) in sites.items() if lines)
-    return len(sites), others, counts, rows, [(":".join(map(str, place)), error) for place, error in sorted(damaged)]
+    texts = [(what, printable(":".join(map(str, place))), printable(error)) for what, place, error in sorted(errors)]
+    return len(sites), left_out, counts, rows, texts
 
 
-def write_csv(path, rows, damaged):
-    # a name that isn't Unicode, as a file may have, is written with escapes
-    with open(path, "w", newline="", encoding="utf-8", errors="backslashreplace") as file:
+def write_csv(path, rows, errors):
+    with open(path, "w", newline="", encoding="utf-8") as file:
         file.write(lines_of([("site", "crawler", "path", "result", "line")]))
         file.writelines(lines for _, lines in rows)
-        file.write(lines_of((place, "", "", f"damaged: {error}", "") for place, error in damaged))
+        file.write(lines_of((place, "", "", f"{what}: {error}", "") for what, place, error in errors))
 
 
 COLOURS = ["#4c72b0", "#dd8452", "#55a868", "#c44e52", "#8172b3", "#937860"]
@@ -362,7 +412,7 @@ def chart(sites, counts, agents, paths):
     group = bar * len(paths) + 12
     width, height = left + max(full + 130, 110 * len(paths)), 70 + group * len(agents)
     parts = [f'<svg xmlns="http://www.w3.org/2000/svg" width="{width}" height="{height}" font-family="sans-serif" font-size="12">']
-    parts.append(f'<rect width="100%" height="100%" fill="#fff"/><text x="10" y="22" font-size="15">Of {sites} sites, how many keep a crawler out</text>')
+    parts.append(f'<rect width="100%" height="100%" fill="#fff"/><text x="10" y="22" font-size="15">Of {sites} sites with a robots.txt file, how many keep a crawler out</text>')
     for number, path in enumerate(paths):
         x, colour = left + 110 * number, COLOURS[number % len(COLOURS)]
         parts.append(f'<rect x="{x}" y="34" width="10" height="10" fill="{colour}"/><text x="{x + 15}" y="44">{html.escape(path)}</text>')
@@ -377,14 +427,17 @@ def chart(sites, counts, agents, paths):
     return "\n".join([*parts, "</svg>", ""])
 
 
-def report(sites, others, counts, damaged, agents, paths):
+def report(sites, left_out, counts, errors, agents, paths):
     print(f"{'kept out of':20}" + "".join(f"{path:>12}" for path in [*paths, "unusable"]))
     for agent in agents:
         words = [*((path, "deny") for path in paths), (paths[0], "unusable")]
         print(f"{agent:20}" + "".join(f"{counts[agent, path, result]:12}" for path, result in words))
-    print(f"{sites} sites, {others} other records, {len(damaged)} damaged")
-    for place, error in damaged[:20]:
-        print(f"damaged: {place}: {error}")
+    unread, damaged = ([it for it in errors if it[0] == what] for what in ("unread", "damaged"))
+    print(f"{sites} sites with a robots.txt file, {len(damaged)} damaged, {len(unread)} unread")
+    for reason, count in sorted(left_out.items()):
+        print(f"left out: {count} {reason}")
+    for what, place, error in [*unread, *damaged[:20]]:
+        print(f"{what}: {place}: {error}")
 
 
 def items(text):
@@ -400,7 +453,7 @@ def parsed():
     words.add_argument("--paths", type=items, default="/,/search", help="paths or URLs, separated by commas; /,/search")
     words.add_argument("--csv", metavar="FILE", help="writes each path that a site keeps a crawler out of")
     words.add_argument("--svg", metavar="FILE", help="writes a bar chart")
-    words.add_argument("--batch", type=int, default=500, help="records in a batch; 500")
+    words.add_argument("--batch", type=int, default=500, help="records in a batch, if it isn't a WARC file; 500")
     where = words.add_mutually_exclusive_group()
     where.add_argument("--workers", type=int, default=0, help="workers of a LocalCluster; without, this process does it")
     where.add_argument("--scheduler", metavar="ADDRESS", help="the scheduler of a Dask cluster, as tcp://HOST:8786")
@@ -413,7 +466,7 @@ def parsed():
         for path in filter(None, [given.csv, given.svg]):
             open(path, "a").close()
     except (OSError, ValueError) as error:
-        words.error(str(error))
+        words.error(printable(str(error)))
     return given
 
 
@@ -424,12 +477,12 @@ def main():
     with client_of(given.workers, given.scheduler) if given.workers or given.scheduler else contextlib.nullcontext() as client:
         start = time.perf_counter()
         results = run_on(client, batches, agents, paths) if client else run_here(batches, agents, paths)
-        sites, others, counts, rows, damaged = census(results, len(batches))
+        sites, left_out, counts, rows, errors = census(results, len(batches))
         took = time.perf_counter() - start
     print(f"\n{sites / took:.0f} sites a second", file=sys.stderr)
-    report(sites, others, counts, damaged, agents, paths)
+    report(sites, left_out, counts, errors, agents, paths)
     if given.csv:
-        write_csv(given.csv, rows, damaged)
+        write_csv(given.csv, rows, errors)
     if given.svg:
         Path(given.svg).write_text(chart(sites, counts, agents, paths), encoding="utf-8")
 
