@@ -7,6 +7,14 @@
 
 static const int64_t NO_RESULT = ROBOTS_NO_RESULT;
 
+/* Whether the processor has what the library is compiled for, x86-64-v2. This file itself is compiled for every x86-64. */
+static int processor_fits(void)
+{
+    __builtin_cpu_init();
+    return __builtin_cpu_supports("sse3") && __builtin_cpu_supports("ssse3") && __builtin_cpu_supports("sse4.1")
+        && __builtin_cpu_supports("sse4.2") && __builtin_cpu_supports("popcnt");
+}
+
 /* Without a robot, `line` is the line of a rule that is too long. `users` are those that will close it. */
 struct robot {
     pthread_mutex_t lock;

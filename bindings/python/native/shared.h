@@ -7,6 +7,7 @@
 #define ROBOTS_OVERLONG_RULE ...
 #define ROBOTS_FILE_LIMIT ...
 static const int64_t NO_RESULT;
+int processor_fits(void);
 int32_t robots_matrix(const char *agents, size_t agents_len, const void *file, size_t file_len, const char *urls, size_t urls_len,
                       int64_t *results, size_t results_len);
 int32_t robots_address(const char *url, size_t url_len, char *out, size_t out_len, size_t *len);

@@ -22,6 +22,7 @@ class _Lib:
     ROBOTS_OVERLONG_RULE: Final[int]
     ROBOTS_FILE_LIMIT: Final[int]
     NO_RESULT: Final[int]
+    def processor_fits(self) -> int: ...
     def robots_matrix(
         self,
         agents: bytes,

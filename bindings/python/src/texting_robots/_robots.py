@@ -11,6 +11,9 @@ from ._native import ffi, lib
 if TYPE_CHECKING:
     from ._native import CData
 
+if not lib.processor_fits():
+    raise ImportError("texting_robots needs a processor of the level x86-64-v2 (SSE4.2 and POPCNT), and this one is older")
+
 FILE_LIMIT: Final = lib.ROBOTS_FILE_LIMIT
 """How many bytes of a file count: no more need be fetched."""
 
