@@ -16,7 +16,7 @@ PLACES = [
     ("CHANGELOG.md", r"\A(?s:.*?)\n## (\d\S*) - \d{4}-\d\d-\d\d\n"),
     ("README.md", r"\bversion (\d\S*\d)\b"),
     ("bindings/python/README.md", r"\bversion (\d\S*\d)\b"),
-    ("bindings/rust/README.md", r"\bversion (\d\S*\d)\b"),
+    ("bindings/rust/README.md", r"(?:\bversion |^texting_robots_c(?:-sys)? = .*?[-\"])(\d+\.\d+\.\d+)"),
     ("bindings/c/exports", r"^ROBOTS_C_(\d+)", MAJOR),
     ("bindings/python/pyproject.toml", rf"^version = {QUOTED}"),
     ("bindings/python/src/texting_robots/__init__.py", rf"^__version__ = {QUOTED}"),

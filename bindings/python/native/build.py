@@ -1,10 +1,11 @@
 """Builds texting_robots._native: the C library and shared.c, linked statically, by cffi in API mode and for the stable ABI.
 
-ROBOTS_C names a folder where `make install` of bindings/c has put the library, its PREFIX. Otherwise it is taken from this repository, and `rt lib`
-proves and builds it first if that hasn't been done.
+A release has the library and its header beside this file. ROBOTS_C names a folder where `make install` of bindings/c has put another one, its PREFIX.
+In the repository, `rt lib` proves and builds it first if that hasn't been done.
 """
 
 import os
+import platform
 import subprocess
 import sys
 from pathlib import Path
@@ -23,6 +24,9 @@ def library() -> tuple[Path, Path]:
         if not archive.is_file():
             sys.exit(f"{archive} is missing: ROBOTS_C is the absolute PREFIX of `make install` in bindings/c, run without LIBDIR")
         return Path(installed, "include"), archive
+    native = PROJECT / "native"
+    if (native / "librobots_c.a").is_file():
+        return native, native / "librobots_c.a"
     crate = ROOT / "crates/robots_c"
     if not crate.is_dir():
         sys.exit("the C library isn't here: set ROBOTS_C to the absolute PREFIX of `make install` in bindings/c of the repository")
@@ -33,6 +37,8 @@ def library() -> tuple[Path, Path]:
     return crate, PROJECT / "build/c/librobots_c.a"
 
 
+if (platform.system(), platform.machine()) != ("Linux", "x86_64"):
+    sys.exit("the C library robots_c is for Linux on x86-64 only")
 folder, archive = library()
 sources = [PROJECT / "native/shared.h", PROJECT / "native/shared.c"]
 

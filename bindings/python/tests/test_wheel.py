@@ -70,6 +70,12 @@ def test_a_library_that_is_not_where_robots_c_says(tmp_path):
     assert (ended.returncode, ended.stderr) == (1, f"{tmp_path}/lib/{message}\n")
 
 
+def test_another_platform():
+    words = f"import platform, runpy; platform.machine = lambda: 'aarch64'; runpy.run_path('{package.PACKAGE}/native/build.py')"
+    ended = subprocess.run([sys.executable, "-c", words], env=package.WITH_PACKAGE, capture_output=True, text=True)
+    assert (ended.returncode, ended.stderr) == (1, "the C library robots_c is for Linux on x86-64 only\n")
+
+
 def test_a_source_distribution_is_built_with_an_installed_library(installed, tmp_path):
     package_of = shutil.copytree(package.PACKAGE, tmp_path / "package", ignore=shutil.ignore_patterns("build", "*.egg-info"))
     environment = package.WITH_PACKAGE | {"ROBOTS_C": str(installed)}

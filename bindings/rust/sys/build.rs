@@ -1,5 +1,5 @@
-//! Links the C library. ROBOTS_C names a folder where `make install` of bindings/c has put it, its PREFIX. Otherwise it is taken from
-//! this repository, and `rt lib` proves and builds it first if that hasn't been done.
+//! Links the C library. A release has it in the folder `c` of this crate. ROBOTS_C names a folder where `make install` of bindings/c has
+//! put another one, its PREFIX. In the repository, `rt lib` proves and builds it first if that hasn't been done.
 
 use std::env;
 use std::path::{Path, PathBuf};
@@ -11,8 +11,10 @@ fn main() {
     if (arch.as_deref(), os.as_deref()) != (Ok("x86_64"), Ok("linux")) {
         fail("the C library robots_c is for Linux on x86-64 only");
     }
+    let packed = Path::new(&env::var_os("CARGO_MANIFEST_DIR").unwrap()).join("c/librobots_c.a");
     let archive = match env::var_os("ROBOTS_C") {
         Some(installed) => Path::new(&installed).join("lib/librobots_c.a"),
+        None if packed.is_file() => packed,
         None => from_repository(),
     };
     if !archive.is_file() {

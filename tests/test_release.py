@@ -1,0 +1,330 @@
+"""The files of a release: two runs of ./release give the same bytes, and each file is installed in an empty folder, without the toolchain,
+the repository and a network, and does there what the documents show."""
+
+import contextlib
+import hashlib
+import importlib.util
+import json
+import os
+import re
+import shlex
+import shutil
+import subprocess
+import sys
+import tarfile
+import threading
+import types
+import zipfile
+from http.server import BaseHTTPRequestHandler, ThreadingHTTPServer
+from pathlib import Path
+
+import pytest
+from library import is_built
+from support import CC, CRATES, DOCUMENTS, ROOT, Result, compiled, program, run, shown
+from test_c_library import CMAKE
+from test_documents import code, section
+
+VERSION = (ROOT / "VERSION").read_text().strip()
+README = DOCUMENTS["README.md"]
+PACKAGES = {name: (ROOT / f"bindings/{name}/README.md").read_text() for name in ("python", "rust")}
+MISSING = [it for it in ("cargo", "objdump", "git", "make", "tar", "gzip", CC) if not shutil.which(it)]
+MISSING += [it for it in ("cffi", "pip", "setuptools", "wheel") if importlib.util.find_spec(it) is None]
+if MISSING:
+    pytest.skip(f"{', '.join(MISSING)} is missing", allow_module_level=True)
+
+
+@pytest.fixture(scope="module")
+def releases(objects, tmp_path_factory):
+    """Two folders with the same release, made at once."""
+    crates = re.findall(r"^robots_audit: (.*)$", (ROOT / "crates.txt").read_text(), re.M)[0].split()
+    for name, below in {"robots_audit": crates, "robots_verdict": ["robots_io", "texting_robots"]}.items():
+        sources = [name, *(it for it in below if (CRATES / it).is_dir())]
+        assert is_built(program(name), *sources), f"{name} is older than its sources: run `rt ci`, or `rt run` in its folder"
+    folders = [tmp_path_factory.mktemp(name) for name in ("one", "another-folder")]
+    made = [subprocess.Popen([sys.executable, ROOT / "release", it], stdout=subprocess.PIPE, stderr=subprocess.STDOUT, text=True) for it in folders]
+    for it in made:
+        out, _ = it.communicate(timeout=300)
+        assert it.returncode == 0, out
+    return folders
+
+
+@pytest.fixture
+def file(releases):
+    """Finds a file of the release by a pattern."""
+
+    def found(pattern):
+        (path,) = releases[0].glob(pattern)
+        return path
+
+    return found
+
+
+@pytest.fixture(scope="module")
+def bare():
+    """An environment without the toolchain, settings of the repository, and a network."""
+    folders = [it for it in os.environ["PATH"].split(":") if not Path(it, "rt").exists()]
+    kept = {key: value for key, value in os.environ.items() if key not in ("PYTHONPATH", "ROBOTS_C", "ROBOTS_SO")}
+    nowhere = {f"{it}_proxy": "http://127.0.0.1:9" for it in ("http", "https", "all")}
+    return kept | nowhere | {"PATH": ":".join(folders), "no_proxy": "127.0.0.1", "PYTHONDONTWRITEBYTECODE": "1"}
+
+
+def ran(words, cwd, env):
+    """What a command prints."""
+    ended = subprocess.run([*map(str, words)], cwd=cwd, env=env, stdin=subprocess.DEVNULL, capture_output=True, text=True, timeout=300)
+    assert ended.returncode == 0, ended.stdout + ended.stderr
+    return ended.stdout
+
+
+# ---- what there is
+
+
+def test_two_runs_give_the_same_bytes(releases):
+    names = [[it.name for it in sorted(folder.iterdir())] for folder in releases]
+    assert names[0] == names[1]
+    assert [it for it in names[0] if (releases[0] / it).read_bytes() != (releases[1] / it).read_bytes()] == []
+    assert sorted(it.replace(VERSION, "V") for it in names[0]) == [
+        "RELEASE.txt",
+        "SHA256SUMS",
+        "robots_audit-V-linux-x86_64.tar.gz",
+        "robots_c-V-linux-x86_64.tar.gz",
+        "texting_robots-V-cp39-abi3-manylinux_2_17_x86_64.whl",
+        "texting_robots-V.tar.gz",
+        "texting_robots_c-V.crate",
+        "texting_robots_c-sys-V.crate",
+    ]
+
+
+def test_the_release_names_its_sums_commit_and_toolchain(releases):
+    sums = dict(reversed(line.split("  ")) for line in (releases[0] / "SHA256SUMS").read_text().splitlines())
+    assert sums == {it.name: hashlib.sha256(it.read_bytes()).hexdigest() for it in releases[0].iterdir() if it.name != "SHA256SUMS"}
+    text = (releases[0] / "RELEASE.txt").read_text()
+    commit = ran(["git", "rev-parse", "HEAD"], ROOT, os.environ).strip()
+    toolchain = ran(["rt", "version"], ROOT, os.environ).splitlines()[0]
+    assert text.startswith(f"texting_robots {VERSION}\n") and f"    git checkout {commit}\n" in text and f" {toolchain}\n" in text
+
+
+def members(path):
+    """The files in an archive, by their names."""
+    if path.suffix == ".whl":
+        with zipfile.ZipFile(path) as files:
+            return {it: files.read(it) for it in files.namelist()}
+    with tarfile.open(path) as files:
+        return {it.name: files.extractfile(it).read() for it in files if it.isfile()}
+
+
+def test_every_file_has_the_licenses_and_no_path_of_this_machine(releases):
+    for path in releases[0].glob(f"*-{VERSION}*"):
+        files = members(path)
+        assert {"LICENSE-MIT", "LICENSE-APACHE", "LICENSE-LIBRARIES"} <= {Path(it).name for it in files}, path.name
+        assert [name for name, data in files.items() if str(ROOT).encode() in data] == [], path.name
+
+
+MODULE = types.ModuleType("release")
+MODULE.__file__ = str(ROOT / "release")
+exec((ROOT / "release").read_text(), MODULE.__dict__)
+
+
+def test_shared_objects_fit_manylinux(file, tmp_path, monkeypatch):
+    ran(["tar", "-xzf", file("robots_c-*")], tmp_path, os.environ)
+    ran([sys.executable, "-m", "zipfile", "-e", file("*.whl"), "."], tmp_path, os.environ)
+    for path in [*tmp_path.glob("*/lib/*.so"), *tmp_path.glob("*/*.abi3.so")]:
+        versions = re.findall(r"GLIBC_(\d+)\.(\d+)", ran(["objdump", "-T", path], tmp_path, os.environ))
+        assert versions and max(tuple(map(int, it)) for it in versions) <= (2, 17)
+        assert set(re.findall(r"NEEDED +(\S+)", ran(["objdump", "-p", path], tmp_path, os.environ))) <= {"libc.so.6", "libpthread.so.0"}
+        MODULE.for_manylinux(path)
+        with monkeypatch.context() as older, pytest.raises(SystemExit, match="needs a newer GNU C library than 2.1$"):
+            older.setattr(MODULE, "GLIBC", (2, 1))
+            MODULE.for_manylinux(path)
+
+
+def test_a_shared_object_that_needs_another_library_is_refused(tmp_path):
+    (tmp_path / "other.c").write_text("int other(void) { return 1; }")
+    (tmp_path / "other.map").write_text("OTHER_9 { global: other; };")
+    (tmp_path / "one.c").write_text("int other(void); int one(void) { return other(); }")
+    other = compiled(tmp_path / "libother.so", "-shared", "-fPIC", tmp_path / "other.c", f"-Wl,--version-script={tmp_path}/other.map,-soname,libother.so")
+    with pytest.raises(SystemExit, match="^release: one.so needs OTHER_9, libother.so$"):
+        MODULE.for_manylinux(compiled(tmp_path / "one.so", "-shared", "-fPIC", tmp_path / "one.c", other))
+
+
+# ---- Python
+
+
+@pytest.fixture(scope="module", params=["*.whl", f"texting_robots-{VERSION}.tar.gz"], ids=["wheel", "source distribution"])
+def python(request, releases, bare, tmp_path_factory):
+    """The Python of a new virtual environment with the package. What it and its build need is taken from here."""
+    folder = tmp_path_factory.mktemp("venv")
+    ran([sys.executable, "-m", "venv", "--without-pip", folder], folder, bare)
+    python = folder / "bin/python"
+    site = ran([python, "-c", "import sysconfig; print(sysconfig.get_path('platlib'))"], folder, bare).strip()
+    Path(site, "here.pth").write_text("".join(f"{it}\n" for it in sys.path if it.endswith("-packages")))
+    words = ["install", "-q", "--no-index", "--no-build-isolation", next(releases[0].glob(request.param))]
+    ran([sys.executable, "-m", "pip", "--python", python, *words], folder, bare)
+    assert ran([python, "-c", "import texting_robots; print(texting_robots.__file__)"], folder, bare).startswith(site)
+    return python
+
+
+def test_lines_of_the_readme_in_python(python, bare, tmp_path):
+    (tmp_path / "README.md").write_text(PACKAGES["python"])
+    words = "import doctest, sys; failed, tried = doctest.testfile('README.md', module_relative=False); print(tried); sys.exit(failed)"
+    assert int(ran([python, "-c", words], tmp_path, bare)) >= 8
+
+
+PAGES = {"/robots.txt": b"# \xff\nUser-agent: FerrisBot\nDisallow: /private/\n", "/": b'<a href="/private/x">x</a> <a href="/public">y</a>'}
+
+SPIDER = """
+import scrapy
+
+class Spider(scrapy.Spider):
+    name = "small"
+
+    def parse(self, response):
+        yield from response.follow_all(css="a", callback=self.parse)
+"""
+
+
+@contextlib.contextmanager
+def served(pages):
+    """The address of these pages, while they are served, and what is fetched."""
+    fetched = []
+
+    class Handler(BaseHTTPRequestHandler):
+        def do_GET(self):
+            fetched.append(self.path)
+            self.send_response(200)
+            self.send_header("Content-Type", "text/html")
+            self.end_headers()
+            self.wfile.write(pages.get(self.path, b""))
+
+        def log_message(self, *_):
+            pass
+
+    with ThreadingHTTPServer(("127.0.0.1", 0), Handler) as server:
+        threading.Thread(target=server.serve_forever, kwargs={"poll_interval": 0.05}).start()
+        yield f"http://127.0.0.1:{server.server_address[1]}/", fetched
+        server.shutdown()
+
+
+def test_scrapy_project_obeys_a_damaged_file(python, bare, tmp_path):
+    """Made by `scrapy startproject`, with the two lines of settings that the README of the package has."""
+    pytest.importorskip("scrapy")
+    settings = re.findall(r"`(ROBOTSTXT_\w+ = .*?)`", section(PACKAGES["python"], "Scrapy"))
+    assert len(settings) == 2
+    with served(PAGES) as (address, fetched):
+        ran([python, "-m", "scrapy", "startproject", "small", "."], tmp_path, bare)
+        with open(tmp_path / "small/settings.py", "a") as file:
+            file.write("\n".join(["", *settings, ""]))
+        (tmp_path / "small/spiders/small.py").write_text(SPIDER.replace('"small"', f'"small"\n    start_urls = ["{address}"]'))
+        ran([python, "-m", "scrapy", "crawl", "small", "-s", "TELNETCONSOLE_ENABLED=0"], tmp_path, bare)
+    assert sorted(set(fetched)) == ["/", "/public", "/robots.txt"]
+
+
+# ---- C
+
+
+@pytest.fixture(scope="module")
+def tree(releases, tmp_path_factory):
+    """The folder into which the tarball of the C library is unpacked."""
+    folder = tmp_path_factory.mktemp("c")
+    ran(["tar", "-xzf", next(releases[0].glob("robots_c-*"))], folder, os.environ)
+    return next(folder.iterdir())
+
+
+ASKED = ["Ferris", "/a"], b"Disallow: /a", Result(1, b"delay none\ndeny 1 /a\n", b"")
+
+
+@pytest.mark.parametrize("linked", ["shared", "static"])
+def test_c_library_through_pkg_config(tree, bare, tmp_path, linked):
+    if not shutil.which("pkg-config"):
+        pytest.skip("pkg-config is missing")
+    path = {"PKG_CONFIG_PATH": f"{tree}/lib/pkgconfig"}
+    words = shlex.split(ran(["pkg-config", "--cflags", "--libs", "robots_c"], tmp_path, bare | path))
+    way = [f"-Wl,-rpath,{tree}/lib"] if linked == "shared" else ["-static"]
+    ask = compiled(tmp_path / "ask", tree / "share/doc/robots_c/ask.c", *words, *way)
+    assert run(ask, *ASKED[:2], cwd=tmp_path, env=bare) == ASKED[2]
+
+
+def test_c_library_as_the_guide_says(file, bare, tmp_path):
+    shutil.copy(file("robots_c-*"), tmp_path)
+    lines = shown(section(DOCUMENTS["docs/GUIDE.md"], "From C").split("To build and install it")[0])
+    ended = subprocess.run(["bash", "-c", lines], cwd=tmp_path, env=bare, capture_output=True, text=True)
+    assert Result(ended.returncode, ended.stdout, ended.stderr) == Result(1, "robots https://example.com/robots.txt\ndelay none\ndeny 1 https://example.com/a\n", "")
+
+
+@pytest.mark.parametrize("target", ["robots_c", "shared"])
+def test_c_library_through_cmake(tree, bare, tmp_path, target):
+    if not shutil.which("cmake"):
+        pytest.skip("cmake is missing")
+    shutil.copy(tree / "share/doc/robots_c/ask.c", tmp_path)
+    (tmp_path / "CMakeLists.txt").write_text(CMAKE.format(target=target))
+    for words in (["-S", ".", "-B", "out", f"-DCMAKE_PREFIX_PATH={tree}"], ["--build", "out"]):
+        ran(["cmake", *words], tmp_path, bare)
+    assert run(tmp_path / "out/ask", *ASKED[:2], cwd=tmp_path, env=bare) == ASKED[2]
+
+
+# ---- Rust
+
+
+def unpack_crate(path, source):
+    """Adds a crate to a directory source."""
+    ran(["tar", "-xzf", path], source, os.environ)
+    folder = source / path.name.removesuffix(".crate")
+    sums = {it.relative_to(folder).as_posix(): hashlib.sha256(it.read_bytes()).hexdigest() for it in folder.rglob("*") if it.is_file()}
+    (folder / ".cargo-checksum.json").write_text(json.dumps({"files": sums, "package": hashlib.sha256(path.read_bytes()).hexdigest()}))
+
+
+def directory_source(crates, folder, bare):
+    """Replaces crates.io by a folder of the crates, first that of the C library, and returns the lines of Cargo.toml."""
+    (folder / "source").mkdir()
+    for path in sorted(crates):
+        unpack_crate(path, folder / "source")
+    (folder / ".cargo").mkdir()
+    (folder / ".cargo/config.toml").write_text('[source.crates-io]\nreplace-with = "release"\n[source.release]\ndirectory = "source"\n')
+    return f'[dependencies]\ntexting_robots_c = "{VERSION}"\n'
+
+
+def as_the_readme_says(crates, folder, bare):
+    """Does what the README says, and returns its lines of Cargo.toml."""
+    for path in crates:
+        shutil.copy(path, folder)
+    ran(["bash", "-ec", code(PACKAGES["rust"], "sh")[0]], folder, bare)
+    return code(PACKAGES["rust"], "toml")[0]
+
+
+@pytest.mark.parametrize("way", [directory_source, as_the_readme_says])
+def test_lines_of_the_readme_in_rust(releases, bare, tmp_path, way):
+    depends = way([*releases[0].glob("*.crate")], tmp_path, bare)
+    (tmp_path / "Cargo.toml").write_text(f'[package]\nname = "caller"\nversion = "0.1.0"\nedition = "2021"\n{depends}')
+    (tmp_path / "src").mkdir()
+    lines = code(PACKAGES["rust"], "rust")[0].replace("# Ok", "Ok")
+    (tmp_path / "src/main.rs").write_text(f"fn main() -> Result<(), texting_robots_c::Error> {{\n{lines}}}\n")
+    ran(["cargo", "build", "--offline"], tmp_path, bare | {"CARGO_TARGET_DIR": str(tmp_path / "target")})
+    ran([tmp_path / "target/debug/caller"], tmp_path, bare)
+
+
+# ---- the programs
+
+
+def test_the_report_of_the_readme(file, bare, tmp_path):
+    shutil.copy(file("robots_audit-*"), tmp_path)
+    part = section(README, "Audit a file").split("It prints")
+    ended = subprocess.run(["bash", "-ec", shown(part[0])], cwd=tmp_path, env=bare, capture_output=True, text=True)
+    assert ended.returncode == 1
+    examples = shown(part[1].split("`+` marks")[0]).splitlines()
+    lines = iter((ended.stdout + ended.stderr).splitlines())
+    assert len(examples) > 5 and [line for line in examples if line not in lines] == []
+
+
+def test_manual_pages_name_the_options_of_help():
+    option = r"(?<![\w-])(?:--[a-z-]+|-[a-zA-Z])(?![\w-])"
+    page = (ROOT / "man/robots_audit.1").read_text().split(".SH OPTIONS")[1].split("\n.SH ")[0]
+    headings = "\n".join(re.findall(r"^\.TP\n(.*)$", page, re.M)).replace("\\-", "-")
+    usage = run("robots_audit", ["--help"]).out
+    assert sorted(re.findall(option, re.sub(r"\\f[BIR]", " ", headings))) == sorted(set(re.findall(option, usage[usage.index("\nOptions:") :])))
+
+
+@pytest.mark.parametrize("name", ["robots_audit", "robots_verdict"])
+def test_manual_pages_are_well_formed(name):
+    if not shutil.which("groff"):
+        pytest.skip("groff is missing")
+    ended = subprocess.run(["groff", "-man", "-Tascii", "-ww", ROOT / f"man/{name}.1"], capture_output=True, text=True)
+    assert (ended.returncode, ended.stderr) == (0, "") and "EXIT STATUS" in re.sub(r".\x08|\x1b\[\d*m", "", ended.stdout)
